@@ -1,0 +1,5 @@
+pub mod ReadBack
+pub mod Responding
+pub mod Shown
+pub mod Soundness
+pub mod Splitting

@@ -1,0 +1,180 @@
+use Rattle.drv_words.specs.Response.{ArePieces, EndsWord, IsPiece, IsRun, Splits, at_end, at_space, backslash, escaped, is_quote, is_space, more, no_more, nothing, one_word, plain, quoted, run_backslash, run_closed, run_escaped, run_plain, run_unclosed, space}
+use Rattle.drv_words.specs.Splitter.{open_word, start, words_of}
+use Rattle.drv_words.specs.declared.response.Splitter.{Splitter}
+use Rattle.std.proofs.Common.{◌≡◌, ◌||◌, ◌==◌, Bool, false, true, List, [], ◌∷◌, ◌++◌, None, Option, Some, refl, sym, subst, ap, ◌∙◌, append_assoc, ℕ}
+use Rattle.std.proofs.Math.Seq.{append_snoc}
+use Rattle.std.proofs.lemmas.Bool.{eq-eqb, eqb-true}
+use Rattle.std.proofs.lemmas.List.{append-nil}
+
+-- The splitter and the grammar of response text agree.
+
+-- a splitter with these fields
+abbrev at : List (List ℕ) → Option (List ℕ) → Option ℕ → Bool → Splitter
+at words word quote marked = record { words = words; word = word; quote = quote; escaped = marked }
+
+-- Running over what a derivation covers leads to the state behind it.
+
+run_splits : {mark : ℕ} {text bytes rest : List ℕ} → IsRun mark text bytes rest → (mark == 92) ≡ false → (words : List (List ℕ)) (word : List ℕ)
+    → words_of (at words (Some word) (Some mark) false) text ≡ words_of (at words (Some (word ++ bytes)) None false) rest
+run_splits (run_closed {mark} {rest}) m words word =
+    rw (m, same mark) (ap (λ w. words_of (at words (Some w) None false) rest) (sym (append-nil word)))
+  where
+    same : (n : ℕ) → (n == n) ≡ true
+    same n = eq-eqb n n refl
+run_splits run_unclosed m words word = ap (λ w. words ++ w ∷ []) (sym (append-nil word))
+run_splits run_backslash m words word = ap (λ w. words ++ w ∷ []) (sym (append-nil word))
+run_splits (run_escaped {mark} {b} {text} {bytes} {rest} run) m words word =
+    run_splits run m words (word ++ b ∷ []) ∙ ap (λ w. words_of (at words (Some w) None false) rest) (append_snoc word b bytes)
+run_splits (run_plain {mark} {b} {text} {bytes} {rest} e f run) m words word =
+    rw (f, e) (run_splits run m words (word ++ b ∷ []) ∙ ap (λ w. words_of (at words (Some w) None false) rest) (append_snoc word b bytes))
+
+quote_is : (b : ℕ) → is_quote b ≡ true → (is_space b ≡ false) × ((b == 92) ≡ false)
+quote_is b e = by (b == 39) refl (b == 34) refl e
+  where
+    by : (single : Bool) → (b == 39) ≡ single → (double : Bool) → (b == 34) ≡ double → (single || double) ≡ true → (is_space b ≡ false) × ((b == 92) ≡ false)
+    by true f double g h = (ap is_space (eqb-true b 39 f), ap (λ c. c == 92) (eqb-true b 39 f))
+    by false f true g h = (ap is_space (eqb-true b 34 g), ap (λ c. c == 92) (eqb-true b 34 g))
+    by false f false g h = absurd cc
+
+piece_splits : {text bytes rest : List ℕ} → IsPiece text bytes rest → (words : List (List ℕ)) (word : Option (List ℕ))
+    → words_of (at words word None false) text ≡ words_of (at words (Some (open_word word ++ bytes)) None false) rest
+piece_splits (plain {b} {rest} s q e) words word = rw (s, e, q) refl
+piece_splits escaped words word = refl
+piece_splits backslash words word = ap (λ w. words ++ w ∷ []) (sym (append-nil (open_word word)))
+piece_splits (quoted {mark} {text} {bytes} {rest} q run) words word =
+    let no : (is_space mark ≡ false) × ((mark == 92) ≡ false) = quote_is mark q in
+    rw (no.0, no.1, q) (run_splits run no.1 words (open_word word))
+
+end_splits : {rest : List ℕ} → EndsWord rest → (words : List (List ℕ)) (word : List ℕ)
+    → words_of (at words (Some word) None false) rest ≡ words_of (at (words ++ word ∷ []) None None false) rest
+end_splits at_end words word = refl
+end_splits (at_space {b} {rest} s) words word = rw s refl
+
+pieces_split : {text word rest : List ℕ} → ArePieces text word rest → (words : List (List ℕ)) (front : List ℕ)
+    → words_of (at words (Some front) None false) text ≡ words_of (at (words ++ (front ++ word) ∷ []) None None false) rest
+pieces_split (no_more {rest} ends) words front =
+    end_splits ends words front ∙ ap (λ w. words_of (at (words ++ w ∷ []) None None false) rest) (sym (append-nil front))
+pieces_split (more {text} {bytes} {mid} {word} {rest} piece pieces) words front =
+    piece_splits piece words (Some front) ∙ pieces_split pieces words (front ++ bytes)
+    ∙ ap (λ w. words_of (at (words ++ w ∷ []) None None false) rest) (append_assoc front bytes word)
+
+splits_split : {text : List ℕ} {words : List (List ℕ)} → Splits text words → (front : List (List ℕ))
+    → words_of (at front None None false) text ≡ front ++ words
+splits_split nothing front = sym (append-nil front)
+splits_split (space {b} {rest} {words} s others) front = rw s (splits_split others front)
+splits_split (one_word {text} {bytes} {mid} {word} {rest} {words} piece pieces others) front =
+    piece_splits piece front None ∙ pieces_split pieces front bytes ∙ splits_split others (front ++ (bytes ++ word) ∷ [])
+    ∙ append_snoc front (bytes ++ word) words
+
+-- Each text is split by the grammar: how a text goes on, from each place.
+
+record Begun (text : List ℕ) : Type 0 where
+  bytes : List ℕ
+  mid : List ℕ
+  word : List ℕ
+  rest : List ℕ
+  words : List (List ℕ)
+  piece : IsPiece text bytes mid
+  pieces : ArePieces mid word rest
+  others : Splits rest words
+
+record Went (text : List ℕ) : Type 0 where
+  word : List ℕ
+  rest : List ℕ
+  words : List (List ℕ)
+  pieces : ArePieces text word rest
+  others : Splits rest words
+
+record Ran (mark : ℕ) (text : List ℕ) : Type 0 where
+  bytes : List ℕ
+  mid : List ℕ
+  run : IsRun mark text bytes mid
+  went : Went mid
+
+record Goes (text : List ℕ) : Type 0 where
+  words : List (List ℕ)
+  splits : Splits text words
+  went : Went text
+  ran : (mark : ℕ) → Ran mark text
+  behind : Begun (92 ∷ text)
+  ran_behind : (mark : ℕ) → Ran mark (92 ∷ text)
+
+begun_goes : {text : List ℕ} → Begun text → Went text
+begun_goes begun = record { word = begun.bytes ++ begun.word; rest = begun.rest; words = begun.words; pieces = more begun.piece begun.pieces; others = begun.others }
+
+at_the_end : Went []
+at_the_end = record { word = []; rest = []; words = []; pieces = no_more at_end; others = nothing }
+
+-- a byte that opens or goes on with a word
+begins : (b : ℕ) (text : List ℕ) → is_space b ≡ false → Goes text → Begun (b ∷ text)
+begins b text s goes = by (b == 92) refl (is_quote b) refl
+  where
+    by : (slash : Bool) → (b == 92) ≡ slash → (quote : Bool) → is_quote b ≡ quote → Begun (b ∷ text)
+    by true e quote f = let P : ℕ → Type 0 = λ c. Begun (c ∷ text) in subst P (sym (eqb-true b 92 e)) goes.behind
+    by false e true f =
+        let ran : Ran b text = goes.ran b in
+        record { bytes = ran.bytes; mid = ran.mid; word = ran.went.word; rest = ran.went.rest; words = ran.went.words; piece = quoted f ran.run; pieces = ran.went.pieces; others = ran.went.others }
+    by false e false f =
+        record { bytes = b ∷ []; mid = text; word = goes.went.word; rest = goes.went.rest; words = goes.went.words; piece = plain s f e; pieces = goes.went.pieces; others = goes.went.others }
+
+begun_splits : {text : List ℕ} (begun : Begun text) → Splits text ((begun.bytes ++ begun.word) ∷ begun.words)
+begun_splits begun = one_word begun.piece begun.pieces begun.others
+
+runs : (b : ℕ) (text : List ℕ) → Goes text → (mark : ℕ) → Ran mark (b ∷ text)
+runs b text goes mark = by (b == mark) refl (b == 92) refl
+  where
+    by : (closes : Bool) → (b == mark) ≡ closes → (slash : Bool) → (b == 92) ≡ slash → Ran mark (b ∷ text)
+    by true e slash f =
+        let P : ℕ → Type 0 = λ c. Ran mark (c ∷ text) in
+        subst P (sym (eqb-true b mark e)) (record { bytes = []; mid = text; run = run_closed; went = goes.went })
+    by false e true f = let P : ℕ → Type 0 = λ c. Ran mark (c ∷ text) in subst P (sym (eqb-true b 92 f)) (goes.ran_behind mark)
+    by false e false f =
+        let ran : Ran mark text = goes.ran mark in
+        record { bytes = b ∷ ran.bytes; mid = ran.mid; run = run_plain e f ran.run; went = ran.went }
+
+goes_on : (text : List ℕ) → Goes text
+goes_on [] = record {
+  words = [];
+  splits = nothing;
+  went = at_the_end;
+  ran = λ mark. record { bytes = []; mid = []; run = run_unclosed; went = at_the_end };
+  behind = record { bytes = []; mid = []; word = []; rest = []; words = []; piece = backslash; pieces = no_more at_end; others = nothing };
+  ran_behind = λ mark. record { bytes = []; mid = []; run = run_backslash; went = at_the_end };
+}
+goes_on (b ∷ text) = by (is_space b) refl (goes_on text)
+  where
+    escape : Goes text → Begun (92 ∷ b ∷ text)
+    escape goes = record { bytes = b ∷ []; mid = text; word = goes.went.word; rest = goes.went.rest; words = goes.went.words; piece = escaped; pieces = goes.went.pieces; others = goes.went.others }
+
+    run_escape : Goes text → (mark : ℕ) → Ran mark (92 ∷ b ∷ text)
+    run_escape goes mark = let ran : Ran mark text = goes.ran mark in record { bytes = b ∷ ran.bytes; mid = ran.mid; run = run_escaped ran.run; went = ran.went }
+
+    by : (space : Bool) → is_space b ≡ space → Goes text → Goes (b ∷ text)
+    by true s goes = record {
+      words = goes.words;
+      splits = space s goes.splits;
+      went = record { word = []; rest = b ∷ text; words = goes.words; pieces = no_more (at_space s); others = space s goes.splits };
+      ran = runs b text goes;
+      behind = escape goes;
+      ran_behind = run_escape goes;
+    }
+    by false s goes =
+        let begun : Begun (b ∷ text) = begins b text s goes in
+        record {
+          words = (begun.bytes ++ begun.word) ∷ begun.words;
+          splits = begun_splits begun;
+          went = begun_goes begun;
+          ran = runs b text goes;
+          behind = escape goes;
+          ran_behind = run_escape goes;
+        }
+
+-- what the splitter gives is in the grammar, and nothing else is
+pub split_is_grammar : (text : List ℕ) (words : List (List ℕ)) → words ≡ words_of start text → Splits text words
+split_is_grammar text words e =
+    let goes : Goes text = goes_on text in
+    let P : List (List ℕ) → Type 0 = λ ws. Splits text ws in
+    subst P (sym (e ∙ splits_split goes.splits [])) goes.splits
+
+pub split_is_only : (text : List ℕ) (words : List (List ℕ)) → words ≡ words_of start text → (others : List (List ℕ)) → Splits text others → words ≡ others
+split_is_only text words e others splits = e ∙ splits_split splits []

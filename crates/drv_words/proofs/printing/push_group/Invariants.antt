@@ -1,0 +1,6 @@
+use Rattle.std.proofs.Common.{◌≡◌, ◌++◌, drop}
+use Rattle.drv_words.specs.Lines.{group_lines}
+use Rattle.drv_words.proofs.printing.push_group.Given as goal
+
+abbrev pub invariant-loop-index : goal.invariant-loop-index
+invariant-loop-index l = l.lines ++ group_lines (drop l.index l.commands) ≡ l.fn.lines ++ group_lines l.commands

@@ -1,0 +1,6 @@
+use Rattle.std.proofs.Common.{◌≡◌, ◌++◌, drop}
+use Rattle.drv_words.specs.Printed.{escaped}
+use Rattle.drv_words.proofs.quoting.push_escaped.Given as goal
+
+abbrev pub invariant-loop-byte : goal.invariant-loop-byte
+invariant-loop-byte l = l.text ++ escaped (drop l.byte-index l.word) ≡ l.fn.text ++ escaped l.word

@@ -1,0 +1,5 @@
+use Rattle.drv_words.proofs.ReadBack.{one_list}
+use Rattle.drv_words.proofs.reading_back.one_list_of_lines.Goals as goal
+
+pub returns : goal.returns
+returns c = one_list

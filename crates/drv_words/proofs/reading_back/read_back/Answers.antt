@@ -1,0 +1,10 @@
+use Rattle.drv_words.proofs.ReadBack.{shown_is_found}
+use Rattle.drv_words.proofs.Soundness.{found_is_shown}
+use Rattle.std.proofs.lemmas.Result.{IfOk-weaker}
+use Rattle.drv_words.proofs.reading_back.read_back.Goals as goal
+
+pub returns-clause-shown : goal.returns-clause-shown
+returns-clause-shown c = IfOk-weaker _ _ _ (found_is_shown c.args.text.now) c.read_lines.ensures
+
+pub returns-clause-always : goal.returns-clause-always
+returns-clause-always c = IfOk-weaker _ _ _ (shown_is_found c.args.text.now) c.read_lines.ensures

@@ -1,0 +1,6 @@
+use Rattle.std.proofs.Common.{◌≡◌, drop}
+use Rattle.drv_words.specs.Reader.{read, start}
+use Rattle.drv_words.proofs.reading_back.read_lines.Given as goal
+
+abbrev pub invariant-loop-byte : goal.invariant-loop-byte
+invariant-loop-byte l = read l.reader (drop l.byte-index l.text) ≡ read start l.text

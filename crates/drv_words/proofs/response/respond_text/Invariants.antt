@@ -1,0 +1,6 @@
+use Rattle.std.proofs.Common.{◌≡◌, ◌++◌, drop}
+use Rattle.drv_words.specs.Response.{response_text}
+use Rattle.drv_words.proofs.response.respond_text.Given as goal
+
+abbrev pub invariant-loop-word : goal.invariant-loop-word
+invariant-loop-word l = l.text ++ response_text (drop l.word-index l.words) ≡ response_text l.words

@@ -1,0 +1,5 @@
+pub mod Lines
+pub mod Printed
+pub mod Reader
+pub mod Response
+pub mod Splitter

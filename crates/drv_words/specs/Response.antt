@@ -1,0 +1,64 @@
+use Rattle.std.specs.Int.{is_in_range}
+use Rattle.std.specs.List.{flat_map}
+use Rattle.std.specs.Prelude.{◌≡◌, ◌||◌, ◌==◌, Bool, false, true, List, [], ◌∷◌, ◌++◌, if◌then◌else◌, ℕ}
+
+-- The text of a response file (GCC manual, "Overall Options", @file; what it leaves open is this project's
+-- profile), as a grammar by cases: first the text, then what it stands for, then the rest of the text.
+
+-- tab to carriage return, and space
+abbrev pub is_space : ℕ → Bool
+is_space b = is_in_range 9 13 b || b == 32
+
+-- a single or a double quote
+abbrev pub is_quote : ℕ → Bool
+is_quote b = b == 39 || b == 34
+
+-- a quoted run behind its opening quote: a backslash stands for the byte behind it, and the end of the text
+-- closes the run
+pub data IsRun : ℕ → List ℕ → List ℕ → List ℕ → Type 0 where
+  run_closed : {mark : ℕ} {rest : List ℕ} → IsRun mark (mark ∷ rest) [] rest
+  run_unclosed : {mark : ℕ} → IsRun mark [] [] []
+  run_backslash : {mark : ℕ} → IsRun mark (92 ∷ []) [] []
+  run_escaped : {mark b : ℕ} {text bytes rest : List ℕ} → IsRun mark text bytes rest → IsRun mark (92 ∷ b ∷ text) (b ∷ bytes) rest
+  run_plain : {mark b : ℕ} {text bytes rest : List ℕ} → (b == mark) ≡ false → (b == 92) ≡ false → IsRun mark text bytes rest → IsRun mark (b ∷ text) (b ∷ bytes) rest
+
+-- a piece of a word: a plain byte, a backslash and the byte that it stands for, or a quoted run
+pub data IsPiece : List ℕ → List ℕ → List ℕ → Type 0 where
+  plain : {b : ℕ} {rest : List ℕ} → is_space b ≡ false → is_quote b ≡ false → (b == 92) ≡ false → IsPiece (b ∷ rest) (b ∷ []) rest
+  escaped : {b : ℕ} {rest : List ℕ} → IsPiece (92 ∷ b ∷ rest) (b ∷ []) rest
+  backslash : IsPiece (92 ∷ []) [] []
+  quoted : {mark : ℕ} {text bytes rest : List ℕ} → is_quote mark ≡ true → IsRun mark text bytes rest → IsPiece (mark ∷ text) bytes rest
+
+-- a word ends at the end of the text, and before white space
+pub data EndsWord : List ℕ → Type 0 where
+  at_end : EndsWord []
+  at_space : {b : ℕ} {rest : List ℕ} → is_space b ≡ true → EndsWord (b ∷ rest)
+
+-- pieces to the end of the word
+pub data ArePieces : List ℕ → List ℕ → List ℕ → Type 0 where
+  no_more : {rest : List ℕ} → EndsWord rest → ArePieces rest [] rest
+  more : {text bytes mid word rest : List ℕ} → IsPiece text bytes mid → ArePieces mid word rest → ArePieces text (bytes ++ word) rest
+
+-- a text: white space and words in turn
+pub data Splits : List ℕ → List (List ℕ) → Type 0 where
+  nothing : Splits [] []
+  space : {b : ℕ} {rest : List ℕ} {words : List (List ℕ)} → is_space b ≡ true → Splits rest words → Splits (b ∷ rest) words
+  one_word : {text bytes mid word rest : List ℕ} {words : List (List ℕ)} → IsPiece text bytes mid → ArePieces mid word rest → Splits rest words → Splits text ((bytes ++ word) ∷ words)
+
+-- The text that stands for words: a line each.
+
+-- the bytes behind a backslash: white space, both quotes and the backslash
+abbrev pub is_marked : ℕ → Bool
+is_marked b = is_space b || is_quote b || b == 92
+
+abbrev pub marked : List ℕ → List ℕ
+marked [] = []
+marked (b ∷ word) = if is_marked b then 92 ∷ b ∷ marked word else b ∷ marked word
+
+-- the empty word stands as two quotes
+abbrev pub response : List ℕ → List ℕ
+response [] = 34 ∷ 34 ∷ []
+response (b ∷ word) = marked (b ∷ word)
+
+abbrev pub response_text : List (List ℕ) → List ℕ
+response_text = flat_map (λ word. response word ++ 10 ∷ [])

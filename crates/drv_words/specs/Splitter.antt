@@ -1,0 +1,56 @@
+use Rattle.drv_words.specs.Response.{is_quote, is_space}
+use Rattle.drv_words.specs.declared.response.Splitter.{Splitter}
+use Rattle.std.specs.Prelude.{◌==◌, List, [], ◌∷◌, ◌++◌, None, Option, Some, false, if◌then◌else◌, true, ℕ}
+
+-- A splitter of response text, byte by byte. Private clauses alone cite it: what `split` answers is said by
+-- the grammar `Splits`.
+
+abbrev pub start : Splitter
+start = record { words = []; word = None; quote = None; escaped = false }
+
+-- the bytes of the word so far
+abbrev pub open_word : Option (List ℕ) → List ℕ
+open_word None = []
+open_word (Some word) = word
+
+-- a word is open
+abbrev pub opened : Splitter → Splitter
+opened splitter = record splitter { word = Some (open_word splitter.word) }
+
+-- one more byte of the word
+abbrev pub with_byte : Splitter → ℕ → Splitter
+with_byte splitter b = record splitter { word = Some (open_word splitter.word ++ b ∷ []) }
+
+-- the word, if one is open, has ended
+abbrev pub word_ended : Option (List ℕ) → Splitter → Splitter
+word_ended None splitter = splitter
+word_ended (Some word) splitter = record splitter { words = splitter.words ++ word ∷ []; word = None }
+
+abbrev pub ended : Splitter → Splitter
+ended splitter = word_ended splitter.word splitter
+
+-- a byte inside a quoted run, and outside
+abbrev pub quoted_step : ℕ → Splitter → ℕ → Splitter
+quoted_step mark splitter b =
+    if b == 92 then record splitter { escaped = true }
+    else if b == mark then record splitter { quote = None }
+    else with_byte splitter b
+
+abbrev pub plain_step : Splitter → ℕ → Splitter
+plain_step splitter b =
+    if is_space b then ended splitter
+    else if b == 92 then record (opened splitter) { escaped = true }
+    else if is_quote b then record (opened splitter) { quote = Some b }
+    else with_byte splitter b
+
+abbrev pub step_in : Option ℕ → Splitter → ℕ → Splitter
+step_in None splitter b = plain_step splitter b
+step_in (Some mark) splitter b = quoted_step mark splitter b
+
+abbrev pub step : Splitter → ℕ → Splitter
+step splitter b = if splitter.escaped then record (with_byte splitter b) { escaped = false } else step_in splitter.quote splitter b
+
+-- the words of what is left of the text
+abbrev pub words_of : Splitter → List ℕ → List (List ℕ)
+words_of splitter [] = (ended splitter).words
+words_of splitter (b ∷ text) = words_of (step splitter b) text

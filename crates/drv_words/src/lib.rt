@@ -1,0 +1,22 @@
+//! Words, commands and plans of a compiler driver, and the text that shows them.
+#![tactic(auto)]
+
+mod answers;
+mod listing;
+mod plan;
+mod printing;
+mod quoting;
+mod reading_back;
+mod response;
+#[cfg(test)]
+mod tests;
+mod word;
+
+pub use answers::{Answer, ClaimAnswer, NotStarted, RemoveAnswer, StartAnswer, WaitAnswer};
+pub use listing::Listing;
+pub use plan::{Command, Group, Job, Plan, PlanLine, Temp};
+pub use printing::{plan_lines, render};
+pub use quoting::quote;
+pub use reading_back::{one_list_of_lines, read_back};
+pub use response::{respond_text, split};
+pub use word::Word;

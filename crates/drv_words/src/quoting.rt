@@ -1,0 +1,72 @@
+//! The printed form of a word.
+
+ghost use Rattle.drv_words.specs.Printed.{is_bare, is_plain, is_special, quoted, escaped};
+ghost use Rattle.std.specs.List.{list_all};
+ghost use Rattle.std.specs.Prelude.{◌≡◌, ◌++◌, IfOk, OnOk};
+
+use crate::Word;
+use std::alloc::{AllocError, Global};
+
+/// Whether a byte needs no quotes: a letter, a digit or one of `./-_`.
+pub(crate) fn is_plain_byte(byte: u8) -> bool
+    ensures { result ≡ is_plain byte }
+{
+    byte.is_ascii_alphanumeric() || matches!(byte, b'.' | b'/' | b'-' | b'_')
+}
+
+/// Whether a backslash stands before a byte between double quotes.
+pub(crate) fn is_special_byte(byte: u8) -> bool
+    ensures { result ≡ is_special byte }
+{
+    matches!(byte, b'"' | b'\\' | b'$')
+}
+
+/// Whether no byte needs quotes.
+fn are_plain_bytes(word: &[u8]) -> bool
+    ensures { result ≡ list_all is_plain word.now }
+{
+    word.iter().all(|byte| is_plain_byte(*byte))
+}
+
+/// Whether a word needs no quotes.
+pub(crate) fn is_bare_word(word: &[u8]) -> bool
+    ensures { result ≡ is_bare word.now }
+{
+    !word.is_empty() && are_plain_bytes(word)
+}
+
+/// Adds what stands between the quotes.
+fn push_escaped(text: &mut Word, word: &[u8]) -> Result<(), AllocError>
+    ensures { OnOk result (text.new ≡ text.old ++ escaped word.now) }
+{
+    for &byte in word {
+        if is_special_byte(byte) {
+            text.push(b'\\')?;
+        }
+        text.push(byte)?;
+    }
+    Ok(())
+}
+
+/// Adds the printed form of a word.
+pub(crate) fn push_quoted(text: &mut Word, word: &Word) -> Result<(), AllocError>
+    ensures { OnOk result (text.new ≡ text.old ++ quoted word.now) }
+{
+    let bytes = word.as_bytes();
+    if is_bare_word(bytes) {
+        return text.extend_from_slice(bytes);
+    }
+    text.push(b'"')?;
+    push_escaped(text, bytes)?;
+    text.push(b'"')
+}
+
+/// The printed form of a word, as in a line of `-###`: a word of letters, digits and `./-_` stands as it is,
+/// any other in double quotes with a backslash before `"`, `\` and `$` (GCC manual, "Overall Options").
+pub fn quote(alloc: Global, word: &Word) -> Result<Word, AllocError>
+    ensures { IfOk result (λ text. text ≡ quoted word.now) }
+{
+    let mut text = Word::empty(alloc);
+    push_quoted(&mut text, word)?;
+    Ok(text)
+}

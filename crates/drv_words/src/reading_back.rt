@@ -1,0 +1,210 @@
+//! Reading printed lines back.
+
+ghost use Rattle.drv_words.specs.Printed.{Shows};
+ghost use Rattle.drv_words.specs.Reader.{at_word, bare, behind_bar, between, escape, finished, inside, lines_read, start, step, with_line, with_word};
+ghost use Rattle.drv_words.specs.declared.plan.PlanLine.{PlanLine};
+ghost use Rattle.std.specs.Prelude.{◌≡◌, IfOk, IfSome, List, OnOk, Some, ℕ};
+
+use crate::quoting::{is_bare_word, is_plain_byte, is_special_byte};
+use crate::{Command, Listing, PlanLine, Word};
+use std::alloc::{AllocError, Global};
+use std::mem;
+
+/// Where a reader stands.
+#[derive(Clone, Copy)]
+enum Place {
+    /// At the start of a line, or behind a word.
+    Between,
+    /// Behind the space before a word.
+    AtWord,
+    /// In a word without quotes.
+    Bare,
+    /// Between the quotes of a word.
+    Quoted,
+    /// There behind a backslash.
+    Escaped,
+    /// Behind the bar that ends a piped line.
+    Bar,
+    /// Behind a byte that no printed text has there.
+    Wrong,
+}
+
+/// A reader of printed lines: the lines that ended, and what is there of the next one.
+#[derive(Drop)]
+struct Reader {
+    lines: Listing<PlanLine>,
+    program: Option<Word>,
+    words: Listing<Word>,
+    word: Word,
+    place: Place,
+}
+
+impl Reader {
+    fn new(alloc: Global) -> Reader
+        ensures { result ≡ start }
+    {
+        Reader {
+            lines: Listing::new(alloc),
+            program: None,
+            words: Listing::new(alloc),
+            word: Word::empty(alloc),
+            place: Place::Between,
+        }
+    }
+
+    /// Ends the word: it is the line's program, or one more of its words.
+    fn end_word(&mut self, alloc: Global) -> Result<(), AllocError>
+        ensures { OnOk result (self.new ≡ with_word self.old) }
+    {
+        let word = mem::replace(&mut self.word, Word::empty(alloc));
+        if self.program.is_none() {
+            self.program = Some(word);
+        } else {
+            self.words.push(word)?;
+        }
+        Ok(())
+    }
+
+    /// Ends the line, which has to have a program.
+    fn end_line(&mut self, alloc: Global, piped: bool) -> Result<(), AllocError>
+        ensures { OnOk result (self.new ≡ with_line self.old piped) }
+    {
+        let Some(program) = self.program.take() else {
+            self.place = Place::Wrong;
+            return Ok(());
+        };
+        let words = mem::replace(&mut self.words, Listing::new(alloc));
+        self.lines.push(PlanLine {
+            command: Command { program, words },
+            piped,
+        })?;
+        self.place = Place::Between;
+        Ok(())
+    }
+
+    fn take_between(&mut self, alloc: Global, byte: u8) -> Result<(), AllocError>
+        ensures { OnOk result (self.new ≡ between self.old byte) }
+    {
+        match byte {
+            b' ' => self.place = Place::AtWord,
+            b'\n' => return self.end_line(alloc, false),
+            _ => self.place = Place::Wrong,
+        }
+        Ok(())
+    }
+
+    fn take_at_word(&mut self, byte: u8) -> Result<(), AllocError>
+        ensures { OnOk result (self.new ≡ at_word self.old byte) }
+    {
+        if is_plain_byte(byte) {
+            self.word.push(byte)?;
+            self.place = Place::Bare;
+        } else if byte == b'"' {
+            self.place = Place::Quoted;
+        } else if byte == b'|' && self.program.is_some() {
+            self.place = Place::Bar;
+        } else {
+            self.place = Place::Wrong;
+        }
+        Ok(())
+    }
+
+    fn take_bare(&mut self, alloc: Global, byte: u8) -> Result<(), AllocError>
+        ensures { OnOk result (self.new ≡ bare self.old byte) }
+    {
+        if is_plain_byte(byte) {
+            return self.word.push(byte);
+        }
+        self.end_word(alloc)?;
+        self.take_between(alloc, byte)
+    }
+
+    fn take_quoted(&mut self, alloc: Global, byte: u8) -> Result<(), AllocError>
+        ensures { OnOk result (self.new ≡ inside self.old byte) }
+    {
+        match byte {
+            b'\\' => self.place = Place::Escaped,
+            b'"' if is_bare_word(self.word.as_bytes()) => self.place = Place::Wrong,
+            b'"' => {
+                self.end_word(alloc)?;
+                self.place = Place::Between;
+            }
+            b'$' => self.place = Place::Wrong,
+            _ => self.word.push(byte)?,
+        }
+        Ok(())
+    }
+
+    fn take_escaped(&mut self, byte: u8) -> Result<(), AllocError>
+        ensures { OnOk result (self.new ≡ escape self.old byte) }
+    {
+        if is_special_byte(byte) {
+            self.word.push(byte)?;
+            self.place = Place::Quoted;
+        } else {
+            self.place = Place::Wrong;
+        }
+        Ok(())
+    }
+
+    fn take_behind_bar(&mut self, alloc: Global, byte: u8) -> Result<(), AllocError>
+        ensures { OnOk result (self.new ≡ behind_bar self.old byte) }
+    {
+        if byte == b'\n' {
+            return self.end_line(alloc, true);
+        }
+        self.place = Place::Wrong;
+        Ok(())
+    }
+
+    /// Takes the next byte.
+    fn take(&mut self, alloc: Global, byte: u8) -> Result<(), AllocError>
+        ensures { OnOk result (self.new ≡ step self.old byte) }
+    {
+        match self.place {
+            Place::Between => self.take_between(alloc, byte),
+            Place::AtWord => self.take_at_word(byte),
+            Place::Bare => self.take_bare(alloc, byte),
+            Place::Quoted => self.take_quoted(alloc, byte),
+            Place::Escaped => self.take_escaped(byte),
+            Place::Bar => self.take_behind_bar(alloc, byte),
+            Place::Wrong => Ok(()),
+        }
+    }
+
+    /// The lines, if the last one has ended.
+    fn finish(self) -> Option<Listing<PlanLine>>
+        ensures { result ≡ finished self }
+    {
+        if matches!(self.place, Place::Between) && self.program.is_none() {
+            Some(self.lines)
+        } else {
+            None
+        }
+    }
+}
+
+/// Reads a whole text.
+fn read_lines(alloc: Global, text: &[u8]) -> Result<Option<Listing<PlanLine>>, AllocError>
+    ensures { IfOk result (λ lines. lines ≡ lines_read text.now) }
+{
+    let mut reader = Reader::new(alloc);
+    for &byte in text {
+        reader.take(alloc, byte)?;
+    }
+    Ok(reader.finish())
+}
+
+/// The lines that a text shows, or none if it is not the text of lines as [`render`](crate::render) gives it,
+/// byte for byte.
+pub fn read_back(alloc: Global, text: &[u8]) -> Result<Option<Listing<PlanLine>>, AllocError>
+    ensures shown { IfOk result (λ found. IfSome found (λ lines. Shows text.now lines)) }
+    ensures always { IfOk result (λ found. (lines : List PlanLine) → Shows text.now lines → found ≡ Some lines) }
+{
+    read_lines(alloc, text)
+}
+
+/// A law: a text shows one list of lines at most.
+pub fn one_list_of_lines()
+    ensures { (text : List ℕ) (a b : List PlanLine) → Shows text a → Shows text b → a ≡ b }
+{}

@@ -1,0 +1,186 @@
+//! The text of response files, both ways.
+
+ghost use Rattle.drv_words.specs.Response.{Splits, is_marked, is_quote, is_space, marked, response, response_text};
+ghost use Rattle.drv_words.specs.Splitter.{ended, opened, plain_step, quoted_step, start, step, with_byte, words_of};
+ghost use Rattle.std.specs.Prelude.{◌≡◌, ◌∷◌, ◌++◌, [], IfOk, List, OnOk, ℕ};
+
+use crate::{Listing, Word};
+use std::alloc::{AllocError, Global};
+
+/// Whether a byte is white space in response text: tab to carriage return, and space.
+fn is_space_byte(byte: u8) -> bool
+    ensures { result ≡ is_space byte }
+{
+    matches!(byte, 9..=13 | b' ')
+}
+
+/// Whether a byte opens a quoted run.
+fn is_quote_byte(byte: u8) -> bool
+    ensures { result ≡ is_quote byte }
+{
+    matches!(byte, b'\'' | b'"')
+}
+
+/// Whether a byte stands behind a backslash in the text of a word.
+fn is_marked_byte(byte: u8) -> bool
+    ensures { result ≡ is_marked byte }
+{
+    is_space_byte(byte) || is_quote_byte(byte) || byte == b'\\'
+}
+
+/// A splitter of response text: the words that ended, the word that is open, the quote of its run, and whether
+/// the last byte was a backslash that stands for the next.
+#[derive(Drop)]
+struct Splitter {
+    words: Listing<Word>,
+    word: Option<Word>,
+    quote: Option<u8>,
+    escaped: bool,
+}
+
+impl Splitter {
+    fn new(alloc: Global) -> Splitter
+        ensures { result ≡ start }
+    {
+        Splitter {
+            words: Listing::new(alloc),
+            word: None,
+            quote: None,
+            escaped: false,
+        }
+    }
+
+    /// Opens a word, if none is.
+    fn open(&mut self, alloc: Global)
+        ensures { self.new ≡ opened self.old }
+    {
+        if self.word.is_none() {
+            self.word = Some(Word::empty(alloc));
+        }
+    }
+
+    /// Adds a byte to the word, and opens one if none is.
+    fn push(&mut self, alloc: Global, byte: u8) -> Result<(), AllocError>
+        ensures { OnOk result (self.new ≡ with_byte self.old byte) }
+    {
+        match &mut self.word {
+            Some(word) => word.push(byte),
+            None => {
+                self.word = Some(Word::from_bytes(alloc, &[byte])?);
+                Ok(())
+            }
+        }
+    }
+
+    /// Ends the word, if one is open.
+    fn end_word(&mut self) -> Result<(), AllocError>
+        ensures { OnOk result (self.new ≡ ended self.old) }
+    {
+        if let Some(word) = self.word.take() {
+            self.words.push(word)?;
+        }
+        Ok(())
+    }
+
+    fn take_quoted(&mut self, alloc: Global, mark: u8, byte: u8) -> Result<(), AllocError>
+        ensures { OnOk result (self.new ≡ quoted_step mark self.old byte) }
+    {
+        if byte == b'\\' {
+            self.escaped = true;
+        } else if byte == mark {
+            self.quote = None;
+        } else {
+            self.push(alloc, byte)?;
+        }
+        Ok(())
+    }
+
+    fn take_plain(&mut self, alloc: Global, byte: u8) -> Result<(), AllocError>
+        ensures { OnOk result (self.new ≡ plain_step self.old byte) }
+    {
+        if is_space_byte(byte) {
+            self.end_word()?;
+        } else if byte == b'\\' {
+            self.open(alloc);
+            self.escaped = true;
+        } else if is_quote_byte(byte) {
+            self.open(alloc);
+            self.quote = Some(byte);
+        } else {
+            self.push(alloc, byte)?;
+        }
+        Ok(())
+    }
+
+    /// Takes the next byte.
+    fn take(&mut self, alloc: Global, byte: u8) -> Result<(), AllocError>
+        ensures { OnOk result (self.new ≡ step self.old byte) }
+    {
+        if self.escaped {
+            self.escaped = false;
+            return self.push(alloc, byte);
+        }
+        match self.quote {
+            Some(mark) => self.take_quoted(alloc, mark, byte),
+            None => self.take_plain(alloc, byte),
+        }
+    }
+}
+
+/// Splits a whole text.
+fn split_text(alloc: Global, text: &[u8]) -> Result<Listing<Word>, AllocError>
+    ensures { IfOk result (λ words. words ≡ words_of start text.now) }
+{
+    let mut splitter = Splitter::new(alloc);
+    for &byte in text {
+        splitter.take(alloc, byte)?;
+    }
+    splitter.end_word()?;
+    Ok(splitter.words)
+}
+
+/// The words of a response file's text: separated by white space, with quoted runs and backslashes (GCC
+/// manual, "Overall Options", `@file`). Every text has one list of words.
+pub fn split(alloc: Global, text: &[u8]) -> Result<Listing<Word>, AllocError>
+    ensures words { IfOk result (λ words. Splits text.now words) }
+    ensures only { IfOk result (λ words. (others : List (List ℕ)) → Splits text.now others → words ≡ others) }
+{
+    split_text(alloc, text)
+}
+
+/// Adds the bytes of a word, each marked by a backslash where it has to be.
+fn push_marked(text: &mut Word, word: &[u8]) -> Result<(), AllocError>
+    ensures { OnOk result (text.new ≡ text.old ++ marked word.now) }
+{
+    for &byte in word {
+        if is_marked_byte(byte) {
+            text.push(b'\\')?;
+        }
+        text.push(byte)?;
+    }
+    Ok(())
+}
+
+/// Adds the text that stands for a word.
+fn push_response(text: &mut Word, word: &Word) -> Result<(), AllocError>
+    ensures { OnOk result (text.new ≡ text.old ++ response word.now) }
+{
+    match word.as_bytes() {
+        [] => text.extend_from_slice(b"\"\""),
+        bytes => push_marked(text, bytes),
+    }
+}
+
+/// The text of a response file that stands for these words: a line each, with a backslash before white space,
+/// quotes and backslash, and the empty word as `""`. [`split`] gives the words back.
+pub fn respond_text(alloc: Global, words: &[Word]) -> Result<Word, AllocError>
+    ensures text { IfOk result (λ text. text ≡ response_text words.now) }
+    ensures again { IfOk result (λ text. Splits text words.now) }
+{
+    let mut text = Word::empty(alloc);
+    for word in words {
+        push_response(&mut text, word)?;
+        text.push(b'\n')?;
+    }
+    Ok(text)
+}
