@@ -1,0 +1,106 @@
+use Rattle.drv_system.proofs.AnswerMaps.{keeps_answers}
+use Rattle.drv_system.specs.Asking.{Asks, AreNew, AreQuestions, Extends, IsNew, IsQuestion}
+use Rattle.drv_system.specs.Facts.{Facts, kind_of, learn, learnt, read_of, variable_of}
+use Rattle.drv_system.specs.declared.event.Event.{Event}
+use Rattle.drv_system.specs.declared.event.Event.TheVariants.{Read, Kind, Variable, Say, Put}
+use Rattle.drv_system.specs.declared.event.PathKind.{PathKind}
+use Rattle.drv_system.specs.declared.event.ReadAnswer.{ReadAnswer}
+use Rattle.std.proofs.Common.{append_assoc, refl, ap, rules, subst, sym, ◌∙◌}
+use Rattle.std.specs.Prelude.{◌≡◌, List, [], ◌∷◌, ◌++◌, Option, Some, ℕ}
+
+-- Calls that only ask, one after another; facts that grow.
+
+pub extends_refl : (F : Facts) → Extends F F
+extends_refl F = record { reads = λ path answer is. is; kinds = λ path kind is. is; variables = λ name value is. is }
+
+pub extends_then : {F G H : Facts} → Extends F G → Extends G H → Extends F H
+extends_then first second = record {
+  reads = λ path answer is. second.reads path answer (first.reads path answer is);
+  kinds = λ path kind is. second.kinds path kind (first.kinds path kind is);
+  variables = λ name value is. second.variables name value (first.variables name value is);
+}
+
+-- one more event
+pub learnt_extends : (F : Facts) (event : Event) → Extends F (learnt F event)
+learnt_extends F (Read path answer) = record {
+  reads = λ other known is. keeps_answers F.reads path other answer known is;
+  kinds = λ other known is. is;
+  variables = λ other known is. is;
+}
+learnt_extends F (Kind path kind) = record {
+  reads = λ other known is. is;
+  kinds = λ other known is. keeps_answers F.kinds path other kind known is;
+  variables = λ other known is. is;
+}
+learnt_extends F (Variable name value) = record {
+  reads = λ other known is. is;
+  kinds = λ other known is. is;
+  variables = λ other known is. keeps_answers F.variables name other value known is;
+}
+learnt_extends F (Say text answer) = extends_refl F
+learnt_extends F (Put text answer) = extends_refl F
+
+pub learn_extends : (F : Facts) (events : List Event) → Extends F (learn F events)
+learn_extends F [] = extends_refl F
+learn_extends F (event ∷ events) = extends_then (learnt_extends F event) (learn_extends (learnt F event) events)
+
+pub learn-append : (F : Facts) (first second : List Event) → learn F (first ++ second) ≡ learn (learn F first) second
+learn-append F [] second = refl
+learn-append F (event ∷ first) second = learn-append (learnt F event) first second
+
+pub new_append : (F : Facts) (first second : List Event) → AreNew F first → AreNew (learn F first) second → AreNew F (first ++ second)
+new_append F [] second new new' = new'
+new_append F (event ∷ first) second new new' = (new.0, new_append (learnt F event) first second new.1 new')
+
+-- nothing was asked
+pub asks_nothing : (journal : List Event) (F : Facts) → Asks journal journal F F
+asks_nothing journal F = record { asked = []; questions = tt; journal_grows = search rules; facts_grow = refl }
+
+pub asks_unchanged : {journal journal' : List Event} {F F' : Facts} → journal' ≡ journal → F' ≡ F → Asks journal journal' F F'
+asks_unchanged {journal} {F = F} same_journal same_facts = rw (same_journal, same_facts) (asks_nothing journal F)
+
+-- one question was asked
+pub asks_one : (journal : List Event) (F : Facts) (event : Event) → IsNew F event → Asks journal (journal ++ event ∷ []) F (learnt F event)
+asks_one journal F event new = record { asked = event ∷ []; questions = (new, tt); journal_grows = refl; facts_grow = refl }
+
+pub asks_new : {journal journal' : List Event} {F F' : Facts} (event : Event)
+    → IsNew F event → journal' ≡ journal ++ event ∷ [] → F' ≡ learnt F event → Asks journal journal' F F'
+asks_new {journal} {F = F} event new journal_grows facts_grow = rw (journal_grows, facts_grow) (asks_one journal F event new)
+
+-- one call that only asks after another
+pub asks_then : {journal journal' journal'' : List Event} {F F' F'' : Facts}
+    → Asks journal journal' F F' → Asks journal' journal'' F' F'' → Asks journal journal'' F F''
+asks_then {journal} {F = F} first second = record {
+  asked = first.asked ++ second.asked;
+  questions = new_append F first.asked second.asked first.questions (subst (λ G. AreNew G second.asked) first.facts_grow second.questions);
+  journal_grows = second.journal_grows ∙ ap (λ events. events ++ second.asked) first.journal_grows ∙ append_assoc journal first.asked second.asked;
+  facts_grow = second.facts_grow ∙ ap (λ G. learn G second.asked) first.facts_grow ∙ sym (learn-append F first.asked second.asked);
+}
+
+pub asks_extends : {journal journal' : List Event} {F F' : Facts} → Asks journal journal' F F' → Extends F F'
+asks_extends {F = F} asks = subst (λ G. Extends F G) (sym asks.facts_grow) (learn_extends F asks.asked)
+
+-- what was known after a call is known in facts that grew since
+pub read_stays : {journal journal' : List Event} {F F' G : Facts} (path : List ℕ) (answer : ReadAnswer)
+    → Asks journal journal' F F' → Extends F' G → read_of F path ≡ Some answer → read_of G path ≡ Some answer
+read_stays path answer asks extends is = (extends_then (asks_extends asks) extends).reads path answer is
+
+pub kind_stays : {journal journal' : List Event} {F F' G : Facts} (path : List ℕ) (kind : PathKind)
+    → Asks journal journal' F F' → Extends F' G → kind_of F path ≡ Some kind → kind_of G path ≡ Some kind
+kind_stays path kind asks extends is = (extends_then (asks_extends asks) extends).kinds path kind is
+
+pub variable_stays : {journal journal' : List Event} {F F' G : Facts} (name : List ℕ) (value : Option (List ℕ))
+    → Asks journal journal' F F' → Extends F' G → variable_of F name ≡ Some value → variable_of G name ≡ Some value
+variable_stays name value asks extends is = (extends_then (asks_extends asks) extends).variables name value is
+
+-- what is new is a question
+is_question : (F : Facts) (event : Event) → IsNew F event → IsQuestion event
+is_question F (Read path answer) new = tt
+is_question F (Kind path kind) new = tt
+is_question F (Variable name value) new = tt
+is_question F (Say text answer) new = absurd new
+is_question F (Put text answer) new = absurd new
+
+pub are_questions : (F : Facts) (events : List Event) → AreNew F events → AreQuestions events
+are_questions F [] new = tt
+are_questions F (event ∷ events) new = (is_question F event new.0, are_questions (learnt F event) events new.1)

@@ -1,0 +1,4 @@
+pub mod AnswerMaps
+pub mod Asking
+pub mod Consulting
+pub mod FirstAnswers

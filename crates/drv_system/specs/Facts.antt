@@ -1,0 +1,73 @@
+use Rattle.drv_system.specs.declared.event.Event.{Event}
+use Rattle.drv_system.specs.declared.event.Event.TheVariants.{Read, Kind, Variable}
+use Rattle.drv_system.specs.declared.event.PathKind.{PathKind}
+use Rattle.drv_system.specs.declared.event.ReadAnswer.{ReadAnswer}
+use Rattle.std.specs.BTreeMap.{insert_entry, is_at}
+use Rattle.std.specs.Cmp.Lexicographic.{slice_cmp}
+use Rattle.std.specs.Map.{lookup}
+use Rattle.std.specs.Ordering.{nat_cmp}
+use Rattle.std.specs.Prelude.{List, [], ◌∷◌, None, Option, Some, if◌then◌else◌, is_some, ℕ}
+
+-- What is known of the outside: three finite maps from a path or a name to the first answer (this project's profile).
+-- A finite map is the list of its pairs in the order of their keys, byte by byte.
+
+-- the answer that a map has for a key
+abbrev pub answer_to : {Y : Type 0} → List (List ℕ × Y) → List ℕ → Option Y
+answer_to answers key = lookup (is_at (slice_cmp nat_cmp key)) answers
+
+-- a map with a pair in its place
+abbrev pub with_pair : {Y : Type 0} → List (List ℕ × Y) → List ℕ → Y → List (List ℕ × Y)
+with_pair answers key answer = insert_entry (slice_cmp nat_cmp) answers key answer
+
+-- a map with one more answer: a key that has one keeps it
+abbrev pub with_answer : {Y : Type 0} → List (List ℕ × Y) → List ℕ → Y → List (List ℕ × Y)
+with_answer answers key answer = if is_some (answer_to answers key) then answers else with_pair answers key answer
+
+-- what is known of files, of the kinds of paths, and of variables
+pub record Facts : Type 0 where
+  pub reads : List (List ℕ × ReadAnswer)
+  pub kinds : List (List ℕ × PathKind)
+  pub variables : List (List ℕ × Option (List ℕ))
+
+-- nothing is known
+abbrev pub no_facts : Facts
+no_facts = record { reads = []; kinds = []; variables = [] }
+
+abbrev pub read_of : Facts → List ℕ → Option ReadAnswer
+read_of F path = answer_to F.reads path
+
+abbrev pub kind_of : Facts → List ℕ → Option PathKind
+kind_of F path = answer_to F.kinds path
+
+-- a value of None says that the variable is known to be unset
+abbrev pub variable_of : Facts → List ℕ → Option (Option (List ℕ))
+variable_of F name = answer_to F.variables name
+
+-- what is known after an event: only a question adds to it
+abbrev pub learnt : Facts → Event → Facts
+learnt F (Read path answer) = record F { reads = with_answer F.reads path answer }
+learnt F (Kind path kind) = record F { kinds = with_answer F.kinds path kind }
+learnt F (Variable name value) = record F { variables = with_answer F.variables name value }
+learnt F event = F
+
+-- what is known after events: `learn no_facts events` holds the first answers of a journal
+abbrev pub learn : Facts → List Event → Facts
+learn F [] = F
+learn F (event ∷ events) = learn (learnt F event) events
+
+-- The first answers, read off a journal.
+
+abbrev pub first_read : List ℕ → List Event → Option ReadAnswer
+first_read path [] = None
+first_read path (Read other answer ∷ events) = if is_at (slice_cmp nat_cmp path) other then Some answer else first_read path events
+first_read path (event ∷ events) = first_read path events
+
+abbrev pub first_kind : List ℕ → List Event → Option PathKind
+first_kind path [] = None
+first_kind path (Kind other kind ∷ events) = if is_at (slice_cmp nat_cmp path) other then Some kind else first_kind path events
+first_kind path (event ∷ events) = first_kind path events
+
+abbrev pub first_variable : List ℕ → List Event → Option (Option (List ℕ))
+first_variable name [] = None
+first_variable name (Variable other value ∷ events) = if is_at (slice_cmp nat_cmp name) other then Some value else first_variable name events
+first_variable name (event ∷ events) = first_variable name events

@@ -1,0 +1,135 @@
+//! The first answers to what was asked.
+
+ghost use Rattle.drv_system.specs.Asking.{Asks, Consults};
+ghost use Rattle.drv_system.specs.Facts.{first_kind, first_read, first_variable, kind_of, learn, no_facts, read_of, variable_of};
+ghost use Rattle.drv_system.specs.declared.event.Event.{Event};
+ghost use Rattle.drv_system.specs.declared.event.Event.TheVariants as event;
+ghost use Rattle.std.specs.Option.{option_copied};
+ghost use Rattle.std.specs.Prelude.{◌≡◌, IfOk, IsSome, List, OnOk, Some, ℕ};
+
+use crate::answers::Answers;
+use crate::{PathKind, ReadAnswer, System};
+use drv_words::Word;
+use std::alloc::{AllocError, Global};
+use std::marker::Model;
+
+/// The first answers to what was asked, by path or name.
+#[derive(Drop)]
+pub struct FactTable {
+    reads: Answers<ReadAnswer>,
+    kinds: Answers<PathKind>,
+    variables: Answers<Option<Word>>,
+}
+
+impl Model for FactTable {
+    ghost use Rattle.drv_system.specs.Facts.{Facts};
+
+    ghost Value = { Facts };
+
+    ghost view = { λ t. record { reads = t.reads; kinds = t.kinds; variables = t.variables } };
+}
+
+impl FactTable {
+    /// The table that has no answer, which takes no memory.
+    pub fn new(alloc: Global) -> FactTable
+        ensures { result ≡ no_facts }
+    {
+        FactTable {
+            reads: Answers::new(alloc),
+            kinds: Answers::new(alloc),
+            variables: Answers::new(alloc),
+        }
+    }
+
+    /// What a path leads to: the answer of the table, or else the system's, which the table keeps.
+    pub fn kind<S: System>(&mut self, sys: &mut S, path: &Word) -> Result<PathKind, AllocError>
+        ensures asks { Asks (S.events sys.old) (S.events sys.new) self.old self.new }
+        ensures consults { Consults (S.events sys.old) (S.events sys.new) self.old self.new (event.Kind path.now) (kind_of self.old path.now) result (kind_of self.new path.now) }
+        ensures known { IfOk result (λ kind. kind_of self.new path.now ≡ Some kind) }
+    {
+        if let Some(kind) = self.kinds.get(path) {
+            return Ok(*kind);
+        }
+        self.kinds.make_place(path, PathKind::Missing)?;
+        match sys.kind(path) {
+            Ok(kind) => {
+                self.kinds.fill_place(path, kind);
+                Ok(kind)
+            }
+            Err(e) => {
+                self.kinds.clear_place(path);
+                Err(e)
+            }
+        }
+    }
+
+    /// Asks for the bytes of a file, unless the table has the answer: `read_answer` then gives it.
+    pub fn read<S: System>(&mut self, sys: &mut S, path: &Word) -> Result<(), AllocError>
+        ensures asks { Asks (S.events sys.old) (S.events sys.new) self.old self.new }
+        ensures consults { Consults (S.events sys.old) (S.events sys.new) self.old self.new (event.Read path.now) (read_of self.old path.now) result (read_of self.new path.now) }
+        ensures known { OnOk result (IsSome (read_of self.new path.now)) }
+    {
+        if self.reads.has(path) {
+            return Ok(());
+        }
+        self.reads.make_place(path, ReadAnswer::Missing)?;
+        match sys.read_file(path) {
+            Ok(answer) => {
+                self.reads.fill_place(path, answer);
+                Ok(())
+            }
+            Err(e) => {
+                self.reads.clear_place(path);
+                Err(e)
+            }
+        }
+    }
+
+    /// The answer that the table has for the bytes of a file.
+    pub fn read_answer(&self, path: &Word) -> &ReadAnswer
+        requires { IsSome (read_of self.now path.now) }
+        ensures { read_of self.now path.now ≡ Some result.now }
+    {
+        self.reads.get(path).unwrap()
+    }
+
+    /// Asks for the value of a variable, unless the table has the answer: `variable_answer` then gives it.
+    pub fn variable<S: System>(&mut self, sys: &mut S, name: &Word) -> Result<(), AllocError>
+        ensures asks { Asks (S.events sys.old) (S.events sys.new) self.old self.new }
+        ensures consults { Consults (S.events sys.old) (S.events sys.new) self.old self.new (event.Variable name.now) (variable_of self.old name.now) result (variable_of self.new name.now) }
+        ensures known { OnOk result (IsSome (variable_of self.new name.now)) }
+    {
+        if self.variables.has(name) {
+            return Ok(());
+        }
+        self.variables.make_place(name, None)?;
+        match sys.variable(name) {
+            Ok(value) => {
+                self.variables.fill_place(name, value);
+                Ok(())
+            }
+            Err(e) => {
+                self.variables.clear_place(name);
+                Err(e)
+            }
+        }
+    }
+
+    /// The value that the table has for a variable, or none for one that is unset.
+    pub fn variable_answer(&self, name: &Word) -> Option<&Word>
+        requires { IsSome (variable_of self.now name.now) }
+        ensures { variable_of self.now name.now ≡ Some (option_copied result) }
+    {
+        self.variables.get(name).unwrap().as_ref()
+    }
+}
+
+/// What is known from a journal is, for each path and each name, the first answer in it.
+pub fn first_answers_law()
+    ensures reads { (events : List Event) (path : List ℕ) → read_of (learn no_facts events) path ≡ first_read path events }
+    ensures kinds { (events : List Event) (path : List ℕ) → kind_of (learn no_facts events) path ≡ first_kind path events }
+    ensures variables { (events : List Event) (name : List ℕ) → variable_of (learn no_facts events) name ≡ first_variable name events }
+{}
+
+#[cfg(test)]
+mod tests;
