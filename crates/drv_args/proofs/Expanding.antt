@@ -1,0 +1,144 @@
+use Rattle.drv_args.specs.Expansion.{Expands, Itself, Means, Refuses, Responds, Text, behind, by_answer, by_name, by_text, file_named, inside, itself, later, meant, no_word, too_large, too_many}
+use Rattle.drv_args.specs.declared.fault.ArgsFault.TheVariants.{Memory, ResponseTooLarge, TooManyFiles}
+use Rattle.drv_args.specs.declared.fault.ArgsFault.{ArgsFault}
+use Rattle.drv_args.specs.declared.line.Expanded.{Expanded}
+use Rattle.drv_system.specs.Asking.{Extends}
+use Rattle.drv_system.specs.Facts.{Facts, read_of}
+use Rattle.drv_system.specs.Known.{◌>>=◌, Is, asked}
+use Rattle.drv_system.specs.declared.event.ReadAnswer.TheVariants.{Failed, Missing}
+use Rattle.drv_system.specs.declared.event.ReadAnswer.{ReadAnswer}
+use Rattle.drv_words.specs.Response.{Splits}
+use Rattle.std.proofs.Common.{◌≡◌, ◌⊎◌, Err, List, [], ◌∷◌, ◌++◌, IsErrAnd, Ok, Result, Some, reverse, refl, sym, subst, ap, ◌∙◌, append_assoc, inl, inr, ℕ, suc}
+use Rattle.std.proofs.Math.Seq.{append_snoc}
+use Rattle.std.proofs.lemmas.List.{append-nil, reverse-append, reverse-reverse}
+
+-- Words that are expanded in front of others.
+
+-- what a word means by the facts after the call that asked
+pub meant_is : (F G : Facts) (word path : List ℕ) (answer : ReadAnswer) → Extends G F → file_named word ≡ Some path → read_of G path ≡ Some answer → meant F word ≡ Is (by_answer path answer)
+meant_is F G word path answer e named known =
+    ap (by_name F) named ∙ ap (λ a. asked a >>= λ answer. Is (by_answer path answer)) (e.reads path answer known)
+
+pub itself_by : (path : List ℕ) (answer : ReadAnswer) → (answer ≡ Missing) ⊎ (answer ≡ Failed) → Is (by_answer path answer) ≡ Is Itself
+itself_by path answer (inl e) = ap (λ a. Is (by_answer path a)) e
+itself_by path answer (inr e) = ap (λ a. Is (by_answer path a)) e
+
+-- what words in front and words behind them respond to
+record Parts (F : Facts) (left : ℕ) (front words : List (List ℕ)) (left' : ℕ) (out : List (List ℕ)) : Type 0 where
+  mid : ℕ
+  out_front : List (List ℕ)
+  out_behind : List (List ℕ)
+  is : out ≡ out_front ++ out_behind
+  first : Responds F left front mid out_front
+  second : Responds F mid words left' out_behind
+
+parts_of : {F : Facts} {left left' : ℕ} {out : List (List ℕ)} (front words : List (List ℕ)) → Responds F left (front ++ words) left' out → Parts F left front words left' out
+parts_of {left = left} {out = out} [] words all = record { mid = left; out_front = []; out_behind = out; is = refl; first = no_word; second = all }
+parts_of (word ∷ front) words (itself {word = w} m rest) =
+    let p = parts_of front words rest in
+    record { mid = p.mid; out_front = w ∷ p.out_front; out_behind = p.out_behind; is = ap (λ o. w ∷ o) p.is; first = itself m p.first; second = p.second }
+parts_of (word ∷ front) words (by_text {out = o} m splits inner rest) =
+    let p = parts_of front words rest in
+    record { mid = p.mid; out_front = o ++ p.out_front; out_behind = p.out_behind; is = ap (λ b. o ++ b) p.is ∙ sym (append_assoc o p.out_front p.out_behind); first = by_text m splits inner p.first; second = p.second }
+
+-- a refusal in words in front, or in those behind them
+data Refused (F : Facts) (left : ℕ) (front words : List (List ℕ)) (fault : ArgsFault) : Type 0 where
+  in_front : Refuses F left front fault → Refused F left front words fault
+  in_rest : {mid : ℕ} {out : List (List ℕ)} → Responds F left front mid out → Refuses F mid words fault → Refused F left front words fault
+
+refused_of : {F : Facts} {left : ℕ} {fault : ArgsFault} (front words : List (List ℕ)) → Refuses F left (front ++ words) fault → Refused F left front words fault
+refused_of [] words all = in_rest no_word all
+refused_of (word ∷ front) words (too_large m) = in_front (too_large m)
+refused_of (word ∷ front) words (too_many m) = in_front (too_many m)
+refused_of {F = F} {left = left} {fault = fault} (word ∷ front) words (later m rest) = go (refused_of front words rest)
+  where
+    go : Refused F left front words fault → Refused F left (word ∷ front) words fault
+    go (in_front r) = in_front (later m r)
+    go (in_rest done r) = in_rest (itself m done) r
+refused_of (word ∷ front) words (inside m splits inner) = in_front (inside m splits inner)
+refused_of {F = F} {fault = fault} (word ∷ front) words (behind {left = left} {mid = mid} m splits inner rest) = go (refused_of front words rest)
+  where
+    go : Refused F mid front words fault → Refused F (suc left) (word ∷ front) words fault
+    go (in_front r) = in_front (behind m splits inner r)
+    go (in_rest done r) = in_rest (by_text m splits inner done) r
+
+-- how what is done goes on to what all the arguments come to
+pub record GoesOn (F : Facts) (left : ℕ) (words out args : List (List ℕ)) : Type 0 where
+  pub responds : (left' : ℕ) (more : List (List ℕ)) → Responds F left words left' more → Responds F 2000 args left' (out ++ more)
+  pub refuses : (fault : ArgsFault) → Refuses F left words fault → Refuses F 2000 args fault
+
+pub goes_from_start : (F : Facts) (args : List (List ℕ)) → GoesOn F 2000 args [] args
+goes_from_start F args = record { responds = λ left' more r. r; refuses = λ fault r. r }
+
+pub goes_by_itself : (F : Facts) (left : ℕ) (word : List ℕ) (words out args : List (List ℕ))
+    → meant F word ≡ Is Itself → GoesOn F left (word ∷ words) out args → GoesOn F left words (out ++ word ∷ []) args
+goes_by_itself F left word words out args m goes = record {
+  responds = λ left' more r. let P : List (List ℕ) → Type 0 = λ o. Responds F 2000 args left' o in subst P (sym (append_snoc out word more)) (goes.responds left' (word ∷ more) (itself m r));
+  refuses = λ fault r. goes.refuses fault (later m r);
+}
+
+pub goes_by_text : (F : Facts) (left : ℕ) (word text : List ℕ) (inner words out args : List (List ℕ))
+    → meant F word ≡ Is (Text text) → Splits text inner → GoesOn F (suc left) (word ∷ words) out args → GoesOn F left (inner ++ words) out args
+goes_by_text F left word text inner words out args m splits goes = record {
+  responds = λ left' more r.
+      let p : Parts F left inner words left' more = parts_of inner words r in
+      let P : List (List ℕ) → Type 0 = λ o. Responds F 2000 args left' (out ++ o) in
+      subst P (sym p.is) (goes.responds left' (p.out_front ++ p.out_behind) (by_text m splits p.first p.second));
+  refuses = λ fault r. goes.refuses fault (refused (refused_of inner words r));
+}
+  where
+    refused : {fault : ArgsFault} → Refused F left inner words fault → Refuses F (suc left) (word ∷ words) fault
+    refused (in_front r) = inside m splits r
+    refused (in_rest done r) = behind m splits done r
+
+-- The same of a stack, whose last word is the next one.
+
+next_is : (stack rest : List (List ℕ)) (word : List ℕ) → stack ≡ rest ++ word ∷ [] → reverse stack ≡ word ∷ reverse rest
+next_is stack rest word e = ap reverse e ∙ reverse-append rest (word ∷ [])
+
+pub itself_goes : (F : Facts) (left : ℕ) (stack rest : List (List ℕ)) (word : List ℕ) (out out' args : List (List ℕ))
+    → stack ≡ rest ++ word ∷ [] → out' ≡ out ++ word ∷ [] → meant F word ≡ Is Itself → GoesOn F left (reverse stack) out args → GoesOn F left (reverse rest) out' args
+itself_goes F left stack rest word out out' args popped pushed m goes =
+    let P : List (List ℕ) → Type 0 = λ o. GoesOn F left (reverse rest) o args in
+    let Q : List (List ℕ) → Type 0 = λ ws. GoesOn F left ws out args in
+    subst P (sym pushed) (goes_by_itself F left word (reverse rest) out args m (subst Q (next_is stack rest word popped) goes))
+
+-- a word that stands for words
+abbrev pub StandsFor : Facts → List ℕ → List (List ℕ) → Type 0
+StandsFor F word inner = (text : List ℕ) × (meant F word ≡ Is (Text text)) × Splits text inner
+
+pub text_goes : (F : Facts) (left left' : ℕ) (stack rest stack' : List (List ℕ)) (word : List ℕ) (inner out args : List (List ℕ))
+    → stack ≡ rest ++ word ∷ [] → left ≡ suc left' → stack' ≡ rest ++ reverse inner → StandsFor F word inner → GoesOn F left (reverse stack) out args → GoesOn F left' (reverse stack') out args
+text_goes F left left' stack rest stack' word inner out args popped one pushed (text, m, splits) goes =
+    let P : List (List ℕ) → Type 0 = λ ws. GoesOn F left' ws out args in
+    let Q : ℕ → Type 0 = λ n. GoesOn F n (word ∷ reverse rest) out args in
+    let R : List (List ℕ) → Type 0 = λ ws. GoesOn F left ws out args in
+    let is : reverse stack' ≡ inner ++ reverse rest = ap reverse pushed ∙ reverse-append rest (reverse inner) ∙ ap (λ ws. ws ++ reverse rest) (reverse-reverse inner) in
+    subst P (sym is) (goes_by_text F left' word text inner (reverse rest) out args m splits (subst Q one (subst R (next_is stack rest word popped) goes)))
+
+pub many_refused : (F : Facts) (left : ℕ) (stack rest : List (List ℕ)) (word : List ℕ) (inner out args : List (List ℕ))
+    → stack ≡ rest ++ word ∷ [] → left ≡ 0 → StandsFor F word inner → GoesOn F left (reverse stack) out args → Refuses F 2000 args TooManyFiles
+many_refused F left stack rest word inner out args popped none (text, m, splits) goes =
+    let P : ℕ → Type 0 = λ n. Refuses F n (word ∷ reverse rest) TooManyFiles in
+    let Q : List (List ℕ) → Type 0 = λ ws. Refuses F left ws TooManyFiles in
+    goes.refuses TooManyFiles (subst Q (sym (next_is stack rest word popped)) (subst P (sym none) (too_many m)))
+
+pub large_refused : (F : Facts) (left : ℕ) (stack rest : List (List ℕ)) (word : List ℕ) (out args : List (List ℕ)) (fault : ArgsFault)
+    → stack ≡ rest ++ word ∷ [] → Means F word (Err fault) → GoesOn F left (reverse stack) out args → (fault ≡ Memory) ⊎ Refuses F 2000 args fault
+large_refused F left stack rest word out args fault popped (inl memory) goes = inl memory
+large_refused F left stack rest word out args fault popped (inr (path, m, e)) goes =
+    let P : ArgsFault → Type 0 = λ f. Refuses F 2000 args f in
+    let Q : List (List ℕ) → Type 0 = λ ws. Refuses F left ws (ResponseTooLarge path) in
+    inr (subst P (sym e) (goes.refuses (ResponseTooLarge path) (subst Q (sym (next_is stack rest word popped)) (too_large m))))
+
+pub expands_refused : (F : Facts) (args : List (List ℕ)) (fault : ArgsFault) (result : Result Expanded ArgsFault)
+    → IsErrAnd result (λ e. e ≡ fault) → (fault ≡ Memory) ⊎ Refuses F 2000 args fault → Expands F 2000 args result
+expands_refused F args fault (Ok expanded) is refused = absurd is
+expands_refused F args fault (Err e) is (inl memory) = inl (is ∙ memory)
+expands_refused F args fault (Err e) is (inr refused) = let P : ArgsFault → Type 0 = λ f. Refuses F 2000 args f in inr (subst P (sym is) refused)
+
+pub end_goes : (F : Facts) (left : ℕ) (stack out args : List (List ℕ)) → stack ≡ [] → GoesOn F left (reverse stack) out args → Responds F 2000 args left out
+end_goes F left stack out args empty goes =
+    let P : List (List ℕ) → Type 0 = λ ws. Responds F left ws left [] in
+    let Q : List (List ℕ) → Type 0 = λ o. Responds F 2000 args left o in
+    subst Q (append-nil out) (goes.responds left [] (subst P (sym (ap reverse empty)) no_word))

@@ -1,0 +1,6 @@
+pub mod Asked
+pub mod Expanding
+pub mod FrontLaws
+pub mod Noting
+pub mod Verdicts
+pub mod Words

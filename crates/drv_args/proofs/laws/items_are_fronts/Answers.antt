@@ -1,0 +1,8 @@
+use Rattle.drv_args.proofs.FrontLaws.{offends_law, reads_law}
+use Rattle.drv_args.proofs.laws.items_are_fronts.Goals as goal
+
+pub returns-clause-reads : goal.returns-clause-reads
+returns-clause-reads c = reads_law
+
+pub returns-clause-offends : goal.returns-clause-offends
+returns-clause-offends c = offends_law

@@ -1,0 +1,107 @@
+//! Response files expanded.
+
+ghost use Rattle.drv_args.specs.Expansion.{Expands, Means, file_named};
+ghost use Rattle.drv_system.specs.Asking.{Asks, Extends};
+ghost use Rattle.drv_system.specs.Facts.{Facts};
+ghost use Rattle.std.specs.Prelude.{◌≡◌, ◌++◌, IfOk, List, OnOk, ℕ, reverse};
+
+use crate::{ArgsFault, Expanded};
+use drv_system::{FactTable, ReadAnswer, System};
+use drv_words::{Listing, Word, split};
+use std::alloc::{AllocError, Global};
+
+#[cfg(test)]
+mod tests;
+
+/// How many words may be replaced.
+const MOST_FILES: u32 = 2000;
+
+/// The file that a word `@PATH` names.
+fn named_file(alloc: Global, word: &Word) -> Result<Option<Word>, AllocError>
+    ensures { IfOk result (λ path. path ≡ file_named word.now) }
+{
+    match word.as_bytes() {
+        [b'@', path @ ..] if !path.is_empty() => Ok(Some(Word::from_bytes(alloc, path)?)),
+        _ => Ok(None),
+    }
+}
+
+/// The words that replace a word: those of the response file that it names, if that can be read.
+#[tactic(auto, using(crate::proofs::Asked::asks_further))]
+fn replacement<S: System>(
+    alloc: Global,
+    word: &Word,
+    sys: &mut S,
+    facts: &mut FactTable,
+) -> Result<Option<Listing<Word>>, ArgsFault>
+    ensures asks { Asks (S.events sys.old) (S.events sys.new) facts.old facts.new }
+    ensures means { (F : Facts) → Extends facts.new F → Means F word.now result }
+{
+    let Some(path) = named_file(alloc, word)? else {
+        return Ok(None);
+    };
+    facts.read(sys, &path)?;
+    match facts.read_answer(&path) {
+        ReadAnswer::Read(text) => Ok(Some(split(alloc, text.as_bytes())?)),
+        ReadAnswer::Missing | ReadAnswer::Failed => Ok(None),
+        ReadAnswer::TooLarge => Err(ArgsFault::ResponseTooLarge(path)),
+    }
+}
+
+/// Puts words on the stack, the first on top.
+fn push_reversed(stack: &mut Vec<Word>, words: Listing<Word>) -> Result<(), AllocError>
+    ensures { OnOk result (stack.new.items ≡ stack.old.items ++ reverse words) }
+{
+    let mut words = words.into_vec();
+    while let Some(word) = words.pop() {
+        stack.push(word)?;
+    }
+    Ok(())
+}
+
+/// Copies of words.
+fn copied(alloc: Global, words: &[Word]) -> Result<Listing<Word>, AllocError>
+    ensures { IfOk result (λ copies. copies ≡ words.now) }
+{
+    let mut copies = Listing::new(alloc);
+    for word in words {
+        copies.push(word.clone()?)?;
+    }
+    Ok(copies)
+}
+
+/// Replaces each argument `@PATH` by the words of that response file, expanded in turn (GCC manual, "Overall
+/// Options"). A file that is missing or can't be read leaves its argument as it is.
+///
+/// # Errors
+/// `ResponseTooLarge` for a file of more than 16,777,216 bytes, and `TooManyFiles` where more than 2,000 words
+/// would be replaced; the first of them in the order of the words counts.
+#[tactic(auto, using(crate::proofs::Asked::asks_further))]
+pub fn expand<S: System>(
+    alloc: Global,
+    args: &[Word],
+    sys: &mut S,
+    facts: &mut FactTable,
+) -> Result<Expanded, ArgsFault>
+    ensures asks { Asks (S.events sys.old) (S.events sys.new) facts.old facts.new }
+    ensures expands { (F : Facts) → Extends facts.new F → Expands F 2000 args.now result }
+{
+    let mut stack = Vec::new(alloc);
+    push_reversed(&mut stack, copied(alloc, args)?)?;
+    let mut words = Listing::new(alloc);
+    let mut left = MOST_FILES;
+    while let Some(word) = stack.pop() {
+        match replacement(alloc, &word, sys, facts)? {
+            None => words.push(word)?,
+            Some(_) if left == 0 => return Err(ArgsFault::TooManyFiles),
+            Some(inner) => {
+                left -= 1;
+                push_reversed(&mut stack, inner)?;
+            }
+        }
+    }
+    Ok(Expanded {
+        words,
+        from_file: left < MOST_FILES,
+    })
+}

@@ -1,0 +1,62 @@
+//! Why arguments are refused.
+
+use drv_words::Word;
+use std::alloc::{AllocError, AllocFailed};
+use thiserror::Error;
+
+/// Why arguments are refused, with what is at fault.
+#[derive(Debug, Drop, Error)]
+pub enum ArgsFault {
+    /// An allocation was refused.
+    #[error("out of memory")]
+    Memory,
+    /// More than 2,000 words were replaced by response files.
+    #[error("too many response files")]
+    TooManyFiles,
+    /// The response file of this path has more than 16,777,216 bytes.
+    #[error("a response file is too large")]
+    ResponseTooLarge(Word),
+    /// There are more than 65,536 words.
+    #[error("too many arguments")]
+    TooManyArguments,
+    /// This option takes the next word, and is the last.
+    #[error("an option lacks its argument")]
+    MissingArgument(Word),
+    /// This word names no number of jobs.
+    #[error("a bad number of jobs")]
+    BadJobs(Word),
+    /// Nothing is to be worked or linked.
+    #[error("no input files")]
+    NoInputs,
+    /// Standard input is an input, and neither `-x` nor `-E` says how it is worked.
+    #[error("standard input needs a language")]
+    StdinNeedsLanguage,
+    /// `-o` stands with `-c`, `-S` or `-E` and more than one file.
+    #[error("one output for several files")]
+    OutputWithMany,
+    /// This input is the output too.
+    #[error("an input is the output")]
+    OutputIsInput(Word),
+}
+
+impl From<AllocError> for ArgsFault {
+    ghost use Rattle.drv_args.specs.declared.fault.ArgsFault.TheVariants.{Memory};
+    ghost use Rattle.std.specs.Prelude.{◌≡◌};
+
+    ghost from_gives = { λ _ fault. fault ≡ Memory };
+
+    fn from(_refused: AllocError) -> ArgsFault {
+        ArgsFault::Memory
+    }
+}
+
+impl<T: Drop> From<AllocFailed<T>> for ArgsFault {
+    ghost use Rattle.drv_args.specs.declared.fault.ArgsFault.TheVariants.{Memory};
+    ghost use Rattle.std.specs.Prelude.{◌≡◌};
+
+    ghost from_gives = { λ _ fault. fault ≡ Memory };
+
+    fn from(_refused: AllocFailed<T>) -> ArgsFault {
+        ArgsFault::Memory
+    }
+}

@@ -1,0 +1,147 @@
+//! The refusals of a whole line.
+
+ghost use Rattle.drv_args.specs.Lines.{has_many, has_switch, is_bare_stdin, is_file_input, is_file_named, is_input, is_sink, judged, line_fault, needs_language, output_fault, stops};
+ghost use Rattle.drv_args.specs.Judging.{Finds};
+ghost use Rattle.drv_args.specs.declared.fault.ArgsFault.TheVariants as fault;
+ghost use Rattle.drv_system.specs.Gives.{Gives};
+ghost use Rattle.std.specs.List.{list_any};
+ghost use Rattle.std.specs.Prelude.{◌≡◌, Some, count_by};
+
+use crate::{ArgsFault, Input, Line};
+use drv_words::Word;
+
+/// Whether the line has a switch of this name.
+fn has_switch_named(line: &Line, name: &[u8]) -> bool
+    ensures { result ≡ has_switch name.now line.now }
+{
+    line.switches
+        .as_slice()
+        .iter()
+        .any(|switch| switch.name.as_bytes() == name)
+}
+
+/// Whether the driver stops before the link.
+fn does_stop(line: &Line) -> bool
+    ensures { result ≡ stops line.now }
+{
+    has_switch_named(line, b"c") || has_switch_named(line, b"S") || has_switch_named(line, b"E")
+}
+
+/// Whether an input is standard input without a language.
+fn is_stdin_without_language(input: &Input) -> bool
+    ensures { result ≡ is_bare_stdin input.now }
+{
+    match input {
+        Input::File { name, lang: None } => name.as_bytes() == b"-".as_slice(),
+        _ => false,
+    }
+}
+
+/// Whether standard input is an input without a language.
+fn has_bare_stdin(inputs: &[Input]) -> bool
+    ensures { result ≡ list_any is_bare_stdin inputs.now }
+{
+    inputs.iter().any(is_stdin_without_language)
+}
+
+/// Whether standard input is an input, and neither a language nor `-E` says how it is worked.
+fn does_need_language(line: &Line) -> bool
+    ensures { result ≡ needs_language line.now }
+{
+    has_bare_stdin(line.inputs.as_slice()) && !has_switch_named(line, b"E")
+}
+
+/// Whether an input is a file.
+fn is_file_of_line(input: &Input) -> bool
+    ensures { result ≡ is_file_input input.now }
+{
+    matches!(input, Input::File { .. })
+}
+
+/// How many inputs are files.
+fn file_count(inputs: &[Input]) -> usize
+    ensures { result ≡ count_by is_file_input inputs.now }
+{
+    inputs.iter().filter(|input| is_file_of_line(input)).count()
+}
+
+/// Whether one output is to serve several files.
+fn has_one_for_many(line: &Line) -> bool
+    ensures { result ≡ has_many line.now }
+{
+    does_stop(line) && file_count(line.inputs.as_slice()) > 1
+}
+
+/// Whether an input is the file of this name.
+fn is_file_of_name(output: &[u8], input: &Input) -> bool
+    ensures { result ≡ is_file_named output.now input.now }
+{
+    match input {
+        Input::File { name, .. } => name.as_bytes() == output,
+        _ => false,
+    }
+}
+
+/// Whether an output is no file of its own: standard output, or the file that takes everything.
+fn is_no_file(output: &[u8]) -> bool
+    ensures { result ≡ is_sink output.now }
+{
+    output == b"-".as_slice() || output == b"/dev/null".as_slice()
+}
+
+/// Whether an input is the file of this name.
+fn has_file(inputs: &[Input], name: &[u8]) -> bool
+    ensures { result ≡ list_any (is_file_named name.now) inputs.now }
+{
+    inputs.iter().any(|input| is_file_of_name(name, input))
+}
+
+/// Whether the output is an input too.
+fn is_an_input(output: &[u8], line: &Line) -> bool
+    ensures { result ≡ is_input output.now line.now }
+{
+    !is_no_file(output) && has_file(line.inputs.as_slice(), output)
+}
+
+/// The refusal that an output calls for.
+fn judge_output(line: &Line, output: &Word) -> Result<(), ArgsFault>
+    ensures { Finds result (output_fault (Some output.now) line.now) }
+{
+    if has_one_for_many(line) {
+        return Err(ArgsFault::OutputWithMany);
+    }
+    if is_an_input(output.as_bytes(), line) {
+        return Err(ArgsFault::OutputIsInput(output.clone()?));
+    }
+    Ok(())
+}
+
+/// The first refusal that a line calls for: none where the specs are dumped.
+fn first_fault(line: &Line) -> Result<(), ArgsFault>
+    ensures { Finds result (line_fault line.now) }
+{
+    if line.settings.dump {
+        return Ok(());
+    }
+    if line.inputs.is_empty() {
+        return Err(ArgsFault::NoInputs);
+    }
+    if does_need_language(line) {
+        return Err(ArgsFault::StdinNeedsLanguage);
+    }
+    match &line.settings.output {
+        Some(output) => judge_output(line, output),
+        None => Ok(()),
+    }
+}
+
+/// The line, unless it calls for a refusal.
+#[tactic(auto, using(crate::proofs::Verdicts::found_is_judged, crate::proofs::Verdicts::none_is_judged))]
+pub(crate) fn judge(line: Line) -> Result<Line, ArgsFault>
+    ensures { Gives fault.Memory (λ line. line) result (judged line (line_fault line)) }
+{
+    match first_fault(&line) {
+        Ok(()) => Ok(line),
+        Err(fault) => Err(fault),
+    }
+}

@@ -1,0 +1,66 @@
+//! A command line as it was read: switches, inputs and settings.
+
+use drv_words::{Listing, Word};
+
+/// A switch: the word without its first `-`, and its argument, if it takes one as a word of its own.
+#[derive(Debug, Drop)]
+pub struct Switch {
+    pub name: Word,
+    pub arg: Option<Word>,
+}
+
+/// What the line names to be worked or linked, in its order.
+#[derive(Debug, Drop)]
+pub enum Input {
+    /// A file, and the language that `-x` gave it; none where its suffix decides.
+    File { name: Word, lang: Option<Word> },
+    /// A library, as `-lX`.
+    Library(Word),
+    /// A word for the linker, as `-Wl` and `-Xlinker` give it.
+    LinkWord(Word),
+}
+
+/// What the line says of the call itself.
+#[derive(Debug, Drop)]
+pub struct Settings {
+    /// `-###`: the plan is printed and nothing is started.
+    pub dry: bool,
+    /// `-v`: the plan is printed before it is run.
+    pub verbose: bool,
+    /// `-dumpspecs`.
+    pub dump: bool,
+    /// `-pass-exit-codes`.
+    pub pass_codes: bool,
+    /// `-pipe`.
+    pub pipe: bool,
+    /// Whether a response file gave words of the line.
+    pub from_file: bool,
+    /// The argument of the last `-o`.
+    pub output: Option<Word>,
+    /// The spec files of `-specs=`, in order.
+    pub specs: Listing<Word>,
+    /// The prefixes of `-B`, in order.
+    pub prefixes: Listing<Word>,
+    /// How many sources are worked at once.
+    pub jobs: u32,
+}
+
+/// A command line as it was read.
+#[derive(Debug, Drop)]
+pub struct Line {
+    pub switches: Listing<Switch>,
+    pub inputs: Listing<Input>,
+    /// The pieces of `-Wa` and `-Xassembler`.
+    pub asm_opts: Listing<Word>,
+    /// The pieces of `-Wp` and `-Xpreprocessor`.
+    pub cpp_opts: Listing<Word>,
+    pub settings: Settings,
+}
+
+/// Arguments with their response files expanded.
+#[derive(Debug, Drop)]
+pub struct Expanded {
+    pub words: Listing<Word>,
+    /// Whether a response file gave words.
+    pub from_file: bool,
+}
