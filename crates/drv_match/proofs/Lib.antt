@@ -1,0 +1,2 @@
+pub mod Cancelling
+pub mod Places

@@ -1,0 +1,8 @@
+use Rattle.drv_args.specs.declared.line.Switch.{Switch}
+use Rattle.std.proofs.Common.{◌≡◌, ◌++◌, List, drop, map, ℕ}
+use Rattle.drv_match.proofs.switches.Switches.new.Given as goal
+
+abbrev pub invariant-loop-switch : goal.invariant-loop-switch
+invariant-loop-switch l =
+    let name : Switch → List ℕ = λ switch. switch.name in
+    l.names ++ map name (drop l.switch-index l.switches) ≡ map name l.switches

@@ -1,0 +1,2 @@
+pub mod Liveness
+pub mod Matching

@@ -1,0 +1,46 @@
+//! Which switches of a line are hidden.
+
+ghost use Rattle.std.specs.Prelude.{◌≡◌, ◌<◌, Bool, IfOk, List, false, length, replicate, set, slice_get, Some};
+
+use crate::switches::Switches;
+use std::alloc::{AllocError, Global};
+use std::marker::Model;
+
+/// For each switch of a line whether it is hidden, so that no pattern hits it.
+#[derive(Debug, Drop)]
+pub struct Hidden {
+    flags: Vec<bool>,
+}
+
+impl Model for Hidden {
+    ghost Value = { List Bool };
+
+    ghost view = { λ h. h.flags.items };
+}
+
+impl Hidden {
+    /// No switch of these is hidden. Want of memory is the only error.
+    pub fn new(alloc: Global, switches: &Switches) -> Result<Hidden, AllocError>
+        ensures { IfOk result (λ hidden. hidden ≡ replicate (length switches.now) false) }
+    {
+        Ok(Hidden {
+            flags: vec![in alloc; false; switches.len()]?,
+        })
+    }
+
+    /// Whether the switch at this place is hidden.
+    pub(crate) fn contains(&self, i: usize) -> bool
+        requires { i < length self.now }
+        ensures { slice_get self.now i ≡ Some result }
+    {
+        self.flags[i]
+    }
+
+    /// Says whether the switch at this place is hidden.
+    pub(crate) fn set(&mut self, i: usize, is_hidden: bool)
+        requires { i < length self.old }
+        ensures { self.new ≡ set self.old i is_hidden }
+    {
+        self.flags[i] = is_hidden;
+    }
+}

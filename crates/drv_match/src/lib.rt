@@ -1,0 +1,11 @@
+//! Switch matching: which switches of a command line are live, and which of them a pattern hits.
+#![tactic(auto)]
+
+mod hidden;
+mod liveness;
+mod pattern;
+mod switches;
+
+pub use hidden::Hidden;
+pub use pattern::Pattern;
+pub use switches::Switches;
