@@ -1,0 +1,19 @@
+mod Samples
+pub mod Covers
+pub mod Emits
+pub mod Leads
+pub mod Names
+pub mod Parts
+pub mod Patterns
+pub mod Rows
+pub mod RowsBraces
+pub mod RowsDue
+pub mod RowsTests
+pub mod Shortest
+pub mod Sound
+pub mod WalkMeaning
+pub mod WalkNames
+pub mod WalkNodes
+pub mod WalkShows
+pub mod Wanted
+pub mod Words

@@ -1,0 +1,71 @@
+use Rattle.drv_syntax.proofs.Leads.{Leads, differs, goes, same_run, to}
+use Rattle.drv_syntax.specs.Bytes.{any_of, functions, is_front, is_function, is_function_front, is_of, is_same}
+use Rattle.drv_syntax.specs.Outcome.{Place, Turn, Waiting, run, turn, turn_function}
+use Rattle.std.proofs.Common.{◌≡◌, ◌∙◌, ◌+◌, ◌++◌, Bool, false, true, List, [], ◌∷◌, ap, append-nil, append_assoc, refl, sym, ℕ}
+use Rattle.std.specs.Prelude.{◌==◌}
+
+-- The names of functions: each front of one is a front, and none has a bracket.
+
+pub is_same_front : (p more f : List ℕ) → is_same (p ++ more) f ≡ true → is_front p f ≡ true
+is_same_front [] more f h = refl
+is_same_front (b ∷ p) more [] h = differs (sym h)
+is_same_front (b ∷ p) more (c ∷ q) h = by (b == c) refl h (is_same_front p more q)
+  where
+    by : (z : Bool) → (b == c) ≡ z → is_same ((b ∷ p) ++ more) (c ∷ q) ≡ true → (is_same (p ++ more) q ≡ true → is_front p q ≡ true) → is_front (b ∷ p) (c ∷ q) ≡ true
+    by true e h k = rw e (k (rw e at h))
+    by false e h k = differs (sym (rw e at h))
+
+any_more : (f g : List ℕ → Bool) (xs : List (List ℕ)) → ((x : List ℕ) → f x ≡ true → g x ≡ true) → any_of f xs ≡ true → any_of g xs ≡ true
+any_more f g [] k h = h
+any_more f g (x ∷ xs) k h = by (f x) refl h (any_more f g xs k)
+  where
+    by : (z : Bool) → f x ≡ z → any_of f (x ∷ xs) ≡ true → (any_of f xs ≡ true → any_of g xs ≡ true) → any_of g (x ∷ xs) ≡ true
+    by true e h r = rw (k x e) refl
+    by false e h r = by_other (g x) refl (r (rw e at h))
+      where
+        by_other : (z : Bool) → g x ≡ z → any_of g xs ≡ true → any_of g (x ∷ xs) ≡ true
+        by_other true e h = rw e refl
+        by_other false e h = rw e h
+
+pub function_front : (p more : List ℕ) → is_function (p ++ more) ≡ true → is_function_front p ≡ true
+function_front p more h = any_more (is_same (p ++ more)) (is_front p) functions (is_same_front p more) h
+
+no_front : (name f : List ℕ) → is_of f 40 ≡ false → is_front (name ++ 40 ∷ []) f ≡ false
+no_front [] [] h = refl
+no_front (b ∷ p) [] h = refl
+no_front [] (c ∷ q) h = by (40 == c) refl h
+  where
+    by : (z : Bool) → (40 == c) ≡ z → is_of (c ∷ q) 40 ≡ false → is_front (40 ∷ []) (c ∷ q) ≡ false
+    by true e h = differs (rw e at h)
+    by false e h = rw e refl
+no_front (b ∷ p) (c ∷ q) h = by (40 == c) refl (b == c) refl h (no_front p q)
+  where
+    by : (y : Bool) → (40 == c) ≡ y → (z : Bool) → (b == c) ≡ z → is_of (c ∷ q) 40 ≡ false → (is_of q 40 ≡ false → is_front (p ++ 40 ∷ []) q ≡ false) → is_front ((b ∷ p) ++ 40 ∷ []) (c ∷ q) ≡ false
+    by true e z g h k = differs (rw e at h)
+    by false e true g h k = rw g (k (rw e at h))
+    by false e false g h k = rw g refl
+
+abbrev Free : List (List ℕ) → Type 0
+Free [] = Unit {0}
+Free (f ∷ fs) = (y : is_of f 40 ≡ false) × Free fs
+
+none_front : (name : List ℕ) (fs : List (List ℕ)) → Free fs → any_of (is_front (name ++ 40 ∷ [])) fs ≡ false
+none_front name [] h = refl
+none_front name (f ∷ fs) h = rw (no_front name f h.0) (none_front name fs h.1)
+
+pub bracket_ends : (name : List ℕ) → is_function_front (name ++ 40 ∷ []) ≡ false
+bracket_ends name = none_front name functions (refl, (refl, (refl, (refl, (refl, (refl, (refl, tt)))))))
+
+-- a place for each front of a name
+
+pub name_read : (at : ℕ) (P : List ℕ → Place) (opened : List ℕ → Turn) → ((w : List ℕ) (n b : ℕ) → turn (P w) n b ≡ turn_function at w b (opened w) (P (w ++ b ∷ []))) → (ws : List Waiting)
+    (w more : List ℕ) (n : ℕ) (text : List ℕ) → is_function (w ++ more) ≡ true → Leads ws (P w) n (more ++ 40 ∷ text) ws (λ _. P (w ++ more)) (40 ∷ text)
+name_read at P opened e ws w [] n text h = same_run (ap (λ (x : List ℕ). run ws (P x) n (40 ∷ text)) (sym (append-nil w)))
+name_read at P opened e ws w (b ∷ more) n text h =
+    let g : is_function ((w ++ b ∷ []) ++ more) ≡ true = ap is_function (append_assoc w (b ∷ []) more) ∙ h in
+    goes (e w n b ∙ rw (function_front (w ++ b ∷ []) more g) refl)
+    (to (λ m f. ap P (append_assoc w (b ∷ []) more)) (name_read at P opened e ws (w ++ b ∷ []) more (n + 1) text g))
+
+pub name_end : (at : ℕ) (P : List ℕ → Place) (opened : List ℕ → Turn) → ((w : List ℕ) (n b : ℕ) → turn (P w) n b ≡ turn_function at w b (opened w) (P (w ++ b ∷ []))) → (name : List ℕ) (n : ℕ)
+    → is_function name ≡ true → turn (P name) n 40 ≡ opened name
+name_end at P opened e name n h = e name n 40 ∙ rw (bracket_ends name, h) refl

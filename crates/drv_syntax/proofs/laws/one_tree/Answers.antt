@@ -1,0 +1,5 @@
+use Rattle.drv_syntax.proofs.Covers.{only_tree}
+use Rattle.drv_syntax.proofs.laws.one_tree.Goals as goal
+
+pub returns : goal.returns
+returns c = only_tree

@@ -1,0 +1,69 @@
+use Rattle.drv_syntax.specs.Bytes.{is_of}
+use Rattle.drv_syntax.specs.Tree.{Blank, Item, HasLanguage, Newline, Pipe, Plain, HasResult, HasSuffix, HasSwitch, Tests, no_test, pattern, test}
+use Rattle.std.specs.Prelude.{◌-◌, ◌==◌, Bool, false, true, if◌then◌else◌, [], ◌∷◌, ℕ}
+
+-- Where a list of items stands, and what that means for its bytes and directives (this project's profile).
+
+pub data Kind : Type 0 where
+  Top : Kind  -- a whole text
+  InX : Kind  -- the X of an alternative
+  InArguments : Kind  -- a function's arguments
+
+-- what %* finds around it
+pub data Owner : Type 0 where
+  Nobody : Owner  -- no X
+  Mixed : Owner  -- an X without tests, or with one that is no starred pattern
+  Starred : Owner  -- an X whose tests are starred patterns without !
+
+pub record Context : Type 0 where
+  pub kind : Kind
+  pub in_arguments : Bool  -- in arguments at any depth
+  pub owner : Owner
+  pub levels : ℕ  -- so many more braces and arguments may stand in one another
+
+abbrev pub top : Context
+top = record { kind = Top; in_arguments = false; owner = Nobody; levels = 64 }
+
+-- in braces, to the left of a colon
+abbrev pub in_braces : Context → Context
+in_braces c = record { kind = c.kind; in_arguments = c.in_arguments; owner = c.owner; levels = c.levels - 1 }
+
+-- in the arguments of a function that stands in such a place
+abbrev pub in_arguments : Context → Context
+in_arguments c = record { kind = InArguments; in_arguments = true; owner = c.owner; levels = c.levels - 1 }
+
+abbrev pub all_starred : Tests → Bool
+all_starred no_test = true
+all_starred (test span false (HasSwitch (pattern word true)) tests) = all_starred tests
+all_starred (test span false (HasSwitch (pattern word false)) tests) = false
+all_starred (test span false (HasSuffix word) tests) = false
+all_starred (test span false (HasLanguage word) tests) = false
+all_starred (test span false (HasResult name arguments) tests) = false
+all_starred (test span true asked tests) = false
+
+abbrev pub owner_of : Tests → Owner
+owner_of no_test = Mixed
+owner_of (test span negated asked tests) = if all_starred (test span negated asked tests) then Starred else Mixed
+
+-- in the X of an alternative with these tests
+abbrev pub in_x : Context → Tests → Context
+in_x c tests = record { kind = InX; in_arguments = c.in_arguments; owner = owner_of tests; levels = c.levels }
+
+-- the byte ends a list: in an X a semicolon or a brace, in arguments a bracket
+abbrev pub is_end : Kind → ℕ → Bool
+is_end Top b = false
+is_end InX b = is_of (59 ∷ 125 ∷ []) b
+is_end InArguments b = b == 41
+
+-- the byte belongs to the text of %e and %n: up to a newline, and in an X up to its end
+abbrev pub is_said : Kind → ℕ → Bool
+is_said Top b = if b == 10 then false else true
+is_said InX b = if is_of (10 ∷ 59 ∷ 125 ∷ []) b then false else true
+is_said InArguments b = if b == 10 then false else true
+
+-- a newline is a blank in arguments, and | is plain
+abbrev pub newline_in : Bool → Item
+newline_in in_arguments = if in_arguments then Blank else Newline
+
+abbrev pub bar_in : Bool → Item
+bar_in in_arguments = if in_arguments then Plain 124 else Pipe

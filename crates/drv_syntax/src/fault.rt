@@ -1,0 +1,58 @@
+//! Why a text has no tree.
+
+ghost use Rattle.std.specs.Prelude.{◌≡◌};
+
+use std::alloc::{AllocError, AllocFailed};
+use thiserror::Error;
+
+/// Why a spec text has no tree. A number is the place of the `%` concerned, in bytes from the start of the text.
+#[derive(Debug, Drop, Error)]
+pub enum SyntaxFault {
+    /// An allocation was refused.
+    #[error("out of memory")]
+    Memory,
+    /// No such directive or form, or not allowed where it stands.
+    #[error("bad directive at byte {0}")]
+    BadDirective(usize),
+    /// The text ends in this directive, or in the escape of this backslash.
+    #[error("unclosed directive at byte {0}")]
+    Unclosed(usize),
+    /// A `%*` that stands in no braces.
+    #[error("%* outside braces at byte {0}")]
+    StarOutside(usize),
+    /// A `%*` whose alternative has a test that is no starred pattern, or no test.
+    #[error("%* with a test that is not starred at byte {0}")]
+    MixedStar(usize),
+    /// More than 64 braces and arguments stand in one another.
+    #[error("nested too deep at byte {0}")]
+    TooNested(usize),
+    /// A `%:` without the name of a function and a `(`.
+    #[error("unknown spec function at byte {0}")]
+    UnknownFunction(usize),
+    /// A test or pattern without a word and a star, or an alternative without tests that is the only one or not the last.
+    #[error("empty test at byte {0}")]
+    EmptyTest(usize),
+    /// The text has more than 1,048,576 bytes.
+    #[error("spec text too long")]
+    TextTooLong,
+}
+
+impl From<AllocError> for SyntaxFault {
+    ghost use Rattle.drv_syntax.specs.declared.fault.SyntaxFault.TheVariants.{Memory};
+
+    ghost from_gives = { λ _ e. e ≡ Memory };
+
+    fn from(_e: AllocError) -> SyntaxFault {
+        SyntaxFault::Memory
+    }
+}
+
+impl<T: Drop> From<AllocFailed<T>> for SyntaxFault {
+    ghost use Rattle.drv_syntax.specs.declared.fault.SyntaxFault.TheVariants.{Memory};
+
+    ghost from_gives = { λ _ e. e ≡ Memory };
+
+    fn from(_e: AllocFailed<T>) -> SyntaxFault {
+        SyntaxFault::Memory
+    }
+}

@@ -1,0 +1,121 @@
+//! The tokens of a whole text, or its fault.
+
+ghost use Rattle.drv_syntax.specs.WalkSteps as steps;
+ghost use Rattle.drv_syntax.specs.WalkState.{Gives, state, tokens_in};
+ghost use Rattle.std.specs.Prelude.{◌≡◌, ◌<◌, ◌≤◌, ◌^◌, ◌+◌, length, OnOk, Ok, reverse};
+
+use crate::edits::with_part;
+use crate::fault::SyntaxFault;
+use crate::stage::{Context, Frame, Leaf, ListKind, ListStage, Part, Stage, StarOwner, Taken};
+use crate::steps::step;
+use crate::token::Token;
+use crate::walk::Walk;
+use std::alloc::Global;
+
+fn end_part(leaf: Leaf, start: u32, end: u32, w: &mut Walk) -> Result<(), SyntaxFault>
+    requires room { length w.old.tokens.items < 2 ^ 30 }
+    requires trail { w.old.trailing < 2 ^ 30 }
+    ensures { Gives SyntaxFault.Memory (λ _. state w.new) result (steps.end_part leaf start end (state w.old)) }
+{
+    with_part(
+        Part {
+            leaf,
+            taken: Taken::Word,
+            start,
+            end,
+        },
+        w,
+    )
+}
+
+fn unclosed(at: u32) -> Result<(), SyntaxFault>
+    ensures { result ≡ Err (SyntaxFault.Unclosed at) }
+{
+    Err(SyntaxFault::Unclosed(at as usize))
+}
+
+fn finish_list(stage: ListStage, n: u32, w: &mut Walk) -> Result<(), SyntaxFault>
+    requires room { length w.old.tokens.items < 2 ^ 30 }
+    requires trail { w.old.trailing < 2 ^ 30 }
+    ensures { Gives SyntaxFault.Memory (λ _. state w.new) result (steps.finish_list stage n (state w.old)) }
+{
+    match stage {
+        ListStage::Start => Ok(()),
+        ListStage::Backslash(back) => unclosed(back),
+        ListStage::Percent(at) => unclosed(at),
+        ListStage::SuffixStart(at, kind) => end_part(Leaf::TempName(kind), at, n, w),
+        ListStage::SuffixRun(at, kind) => end_part(Leaf::TempName(kind), at, n, w),
+        ListStage::SuffixPercent(_, _, percent) => unclosed(percent),
+        ListStage::OptionOpen(at) => unclosed(at),
+        ListStage::OptionText(at) => unclosed(at),
+        ListStage::OptionEscape(at) => unclosed(at),
+        ListStage::SayingText(at, kind) => end_part(Leaf::Said(kind), at, n, w),
+        ListStage::SayingEscape(_, _, back) => unclosed(back),
+        ListStage::NameText(at) => unclosed(at),
+        ListStage::HideStart(at) => unclosed(at),
+        ListStage::HideWord(at) => end_part(Leaf::Hide(false), at, n, w),
+        ListStage::HideEscape(at) => unclosed(at),
+        ListStage::FunctionName(at) => unclosed(at),
+        ListStage::BraceOpen(at, _) => unclosed(at),
+    }
+}
+
+fn place_of(frame: Frame) -> u32
+    ensures { result ≡ steps.place_of frame }
+{
+    match frame {
+        Frame::X(_, head, _, _, _) => head.part.start,
+        Frame::Call(_, part) => part.start,
+        Frame::Test(_, head, _, _, _) => head.part.start,
+    }
+}
+
+/// What the state comes to where the text ends, of this size.
+#[tactic(auto, using(crate::proofs::WalkNames::outer_first))]
+fn finish(n: u32, w: &mut Walk) -> Result<(), SyntaxFault>
+    requires room { length w.old.tokens.items < 2 ^ 30 }
+    requires trail { w.old.trailing < 2 ^ 30 }
+    ensures { Gives SyntaxFault.Memory (λ _. state w.new) result (steps.finish n (state w.old)) }
+{
+    if !w.waiting.is_empty() {
+        return unclosed(place_of(w.waiting[0]));
+    }
+    match w.stage {
+        Stage::List(stage) => finish_list(stage, n, w),
+        Stage::Choice(head, _) | Stage::Braces(head, _, _) | Stage::Result(head, _, _) => unclosed(
+            head.part.start,
+        ),
+    }
+}
+
+fn started(alloc: Global, size: usize) -> Result<Walk, SyntaxFault>
+    ensures { Gives SyntaxFault.Memory state result (Ok steps.started) }
+{
+    Ok(Walk {
+        stage: Stage::List(ListStage::Start),
+        context: Context {
+            kind: ListKind::Top,
+            in_arguments: false,
+            owner: StarOwner::Nobody,
+            levels: 64,
+        },
+        waiting: Vec::new(alloc),
+        tokens: Vec::with_capacity(alloc, size)?,
+        word: Vec::new(alloc),
+        kept: 0,
+        trailing: 0,
+    })
+}
+
+/// The tokens of a text.
+pub fn read_tokens(alloc: Global, text: &[u8]) -> Result<Vec<Token>, SyntaxFault>
+    requires { length text.now ≤ 1048576 }
+    ensures { Gives SyntaxFault.Memory (λ v. v.items) result (tokens_in (steps.walk steps.started 0 text.now)) }
+{
+    let mut w = started(alloc, text.len())?;
+    for (n, b) in text.iter().enumerate() {
+        step(n as u32, *b, &mut w)?;
+    }
+    finish(text.len() as u32, &mut w)?;
+    Ok(w.tokens)
+}

@@ -1,0 +1,106 @@
+//! The parts of a spec text, as a flat list.
+
+/// How the name of a temporary file is chosen.
+#[derive(Clone, Copy, Debug)]
+pub enum TempKind {
+    /// `%g`: the one name for its suffix in a job.
+    Shared,
+    /// `%u`: a new name.
+    New,
+    /// `%U`: the last name of `%u` or `%U` with its suffix.
+    Last,
+    /// `%|`: as `%g`, but `-` where commands are piped.
+    PipedOut,
+    /// `%m`: as `%g`, but nothing where commands are piped.
+    PipedIn,
+}
+
+/// What a part of a spec text is.
+#[derive(Clone, Copy, Debug)]
+pub enum TokenKind {
+    /// A byte that stands for itself.
+    Plain,
+    /// A backslash and the byte that it makes plain.
+    Escape,
+    /// A space or a tab, or a newline in arguments.
+    Blank,
+    /// The end of a command.
+    Newline,
+    /// `|`.
+    Pipe,
+    /// `%%`.
+    Percent,
+    /// `%i`.
+    InputName,
+    /// `%b`.
+    BaseStem,
+    /// `%B`.
+    BaseName,
+    /// `%O`.
+    ObjectSuffix,
+    /// `%g`, `%u`, `%U`, `%|` or `%m` and a suffix.
+    TempName(TempKind),
+    /// `%d`.
+    Removed,
+    /// `%w`.
+    Output,
+    /// `%V`.
+    NoOutput,
+    /// `%s`.
+    FoundFile,
+    /// `%T`.
+    FoundScript,
+    /// `%D`.
+    Directories,
+    /// `%o`.
+    Outputs,
+    /// `%x{OPTION}`.
+    AddOption,
+    /// `%X`.
+    LinkerOptions,
+    /// `%Y`.
+    AssemblerOptions,
+    /// `%Z`.
+    PreprocessorOptions,
+    /// `%eTEXT`.
+    UserError,
+    /// `%nTEXT`.
+    Notice,
+    /// `%(NAME)`.
+    NamedText,
+    /// `%a`, `%A`, `%l`, `%L`, `%G`, `%S`, `%E`, `%C`, `%1` or `%2`.
+    BuiltinText,
+    /// `%<PATTERN` or `%>PATTERN`.
+    Hide,
+    /// `%:NAME(ARGUMENTS)`.
+    Function,
+    /// `%{PATTERN}` or `%{PATTERN&PATTERN..}`.
+    Emit,
+    /// `%{TESTS:X;..}`.
+    Choose,
+    /// `%*`.
+    Star,
+    /// `%W{..}`.
+    FailureFile,
+    /// `%@{..}`.
+    ArgumentsFile,
+    /// One of the alternatives of braces.
+    Alternative,
+    /// One of the tests of an alternative.
+    Test,
+    /// One of the patterns of braces without a colon.
+    Pattern,
+}
+
+/// A part of a spec text.
+#[derive(Clone, Copy, Debug)]
+pub struct Token {
+    /// What it is.
+    pub kind: TokenKind,
+    /// Where it begins, in bytes from the start of the text.
+    pub start: u32,
+    /// Where it ends: the place of the first byte behind it.
+    pub end: u32,
+    /// The place in the list of the first token that isn't inside this one.
+    pub next: u32,
+}
