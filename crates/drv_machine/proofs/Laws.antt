@@ -1,0 +1,59 @@
+use Rattle.drv_machine.specs.Atoms.{atoms, items_step, levels_left}
+use Rattle.drv_machine.specs.Context.{Context}
+use Rattle.drv_machine.specs.Cutting.{Cut, all_taken, nothing_cut, taken}
+use Rattle.drv_machine.specs.Outcome.{cut, finished, outcome}
+use Rattle.drv_machine.specs.Running.{State, begun, done, run}
+use Rattle.drv_machine.specs.Working.{◌>>-◌, ◌>>=◌, ◌>>◌, Answer, Atom, Break, End, Goes, Refuses, Step, Waits, Work, behind, follow, most_open, puts}
+use Rattle.drv_syntax.specs.Tree.{Items}
+use Rattle.drv_system.specs.Facts.{Facts}
+use Rattle.drv_system.specs.Known.{Is, Unasked}
+use Rattle.std.proofs.Common.{◌≡◌, ◌∙◌, ◌++◌, List, [], ◌∷◌, ap, refl, sym}
+use Rattle.std.specs.Prelude.{Err, Ok}
+
+-- Parts of a text one after another: what is cut by the first and then by the second is what both give.
+
+pub then_then : {X Y Z : Type 0} (a : Answer X) (f : X → Answer Y) (g : Y → Answer Z) → ((a >>- f) >>- g) ≡ (a >>- λ x. f x >>- g)
+then_then (Is (Ok x)) f g = refl
+then_then (Is (Err fault)) f g = refl
+then_then Unasked f g = refl
+
+pub then_same : {X Y : Type 0} (a : Answer X) (f g : X → Answer Y) → ((x : X) → f x ≡ g x) → (a >>- f) ≡ (a >>- g)
+then_same (Is (Ok x)) f g e = e x
+then_same (Is (Err fault)) f g e = refl
+then_same Unasked f g e = refl
+
+module _ (F : Facts) (C : Context) where
+  all_taken-append : (c : Cut) (xs ys : List Atom) → all_taken F C c (xs ++ ys) ≡ (all_taken F C c xs >>- λ d. all_taken F C d ys)
+  all_taken-append c [] ys = refl
+  all_taken-append c (x ∷ xs) ys =
+      then_same (taken F C c x) (λ d. all_taken F C d (xs ++ ys)) (λ d. all_taken F C d xs >>- λ e. all_taken F C e ys) (λ d. all_taken-append d xs ys)
+      ∙ sym (then_then (taken F C c x) (λ d. all_taken F C d xs) (λ e. all_taken F C e ys))
+
+  further : {Y : Type 0} (c : Cut) (xs ys : List Atom) (last : Cut → Answer Y)
+      → (all_taken F C c (xs ++ ys) >>- last) ≡ (all_taken F C c xs >>- λ d. all_taken F C d ys >>- last)
+  further c xs ys last = ap (λ a. a >>- last) (all_taken-append c xs ys) ∙ then_then (all_taken F C c xs) (λ d. all_taken F C d ys) last
+
+  done-behind : {Y : Type 0} (c : Cut) (xs : List Atom) (work : Work Y) → done F C c (behind xs work) ≡ (all_taken F C c xs >>- λ d. done F C d work)
+  done-behind c xs (Goes ys y w) = further c xs ys (λ d. Is (Ok (y, record { cut = d; world = w })))
+  done-behind c xs (Refuses ys fault) = further c xs ys (λ d. Is (Err fault))
+  done-behind c xs (Waits ys) = further c xs ys (λ d. Unasked)
+
+  done-follow : {X Y : Type 0} (c : Cut) (work : Work X) (f : X → Step Y)
+      → done F C c (follow work f) ≡ (done F C c work >>- λ r. run F C r.1 (f r.0))
+  done-follow c (Goes xs x w) f = done-behind c xs (f x w) ∙ sym (then_then (all_taken F C c xs) (λ d. Is (Ok (x, record { cut = d; world = w }))) (λ r. run F C r.1 (f r.0)))
+  done-follow c (Refuses xs fault) f = sym (then_then (all_taken F C c xs) (λ d. Is (Err fault)) (λ r. run F C r.1 (f r.0)))
+  done-follow c (Waits xs) f = sym (then_then (all_taken F C c xs) (λ d. Unasked) (λ r. run F C r.1 (f r.0)))
+
+  -- one part and then another
+  pub run_then : {X Y : Type 0} (s : State) (a : Step X) (f : X → Step Y) → run F C s (a >>= f) ≡ (run F C s a >>- λ r. run F C r.1 (f r.0))
+  run_then s a f = done-follow s.cut (a s.world) f
+
+  cut_done : (work : Work Unit) → cut F C work ≡ (done F C nothing_cut work >>- λ r. finished F C r.1.world r.1.cut)
+  cut_done (Goes xs u w) = sym (then_then (all_taken F C nothing_cut xs) (λ d. Is (Ok (u, record { cut = d; world = w }))) (λ r. finished F C r.1.world r.1.cut))
+  cut_done (Refuses xs fault) = sym (then_then (all_taken F C nothing_cut xs) (λ d. Is (Err fault)) (λ r. finished F C r.1.world r.1.cut))
+  cut_done (Waits xs) = sym (then_then (all_taken F C nothing_cut xs) (λ d. Unasked) (λ r. finished F C r.1.world r.1.cut))
+
+  -- the whole text, streamed
+  pub outcome_runs : (items : Items)
+      → outcome F C items ≡ (run F C (begun F C) (items_step F C items (levels_left F C most_open) [] >> puts (Break ∷ End ∷ [])) >>- λ r. finished F C r.1.world r.1.cut)
+  outcome_runs items = cut_done (atoms F C items)

@@ -1,0 +1,202 @@
+use Rattle.drv_args.specs.declared.line.Switch.{Switch}
+use Rattle.drv_machine.specs.Context.{Context}
+use Rattle.drv_machine.specs.Outcome.{outcome}
+use Rattle.drv_machine.specs.Working.{◌>>-◌, Answer}
+use Rattle.drv_machine.specs.declared.fault.MachineFault.TheVariants.{NoInput, NotYet, StrayPipe}
+use Rattle.drv_machine.specs.declared.outcome.Outcome.{Outcome}
+use Rattle.drv_syntax.specs.Outcome.{parsed}
+use Rattle.drv_syntax.specs.Tree.{Items}
+use Rattle.drv_syntax.specs.declared.fault.SyntaxFault.{SyntaxFault}
+use Rattle.drv_system.specs.Facts.{Facts}
+use Rattle.drv_system.specs.Known.{Is, Unasked}
+use Rattle.drv_words.specs.declared.plan.Command.{Command}
+use Rattle.std.proofs.Common.{◌≡◌, Option, List, [], ◌∷◌, codes, map, refl, ℕ}
+use Rattle.std.specs.Prelude.{Err, None, Ok, Result, Some}
+
+-- Worked texts, by computation: each text is parsed, worked and cut. The expected words were worked out by hand from
+-- the manual and the profile, and hold whatever the facts say.
+
+-- a switch of its own, and one with an argument
+abbrev alone : List ℕ → Switch
+alone name = record { name = name; arg = None }
+
+abbrev with : List ℕ → List ℕ → Switch
+with name arg = record { name = name; arg = Some arg }
+
+-- a line of switches, with the first of its inputs, or for the link
+abbrev on : List Switch → List ℕ → Context
+on switches name = record { switches = switches; input = Some (record { place = 0; name = name; language = None }) }
+
+abbrev in_language : List ℕ → List ℕ → Context
+in_language language name = record { switches = []; input = Some (record { place = 0; name = name; language = Some language }) }
+
+abbrev linking : List Switch → Context
+linking switches = record { switches = switches; input = None }
+
+-- the words of each command, group after group
+abbrev group_words : List Command → List (List ℕ)
+group_words [] = []
+group_words (c ∷ commands) = c.program ∷ c.words
+
+module _ (F : Facts) where
+  abbrev worked : Context → List ℕ → Answer Outcome
+  worked C text = by (parsed text)
+    where
+      by : Result Items SyntaxFault → Answer Outcome
+      by (Ok items) = outcome F C items
+      by (Err fault) = Unasked  -- no text of these
+
+  abbrev words_of : Context → List ℕ → Answer (List (List (List ℕ)))
+  words_of C text = worked C text >>- λ o. Is (Ok (map group_words o.job.groups))
+
+  abbrev cost_of : Context → List ℕ → Answer ℕ
+  cost_of C text = worked C text >>- λ o. Is (Ok o.cost)
+
+  -- suffixes and switches, with a ! and without
+  abbrev suffixes : List ℕ
+  suffixes = codes "%{.c:-foo} %{!.c:-bar} %{.c|d:-baz} %{!.c|d:-boggle}"
+
+  suffix_c : words_of (on [] (codes "fred.c")) suffixes ≡ Is (Ok ((codes "-foo" ∷ codes "-baz" ∷ []) ∷ []))
+  suffix_c = refl
+
+  suffix_d : words_of (on [] (codes "jim.d")) suffixes ≡ Is (Ok ((codes "-bar" ∷ codes "-boggle" ∷ []) ∷ []))
+  suffix_d = refl
+
+  suffix_c_switch : words_of (on (alone (codes "d") ∷ []) (codes "fred.c")) suffixes
+      ≡ Is (Ok ((codes "-foo" ∷ codes "-baz" ∷ codes "-boggle" ∷ []) ∷ []))
+  suffix_c_switch = refl
+
+  suffix_d_switch : words_of (on (alone (codes "d") ∷ []) (codes "jim.d")) suffixes
+      ≡ Is (Ok ((codes "-bar" ∷ codes "-baz" ∷ codes "-boggle" ∷ []) ∷ []))
+  suffix_d_switch = refl
+
+  -- cancelled switches
+  cancelled : words_of (on (alone (codes "fno-x") ∷ alone (codes "fx") ∷ alone (codes "O1") ∷ alone (codes "O2") ∷ []) (codes "a.c"))
+      (codes "%{fno-x:A} %{fx:B} %{O*} %{f*} %{O1:C}")
+      ≡ Is (Ok ((codes "B" ∷ codes "-O1" ∷ codes "-O2" ∷ codes "-fno-x" ∷ codes "-fx" ∷ []) ∷ []))
+  cancelled = refl
+
+  -- %* is worked for each hit
+  abbrev script : List ℕ
+  script = codes "%{mcu=*:--script=%*/memory.ld}"
+
+  star_once : words_of (on (alone (codes "mcu=newchip") ∷ []) (codes "a.c")) script ≡ Is (Ok ((codes "--script=newchip/memory.ld" ∷ []) ∷ []))
+  star_once = refl
+
+  star_twice : words_of (on (alone (codes "mcu=a") ∷ alone (codes "mcu=b") ∷ []) (codes "a.c")) script
+      ≡ Is (Ok ((codes "--script=a/memory.ld" ∷ codes "--script=b/memory.ld" ∷ []) ∷ []))
+  star_twice = refl
+
+  -- a %* of inner braces makes no X around them worked for each hit
+  star_inside : words_of (on (alone (codes "a1") ∷ alone (codes "a2") ∷ alone (codes "b3") ∷ []) (codes "a.c")) (codes "%{a*:<%{b*:%*}>}")
+      ≡ Is (Ok ((codes "<3" ∷ codes ">" ∷ []) ∷ []))
+  star_inside = refl
+
+  -- hidden from the place of %< on
+  hidden : words_of (on (alone (codes "a") ∷ []) (codes "a.c")) (codes "%{a} %<a %{a} %{!a:Q}") ≡ Is (Ok ((codes "-a" ∷ codes "Q" ∷ []) ∷ []))
+  hidden = refl
+
+  hidden_later : words_of (on (alone (codes "ma") ∷ alone (codes "mb") ∷ []) (codes "a.c")) (codes "%{m*:%<mb %*}") ≡ Is (Ok ((codes "a" ∷ []) ∷ []))
+  hidden_later = refl
+
+  hidden_all : words_of (on (alone (codes "ma") ∷ alone (codes "n") ∷ []) (codes "a.c")) (codes "%>m* %{m*} %{ma} %{*}") ≡ Is (Ok ((codes "-n" ∷ []) ∷ []))
+  hidden_all = refl
+
+  hidden_itself : words_of (on (alone (codes "ma") ∷ alone (codes "mb") ∷ []) (codes "a.c")) (codes "%{m*:%>m* %*}") ≡ Is (Ok ((codes "a" ∷ []) ∷ []))
+  hidden_itself = refl
+
+  -- one command from the first text of a driver; without its switch there is none
+  abbrev first_text : List ℕ
+  first_text = codes "%{S:rectool cc1 %{std=c99} %i -o %b.s}"
+
+  first : words_of (on (alone (codes "S") ∷ []) (codes "x/y.c")) first_text
+      ≡ Is (Ok ((codes "rectool" ∷ codes "cc1" ∷ codes "x/y.c" ∷ codes "-o" ∷ codes "y.s" ∷ []) ∷ []))
+  first = refl
+
+  first_standard : words_of (on (alone (codes "S") ∷ alone (codes "std=c99") ∷ []) (codes "a.c")) first_text
+      ≡ Is (Ok ((codes "rectool" ∷ codes "cc1" ∷ codes "-std=c99" ∷ codes "a.c" ∷ codes "-o" ∷ codes "a.s" ∷ []) ∷ []))
+  first_standard = refl
+
+  first_none : words_of (on [] (codes "a.c")) first_text ≡ Is (Ok [])
+  first_none = refl
+
+  -- names of the input
+  base_and_stem : words_of (on [] (codes "d.x/a.b.c")) (codes "%i %b %B %b%O %%") ≡ Is (Ok ((codes "d.x/a.b.c" ∷ codes "a.b" ∷ codes "a.b.c" ∷ codes "a.b.o" ∷ codes "%" ∷ []) ∷ []))
+  base_and_stem = refl
+
+  first_period : words_of (on [] (codes "d/.c")) (codes "%b %{.c:S}") ≡ Is (Ok ((codes ".c" ∷ []) ∷ []))
+  first_period = refl
+
+  no_input : words_of (linking []) (codes "ld %b") ≡ Is (Err NoInput)
+  no_input = refl
+
+  link_tests : words_of (linking []) (codes "%{.c:A} %{!.c:B} %{,c:C} %{!,c:D}") ≡ Is (Ok ((codes "B" ∷ codes "D" ∷ []) ∷ []))
+  link_tests = refl
+
+  language : words_of (in_language (codes "c") (codes "x.h")) (codes "%{,c:C;,c++:D;:E}") ≡ Is (Ok ((codes "C" ∷ []) ∷ []))
+  language = refl
+
+  -- words, commands and pipes
+  commands : words_of (on [] []) (codes "a\\ b c\n\nd e\n") ≡ Is (Ok ((codes "a b" ∷ codes "c" ∷ []) ∷ (codes "d" ∷ codes "e" ∷ []) ∷ []))
+  commands = refl
+
+  pipe : words_of (on [] []) (codes "c |\n d") ≡ Is (Ok ((codes "c" ∷ []) ∷ (codes "d" ∷ []) ∷ []))
+  pipe = refl
+
+  pipe_last : words_of (on [] []) (codes "c |") ≡ Is (Err StrayPipe)
+  pipe_last = refl
+
+  pipe_first : words_of (on [] []) (codes "| c") ≡ Is (Err StrayPipe)
+  pipe_first = refl
+
+  pipe_inside : words_of (on [] []) (codes "c | d") ≡ Is (Err StrayPipe)
+  pipe_inside = refl
+
+  pipe_twice : words_of (on [] []) (codes "c ||\nd") ≡ Is (Err StrayPipe)
+  pipe_twice = refl
+
+  -- every other refusal of a text comes before that of a pipe
+  pipe_later : words_of (on [] []) (codes "| c %g") ≡ Is (Err NotYet)
+  pipe_later = refl
+
+  -- emitted switches end a word, and their arguments are words
+  with_argument : words_of (on (with (codes "I") (codes "x y") ∷ []) []) (codes "x%{I*}y %{I*:-J%*}") ≡ Is (Ok ((codes "x-I" ∷ codes "x y" ∷ codes "y" ∷ codes "-J" ∷ codes "x y" ∷ []) ∷ []))
+  with_argument = refl
+
+  -- a switch with an argument
+  words_i : words_of (on (with (codes "I") (codes "x") ∷ []) []) (codes "%{I*}") ≡ Is (Ok ((codes "-I" ∷ codes "x" ∷ []) ∷ []))
+  words_i = refl
+
+  -- alternatives, and an escaped semicolon
+  abbrev escaped : List ℕ
+  escaped = codes "%{a:x\\;y;b:z;:w}"
+
+  escaped_a : words_of (on (alone (codes "a") ∷ []) []) escaped ≡ Is (Ok ((codes "x;y" ∷ []) ∷ []))
+  escaped_a = refl
+
+  escaped_b : words_of (on (alone (codes "b") ∷ []) []) escaped ≡ Is (Ok ((codes "z" ∷ []) ∷ []))
+  escaped_b = refl
+
+  escaped_default : words_of (on [] []) escaped ≡ Is (Ok ((codes "w" ∷ []) ∷ []))
+  escaped_default = refl
+
+  -- the default, and the first true alternative
+  choices : words_of (on (alone (codes "b") ∷ []) []) (codes "%{a:A;b:B;b:C;:D}%{a:A;:D}") ≡ Is (Ok ((codes "BD" ∷ []) ∷ []))
+  choices = refl
+
+  -- the item of a brace counts, and those of the X as often as they are worked; white space at an end of an X isn't there
+  cost : cost_of (on (alone (codes "ma") ∷ alone (codes "mb") ∷ []) []) (codes "%{m*:x%* } %{q:yyy}") ≡ Is (Ok 7)
+  cost = refl
+
+  -- a whole outcome, for an input and for the link
+  abbrev program_alone : Option ℕ → Outcome
+  program_alone place = record {
+    job = record { source = place; groups = (record { program = codes "c"; words = [] } ∷ []) ∷ []; temps = []; marked = []; on_failure = []; output = None };
+    cost = 2;
+  }
+
+  outcome_of_input : worked (on [] (codes "a.c")) (codes "c\n") ≡ Is (Ok (program_alone (Some 0)))
+  outcome_of_input = refl
+
+  outcome_of_link : worked (linking []) (codes " c") ≡ Is (Ok (program_alone None))
+  outcome_of_link = refl

@@ -1,0 +1,182 @@
+use Rattle.drv_machine.specs.Context.{Context, argument, names}
+use Rattle.drv_machine.specs.Cutting.{all_taken, argument_words, nothing_cut}
+use Rattle.drv_machine.specs.Names.{base, is_word, language_of, stem, suffix_of}
+use Rattle.drv_machine.specs.Working.{◌>>-◌, ◌>>=◌, ◌>>◌, Atom, Break, End, Goes, Levels, Piped, Put, Refuses, Step, Waits, Work, World, bytes, change, counted, give, look, most_open, needs, nothing, opened, puts, refuse, word_of}
+use Rattle.drv_machine.specs.declared.context.Source.{Source}
+use Rattle.drv_machine.specs.declared.fault.MachineFault.TheVariants.{NoInput, NotYet}
+use Rattle.drv_match.specs.Matching.{hidden_by, hits, is_hit, name_at}
+use Rattle.drv_match.specs.declared.pattern.Pattern as switches
+use Rattle.drv_syntax.specs.Tree.{AddOption, ArgumentsFile, Asked, AssemblerOptions, BaseName, BaseStem, Blank, Brace, Braces, BuiltinText, Choices, Choose, Directories, Emit, Escape, FailureFile, FoundFile, FoundScript, Function, HasLanguage, HasResult, HasSuffix, HasSwitch, Hide, InputName, Item, Items, LinkerOptions, NamedText, Newline, NoOutput, Notice, ObjectSuffix, Output, Outputs, Pattern, Percent, Pipe, Plain, PreprocessorOptions, Removed, Span, Star, TempName, Tests, UserError, choice, more, no_choice, no_test, none, pattern, test}
+use Rattle.drv_system.specs.Facts.{Facts}
+use Rattle.drv_system.specs.Known.{Is, Unasked}
+use Rattle.std.specs.List.{filter, flat_map, list_any, range_with_len}
+use Rattle.std.specs.Prelude.{Err, ◌||◌, Bool, List, [], ◌∷◌, ◌++◌, Option, None, Some, drop, false, if◌then◌else◌, length, map, nat_lt, not, suc, true, zero, ℕ}
+
+-- What each item of a text means: one row for each directive (GCC manual, "Spec Files"; what it leaves open is this
+-- project's profile).
+
+-- a %* that belongs to the X that these items are: it stands in it outside the Xs of inner braces
+abbrev mutual
+  pub has_star : Items → Bool
+  has_star none = false
+  has_star (more span item items) = item_has_star item || has_star items
+
+  item_has_star : Item → Bool
+  item_has_star Star = true
+  item_has_star (Function name arguments) = has_star arguments
+  item_has_star (Braces brace) = brace_has_star brace
+  item_has_star (FailureFile brace) = brace_has_star brace
+  item_has_star (ArgumentsFile brace) = brace_has_star brace
+  item_has_star _ = false
+
+  brace_has_star : Brace → Bool
+  brace_has_star (Emit patterns) = false
+  brace_has_star (Choose choices) = choices_have_star choices
+
+  choices_have_star : Choices → Bool
+  choices_have_star no_choice = false
+  choices_have_star (choice span tests items choices) = tests_have_star tests || choices_have_star choices
+
+  tests_have_star : Tests → Bool
+  tests_have_star no_test = false
+  tests_have_star (test span negated asked tests) = asked_has_star asked || tests_have_star tests
+
+  asked_has_star : Asked → Bool
+  asked_has_star (HasResult name arguments) = has_star arguments
+  asked_has_star _ = false
+
+-- a pattern of a text, for the switches of a line
+abbrev pub matching : Pattern → switches.Pattern
+matching (pattern word star) = record { name = word; star = star }
+
+-- what a test answers, turned round by a !
+abbrev pub turned : Bool → Bool → Bool
+turned negated holds = if negated then not holds else holds
+
+module _ (F : Facts) (C : Context) where
+  -- the name of the input; the link has none
+  abbrev pub input_name : Step (List ℕ)
+  input_name = by C.input
+    where
+      by : Option Source → Step (List ℕ)
+      by None = refuse NoInput
+      by (Some source) = give source.name
+
+  -- the places of the switches, in order
+  abbrev pub places : List ℕ
+  places = range_with_len 0 (length C.switches)
+
+  -- a switch as it stands on the line, and its argument
+  abbrev pub switch_atoms : ℕ → List Atom
+  switch_atoms i = map Put (45 ∷ name_at (names C) i) ++ Break ∷ word_of (argument C i)
+
+  -- the switches that one of the patterns hits
+  abbrev pub emitted : List (Span × Pattern) → List Bool → List Atom
+  emitted patterns hidden = flat_map switch_atoms (filter (λ i. list_any (λ p. is_hit (names C) hidden (matching p.1) i) patterns) places)
+
+  -- the words of arguments, whose atoms go nowhere else; what stops first in their order counts
+  abbrev pub arguments : Step (Unit {0}) → Step (List (List ℕ))
+  arguments step w = by (step w)
+    where
+      by : Work (Unit {0}) → Work (List (List ℕ))
+      by (Goes atoms u v) = needs (argument_words F C atoms) v
+      by (Refuses atoms fault) = needs (all_taken F C nothing_cut atoms >>- λ c. Is (Err fault)) w
+      by (Waits atoms) = needs (all_taken F C nothing_cut atoms >>- λ c. Unasked) w
+
+  -- a named text is worked in one more open part; a missing one gives nothing
+  abbrev pub named : Option Items → Levels → Step (Unit {0})
+  named None levels = nothing
+  named (Some items) levels = opened levels (λ deeper inside. deeper items)
+
+  -- X for each switch that is hit when its turn comes, with the rest of its name for %*; then the switch's argument
+  abbrev pub each_hit : Pattern → (List ℕ → Levels → Step (Unit {0})) → Levels → List ℕ → Step (Unit {0})
+  each_hit p X levels [] = nothing
+  each_hit p X levels (i ∷ is) =
+      look (λ w. is_hit (names C) w.hidden (matching p) i) >>= λ hit.
+      (if hit then opened levels (λ deeper inside. X (drop (length (matching p).name) (name_at (names C) i)) inside) >> puts (Break ∷ word_of (argument C i)) else nothing)
+      >> each_hit p X levels is
+
+  -- X by the first of its tests that is true: for each hit where X has a %* of its own, else once; where none is true,
+  -- what the other alternatives give
+  abbrev pub worked : Option Asked → Bool → (List ℕ → Levels → Step (Unit {0})) → Levels → List ℕ → Step (Unit {0}) → Step (Unit {0})
+  worked None own X levels star others = others
+  worked (Some (HasSwitch p)) true X levels star others = each_hit p X levels places
+  worked (Some asked) own X levels star others = X star levels
+
+  -- the rows. `star` is what %* stands for; `levels` has a place for each part that may still be opened
+  abbrev mutual
+    pub item_step : Item → Levels → List ℕ → Step (Unit {0})
+    item_step (Plain b) levels star = puts (Put b ∷ [])
+    item_step (Escape b) levels star = puts (Put b ∷ [])
+    item_step Blank levels star = puts (Break ∷ [])
+    item_step Newline levels star = puts (Break ∷ End ∷ [])
+    item_step Pipe levels star = puts (Piped ∷ [])
+    item_step Percent levels star = puts (Put 37 ∷ [])
+    item_step InputName levels star = input_name >>= bytes
+    item_step BaseStem levels star = input_name >>= λ name. bytes (stem name)
+    item_step BaseName levels star = input_name >>= λ name. bytes (base name)
+    item_step ObjectSuffix levels star = bytes (46 ∷ 111 ∷ [])
+    item_step (TempName kind suffix) levels star = refuse NotYet
+    item_step Removed levels star = refuse NotYet
+    item_step Output levels star = refuse NotYet
+    item_step NoOutput levels star = refuse NotYet
+    item_step FoundFile levels star = refuse NotYet
+    item_step FoundScript levels star = refuse NotYet
+    item_step Directories levels star = refuse NotYet
+    item_step Outputs levels star = refuse NotYet
+    item_step (AddOption option) levels star = refuse NotYet
+    item_step LinkerOptions levels star = refuse NotYet
+    item_step AssemblerOptions levels star = refuse NotYet
+    item_step PreprocessorOptions levels star = refuse NotYet
+    item_step (UserError text) levels star = refuse NotYet
+    item_step (Notice text) levels star = refuse NotYet
+    item_step (NamedText name) levels star = refuse NotYet
+    item_step (BuiltinText name) levels star = refuse NotYet
+    item_step (Hide p) levels star = change (λ w. record w { hidden = hidden_by (matching p) (names C) w.hidden })
+    item_step (Function name items) levels star = refuse NotYet
+    item_step (Braces brace) levels star = brace_step brace levels star
+    item_step Star levels star = bytes star
+    item_step (FailureFile brace) levels star = refuse NotYet
+    item_step (ArgumentsFile brace) levels star = refuse NotYet
+
+    -- items one after another, each counted before it is worked
+    pub items_step : Items → Levels → List ℕ → Step (Unit {0})
+    items_step none levels star = nothing
+    items_step (more span item items) levels star = counted >> item_step item levels star >> items_step items levels star
+
+    pub brace_step : Brace → Levels → List ℕ → Step (Unit {0})
+    brace_step (Emit patterns) levels star = look (λ w. emitted patterns w.hidden) >>= puts
+    brace_step (Choose choices) levels star = choices_step choices levels star
+
+    -- the first alternative with a true test, or the default
+    pub choices_step : Choices → Levels → List ℕ → Step (Unit {0})
+    choices_step no_choice levels star = nothing
+    choices_step (choice span no_test items choices) levels star = items_step items levels star
+    choices_step (choice span (test place negated asked tests) items choices) levels star =
+        first_true (test place negated asked tests) levels star >>= λ found.
+        worked found (has_star items) (λ rest inside. items_step items inside rest) levels star (choices_step choices levels star)
+
+    -- the first test that is true
+    pub first_true : Tests → Levels → List ℕ → Step (Option Asked)
+    first_true no_test levels star = give None
+    first_true (test span negated asked tests) levels star =
+        truth asked levels star >>= λ holds. if turned negated holds then give (Some asked) else first_true tests levels star
+
+    pub truth : Asked → Levels → List ℕ → Step Bool
+    truth (HasSwitch p) levels star = look (λ w. nat_lt 0 (length (hits (names C) w.hidden (matching p))))
+    truth (HasSuffix word) levels star = give (is_word word (suffix_of C.input))
+    truth (HasLanguage word) levels star = give (is_word word (language_of C.input))
+    truth (HasResult name items) levels star = refuse NotYet
+
+  -- what items mean where so many parts may still be opened, the next one first
+  abbrev pub levels_left : ℕ → Levels
+  levels_left zero = []
+  levels_left (suc n) = (λ items. items_step items (levels_left n) []) ∷ levels_left n
+
+  -- nothing is hidden, drawn or counted
+  abbrev pub start : World
+  start = record { hidden = map (λ s. false) C.switches; options = []; drawn = []; number = 1; outputs = []; notices = []; items = 0 }
+
+  -- the atoms of a whole text, which ends its last command
+  abbrev pub atoms : Items → Work (Unit {0})
+  atoms items = (items_step items (levels_left most_open) [] >> puts (Break ∷ End ∷ [])) start

@@ -1,0 +1,17 @@
+use Rattle.drv_args.specs.declared.line.Switch.{Switch}
+use Rattle.drv_machine.specs.declared.context.Source.{Source}
+use Rattle.std.specs.Prelude.{List, Option, None, get_or, map, ℕ}
+
+-- What a text is worked for (this project's profile).
+
+-- the switches of the line, and the input that the text is worked for; none for the link
+pub record Context : Type 0 where
+  pub switches : List Switch
+  pub input : Option Source
+
+abbrev pub names : Context → List (List ℕ)
+names C = map (λ s. s.name) C.switches
+
+-- the argument of the switch at a place, if it has one
+abbrev pub argument : Context → ℕ → Option (List ℕ)
+argument C i = get_or (map (λ s. s.arg) C.switches) i None

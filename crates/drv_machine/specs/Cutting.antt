@@ -1,0 +1,147 @@
+use Rattle.drv_machine.specs.Context.{Context}
+use Rattle.drv_machine.specs.Working.{◌>>-◌, Answer, AsFile, AsOutput, AsRemoved, AsScript, Atom, Break, End, From, Mark, Marked, Open, Piped, Put, To, Without}
+use Rattle.drv_machine.specs.declared.fault.MachineFault.TheVariants.{NotYet}
+use Rattle.drv_system.specs.Facts.{Facts}
+use Rattle.drv_system.specs.Known.{Is}
+use Rattle.std.specs.Option.{unwrap_or}
+use Rattle.std.specs.Prelude.{◌&&◌, ◌||◌, Bool, List, [], ◌∷◌, ◌++◌, Option, None, Some, Err, Ok, false, if◌then◌else◌, is_some, map, not, true, ℕ}
+
+-- Atoms cut into words with their marks, and words into commands (this project's profile).
+
+-- the marks of the word that is open, or that wait for the next one
+pub record Marking : Type 0 where
+  pub removed : Bool
+  pub output : Bool
+  pub file : Bool
+  pub script : Bool
+
+-- the words of a command, and whether it ends with a pipe
+pub record Line : Type 0 where
+  pub words : List (List ℕ)
+  pub piped : Bool
+
+-- what has been cut
+pub record Cut : Type 0 where
+  pub word : Option (List ℕ)  -- that is open
+  pub marks : Marking
+  pub barred : Bool  -- the open word began before a %V
+  pub line : Line  -- that is open
+  pub lines : List Line
+  pub stray : Bool  -- a pipe stood without a word before it, or something stood behind one
+  pub removed : List (List ℕ)
+  pub on_failure : List (List ℕ)
+  pub output : Option (List ℕ)
+  pub inside : List (Option (List ℕ))  -- for each %W that is open the last word that ended in it, the innermost first
+
+abbrev pub no_marks : Marking
+no_marks = record { removed = false; output = false; file = false; script = false }
+
+abbrev pub no_line : Line
+no_line = record { words = []; piped = false }
+
+abbrev pub nothing_cut : Cut
+nothing_cut = record {
+  word = None;
+  marks = no_marks;
+  barred = false;
+  line = no_line;
+  lines = [];
+  stray = false;
+  removed = [];
+  on_failure = [];
+  output = None;
+  inside = [];
+}
+
+abbrev pub marked : Mark → Marking → Marking
+marked AsRemoved marks = record marks { removed = true }
+marked AsOutput marks = record marks { output = true }
+marked AsFile marks = record marks { file = true }
+marked AsScript marks = record marks { script = true }
+
+-- something stands here: behind a pipe nothing of its command may
+abbrev pub touched : Cut → Cut
+touched c = record c { stray = c.stray || c.line.piped }
+
+-- bytes go into the word that is open, or open one
+abbrev pub in_word : Cut → List ℕ → Cut
+in_word c bytes = record (touched c) { word = Some (unwrap_or c.word [] ++ bytes) }
+
+-- the open word has ended as these words, of which the marks take the last
+abbrev pub word_done : Cut → List (List ℕ) → List ℕ → Cut
+word_done c words last = record c {
+  word = None;
+  marks = no_marks;
+  barred = false;
+  line = record { words = c.line.words ++ words; piped = c.line.piped };
+  removed = c.removed ++ (if c.marks.removed then last ∷ [] else []);
+  on_failure = c.on_failure ++ (if c.marks.output then last ∷ [] else []);
+  output = if c.marks.output && not c.barred then Some last else c.output;
+  inside = map (λ before. Some last) c.inside;
+}
+
+-- a command has ended; one without a word and a pipe is dropped
+abbrev pub line_done : Cut → Cut
+line_done c = by c.line.words c.line.piped
+  where
+    by : List (List ℕ) → Bool → Cut
+    by [] false = c
+    by words piped = record c { line = no_line; lines = c.lines ++ record { words = words; piped = piped } ∷ [] }
+
+-- a pipe stands behind the words so far: there has to be one, and no pipe yet
+abbrev pub pipe_done : Cut → Cut
+pipe_done c = by c.line.words
+  where
+    by : List (List ℕ) → Cut
+    by [] = record c { stray = true; line = record { words = []; piped = true } }
+    by words = record (touched c) { line = record { words = words; piped = true } }
+
+-- the innermost %W has ended
+abbrev pub inside_done : List (Option (List ℕ)) → Cut → Cut
+inside_done [] c = c
+inside_done (None ∷ outer) c = record c { inside = outer }
+inside_done (Some last ∷ outer) c = record c { inside = outer; on_failure = c.on_failure ++ last ∷ [] }
+
+-- --script
+abbrev pub script_option : List ℕ
+script_option = 45 ∷ 45 ∷ 115 ∷ 99 ∷ 114 ∷ 105 ∷ 112 ∷ 116 ∷ []
+
+module _ (F : Facts) (C : Context) where
+  -- what a word that is marked as a file becomes
+  abbrev pub found_file : List ℕ → Answer (List ℕ)
+  found_file name = Is (Err NotYet)
+
+  -- what a word that is marked as a linker script becomes
+  abbrev pub found_script : List ℕ → Answer (List ℕ)
+  found_script name = Is (Err NotYet)
+
+  -- the word that is open, if one is, ends; where it is marked as a file and as a script, the script counts
+  abbrev pub broken : Cut → Answer Cut
+  broken c = by c.word c.marks.script c.marks.file
+    where
+      by : Option (List ℕ) → Bool → Bool → Answer Cut
+      by None script file = Is (Ok (record c { marks = no_marks; barred = false }))
+      by (Some word) true file = found_script word >>- λ path. Is (Ok (word_done c (script_option ∷ path ∷ []) path))
+      by (Some word) false true = found_file word >>- λ path. Is (Ok (word_done c (path ∷ []) path))
+      by (Some word) false false = Is (Ok (word_done c (word ∷ []) word))
+
+  -- one atom
+  abbrev pub taken : Cut → Atom → Answer Cut
+  taken c (Put b) = Is (Ok (in_word c (b ∷ [])))
+  taken c Open = Is (Ok (in_word c []))
+  taken c Break = broken c
+  taken c End = Is (Ok (line_done c))
+  taken c Piped = broken c >>- λ d. Is (Ok (pipe_done d))
+  taken c (Marked mark) = Is (Ok (record (touched c) { marks = marked mark c.marks }))
+  taken c Without = Is (Ok (record c { output = None; barred = is_some c.word }))
+  taken c From = Is (Ok (record c { inside = None ∷ c.inside }))
+  taken c To = Is (Ok (inside_done c.inside c))
+
+  -- atoms, one after another; the first that has no answer stops it
+  abbrev pub all_taken : Cut → List Atom → Answer Cut
+  all_taken c [] = Is (Ok c)
+  all_taken c (atom ∷ atoms) = taken c atom >>- λ d. all_taken d atoms
+
+  -- the words of a function's arguments, by the same law
+  abbrev pub argument_words : List Atom → Answer (List (List ℕ))
+  argument_words atoms = all_taken nothing_cut (atoms ++ Break ∷ []) >>- λ c. Is (Ok c.line.words)

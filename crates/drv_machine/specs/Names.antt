@@ -1,0 +1,58 @@
+use Rattle.drv_machine.specs.declared.context.Source.{Source}
+use Rattle.std.specs.Cmp.Lexicographic.{pointwise}
+use Rattle.std.specs.Prelude.{◌==◌, Bool, List, [], ◌∷◌, Option, None, Some, false, if◌then◌else◌, nat_eq, ℕ}
+
+-- The parts of an input's name (GCC manual, "Spec Files": `%b`, `%B`, `%{.S:X}`, `%{,S:X}`).
+
+-- the bytes before the last one of a kind, and those behind it, if there is one
+abbrev pub parted : ℕ → List ℕ → Option (List ℕ × List ℕ)
+parted mark [] = None
+parted mark (b ∷ bs) = by (parted mark bs)
+  where
+    by : Option (List ℕ × List ℕ) → Option (List ℕ × List ℕ)
+    by (Some parts) = Some (b ∷ parts.0, parts.1)
+    by None = if b == mark then Some ([], bs) else None
+
+-- a name without its folder: what stands behind its last slash
+abbrev pub base : List ℕ → List ℕ
+base name = by (parted 47 name)
+  where
+    by : Option (List ℕ × List ℕ) → List ℕ
+    by None = name
+    by (Some parts) = parts.1
+
+-- what stands before the last period of a name without its folder, and behind it; a period in first place doesn't count
+abbrev pub suffixed : List ℕ → Option (List ℕ × List ℕ)
+suffixed name = by (parted 46 (base name))
+  where
+    by : Option (List ℕ × List ℕ) → Option (List ℕ × List ℕ)
+    by None = None
+    by (Some ([], suffix)) = None
+    by (Some (b ∷ bs, suffix)) = Some (b ∷ bs, suffix)
+
+-- a name without its folder and its suffix
+abbrev pub stem : List ℕ → List ℕ
+stem name = by (suffixed name)
+  where
+    by : Option (List ℕ × List ℕ) → List ℕ
+    by None = base name
+    by (Some parts) = parts.0
+
+-- the suffix of an input, without its period
+abbrev pub suffix_of : Option Source → Option (List ℕ)
+suffix_of None = None
+suffix_of (Some source) = by (suffixed source.name)
+  where
+    by : Option (List ℕ × List ℕ) → Option (List ℕ)
+    by None = None
+    by (Some parts) = Some parts.1
+
+-- the name of an input's language
+abbrev pub language_of : Option Source → Option (List ℕ)
+language_of None = None
+language_of (Some source) = source.language
+
+-- there is one, and it is this word
+abbrev pub is_word : List ℕ → Option (List ℕ) → Bool
+is_word word None = false
+is_word word (Some other) = pointwise nat_eq word other

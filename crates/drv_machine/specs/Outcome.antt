@@ -1,0 +1,89 @@
+use Rattle.drv_machine.specs.Atoms.{atoms}
+use Rattle.drv_machine.specs.Context.{Context}
+use Rattle.drv_machine.specs.Cutting.{Cut, Line, all_taken, nothing_cut}
+use Rattle.drv_machine.specs.Working.{◌>>-◌, Answer, Goes, Refuses, Waits, Work, World}
+use Rattle.drv_machine.specs.declared.context.Source.{Source}
+use Rattle.drv_machine.specs.declared.fault.MachineFault.TheVariants.{PipeTooLong, StrayPipe}
+use Rattle.drv_machine.specs.declared.outcome.Outcome.{Outcome}
+use Rattle.drv_syntax.specs.Tree.{Items}
+use Rattle.drv_system.specs.Facts.{Facts}
+use Rattle.drv_system.specs.Known.{Is, Unasked}
+use Rattle.drv_words.specs.declared.plan.Command.{Command}
+use Rattle.drv_words.specs.declared.plan.Job.{Job}
+use Rattle.std.specs.Cmp.Lexicographic.{pointwise}
+use Rattle.std.specs.List.{filter, list_any}
+use Rattle.std.specs.Prelude.{◌&&◌, ◌||◌, Bool, List, [], ◌∷◌, ◌++◌, Option, None, Some, Err, Ok, false, if◌then◌else◌, length, map, nat_eq, nat_lt, not, true, ℕ}
+
+-- The job of a text: its commands, what they leave behind, and what working it cost (this project's profile).
+
+-- the most commands of a group
+abbrev pub most_piped : ℕ
+most_piped = 16
+
+module _ (F : Facts) (C : Context) where
+  -- what the first word of a command becomes
+  abbrev pub program : List ℕ → Answer (List ℕ)
+  program name = Is (Ok name)
+
+  -- piped commands form one group; without -pipe each command is a group
+  abbrev pub is_piping : Bool
+  is_piping = false
+
+  abbrev pub command : List (List ℕ) → Answer Command
+  command [] = Is (Ok (record { program = []; words = [] }))  -- there is none
+  command (name ∷ words) = program name >>- λ path. Is (Ok (record { program = path; words = words }))
+
+  abbrev pub add_command : Bool → Command → List (List Command) → List (List Command)
+  add_command true c (group ∷ groups) = (c ∷ group) ∷ groups
+  add_command _ c groups = (c ∷ []) ∷ groups
+
+  abbrev pub groups : List Line → Answer (List (List Command))
+  groups [] = Is (Ok [])
+  groups (line ∷ lines) = command line.words >>- λ c. groups lines >>- λ others. Is (Ok (add_command (is_piping && line.piped) c others))
+
+-- no further command follows a pipe
+abbrev pub ends_piped : List Line → Bool
+ends_piped [] = false
+ends_piped (line ∷ []) = line.piped
+ends_piped (line ∷ other ∷ lines) = ends_piped (other ∷ lines)
+
+abbrev pub is_among : List (List ℕ) → List ℕ → Bool
+is_among files file = list_any (pointwise nat_eq file) files
+
+-- each once, and not the job's own temporaries
+abbrev pub lasting : List (List ℕ) → List (List ℕ) → List (List ℕ)
+lasting temps [] = []
+lasting temps (file ∷ files) = (if is_among temps file then [] else file ∷ []) ++ filter (λ other. not (pointwise nat_eq file other)) (lasting temps files)
+
+-- the input's place; the link has none
+abbrev pub place_of : Option Source → Option ℕ
+place_of None = None
+place_of (Some source) = Some source.place
+
+abbrev pub job : Context → World → Cut → List (List Command) → Job
+job C w c commands = record {
+  source = place_of C.input;
+  groups = commands;
+  temps = map (λ name. record { path = name.path; contents = [] }) w.drawn;
+  marked = lasting (map (λ name. name.path) w.drawn) c.removed;
+  on_failure = lasting (map (λ name. name.path) w.drawn) c.on_failure;
+  output = c.output;
+}
+
+-- behind the whole text: first that pipes stand right, then that none is too long
+abbrev pub finished : Facts → Context → World → Cut → Answer Outcome
+finished F C w c =
+    if c.stray || ends_piped c.lines then Is (Err StrayPipe)
+    else (groups F C c.lines >>- λ commands.
+    if list_any (λ group. nat_lt most_piped (length group)) commands then Is (Err PipeTooLong)
+    else Is (Ok (record { job = job C w c commands; cost = w.items })))
+
+-- what stops first in the order of the list counts
+abbrev pub cut : Facts → Context → Work (Unit {0}) → Answer Outcome
+cut F C (Goes atoms u w) = all_taken F C nothing_cut atoms >>- λ c. finished F C w c
+cut F C (Refuses atoms fault) = all_taken F C nothing_cut atoms >>- λ c. Is (Err fault)
+cut F C (Waits atoms) = all_taken F C nothing_cut atoms >>- λ c. Unasked
+
+-- what working a text comes to
+abbrev pub outcome : Facts → Context → Items → Answer Outcome
+outcome F C items = cut F C (atoms F C items)

@@ -1,0 +1,28 @@
+use Rattle.drv_machine.specs.Atoms.{start}
+use Rattle.drv_machine.specs.Context.{Context}
+use Rattle.drv_machine.specs.Cutting.{Cut, all_taken, nothing_cut}
+use Rattle.drv_machine.specs.Working.{◌>>-◌, Answer, Goes, Refuses, Step, Waits, Work, World}
+use Rattle.drv_system.specs.Facts.{Facts}
+use Rattle.drv_system.specs.Known.{Is, Unasked}
+use Rattle.std.specs.Prelude.{Err, Ok}
+
+-- A part of a text with its atoms cut as they come: what a call that works it does to what it holds (this project's
+-- profile).
+
+-- what has been cut, and the world
+pub record State : Type 0 where
+  pub cut : Cut
+  pub world : World
+
+module _ (F : Facts) (C : Context) where
+  abbrev pub done : {X : Type 0} → Cut → Work X → Answer (X × State)
+  done c (Goes atoms x w) = all_taken F C c atoms >>- λ d. Is (Ok (x, record { cut = d; world = w }))
+  done c (Refuses atoms fault) = all_taken F C c atoms >>- λ d. Is (Err fault)
+  done c (Waits atoms) = all_taken F C c atoms >>- λ d. Unasked
+
+  abbrev pub run : {X : Type 0} → State → Step X → Answer (X × State)
+  run s step = done s.cut (step s.world)
+
+  -- before the first item
+  abbrev pub begun : State
+  begun = record { cut = nothing_cut; world = start F C }

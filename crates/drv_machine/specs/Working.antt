@@ -1,0 +1,137 @@
+use Rattle.drv_machine.specs.declared.fault.MachineFault.{MachineFault}
+use Rattle.drv_machine.specs.declared.fault.MachineFault.TheVariants.{SpecTooDeep, TooManySteps}
+use Rattle.drv_syntax.specs.Tree.{Items}
+use Rattle.drv_system.specs.Known.{Known, Is, Unasked}
+use Rattle.std.specs.Prelude.{◌+◌, Bool, List, [], ◌∷◌, ◌++◌, Option, None, Some, Result, Err, Ok, if◌then◌else◌, map, nat_lt, ℕ}
+
+-- What working a part of a text gives: a list of atoms, and how the list ends (this project's profile).
+
+-- how a word is marked
+pub data Mark : Type 0 where
+  AsRemoved : Mark  -- removed at the end of the run
+  AsOutput : Mark  -- the job's output
+  AsFile : Mark  -- a library file, by its name
+  AsScript : Mark  -- a linker script, by its name
+
+pub data Atom : Type 0 where
+  Put : ℕ → Atom  -- a byte of the word that is open, or of a new one
+  Open : Atom  -- a word is open
+  Break : Atom  -- the word that is open ends
+  End : Atom  -- the command ends
+  Piped : Atom  -- the word ends, and the command with a pipe
+  Marked : Mark → Atom  -- the word that is open, or else the next one
+  Without : Atom  -- no output, unless a later word is marked as one
+  From : Atom  -- %W begins
+  To : Atom  -- %W ends: the last word that ended in it is a failure file
+
+-- a name that was drawn for a temporary
+pub record Drawn : Type 0 where
+  pub shared : Bool  -- by %g, or else by %u or %U
+  pub suffix : List ℕ
+  pub path : List ℕ
+
+-- what working a text changes as it goes
+pub record World : Type 0 where
+  pub hidden : List Bool  -- for each switch
+  pub options : List (List ℕ)  -- the list of %x
+  pub drawn : List Drawn
+  pub number : ℕ  -- of the next name that is drawn
+  pub outputs : List (List ℕ)
+  pub notices : List (List ℕ)
+  pub items : ℕ  -- reached so far
+
+-- a value over facts, or a refusal
+abbrev pub Answer : Type 0 → Type 0
+Answer X = Known (Result X MachineFault)
+
+infixl 10 ◌>>-◌
+abbrev pub ◌>>-◌ : {X Y : Type 0} → Answer X → (X → Answer Y) → Answer Y
+Is (Ok x) >>- next = next x
+Is (Err fault) >>- next = Is (Err fault)
+Unasked >>- next = Unasked
+
+-- atoms, and then a value and the world behind them; or a refusal; or the want of an answer of the facts
+pub data Work (X : Type 0) : Type 0 where
+  Goes : List Atom → X → World → Work X
+  Refuses : List Atom → MachineFault → Work X
+  Waits : List Atom → Work X
+
+-- a part of a text, by the world before it
+abbrev pub Step : Type 0 → Type 0
+Step X = World → Work X
+
+abbrev pub behind : {X : Type 0} → List Atom → Work X → Work X
+behind atoms (Goes others x w) = Goes (atoms ++ others) x w
+behind atoms (Refuses others fault) = Refuses (atoms ++ others) fault
+behind atoms (Waits others) = Waits (atoms ++ others)
+
+abbrev pub follow : {X Y : Type 0} → Work X → (X → Step Y) → Work Y
+follow (Goes atoms x w) next = behind atoms (next x w)
+follow (Refuses atoms fault) next = Refuses atoms fault
+follow (Waits atoms) next = Waits atoms
+
+-- one part and then another, which may look at the first one's value
+infixl 10 ◌>>=◌
+abbrev pub ◌>>=◌ : {X Y : Type 0} → Step X → (X → Step Y) → Step Y
+(step >>= next) w = follow (step w) next
+
+infixl 10 ◌>>◌
+abbrev pub ◌>>◌ : {Y : Type 0} → Step (Unit {0}) → Step Y → Step Y
+step >> next = step >>= λ u. next
+
+-- a value and no atoms
+abbrev pub give : {X : Type 0} → X → Step X
+give x w = Goes [] x w
+
+abbrev pub puts : List Atom → Step (Unit {0})
+puts atoms w = Goes atoms tt w
+
+abbrev pub bytes : List ℕ → Step (Unit {0})
+bytes word = puts (map Put word)
+
+abbrev pub nothing : Step (Unit {0})
+nothing = puts []
+
+abbrev pub refuse : {X : Type 0} → MachineFault → Step X
+refuse fault w = Refuses [] fault
+
+abbrev pub needs : {X : Type 0} → Answer X → Step X
+needs (Is (Ok x)) w = Goes [] x w
+needs (Is (Err fault)) w = Refuses [] fault
+needs Unasked w = Waits []
+
+abbrev pub look : {X : Type 0} → (World → X) → Step X
+look f w = Goes [] (f w) w
+
+abbrev pub change : (World → World) → Step (Unit {0})
+change f w = Goes [] tt (f w)
+
+-- the most items of a text
+abbrev pub most_items : ℕ
+most_items = 1000000
+
+-- one more item is reached
+abbrev pub counted : Step (Unit {0})
+counted w = if nat_lt w.items most_items then Goes [] tt (record w { items = w.items + 1 }) else Refuses [] TooManySteps
+
+-- each with an opening before it and a break behind it
+abbrev pub words : List (List ℕ) → List Atom
+words [] = []
+words (word ∷ others) = (Open ∷ map Put word ++ Break ∷ []) ++ words others
+
+abbrev pub word_of : Option (List ℕ) → List Atom
+word_of None = []
+word_of (Some word) = words (word ∷ [])
+
+-- what items mean behind each part that may still be opened, the next one first
+abbrev pub Levels : Type 0
+Levels = List (Items → Step (Unit {0}))
+
+-- the most parts that are open at one time
+abbrev pub most_open : ℕ
+most_open = 64
+
+-- one more part is opened: what items mean as a text in it, and the parts that may be opened in it
+abbrev pub opened : {X : Type 0} → Levels → ((Items → Step (Unit {0})) → Levels → Step X) → Step X
+opened [] part = refuse SpecTooDeep
+opened (deeper ∷ inside) part = part deeper inside

@@ -1,0 +1,59 @@
+//! Why a text has no job.
+
+use drv_words::Word;
+use std::alloc::{AllocError, AllocFailed};
+use thiserror::Error;
+
+/// Why a spec text that is worked has no job.
+#[derive(Debug, Drop, Error)]
+pub enum MachineFault {
+    /// An allocation was refused.
+    #[error("out of memory")]
+    Memory,
+    /// The text has an error for the user, with this text.
+    #[error("an error of the spec")]
+    UserError(Word),
+    /// More than 64 named texts, workings of an X with a `%*`, function arguments, `%W` and `%@` are open at one time.
+    #[error("specs nested too deep")]
+    SpecTooDeep,
+    /// More than 1,000,000 items are reached.
+    #[error("too many spec steps")]
+    TooManySteps,
+    /// `%i`, `%b` or `%B` stands in the link's text.
+    #[error("no input file in this spec")]
+    NoInput,
+    /// `%o` stands in a text other than the link's.
+    #[error("%o is for the link alone")]
+    NotInLink,
+    /// A `|` is not at the end of a command with a word, or no further command follows it.
+    #[error("stray pipe")]
+    StrayPipe,
+    /// More than 16 commands form one pipe.
+    #[error("more than 16 commands in one pipe")]
+    PipeTooLong,
+    /// The directive has no meaning yet.
+    #[error("a directive is not there yet")]
+    NotYet,
+}
+
+impl From<AllocError> for MachineFault {
+    ghost use Rattle.drv_machine.specs.declared.fault.MachineFault.TheVariants.{Memory};
+    ghost use Rattle.std.specs.Prelude.{◌≡◌};
+
+    ghost from_gives = { λ _ fault. fault ≡ Memory };
+
+    fn from(_refused: AllocError) -> MachineFault {
+        MachineFault::Memory
+    }
+}
+
+impl<T: Drop> From<AllocFailed<T>> for MachineFault {
+    ghost use Rattle.drv_machine.specs.declared.fault.MachineFault.TheVariants.{Memory};
+    ghost use Rattle.std.specs.Prelude.{◌≡◌};
+
+    ghost from_gives = { λ _ fault. fault ≡ Memory };
+
+    fn from(_refused: AllocFailed<T>) -> MachineFault {
+        MachineFault::Memory
+    }
+}

@@ -1,0 +1,36 @@
+//! What no clause says: printed texts, and that a call succeeds where memory is ample.
+
+use crate::{Context, MachineFault};
+use drv_words::{Listing, Word};
+use std::test::Fail;
+
+#[test]
+fn a_context_is_made(rt: HostRuntime) -> Result<(), Fail> {
+    let alloc = rt.alloc();
+    Context::new(alloc, Listing::new(alloc), None)?;
+    Ok(())
+}
+
+#[test]
+fn faults_are_said(rt: HostRuntime) -> Result<(), Fail> {
+    for (fault, text) in [
+        (MachineFault::Memory, "out of memory"),
+        (
+            MachineFault::UserError(Word::empty(rt.alloc())),
+            "an error of the spec",
+        ),
+        (MachineFault::SpecTooDeep, "specs nested too deep"),
+        (MachineFault::TooManySteps, "too many spec steps"),
+        (MachineFault::NoInput, "no input file in this spec"),
+        (MachineFault::NotInLink, "%o is for the link alone"),
+        (MachineFault::StrayPipe, "stray pipe"),
+        (
+            MachineFault::PipeTooLong,
+            "more than 16 commands in one pipe",
+        ),
+        (MachineFault::NotYet, "a directive is not there yet"),
+    ] {
+        assert_eq!(rt; fault.to_string(rt.alloc())?.as_str(), text);
+    }
+    Ok(())
+}
