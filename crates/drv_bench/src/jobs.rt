@@ -1,0 +1,117 @@
+//! The jobs.
+
+use drv_args::{expand, read};
+use drv_system::{FactTable, ScriptSystem};
+use drv_words::{Command, Group, Job, Listing, Plan, Word, plan_lines, render, split};
+use std::alloc::{AllocError, Global};
+
+/// A word of so many letters.
+fn letters(alloc: Global, length: usize) -> Result<Word, AllocError> {
+    let mut word = Word::empty(alloc);
+    for _ in 0..length {
+        word.push(b'x')?;
+    }
+    Ok(word)
+}
+
+/// So many words of ten letters.
+fn words(alloc: Global, count: usize) -> Result<Listing<Word>, AllocError> {
+    let mut words = Listing::new(alloc);
+    for _ in 0..count {
+        words.push(letters(alloc, 10)?)?;
+    }
+    Ok(words)
+}
+
+/// A plan of one command with so many words.
+fn plan(alloc: Global, count: usize) -> Result<Plan, AllocError> {
+    let mut commands = Vec::new(alloc);
+    commands.push(Command {
+        program: letters(alloc, 7)?,
+        words: words(alloc, count)?,
+    })?;
+    let mut groups = Listing::new(alloc);
+    if let Some(group) = Group::from_vec(commands) {
+        groups.push(group)?;
+    }
+    let mut jobs = Listing::new(alloc);
+    jobs.push(Job {
+        source: Some(0),
+        groups,
+        temps: Listing::new(alloc),
+        marked: Listing::new(alloc),
+        on_failure: Listing::new(alloc),
+        output: None,
+    })?;
+    Ok(Plan {
+        notices: Listing::new(alloc),
+        jobs,
+        link: None,
+    })
+}
+
+/// The bytes of the text of a plan of so many words.
+fn rendered(alloc: Global, count: usize) -> Result<usize, AllocError> {
+    let lines = plan_lines(alloc, &plan(alloc, count)?)?;
+    let text = render(alloc, lines.as_slice())?;
+    Ok(text.len())
+}
+
+/// A response text of so many options, each with a newline behind it.
+fn response(alloc: Global, count: usize, length: usize) -> Result<Word, AllocError> {
+    let mut text = Word::empty(alloc);
+    for _ in 0..count {
+        text.extend_from_slice(b"-D")?;
+        for _ in 2..length {
+            text.push(b'x')?;
+        }
+        text.push(b'\n')?;
+    }
+    Ok(text)
+}
+
+/// How many words a response text has.
+fn split_words(alloc: Global, count: usize, length: usize) -> Result<usize, AllocError> {
+    let text = response(alloc, count, length)?;
+    let words = split(alloc, text.as_bytes())?;
+    Ok(words.len())
+}
+
+/// How many switches one response file of so many options gives.
+fn switches(alloc: Global, count: usize, length: usize) -> Result<usize, AllocError> {
+    let mut files = Listing::new(alloc);
+    files.push((
+        Word::from_bytes(alloc, b"f")?,
+        Some(response(alloc, count, length)?),
+    ))?;
+    let mut sys = ScriptSystem::new(
+        alloc,
+        files,
+        Listing::new(alloc),
+        Listing::new(alloc),
+        Listing::new(alloc),
+    );
+    let mut args = Listing::new(alloc);
+    args.push(Word::from_bytes(alloc, b"a.c")?)?;
+    args.push(Word::from_bytes(alloc, b"@f")?)?;
+    let mut facts = FactTable::new(alloc);
+    let Ok(expanded) = expand(alloc, args.as_slice(), &mut sys, &mut facts) else {
+        return Ok(0);
+    };
+    match read(alloc, &expanded) {
+        Ok(line) => Ok(line.switches.len()),
+        Err(_) => Ok(0),
+    }
+}
+
+/// Does a job, and answers the size of what came of it; none if there is no such job, or memory ran out.
+pub fn run(alloc: Global, job: &str, count: &str, length: &str) -> Option<usize> {
+    let count = count.parse::<usize>().ok()?;
+    let length = length.parse::<usize>().ok()?;
+    match job {
+        "render" => rendered(alloc, count).ok(),
+        "split" => split_words(alloc, count, length).ok(),
+        "arguments" => switches(alloc, count, length).ok(),
+        _ => None,
+    }
+}

@@ -1,0 +1,28 @@
+//! What the benchmarks run: one job of the library on made input, named by the arguments.
+#![tactic(auto)]
+
+mod jobs;
+
+use std::process::ExitCode;
+use std::{env, io};
+
+const USAGE: &str = "usage: drv_bench render WORDS | split WORDS LENGTH | arguments WORDS LENGTH";
+
+fn main(rt: HostRuntime) -> io::Result<ExitCode> {
+    let args: Vec<String> = env::args(&rt)?.collect(rt.alloc())?;
+    let done = match args.as_slice() {
+        [_, job, count] => jobs::run(rt.alloc(), job.as_str(), count.as_str(), "0"),
+        [_, job, count, length] => jobs::run(
+            rt.alloc(),
+            job.as_str(),
+            count.as_str(),
+            length.as_str(),
+        ),
+        _ => None,
+    };
+    match done {
+        Some(size) => println!(rt; "{size}")?,
+        None => println!(rt; "{USAGE}")?,
+    }
+    Ok(ExitCode::SUCCESS)
+}
