@@ -12,6 +12,6 @@ mod reading;
 
 pub use expansion::expand;
 pub use fault::ArgsFault;
-pub use laws::items_are_fronts;
+pub use laws::{items_are_fronts, one_expansion};
 pub use line::{Expanded, Input, Line, Settings, Switch};
 pub use reading::read;
