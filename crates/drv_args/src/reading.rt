@@ -5,7 +5,7 @@ ghost use Rattle.drv_args.specs.Lines.{line_of_items, line_read};
 ghost use Rattle.drv_args.specs.Options.{first_row, row_fits, shown};
 ghost use Rattle.drv_args.specs.Reader.{begun_start};
 ghost use Rattle.drv_args.specs.declared.fault.ArgsFault.TheVariants as fault;
-ghost use Rattle.drv_system.specs.Gives.{Gives};
+ghost use Rattle.drv_words.specs.Gives.{Gives};
 ghost use Rattle.std.specs.Option.{option_map};
 ghost use Rattle.std.specs.Prelude.{◌≡◌, drop, find, length, map};
 

@@ -1,15 +1,8 @@
 use Rattle.drv_system.specs.Known.{Is, Known}
 use Rattle.std.specs.Prelude.{◌≡◌, ◌⊎◌, Err, Ok, Result}
 
--- How a call's result answers a definition (this project's profile): its value or its refusal is exactly the defined one,
--- what a refusal carries included; want of memory, which no definition knows, may come in place of either.
-
--- a definition that needs no facts
-abbrev pub Gives : {X Y E : Type 0} → E → (X → Y) → Result X E → Result Y E → Type 0
-Gives memory view (Ok x) defined = defined ≡ Ok (view x)
-Gives memory view (Err e) defined = (e ≡ memory) ⊎ (defined ≡ Err e)
-
--- one over facts
+-- How a call's result answers a definition over facts (this project's profile): its value or its refusal is exactly the
+-- defined one, what a refusal carries included; want of memory, which no definition knows, may come in place of either.
 abbrev pub GivesKnown : {X Y E : Type 0} → E → (X → Y) → Result X E → Known (Result Y E) → Type 0
 GivesKnown memory view (Ok x) defined = defined ≡ Is (Ok (view x))
 GivesKnown memory view (Err e) defined = (e ≡ memory) ⊎ (defined ≡ Is (Err e))

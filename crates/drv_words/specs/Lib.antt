@@ -1,3 +1,4 @@
+pub mod Gives
 pub mod Lines
 pub mod Printed
 pub mod Reader
