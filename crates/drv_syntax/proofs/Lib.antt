@@ -1,7 +1,9 @@
+mod LabelSamples
 mod Samples
 pub mod Covers
 pub mod Emits
 pub mod Leads
+pub mod MarkedWords
 pub mod Names
 pub mod Parts
 pub mod Patterns
@@ -11,9 +13,15 @@ pub mod RowsDue
 pub mod RowsTests
 pub mod Shortest
 pub mod Sound
+pub mod WalkHeadRows
+pub mod WalkHeads
+pub mod WalkListRows
+pub mod WalkLists
 pub mod WalkMeaning
 pub mod WalkNames
 pub mod WalkNodes
+pub mod WalkReads
 pub mod WalkShows
+pub mod WalkTests
 pub mod Wanted
 pub mod Words

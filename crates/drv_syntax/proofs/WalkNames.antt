@@ -1,4 +1,6 @@
 use Rattle.drv_syntax.specs.Bytes.{is_front, is_same}
+use Rattle.drv_syntax.proofs.WalkNodes.{as_many_of}
+use Rattle.drv_syntax.specs.Labels.{Label, labels_of}
 use Rattle.drv_syntax.specs.Outcome.{parsed}
 use Rattle.drv_syntax.specs.Parsed.{listed, tree_in, tree_of}
 use Rattle.drv_syntax.specs.Tokens.{tokens_of}
@@ -8,7 +10,7 @@ use Rattle.drv_syntax.specs.WalkSteps.{Walk, finish_in, outermost, place_of}
 use Rattle.drv_syntax.specs.declared.fault.SyntaxFault.TheVariants.{Unclosed}
 use Rattle.drv_syntax.specs.declared.fault.SyntaxFault.{SyntaxFault}
 use Rattle.drv_syntax.specs.declared.stage.Frame.{Frame}
-use Rattle.std.proofs.Common.{◌≡◌, ℕ, ◌<◌, ◌≤◌, Bool, true, false, List, [], ◌∷◌, ◌++◌, length, get_or, take, refl, ap, ◌∙◌, arith, reverse}
+use Rattle.std.proofs.Common.{◌≡◌, ℕ, ◌<◌, ◌≤◌, Bool, true, false, List, [], ◌∷◌, ◌++◌, length, get_or, take, refl, subst, sym, ap, ◌∙◌, arith, reverse}
 use Rattle.std.specs.Cmp.Lexicographic.{pointwise}
 use Rattle.std.proofs.lemmas.List.{reverse-append}
 use Rattle.std.specs.Prelude.{◌==◌, ◌&&◌, nat_eq, Result, Ok, Err, if◌then◌else◌}
@@ -67,9 +69,27 @@ pub outer_first : (xs : List Frame) (d : Frame) (n : ℕ) (w : Walk) → 0 < len
 outer_first [] d n w h = absurd (omega arith)
 outer_first (x ∷ xs) d n w h = outer_at x xs n w
 
-pub listed_tokens : (text : List ℕ) (tokens : List Token) → listed (parsed text) ≡ Ok tokens → tokens ≡ tokens_of (tree_of text)
-listed_tokens text tokens h = by (parsed text) h
+abbrev tokens_in : Result (List Token × List Label) SyntaxFault → List Token
+tokens_in (Ok p) = p.0
+tokens_in (Err fault) = []
+
+abbrev labels_in : Result (List Token × List Label) SyntaxFault → List Label
+labels_in (Ok p) = p.1
+labels_in (Err fault) = []
+
+pub listed_tokens : (text : List ℕ) (tokens : List Token) (labels : List Label) → listed (parsed text) ≡ Ok (tokens, labels) → tokens ≡ tokens_of (tree_of text)
+listed_tokens text tokens labels h = by (parsed text) h
   where
-    by : (r : Result Items SyntaxFault) → listed r ≡ Ok tokens → tokens ≡ tokens_of (tree_in r)
-    by (Ok items) e = cc
+    by : (r : Result Items SyntaxFault) → listed r ≡ Ok (tokens, labels) → tokens ≡ tokens_of (tree_in r)
+    by (Ok items) e = sym (ap (λ r. tokens_in r) e)
     by (Err fault) e = absurd cc
+
+pub listed_labels : (text : List ℕ) (tokens : List Token) (labels : List Label) → listed (parsed text) ≡ Ok (tokens, labels) → labels ≡ labels_of (tree_of text)
+listed_labels text tokens labels h = by (parsed text) h
+  where
+    by : (r : Result Items SyntaxFault) → listed r ≡ Ok (tokens, labels) → labels ≡ labels_of (tree_in r)
+    by (Ok items) e = sym (ap (λ r. labels_in r) e)
+    by (Err fault) e = absurd cc
+
+pub label_within : (items : Items) (place : ℕ) (labels : List Label) → labels ≡ labels_of items → place < length (tokens_of items) → place < length labels
+label_within items place labels e h = subst (λ (n : ℕ). place < n) (sym (ap (λ ls. length ls) e ∙ as_many_of items)) h

@@ -1,6 +1,7 @@
+use Rattle.drv_syntax.specs.Labels.{Label, Nodes, asked_nodes, both, brace_nodes, choice_nodes, inner_nodes, label_of, labels, labels_of, no_label, no_node, node, nodes_of, pattern_label, pattern_nodes, test_label, test_nodes}
 use Rattle.drv_syntax.specs.Outcome.{join, join_tests, join_choices}
 use Rattle.drv_syntax.specs.Spelling.{span}
-use Rattle.drv_syntax.specs.Tokens.{asked_tokens, brace_tokens, choice_tokens, inner_tokens, item_tokens, kind_of, pattern_tokens, test_tokens, token}
+use Rattle.drv_syntax.specs.Tokens.{asked_tokens, brace_tokens, choice_tokens, inner_tokens, item_tokens, kind_of, pattern_tokens, test_tokens, token, tokens_of}
 use Rattle.drv_syntax.specs.Tree as tree
 use Rattle.drv_syntax.specs.Tree.{Asked, Brace, Choices, Item, Items, Pattern, Span, Tests, kept, last_place, trimmed}
 use Rattle.drv_syntax.specs.WalkSteps.{open_token}
@@ -10,51 +11,11 @@ use Rattle.drv_syntax.specs.declared.token.TokenKind.{TokenKind}
 use Rattle.std.proofs.Common.{◌≡◌, ℕ, ◌+◌, ◌-◌, Bool, true, false, List, [], ◌∷◌, ◌++◌, length, take, set, refl, sym, ap, subst, ◌∙◌, arith, append_assoc, append-nil, length-append, if◌then◌else◌}
 use Rattle.std.proofs.Math.Seq.{set-append_seam, take-append_seam}
 
--- A tree as its parts alone, and the tokens of a tree that is still being read.
-
-pub data Nodes : Type 0 where
-  no_node : Nodes
-  node : TokenKind → Span → Nodes → Nodes → Nodes  -- the parts inside it, and the parts behind it
+-- The tokens of parts, and of a tree that is still being read.
 
 abbrev pub flat : ℕ → Nodes → List Token
 flat n no_node = []
-flat n (node kind s inner others) = token n kind s (flat (n + 1) inner) (λ m. flat m others)
-
-abbrev pub both : Nodes → Nodes → Nodes
-both no_node ys = ys
-both (node kind s inner xs) ys = node kind s inner (both xs ys)
-
-abbrev pub pattern_nodes : List (Span × Pattern) → Nodes
-pattern_nodes [] = no_node
-pattern_nodes (p ∷ patterns) = node kinds.Pattern p.0 no_node (pattern_nodes patterns)
-
-abbrev mutual
-  pub nodes_of : Items → Nodes
-  nodes_of tree.none = no_node
-  nodes_of (tree.more s item items) = node (kind_of item) s (inner_nodes item) (nodes_of items)
-
-  pub inner_nodes : Item → Nodes
-  inner_nodes (tree.Function name arguments) = nodes_of arguments
-  inner_nodes (tree.Braces brace) = brace_nodes brace
-  inner_nodes (tree.FailureFile brace) = brace_nodes brace
-  inner_nodes (tree.ArgumentsFile brace) = brace_nodes brace
-  inner_nodes _ = no_node
-
-  pub brace_nodes : Brace → Nodes
-  brace_nodes (tree.Emit patterns) = pattern_nodes patterns
-  brace_nodes (tree.Choose choices) = choice_nodes choices
-
-  pub choice_nodes : Choices → Nodes
-  choice_nodes tree.no_choice = no_node
-  choice_nodes (tree.choice s tests items choices) = node kinds.Alternative s (both (test_nodes tests) (nodes_of items)) (choice_nodes choices)
-
-  pub test_nodes : Tests → Nodes
-  test_nodes tree.no_test = no_node
-  test_nodes (tree.test s negated asked tests) = node kinds.Test s (asked_nodes asked) (test_nodes tests)
-
-  pub asked_nodes : Asked → Nodes
-  asked_nodes (tree.HasResult name arguments) = nodes_of arguments
-  asked_nodes _ = no_node
+flat n (node kind label s inner others) = token n kind s (flat (n + 1) inner) (λ m. flat m others)
 
 pub same_token : (n : ℕ) (kind : TokenKind) (s : Span) {xs ys : List Token} {f g : ℕ → List Token} → xs ≡ ys → ((m : ℕ) → f m ≡ g m) → token n kind s xs f ≡ token n kind s ys g
 same_token n kind s {xs} {ys} {f} {g} e h =
@@ -66,7 +27,7 @@ flat_both n no_node ys = rw (by n) refl
   where
     by : (k : ℕ) → k + 0 ≡ k
     by k = omega arith
-flat_both n (node kind s inner xs) ys =
+flat_both n (node kind label s inner xs) ys =
     let m : ℕ = n + 1 + length (flat (n + 1) inner) in
     let t : Token = record { kind = kind; start = s.start; end = s.end; next = m } in
     ap (λ zs. t ∷ flat (n + 1) inner ++ zs) (flat_both m xs ys)
@@ -77,6 +38,16 @@ flat_both n (node kind s inner xs) ys =
     joined t a b n m e f =
         let k : n + length (t ∷ a ++ b) ≡ m + length b = omega (arith, length-append (t ∷ a) b) in
         rw k (sym (append_assoc (t ∷ a) b (f (m + length b))))
+
+-- there are as many labels as tokens
+pub as_many : (n : ℕ) (xs : Nodes) → length (labels xs) ≡ length (flat n xs)
+as_many n no_node = refl
+as_many n (node kind label s inner xs) =
+    let m : ℕ = n + 1 + length (flat (n + 1) inner) in
+    counted label (record { kind = kind; start = s.start; end = s.end; next = m }) (labels inner) (labels xs) (flat (n + 1) inner) (flat m xs) (as_many (n + 1) inner) (as_many m xs)
+  where
+    counted : (l : Label) (t : Token) (a b : List Label) (c d : List Token) → length a ≡ length c → length b ≡ length d → length (l ∷ a ++ b) ≡ length (t ∷ c ++ d)
+    counted l t a b c d e f = omega (arith, length-append a b, length-append c d)
 
 pub patterns_flat : (n : ℕ) (patterns : List (Span × Pattern)) → pattern_tokens n patterns ≡ flat n (pattern_nodes patterns)
 patterns_flat n [] = refl
@@ -143,33 +114,89 @@ mutual
   asked_flat n (tree.HasLanguage word) = refl
   asked_flat n (tree.HasResult name arguments) = items_flat n arguments
 
--- a part that is open: the parts before it beside it, what it is, and where it begins
+pub as_many_of : (items : Items) → length (labels_of items) ≡ length (tokens_of items)
+as_many_of items = as_many 0 (nodes_of items) ∙ ap (λ ts. length ts) (sym (items_flat 0 items))
+
+-- a part that is open: the parts before it beside it, what it is, its label, and where it begins
 pub record Level : Type 0 where
   pub before : Nodes
   pub kind : TokenKind
+  pub label : Label
   pub start : ℕ
 
-abbrev pub base : List Level → List Token
+-- what a state lists: its tokens, and their labels
+pub record Parts : Type 0 where
+  pub tokens : List Token
+  pub labels : List Label
+
+abbrev pub opened : TokenKind → Label → ℕ → Parts → Parts
+opened kind label start z = record { tokens = z.tokens ++ open_token kind start ∷ []; labels = z.labels ++ label ∷ [] }
+
+abbrev pub leafed : TokenKind → Label → ℕ → ℕ → Parts → Parts
+leafed kind label start end z =
+    record { tokens = z.tokens ++ record { kind = kind; start = start; end = end; next = length z.tokens + 1 } ∷ []; labels = z.labels ++ label ∷ [] }
+
+-- the part at this place ends
+abbrev pub ended : ℕ → TokenKind → ℕ → ℕ → Parts → Parts
+ended place kind start end z = record { tokens = set z.tokens place (record { kind = kind; start = start; end = end; next = length z.tokens }); labels = z.labels }
+
+-- the last ones cut off, so many
+abbrev pub shortened : ℕ → Parts → Parts
+shortened k z = record { tokens = take (length z.tokens - k) z.tokens; labels = take (length z.labels - k) z.labels }
+
+abbrev parts : List Token → List Label → Parts
+parts tokens names = record { tokens = tokens; labels = names }
+
+same_parts : {ts us : List Token} {xs ys : List Label} → ts ≡ us → xs ≡ ys → parts ts xs ≡ parts us ys
+same_parts {ts} {us} {xs} {ys} e f = ap (λ z. parts z xs) e ∙ ap (λ z. parts us z) f
+
+abbrev base : List Level → List Token
 base [] = []
 base (l ∷ levels) = (base levels ++ flat (length (base levels)) l.before) ++ open_token l.kind l.start ∷ []
 
--- the tokens of the open parts, innermost first, and of what the innermost holds
-abbrev pub all : List Level → Nodes → List Token
-all levels nodes = base levels ++ flat (length (base levels)) nodes
+abbrev label_base : List Level → List Label
+label_base [] = []
+label_base (l ∷ levels) = (label_base levels ++ labels l.before) ++ l.label ∷ []
 
-pub all_leaf : (levels : List Level) (nodes : Nodes) (kind : TokenKind) (start end : ℕ)
-    → all levels nodes ++ record { kind = kind; start = start; end = end; next = length (all levels nodes) + 1 } ∷ [] ≡ all levels (both nodes (node kind (span start end) no_node no_node))
-all_leaf levels nodes kind start end = joined (base levels) (flat (length (base levels)) nodes) ∙ ap (λ zs. base levels ++ zs) (sym (flat_both (length (base levels)) nodes (node kind (span start end) no_node no_node)))
+abbrev all_tokens : List Level → Nodes → List Token
+all_tokens levels nodes = base levels ++ flat (length (base levels)) nodes
+
+abbrev all_labels : List Level → Nodes → List Label
+all_labels levels nodes = label_base levels ++ labels nodes
+
+-- the tokens and labels of the open parts, innermost first, and of what the innermost holds
+abbrev pub all : List Level → Nodes → Parts
+all levels nodes = record { tokens = all_tokens levels nodes; labels = all_labels levels nodes }
+
+labels_both : (xs ys : Nodes) → labels (both xs ys) ≡ labels xs ++ labels ys
+labels_both no_node ys = refl
+labels_both (node kind label s inner xs) ys = ap (λ zs. label ∷ labels inner ++ zs) (labels_both xs ys) ∙ sym (append_assoc (label ∷ labels inner) (labels xs) (labels ys))
+
+-- the labels of one part more
+labels_last : (levels : List Level) (nodes : Nodes) (kind : TokenKind) (label : Label) (s : Span) (inner : Nodes)
+    → all_labels levels nodes ++ label ∷ labels inner ≡ all_labels levels (both nodes (node kind label s inner no_node))
+labels_last levels nodes kind label s inner =
+    append_assoc (label_base levels) (labels nodes) (label ∷ labels inner)
+    ∙ ap (λ zs. label_base levels ++ (labels nodes ++ label ∷ zs)) (sym (append-nil (labels inner)))
+    ∙ ap (λ zs. label_base levels ++ zs) (sym (labels_both nodes (node kind label s inner no_node)))
+
+tokens_leaf : (levels : List Level) (nodes : Nodes) (kind : TokenKind) (label : Label) (start end : ℕ)
+    → all_tokens levels nodes ++ record { kind = kind; start = start; end = end; next = length (all_tokens levels nodes) + 1 } ∷ [] ≡ all_tokens levels (both nodes (node kind label (span start end) no_node no_node))
+tokens_leaf levels nodes kind label start end = joined (base levels) (flat (length (base levels)) nodes) ∙ ap (λ zs. base levels ++ zs) (sym (flat_both (length (base levels)) nodes (node kind label (span start end) no_node no_node)))
   where
     joined : (a b : List Token)
-        → (a ++ b) ++ record { kind = kind; start = start; end = end; next = length (a ++ b) + 1 } ∷ [] ≡ a ++ (b ++ flat (length a + length b) (node kind (span start end) no_node no_node))
+        → (a ++ b) ++ record { kind = kind; start = start; end = end; next = length (a ++ b) + 1 } ∷ [] ≡ a ++ (b ++ flat (length a + length b) (node kind label (span start end) no_node no_node))
     joined a b =
         let k : length (a ++ b) + 1 ≡ length a + length b + 1 + 0 = omega (arith, length-append a b) in
         rw k (append_assoc a b _)
 
-pub all_open : (levels : List Level) (nodes : Nodes) (kind : TokenKind) (start : ℕ)
-    → all levels nodes ++ open_token kind start ∷ [] ≡ all (record { before = nodes; kind = kind; start = start } ∷ levels) no_node
-all_open levels nodes kind start = sym (append-nil _)
+pub all_leaf : (levels : List Level) (nodes : Nodes) (kind : TokenKind) (label : Label) (start end : ℕ)
+    → leafed kind label start end (all levels nodes) ≡ all levels (both nodes (node kind label (span start end) no_node no_node))
+all_leaf levels nodes kind label start end = same_parts (tokens_leaf levels nodes kind label start end) (labels_last levels nodes kind label (span start end) no_node)
+
+pub all_open : (levels : List Level) (nodes : Nodes) (kind : TokenKind) (label : Label) (start : ℕ)
+    → opened kind label start (all levels nodes) ≡ all (record { before = nodes; kind = kind; label = label; start = start } ∷ levels) no_node
+all_open levels nodes kind label start = same_parts (sym (append-nil _)) (sym (append-nil _))
 
 closing : (a b : List Token) (o : Token) (kind : TokenKind) (start end : ℕ) (f : ℕ → List Token)
     → (a ++ b) ++ record { kind = kind; start = start; end = end; next = length (((a ++ b) ++ o ∷ []) ++ f (length ((a ++ b) ++ o ∷ []))) } ∷ f (length ((a ++ b) ++ o ∷ []))
@@ -179,28 +206,35 @@ closing a b o kind start end f =
     let d : length (((a ++ b) ++ o ∷ []) ++ f (length a + length b + 1)) ≡ length a + length b + 1 + length (f (length a + length b + 1)) = omega (arith, length-append ((a ++ b) ++ o ∷ []) (f (length a + length b + 1)), length-append (a ++ b) (o ∷ []), length-append a b) in
     rw (e, d, append-nil (f (length a + length b + 1))) (append_assoc a b _)
 
-pub all_close : (levels : List Level) (before inner : Nodes) (opened kind : TokenKind) (start end : ℕ)
-    → set (all (record { before = before; kind = opened; start = start } ∷ levels) inner) (length (all levels before))
-    (record { kind = kind; start = start; end = end; next = length (all (record { before = before; kind = opened; start = start } ∷ levels) inner) })
-    ≡ all levels (both before (node kind (span start end) inner no_node))
-all_close levels before inner opened kind start end =
-    ap (λ zs. set zs (length (all levels before)) t) (append_assoc (all levels before) (o ∷ []) rest)
-    ∙ set-append_seam (all levels before) o rest t
+tokens_close : (levels : List Level) (before inner : Nodes) (opened kind : TokenKind) (label : Label) (start end : ℕ)
+    → set (all_tokens (record { before = before; kind = opened; label = label; start = start } ∷ levels) inner) (length (all_tokens levels before))
+    (record { kind = kind; start = start; end = end; next = length (all_tokens (record { before = before; kind = opened; label = label; start = start } ∷ levels) inner) })
+    ≡ all_tokens levels (both before (node kind label (span start end) inner no_node))
+tokens_close levels before inner opened kind label start end =
+    ap (λ zs. set zs (length (all_tokens levels before)) t) (append_assoc (all_tokens levels before) (o ∷ []) rest)
+    ∙ set-append_seam (all_tokens levels before) o rest t
     ∙ joined
   where
     o : Token
     o = open_token opened start
 
     rest : List Token
-    rest = flat (length (all levels before ++ open_token opened start ∷ [])) inner
+    rest = flat (length (all_tokens levels before ++ open_token opened start ∷ [])) inner
 
     t : Token
-    t = record { kind = kind; start = start; end = end; next = length (all (record { before = before; kind = opened; start = start } ∷ levels) inner) }
+    t = record { kind = kind; start = start; end = end; next = length (all_tokens (record { before = before; kind = opened; label = label; start = start } ∷ levels) inner) }
 
-    joined : all levels before ++ t ∷ rest ≡ all levels (both before (node kind (span start end) inner no_node))
+    joined : all_tokens levels before ++ t ∷ rest ≡ all_tokens levels (both before (node kind label (span start end) inner no_node))
     joined =
         closing (base levels) (flat (length (base levels)) before) o kind start end (λ n. flat n inner)
-        ∙ ap (λ zs. base levels ++ zs) (sym (flat_both (length (base levels)) before (node kind (span start end) inner no_node)))
+        ∙ ap (λ zs. base levels ++ zs) (sym (flat_both (length (base levels)) before (node kind label (span start end) inner no_node)))
+
+pub all_close : (levels : List Level) (before inner : Nodes) (first kind : TokenKind) (label : Label) (start end : ℕ)
+    → ended (length (all levels before).tokens) kind start end (all (record { before = before; kind = first; label = label; start = start } ∷ levels) inner)
+    ≡ all levels (both before (node kind label (span start end) inner no_node))
+all_close levels before inner first kind label start end =
+    same_parts (tokens_close levels before inner first kind label start end)
+    (append_assoc (all_labels levels before) (label ∷ []) (labels inner) ∙ labels_last levels before kind label (span start end) inner)
 
 -- white space at the end of items
 abbrev pub white : Item → Bool
@@ -343,8 +377,8 @@ trailing_white (tree.more r other items) s item e =
     ∙ trail_more (white other) (trimmed items) (trailing items)
 
 -- the tokens of items are those of the items without the white space at their end, and as many more
-pub record Tail (all_of front : List Token) (k : ℕ) : Type 0 where
-  pub tail : List Token
+pub record Tail {X : Type 0} (all_of front : List X) (k : ℕ) : Type 0 where
+  pub tail : List X
   pub is : all_of ≡ front ++ tail
   pub size : length tail ≡ k
 
@@ -382,14 +416,43 @@ tail_of n (tree.more s item items) =
     subst (λ (x : Items). Tail (flat n (nodes_of (tree.more s item items))) (flat n (nodes_of x)) (trailing (tree.more s item items))) (sym (kept_is s item (trimmed items)))
     (more_tail n s item items (trimmed items) (trailing items) (tail_of (n + 1 + length (flat (n + 1) (inner_nodes item))) items) (white item) refl)
 
-cut_tail : (a b : List Token) (k : ℕ) → length b ≡ k → take (length (a ++ b) - k) (a ++ b) ≡ a
+more_labels : (s : Span) (item : Item) (items x : Items) (k : ℕ) → Tail (labels (nodes_of items)) (labels (nodes_of x)) k
+    → (t : Bool) → white item ≡ t → Tail (labels (nodes_of (tree.more s item items))) (labels (nodes_of (if t then kept_white s item x else tree.more s item x))) (if t then trail_white x k else k)
+more_labels s item items x k h false e =
+    record {
+      tail = h.tail;
+      is = ap (λ zs. label_of item ∷ labels (inner_nodes item) ++ zs) h.is ∙ sym (append_assoc (label_of item ∷ labels (inner_nodes item)) _ h.tail);
+      size = h.size;
+    }
+more_labels s item items (tree.more r other others) k h true e =
+    record {
+      tail = h.tail;
+      is = ap (λ zs. label_of item ∷ labels (inner_nodes item) ++ zs) h.is ∙ sym (append_assoc (label_of item ∷ labels (inner_nodes item)) _ h.tail);
+      size = h.size;
+    }
+more_labels s item items tree.none k h true e =
+    record { tail = label_of item ∷ labels (inner_nodes item) ++ h.tail; is = ap (λ zs. label_of item ∷ labels (inner_nodes item) ++ zs) h.is; size = sized }
+  where
+    sized : length (label_of item ∷ labels (inner_nodes item) ++ h.tail) ≡ k + 1
+    sized = ap (λ zs. length (label_of item ∷ zs ++ h.tail)) (ap (λ x. labels x) (white_inner item e)) ∙ counted h.tail h.size
+      where
+        counted : (tail : List Label) → length tail ≡ k → length (label_of item ∷ tail) ≡ k + 1
+        counted tail f = omega arith
+
+label_tail : (items : Items) → Tail (labels (nodes_of items)) (labels (nodes_of (trimmed items))) (trailing items)
+label_tail tree.none = record { tail = []; is = refl; size = refl }
+label_tail (tree.more s item items) =
+    subst (λ (x : Items). Tail (labels (nodes_of (tree.more s item items))) (labels (nodes_of x)) (trailing (tree.more s item items))) (sym (kept_is s item (trimmed items)))
+    (more_labels s item items (trimmed items) (trailing items) (label_tail items) (white item) refl)
+
+cut_tail : {X : Type 0} (a b : List X) (k : ℕ) → length b ≡ k → take (length (a ++ b) - k) (a ++ b) ≡ a
 cut_tail a b k e =
     let f : length (a ++ b) - k ≡ length a = omega (arith, length-append a b) in
     rw f (take-append_seam a b)
 
-pub trim_all : (levels : List Level) (prefix : Nodes) (items : Items)
-    → take (length (all levels (both prefix (nodes_of items))) - trailing items) (all levels (both prefix (nodes_of items))) ≡ all levels (both prefix (nodes_of (trimmed items)))
-trim_all levels prefix items =
+trim_tokens : (levels : List Level) (prefix : Nodes) (items : Items)
+    → take (length (all_tokens levels (both prefix (nodes_of items))) - trailing items) (all_tokens levels (both prefix (nodes_of items))) ≡ all_tokens levels (both prefix (nodes_of (trimmed items)))
+trim_tokens levels prefix items =
     ap (λ zs. take (length zs - trailing items) zs) whole
     ∙ cut_tail (base levels ++ (flat m prefix ++ flat (m + length (flat m prefix)) (nodes_of (trimmed items)))) h.tail (trailing items) h.size
     ∙ ap (λ zs. base levels ++ zs) (sym (flat_both m prefix (nodes_of (trimmed items))))
@@ -400,31 +463,50 @@ trim_all levels prefix items =
     h : Tail (flat (m + length (flat m prefix)) (nodes_of items)) (flat (m + length (flat m prefix)) (nodes_of (trimmed items))) (trailing items)
     h = tail_of (m + length (flat m prefix)) items
 
-    whole : all levels (both prefix (nodes_of items)) ≡ (base levels ++ (flat m prefix ++ flat (m + length (flat m prefix)) (nodes_of (trimmed items)))) ++ h.tail
+    whole : all_tokens levels (both prefix (nodes_of items)) ≡ (base levels ++ (flat m prefix ++ flat (m + length (flat m prefix)) (nodes_of (trimmed items)))) ++ h.tail
     whole =
         ap (λ zs. base levels ++ zs) (flat_both m prefix (nodes_of items) ∙ ap (λ zs. flat m prefix ++ zs) h.is ∙ sym (append_assoc (flat m prefix) _ h.tail))
         ∙ sym (append_assoc (base levels) _ h.tail)
 
+trim_labels : (levels : List Level) (prefix : Nodes) (items : Items)
+    → take (length (all_labels levels (both prefix (nodes_of items))) - trailing items) (all_labels levels (both prefix (nodes_of items))) ≡ all_labels levels (both prefix (nodes_of (trimmed items)))
+trim_labels levels prefix items =
+    ap (λ zs. take (length zs - trailing items) zs) whole
+    ∙ cut_tail (label_base levels ++ (labels prefix ++ labels (nodes_of (trimmed items)))) h.tail (trailing items) h.size
+    ∙ ap (λ zs. label_base levels ++ zs) (sym (labels_both prefix (nodes_of (trimmed items))))
+  where
+    h : Tail (labels (nodes_of items)) (labels (nodes_of (trimmed items))) (trailing items)
+    h = label_tail items
+
+    whole : all_labels levels (both prefix (nodes_of items)) ≡ (label_base levels ++ (labels prefix ++ labels (nodes_of (trimmed items)))) ++ h.tail
+    whole =
+        ap (λ zs. label_base levels ++ zs) (labels_both prefix (nodes_of items) ∙ ap (λ zs. labels prefix ++ zs) h.is ∙ sym (append_assoc (labels prefix) _ h.tail))
+        ∙ sym (append_assoc (label_base levels) _ h.tail)
+
+pub trim_all : (levels : List Level) (prefix : Nodes) (items : Items)
+    → shortened (trailing items) (all levels (both prefix (nodes_of items))) ≡ all levels (both prefix (nodes_of (trimmed items)))
+trim_all levels prefix items = same_parts (trim_tokens levels prefix items) (trim_labels levels prefix items)
+
 pub both_assoc : (xs ys zs : Nodes) → both (both xs ys) zs ≡ both xs (both ys zs)
 both_assoc no_node ys zs = refl
-both_assoc (node kind s inner xs) ys zs = ap (λ n. node kind s inner n) (both_assoc xs ys zs)
+both_assoc (node kind label s inner xs) ys zs = ap (λ n. node kind label s inner n) (both_assoc xs ys zs)
 
 pub both_none : (xs : Nodes) → both xs no_node ≡ xs
 both_none no_node = refl
-both_none (node kind s inner xs) = ap (λ n. node kind s inner n) (both_none xs)
+both_none (node kind label s inner xs) = ap (λ n. node kind label s inner n) (both_none xs)
 
 pub items_join : (xs ys : Items) → nodes_of (join xs ys) ≡ both (nodes_of xs) (nodes_of ys)
 items_join tree.none ys = refl
-items_join (tree.more s item xs) ys = ap (λ n. node (kind_of item) s (inner_nodes item) n) (items_join xs ys)
+items_join (tree.more s item xs) ys = ap (λ n. node (kind_of item) (label_of item) s (inner_nodes item) n) (items_join xs ys)
 
 pub tests_join : (xs ys : Tests) → test_nodes (join_tests xs ys) ≡ both (test_nodes xs) (test_nodes ys)
 tests_join tree.no_test ys = refl
-tests_join (tree.test s negated asked xs) ys = ap (λ n. node kinds.Test s (asked_nodes asked) n) (tests_join xs ys)
+tests_join (tree.test s negated asked xs) ys = ap (λ n. node kinds.Test (test_label negated asked) s (asked_nodes asked) n) (tests_join xs ys)
 
 pub choices_join : (xs ys : Choices) → choice_nodes (join_choices xs ys) ≡ both (choice_nodes xs) (choice_nodes ys)
 choices_join tree.no_choice ys = refl
-choices_join (tree.choice s tests items xs) ys = ap (λ n. node kinds.Alternative s (both (test_nodes tests) (nodes_of items)) n) (choices_join xs ys)
+choices_join (tree.choice s tests items xs) ys = ap (λ n. node kinds.Alternative no_label s (both (test_nodes tests) (nodes_of items)) n) (choices_join xs ys)
 
 pub patterns_join : (xs ys : List (Span × Pattern)) → pattern_nodes (xs ++ ys) ≡ both (pattern_nodes xs) (pattern_nodes ys)
 patterns_join [] ys = refl
-patterns_join (p ∷ xs) ys = ap (λ n. node kinds.Pattern p.0 no_node n) (patterns_join xs ys)
+patterns_join (p ∷ xs) ys = ap (λ n. node kinds.Pattern (pattern_label p.1) p.0 no_node n) (patterns_join xs ys)

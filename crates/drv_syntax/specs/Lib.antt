@@ -1,5 +1,7 @@
 pub mod Bytes
 pub mod Contexts
+pub mod Labels
+pub mod Marks
 pub mod Outcome
 pub mod Parsed
 pub mod Spelling

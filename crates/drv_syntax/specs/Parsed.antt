@@ -1,3 +1,4 @@
+use Rattle.drv_syntax.specs.Labels.{Label, labels_of}
 use Rattle.drv_syntax.specs.Outcome.{parsed}
 use Rattle.drv_syntax.specs.Tokens.{tokens_of}
 use Rattle.drv_syntax.specs.Tree.{Items, none}
@@ -5,7 +6,7 @@ use Rattle.drv_syntax.specs.declared.fault.SyntaxFault.{SyntaxFault}
 use Rattle.drv_syntax.specs.declared.token.Token.{Token}
 use Rattle.std.specs.Prelude.{List, Result, Err, Ok, ℕ}
 
--- The tree of a text that has one, and its tokens (this project's profile).
+-- The tree of a text that has one, and its tokens and labels (this project's profile).
 
 abbrev pub tree_in : Result Items SyntaxFault → Items
 tree_in (Ok items) = items
@@ -15,7 +16,7 @@ tree_in (Err fault) = none
 abbrev pub tree_of : List ℕ → Items
 tree_of text = tree_in (parsed text)
 
--- the tokens of a tree, or the same fault
-abbrev pub listed : Result Items SyntaxFault → Result (List Token) SyntaxFault
-listed (Ok items) = Ok (tokens_of items)
+-- the tokens of a tree and their labels, or the same fault
+abbrev pub listed : Result Items SyntaxFault → Result (List Token × List Label) SyntaxFault
+listed (Ok items) = Ok (tokens_of items, labels_of items)
 listed (Err fault) = Err fault

@@ -1,4 +1,6 @@
 use Rattle.drv_syntax.specs.Bytes.{is_blank, is_function, is_function_front, is_mark, is_name, is_of, is_space, is_suffix, is_word}
+use Rattle.drv_syntax.specs.Labels.{Label, no_label, pattern_label, word_label}
+use Rattle.drv_syntax.specs.Tree.{pattern}
 use Rattle.drv_syntax.specs.declared.fault.SyntaxFault.TheVariants.{BadDirective, EmptyTest, MixedStar, StarOutside, TooNested, UnknownFunction}
 use Rattle.drv_syntax.specs.declared.stage.Behind.TheVariants as behinds
 use Rattle.drv_syntax.specs.declared.stage.Behind.{Behind}
@@ -34,6 +36,8 @@ use Rattle.drv_syntax.specs.declared.stage.Taken.TheVariants as takes
 use Rattle.drv_syntax.specs.declared.stage.Taken.{Taken}
 use Rattle.drv_syntax.specs.declared.token.TempKind.TheVariants as temps
 use Rattle.drv_syntax.specs.declared.token.TempKind.{TempKind}
+use Rattle.drv_syntax.specs.declared.token.TestKind.TheVariants as asking
+use Rattle.drv_syntax.specs.declared.token.TestKind.{TestKind}
 use Rattle.drv_syntax.specs.declared.token.TokenKind.TheVariants as kinds
 use Rattle.drv_syntax.specs.declared.token.TokenKind.{TokenKind}
 use Rattle.std.specs.Prelude.{◌+◌, ◌-◌, ◌==◌, Bool, false, true, not, if◌then◌else◌, List, [], ◌∷◌, ◌++◌, length, nat_le, None, Some, ℕ}
@@ -42,8 +46,8 @@ use Rattle.std.specs.Prelude.{◌+◌, ◌-◌, ◌==◌, Bool, false, true, not
 -- without the trees (this project's profile). For the clauses of the code alone.
 
 abbrev pub leaf_kind : Leaf → TokenKind
-leaf_kind leaves.Plain = kinds.Plain
-leaf_kind leaves.Escape = kinds.Escape
+leaf_kind (leaves.Plain b) = kinds.Plain
+leaf_kind (leaves.Escape b) = kinds.Escape
 leaf_kind leaves.Blank = kinds.Blank
 leaf_kind leaves.Newline = kinds.Newline
 leaf_kind leaves.Pipe = kinds.Pipe
@@ -70,6 +74,57 @@ leaf_kind leaves.NamedText = kinds.NamedText
 leaf_kind (leaves.BuiltinText name) = kinds.BuiltinText
 leaf_kind (leaves.Hide starred) = kinds.Hide
 leaf_kind leaves.Star = kinds.Star
+
+-- the named text that a letter stands for
+abbrev pub builtin_word : BuiltinName → List ℕ
+builtin_word names.Assembler = 97 ∷ 115 ∷ 109 ∷ []
+builtin_word names.AssemblerFinal = 97 ∷ 115 ∷ 109 ∷ 95 ∷ 102 ∷ 105 ∷ 110 ∷ 97 ∷ 108 ∷ []
+builtin_word names.Linker = 108 ∷ 105 ∷ 110 ∷ 107 ∷ []
+builtin_word names.Libraries = 108 ∷ 105 ∷ 98 ∷ []
+builtin_word names.Support = 108 ∷ 105 ∷ 98 ∷ 103 ∷ 99 ∷ 99 ∷ []
+builtin_word names.StartFiles = 115 ∷ 116 ∷ 97 ∷ 114 ∷ 116 ∷ 102 ∷ 105 ∷ 108 ∷ 101 ∷ []
+builtin_word names.EndFiles = 101 ∷ 110 ∷ 100 ∷ 102 ∷ 105 ∷ 108 ∷ 101 ∷ []
+builtin_word names.Preprocessor = 99 ∷ 112 ∷ 112 ∷ []
+builtin_word names.Compiler = 99 ∷ 99 ∷ 49 ∷ []
+builtin_word names.CompilerPlus = 99 ∷ 99 ∷ 49 ∷ 112 ∷ 108 ∷ 117 ∷ 115 ∷ []
+
+-- the word of an item, where this word was being read
+abbrev pub taken_word : Taken → List ℕ → List ℕ
+taken_word takes.Nothing word = []
+taken_word takes.Word word = word
+taken_word takes.Object word = 46 ∷ 111 ∷ []
+
+-- the label of an item with this word
+abbrev pub leaf_label : Leaf → List ℕ → Label
+leaf_label (leaves.Plain b) word = word_label (b ∷ [])
+leaf_label (leaves.Escape b) word = word_label (b ∷ [])
+leaf_label (leaves.TempName kind) word = word_label word
+leaf_label leaves.AddOption word = word_label word
+leaf_label (leaves.Said kind) word = word_label word
+leaf_label leaves.NamedText word = word_label word
+leaf_label (leaves.BuiltinText name) word = word_label (builtin_word name)
+leaf_label (leaves.Hide starred) word = pattern_label (pattern word starred)
+leaf_label _ word = no_label
+
+-- the label of a pattern, and of a test, with this word
+abbrev pub behind_pattern : Behind → List ℕ → Label
+behind_pattern (behinds.Switch start end negated starred) word = pattern_label (pattern word starred)
+behind_pattern (behinds.Marked start end negated mark) word = pattern_label (pattern (mark ∷ word) false)
+behind_pattern (behinds.StarredMark start end negated mark) word = pattern_label (pattern (mark ∷ word) true)
+behind_pattern (behinds.Bare start end negated mark) word = pattern_label (pattern (mark ∷ []) false)
+
+abbrev pub mark_asks : ℕ → TestKind
+mark_asks mark = if mark == 46 then asking.Suffix else asking.Language
+
+abbrev pub behind_test : Behind → List ℕ → Label
+behind_test (behinds.Switch start end negated starred) word = record { word = word; starred = starred; negated = negated; asks = asking.Switch }
+behind_test (behinds.Marked start end negated mark) word = record { word = word; starred = false; negated = negated; asks = mark_asks mark }
+behind_test (behinds.StarredMark start end negated mark) word = record { word = word; starred = false; negated = negated; asks = mark_asks mark }
+behind_test (behinds.Bare start end negated mark) word = record { word = word; starred = false; negated = negated; asks = mark_asks mark }
+
+-- the label of a test of a function
+abbrev pub called_label : Bool → List ℕ → Label
+called_label negated name = record { word = name; starred = false; negated = negated; asks = asking.Result }
 
 abbrev pub part : Leaf → Taken → ℕ → ℕ → Part
 part leaf taken start end = record { leaf = leaf; taken = taken; start = start; end = end }
@@ -100,8 +155,8 @@ says lists.InArguments b = if b == 10 then false else true
 abbrev pub newline_leaf : Bool → Leaf
 newline_leaf in_arguments = if in_arguments then leaves.Blank else leaves.Newline
 
-abbrev pub bar_leaf : Bool → Leaf
-bar_leaf in_arguments = if in_arguments then leaves.Plain else leaves.Pipe
+abbrev pub bar_leaf : ℕ → Bool → Leaf
+bar_leaf b in_arguments = if in_arguments then leaves.Plain b else leaves.Pipe
 
 abbrev pub start_action : Context → ℕ → ℕ → ListAction
 start_action c n b =
@@ -110,8 +165,8 @@ start_action c n b =
     else if ends c.kind b then acts.Closes
     else if is_blank b then item leaves.Blank takes.Nothing n (n + 1)
     else if b == 10 then item (newline_leaf c.in_arguments) takes.Nothing n (n + 1)
-    else if b == 124 then item (bar_leaf c.in_arguments) takes.Byte n (n + 1)
-    else item leaves.Plain takes.Byte n (n + 1)
+    else if b == 124 then item (bar_leaf b c.in_arguments) takes.Nothing n (n + 1)
+    else item (leaves.Plain b) takes.Nothing n (n + 1)
 
 abbrev pub star_action : ℕ → ℕ → StarOwner → ListAction
 star_action at end owners.Nobody = acts.Refused (StarOutside at)
@@ -180,7 +235,7 @@ goes_of b =
 
 abbrev pub goes_action : Context → ℕ → ℕ → Goes → ListAction
 goes_action c at end goes.Nowhere = refused at
-goes_action c at end (goes.Whole leaf) = item leaf takes.Name at end
+goes_action c at end (goes.Whole leaf) = item leaf takes.Nothing at end
 goes_action c at end (goes.WithSuffix kind) = acts.Keeps (stages.SuffixStart at kind)
 goes_action c at end goes.WithOption = acts.Keeps (stages.OptionOpen at)
 goes_action c at end (goes.WithSaying kind) = acts.Clears (stages.SayingText at kind)
@@ -254,7 +309,7 @@ call_action at name b =
 -- in a list of items, where this word is being read: n is the place of the byte b
 abbrev pub list_turn : ListStage → Context → List ℕ → ℕ → ℕ → ListTurn
 list_turn stages.Start c word n b = does (start_action c n b)
-list_turn (stages.Backslash back) c word n b = does (item leaves.Escape takes.Byte back (n + 1))
+list_turn (stages.Backslash back) c word n b = does (item (leaves.Escape b) takes.Nothing back (n + 1))
 list_turn (stages.Percent at) c word n b = does (percent_action c at n b)
 list_turn (stages.SuffixStart at kind) c word n b = suffix_start c at kind n b
 list_turn (stages.SuffixRun at kind) c word n b = suffix_run c at kind n b

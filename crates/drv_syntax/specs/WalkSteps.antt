@@ -1,5 +1,6 @@
 use Rattle.drv_syntax.specs.Bytes.{is_space}
-use Rattle.drv_syntax.specs.Walk.{chooses, choice_action, emits, head_action, leaf_kind, list_turn}
+use Rattle.drv_syntax.specs.Labels.{Label, no_label, word_label}
+use Rattle.drv_syntax.specs.Walk.{behind_pattern, behind_test, called_label, chooses, choice_action, emits, head_action, leaf_kind, leaf_label, list_turn, taken_word}
 use Rattle.drv_syntax.specs.declared.fault.SyntaxFault.TheVariants.{BadDirective, EmptyTest, Unclosed}
 use Rattle.drv_syntax.specs.declared.fault.SyntaxFault.{SyntaxFault}
 use Rattle.drv_syntax.specs.declared.stage.Behind.TheVariants as behinds
@@ -32,6 +33,7 @@ use Rattle.drv_syntax.specs.declared.stage.Stage.{Stage}
 use Rattle.drv_syntax.specs.declared.stage.StarOwner.TheVariants as owners
 use Rattle.drv_syntax.specs.declared.stage.StarOwner.{StarOwner}
 use Rattle.drv_syntax.specs.declared.stage.Taken.TheVariants as takes
+use Rattle.drv_syntax.specs.declared.stage.Taken.{Taken}
 use Rattle.drv_syntax.specs.declared.token.Token.{Token}
 use Rattle.drv_syntax.specs.declared.token.TokenKind.TheVariants as kinds
 use Rattle.drv_syntax.specs.declared.token.TokenKind.{TokenKind}
@@ -45,6 +47,7 @@ pub record Walk : Type 0 where
   pub context : Context  -- of the innermost list
   pub waiting : List Frame  -- the directives that wait for the end of a list in them, innermost first
   pub tokens : List Token  -- those still open among them, with places to be filled in
+  pub labels : List Label  -- theirs
   pub word : List ℕ  -- what has been read of a word
   pub kept : ℕ  -- where the innermost list ends without its trailing white space
   pub trailing : ℕ  -- how many bytes of white space it ends in
@@ -58,6 +61,9 @@ next_open w start = record { token = length w.tokens; start = start }
 
 abbrev pub with_token : TokenKind → ℕ → Walk → Walk
 with_token kind start w = record w { tokens = w.tokens ++ open_token kind start ∷ [] }
+
+abbrev pub with_label : Label → Walk → Walk
+with_label label w = record w { labels = w.labels ++ label ∷ [] }
 
 -- a token without tokens inside it
 abbrev pub with_leaf : TokenKind → ℕ → ℕ → Walk → Walk
@@ -79,6 +85,7 @@ with_part p w =
       context = w.context;
       waiting = w.waiting;
       tokens = w.tokens ++ record { kind = leaf_kind p.leaf; start = p.start; end = p.end; next = length w.tokens + 1 } ∷ [];
+      labels = w.labels ++ leaf_label p.leaf (taken_word p.taken w.word) ∷ [];
       word = [];
       kept = if is_white p.leaf then w.kept else p.end;
       trailing = if is_white p.leaf then w.trailing + 1 else 0;
@@ -92,7 +99,7 @@ with_word word w = record w { word = word }
 
 -- behind an item that ends at this place, in a list with this context
 abbrev pub behind_item : Context → ℕ → Walk → Walk
-behind_item c end w = record { stage = at.List stages.Start; context = c; waiting = w.waiting; tokens = w.tokens; word = []; kept = end; trailing = 0 }
+behind_item c end w = record { stage = at.List stages.Start; context = c; waiting = w.waiting; tokens = w.tokens; labels = w.labels; word = []; kept = end; trailing = 0 }
 
 abbrev pub deeper_context : Context → Context
 deeper_context c = record { kind = c.kind; in_arguments = c.in_arguments; owner = c.owner; levels = c.levels - 1 }
@@ -112,14 +119,15 @@ brace_token braces.IntoArgumentsFile emitted = kinds.ArgumentsFile
 -- a list opens, in which a directive waits
 abbrev pub enter : Frame → Context → ℕ → Walk → Walk
 enter frame c kept w =
-    record { stage = at.List stages.Start; context = c; waiting = frame ∷ w.waiting; tokens = w.tokens; word = []; kept = kept; trailing = 0 }
+    record { stage = at.List stages.Start; context = c; waiting = frame ∷ w.waiting; tokens = w.tokens; labels = w.labels; word = []; kept = kept; trailing = 0 }
 
 abbrev pub open_braces : ℕ → BraceKind → Walk → Walk
 open_braces start kind w =
-    with_token (brace_token kind false) start (record w { stage = at.Choice (record { kind = kind; part = next_open w start }) false; word = [] })
+    with_label no_label (with_token (brace_token kind false) start (record w { stage = at.Choice (record { kind = kind; part = next_open w start }) false; word = [] }))
 
 abbrev pub open_call : ℕ → Walk → Walk
-open_call start w = with_token kinds.Function start (enter (frames.Call w.context (next_open w start)) (arguments_context w.context) 0 w)
+open_call start w =
+    with_label (word_label w.word) (with_token kinds.Function start (enter (frames.Call w.context (next_open w start)) (arguments_context w.context) 0 w))
 
 -- the alternative of the tests so far, which begins here if there are none
 abbrev pub alternative_of : Form → ℕ → Walk → Open
@@ -128,10 +136,13 @@ alternative_of forms.Patterns start w = next_open w start
 alternative_of forms.Later start w = next_open w start
 alternative_of (forms.Tests part starred) start w = part
 
+abbrev pub open_alternative : ℕ → Walk → Walk
+open_alternative start w = with_label no_label (with_token kinds.Alternative start w)
+
 abbrev pub with_alternative : Form → ℕ → Walk → Walk
-with_alternative forms.Fresh start w = with_token kinds.Alternative start w
-with_alternative forms.Patterns start w = with_token kinds.Alternative start w
-with_alternative forms.Later start w = with_token kinds.Alternative start w
+with_alternative forms.Fresh start w = open_alternative start w
+with_alternative forms.Patterns start w = open_alternative start w
+with_alternative forms.Later start w = open_alternative start w
 with_alternative (forms.Tests part starred) start w = w
 
 abbrev pub stars : Form → Bool
@@ -140,12 +151,13 @@ stars forms.Patterns = true
 stars forms.Later = true
 stars (forms.Tests part starred) = starred
 
-abbrev pub enter_test : Head → Open → Bool → ℕ → Walk → Walk
-enter_test head part chosen start w =
-    with_token kinds.Test start (enter (frames.Test w.context head part (next_open w start) chosen) (arguments_context (deeper_context w.context)) 0 w)
+abbrev pub enter_test : Head → Open → Bool → ℕ → Bool → Walk → Walk
+enter_test head part chosen start negated w =
+    with_label (called_label negated w.word)
+    (with_token kinds.Test start (enter (frames.Test w.context head part (next_open w start) chosen) (arguments_context (deeper_context w.context)) 0 w))
 
-abbrev pub open_test : Head → Form → ℕ → Walk → Walk
-open_test head form start w = enter_test head (alternative_of form start w) (chooses form) start (with_alternative form start w)
+abbrev pub open_test : Head → Form → ℕ → Bool → Walk → Walk
+open_test head form start negated w = enter_test head (alternative_of form start w) (chooses form) start negated (with_alternative form start w)
 
 -- what stands behind a test
 abbrev pub first_of : Behind → ℕ
@@ -187,10 +199,11 @@ untested at (behinds.StarredMark start end negated mark) = BadDirective at
 untested at (behinds.Bare start end negated mark) = EmptyTest at
 
 abbrev pub with_pattern : Behind → Walk → Walk
-with_pattern behind w = with_leaf kinds.Pattern (first_of behind) (last_of behind) w
+with_pattern behind w = with_label (behind_pattern behind w.word) (with_leaf kinds.Pattern (first_of behind) (last_of behind) w)
 
 abbrev pub with_test : Form → Behind → Walk → Walk
-with_test form behind w = with_leaf kinds.Test (first_of behind) (last_of behind) (with_alternative form (first_of behind) w)
+with_test form behind w =
+    with_label (behind_test behind w.word) (with_leaf kinds.Test (first_of behind) (last_of behind) (with_alternative form (first_of behind) w))
 
 -- at the braces' end
 abbrev pub close_braces : Head → Bool → ℕ → Context → Walk → Walk
@@ -226,7 +239,7 @@ act_head head form (heads.Keeps stage) n b w = Ok (at_stage (at.Braces head form
 act_head head form (heads.Clears stage) n b w = Ok (at_stage (at.Braces head form stage) (with_word [] w))
 act_head head form (heads.Begins stage) n b w = Ok (at_stage (at.Braces head form stage) (with_word (b ∷ []) w))
 act_head head form (heads.Adds stage) n b w = Ok (at_stage (at.Braces head form stage) (with_word (w.word ++ b ∷ []) w))
-act_head head form (heads.OpensTest start negated) n b w = Ok (open_test head form start w)
+act_head head form (heads.OpensTest start negated) n b w = Ok (open_test head form start negated w)
 act_head head form (heads.Ends behind) n b w = act_ends head form behind n w
 act_head head form (heads.Joins behind) n b w = act_joins head form behind w
 act_head head form (heads.Asks behind) n b w = act_asks head form behind n w
@@ -235,7 +248,7 @@ act_head head form (heads.Refused fault) n b w = Err fault
 
 -- the innermost list ends with the byte b at the place n
 abbrev pub trim : Walk → Walk
-trim w = record w { tokens = take (length w.tokens - w.trailing) w.tokens }
+trim w = record w { tokens = take (length w.tokens - w.trailing) w.tokens; labels = take (length w.labels - w.trailing) w.labels }
 
 abbrev pub close_x : Context → Head → Bool → ℕ → ℕ → Walk → Result Walk SyntaxFault
 close_x c head tested n b w =
@@ -262,7 +275,7 @@ form_at true = forms.Later
 
 abbrev pub act_choice : Head → Bool → ChoiceAction → ℕ → ℕ → Walk → Result Walk SyntaxFault
 act_choice head later choices.Stays n b w = Ok w
-act_choice head later choices.Defaults n b w = Ok (ask head (next_open w n) false false n (with_token kinds.Alternative n w))
+act_choice head later choices.Defaults n b w = Ok (ask head (next_open w n) false false n (open_alternative n w))
 act_choice head later (choices.Begins action) n b w = act_head head (form_at later) action n b w
 
 abbrev pub act_list : ListAction → ℕ → ℕ → Walk → Result Walk SyntaxFault
@@ -312,25 +325,25 @@ abbrev pub outermost : Frame → List Frame → ℕ
 outermost f [] = place_of f
 outermost f (g ∷ fs) = outermost g fs
 
-abbrev pub end_part : Leaf → ℕ → ℕ → Walk → Result Walk SyntaxFault
-end_part leaf start end w = Ok (with_part (record { leaf = leaf; taken = takes.Word; start = start; end = end }) w)
+abbrev pub end_part : Leaf → Taken → ℕ → ℕ → Walk → Result Walk SyntaxFault
+end_part leaf taken start end w = Ok (with_part (record { leaf = leaf; taken = taken; start = start; end = end }) w)
 
 -- where the text ends, of this size, and no directive waits
 abbrev pub finish_list : ListStage → ℕ → Walk → Result Walk SyntaxFault
 finish_list stages.Start n w = Ok w
 finish_list (stages.Backslash back) n w = Err (Unclosed back)
 finish_list (stages.Percent start) n w = Err (Unclosed start)
-finish_list (stages.SuffixStart start kind) n w = end_part (leaves.TempName kind) start n w
-finish_list (stages.SuffixRun start kind) n w = end_part (leaves.TempName kind) start n w
+finish_list (stages.SuffixStart start kind) n w = end_part (leaves.TempName kind) takes.Nothing start n w
+finish_list (stages.SuffixRun start kind) n w = end_part (leaves.TempName kind) takes.Word start n w
 finish_list (stages.SuffixPercent start kind percent) n w = Err (Unclosed percent)
 finish_list (stages.OptionOpen start) n w = Err (Unclosed start)
 finish_list (stages.OptionText start) n w = Err (Unclosed start)
 finish_list (stages.OptionEscape start) n w = Err (Unclosed start)
-finish_list (stages.SayingText start kind) n w = end_part (leaves.Said kind) start n w
+finish_list (stages.SayingText start kind) n w = end_part (leaves.Said kind) takes.Word start n w
 finish_list (stages.SayingEscape start kind back) n w = Err (Unclosed back)
 finish_list (stages.NameText start) n w = Err (Unclosed start)
 finish_list (stages.HideStart start) n w = Err (Unclosed start)
-finish_list (stages.HideWord start) n w = end_part (leaves.Hide false) start n w
+finish_list (stages.HideWord start) n w = end_part (leaves.Hide false) takes.Word start n w
 finish_list (stages.HideEscape start) n w = Err (Unclosed start)
 finish_list (stages.FunctionName start) n w = Err (Unclosed start)
 finish_list (stages.BraceOpen start kind) n w = Err (Unclosed start)
@@ -355,6 +368,7 @@ started =
       context = record { kind = lists.Top; in_arguments = false; owner = owners.Nobody; levels = 64 };
       waiting = [];
       tokens = [];
+      labels = [];
       word = [];
       kept = 0;
       trailing = 0;

@@ -1,12 +1,16 @@
 //! Parts that open and end in the state in which a text is read.
 
 ghost use Rattle.drv_syntax.specs.WalkSteps as steps;
-ghost use Rattle.drv_syntax.specs.WalkState.{Fits, Gives, state};
+ghost use Rattle.drv_syntax.specs.WalkState.{Fits, state};
+ghost use Rattle.drv_words.specs.Gives.{Gives};
 ghost use Rattle.std.specs.Prelude.{◌≡◌, ◌<◌, ◌≤◌, ◌^◌, ◌+◌, length, OnOk, Ok};
 
 use crate::fault::SyntaxFault;
 use crate::head_turns::chooses;
 use crate::list_turns::leaf_kind;
+use crate::naming::{
+    name_call, name_leaf, name_nothing, name_pattern, name_test, name_word, taken_word,
+};
 use crate::stage::{
     Behind, BraceKind, Context, Form, Frame, Head, Leaf, ListKind, ListStage, Open, Part, Stage,
     StarOwner,
@@ -90,6 +94,7 @@ pub fn with_part(p: Part, w: &mut Walk) -> Result<(), SyntaxFault>
     ensures trail { OnOk result (w.new.trailing ≤ w.old.trailing + 1) }
 {
     with_leaf(leaf_kind(p.leaf), p.start, p.end, w)?;
+    name_leaf(p.leaf, taken_word(p.taken, &w.word), &mut w.labels)?;
     w.stage = Stage::List(ListStage::Start);
     w.word.clear();
     if is_white(p.leaf) {
@@ -180,6 +185,7 @@ pub fn open_braces(start: u32, kind: BraceKind, w: &mut Walk) -> Result<(), Synt
         part: next_open(w, start),
     };
     with_token(brace_token(kind, false), start, w)?;
+    name_nothing(&mut w.labels)?;
     w.stage = Stage::Choice(head, false);
     w.word.clear();
     Ok(())
@@ -192,6 +198,7 @@ pub fn open_call(start: u32, w: &mut Walk) -> Result<(), SyntaxFault>
     ensures fits { OnOk result (Fits w.old w.new) }
 {
     let part = next_open(w, start);
+    name_word(&w.word, &mut w.labels)?;
     enter(
         Frame::Call(w.context, part),
         arguments_context(w.context),
@@ -212,6 +219,16 @@ pub fn alternative_of(form: Form, start: u32, w: &Walk) -> Open
     }
 }
 
+/// An alternative opens.
+pub fn open_alternative(start: u32, w: &mut Walk) -> Result<(), SyntaxFault>
+    ensures does { Gives SyntaxFault.Memory (λ _. state w.new) result (Ok (steps.open_alternative start (state w.old))) }
+    ensures size { OnOk result (length w.new.tokens.items ≤ length w.old.tokens.items + 1) }
+    ensures trail { OnOk result (w.new.trailing ≤ w.old.trailing) }
+{
+    with_token(TokenKind::Alternative, start, w)?;
+    name_nothing(&mut w.labels)
+}
+
 fn with_alternative(form: Form, start: u32, w: &mut Walk) -> Result<(), SyntaxFault>
     ensures does { Gives SyntaxFault.Memory (λ _. state w.new) result (Ok (steps.with_alternative form start (state w.old))) }
     ensures size { OnOk result (length w.new.tokens.items ≤ length w.old.tokens.items + 1) }
@@ -219,7 +236,7 @@ fn with_alternative(form: Form, start: u32, w: &mut Walk) -> Result<(), SyntaxFa
 {
     match form {
         Form::Tests(_, _) => Ok(()),
-        Form::Fresh | Form::Patterns | Form::Later => with_token(TokenKind::Alternative, start, w),
+        Form::Fresh | Form::Patterns | Form::Later => open_alternative(start, w),
     }
 }
 
@@ -233,15 +250,22 @@ pub fn stars(form: Form) -> bool
     }
 }
 
-/// A function's arguments open in a test.
-pub fn open_test(head: Head, form: Form, start: u32, w: &mut Walk) -> Result<(), SyntaxFault>
+/// A function's arguments open in a test, with a `!` or without.
+pub fn open_test(
+    head: Head,
+    form: Form,
+    start: u32,
+    negated: bool,
+    w: &mut Walk,
+) -> Result<(), SyntaxFault>
     requires room { length w.old.tokens.items < 2 ^ 31 }
-    ensures does { Gives SyntaxFault.Memory (λ _. state w.new) result (Ok (steps.open_test head form start (state w.old))) }
+    ensures does { Gives SyntaxFault.Memory (λ _. state w.new) result (Ok (steps.open_test head form start negated (state w.old))) }
     ensures fits { OnOk result (Fits w.old w.new) }
 {
     let alternative = alternative_of(form, start, w);
     with_alternative(form, start, w)?;
     let part = next_open(w, start);
+    name_call(negated, &w.word, &mut w.labels)?;
     let context = arguments_context(deeper_context(w.context));
     enter(
         Frame::Test(w.context, head, alternative, part, chooses(form)),
@@ -324,7 +348,8 @@ pub fn with_pattern(behind: Behind, w: &mut Walk) -> Result<(), SyntaxFault>
     ensures size { OnOk result (length w.new.tokens.items ≤ length w.old.tokens.items + 1) }
     ensures trail { OnOk result (w.new.trailing ≤ w.old.trailing) }
 {
-    with_leaf(TokenKind::Pattern, first_of(behind), last_of(behind), w)
+    with_leaf(TokenKind::Pattern, first_of(behind), last_of(behind), w)?;
+    name_pattern(behind, &w.word, &mut w.labels)
 }
 
 /// The test, in its alternative.
@@ -335,7 +360,8 @@ pub fn with_test(form: Form, behind: Behind, w: &mut Walk) -> Result<(), SyntaxF
     ensures trail { OnOk result (w.new.trailing ≤ w.old.trailing) }
 {
     with_alternative(form, first_of(behind), w)?;
-    with_leaf(TokenKind::Test, first_of(behind), last_of(behind), w)
+    with_leaf(TokenKind::Test, first_of(behind), last_of(behind), w)?;
+    name_test(behind, &w.word, &mut w.labels)
 }
 
 /// The braces end here.

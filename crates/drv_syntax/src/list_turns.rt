@@ -16,8 +16,8 @@ pub fn leaf_kind(leaf: Leaf) -> TokenKind
     ensures { result ≡ walk.leaf_kind leaf }
 {
     match leaf {
-        Leaf::Plain => TokenKind::Plain,
-        Leaf::Escape => TokenKind::Escape,
+        Leaf::Plain(_) => TokenKind::Plain,
+        Leaf::Escape(_) => TokenKind::Escape,
         Leaf::Blank => TokenKind::Blank,
         Leaf::Newline => TokenKind::Newline,
         Leaf::Pipe => TokenKind::Pipe,
@@ -124,12 +124,12 @@ fn start_action(c: Context, n: u32, b: u8) -> ListAction
         }
     } else if b == b'|' {
         if c.in_arguments {
-            item(Leaf::Plain, Taken::Byte, n, n + 1)
+            item(Leaf::Plain(b), Taken::Nothing, n, n + 1)
         } else {
-            item(Leaf::Pipe, Taken::Byte, n, n + 1)
+            item(Leaf::Pipe, Taken::Nothing, n, n + 1)
         }
     } else {
-        item(Leaf::Plain, Taken::Byte, n, n + 1)
+        item(Leaf::Plain(b), Taken::Nothing, n, n + 1)
     }
 }
 
@@ -264,7 +264,7 @@ fn goes_action(c: Context, at: u32, end: u32, goes: Goes) -> ListAction
 {
     match goes {
         Goes::Nowhere => refused(at),
-        Goes::Whole(leaf) => item(leaf, Taken::Name, at, end),
+        Goes::Whole(leaf) => item(leaf, Taken::Nothing, at, end),
         Goes::WithSuffix(kind) => ListAction::Keeps(ListStage::SuffixStart(at, kind)),
         Goes::WithOption => ListAction::Keeps(ListStage::OptionOpen(at)),
         Goes::WithSaying(kind) => ListAction::Clears(ListStage::SayingText(at, kind)),
@@ -473,7 +473,7 @@ pub fn list_turn(stage: ListStage, c: Context, word: &[u8], n: u32, b: u8) -> Li
 {
     match stage {
         ListStage::Start => does(start_action(c, n, b)),
-        ListStage::Backslash(back) => does(item(Leaf::Escape, Taken::Byte, back, n + 1)),
+        ListStage::Backslash(back) => does(item(Leaf::Escape(b), Taken::Nothing, back, n + 1)),
         ListStage::Percent(at) => does(percent_action(c, at, n, b)),
         ListStage::SuffixStart(at, kind) => suffix_start(c, at, kind, n, b),
         ListStage::SuffixRun(at, kind) => suffix_run(c, at, kind, n, b),

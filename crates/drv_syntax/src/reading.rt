@@ -1,26 +1,28 @@
-//! The tokens of a whole text, or its fault.
+//! The tokens of a whole text and their labels, or its fault.
 
 ghost use Rattle.drv_syntax.specs.WalkSteps as steps;
-ghost use Rattle.drv_syntax.specs.WalkState.{Gives, state, tokens_in};
+ghost use Rattle.drv_syntax.specs.WalkState.{parts_in, state};
+ghost use Rattle.drv_words.specs.Gives.{Gives};
 ghost use Rattle.std.specs.Prelude.{◌≡◌, ◌<◌, ◌≤◌, ◌^◌, ◌+◌, length, OnOk, Ok, reverse};
 
 use crate::edits::with_part;
 use crate::fault::SyntaxFault;
+use crate::labels::Labels;
 use crate::stage::{Context, Frame, Leaf, ListKind, ListStage, Part, Stage, StarOwner, Taken};
 use crate::steps::step;
 use crate::token::Token;
 use crate::walk::Walk;
 use std::alloc::Global;
 
-fn end_part(leaf: Leaf, start: u32, end: u32, w: &mut Walk) -> Result<(), SyntaxFault>
+fn end_part(leaf: Leaf, taken: Taken, start: u32, end: u32, w: &mut Walk) -> Result<(), SyntaxFault>
     requires room { length w.old.tokens.items < 2 ^ 30 }
     requires trail { w.old.trailing < 2 ^ 30 }
-    ensures { Gives SyntaxFault.Memory (λ _. state w.new) result (steps.end_part leaf start end (state w.old)) }
+    ensures { Gives SyntaxFault.Memory (λ _. state w.new) result (steps.end_part leaf taken start end (state w.old)) }
 {
     with_part(
         Part {
             leaf,
-            taken: Taken::Word,
+            taken,
             start,
             end,
         },
@@ -43,17 +45,23 @@ fn finish_list(stage: ListStage, n: u32, w: &mut Walk) -> Result<(), SyntaxFault
         ListStage::Start => Ok(()),
         ListStage::Backslash(back) => unclosed(back),
         ListStage::Percent(at) => unclosed(at),
-        ListStage::SuffixStart(at, kind) => end_part(Leaf::TempName(kind), at, n, w),
-        ListStage::SuffixRun(at, kind) => end_part(Leaf::TempName(kind), at, n, w),
+        ListStage::SuffixStart(at, kind) => end_part(
+            Leaf::TempName(kind),
+            Taken::Nothing,
+            at,
+            n,
+            w,
+        ),
+        ListStage::SuffixRun(at, kind) => end_part(Leaf::TempName(kind), Taken::Word, at, n, w),
         ListStage::SuffixPercent(_, _, percent) => unclosed(percent),
         ListStage::OptionOpen(at) => unclosed(at),
         ListStage::OptionText(at) => unclosed(at),
         ListStage::OptionEscape(at) => unclosed(at),
-        ListStage::SayingText(at, kind) => end_part(Leaf::Said(kind), at, n, w),
+        ListStage::SayingText(at, kind) => end_part(Leaf::Said(kind), Taken::Word, at, n, w),
         ListStage::SayingEscape(_, _, back) => unclosed(back),
         ListStage::NameText(at) => unclosed(at),
         ListStage::HideStart(at) => unclosed(at),
-        ListStage::HideWord(at) => end_part(Leaf::Hide(false), at, n, w),
+        ListStage::HideWord(at) => end_part(Leaf::Hide(false), Taken::Word, at, n, w),
         ListStage::HideEscape(at) => unclosed(at),
         ListStage::FunctionName(at) => unclosed(at),
         ListStage::BraceOpen(at, _) => unclosed(at),
@@ -101,21 +109,22 @@ fn started(alloc: Global, size: usize) -> Result<Walk, SyntaxFault>
         },
         waiting: Vec::new(alloc),
         tokens: Vec::with_capacity(alloc, size)?,
+        labels: Labels::with_capacity(alloc, size)?,
         word: Vec::new(alloc),
         kept: 0,
         trailing: 0,
     })
 }
 
-/// The tokens of a text.
-pub fn read_tokens(alloc: Global, text: &[u8]) -> Result<Vec<Token>, SyntaxFault>
+/// The tokens of a text, and their labels.
+pub fn read_parts(alloc: Global, text: &[u8]) -> Result<(Vec<Token>, Labels), SyntaxFault>
     requires { length text.now ≤ 1048576 }
-    ensures { Gives SyntaxFault.Memory (λ v. v.items) result (tokens_in (steps.walk steps.started 0 text.now)) }
+    ensures { Gives SyntaxFault.Memory (λ v. (v.0.items, v.1)) result (parts_in (steps.walk steps.started 0 text.now)) }
 {
     let mut w = started(alloc, text.len())?;
     for (n, b) in text.iter().enumerate() {
         step(n as u32, *b, &mut w)?;
     }
     finish(text.len() as u32, &mut w)?;
-    Ok(w.tokens)
+    Ok((w.tokens, w.labels))
 }

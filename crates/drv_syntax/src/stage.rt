@@ -86,10 +86,10 @@ pub enum BuiltinName {
 /// An item without parts inside it.
 #[derive(Clone, Copy)]
 pub enum Leaf {
-    /// A byte that stands for itself.
-    Plain,
-    /// A backslash and a byte.
-    Escape,
+    /// This byte, which stands for itself.
+    Plain(u8),
+    /// A backslash and this byte.
+    Escape(u8),
     /// A space or a tab, or a newline in arguments.
     Blank,
     /// The end of a command.
@@ -147,14 +147,10 @@ pub enum Leaf {
 pub enum Taken {
     /// None.
     Nothing,
-    /// The byte that was just read.
-    Byte,
     /// The word that was being read.
     Word,
     /// The suffix of an object file.
     Object,
-    /// The name of a text that the letter stands for.
-    Name,
 }
 
 /// An item without parts inside it, its word and its places.

@@ -1,14 +1,15 @@
 //! What each byte makes of the state in which a text is read.
 
 ghost use Rattle.drv_syntax.specs.WalkSteps as steps;
-ghost use Rattle.drv_syntax.specs.WalkState.{Fits, Gives, state};
+ghost use Rattle.drv_syntax.specs.WalkState.{Fits, state};
+ghost use Rattle.drv_words.specs.Gives.{Gives};
 ghost use Rattle.std.specs.Prelude.{◌≡◌, ◌<◌, ◌≤◌, ◌^◌, ◌+◌, length, OnOk, Ok};
 
 use crate::bytes::is_space;
 use crate::edits::{
     alternative_of, ask, behind_item, close_braces, close_token, first_of, negates, next_open,
-    open_braces, open_call, open_test, starred_of, stars, tests, untested, with_part, with_pattern,
-    with_test, with_token,
+    open_alternative, open_braces, open_call, open_test, starred_of, stars, tests, untested,
+    with_part, with_pattern, with_test,
 };
 use crate::fault::SyntaxFault;
 use crate::head_turns::{choice_action, chooses, emits, head_action};
@@ -120,7 +121,7 @@ fn act_head(
             w.word.push(b)?;
             Ok(())
         }
-        HeadAction::OpensTest(start, _) => open_test(head, form, start, w),
+        HeadAction::OpensTest(start, negated) => open_test(head, form, start, negated, w),
         HeadAction::Ends(behind) => act_ends(head, form, behind, n, w),
         HeadAction::Joins(behind) => act_joins(head, form, behind, w),
         HeadAction::Asks(behind) => act_asks(head, form, behind, n, w),
@@ -152,7 +153,7 @@ fn act_choice(
         ChoiceAction::Stays => Ok(()),
         ChoiceAction::Defaults => {
             let part = next_open(w, n);
-            with_token(TokenKind::Alternative, n, w)?;
+            open_alternative(n, w)?;
             ask(head, part, false, false, n, w)
         }
         ChoiceAction::Begins(action) => act_head(head, form_at(later), action, n, b, w),
@@ -166,6 +167,8 @@ fn trim(w: &mut Walk)
 {
     let left = w.tokens.len().saturating_sub(w.trailing as usize);
     w.tokens.truncate(left);
+    let left = w.labels.len().saturating_sub(w.trailing as usize);
+    w.labels.truncate(left);
 }
 
 fn close_x(

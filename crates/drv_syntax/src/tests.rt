@@ -1,6 +1,7 @@
 //! Texts with what they give, worked out by hand from the rules of the grammar.
 
 use crate::fault::SyntaxFault;
+use crate::token::TestKind;
 use crate::tree::{SpecTree, parse};
 use std::alloc::{AllocError, Global};
 use std::test::Fail;
@@ -323,6 +324,56 @@ fn tokens_of_braces(rt: HostRuntime) -> Result<(), Fail> {
         assert_eq!(rt; token.next, *next);
     }
     assert_eq!(rt; tree.text(), b"%{a:x}".as_slice());
+    Ok(())
+}
+
+/// A text, the place of one of its parts, and the label of this part.
+const NAMED: [(&str, usize, &str, bool, bool, &str); 24] = [
+    ("a", 0, "a", false, false, "switch"),
+    ("\\%", 0, "%", false, false, "switch"),
+    ("%a%A", 1, "asm_final", false, false, "switch"),
+    ("%(cc1)", 0, "cc1", false, false, "switch"),
+    ("%g%O", 0, ".o", false, false, "switch"),
+    ("%u.s", 0, ".s", false, false, "switch"),
+    ("%g x", 0, "", false, false, "switch"),
+    ("%x{a\\}b}", 0, "a}b", false, false, "switch"),
+    ("%eno\\\\", 0, "no\\", false, false, "switch"),
+    ("%<f*", 0, "f", true, false, "switch"),
+    ("%<\\**", 0, "*", true, false, "switch"),
+    ("%:getenv(x)", 0, "getenv", false, false, "switch"),
+    ("%{I*}", 0, "", false, false, "switch"),
+    ("%{I*}", 1, "I", true, false, "switch"),
+    ("%{.c*&,}", 1, ".c", true, false, "switch"),
+    ("%{.c*&,}", 2, ",", false, false, "switch"),
+    ("%{!S|a*:x}", 1, "", false, false, "switch"),
+    ("%{!S|a*:x}", 2, "S", false, true, "switch"),
+    ("%{!S|a*:x}", 3, "a", true, false, "switch"),
+    ("%{!.c|,d:x}", 2, "c", false, true, "suffix"),
+    ("%{!.c|,d:x}", 3, "d", false, false, "language"),
+    ("%{!%:getenv(H):x}", 2, "getenv", false, true, "result"),
+    ("%{!%:getenv(H):x}", 3, "H", false, false, "switch"),
+    ("%{a: ;b:x}", 4, "b", false, false, "switch"),
+];
+
+fn asked(kind: TestKind) -> &'static str {
+    match kind {
+        TestKind::Switch => "switch",
+        TestKind::Suffix => "suffix",
+        TestKind::Language => "language",
+        TestKind::Result => "result",
+    }
+}
+
+#[test]
+fn labels_of_parts(rt: HostRuntime) -> Result<(), Fail> {
+    for (text, place, word, starred, negated, asks) in NAMED {
+        let tree = parse(rt.alloc(), text.as_bytes())?;
+        assert!(rt; place < tree.tokens().len(), "{text}");
+        assert_eq!(rt; tree.word(place), word.as_bytes(), "{text} at {place}");
+        assert_eq!(rt; tree.starred(place), starred, "{text} at {place}");
+        assert_eq!(rt; tree.negated(place), negated, "{text} at {place}");
+        assert_eq!(rt; asked(tree.asks(place)), asks, "{text} at {place}");
+    }
     Ok(())
 }
 

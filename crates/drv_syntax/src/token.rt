@@ -15,6 +15,19 @@ pub enum TempKind {
     PipedIn,
 }
 
+/// What a test asks.
+#[derive(Clone, Copy, Debug)]
+pub enum TestKind {
+    /// A switch: `PATTERN`.
+    Switch,
+    /// The suffix of the input: `.WORD`.
+    Suffix,
+    /// The language of the input: `,WORD`.
+    Language,
+    /// The result of a function: `%:NAME(ARGUMENTS)`.
+    Result,
+}
+
 /// What a part of a spec text is.
 #[derive(Clone, Copy, Debug)]
 pub enum TokenKind {

@@ -1,22 +1,25 @@
 //! A spec text that has a tree.
 
+ghost use Rattle.drv_syntax.specs.Labels.{label_at, labels_of};
 ghost use Rattle.drv_syntax.specs.Outcome.{parsed};
 ghost use Rattle.drv_syntax.specs.Parsed.{tree_of};
 ghost use Rattle.drv_syntax.specs.Tokens.{tokens_of};
-ghost use Rattle.drv_syntax.specs.WalkState.{Gives};
-ghost use Rattle.std.specs.Prelude.{◌≡◌, IfOk};
+ghost use Rattle.drv_words.specs.Gives.{Gives};
+ghost use Rattle.std.specs.Prelude.{◌≡◌, ◌<◌, IfOk, length};
 
 use crate::fault::SyntaxFault;
-use crate::reading::read_tokens;
-use crate::token::Token;
+use crate::labels::Labels;
+use crate::reading::read_parts;
+use crate::token::{TestKind, Token};
 use std::alloc::Global;
 use std::marker::Model;
 
-/// A spec text that has a tree, and the list of its parts. Clauses see the text; its tree is `tree_of` it.
+/// A spec text that has a tree, the list of its parts and what they name. Clauses see the text; its tree is `tree_of` it.
 #[derive(Drop)]
 pub struct SpecTree {
     text: Vec<u8>,
     tokens: Vec<Token>,
+    labels: Labels,
 }
 
 impl Model for SpecTree {
@@ -28,7 +31,7 @@ impl Model for SpecTree {
 
     ghost view = { λ t. t.text.items };
 
-    ghost invariant = { λ t. listed (parsed t.text.items) ≡ Ok t.tokens.items };
+    ghost invariant = { λ t. listed (parsed t.text.items) ≡ Ok (t.tokens.items, t.labels) };
 }
 
 impl SpecTree {
@@ -46,10 +49,50 @@ impl SpecTree {
     {
         self.tokens.as_slice()
     }
+
+    #[tactic(auto, using(crate::proofs::WalkNames::listed_labels))]
+    fn labels(&self) -> &Labels
+        ensures { result.now ≡ labels_of (tree_of self.now) }
+    {
+        &self.labels
+    }
+
+    /// What the part at this place names, without escapes: a byte, a suffix, an option, a text, a name, or the word of a
+    /// pattern or a test; empty for other parts.
+    pub fn word(&self, place: usize) -> &[u8]
+        requires { place < length (tokens_of (tree_of self.now)) }
+        ensures { result.now ≡ (label_at (tree_of self.now) place).word }
+    {
+        self.labels().word(place)
+    }
+
+    /// Whether a star stands behind the word of the part at this place.
+    pub fn starred(&self, place: usize) -> bool
+        requires { place < length (tokens_of (tree_of self.now)) }
+        ensures { result ≡ (label_at (tree_of self.now) place).starred }
+    {
+        self.labels().starred(place)
+    }
+
+    /// Whether a `!` stands before the test at this place.
+    pub fn negated(&self, place: usize) -> bool
+        requires { place < length (tokens_of (tree_of self.now)) }
+        ensures { result ≡ (label_at (tree_of self.now) place).negated }
+    {
+        self.labels().negated(place)
+    }
+
+    /// What the test at this place asks.
+    pub fn asks(&self, place: usize) -> TestKind
+        requires { place < length (tokens_of (tree_of self.now)) }
+        ensures { result ≡ (label_at (tree_of self.now) place).asks }
+    {
+        self.labels().asks(place)
+    }
 }
 
 /// The tree of a text, or its first fault.
-#[tactic(auto, using(crate::proofs::WalkShows::parsed_long, crate::proofs::WalkShows::given_tokens, crate::proofs::WalkShows::given_tree, crate::proofs::WalkShows::given_fault))]
+#[tactic(auto, using(crate::proofs::WalkReads::parsed_long, crate::proofs::WalkReads::given_parts, crate::proofs::WalkReads::given_tree, crate::proofs::WalkReads::given_fault))]
 pub fn parse(alloc: Global, text: &[u8]) -> Result<SpecTree, SyntaxFault>
     ensures tree { Gives SyntaxFault.Memory tree_of result (parsed text.now) }
     ensures text { IfOk result (λ t. t ≡ text.now) }
@@ -57,7 +100,11 @@ pub fn parse(alloc: Global, text: &[u8]) -> Result<SpecTree, SyntaxFault>
     if text.len() > 1_048_576 {
         return Err(SyntaxFault::TextTooLong);
     }
-    let tokens = read_tokens(alloc, text)?;
+    let (tokens, labels) = read_parts(alloc, text)?;
     let text = Vec::from_slice(alloc, text)?;
-    Ok(SpecTree { text, tokens })
+    Ok(SpecTree {
+        text,
+        tokens,
+        labels,
+    })
 }

@@ -1,5 +1,6 @@
 //! The state in which a text is read.
 
+use crate::labels::Labels;
 use crate::stage::{Context, Frame, Stage};
 use crate::token::Token;
 
@@ -14,6 +15,8 @@ pub struct Walk {
     pub waiting: Vec<Frame>,
     /// The tokens, with those that are still open.
     pub tokens: Vec<Token>,
+    /// Their labels.
+    pub labels: Labels,
     /// What has been read of a word.
     pub word: Vec<u8>,
     /// Where the innermost list ends without its trailing white space.

@@ -1,7 +1,7 @@
 use Rattle.std.proofs.Common.{◌≡◌, ◌≤◌, ◌*◌, length, drop}
 use Rattle.drv_syntax.specs.WalkSteps as steps
 use Rattle.drv_syntax.specs.WalkState.{state}
-use Rattle.drv_syntax.proofs.reading.read_tokens.Given as goal
+use Rattle.drv_syntax.proofs.reading.read_parts.Given as goal
 
 abbrev pub invariant-loop-n : goal.invariant-loop-n
 invariant-loop-n l =

@@ -1,0 +1,87 @@
+use Rattle.drv_syntax.specs.Labels.{Label}
+use Rattle.drv_syntax.specs.Marks.{Within, marked_label, marked_labels}
+use Rattle.drv_syntax.specs.declared.labels.Mark.{Mark}
+use Rattle.drv_syntax.specs.declared.token.TestKind.{TestKind}
+use Rattle.std.proofs.Common.{◌≡◌, ℕ, ◌-◌, ◌<◌, ◌≤◌, Bool, List, [], ◌∷◌, ◌++◌, length, take, drop, get_or, refl, subst, suc, sym, zero, ap, ◌∙◌, arith, append_assoc, length-append}
+use Rattle.std.proofs.Math.Seq.{drop-append_seam, take-length}
+use Rattle.std.proofs.lemmas.List.{drop-append-le, length-drop, length-map, map-append, take-append-le, take-map}
+
+-- Labels whose words stand one behind another.
+
+pub within_more : (n m : ℕ) (marks : List Mark) → n ≤ m → Within n marks → Within m marks
+within_more n m [] h w = tt
+within_more n m (x ∷ marks) h w = ((w.0.0, omega arith), within_more n m marks h w.1)
+
+pub within_push : (n : ℕ) (marks : List Mark) (m : Mark) → Within n marks → m.start ≤ m.end → m.end ≤ n → Within n (marks ++ m ∷ [])
+within_push n [] m w a b = ((a, b), tt)
+within_push n (x ∷ marks) m w a b = (w.0, within_push n marks m w.1 a b)
+
+pub within_take : (n k : ℕ) (marks : List Mark) → Within n marks → Within n (take k marks)
+within_take n zero marks w = tt
+within_take n (suc k) [] w = tt
+within_take n (suc k) (x ∷ marks) w = (w.0, within_take n k marks w.1)
+
+within_get : (n : ℕ) (marks : List Mark) (place : ℕ) (d : Mark) → Within n marks → place < length marks → ((get_or marks place d).start ≤ (get_or marks place d).end) × ((get_or marks place d).end ≤ n)
+within_get n [] place d w h = absurd (omega arith)
+within_get n (x ∷ marks) zero d w h = w.0
+within_get n (x ∷ marks) (suc place) d w h = within_get n marks place d w.1 (omega arith)
+
+-- where the word of the label at this place stands
+pub within_at : (words : List ℕ) (marks : List Mark) (now : List Label) (place : ℕ) (m : Mark) → marked_labels words marks ≡ now → Within (length words) marks → place < length now
+    → m ≡ get_or marks place m → (m.start ≤ m.end) × (m.end ≤ length words)
+within_at words marks now place m e w h f =
+    subst (λ (x : Mark). (x.start ≤ x.end) × (x.end ≤ length words)) (sym f) (within_get (length words) marks place m w (subst (λ (n : ℕ). place < n) (sym (ap (λ ls. length ls) e) ∙ length-map marks (λ x. marked_label words x)) h))
+
+pub within_end : (words part : List ℕ) (marks : List Mark) (now : List Label) (place : ℕ) (m : Mark) → marked_labels words marks ≡ now → Within (length words) marks → place < length now
+    → m ≡ get_or marks place m → part ≡ words → m.end ≤ length part
+within_end words part marks now place m e w h f g = subst (λ (ws : List ℕ). m.end ≤ length ws) (sym g) (within_at words marks now place m e w h f).1
+
+-- a word within the words stays what it is when words are added
+pub part_kept : (words more : List ℕ) (a b : ℕ) → a ≤ b → b ≤ length words → take (b - a) (drop a (words ++ more)) ≡ take (b - a) (drop a words)
+part_kept words more a b h k =
+    ap (λ xs. take (b - a) xs) (drop-append-le a words more (omega arith))
+    ∙ take-append-le (b - a) (drop a words) more (omega (arith, length-drop a words))
+
+pub labels_kept : (words more : List ℕ) (marks : List Mark) → Within (length words) marks → marked_labels (words ++ more) marks ≡ marked_labels words marks
+labels_kept words more [] w = refl
+labels_kept words more (m ∷ marks) w =
+    ap (λ word. record { word = word; starred = m.starred; negated = m.negated; asks = m.asks } ∷ marked_labels (words ++ more) marks) (part_kept words more m.start m.end w.0.0 w.0.1)
+    ∙ ap (λ ls. marked_label words m ∷ ls) (labels_kept words more marks w.1)
+
+-- the word at the end of the words
+pub last_part : (words more : List ℕ) (a b : ℕ) → a ≡ length words → b ≡ length (words ++ more) → take (b - a) (drop a (words ++ more)) ≡ more
+last_part words more a b h k =
+    ap (λ n. take (b - n) (drop n (words ++ more))) h
+    ∙ ap (λ xs. take (b - length words) xs) (drop-append_seam words more)
+    ∙ ap (λ n. take n more) size
+    ∙ take-length more
+  where
+    size : b - length words ≡ length more
+    size = omega (arith, length-append words more)
+
+-- one label more
+pub labels_push : (words more : List ℕ) (marks : List Mark) (start end : ℕ) (starred negated : Bool) (asks : TestKind) → Within (length words) marks
+    → start ≡ length words → end ≡ length (words ++ more)
+    → marked_labels (words ++ more) (marks ++ record { start = start; end = end; starred = starred; negated = negated; asks = asks } ∷ [])
+    ≡ marked_labels words marks ++ record { word = more; starred = starred; negated = negated; asks = asks } ∷ []
+labels_push words more marks start end starred negated asks w h k =
+    map-append (λ m. marked_label (words ++ more) m) marks (record { start = start; end = end; starred = starred; negated = negated; asks = asks } ∷ [])
+    ∙ ap (λ ls. ls ++ record { word = take (end - start) (drop start (words ++ more)); starred = starred; negated = negated; asks = asks } ∷ []) (labels_kept words more marks w)
+    ∙ ap (λ word. marked_labels words marks ++ record { word = word; starred = starred; negated = negated; asks = asks } ∷ []) (last_part words more start end h k)
+
+-- the same, where the word comes in two parts
+pub labels_pushed : (words first second front word : List ℕ) (marks all : List Mark) (now : List Label) (start end : ℕ) (starred negated : Bool) (asks : TestKind)
+    → now ≡ marked_labels words marks → Within (length words) marks → first ≡ words ++ front → second ≡ first ++ word → start ≡ length words → end ≡ length second
+    → all ≡ marks ++ record { start = start; end = end; starred = starred; negated = negated; asks = asks } ∷ []
+    → now ++ record { word = front ++ word; starred = starred; negated = negated; asks = asks } ∷ [] ≡ marked_labels second all
+labels_pushed words first second front word marks all now start end starred negated asks e w f g h k a =
+    ap (λ ls. ls ++ record { word = front ++ word; starred = starred; negated = negated; asks = asks } ∷ []) e
+    ∙ sym (labels_push words (front ++ word) marks start end starred negated asks w h (k ∙ ap (λ ws. length ws) whole))
+    ∙ ap (λ ws. marked_labels ws (marks ++ record { start = start; end = end; starred = starred; negated = negated; asks = asks } ∷ [])) (sym whole)
+    ∙ ap (λ ms. marked_labels second ms) (sym a)
+  where
+    whole : second ≡ words ++ (front ++ word)
+    whole = g ∙ ap (λ ws. ws ++ word) f ∙ append_assoc words front word
+
+pub labels_take : (words : List ℕ) (n : ℕ) (marks : List Mark) → marked_labels words (take n marks) ≡ take n (marked_labels words marks)
+labels_take words n marks = sym (take-map (λ m. marked_label words m) n marks)

@@ -1,0 +1,255 @@
+use Rattle.drv_syntax.specs.Bytes as bytes
+use Rattle.drv_syntax.specs.Contexts as c
+use Rattle.drv_syntax.specs.Outcome as o
+use Rattle.drv_syntax.specs.Outcome.{Here, Place, Turn, join, placed, turn, turn_item, turn_percent}
+use Rattle.drv_syntax.specs.Tree as tree
+use Rattle.drv_syntax.specs.Tree.{Asked, Choices, Item, Items, Pattern, Span, Tests}
+use Rattle.drv_syntax.specs.Walk as w
+use Rattle.drv_syntax.specs.Walk.{leaf_kind, leaf_label, list_turn, start_action, percent_action, goes_of, goes_action, head_action, choice_action}
+use Rattle.drv_syntax.specs.declared.fault.SyntaxFault.TheVariants.{BadDirective}
+use Rattle.drv_syntax.specs.declared.stage.Context.{Context}
+use Rattle.drv_syntax.specs.declared.stage.Goes.TheVariants as goes
+use Rattle.drv_syntax.specs.declared.stage.Goes.{Goes}
+use Rattle.drv_syntax.specs.declared.stage.Leaf.TheVariants as leaves
+use Rattle.drv_syntax.specs.declared.stage.ListAction.{ListAction}
+use Rattle.drv_syntax.specs.declared.stage.ListKind.TheVariants as lists
+use Rattle.drv_syntax.specs.declared.stage.ListKind.{ListKind}
+use Rattle.drv_syntax.specs.declared.stage.ListStage.TheVariants as stages
+use Rattle.drv_syntax.specs.declared.stage.ListStage.{ListStage}
+use Rattle.drv_syntax.specs.declared.stage.ListTurn.{ListTurn}
+use Rattle.drv_syntax.specs.declared.stage.SayKind.TheVariants as sayings
+use Rattle.drv_syntax.specs.declared.stage.SayKind.{SayKind}
+use Rattle.drv_syntax.specs.declared.stage.StarOwner.TheVariants as owners
+use Rattle.drv_syntax.specs.declared.stage.StarOwner.{StarOwner}
+use Rattle.drv_syntax.specs.declared.stage.Taken.TheVariants as takes
+use Rattle.std.proofs.Common.{◌≡◌, ℕ, ◌+◌, Bool, true, false, List, [], ◌∷◌, ◌++◌, length, refl, sym, ap, ◌∙◌, arith, length-append, if◌then◌else◌}
+use Rattle.drv_syntax.specs.declared.token.TempKind.{TempKind}
+use Rattle.std.proofs.lemmas.Bool.Decides.{nat_tests}
+use Rattle.std.specs.Prelude.{◌==◌, nat_le}
+use Rattle.drv_syntax.proofs.WalkMeaning.{shown_kind, shown_owner, shown_brace, shown_saying, here, item_of, list_place, meant, with_item, meant_turn, either, switch}
+
+-- The table of the code in a list of items is that of the places.
+
+pub ends_same : (k : ListKind) (b : ℕ) → w.ends k b ≡ c.is_end (shown_kind k) b
+ends_same lists.Top b = refl
+ends_same lists.InX b = refl
+ends_same lists.InArguments b = refl
+
+pub says_same : (k : ListKind) (b : ℕ) → w.says k b ≡ c.is_said (shown_kind k) b
+says_same lists.Top b = refl
+says_same lists.InX b = refl
+says_same lists.InArguments b = refl
+
+pub allows_same : (x : Bool) (b : ℕ) → w.allows x b ≡ bytes.is_allowed x b
+allows_same true b = refl
+allows_same false b = refl
+
+pub newline_same : (x : Bool) (word : List ℕ) → item_of (w.newline_leaf x) word ≡ c.newline_in x
+newline_same true word = refl
+newline_same false word = refl
+
+pub same : (a b : ℕ) → (a == b) ≡ true → a ≡ b
+same a b h = grind (arith, nat_tests)
+
+pub either_if : {A B : Type 0} (f : A → B) (t : Bool) {a a' : A} {x x' : B} → (t ≡ true → f a ≡ x) → f a' ≡ x' → f (if t then a else a') ≡ (if t then x else x')
+either_if f true p q = p refl
+either_if f false p q = q
+
+pub bar_same : (x : Bool) (b : ℕ) → b ≡ 124 → item_of (w.bar_leaf b x) [] ≡ c.bar_in x
+bar_same true b e = ap (λ z. tree.Plain z) e
+bar_same false b e = refl
+
+pub start_row : (k : Context) (before : Items) (word : List ℕ) (n b : ℕ) → meant k before word b (start_action k n b) ≡ turn_item (here k before) n b
+start_row k before word n b =
+    either F (b == 92) refl
+    (either F (b == 37) refl
+    (either F (w.ends k.kind b) refl
+    (either F (bytes.is_blank b) refl
+    (either F (b == 10) (ap (λ i. o.then_item (here k before) n (n + 1) i) (newline_same k.in_arguments []))
+    (either_if F (b == 124) (λ e. ap (λ i. o.then_item (here k before) n (n + 1) i) (bar_same k.in_arguments b (same b 124 e))) refl)))
+    ∙ switch _ _ (ends_same k.kind b)))
+  where
+    F : ListAction → Turn
+    F a = meant k before word b a
+
+pub star_row : (k : Context) (before : Items) (word : List ℕ) (at end b : ℕ) (owner : StarOwner) → meant k before word b (w.star_action at end owner) ≡ o.turn_star (here k before) at end (shown_owner owner)
+star_row k before word at end b owners.Nobody = refl
+star_row k before word at end b owners.Mixed = refl
+star_row k before word at end b owners.Starred = refl
+
+abbrev pub shown_form : Goes → bytes.Form
+shown_form goes.Nowhere = bytes.NoForm
+shown_form (goes.Whole leaf) = bytes.Whole (item_of leaf [])
+shown_form (goes.WithSuffix kind) = bytes.WithSuffix kind
+shown_form goes.WithOption = bytes.WithOption
+shown_form (goes.WithSaying kind) = bytes.WithSaying (shown_saying kind)
+shown_form goes.WithName = bytes.WithName
+shown_form goes.WithPattern = bytes.WithPattern
+shown_form goes.OfStar = bytes.OfStar
+shown_form goes.WithCall = bytes.WithCall
+shown_form goes.WithBraces = bytes.WithBraces
+shown_form (goes.WithMarkedBraces kind) = bytes.WithMarkedBraces (shown_brace kind)
+
+pub form_row : (b : ℕ) → shown_form (goes_of b) ≡ bytes.form_of b
+form_row b =
+    either F (b == 37) refl
+    (either F (b == 105) refl
+    (either F (b == 98) refl
+    (either F (b == 66) refl
+    (either F (b == 79) refl
+    (either F (b == 103) refl
+    (either F (b == 117) refl
+    (either F (b == 85) refl
+    (either F (b == 124) refl
+    (either F (b == 109) refl
+    (either F (b == 100) refl
+    (either F (b == 119) refl
+    (either F (b == 86) refl
+    (either F (b == 115) refl
+    (either F (b == 84) refl
+    (either F (b == 68) refl
+    (either F (b == 111) refl
+    (either F (b == 120) refl
+    (either F (b == 88) refl
+    (either F (b == 89) refl
+    (either F (b == 90) refl
+    (either F (b == 101) refl
+    (either F (b == 110) refl
+    (either F (b == 40) refl
+    (either F (b == 97) refl
+    (either F (b == 65) refl
+    (either F (b == 108) refl
+    (either F (b == 76) refl
+    (either F (b == 71) refl
+    (either F (b == 83) refl
+    (either F (b == 69) refl
+    (either F (b == 67) refl
+    (either F (b == 49) refl
+    (either F (b == 50) refl
+    (either F (b == 60) refl
+    (either F (b == 62) refl
+    (either F (b == 58) refl
+    (either F (b == 123) refl
+    (either F (b == 42) refl
+    (either F (b == 87) refl
+    (either F (b == 64) refl refl))))))))))))))))))))))))))))))))))))))))
+  where
+    F : Goes → bytes.Form
+    F g = shown_form g
+
+pub goes_row : (k : Context) (before : Items) (word : List ℕ) (at end b : ℕ) (g : Goes) → meant k before word b (goes_action k at end g) ≡ o.turn_form (here k before) at end (shown_form g)
+goes_row k before word at end b goes.Nowhere = refl
+goes_row k before word at end b (goes.Whole leaf) = refl
+goes_row k before word at end b (goes.WithSuffix kind) = refl
+goes_row k before word at end b goes.WithOption = refl
+goes_row k before word at end b (goes.WithSaying kind) = refl
+goes_row k before word at end b goes.WithName = refl
+goes_row k before word at end b goes.WithPattern = refl
+goes_row k before word at end b goes.OfStar = star_row k before word at end b k.owner
+goes_row k before word at end b goes.WithCall = either (λ a. meant k before word b a) (k.levels == 0) refl refl
+goes_row k before word at end b goes.WithBraces = either (λ a. meant k before word b a) (k.levels == 0) refl refl
+goes_row k before word at end b (goes.WithMarkedBraces kind) = either (λ a. meant k before word b a) (k.levels == 0) refl refl
+
+pub percent_row : (k : Context) (before : Items) (word : List ℕ) (at n b : ℕ) → meant k before word b (percent_action k at n b) ≡ turn_percent (here k before) at n b
+percent_row k before word at n b =
+    either (λ a. meant k before word b a) (w.allows k.in_arguments b) (goes_row k before word at (n + 1) b (goes_of b) ∙ ap (λ f. o.turn_form (here k before) at (n + 1) f) (form_row b)) refl
+    ∙ switch _ _ (allows_same k.in_arguments b)
+
+pub not_empty : (x : ℕ) (xs : List ℕ) → (length (x ∷ xs) == 0) ≡ false
+not_empty x xs = grind (arith, nat_tests)
+
+pub option_row : (k : Context) (before : Items) (at : ℕ) (word : List ℕ) (n b : ℕ) → meant k before word b (w.option_action at word n b) ≡ o.turn_option (here k before) at word n b
+option_row k before at [] n b = either (λ a. meant k before [] b a) (b == 92) refl (either (λ a. meant k before [] b a) (b == 125) refl refl)
+option_row k before at (x ∷ xs) n b = either (λ a. meant k before (x ∷ xs) b a) (b == 92) refl (either (λ a. meant k before (x ∷ xs) b a) (b == 125) (nonempty x xs) refl)
+  where
+    nonempty : (x : ℕ) (xs : List ℕ) → meant k before (x ∷ xs) b (if length (x ∷ xs) == 0 then w.refused at else w.item leaves.AddOption takes.Word at (n + 1)) ≡ o.then_item (here k before) at (n + 1) (tree.AddOption (x ∷ xs))
+    nonempty x xs = ap (λ t. meant k before (x ∷ xs) b (if t then w.refused at else w.item leaves.AddOption takes.Word at (n + 1))) (not_empty x xs)
+
+pub saying_row : (k : Context) (before : Items) (at : ℕ) (kind : SayKind) (word : List ℕ) (n b : ℕ) → meant_turn k before word b (w.saying_turn k at kind n b) ≡ o.turn_saying (here k before) at (shown_saying kind) word n b
+saying_row k before at sayings.AsError word n b =
+    either F (b == 92) refl
+    (either F (w.says k.kind b) refl (either F (b == 10) refl (start_row k (with_item before at n (tree.UserError word)) [] n b)) ∙ switch _ _ (says_same k.kind b))
+  where
+    F : ListTurn → Turn
+    F a = meant_turn k before word b a
+saying_row k before at sayings.AsNotice word n b =
+    either F (b == 92) refl
+    (either F (w.says k.kind b) refl (either F (b == 10) refl (start_row k (with_item before at n (tree.Notice word)) [] n b)) ∙ switch _ _ (says_same k.kind b))
+  where
+    F : ListTurn → Turn
+    F a = meant_turn k before word b a
+
+pub hide_row : (k : Context) (before : Items) (at : ℕ) (word : List ℕ) (n b : ℕ) → meant k before word b (w.hide_action at n b) ≡ o.turn_hide (here k before) at n b
+hide_row k before at word n b = either F (b == 92) refl (either F (bytes.is_word b) refl (either F (b == 42) refl refl))
+  where
+    F : ListAction → Turn
+    F a = meant k before word b a
+
+pub hide_word_row : (k : Context) (before : Items) (at : ℕ) (word : List ℕ) (n b : ℕ) → meant_turn k before word b (w.hide_word k at n b) ≡ o.turn_hide_word (here k before) at word n b
+hide_word_row k before at word n b =
+    either F (b == 92) refl (either F (bytes.is_word b) refl (either F (b == 42) refl (start_row k (with_item before at n (tree.Hide (tree.pattern word false))) [] n b)))
+  where
+    F : ListTurn → Turn
+    F a = meant_turn k before word b a
+
+pub call_row : (k : Context) (before : Items) (at : ℕ) (name : List ℕ) (n b : ℕ)
+    → meant k before name b (w.call_action at name b) ≡ turn (o.FunctionName (here k before) at name) n b
+call_row k before at name n b =
+    either F (bytes.is_function_front (name ++ b ∷ [])) refl (either F (b == 40) (either F (bytes.is_function name) refl refl) refl)
+  where
+    F : ListAction → Turn
+    F a = meant k before name b a
+
+pub name_row : (k : Context) (before : Items) (at : ℕ) (word : List ℕ) (n b : ℕ) → meant k before word b (w.name_action at word n b) ≡ o.turn_name (here k before) at word n b
+name_row k before at [] n b = either F (bytes.is_name b) refl (always (b == 41))
+  where
+    F : ListAction → Turn
+    F a = meant k before [] b a
+
+    always : (t : Bool) → F (if t then w.refused at else w.refused at) ≡ o.Refused (BadDirective at)
+    always true = refl
+    always false = refl
+name_row k before at (x ∷ xs) n b = either F (bytes.is_name b) (either F (nat_le (length (x ∷ xs) + 1) 255) refl refl ∙ switch _ _ (longer x xs)) (either F (b == 41) (nonempty x xs) refl)
+  where
+    F : ListAction → Turn
+    F a = meant k before (x ∷ xs) b a
+
+    longer : (x : ℕ) (xs : List ℕ) → nat_le (length (x ∷ xs) + 1) 255 ≡ nat_le (length (x ∷ xs ++ b ∷ [])) 255
+    longer x xs = ap (λ m. nat_le m 255) (sym (length-append (x ∷ xs) (b ∷ [])))
+
+    nonempty : (x : ℕ) (xs : List ℕ) → meant k before (x ∷ xs) b (if length (x ∷ xs) == 0 then w.refused at else w.item leaves.NamedText takes.Word at (n + 1)) ≡ o.then_item (here k before) at (n + 1) (tree.NamedText (x ∷ xs))
+    nonempty x xs = ap (λ t. meant k before (x ∷ xs) b (if t then w.refused at else w.item leaves.NamedText takes.Word at (n + 1))) (not_empty x xs)
+
+pub suffix_row : (k : Context) (before : Items) (at : ℕ) (kind : TempKind) (word : List ℕ) (n b : ℕ) → meant_turn k before word b (w.suffix_start k at kind n b) ≡ o.turn_suffix (here k before) at kind n b
+suffix_row k before at kind word n b = either F (bytes.is_suffix b) refl (either F (b == 37) refl (start_row k (with_item before at n (tree.TempName kind [])) [] n b))
+  where
+    F : ListTurn → Turn
+    F a = meant_turn k before word b a
+
+pub suffix_run_row : (k : Context) (before : Items) (at : ℕ) (kind : TempKind) (word : List ℕ) (n b : ℕ) → meant_turn k before word b (w.suffix_run k at kind n b) ≡ o.turn_suffix_run (here k before) at kind word n b
+suffix_run_row k before at kind word n b = either (λ a. meant_turn k before word b a) (bytes.is_suffix b) refl (start_row k (with_item before at n (tree.TempName kind word)) [] n b)
+
+pub suffix_percent_row : (k : Context) (before : Items) (at : ℕ) (kind : TempKind) (percent : ℕ) (word : List ℕ) (n b : ℕ)
+    → meant_turn k before word b (w.suffix_percent k at kind percent n b) ≡ o.turn_suffix_percent (here k before) at kind percent n b
+suffix_percent_row k before at kind percent word n b =
+    either (λ a. meant_turn k before word b a) (b == 79) refl (percent_row k (with_item before at percent (tree.TempName kind [])) [] percent n b)
+
+-- the table of the code in a list of items is that of the places
+pub list_row : (stage : ListStage) (k : Context) (before : Items) (word : List ℕ) (n b : ℕ) → meant_turn k before word b (list_turn stage k word n b) ≡ turn (list_place stage word (here k before)) n b
+list_row stages.Start k before word n b = start_row k before word n b
+list_row (stages.Backslash back) k before word n b = refl
+list_row (stages.Percent at) k before word n b = percent_row k before word at n b
+list_row (stages.SuffixStart at kind) k before word n b = suffix_row k before at kind word n b
+list_row (stages.SuffixRun at kind) k before word n b = suffix_run_row k before at kind word n b
+list_row (stages.SuffixPercent at kind percent) k before word n b = suffix_percent_row k before at kind percent word n b
+list_row (stages.OptionOpen at) k before word n b = either (λ a. meant k before word b a) (b == 123) refl refl
+list_row (stages.OptionText at) k before word n b = option_row k before at word n b
+list_row (stages.OptionEscape at) k before word n b = refl
+list_row (stages.SayingText at kind) k before word n b = saying_row k before at kind word n b
+list_row (stages.SayingEscape at kind back) k before word n b = refl
+list_row (stages.NameText at) k before word n b = name_row k before at word n b
+list_row (stages.HideStart at) k before word n b = hide_row k before at word n b
+list_row (stages.HideWord at) k before word n b = hide_word_row k before at word n b
+list_row (stages.HideEscape at) k before word n b = refl
+list_row (stages.FunctionName at) k before word n b = call_row k before at word n b
+list_row (stages.BraceOpen at kind) k before word n b = either (λ a. meant k before word b a) (b == 123) refl refl

@@ -1,0 +1,393 @@
+use Rattle.drv_syntax.specs.Contexts as c
+use Rattle.drv_syntax.specs.Labels.{Label, Nodes, both, no_label, no_node, node, pattern_label, pattern_nodes, test_nodes}
+use Rattle.drv_syntax.specs.Outcome as o
+use Rattle.drv_syntax.specs.Outcome.{Here, Out, Place, Turn, after, closed, join, join_choices, join_tests, judged, parsed, read, resumed, run, turn}
+use Rattle.drv_syntax.specs.Spelling.{span}
+use Rattle.drv_syntax.specs.Tree as tree
+use Rattle.drv_syntax.specs.Tree.{Asked, Brace, Choices, Item, Items, Pattern, Span, Tests, first_place, last_place, trimmed}
+use Rattle.drv_syntax.specs.Walk as w
+use Rattle.drv_syntax.specs.WalkSteps as s
+use Rattle.drv_syntax.specs.WalkSteps.{Walk, open_token}
+use Rattle.drv_syntax.specs.declared.fault.SyntaxFault.TheVariants.{BadDirective, EmptyTest}
+use Rattle.drv_syntax.specs.declared.fault.SyntaxFault.{SyntaxFault}
+use Rattle.drv_syntax.specs.declared.stage.Behind.TheVariants as behinds
+use Rattle.drv_syntax.specs.declared.stage.Behind.{Behind}
+use Rattle.drv_syntax.specs.declared.stage.BraceKind.{BraceKind}
+use Rattle.drv_syntax.specs.declared.stage.Context.{Context}
+use Rattle.drv_syntax.specs.declared.stage.Form.TheVariants as forms
+use Rattle.drv_syntax.specs.declared.stage.Form.{Form}
+use Rattle.drv_syntax.specs.declared.stage.Frame.TheVariants as frames
+use Rattle.drv_syntax.specs.declared.stage.Frame.{Frame}
+use Rattle.drv_syntax.specs.declared.stage.HeadStage.TheVariants as places
+use Rattle.drv_syntax.specs.declared.stage.ListStage.TheVariants as stages
+use Rattle.drv_syntax.specs.declared.stage.Stage.TheVariants as staged
+use Rattle.drv_syntax.specs.declared.stage.Stage.{Stage}
+use Rattle.drv_syntax.specs.declared.stage.StarOwner.TheVariants as owners
+use Rattle.drv_syntax.specs.declared.token.TestKind.TheVariants as asking
+use Rattle.drv_syntax.specs.declared.token.TokenKind.TheVariants as kinds
+use Rattle.drv_syntax.proofs.WalkNodes.{Parts, all, all_leaf, all_open, ended, leafed, both_none, patterns_join, tests_join}
+use Rattle.drv_syntax.proofs.WalkMeaning.{is_bare, patterns_of, shown, shown_owner, tests_of}
+use Rattle.std.proofs.Common.{◌≡◌, ℕ, ◌+◌, ◌-◌, Bool, true, false, List, [], ◌∷◌, ◌++◌, length, refl, sym, ap, subst, ◌∙◌, if◌then◌else◌}
+use Rattle.std.specs.Prelude.{◌==◌, ◌&&◌, not, None, Some, Result, Ok, Err}
+use Rattle.drv_syntax.proofs.WalkShows.{held, brace_level, choice_level, levels_of, list_parts, brace_parts, head_parts, the_head, the_part, hd, Held, held_fresh, held_patterns, held_later, held_tests, form_for, Waits, waits_x, made, Shows, shows_list, shows_head, Leads}
+use Rattle.drv_syntax.proofs.WalkLists.{placed_walk, starred_join, shows_emit}
+
+-- Patterns and tests of braces, each with the byte behind it.
+
+-- braces, to the left of a colon
+pub emitted_is : (ws : List o.Waiting) (k : Context) (before : Items) (kind : BraceKind) (at : ℕ) (choices : Choices) (tests : Tests) (patterns : List (Span × Pattern)) → Held choices tests patterns
+    → (start end : ℕ) (negated : Bool) (p : Pattern)
+    → o.emitted (hd ws k before kind at choices tests patterns) start end negated p
+    ≡ (if w.emits (form_for ws (hd ws k before kind at choices tests patterns)) negated then Some (patterns ++ (span start end, p) ∷ []) else None)
+emitted_is ws k before kind at choices tests patterns held_fresh start end true p = refl
+emitted_is ws k before kind at choices tests patterns held_fresh start end false p = refl
+emitted_is ws k before kind at choices tests patterns held_patterns start end true p = refl
+emitted_is ws k before kind at choices tests patterns held_patterns start end false p = refl
+emitted_is ws k before kind at choices tests patterns held_later start end negated p = refl
+emitted_is ws k before kind at choices tests patterns (held_tests {choices = tree.no_choice}) start end negated p = refl
+emitted_is ws k before kind at choices tests patterns (held_tests {choices = tree.choice r ts items others}) start end negated p = refl
+
+abbrev pub pattern_by : Behind → List ℕ → Pattern
+pattern_by (behinds.Switch start end negated starred) word = tree.pattern word starred
+pattern_by (behinds.Marked start end negated mark) word = tree.pattern (mark ∷ word) false
+pattern_by (behinds.StarredMark start end negated mark) word = tree.pattern (mark ∷ word) true
+pattern_by (behinds.Bare start end negated mark) word = tree.pattern (mark ∷ []) false
+
+pub by_pattern : (behind : Behind) (word : List ℕ) → w.behind_pattern behind word ≡ pattern_label (pattern_by behind word)
+by_pattern (behinds.Switch start end negated starred) word = refl
+by_pattern (behinds.Marked start end negated mark) word = refl
+by_pattern (behinds.StarredMark start end negated mark) word = refl
+by_pattern (behinds.Bare start end negated mark) word = refl
+
+pub patterns_are : (ws : List o.Waiting) (k : Context) (before : Items) (kind : BraceKind) (at : ℕ) (choices : Choices) (tests : Tests) (patterns : List (Span × Pattern)) → Held choices tests patterns
+    → (behind : Behind) (word : List ℕ)
+    → patterns_of behind word (hd ws k before kind at choices tests patterns)
+    ≡ (if w.emits (form_for ws (hd ws k before kind at choices tests patterns)) (s.negates behind) then Some (patterns ++ (span (s.first_of behind) (s.last_of behind), pattern_by behind word) ∷ []) else None)
+patterns_are ws k before kind at choices tests patterns h (behinds.Switch start end negated starred) word = emitted_is ws k before kind at choices tests patterns h start end negated _
+patterns_are ws k before kind at choices tests patterns h (behinds.Marked start end negated mark) word = emitted_is ws k before kind at choices tests patterns h start end negated _
+patterns_are ws k before kind at choices tests patterns h (behinds.StarredMark start end negated mark) word = emitted_is ws k before kind at choices tests patterns h start end negated _
+patterns_are ws k before kind at choices tests patterns h (behinds.Bare start end negated mark) word = emitted_is ws k before kind at choices tests patterns h start end negated _
+
+-- one pattern more
+pub pattern_parts : (ws : List o.Waiting) (k : Context) (before : Items) (kind : BraceKind) (at : ℕ) (patterns : List (Span × Pattern)) (start end : ℕ) (p : Pattern) (label : Label) → label ≡ pattern_label p
+    → leafed kinds.Pattern label start end (brace_parts ws (hd ws k before kind at tree.no_choice tree.no_test patterns))
+    ≡ brace_parts ws (hd ws k before kind at tree.no_choice tree.no_test (patterns ++ (span start end, p) ∷ []))
+pattern_parts ws k before kind at patterns start end p label e =
+    ap (λ z. leafed kinds.Pattern z start end (brace_parts ws h)) e
+    ∙ all_leaf (brace_level ws h ∷ levels_of ws) (pattern_nodes patterns) kinds.Pattern (pattern_label p) start end
+    ∙ ap (λ z. all (brace_level ws h ∷ levels_of ws) z) (sym (patterns_join patterns ((span start end, p) ∷ [])))
+  where
+    h : o.Head
+    h = hd ws k before kind at tree.no_choice tree.no_test patterns
+
+abbrev pub hw : Stage → Context → List Frame → List o.Waiting → Items → BraceKind → ℕ → Choices → Tests → List (Span × Pattern) → List ℕ → ℕ → ℕ → Walk
+hw stage k fs ws before kind at choices tests patterns word kept trail = made stage k fs (head_parts ws (hd ws k before kind at choices tests patterns)) word kept trail
+
+pub held_more : (patterns : List (Span × Pattern)) (p : Span × Pattern) → Held tree.no_choice tree.no_test (patterns ++ p ∷ [])
+held_more [] p = held_patterns
+held_more (q ∷ patterns) p = held_patterns
+
+pub form_more : (ws : List o.Waiting) (k : Context) (before : Items) (kind : BraceKind) (at : ℕ) (patterns : List (Span × Pattern)) (p : Span × Pattern)
+    → form_for ws (hd ws k before kind at tree.no_choice tree.no_test (patterns ++ p ∷ [])) ≡ forms.Patterns
+form_more ws k before kind at [] p = refl
+form_more ws k before kind at (q ∷ patterns) p = refl
+
+pub ends_on : (stage : Stage) (k : Context) {fs : List Frame} {ws : List o.Waiting} (before : Items) (kind : BraceKind) (at : ℕ) (patterns : List (Span × Pattern))
+    (word : List ℕ) (kept trail : ℕ) (behind : Behind) (n : ℕ) (p : Pattern) → w.behind_pattern behind word ≡ pattern_label p → Waits fs ws
+    → Shows (s.close_braces (the_head ws before kind at) true (n + 1) k (s.with_pattern behind (hw stage k fs ws before kind at tree.no_choice tree.no_test patterns word kept trail))) ws
+    (o.AtItem (o.emitted_item (hd ws k before kind at tree.no_choice tree.no_test patterns) (n + 1) (patterns ++ (span (s.first_of behind) (s.last_of behind), p) ∷ [])))
+ends_on stage k {fs} {ws} before kind at patterns word kept trail behind n p e h =
+    subst (λ (z : Parts). Shows (placed_walk k fs (ended (length (list_parts ws before).tokens) (s.brace_token kind true) at (n + 1) z) (n + 1)) ws
+    (o.AtItem (o.emitted_item (hd ws k before kind at tree.no_choice tree.no_test patterns) (n + 1) (patterns ++ (span (s.first_of behind) (s.last_of behind), p) ∷ []))))
+    (sym (pattern_parts ws k before kind at patterns (s.first_of behind) (s.last_of behind) p (w.behind_pattern behind word) e))
+    (shows_emit k before kind at (n + 1) (patterns ++ (span (s.first_of behind) (s.last_of behind), p) ∷ []) h)
+
+pub joins_on : (stage : Stage) (k : Context) {fs : List Frame} {ws : List o.Waiting} (before : Items) (kind : BraceKind) (at : ℕ) (patterns : List (Span × Pattern))
+    (word : List ℕ) (kept trail : ℕ) (behind : Behind) (p : Pattern) → w.behind_pattern behind word ≡ pattern_label p → Waits fs ws
+    → Shows (s.at_stage (staged.Braces (the_head ws before kind at) forms.Patterns places.PatternDue) (s.with_pattern behind (hw stage k fs ws before kind at tree.no_choice tree.no_test patterns word kept trail))) ws
+    (o.PatternDue (hd ws k before kind at tree.no_choice tree.no_test (patterns ++ (span (s.first_of behind) (s.last_of behind), p) ∷ [])))
+joins_on stage k {fs} {ws} before kind at patterns word kept trail behind p e h =
+    subst (λ (z : Parts). Shows (made (staged.Braces (the_head ws before kind at) forms.Patterns places.PatternDue) k fs z word kept trail) ws (o.PatternDue (hd ws k before kind at tree.no_choice tree.no_test ps)))
+    (sym (pattern_parts ws k before kind at patterns (s.first_of behind) (s.last_of behind) p (w.behind_pattern behind word) e))
+    (subst (λ (f : Form). Shows (made (staged.Braces (the_head ws before kind at) f places.PatternDue) k fs (brace_parts ws (hd ws k before kind at tree.no_choice tree.no_test ps)) word kept trail) ws
+    (o.PatternDue (hd ws k before kind at tree.no_choice tree.no_test ps)))
+    (form_more ws k before kind at patterns (span (s.first_of behind) (s.last_of behind), p))
+    (shows_head places.PatternDue k before kind at tree.no_choice tree.no_test ps word kept trail (held_more patterns _) h))
+  where
+    ps : List (Span × Pattern)
+    ps = patterns ++ (span (s.first_of behind) (s.last_of behind), p) ∷ []
+
+pub ends_leads : (stage : Stage) (k : Context) {fs : List Frame} {ws : List o.Waiting} (before : Items) (kind : BraceKind) (at : ℕ) (choices : Choices) (tests : Tests) (patterns : List (Span × Pattern))
+    (word : List ℕ) (kept trail : ℕ) (behind : Behind) (n : ℕ) → Held choices tests patterns → Waits fs ws
+    → Leads (s.act_ends (the_head ws before kind at) (form_for ws (hd ws k before kind at choices tests patterns)) behind n (hw stage k fs ws before kind at choices tests patterns word kept trail))
+    (λ again. after (o.turn_brace (hd ws k before kind at choices tests patterns)
+    (if w.emits (form_for ws (hd ws k before kind at choices tests patterns)) (s.negates behind) then Some (patterns ++ (span (s.first_of behind) (s.last_of behind), pattern_by behind word) ∷ []) else None) n) ws again n)
+ends_leads stage k {fs} {ws} before kind at choices tests patterns word kept trail behind n held_fresh h = by (s.negates behind)
+  where
+    by : (t : Bool) → Leads (if not t then Ok (s.close_braces (the_head ws before kind at) true (n + 1) k (s.with_pattern behind (hw stage k fs ws before kind at tree.no_choice tree.no_test [] word kept trail))) else Err (BadDirective at))
+        (λ again. after (o.turn_brace (hd ws k before kind at tree.no_choice tree.no_test []) (if not t then Some ((span (s.first_of behind) (s.last_of behind), pattern_by behind word) ∷ []) else None) n) ws again n)
+    by true = λ again. refl
+    by false = (ws, (_, (ends_on stage k before kind at [] word kept trail behind n (pattern_by behind word) (by_pattern behind word) h, λ again. refl)))
+ends_leads stage k {fs} {ws} before kind at choices tests patterns word kept trail behind n (held_patterns {p = q} {patterns = qs}) h = by (s.negates behind)
+  where
+    by : (t : Bool) → Leads (if not t then Ok (s.close_braces (the_head ws before kind at) true (n + 1) k (s.with_pattern behind (hw stage k fs ws before kind at tree.no_choice tree.no_test (q ∷ qs) word kept trail))) else Err (BadDirective at))
+        (λ again. after (o.turn_brace (hd ws k before kind at tree.no_choice tree.no_test (q ∷ qs)) (if not t then Some ((q ∷ qs) ++ (span (s.first_of behind) (s.last_of behind), pattern_by behind word) ∷ []) else None) n) ws again n)
+    by true = λ again. refl
+    by false = (ws, (_, (ends_on stage k before kind at (q ∷ qs) word kept trail behind n (pattern_by behind word) (by_pattern behind word) h, λ again. refl)))
+ends_leads stage k before kind at choices tests patterns word kept trail behind n held_later h = λ again. refl
+ends_leads stage k before kind at choices tests patterns word kept trail behind n held_tests h = λ again. refl
+
+pub joins_leads : (stage : Stage) (k : Context) {fs : List Frame} {ws : List o.Waiting} (before : Items) (kind : BraceKind) (at : ℕ) (choices : Choices) (tests : Tests) (patterns : List (Span × Pattern))
+    (word : List ℕ) (kept trail : ℕ) (behind : Behind) (n : ℕ) → Held choices tests patterns → Waits fs ws
+    → Leads (s.act_joins (the_head ws before kind at) (form_for ws (hd ws k before kind at choices tests patterns)) behind (hw stage k fs ws before kind at choices tests patterns word kept trail))
+    (λ again. after (o.turn_and (hd ws k before kind at choices tests patterns)
+    (if w.emits (form_for ws (hd ws k before kind at choices tests patterns)) (s.negates behind) then Some (patterns ++ (span (s.first_of behind) (s.last_of behind), pattern_by behind word) ∷ []) else None)) ws again n)
+joins_leads stage k {fs} {ws} before kind at choices tests patterns word kept trail behind n held_fresh h = by (s.negates behind)
+  where
+    by : (t : Bool) → Leads (if not t then Ok (s.at_stage (staged.Braces (the_head ws before kind at) forms.Patterns places.PatternDue) (s.with_pattern behind (hw stage k fs ws before kind at tree.no_choice tree.no_test [] word kept trail))) else Err (BadDirective at))
+        (λ again. after (o.turn_and (hd ws k before kind at tree.no_choice tree.no_test []) (if not t then Some ((span (s.first_of behind) (s.last_of behind), pattern_by behind word) ∷ []) else None)) ws again n)
+    by true = λ again. refl
+    by false = (ws, (_, (joins_on stage k before kind at [] word kept trail behind (pattern_by behind word) (by_pattern behind word) h, λ again. refl)))
+joins_leads stage k {fs} {ws} before kind at choices tests patterns word kept trail behind n (held_patterns {p = q} {patterns = qs}) h = by (s.negates behind)
+  where
+    by : (t : Bool) → Leads (if not t then Ok (s.at_stage (staged.Braces (the_head ws before kind at) forms.Patterns places.PatternDue) (s.with_pattern behind (hw stage k fs ws before kind at tree.no_choice tree.no_test (q ∷ qs) word kept trail))) else Err (BadDirective at))
+        (λ again. after (o.turn_and (hd ws k before kind at tree.no_choice tree.no_test (q ∷ qs)) (if not t then Some ((q ∷ qs) ++ (span (s.first_of behind) (s.last_of behind), pattern_by behind word) ∷ []) else None)) ws again n)
+    by true = λ again. refl
+    by false = (ws, (_, (joins_on stage k before kind at (q ∷ qs) word kept trail behind (pattern_by behind word) (by_pattern behind word) h, λ again. refl)))
+joins_leads stage k before kind at choices tests patterns word kept trail behind n held_later h = λ again. refl
+joins_leads stage k before kind at choices tests patterns word kept trail behind n held_tests h = λ again. refl
+
+-- one test more
+abbrev pub asked_by : Behind → List ℕ → Asked
+asked_by (behinds.Switch start end negated starred) word = tree.HasSwitch (tree.pattern word starred)
+asked_by (behinds.Marked start end negated mark) word = o.marked mark word
+asked_by (behinds.StarredMark start end negated mark) word = o.marked mark word
+asked_by (behinds.Bare start end negated mark) word = o.marked mark word
+
+abbrev pub test_by : Behind → List ℕ → Tests
+test_by behind word = tree.test (span (s.first_of behind) (s.last_of behind)) (s.negates behind) (asked_by behind word) tree.no_test
+
+pub tests_are : (h : o.Head) (behind : Behind) (word : List ℕ) → tests_of behind word h ≡ (if s.tests behind then o.tested_by h.patterns (join_tests h.tests (test_by behind word)) else None)
+tests_are h (behinds.Switch start end negated starred) word = refl
+tests_are h (behinds.Marked start end negated mark) word = refl
+tests_are h (behinds.StarredMark start end negated mark) word = refl
+tests_are h (behinds.Bare start end negated mark) word = refl
+
+pub marked_nodes : (r : Span) (mark : ℕ) (word : List ℕ) (negated : Bool)
+    → test_nodes (tree.test r negated (o.marked mark word) tree.no_test) ≡ node kinds.Test (record { word = word; starred = false; negated = negated; asks = w.mark_asks mark }) r no_node no_node
+marked_nodes r mark word negated = by (mark == 46)
+  where
+    by : (t : Bool) → test_nodes (tree.test r negated (if t then tree.HasSuffix word else tree.HasLanguage word) tree.no_test)
+        ≡ node kinds.Test (record { word = word; starred = false; negated = negated; asks = if t then asking.Suffix else asking.Language }) r no_node no_node
+    by true = refl
+    by false = refl
+
+pub by_nodes : (behind : Behind) (word : List ℕ) → test_nodes (test_by behind word) ≡ node kinds.Test (w.behind_test behind word) (span (s.first_of behind) (s.last_of behind)) no_node no_node
+by_nodes (behinds.Switch start end negated starred) word = refl
+by_nodes (behinds.Marked start end negated mark) word = marked_nodes (span start end) mark word negated
+by_nodes (behinds.StarredMark start end negated mark) word = marked_nodes (span start end) mark word negated
+by_nodes (behinds.Bare start end negated mark) word = marked_nodes (span start end) mark word negated
+
+pub marked_stars : (r : Span) (mark : ℕ) (word : List ℕ) (negated : Bool) → c.all_starred (tree.test r negated (o.marked mark word) tree.no_test) ≡ false
+marked_stars r mark word true = refl
+marked_stars r mark word false = by (mark == 46)
+  where
+    by : (t : Bool) → c.all_starred (tree.test r false (if t then tree.HasSuffix word else tree.HasLanguage word) tree.no_test) ≡ false
+    by true = refl
+    by false = refl
+
+pub by_stars : (behind : Behind) (word : List ℕ) → c.all_starred (test_by behind word) ≡ s.starred_of behind
+by_stars (behinds.Switch start end true starred) word = refl
+by_stars (behinds.Switch start end false true) word = refl
+by_stars (behinds.Switch start end false false) word = refl
+by_stars (behinds.Marked start end negated mark) word = marked_stars (span start end) mark word negated
+by_stars (behinds.StarredMark start end negated mark) word = marked_stars (span start end) mark word negated
+by_stars (behinds.Bare start end negated mark) word = marked_stars (span start end) mark word negated
+
+pub with_test_is : (stage : Stage) (k : Context) (fs : List Frame) (ws : List o.Waiting) (before : Items) (kind : BraceKind) (at : ℕ) (choices : Choices) (word : List ℕ) (kept trail : ℕ) (behind : Behind)
+    → s.with_label (w.behind_test behind word) (s.with_leaf kinds.Test (s.first_of behind) (s.last_of behind) (s.open_alternative (s.first_of behind) (hw stage k fs ws before kind at choices tree.no_test [] word kept trail)))
+    ≡ hw stage k fs ws before kind at choices (test_by behind word) [] word kept trail
+with_test_is stage k fs ws before kind at choices word kept trail behind =
+    ap (λ z. made stage k fs (leafed kinds.Test (w.behind_test behind word) (s.first_of behind) (s.last_of behind) z) word kept trail)
+    (all_open (brace_level ws h ∷ levels_of ws) (held h) kinds.Alternative no_label (s.first_of behind))
+    ∙ ap (λ z. made stage k fs z word kept trail)
+    (all_leaf (choice_level t 0 ∷ brace_level ws h ∷ levels_of ws) no_node kinds.Test (w.behind_test behind word) (s.first_of behind) (s.last_of behind)
+    ∙ ap (λ z. all (choice_level t 0 ∷ brace_level ws h ∷ levels_of ws) z) (sym (by_nodes behind word)))
+  where
+    h : o.Head
+    h = hd ws k before kind at choices tree.no_test []
+
+    t : o.Head
+    t = hd ws k before kind at choices (test_by behind word) []
+
+pub more_test_is : (stage : Stage) (k : Context) (fs : List Frame) (ws : List o.Waiting) (before : Items) (kind : BraceKind) (at : ℕ) (choices : Choices)
+    (r : Span) (negated : Bool) (asked : Asked) (others : Tests) (word : List ℕ) (kept trail : ℕ) (behind : Behind)
+    → s.with_label (w.behind_test behind word) (s.with_leaf kinds.Test (s.first_of behind) (s.last_of behind) (hw stage k fs ws before kind at choices (tree.test r negated asked others) [] word kept trail))
+    ≡ hw stage k fs ws before kind at choices (tree.test r negated asked (join_tests others (test_by behind word))) [] word kept trail
+more_test_is stage k fs ws before kind at choices r negated asked others word kept trail behind =
+    ap (λ z. made stage k fs z word kept trail)
+    (all_leaf (choice_level h 0 ∷ brace_level ws h ∷ levels_of ws) (test_nodes (tree.test r negated asked others)) kinds.Test (w.behind_test behind word) (s.first_of behind) (s.last_of behind)
+    ∙ ap (λ z. all (choice_level h 0 ∷ brace_level ws h ∷ levels_of ws) z)
+    (ap (λ z. both (test_nodes (tree.test r negated asked others)) z) (sym (by_nodes behind word)) ∙ sym (tests_join (tree.test r negated asked others) (test_by behind word))))
+  where
+    h : o.Head
+    h = hd ws k before kind at choices (tree.test r negated asked others) []
+
+pub shown_if : (u : Bool) → shown_owner (if u then owners.Starred else owners.Mixed) ≡ (if u then c.Starred else c.Mixed)
+shown_if true = refl
+shown_if false = refl
+
+-- a colon behind tests
+pub asks_on : (stage : Stage) (k : Context) {fs : List Frame} {ws : List o.Waiting} (before : Items) (kind : BraceKind) (at : ℕ) (choices : Choices) (r : Span) (negated : Bool) (asked : Asked) (others : Tests)
+    (word : List ℕ) (kept trail : ℕ) (n : ℕ) (st : Bool) → c.all_starred (tree.test r negated asked others) ≡ st → Waits fs ws
+    → Shows (s.ask (the_head ws before kind at) (the_part ws (hd ws k before kind at choices (tree.test r negated asked others) []) 0) true st n (hw stage k fs ws before kind at choices (tree.test r negated asked others) [] word kept trail))
+    (o.WaitsX (hd ws k before kind at choices (tree.test r negated asked others) []) n ∷ ws) (o.list_in (c.in_x (c.in_braces (shown k)) (tree.test r negated asked others)))
+asks_on stage k {fs} {ws} before kind at choices r negated asked others word kept trail n st e h =
+    subst (λ (u : Bool). Shows (s.ask (the_head ws before kind at) (the_part ws hh 0) true u n (hw stage k fs ws before kind at choices (tree.test r negated asked others) [] word kept trail)) (o.WaitsX hh n ∷ ws) (o.list_in (c.in_x (c.in_braces (shown k)) (tree.test r negated asked others)))) e
+    (subst (λ (u : c.Owner). Shows (s.ask (the_head ws before kind at) (the_part ws hh 0) true stars n (hw stage k fs ws before kind at choices (tree.test r negated asked others) [] word kept trail)) (o.WaitsX hh n ∷ ws)
+    (o.list_in (record { kind = c.InX; in_arguments = k.in_arguments; owner = u; levels = k.levels - 1 }))) (shown_if stars)
+    (subst (λ (z : Nodes). Shows (made (staged.List stages.Start) (s.x_context k (if stars then owners.Starred else owners.Mixed)) (frames.X k (the_head ws before kind at) n (the_part ws hh 0) true ∷ fs)
+    (all (choice_level hh 0 ∷ brace_level ws hh ∷ levels_of ws) z) [] (n + 1) 0) (o.WaitsX hh n ∷ ws) (o.list_in (shown (s.x_context k (if stars then owners.Starred else owners.Mixed)))))
+    (both_none (test_nodes (tree.test r negated asked others)))
+    (shows_list stages.Start (s.x_context k (if stars then owners.Starred else owners.Mixed)) tree.none [] (waits_x k before kind at choices (tree.test r negated asked others) n h))))
+  where
+    hh : o.Head
+    hh = hd ws k before kind at choices (tree.test r negated asked others) []
+
+    stars : Bool
+    stars = c.all_starred (tree.test r negated asked others)
+
+pub asks_good : (stage : Stage) (k : Context) {fs : List Frame} {ws : List o.Waiting} (before : Items) (kind : BraceKind) (at : ℕ) (choices : Choices) (tests : Tests) (r : Span) (negated : Bool) (asked : Asked) (others : Tests)
+    (word : List ℕ) (kept trail : ℕ) (n : ℕ) (st bare : Bool) (v : Walk) → v ≡ hw stage k fs ws before kind at choices (tree.test r negated asked others) [] word kept trail
+    → c.all_starred (tree.test r negated asked others) ≡ st → Waits fs ws
+    → Leads (Ok (s.ask (the_head ws before kind at) (the_part ws (hd ws k before kind at choices (tree.test r negated asked others) []) 0) true st n v))
+    (λ again. after (o.turn_colon (hd ws k before kind at choices tests []) (Some (tree.test r negated asked others)) bare n) ws again n)
+asks_good stage k {fs} {ws} before kind at choices tests r negated asked others word kept trail n st bare v d e h = (
+  o.WaitsX hh n ∷ ws,
+  (
+    _,
+    (
+      subst (λ (z : Walk). Shows (s.ask (the_head ws before kind at) (the_part ws hh 0) true st n z) (o.WaitsX hh n ∷ ws) (o.list_in (c.in_x (c.in_braces (shown k)) (tree.test r negated asked others)))) (sym d)
+          (asks_on stage k before kind at choices r negated asked others word kept trail n st e h),
+      λ again. refl,
+    ),
+  ),
+)
+  where
+    hh : o.Head
+    hh = hd ws k before kind at choices (tree.test r negated asked others) []
+
+pub bars_good : (stage : Stage) (k : Context) {fs : List Frame} {ws : List o.Waiting} (before : Items) (kind : BraceKind) (at : ℕ) (choices : Choices) (tests : Tests) (r : Span) (negated : Bool) (asked : Asked) (others : Tests)
+    (word : List ℕ) (kept trail : ℕ) (n : ℕ) (st bare : Bool) (v : Walk) → v ≡ hw stage k fs ws before kind at choices (tree.test r negated asked others) [] word kept trail
+    → c.all_starred (tree.test r negated asked others) ≡ st → Waits fs ws
+    → Leads (Ok (s.at_stage (staged.Braces (the_head ws before kind at) (forms.Tests (the_part ws (hd ws k before kind at choices (tree.test r negated asked others) []) 0) st) places.TestDue) v))
+    (λ again. after (o.turn_bar (hd ws k before kind at choices tests []) (Some (tree.test r negated asked others)) bare) ws again n)
+bars_good stage k {fs} {ws} before kind at choices tests r negated asked others word kept trail n st bare v d e h = (
+  ws,
+  (
+    _,
+    (
+      subst (λ (z : Walk). Shows (s.at_stage (staged.Braces (the_head ws before kind at) (forms.Tests (the_part ws hh 0) st) places.TestDue) z) ws (o.TestDue hh)) (sym d)
+          (subst (λ (u : Bool). Shows (made (staged.Braces (the_head ws before kind at) (forms.Tests (the_part ws hh 0) u) places.TestDue) k fs (head_parts ws hh) word kept trail) ws (o.TestDue hh)) e
+          (shows_head places.TestDue k before kind at choices (tree.test r negated asked others) [] word kept trail held_tests h)),
+      λ again. refl,
+    ),
+  ),
+)
+  where
+    hh : o.Head
+    hh = hd ws k before kind at choices (tree.test r negated asked others) []
+
+pub untested_is : (at : ℕ) (behind : Behind) → s.untested at behind ≡ (if is_bare behind then EmptyTest at else BadDirective at)
+untested_is at (behinds.Switch start end negated starred) = refl
+untested_is at (behinds.Marked start end negated mark) = refl
+untested_is at (behinds.StarredMark start end negated mark) = refl
+untested_is at (behinds.Bare start end negated mark) = refl
+
+pub refused_leads : (ws : List o.Waiting) (n : ℕ) (fault other : SyntaxFault) → fault ≡ other → Leads (Err fault) (λ again. after (o.Refused other) ws again n)
+refused_leads ws n fault other e = λ again. ap (λ z. fails z) (sym e)
+  where
+    fails : SyntaxFault → Result Items SyntaxFault
+    fails z = Err z
+
+pub asks_leads : (stage : Stage) (k : Context) {fs : List Frame} {ws : List o.Waiting} (before : Items) (kind : BraceKind) (at : ℕ) (choices : Choices) (tests : Tests) (patterns : List (Span × Pattern))
+    (word : List ℕ) (kept trail : ℕ) (behind : Behind) (n : ℕ) → Held choices tests patterns → Waits fs ws
+    → Leads (s.act_asks (the_head ws before kind at) (form_for ws (hd ws k before kind at choices tests patterns)) behind n (hw stage k fs ws before kind at choices tests patterns word kept trail))
+    (λ again. after (o.turn_colon (hd ws k before kind at choices tests patterns) (if s.tests behind then o.tested_by patterns (join_tests tests (test_by behind word)) else None) (is_bare behind) n) ws again n)
+asks_leads stage k {fs} {ws} before kind at choices tests patterns word kept trail behind n held_fresh h = by (s.tests behind)
+  where
+    v : Walk
+    v = s.with_label (w.behind_test behind word) (s.with_leaf kinds.Test (s.first_of behind) (s.last_of behind) (s.open_alternative (s.first_of behind) (hw stage k fs ws before kind at tree.no_choice tree.no_test [] word kept trail)))
+
+    by : (t : Bool) → Leads (if t && true then Ok (s.ask (the_head ws before kind at) (the_part ws (hd ws k before kind at tree.no_choice (test_by behind word) []) 0) true (s.starred_of behind) n v) else Err (s.untested at behind))
+        (λ again. after (o.turn_colon (hd ws k before kind at tree.no_choice tree.no_test []) (if t then Some (test_by behind word) else None) (is_bare behind) n) ws again n)
+    by true = asks_good stage k before kind at tree.no_choice tree.no_test _ _ _ tree.no_test word kept trail n (s.starred_of behind) (is_bare behind) v (with_test_is stage k fs ws before kind at tree.no_choice word kept trail behind) (by_stars behind word) h
+    by false = refused_leads ws n _ _ (untested_is at behind)
+asks_leads stage k {fs} {ws} before kind at choices tests patterns word kept trail behind n (held_later {r = q} {tests = ts} {items = xs} {choices = cs}) h = by (s.tests behind)
+  where
+    v : Walk
+    v = s.with_label (w.behind_test behind word) (s.with_leaf kinds.Test (s.first_of behind) (s.last_of behind) (s.open_alternative (s.first_of behind) (hw stage k fs ws before kind at (tree.choice q ts xs cs) tree.no_test [] word kept trail)))
+
+    by : (t : Bool) → Leads (if t && true then Ok (s.ask (the_head ws before kind at) (the_part ws (hd ws k before kind at (tree.choice q ts xs cs) (test_by behind word) []) 0) true (s.starred_of behind) n v) else Err (s.untested at behind))
+        (λ again. after (o.turn_colon (hd ws k before kind at (tree.choice q ts xs cs) tree.no_test []) (if t then Some (test_by behind word) else None) (is_bare behind) n) ws again n)
+    by true = asks_good stage k before kind at (tree.choice q ts xs cs) tree.no_test _ _ _ tree.no_test word kept trail n (s.starred_of behind) (is_bare behind) v (with_test_is stage k fs ws before kind at (tree.choice q ts xs cs) word kept trail behind) (by_stars behind word) h
+    by false = refused_leads ws n _ _ (untested_is at behind)
+asks_leads stage k {fs} {ws} before kind at choices tests patterns word kept trail behind n (held_tests {choices = cs} {r = q} {negated = sign} {asked = a} {tests = ts}) h = by (s.tests behind)
+  where
+    v : Walk
+    v = s.with_label (w.behind_test behind word) (s.with_leaf kinds.Test (s.first_of behind) (s.last_of behind) (hw stage k fs ws before kind at cs (tree.test q sign a ts) [] word kept trail))
+
+    by : (t : Bool) → Leads (if t && true then Ok (s.ask (the_head ws before kind at) (the_part ws (hd ws k before kind at cs (tree.test q sign a ts) []) 0) true (c.all_starred (tree.test q sign a ts) && s.starred_of behind) n v) else Err (s.untested at behind))
+        (λ again. after (o.turn_colon (hd ws k before kind at cs (tree.test q sign a ts) []) (if t then Some (tree.test q sign a (join_tests ts (test_by behind word))) else None) (is_bare behind) n) ws again n)
+    by true =
+        asks_good stage k before kind at cs (tree.test q sign a ts) q sign a (join_tests ts (test_by behind word)) word kept trail n _ (is_bare behind) v
+        (more_test_is stage k fs ws before kind at cs q sign a ts word kept trail behind)
+        (starred_join (tree.test q sign a ts) (test_by behind word) ∙ ap (λ z. c.all_starred (tree.test q sign a ts) && z) (by_stars behind word)) h
+    by false = refused_leads ws n _ _ (untested_is at behind)
+asks_leads stage k {fs} {ws} before kind at choices tests patterns word kept trail behind n (held_patterns {p = q} {patterns = qs}) h = by (s.tests behind) _
+  where
+    by : (t : Bool) (v : Walk) → Leads (if t && false then Ok v else Err (s.untested at behind))
+        (λ again. after (o.turn_colon (hd ws k before kind at tree.no_choice tree.no_test (q ∷ qs)) (if t then None else None) (is_bare behind) n) ws again n)
+    by true v = refused_leads ws n _ _ (untested_is at behind)
+    by false v = refused_leads ws n _ _ (untested_is at behind)
+
+pub bars_leads : (stage : Stage) (k : Context) {fs : List Frame} {ws : List o.Waiting} (before : Items) (kind : BraceKind) (at : ℕ) (choices : Choices) (tests : Tests) (patterns : List (Span × Pattern))
+    (word : List ℕ) (kept trail : ℕ) (behind : Behind) (n : ℕ) → Held choices tests patterns → Waits fs ws
+    → Leads (s.act_bars (the_head ws before kind at) (form_for ws (hd ws k before kind at choices tests patterns)) behind (hw stage k fs ws before kind at choices tests patterns word kept trail))
+    (λ again. after (o.turn_bar (hd ws k before kind at choices tests patterns) (if s.tests behind then o.tested_by patterns (join_tests tests (test_by behind word)) else None) (is_bare behind)) ws again n)
+bars_leads stage k {fs} {ws} before kind at choices tests patterns word kept trail behind n held_fresh h = by (s.tests behind)
+  where
+    v : Walk
+    v = s.with_label (w.behind_test behind word) (s.with_leaf kinds.Test (s.first_of behind) (s.last_of behind) (s.open_alternative (s.first_of behind) (hw stage k fs ws before kind at tree.no_choice tree.no_test [] word kept trail)))
+
+    by : (t : Bool) → Leads (if t && true then Ok (s.at_stage (staged.Braces (the_head ws before kind at) (forms.Tests (the_part ws (hd ws k before kind at tree.no_choice (test_by behind word) []) 0) (s.starred_of behind)) places.TestDue) v) else Err (s.untested at behind))
+        (λ again. after (o.turn_bar (hd ws k before kind at tree.no_choice tree.no_test []) (if t then Some (test_by behind word) else None) (is_bare behind)) ws again n)
+    by true = bars_good stage k before kind at tree.no_choice tree.no_test _ _ _ tree.no_test word kept trail n (s.starred_of behind) (is_bare behind) v (with_test_is stage k fs ws before kind at tree.no_choice word kept trail behind) (by_stars behind word) h
+    by false = refused_leads ws n _ _ (untested_is at behind)
+bars_leads stage k {fs} {ws} before kind at choices tests patterns word kept trail behind n (held_later {r = q} {tests = ts} {items = xs} {choices = cs}) h = by (s.tests behind)
+  where
+    v : Walk
+    v = s.with_label (w.behind_test behind word) (s.with_leaf kinds.Test (s.first_of behind) (s.last_of behind) (s.open_alternative (s.first_of behind) (hw stage k fs ws before kind at (tree.choice q ts xs cs) tree.no_test [] word kept trail)))
+
+    by : (t : Bool) → Leads (if t && true then Ok (s.at_stage (staged.Braces (the_head ws before kind at) (forms.Tests (the_part ws (hd ws k before kind at (tree.choice q ts xs cs) (test_by behind word) []) 0) (s.starred_of behind)) places.TestDue) v) else Err (s.untested at behind))
+        (λ again. after (o.turn_bar (hd ws k before kind at (tree.choice q ts xs cs) tree.no_test []) (if t then Some (test_by behind word) else None) (is_bare behind)) ws again n)
+    by true = bars_good stage k before kind at (tree.choice q ts xs cs) tree.no_test _ _ _ tree.no_test word kept trail n (s.starred_of behind) (is_bare behind) v (with_test_is stage k fs ws before kind at (tree.choice q ts xs cs) word kept trail behind) (by_stars behind word) h
+    by false = refused_leads ws n _ _ (untested_is at behind)
+bars_leads stage k {fs} {ws} before kind at choices tests patterns word kept trail behind n (held_tests {choices = cs} {r = q} {negated = sign} {asked = a} {tests = ts}) h = by (s.tests behind)
+  where
+    v : Walk
+    v = s.with_label (w.behind_test behind word) (s.with_leaf kinds.Test (s.first_of behind) (s.last_of behind) (hw stage k fs ws before kind at cs (tree.test q sign a ts) [] word kept trail))
+
+    by : (t : Bool) → Leads (if t && true then Ok (s.at_stage (staged.Braces (the_head ws before kind at) (forms.Tests (the_part ws (hd ws k before kind at cs (tree.test q sign a ts) []) 0) (c.all_starred (tree.test q sign a ts) && s.starred_of behind)) places.TestDue) v) else Err (s.untested at behind))
+        (λ again. after (o.turn_bar (hd ws k before kind at cs (tree.test q sign a ts) []) (if t then Some (tree.test q sign a (join_tests ts (test_by behind word))) else None) (is_bare behind)) ws again n)
+    by true =
+        bars_good stage k before kind at cs (tree.test q sign a ts) q sign a (join_tests ts (test_by behind word)) word kept trail n _ (is_bare behind) v
+        (more_test_is stage k fs ws before kind at cs q sign a ts word kept trail behind)
+        (starred_join (tree.test q sign a ts) (test_by behind word) ∙ ap (λ z. c.all_starred (tree.test q sign a ts) && z) (by_stars behind word)) h
+    by false = refused_leads ws n _ _ (untested_is at behind)
+bars_leads stage k {fs} {ws} before kind at choices tests patterns word kept trail behind n (held_patterns {p = q} {patterns = qs}) h = by (s.tests behind) _
+  where
+    by : (t : Bool) (v : Walk) → Leads (if t && false then Ok v else Err (s.untested at behind))
+        (λ again. after (o.turn_bar (hd ws k before kind at tree.no_choice tree.no_test (q ∷ qs)) (if t then None else None) (is_bare behind)) ws again n)
+    by true v = refused_leads ws n _ _ (untested_is at behind)
+    by false v = refused_leads ws n _ _ (untested_is at behind)

@@ -1,0 +1,101 @@
+use Rattle.drv_syntax.specs.Tokens.{kind_of}
+use Rattle.drv_syntax.specs.Tree as tree
+use Rattle.drv_syntax.specs.Tree.{Asked, Brace, Choices, Item, Items, Pattern, Span, Tests}
+use Rattle.drv_syntax.specs.declared.token.TestKind.TheVariants as asking
+use Rattle.drv_syntax.specs.declared.token.TestKind.{TestKind}
+use Rattle.drv_syntax.specs.declared.token.TokenKind.TheVariants as kinds
+use Rattle.drv_syntax.specs.declared.token.TokenKind.{TokenKind}
+use Rattle.std.specs.Prelude.{Bool, false, List, [], ◌∷◌, ◌++◌, get_or, ℕ}
+
+-- What each part of a tree names, beside the flat list of its parts (this project's profile).
+
+pub record Label : Type 0 where
+  pub word : List ℕ  -- what it names, without escapes
+  pub starred : Bool  -- a star stands behind the word
+  pub negated : Bool  -- a ! stands before it
+  pub asks : TestKind  -- what a test asks
+
+-- of a part that names a word alone
+abbrev pub word_label : List ℕ → Label
+word_label word = record { word = word; starred = false; negated = false; asks = asking.Switch }
+
+-- of a part that names nothing
+abbrev pub no_label : Label
+no_label = word_label []
+
+abbrev pub pattern_label : Pattern → Label
+pattern_label (tree.pattern word starred) = record { word = word; starred = starred; negated = false; asks = asking.Switch }
+
+-- with a ! or without
+abbrev pub test_label : Bool → Asked → Label
+test_label negated (tree.HasSwitch (tree.pattern word starred)) = record { word = word; starred = starred; negated = negated; asks = asking.Switch }
+test_label negated (tree.HasSuffix word) = record { word = word; starred = false; negated = negated; asks = asking.Suffix }
+test_label negated (tree.HasLanguage word) = record { word = word; starred = false; negated = negated; asks = asking.Language }
+test_label negated (tree.HasResult name arguments) = record { word = name; starred = false; negated = negated; asks = asking.Result }
+
+abbrev pub label_of : Item → Label
+label_of (tree.Plain b) = word_label (b ∷ [])
+label_of (tree.Escape b) = word_label (b ∷ [])
+label_of (tree.TempName kind suffix) = word_label suffix
+label_of (tree.AddOption option) = word_label option
+label_of (tree.UserError text) = word_label text
+label_of (tree.Notice text) = word_label text
+label_of (tree.NamedText name) = word_label name
+label_of (tree.BuiltinText name) = word_label name
+label_of (tree.Hide p) = pattern_label p
+label_of (tree.Function name arguments) = word_label name
+label_of _ = no_label
+
+-- a tree as its parts alone: each with what it is, its label, where it stands, the parts inside it and those behind it
+pub data Nodes : Type 0 where
+  no_node : Nodes
+  node : TokenKind → Label → Span → Nodes → Nodes → Nodes
+
+abbrev pub both : Nodes → Nodes → Nodes
+both no_node ys = ys
+both (node kind label s inner xs) ys = node kind label s inner (both xs ys)
+
+abbrev pub pattern_nodes : List (Span × Pattern) → Nodes
+pattern_nodes [] = no_node
+pattern_nodes (p ∷ patterns) = node kinds.Pattern (pattern_label p.1) p.0 no_node (pattern_nodes patterns)
+
+abbrev mutual
+  pub nodes_of : Items → Nodes
+  nodes_of tree.none = no_node
+  nodes_of (tree.more s item items) = node (kind_of item) (label_of item) s (inner_nodes item) (nodes_of items)
+
+  pub inner_nodes : Item → Nodes
+  inner_nodes (tree.Function name arguments) = nodes_of arguments
+  inner_nodes (tree.Braces brace) = brace_nodes brace
+  inner_nodes (tree.FailureFile brace) = brace_nodes brace
+  inner_nodes (tree.ArgumentsFile brace) = brace_nodes brace
+  inner_nodes _ = no_node
+
+  pub brace_nodes : Brace → Nodes
+  brace_nodes (tree.Emit patterns) = pattern_nodes patterns
+  brace_nodes (tree.Choose choices) = choice_nodes choices
+
+  pub choice_nodes : Choices → Nodes
+  choice_nodes tree.no_choice = no_node
+  choice_nodes (tree.choice s tests items choices) = node kinds.Alternative no_label s (both (test_nodes tests) (nodes_of items)) (choice_nodes choices)
+
+  pub test_nodes : Tests → Nodes
+  test_nodes tree.no_test = no_node
+  test_nodes (tree.test s negated asked tests) = node kinds.Test (test_label negated asked) s (asked_nodes asked) (test_nodes tests)
+
+  pub asked_nodes : Asked → Nodes
+  asked_nodes (tree.HasResult name arguments) = nodes_of arguments
+  asked_nodes _ = no_node
+
+-- their labels, in the order of their tokens
+abbrev pub labels : Nodes → List Label
+labels no_node = []
+labels (node kind label s inner others) = label ∷ labels inner ++ labels others
+
+-- the labels of a tree
+abbrev pub labels_of : Items → List Label
+labels_of items = labels (nodes_of items)
+
+-- the label of the part at this place of the list
+abbrev pub label_at : Items → ℕ → Label
+label_at items place = get_or (labels_of items) place no_label

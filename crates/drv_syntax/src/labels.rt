@@ -1,0 +1,131 @@
+//! What the parts of a text name.
+
+ghost use Rattle.drv_syntax.specs.Labels.{no_label};
+ghost use Rattle.std.specs.Prelude.{◌≡◌, ◌<◌, ◌++◌, ◌∷◌, [], get_or, length, Ok, take};
+ghost use Rattle.drv_words.specs.Gives.{Gives};
+
+use crate::fault::SyntaxFault;
+use crate::token::TestKind;
+use std::alloc::Global;
+use std::marker::Model;
+
+/// Where a word stands among the words, and what is said of it.
+#[derive(Clone, Copy)]
+pub struct Mark {
+    /// Where it begins.
+    pub start: usize,
+    /// Where it ends.
+    pub end: usize,
+    /// A star stands behind it.
+    pub starred: bool,
+    /// A `!` stands before it.
+    pub negated: bool,
+    /// What the test asks.
+    pub asks: TestKind,
+}
+
+/// The labels of the parts of a text, in the order of their tokens.
+#[derive(Drop)]
+pub struct Labels {
+    words: Vec<u8>,
+    marks: Vec<Mark>,
+}
+
+impl Model for Labels {
+    ghost use Rattle.drv_syntax.specs.Labels.{Label};
+    ghost use Rattle.drv_syntax.specs.Marks.{Within, marked_labels};
+    ghost use Rattle.std.specs.Prelude.{List, length};
+
+    ghost Value = { List Label };
+
+    ghost view = { λ l. marked_labels l.words.items l.marks.items };
+
+    ghost invariant = { λ l. Within (length l.words.items) l.marks.items };
+}
+
+impl Labels {
+    /// None, with room for so many.
+    pub fn with_capacity(alloc: Global, size: usize) -> Result<Labels, SyntaxFault>
+        ensures { Gives SyntaxFault.Memory (λ made. made) result (Ok []) }
+    {
+        Ok(Labels {
+            words: Vec::with_capacity(alloc, size)?,
+            marks: Vec::with_capacity(alloc, size)?,
+        })
+    }
+
+    #[tactic(auto, using(crate::proofs::MarkedWords::within_more, crate::proofs::MarkedWords::within_push, crate::proofs::MarkedWords::labels_pushed))]
+    /// One more, whose word is these bytes and those behind them.
+    pub fn push(
+        &mut self,
+        front: &[u8],
+        word: &[u8],
+        starred: bool,
+        negated: bool,
+        asks: TestKind,
+    ) -> Result<(), SyntaxFault>
+        ensures { Gives SyntaxFault.Memory (λ _. self.new) result (Ok (self.old
+            ++ record { word = front.now ++ word.now; starred = starred; negated = negated; asks = asks } ∷ [])) }
+    {
+        let start = self.words.len();
+        self.words.extend_from_slice(front)?;
+        self.words.extend_from_slice(word)?;
+        let end = self.words.len();
+        self.marks.push(Mark {
+            start,
+            end,
+            starred,
+            negated,
+            asks,
+        })?;
+        Ok(())
+    }
+
+    #[tactic(auto, using(crate::proofs::MarkedWords::within_take, crate::proofs::MarkedWords::labels_take))]
+    /// Only the first ones, so many.
+    pub fn truncate(&mut self, count: usize)
+        ensures { self.new ≡ take count self.old }
+    {
+        self.marks.truncate(count);
+    }
+
+    /// How many there are.
+    pub fn len(&self) -> usize
+        ensures { result ≡ length self.now }
+    {
+        self.marks.len()
+    }
+
+    /// The word of the one at this place.
+    pub fn word(&self, place: usize) -> &[u8]
+        requires { place < length self.now }
+        ensures { result.now ≡ (get_or self.now place no_label).word }
+    {
+        let mark = self.marks[place];
+        &self.words[mark.start..mark.end]
+    }
+
+    /// Whether a star stands behind its word.
+    pub fn starred(&self, place: usize) -> bool
+        requires { place < length self.now }
+        ensures { result ≡ (get_or self.now place no_label).starred }
+    {
+        self.marks[place].starred
+    }
+
+    /// Whether a `!` stands before its word.
+    pub fn negated(&self, place: usize) -> bool
+        requires { place < length self.now }
+        ensures { result ≡ (get_or self.now place no_label).negated }
+    {
+        self.marks[place].negated
+    }
+
+    /// What its test asks.
+    pub fn asks(&self, place: usize) -> TestKind
+        requires { place < length self.now }
+        ensures { result ≡ (get_or self.now place no_label).asks }
+    {
+        self.marks[place].asks
+    }
+}
