@@ -1,7 +1,8 @@
 use Rattle.drv_match.specs.Matching.{hidden_by, is_named}
 use Rattle.drv_match.specs.declared.pattern.Pattern.{Pattern}
-use Rattle.std.proofs.Common.{◌≡◌, ◌<◌, ◌+◌, ◌-◌, ◌∙◌, Bool, false, true, List, [], ◌∷◌, ◌++◌, append_assoc, arith, drop, filter, get_or, length, refl, set, suc, take, ℕ}
+use Rattle.std.proofs.Common.{◌≡◌, ◌<◌, ◌+◌, ◌-◌, ◌∙◌, Bool, false, true, List, [], ◌∷◌, ◌++◌, append_assoc, arith, drop, filter, get_or, length, nat_lt, refl, set, suc, sym, take, ℕ}
 use Rattle.std.proofs.Math.Bool.{or-false, or-true}
+use Rattle.std.proofs.lemmas.Bool.{lt-ltb}
 use Rattle.std.proofs.lemmas.List.{drop-set-lt, drop_more, take_more, take_more_set}
 use Rattle.std.specs.List.{range_with_len}
 
@@ -24,6 +25,10 @@ pass_next test places whole i n below passed done = step ∙ done
   where
     step : places ++ filter test (range_with_len (i + 1) (n - (i + 1))) ≡ places ++ filter test (range_with_len i (n - i))
     step = rw (places_left i n below, passed) refl
+
+-- none before the place i is hit, and it is: so there is a hit
+pub hit_here : (test : ℕ → Bool) (whole : List ℕ) (i n : ℕ) → i < n → test i ≡ true → filter test (range_with_len i (n - i)) ≡ whole → true ≡ nat_lt 0 (length whole)
+hit_here test whole i n below hit is = rw (sym is, places_left i n below, hit) (sym (lt-ltb 0 (suc _) (omega arith)))
 
 -- the pattern names the switch at i, which is hidden
 pub hide_named : (pattern : Pattern) (names : List (List ℕ)) (hidden after whole : List Bool) (i : ℕ) → i < length names → length hidden ≡ length names → is_named pattern (get_or names i []) ≡ true → after ≡ set hidden i true → take i hidden ++ hidden_by pattern (drop i names) (drop i hidden) ≡ whole → take (i + 1) after ++ hidden_by pattern (drop (i + 1) names) (drop (i + 1) after) ≡ whole

@@ -1,8 +1,8 @@
 //! The switches of a line, and which of them a pattern hits.
 
 ghost use Rattle.drv_match.specs.Liveness.{liveness};
-ghost use Rattle.drv_match.specs.Matching.{hidden_by, hits, is_hit, is_live};
-ghost use Rattle.std.specs.Prelude.{◌≡◌, ◌<◌, Bool, IfOk, List, length, map, ℕ};
+ghost use Rattle.drv_match.specs.Matching.{hidden_by, hits, is_hit, is_live, name_at};
+ghost use Rattle.std.specs.Prelude.{◌≡◌, ◌<◌, Bool, IfOk, List, length, map, nat_lt, ℕ};
 
 use crate::hidden::Hidden;
 use crate::liveness::live_flags;
@@ -41,11 +41,19 @@ impl Switches {
         Ok(Switches { names, live })
     }
 
-    /// The number of switches.
-    pub(crate) fn len(&self) -> usize
+    /// The number of switches of the line. It takes no memory.
+    pub fn len(&self) -> usize
         ensures { result ≡ length self.now }
     {
         self.names.len()
+    }
+
+    /// The name of the switch at this place, without its first `-`. It takes no memory.
+    pub fn name(&self, i: usize) -> &[u8]
+        requires { i < length self.now }
+        ensures { result.now ≡ name_at self.now i }
+    {
+        self.names.as_slice()[i].as_bytes()
     }
 
     /// Whether no later switch cancels the one at this place. It takes no memory.
@@ -75,14 +83,28 @@ impl Switches {
         Ok(places)
     }
 
-    /// Whether a pattern hits the switch at this place.
-    fn is_hit(&self, pattern: &Pattern, hidden: &Hidden, i: usize) -> bool
+    /// Whether a pattern hits any switch. It takes no memory.
+    pub fn has_hit(&self, pattern: &Pattern, hidden: &Hidden) -> bool
+        requires { length hidden.now ≡ length self.now }
+        ensures { result ≡ nat_lt 0 (length (hits self.now hidden.now pattern.now)) }
+    {
+        for place in 0..self.len() {
+            if self.is_hit(pattern, hidden, place) {
+                return true;
+            }
+        }
+        false
+    }
+
+    /// Whether a pattern hits the switch at this place: it names the switch, which isn't hidden, and which is
+    /// live if the pattern takes live ones alone. It takes no memory.
+    pub fn is_hit(&self, pattern: &Pattern, hidden: &Hidden, i: usize) -> bool
         requires in_range { i < length self.now }
         requires of_these { length hidden.now ≡ length self.now }
         ensures { result ≡ is_hit self.now hidden.now pattern.now i }
     {
         !hidden.contains(i)
-            && pattern.is_named(self.names.as_slice()[i].as_bytes())
+            && pattern.is_named(self.name(i))
             && (pattern.is_broad() || self.live(i))
     }
 
@@ -93,7 +115,7 @@ impl Switches {
         ensures as_many { length hidden.new ≡ length self.now }
     {
         for i in 0..self.len() {
-            if pattern.is_named(self.names.as_slice()[i].as_bytes()) {
+            if pattern.is_named(self.name(i)) {
                 hidden.set(i, true);
             }
         }

@@ -99,3 +99,38 @@ fn patterns_hit(rt: HostRuntime) -> Result<(), Fail> {
     }
     Ok(())
 }
+
+/// The names of the switches, and whether a pattern hits any once another's are hidden.
+fn names_and_hit(
+    alloc: Global,
+    line: &str,
+    hide: &str,
+    pattern: &str,
+) -> Result<(Word, bool), Fail> {
+    let switches = switches_of(alloc, line)?;
+    let mut hidden = Hidden::new(alloc, &switches)?;
+    switches.hide(&pattern_of(alloc, hide)?, &mut hidden);
+    let mut names = Word::empty(alloc);
+    for i in 0..switches.len() {
+        names.extend_from_slice(switches.name(i))?;
+    }
+    Ok((
+        names,
+        switches.has_hit(&pattern_of(alloc, pattern)?, &hidden),
+    ))
+}
+
+#[test]
+fn patterns_have_a_hit(rt: HostRuntime) -> Result<(), Fail> {
+    for (hide, pattern, want) in [
+        ("", "c", true),
+        ("c", "c", false),
+        ("", "d", false),
+        ("c", "d*", true),
+    ] {
+        let (names, has_hit) = names_and_hit(rt.alloc(), "a b c d1", hide, pattern)?;
+        assert_eq!(rt; names.as_bytes(), b"abcd1".as_slice());
+        assert_eq!(rt; has_hit, want, "{pattern} without {hide}");
+    }
+    Ok(())
+}
