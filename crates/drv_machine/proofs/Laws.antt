@@ -1,4 +1,4 @@
-use Rattle.drv_machine.specs.Atoms.{atoms, items_step, levels_left}
+use Rattle.drv_machine.specs.Atoms.{atoms, whole_text}
 use Rattle.drv_machine.specs.Context.{Context}
 use Rattle.drv_machine.specs.Cutting.{Cut, all_taken, nothing_cut, taken}
 use Rattle.drv_machine.specs.Outcome.{cut, finished, outcome}
@@ -55,5 +55,5 @@ module _ (F : Facts) (C : Context) where
 
   -- the whole text, streamed
   pub outcome_runs : (items : Items)
-      → outcome F C items ≡ (run F C (begun F C) (items_step F C items (levels_left F C most_open) [] >> puts (Break ∷ End ∷ [])) >>- λ r. finished F C r.1.world r.1.cut)
+      → outcome F C items ≡ (run F C (begun F C) (whole_text F C items) >>- λ r. finished F C r.1.world r.1.cut)
   outcome_runs items = cut_done (atoms F C items)

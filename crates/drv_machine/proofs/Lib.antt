@@ -1,3 +1,13 @@
+pub mod ChoiceSteps
+pub mod Cutter
+pub mod EmitSteps
+pub mod Finished
+pub mod ItemKinds
 pub mod Laws
 pub mod Marks
+pub mod Parts
 pub mod Rows
+pub mod Standing
+pub mod Steps
+pub mod TrueTests
+pub mod WorkSteps

@@ -21,7 +21,7 @@ abbrev mutual
   has_star none = false
   has_star (more span item items) = item_has_star item || has_star items
 
-  item_has_star : Item → Bool
+  pub item_has_star : Item → Bool
   item_has_star Star = true
   item_has_star (Function name arguments) = has_star arguments
   item_has_star (Braces brace) = brace_has_star brace
@@ -29,19 +29,19 @@ abbrev mutual
   item_has_star (ArgumentsFile brace) = brace_has_star brace
   item_has_star _ = false
 
-  brace_has_star : Brace → Bool
+  pub brace_has_star : Brace → Bool
   brace_has_star (Emit patterns) = false
   brace_has_star (Choose choices) = choices_have_star choices
 
-  choices_have_star : Choices → Bool
+  pub choices_have_star : Choices → Bool
   choices_have_star no_choice = false
   choices_have_star (choice span tests items choices) = tests_have_star tests || choices_have_star choices
 
-  tests_have_star : Tests → Bool
+  pub tests_have_star : Tests → Bool
   tests_have_star no_test = false
   tests_have_star (test span negated asked tests) = asked_has_star asked || tests_have_star tests
 
-  asked_has_star : Asked → Bool
+  pub asked_has_star : Asked → Bool
   asked_has_star (HasResult name arguments) = has_star arguments
   asked_has_star _ = false
 
@@ -177,6 +177,9 @@ module _ (F : Facts) (C : Context) where
   abbrev pub start : World
   start = record { hidden = map (λ s. false) C.switches; options = []; drawn = []; number = 1; outputs = []; notices = []; items = 0 }
 
-  -- the atoms of a whole text, which ends its last command
+  -- a whole text, whose end ends its last command
+  abbrev pub whole_text : Items → Step (Unit {0})
+  whole_text items = items_step items (levels_left most_open) [] >> puts (Break ∷ End ∷ [])
+
   abbrev pub atoms : Items → Work (Unit {0})
-  atoms items = (items_step items (levels_left most_open) [] >> puts (Break ∷ End ∷ [])) start
+  atoms items = whole_text items start

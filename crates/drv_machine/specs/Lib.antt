@@ -1,7 +1,10 @@
 pub mod Atoms
+pub mod ByKind
 pub mod Context
 pub mod Cutting
+pub mod Machine
 pub mod Names
 pub mod Outcome
 pub mod Running
+pub mod Standing
 pub mod Working

@@ -1,6 +1,8 @@
 //! What a text is worked for: the switches of the line, and an input or the link.
 
-ghost use Rattle.std.specs.Prelude.{◌≡◌, IfOk};
+ghost use Rattle.drv_machine.specs.Context.{argument, names};
+ghost use Rattle.drv_machine.specs.Outcome.{place_of};
+ghost use Rattle.std.specs.Prelude.{◌≡◌, ◌<◌, IfOk, length};
 
 use drv_args::Switch;
 use drv_match::Switches;
@@ -55,5 +57,44 @@ impl Context {
             matcher,
             input,
         })
+    }
+
+    /// The same switches, for this input, or none for the link. It takes no memory.
+    pub fn set_input(&mut self, input: Option<Source>)
+        ensures { self.new ≡ record self.old { input = input } }
+    {
+        self.input = input;
+    }
+
+    /// The switches, ready for patterns.
+    pub(crate) fn switches(&self) -> &Switches
+        ensures { result.now ≡ names self.now }
+    {
+        &self.matcher
+    }
+
+    /// The argument of the switch at this place, if it takes one as a word of its own.
+    pub(crate) fn argument(&self, i: usize) -> &Option<Word>
+        requires { i < length self.now.switches }
+        ensures { result.now ≡ argument self.now i }
+    {
+        &self.switches.as_slice()[i].arg
+    }
+
+    /// The input, or none for the link.
+    pub(crate) fn input(&self) -> &Option<Source>
+        ensures { result.now ≡ self.now.input }
+    {
+        &self.input
+    }
+
+    /// The input's place among the line's inputs; the link has none.
+    pub(crate) fn place(&self) -> Option<usize>
+        ensures { place_of self.now.input ≡ result }
+    {
+        match &self.input {
+            Some(source) => Some(source.place),
+            None => None,
+        }
     }
 }

@@ -1,15 +1,12 @@
-//! What no clause says: printed texts, and that a call succeeds where memory is ample.
+//! What no clause says: worked texts, limits, printed texts, and that a call succeeds where memory is ample.
 
-use crate::{Context, MachineFault};
-use drv_words::{Listing, Word};
+mod limits;
+mod texts;
+mod working;
+
+use crate::MachineFault;
+use drv_words::Word;
 use std::test::Fail;
-
-#[test]
-fn a_context_is_made(rt: HostRuntime) -> Result<(), Fail> {
-    let alloc = rt.alloc();
-    Context::new(alloc, Listing::new(alloc), None)?;
-    Ok(())
-}
 
 #[test]
 fn faults_are_said(rt: HostRuntime) -> Result<(), Fail> {

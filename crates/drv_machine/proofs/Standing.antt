@@ -1,0 +1,238 @@
+use Rattle.drv_machine.specs.Atoms.{asked_has_star, brace_has_star, choices_have_star, has_star, item_has_star, tests_have_star}
+use Rattle.drv_machine.specs.Standing.{Part, Spans, Stand, Stands, behind_tests, is_test, starred, stars, test_stars, tests_in}
+use Rattle.drv_syntax.proofs.WalkNodes.{flat, items_flat}
+use Rattle.drv_syntax.specs.Labels.{Label, Nodes, asked_nodes, both, brace_nodes, choice_nodes, inner_nodes, label_of, labels, labels_of, no_label, no_node, node, nodes_of, pattern_nodes, test_label, test_nodes}
+use Rattle.drv_syntax.specs.Parsed.{tree_of}
+use Rattle.drv_syntax.specs.Tokens.{kind_of, tokens_of}
+use Rattle.drv_syntax.specs.Tree as tree
+use Rattle.drv_syntax.specs.Tree.{Asked, Brace, Choices, Item, Items, Pattern, Span, Tests}
+use Rattle.drv_syntax.specs.declared.token.Token.{Token}
+use Rattle.drv_syntax.specs.declared.token.TokenKind.TheVariants as kinds
+use Rattle.drv_syntax.specs.declared.token.TokenKind.{TokenKind}
+use Rattle.std.proofs.Common.{◌≡◌, ◌<◌, ◌≤◌, ◌+◌, ◌++◌, ◌∙◌, ◌∷◌, ◌||◌, Bool, List, [], Option, Some, ap, append-nil, append_assoc, arith, false, get_or, if◌then◌else◌, length, length-append, refl, slice_get, subst, sym, true, unwrap_or, ℕ}
+use Rattle.std.proofs.lemmas.Option.{slice_get_within}
+use Rattle.std.proofs.Math.Seq.{get_or-append_seam}
+
+-- Where the parts of a tree stand in its flat list.
+
+-- parts in a list of tokens, between what stands before them and what stands behind
+slice_seam : {A : Type 0} (xs : List A) (y : A) (ys : List A) → slice_get (xs ++ y ∷ ys) (length xs) ≡ Some y
+slice_seam [] y ys = refl
+slice_seam (x ∷ xs) y ys = slice_seam xs y ys
+
+same_size : (nodes : Nodes) (n : ℕ) → length (labels nodes) ≡ length (flat n nodes)
+same_size no_node n = refl
+same_size (node kind label span inner others) n =
+    let i : length (labels inner) ≡ length (flat (n + 1) inner) = same_size inner (n + 1) in
+    let o : length (labels others) ≡ length (flat (n + 1 + length (flat (n + 1) inner)) others) = same_size others (n + 1 + length (flat (n + 1) inner)) in
+    omega (arith, i, o, length-append (labels inner) (labels others), length-append (flat (n + 1) inner) (flat (n + 1 + length (flat (n + 1) inner)) others))
+
+module _ (tokens : List Token) (marks : List Label) where
+  first_part : (n : ℕ) (here : Token) (label : Label) (ts before behind : List Token) (ls front back : List Label) → tokens ≡ before ++ (here ∷ (ts ++ behind)) → marks ≡ front ++ (label ∷ (ls ++ back))
+      → length before ≡ n → length front ≡ n → n < here.next → Part tokens marks n here.kind label here.next
+  first_part n here label ts before behind ls front back t l b f g = record {
+    token = here;
+    there = ap (λ xs. slice_get xs n) t ∙ subst (λ (k : ℕ). slice_get (before ++ (here ∷ (ts ++ behind))) k ≡ Some here) b (slice_seam before here (ts ++ behind));
+    kind_is = refl;
+    next_is = refl;
+    label_is = ap (λ xs. get_or xs n no_label) l ∙ subst (λ (k : ℕ). get_or (front ++ (label ∷ (ls ++ back))) k no_label ≡ label) f (get_or-append_seam front label (ls ++ back) no_label);
+    later = g;
+  }
+
+  pub stand : (n : ℕ) (nodes : Nodes) (before behind : List Token) (front back : List Label) → tokens ≡ before ++ (flat n nodes ++ behind) → marks ≡ front ++ (labels nodes ++ back)
+      → length before ≡ n → length front ≡ n → Stand tokens marks n nodes (n + length (flat n nodes))
+  stand n no_node before behind front back t l b f = omega arith
+  stand n (node kind label span inner others) before behind front back t l b f =
+      let next : ℕ = n + 1 + length (flat (n + 1) inner) in
+      let here : Token = record { kind = kind; start = span.start; end = span.end; next = n + 1 + length (flat (n + 1) inner) } in
+      let size : n + length (flat n (node kind label span inner others)) ≡ next + length (flat next others) = omega (arith, length-append (flat (n + 1) inner) (flat next others)) in (
+        next,
+        first_part n here label (flat (n + 1) inner ++ flat next others) before behind (labels inner ++ labels others) front back t l b f (omega arith),
+        stand (n + 1) inner (before ++ (here ∷ [])) (flat next others ++ behind) (front ++ (label ∷ [])) (labels others ++ back)
+            (t ∙ ap (λ zs. before ++ (here ∷ zs)) (append_assoc (flat (n + 1) inner) (flat next others) behind) ∙ sym (append_assoc before (here ∷ []) (flat (n + 1) inner ++ (flat next others ++ behind))))
+            (l ∙ ap (λ zs. front ++ (label ∷ zs)) (append_assoc (labels inner) (labels others) back) ∙ sym (append_assoc front (label ∷ []) (labels inner ++ (labels others ++ back))))
+            (omega (arith, b, length-append before (here ∷ [])))
+            (omega (arith, f, length-append front (label ∷ []))),
+        subst (λ (k : ℕ). Stand tokens marks next others k) (sym size)
+            (stand next others (before ++ (here ∷ flat (n + 1) inner)) behind (front ++ (label ∷ labels inner)) back
+            (t ∙ ap (λ zs. before ++ (here ∷ zs)) (append_assoc (flat (n + 1) inner) (flat next others) behind) ∙ sym (append_assoc before (here ∷ flat (n + 1) inner) (flat next others ++ behind)))
+            (l ∙ ap (λ zs. front ++ (label ∷ zs)) (append_assoc (labels inner) (labels others) back) ∙ sym (append_assoc front (label ∷ labels inner) (labels others ++ back)))
+            (omega (arith, b, length-append before (here ∷ flat (n + 1) inner)))
+            (omega (arith, f, same_size inner (n + 1), length-append front (label ∷ labels inner)))),
+      )
+
+  -- places grow
+  pub stand_grows : (at : ℕ) (nodes : Nodes) (end : ℕ) → Stand tokens marks at nodes end → at ≤ end
+  stand_grows at no_node end e = omega (arith, e)
+  stand_grows at (node kind label span inner others) end (next, part, within, rest) = omega (arith, part.later, stand_grows next others end rest)
+
+  -- parts beside others
+  pub stand_both : (at : ℕ) (xs ys : Nodes) (end : ℕ) → Stand tokens marks at (both xs ys) end
+      → (middle : ℕ) × Stand tokens marks at xs middle × Stand tokens marks middle ys end
+  stand_both at no_node ys end s = (at, refl, s)
+  stand_both at (node kind label span inner xs) ys end (next, part, within, rest) =
+      let found = stand_both next xs ys end rest in
+      (found.0, (next, part, within, found.1), found.2)
+
+-- the whole tree
+pub whole_stands : (text : List ℕ) → Stands text 0 (nodes_of (tree_of text)) (length (tokens_of (tree_of text)))
+whole_stands text =
+    subst (λ (k : ℕ). Stands text 0 (nodes_of (tree_of text)) k) (by (length (flat 0 (nodes_of (tree_of text)))) ∙ sym (ap (λ ts. length ts) (items_flat 0 (tree_of text))))
+    (stand (tokens_of (tree_of text)) (labels_of (tree_of text)) 0 (nodes_of (tree_of text)) [] [] [] []
+    (items_flat 0 (tree_of text) ∙ sym (append-nil _)) (sym (append-nil _)) refl refl)
+  where
+    by : (k : ℕ) → 0 + k ≡ k
+    by k = omega arith
+
+-- Going over tests: what is left, from the place that is reached.
+pub record Passed (text : List ℕ) (start at : ℕ) (nodes : Nodes) (end : ℕ) : Type 0 where
+  pub rest : Nodes
+  pub stands : Stands text at rest end
+  pub joins : (x : ℕ) → Stands text at (tests_in rest) x → Stands text start (tests_in nodes) x
+  pub same : behind_tests rest ≡ behind_tests nodes
+
+pub passed_none : (text : List ℕ) (start : ℕ) (nodes : Nodes) (end : ℕ) → Stands text start nodes end → Passed text start start nodes end
+passed_none text start nodes end s = record { rest = nodes; stands = s; joins = λ x t. t; same = refl }
+
+-- the token at the first place of parts that aren't at their end
+pub record Front (text : List ℕ) (at : ℕ) (nodes : Nodes) (end : ℕ) : Type 0 where
+  pub kind : TokenKind
+  pub label : Label
+  pub span : Span
+  pub inner : Nodes
+  pub others : Nodes
+  pub is : nodes ≡ node kind label span inner others
+  pub next : ℕ
+  pub part : Part (tokens_of (tree_of text)) (labels_of (tree_of text)) at kind label next
+  pub within : Stands text (at + 1) inner next
+  pub behind : Stands text next others end
+
+pub front : (text : List ℕ) (at : ℕ) (nodes : Nodes) (end : ℕ) → at < end → Stands text at nodes end → Front text at nodes end
+front text at no_node end h e = absurd (omega (arith, h, e))
+front text at (node kind label span inner others) end h (next, part, within, behind) = record {
+  kind = kind;
+  label = label;
+  span = span;
+  inner = inner;
+  others = others;
+  is = refl;
+  next = next;
+  part = part;
+  within = within;
+  behind = behind;
+}
+
+-- Looking for a %*: none stood before the place that is reached.
+pub record Seen (text : List ℕ) (at : ℕ) (nodes : Nodes) (end : ℕ) : Type 0 where
+  pub rest : Nodes
+  pub stands : Stands text at rest end
+  pub same : stars nodes ≡ stars rest
+
+pub some_same : {X : Type 0} (a b : X) → Some a ≡ Some b → a ≡ b
+some_same {X = X} a b e = ap (λ (o : Option X). unwrap_or o a) e
+
+-- what stands at a place before the end of parts, by the token there
+pub record Here (text : List ℕ) (at : ℕ) (token : Token) (end : ℕ) : Type 0 where
+  pub in_list : at < length (tokens_of (tree_of text))
+  pub later : at < token.next
+  pub in_parts : token.next ≤ end
+  pub within : Spans text (at + 1) token.next
+  pub behind : Spans text token.next end
+
+module _ (text : List ℕ) (at end : ℕ) (h : at < end) (token : Token) (e : slice_get (tokens_of (tree_of text)) at ≡ Some token) where
+  -- the token at the front is the one in the list
+  pub kind_there : (nodes : Nodes) (f : Front text at nodes end) → token.kind ≡ f.kind
+  kind_there nodes f = ap (λ (t : Token). t.kind) (some_same token f.part.token (sym e ∙ f.part.there)) ∙ f.part.kind_is
+
+  pub next_there : (nodes : Nodes) (f : Front text at nodes end) → token.next ≡ f.next
+  next_there nodes f = ap (λ (t : Token). t.next) (some_same token f.part.token (sym e ∙ f.part.there)) ∙ f.part.next_is
+
+  pub here : Spans text at end → Here text at token end
+  here s =
+      let f = front text at s.nodes end h s.stands in
+      let n = next_there s.nodes f in record {
+        in_list = slice_get_within (tokens_of (tree_of text)) at token e;
+        later = omega (arith, n, f.part.later);
+        in_parts = omega (arith, n, stand_grows _ _ f.next f.others end f.behind);
+        within = record { nodes = f.inner; stands = subst (λ (k : ℕ). Stands text (at + 1) f.inner k) (sym n) f.within };
+        behind = record { nodes = f.others; stands = subst (λ (k : ℕ). Stands text k f.others end) (sym n) f.behind };
+      }
+
+  module _ (start : ℕ) (nodes : Nodes) (p : Passed text start at nodes end) where
+    pub passed_step : is_test token.kind ≡ true → Passed text start token.next nodes end
+    passed_step t =
+        let f = front text at p.rest end h p.stands in
+        let test : is_test f.kind ≡ true = ap is_test (sym (kind_there p.rest f)) ∙ t in
+        let n = next_there p.rest f in record {
+          rest = f.others;
+          stands = subst (λ (k : ℕ). Stands text k f.others end) (sym n) f.behind;
+          joins = λ x s.
+              p.joins x (subst (λ (xs : Nodes). Stands text at xs x) (sym (ap tests_in f.is ∙ ap (λ b. if b then node f.kind f.label f.span f.inner (tests_in f.others) else no_node) test))
+              (f.next, f.part, f.within, subst (λ (k : ℕ). Stands text k (tests_in f.others) x) n s));
+          same = sym (ap (λ b. if b then behind_tests f.others else node f.kind f.label f.span f.inner f.others) test) ∙ sym (ap behind_tests f.is) ∙ p.same;
+        }
+
+    pub passed_stop : is_test token.kind ≡ false → Stands text start (tests_in nodes) at × Stands text at (behind_tests nodes) end
+    passed_stop t =
+        let f = front text at p.rest end h p.stands in
+        let test : is_test f.kind ≡ false = ap is_test (sym (kind_there p.rest f)) ∙ t in (
+          p.joins at (subst (λ (xs : Nodes). Stands text at xs at) (sym (ap tests_in f.is ∙ ap (λ b. if b then node f.kind f.label f.span f.inner (tests_in f.others) else no_node) test)) refl),
+          subst (λ (xs : Nodes). Stands text at xs end)
+              (f.is ∙ sym (ap (λ b. if b then behind_tests f.others else node f.kind f.label f.span f.inner f.others) test) ∙ sym (ap behind_tests f.is) ∙ p.same) p.stands,
+        )
+
+  module _ (nodes : Nodes) where
+    pub seen_step : (s : Seen text at nodes end) → ((inner : Nodes) → Stands text (at + 1) inner token.next → starred token.kind (stars inner) (test_stars inner) ≡ false) → Seen text token.next nodes end
+    seen_step s none =
+        let f = front text at s.rest end h s.stands in
+        let n = next_there s.rest f in
+        let no : starred token.kind (stars f.inner) (test_stars f.inner) ≡ false = none f.inner (subst (λ (k : ℕ). Stands text (at + 1) f.inner k) (sym n) f.within) in record {
+          rest = f.others;
+          stands = subst (λ (k : ℕ). Stands text k f.others end) (sym n) f.behind;
+          same = s.same ∙ ap stars f.is ∙ ap (λ k. starred k (stars f.inner) (test_stars f.inner) || stars f.others) (sym (kind_there s.rest f)) ∙ ap (λ b. b || stars f.others) no;
+        }
+
+    pub seen_found : (s : Seen text at nodes end) → ((inner : Nodes) → Stands text (at + 1) inner token.next → starred token.kind (stars inner) (test_stars inner) ≡ true) → true ≡ stars nodes
+    seen_found s some =
+        let f = front text at s.rest end h s.stands in
+        let n = next_there s.rest f in
+        let yes : starred token.kind (stars f.inner) (test_stars f.inner) ≡ true = some f.inner (subst (λ (k : ℕ). Stands text (at + 1) f.inner k) (sym n) f.within) in
+        sym (s.same ∙ ap stars f.is ∙ ap (λ k. starred k (stars f.inner) (test_stars f.inner) || stars f.others) (sym (kind_there s.rest f)) ∙ ap (λ b. b || stars f.others) yes)
+
+-- at the end nothing is left
+pub none_left : (text : List ℕ) (at end : ℕ) (nodes : Nodes) → end ≤ at → Stands text at nodes end → nodes ≡ no_node
+none_left text at end no_node h s = refl
+none_left text at end (node kind label span inner others) h (next, part, within, behind) = absurd (omega (arith, h, part.later, stand_grows _ _ next others end behind))
+
+pub not_test : (kind : TokenKind) → (kind ≡ kinds.Test → ⊥) → is_test kind ≡ false
+not_test kinds.Test h = absurd (h refl)
+not_test _ h = refl
+
+pub starred_inside : (kind : TokenKind) (a b : Bool) → (kind ≡ kinds.Star → ⊥) → (kind ≡ kinds.Alternative → ⊥) → starred kind a b ≡ a
+starred_inside kinds.Star a b h g = absurd (h refl)
+starred_inside kinds.Alternative a b h g = absurd (g refl)
+starred_inside _ a b h g = refl
+
+pub front_in : (text : List ℕ) (at end : ℕ) → at < end → Spans text at end → at < length (tokens_of (tree_of text))
+front_in text at end h s = let f = front text at s.nodes end h s.stands in slice_get_within (tokens_of (tree_of text)) at f.part.token f.part.there
+
+at_end : (text : List ℕ) (at end : ℕ) (nodes : Nodes) → end ≤ at → Stands text at nodes end → at ≡ end
+at_end text at end nodes h s = omega (arith, h, stand_grows _ _ at nodes end s)
+
+pub passed_end : (text : List ℕ) (start at : ℕ) (nodes : Nodes) (end : ℕ) → end ≤ at → Passed text start at nodes end → Stands text start (tests_in nodes) at × Stands text at (behind_tests nodes) end
+passed_end text start at nodes end h p =
+    let none = none_left text at end p.rest h p.stands in (
+      p.joins at (subst (λ (xs : Nodes). Stands text at xs at) (sym (ap tests_in none)) refl),
+      subst (λ (xs : Nodes). Stands text at xs end) (sym (ap behind_tests none) ∙ p.same) (at_end text at end p.rest h p.stands),
+    )
+
+pub seen_end : (text : List ℕ) (at : ℕ) (nodes : Nodes) (end : ℕ) → end ≤ at → Seen text at nodes end → false ≡ stars nodes
+seen_end text at nodes end h s = sym (s.same ∙ ap stars (none_left text at end s.rest h s.stands))
+
+-- the part at a place ends where its token says
+pub next_at : (text : List ℕ) (at : ℕ) (token : Token) (kind : TokenKind) (label : Label) (next : ℕ) → slice_get (tokens_of (tree_of text)) at ≡ Some token
+    → Part (tokens_of (tree_of text)) (labels_of (tree_of text)) at kind label next → token.next ≡ next
+next_at text at token kind label next e part = ap (λ (t : Token). t.next) (some_same token part.token (sym e ∙ part.there)) ∙ part.next_is
+
+pub whole_there : (text : List ℕ) (end : ℕ) → end ≡ length (tokens_of (tree_of text)) → Stands text 0 (nodes_of (tree_of text)) end
+whole_there text end e = subst (λ (k : ℕ). Stands text 0 (nodes_of (tree_of text)) k) (sym e) (whole_stands text)

@@ -1,0 +1,26 @@
+use Rattle.drv_machine.proofs.EmitSteps.{patterns_end, patterns_step}
+use Rattle.drv_machine.proofs.Standing.{front_in, here}
+use Rattle.drv_machine.proofs.emitting.patterns_in.Goals as goal
+use Rattle.std.proofs.Common.{arith}
+
+pub pattern_at-requires : goal.pattern_at-requires
+pattern_at-requires c = front_in c.args.text.now c.loop-at.at c.args.end c.loop-at-test.true c.loop-at.invariant.spans
+
+pub token_at-requires : goal.token_at-requires
+token_at-requires c = front_in c.args.text.now c.loop-at.at c.args.end c.loop-at-test.true c.loop-at.invariant.spans
+
+pub loop-at-smaller : goal.loop-at-smaller
+loop-at-smaller c =
+    let h = here c.args.text.now c.loop-at.at c.args.end c.loop-at-test.true c.token_at.result c.token_at.ensures c.loop-at.invariant.spans in
+    omega (arith, h.later, h.in_parts)
+
+pub loop-at-preserved : goal.loop-at-preserved
+loop-at-preserved c = record {
+  spans = (here c.args.text.now c.loop-at.at c.args.end c.loop-at-test.true c.token_at.result c.token_at.ensures c.loop-at.invariant.spans).behind;
+  left = λ patterns s.
+      patterns_step c.args.text.now c.loop-at.at c.args.end c.loop-at-test.true c.token_at.result c.token_at.ensures c.loop-at.patterns c.push.new.self c.in_ok-pattern_at.field-0
+      c.in_ok-pattern_at.ensures c.in_ok-push.ensures.ok patterns (c.loop-at.invariant.left patterns s);
+}
+
+pub returns : goal.returns
+returns c patterns s = patterns_end c.args.text.now c.loop-at.at c.args.end (omega (arith, c.loop-at-test.false)) c.loop-at.patterns patterns (c.loop-at.invariant.left patterns s)

@@ -1,0 +1,14 @@
+use Rattle.drv_machine.proofs.Standing.{Passed}
+use Rattle.drv_machine.specs.Standing.{Spans, Stands}
+use Rattle.drv_syntax.specs.Labels.{Nodes}
+use Rattle.std.proofs.Common.{◌-◌}
+use Rattle.drv_machine.proofs.places.tests_end.Given as goal
+
+abbrev pub invariant-loop-at : goal.invariant-loop-at
+invariant-loop-at l = record {
+  spans : Spans l.tree l.at l.end;
+  passed : (nodes : Nodes) → Stands l.tree l.start nodes l.end → Passed l.tree l.start l.at nodes l.end;
+}
+
+abbrev pub decreases-loop-at : goal.decreases-loop-at
+decreases-loop-at l = l.end - l.at

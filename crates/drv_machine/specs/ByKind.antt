@@ -1,0 +1,96 @@
+use Rattle.drv_machine.specs.Atoms.{choices_step, emitted, input_name, switch_atoms}
+use Rattle.drv_machine.specs.Context.{Context, names}
+use Rattle.drv_machine.specs.Names.{base, is_word, language_of, stem, suffix_of}
+use Rattle.drv_machine.specs.Running.{State, run}
+use Rattle.drv_machine.specs.Standing.{Stands}
+use Rattle.drv_machine.specs.Working.{◌>>=◌, Atom, Break, End, Levels, Piped, Put, Step, bytes, change, give, look, puts, refuse}
+use Rattle.drv_machine.specs.declared.fault.MachineFault.TheVariants.{Memory, NotYet}
+use Rattle.drv_machine.specs.declared.fault.MachineFault.{MachineFault}
+use Rattle.drv_match.specs.Matching.{hidden_by, hits, is_hit}
+use Rattle.drv_match.specs.declared.pattern.Pattern as switches
+use Rattle.drv_syntax.specs.Labels.{Label, choice_nodes, label_at, pattern_nodes, test_label}
+use Rattle.drv_syntax.specs.Parsed.{tree_of}
+use Rattle.drv_syntax.specs.Tokens.{tokens_of}
+use Rattle.drv_syntax.specs.Tree.{Asked, Choices, Pattern, Span}
+use Rattle.drv_syntax.specs.declared.token.TestKind.TheVariants as asks
+use Rattle.drv_syntax.specs.declared.token.TestKind.{TestKind}
+use Rattle.drv_syntax.specs.declared.token.TokenKind.TheVariants as kinds
+use Rattle.drv_syntax.specs.declared.token.TokenKind.{TokenKind}
+use Rattle.drv_system.specs.Facts.{Facts}
+use Rattle.drv_system.specs.Known.{Is}
+use Rattle.std.specs.List.{filter, flat_map, list_any, range_with_len}
+use Rattle.std.specs.Prelude.{◌≡◌, ◌⊎◌, ◌<◌, ◌-◌, Bool, List, [], ◌∷◌, Option, None, Some, Result, Err, Ok, false, length, nat_lt, true, ⊤, ℕ}
+
+-- What an item means, by its kind and its label (this project's profile). For the clauses of the code alone.
+
+-- the pattern that a label names
+abbrev pub labelled : Label → switches.Pattern
+labelled label = record { name = label.word; star = label.starred }
+
+-- one of the patterns hits the switch at a place
+abbrev pub is_one : Facts → Context → List switches.Pattern → List Bool → ℕ → Bool
+is_one F C patterns hidden i = list_any (λ pattern. is_hit (names C) hidden pattern i) patterns
+
+-- the switches that one of the patterns hits, from a place on
+abbrev pub emitted_from : Facts → Context → List switches.Pattern → List Bool → ℕ → List Atom
+emitted_from F C patterns hidden i = flat_map (switch_atoms F C) (filter (is_one F C patterns hidden) (range_with_len i (length C.switches - i)))
+
+-- %< and %>
+abbrev pub hide_step : Context → Label → Step (Unit {0})
+hide_step C label = change (λ w. record w { hidden = hidden_by (labelled label) (names C) w.hidden })
+
+-- a test that asks for a switch
+abbrev pub asks_switch : Label → Bool
+asks_switch label = by label.asks
+  where
+    by : TestKind → Bool
+    by asks.Switch = true
+    by _ = false
+
+-- what a test asks, its ! aside
+abbrev pub asked_step : Context → Label → Step Bool
+asked_step C label = by label.asks
+  where
+    by : TestKind → Step Bool
+    by asks.Switch = look (λ w. nat_lt 0 (length (hits (names C) w.hidden (labelled label))))
+    by asks.Suffix = give (is_word label.word (suffix_of C.input))
+    by asks.Language = give (is_word label.word (language_of C.input))
+    by asks.Result = refuse NotYet
+
+-- what the braces of this kind mean, whose parts stand from one place up to another
+abbrev pub Means : Facts → Context → List ℕ → TokenKind → ℕ → ℕ → Levels → List ℕ → Step (Unit {0}) → Type 0
+Means F C text kinds.Emit at end levels star inner =
+    (patterns : List (Span × Pattern)) × Stands text at (pattern_nodes patterns) end × (inner ≡ (look (λ w. emitted F C patterns w.hidden) >>= puts))
+Means F C text kinds.Choose at end levels star inner = (choices : Choices) × Stands text at (choice_nodes choices) end × (inner ≡ choices_step F C choices levels star)
+Means F C text _ at end levels star inner = ⊤
+
+-- a test that is true, at a place, and the state that is left as it was
+pub record TrueTest (F : Facts) (C : Context) (text : List ℕ) (s : State) (at : ℕ) (step : Step (Option Asked)) : Type 0 where
+  pub negated : Bool
+  pub asked : Asked
+  pub label_is : label_at (tree_of text) at ≡ test_label negated asked
+  pub gives : run F C s step ≡ Is (Ok (Some asked, s))
+
+-- what was found of tests
+abbrev pub Found : Facts → Context → List ℕ → State → Result (Option ℕ) MachineFault → Step (Option Asked) → Type 0
+Found F C text s (Ok None) step = run F C s step ≡ Is (Ok (None, s))
+Found F C text s (Ok (Some at)) step = TrueTest F C text s at step
+Found F C text s (Err fault) step = (fault ≡ Memory) ⊎ (run F C s step ≡ Is (Err fault))
+
+-- `star` is what %* stands for, and `inner` what the braces mean
+abbrev pub kind_step : Facts → Context → TokenKind → Label → List ℕ → Step (Unit {0}) → Step (Unit {0})
+kind_step F C kinds.Plain label star inner = bytes label.word
+kind_step F C kinds.Escape label star inner = bytes label.word
+kind_step F C kinds.Blank label star inner = puts (Break ∷ [])
+kind_step F C kinds.Newline label star inner = puts (Break ∷ End ∷ [])
+kind_step F C kinds.Pipe label star inner = puts (Piped ∷ [])
+kind_step F C kinds.Percent label star inner = bytes (37 ∷ [])
+kind_step F C kinds.InputName label star inner = input_name F C >>= bytes
+kind_step F C kinds.BaseStem label star inner = input_name F C >>= λ name. bytes (stem name)
+kind_step F C kinds.BaseName label star inner = input_name F C >>= λ name. bytes (base name)
+kind_step F C kinds.ObjectSuffix label star inner = bytes (46 ∷ 111 ∷ [])
+kind_step F C kinds.Hide label star inner = hide_step C label
+kind_step F C kinds.Emit label star inner = inner
+kind_step F C kinds.Choose label star inner = inner
+kind_step F C kinds.Star label star inner = bytes star
+kind_step F C _ label star inner = refuse NotYet

@@ -1,0 +1,61 @@
+use Rattle.drv_syntax.specs.Labels.{Label, Nodes, labels_of, no_label, no_node, node}
+use Rattle.drv_syntax.specs.Parsed.{tree_of}
+use Rattle.drv_syntax.specs.Tokens.{tokens_of}
+use Rattle.drv_syntax.specs.declared.token.Token.{Token}
+use Rattle.drv_syntax.specs.declared.token.TokenKind.TheVariants as kinds
+use Rattle.drv_syntax.specs.declared.token.TokenKind.{TokenKind}
+use Rattle.std.specs.Prelude.{◌≡◌, ◌<◌, ◌+◌, ◌||◌, Bool, List, Some, false, get_or, if◌then◌else◌, slice_get, true, ℕ}
+
+-- Where the parts of a tree stand in its flat list (this project's profile). For the clauses of the code alone.
+
+-- at this place stands a part of this kind with this label, and the next part that isn't inside it stands at `next`
+pub record Part (tokens : List Token) (labels : List Label) (at : ℕ) (kind : TokenKind) (label : Label) (next : ℕ) : Type 0 where
+  pub token : Token
+  pub there : slice_get tokens at ≡ Some token
+  pub kind_is : token.kind ≡ kind
+  pub next_is : token.next ≡ next
+  pub label_is : get_or labels at no_label ≡ label
+  pub later : at < next
+
+-- these parts stand from one place up to another
+abbrev pub Stand : List Token → List Label → ℕ → Nodes → ℕ → Type 0
+Stand tokens labels at no_node end = at ≡ end
+Stand tokens labels at (node kind label span inner others) end =
+    (next : ℕ) × Part tokens labels at kind label next × Stand tokens labels (at + 1) inner next × Stand tokens labels next others end
+
+-- in the list of a text
+abbrev pub Stands : List ℕ → ℕ → Nodes → ℕ → Type 0
+Stands text at nodes end = Stand (tokens_of (tree_of text)) (labels_of (tree_of text)) at nodes end
+
+-- whole parts stand from one place up to another
+pub record Spans (text : List ℕ) (at end : ℕ) : Type 0 where
+  pub nodes : Nodes
+  pub stands : Stands text at nodes end
+
+abbrev pub is_test : TokenKind → Bool
+is_test kinds.Test = true
+is_test _ = false
+
+-- the tests that stand first, and what stands behind them
+abbrev pub tests_in : Nodes → Nodes
+tests_in no_node = no_node
+tests_in (node kind label span inner others) = if is_test kind then node kind label span inner (tests_in others) else no_node
+
+abbrev pub behind_tests : Nodes → Nodes
+behind_tests no_node = no_node
+behind_tests (node kind label span inner others) = if is_test kind then behind_tests others else node kind label span inner others
+
+-- a %* that belongs to the X that these parts are: in an alternative only the tests can hold one
+abbrev pub starred : TokenKind → Bool → Bool → Bool
+starred kinds.Star inside in_tests = true
+starred kinds.Alternative inside in_tests = in_tests
+starred _ inside in_tests = inside
+
+abbrev mutual
+  pub stars : Nodes → Bool
+  stars no_node = false
+  stars (node kind label span inner others) = starred kind (stars inner) (test_stars inner) || stars others
+
+  pub test_stars : Nodes → Bool
+  test_stars no_node = false
+  test_stars (node kind label span inner others) = if is_test kind then stars inner || test_stars others else false

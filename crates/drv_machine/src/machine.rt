@@ -1,0 +1,260 @@
+//! What working a text holds: what is cut so far, the hidden switches, and the count of items.
+
+ghost use Rattle.drv_machine.specs.Context as specs;
+ghost use Rattle.drv_machine.specs.Context.{names};
+ghost use Rattle.drv_machine.specs.Cutting.{pipe_done};
+ghost use Rattle.drv_machine.specs.Running.{begun, run};
+ghost use Rattle.drv_machine.specs.Working as step;
+ghost use Rattle.drv_machine.specs.Working.{Break, End, Open, Piped, Put, counted, puts, word_of};
+ghost use Rattle.drv_match.specs.Matching.{hidden_by};
+ghost use Rattle.drv_system.specs.Facts.{Facts};
+ghost use Rattle.drv_system.specs.Gives.{GivesKnown};
+ghost use Rattle.drv_system.specs.Known.{Is};
+ghost use Rattle.std.specs.Prelude.{◌≡◌, ◌∷◌, ◌++◌, ◌+◌, ◌<◌, [], IfOk, Ok, OnOk, length, map};
+
+mod finishing;
+
+use crate::MachineFault;
+use drv_match::{Hidden, Pattern, Switches};
+use drv_words::{Listing, Word};
+pub(crate) use finishing::into_outcome;
+use std::alloc::{AllocError, Global};
+use std::marker::Model;
+use std::mem;
+
+/// The most items of a text.
+const MOST_ITEMS: usize = 1_000_000;
+
+/// A command as it was cut: its words, and whether it ends with a pipe.
+#[derive(Drop)]
+pub(crate) struct CutLine {
+    pub(crate) words: Listing<Word>,
+    pub(crate) piped: bool,
+}
+
+impl Model for CutLine {
+    ghost use Rattle.drv_machine.specs.Cutting.{Line};
+
+    ghost Value = { Line };
+
+    ghost view = { λ l. record { words = l.words; piped = l.piped } };
+}
+
+/// What working a text holds: the word, the command and the commands cut so far, the hidden switches, and the
+/// count of items. Contracts see the state of the definitions; what no directive changes yet is constant in it.
+#[derive(Drop)]
+pub(crate) struct Machine {
+    alloc: Global,
+    /// Whether a word is open.
+    is_open: bool,
+    /// The bytes of the open word; none where no word is open.
+    word: Vec<u8>,
+    /// The words of the open command.
+    line: Listing<Word>,
+    /// Whether a pipe stands behind them.
+    is_piped: bool,
+    lines: Listing<CutLine>,
+    /// Whether a pipe stood where none may.
+    is_stray: bool,
+    hidden: Hidden,
+    /// The number of items that were reached.
+    items: usize,
+}
+
+impl Model for Machine {
+    ghost use Rattle.drv_machine.specs.Cutting.{no_marks};
+    ghost use Rattle.drv_machine.specs.Machine.{open_word};
+    ghost use Rattle.drv_machine.specs.Running.{State};
+    ghost use Rattle.std.specs.Option.{unwrap_or};
+    ghost use Rattle.std.specs.Prelude.{◌≡◌, [], None, false};
+
+    ghost Value = { State };
+
+    ghost invariant = { λ m. unwrap_or (open_word m.is_open m.word.items) [] ≡ m.word.items };
+
+    ghost view = { λ m. record {
+      cut = record {
+        word = open_word m.is_open m.word.items;
+        marks = no_marks;
+        barred = false;
+        line = record { words = m.line; piped = m.is_piped };
+        lines = m.lines;
+        stray = m.is_stray;
+        removed = [];
+        on_failure = [];
+        output = None;
+        inside = [];
+      };
+      world = record { hidden = m.hidden; options = []; drawn = []; number = 1; outputs = []; notices = []; items = m.items };
+    } };
+}
+
+impl Machine {
+    /// Nothing is cut, hidden or counted. Want of memory is the only error.
+    pub(crate) fn new(alloc: Global, switches: &Switches) -> Result<Machine, AllocError>
+        ensures { IfOk result (λ made. (F : Facts) (C : specs.Context) → names C ≡ switches.now → made ≡ begun F C) }
+    {
+        Ok(Machine {
+            alloc,
+            is_open: false,
+            word: Vec::new(alloc),
+            line: Listing::new(alloc),
+            is_piped: false,
+            lines: Listing::new(alloc),
+            is_stray: false,
+            hidden: Hidden::new(alloc, switches)?,
+            items: 0,
+        })
+    }
+
+    /// Bytes go into the open word, or open one; no bytes change nothing.
+    pub(crate) fn put(&mut self, bytes: &[u8]) -> Result<(), MachineFault>
+        ensures does { (F : Facts) (C : specs.Context) → GivesKnown MachineFault.Memory (λ u. (tt, self.new)) result (run F C self.old (step.bytes bytes.now)) }
+        ensures sized { length self.new.world.hidden ≡ length self.old.world.hidden }
+        ensures uncounted { OnOk result (self.new.world.items ≡ self.old.world.items) }
+    {
+        if bytes.is_empty() {
+            return Ok(());
+        }
+        self.word.extend_from_slice(bytes)?;
+        self.is_open = true;
+        self.is_stray |= self.is_piped;
+        Ok(())
+    }
+
+    /// The open word, if there is one, ends.
+    pub(crate) fn end_word(&mut self) -> Result<(), MachineFault>
+        ensures does { (F : Facts) (C : specs.Context) → GivesKnown MachineFault.Memory (λ u. (tt, self.new)) result (run F C self.old (puts (Break ∷ []))) }
+        ensures sized { length self.new.world.hidden ≡ length self.old.world.hidden }
+        ensures uncounted { OnOk result (self.new.world.items ≡ self.old.world.items) }
+    {
+        if !self.is_open {
+            return Ok(());
+        }
+        self.line.push(Word::from_vec(self.word.clone()?))?;
+        self.word.clear();
+        self.is_open = false;
+        Ok(())
+    }
+
+    /// A word is open, which may stay empty.
+    fn open(&mut self)
+        ensures does { (F : Facts) (C : specs.Context) → run F C self.old (puts (Open ∷ [])) ≡ Is (Ok (tt, self.new)) }
+        ensures same { self.new.world ≡ self.old.world }
+    {
+        self.is_open = true;
+        self.is_stray |= self.is_piped;
+    }
+
+    /// The open command ends; one without a word and a pipe is dropped.
+    fn close_line(&mut self) -> Result<(), MachineFault>
+        ensures does { (F : Facts) (C : specs.Context) → GivesKnown MachineFault.Memory (λ u. (tt, self.new)) result (run F C self.old (puts (End ∷ []))) }
+        ensures same { self.new.world ≡ self.old.world }
+    {
+        if self.line.is_empty() && !self.is_piped {
+            return Ok(());
+        }
+        let words = mem::replace(&mut self.line, Listing::new(self.alloc));
+        let piped = mem::replace(&mut self.is_piped, false);
+        self.lines.push(CutLine { words, piped })?;
+        Ok(())
+    }
+
+    /// A pipe stands behind the words of the open command: there has to be one, and no pipe yet.
+    fn close_with_pipe(&mut self)
+        ensures { self.new ≡ record self.old { cut = pipe_done self.old.cut } }
+    {
+        self.is_stray |= self.is_piped || self.line.is_empty();
+        self.is_piped = true;
+    }
+
+    /// The open word and its command end; a command without a word and a pipe is dropped.
+    pub(crate) fn end_line(&mut self) -> Result<(), MachineFault>
+        ensures does { (F : Facts) (C : specs.Context) → GivesKnown MachineFault.Memory (λ u. (tt, self.new)) result (run F C self.old (puts (Break ∷ End ∷ []))) }
+        ensures sized { length self.new.world.hidden ≡ length self.old.world.hidden }
+        ensures uncounted { OnOk result (self.new.world.items ≡ self.old.world.items) }
+    {
+        self.end_word()?;
+        self.close_line()
+    }
+
+    /// The open word ends, and its command with a pipe. Whether pipes stand right is judged behind the whole text.
+    pub(crate) fn pipe(&mut self) -> Result<(), MachineFault>
+        ensures does { (F : Facts) (C : specs.Context) → GivesKnown MachineFault.Memory (λ u. (tt, self.new)) result (run F C self.old (puts (Piped ∷ []))) }
+        ensures sized { length self.new.world.hidden ≡ length self.old.world.hidden }
+        ensures uncounted { OnOk result (self.new.world.items ≡ self.old.world.items) }
+    {
+        self.end_word()?;
+        self.close_with_pipe();
+        Ok(())
+    }
+
+    /// The open word ends, and a switch's argument, if it has one, is a word behind it.
+    pub(crate) fn put_argument(&mut self, argument: &Option<Word>) -> Result<(), MachineFault>
+        ensures does { (F : Facts) (C : specs.Context) → GivesKnown MachineFault.Memory (λ u. (tt, self.new)) result (run F C self.old (puts (Break ∷ word_of argument.now))) }
+        ensures sized { length self.new.world.hidden ≡ length self.old.world.hidden }
+        ensures uncounted { OnOk result (self.new.world.items ≡ self.old.world.items) }
+    {
+        self.end_word()?;
+        let Some(word) = argument else {
+            return Ok(());
+        };
+        self.open();
+        self.put(word.as_bytes())?;
+        self.end_word()
+    }
+
+    /// A switch as it stands on the line, its first `-` and its argument included; it ends the word that it stands in.
+    pub(crate) fn put_switch(
+        &mut self,
+        name: &[u8],
+        argument: &Option<Word>,
+    ) -> Result<(), MachineFault>
+        ensures does { (F : Facts) (C : specs.Context) → GivesKnown MachineFault.Memory (λ u. (tt, self.new)) result (run F C self.old (puts (map Put (45 ∷ name.now) ++ Break ∷ word_of argument.now))) }
+        ensures sized { length self.new.world.hidden ≡ length self.old.world.hidden }
+        ensures uncounted { OnOk result (self.new.world.items ≡ self.old.world.items) }
+    {
+        self.put(b"-")?;
+        self.put(name)?;
+        self.put_argument(argument)
+    }
+
+    /// One more item is reached.
+    ///
+    /// # Errors
+    /// `TooManySteps` where 1,000,000 were reached before.
+    pub(crate) fn count(&mut self) -> Result<(), MachineFault>
+        ensures does { (F : Facts) (C : specs.Context) → GivesKnown MachineFault.Memory (λ u. (tt, self.new)) result (run F C self.old counted) }
+        ensures sized { length self.new.world.hidden ≡ length self.old.world.hidden }
+        ensures counts { OnOk result (self.new.world.items ≡ self.old.world.items + 1) }
+        ensures below { OnOk result (self.old.world.items < 1000000) }
+    {
+        if self.items >= MOST_ITEMS {
+            return Err(MachineFault::TooManySteps);
+        }
+        self.items += 1;
+        Ok(())
+    }
+
+    /// Hides every switch that a pattern names. It takes no memory.
+    pub(crate) fn hide(&mut self, switches: &Switches, pattern: &Pattern)
+        requires { length self.old.world.hidden ≡ length switches.now }
+        ensures does { self.new ≡ record self.old { world = record self.old.world { hidden = hidden_by pattern.now switches.now self.old.world.hidden } } }
+        ensures sized { length self.new.world.hidden ≡ length self.old.world.hidden }
+        ensures uncounted { self.new.world.items ≡ self.old.world.items }
+    {
+        switches.hide(pattern, &mut self.hidden);
+    }
+
+    /// For each switch whether it is hidden.
+    pub(crate) fn hidden(&self) -> &Hidden
+        ensures { result.now ≡ self.now.world.hidden }
+    {
+        &self.hidden
+    }
+
+    /// Where what it holds is allocated.
+    pub(crate) fn alloc(&self) -> Global {
+        self.alloc
+    }
+}

@@ -1,0 +1,71 @@
+//! Parts of a text by their places in its flat list.
+
+ghost use Rattle.drv_machine.specs.ByKind.{labelled};
+ghost use Rattle.drv_machine.specs.Standing.{Spans, Stands, behind_tests, stars, tests_in};
+ghost use Rattle.drv_syntax.specs.Labels.{Nodes, label_at};
+ghost use Rattle.drv_syntax.specs.Parsed.{tree_of};
+ghost use Rattle.drv_syntax.specs.Tokens.{tokens_of};
+ghost use Rattle.std.specs.Prelude.{◌≡◌, ◌<◌, IfOk, Some, length, slice_get};
+
+use drv_match::Pattern;
+use drv_syntax::{SpecTree, Token, TokenKind};
+use drv_words::Word;
+use std::alloc::{AllocError, Global};
+
+/// The token at a place.
+pub fn token_at(tree: &SpecTree, at: usize) -> Token
+    requires { at < length (tokens_of (tree_of tree.now)) }
+    ensures { slice_get (tokens_of (tree_of tree.now)) at ≡ Some result }
+{
+    tree.tokens()[at]
+}
+
+/// The pattern that the part at a place names.
+pub fn pattern_at(alloc: Global, tree: &SpecTree, at: usize) -> Result<Pattern, AllocError>
+    requires { at < length (tokens_of (tree_of tree.now)) }
+    ensures { IfOk result (λ pattern. pattern ≡ labelled (label_at (tree_of tree.now) at)) }
+{
+    Ok(Pattern {
+        name: Word::from_bytes(alloc, tree.word(at))?,
+        star: tree.starred(at),
+    })
+}
+
+/// Where the tests end that stand first among parts.
+pub fn tests_end(tree: &SpecTree, start: usize, end: usize) -> usize
+    requires { Spans tree.now start end }
+    ensures tests { (nodes : Nodes) → Stands tree.now start nodes end → Stands tree.now start (tests_in nodes) result }
+    ensures rest { (nodes : Nodes) → Stands tree.now start nodes end → Stands tree.now result (behind_tests nodes) end }
+{
+    let mut at = start;
+    while at < end {
+        let token = token_at(tree, at);
+        match token.kind {
+            TokenKind::Test => at = token.next as usize,
+            _ => return at,
+        }
+    }
+    at
+}
+
+/// Whether an X that is these parts has a `%*` of its own.
+pub fn has_own_star(tree: &SpecTree, start: usize, end: usize) -> bool
+    requires { Spans tree.now start end }
+    ensures { (nodes : Nodes) → Stands tree.now start nodes end → result ≡ stars nodes }
+{
+    let mut at = start;
+    while at < end {
+        let token = token_at(tree, at);
+        let next = token.next as usize;
+        let found = match token.kind {
+            TokenKind::Star => true,
+            TokenKind::Alternative => has_own_star(tree, at + 1, tests_end(tree, at + 1, next)),
+            _ => has_own_star(tree, at + 1, next),
+        };
+        if found {
+            return true;
+        }
+        at = next;
+    }
+    false
+}
