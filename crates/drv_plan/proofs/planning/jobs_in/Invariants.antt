@@ -1,0 +1,14 @@
+use Rattle.drv_plan.proofs.Jobs.{behind_jobs}
+use Rattle.drv_plan.specs.Denoted.{jobs}
+use Rattle.drv_system.specs.Asking.{Asks, Extends}
+use Rattle.drv_system.specs.Facts.{Facts}
+use Rattle.std.proofs.Common.{◌≡◌, drop}
+use Rattle.drv_plan.proofs.planning.jobs_in.Given as goal
+
+abbrev pub invariant-loop-place : goal.invariant-loop-place
+invariant-loop-place g l = record {
+  asks : Asks (g.S.System.events l.fn.sys) (g.S.System.events l.sys) l.fn.facts l.facts;
+  switches : l.context.switches ≡ l.fn.context.switches;
+  rest : (F : Facts) → Extends l.facts F
+      → behind_jobs l.jobs (jobs F l.fn.context.switches l.place (drop l.place l.inputs)) ≡ jobs F l.fn.context.switches 0 l.inputs;
+}

@@ -1,0 +1,53 @@
+//! Why a line has no plan.
+
+use drv_machine::MachineFault;
+use std::alloc::{AllocError, AllocFailed};
+use thiserror::Error;
+
+/// Why a line has no plan.
+#[derive(Debug, Drop, Error)]
+pub enum PlanFault {
+    /// An allocation was refused.
+    #[error("out of memory")]
+    Memory,
+    /// A spec text that is worked for a file of the line has no job. The refusal isn't `Memory`, which is the
+    /// plan's own.
+    #[error("a spec text has no job")]
+    Machine(MachineFault),
+}
+
+impl From<AllocError> for PlanFault {
+    ghost use Rattle.drv_plan.specs.declared.fault.PlanFault.TheVariants.{Memory};
+    ghost use Rattle.std.specs.Prelude.{◌≡◌};
+
+    ghost from_gives = { λ _ fault. fault ≡ Memory };
+
+    fn from(_refused: AllocError) -> PlanFault {
+        PlanFault::Memory
+    }
+}
+
+impl<T: Drop> From<AllocFailed<T>> for PlanFault {
+    ghost use Rattle.drv_plan.specs.declared.fault.PlanFault.TheVariants.{Memory};
+    ghost use Rattle.std.specs.Prelude.{◌≡◌};
+
+    ghost from_gives = { λ _ fault. fault ≡ Memory };
+
+    fn from(_refused: AllocFailed<T>) -> PlanFault {
+        PlanFault::Memory
+    }
+}
+
+impl From<MachineFault> for PlanFault {
+    ghost use Rattle.drv_plan.specs.Denoted.{lifted};
+    ghost use Rattle.std.specs.Prelude.{◌≡◌};
+
+    ghost from_gives = { λ refused fault. fault ≡ lifted refused };
+
+    fn from(refused: MachineFault) -> PlanFault {
+        match refused {
+            MachineFault::Memory => PlanFault::Memory,
+            refusal => PlanFault::Machine(refusal),
+        }
+    }
+}

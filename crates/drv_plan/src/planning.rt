@@ -1,0 +1,133 @@
+//! The plan of a line.
+
+ghost use Rattle.drv_machine.specs.declared.fault.MachineFault.TheVariants as machine;
+ghost use Rattle.drv_plan.specs.Denoted.{denoted, first_text, is_file, jobs};
+ghost use Rattle.drv_system.specs.Asking.{Asks, Extends};
+ghost use Rattle.drv_system.specs.Facts.{Facts};
+ghost use Rattle.drv_system.specs.Gives.{GivesKnown};
+ghost use Rattle.drv_words.specs.Gives.{Gives};
+ghost use Rattle.std.specs.List.{list_any};
+ghost use Rattle.std.specs.Prelude.{◌≡◌, ◌≢◌, IfErr, IfOk, Ok};
+
+use crate::PlanFault;
+use crate::copying::{copied_switches, copied_word};
+use drv_args::{Input, Line};
+use drv_machine::{Context, MachineFault, Source, run};
+use drv_syntax::{SpecTree, SyntaxFault, parse};
+use drv_system::{FactTable, System};
+use drv_words::{Job, Listing, Plan, Word};
+use std::alloc::{AllocError, Global};
+
+/// The text that each file is worked with.
+pub const FIRST_TEXT: &str = "%{S:rectool cc1 %{std=c99} %i -o %b.s}";
+
+/// The bytes of that text.
+fn first_text() -> &'static [u8]
+    ensures { result.now ≡ first_text }
+{
+    FIRST_TEXT.as_bytes()
+}
+
+/// The tree of that text, which has one: want of memory is the only error.
+fn first_tree(alloc: Global) -> Result<SpecTree, MachineFault>
+    ensures { Gives machine.Memory (λ tree. tree) result (Ok first_text) }
+{
+    match parse(alloc, first_text()) {
+        Ok(tree) => Ok(tree),
+        Err(SyntaxFault::Memory) => Err(MachineFault::Memory),
+        Err(_) => unreachable!(),
+    }
+}
+
+/// Whether there is a file among inputs. It takes no memory.
+fn has_file(inputs: &[Input]) -> bool
+    ensures { result ≡ list_any is_file inputs.now }
+{
+    inputs
+        .iter()
+        .any(|input| matches!(input, Input::File { .. }))
+}
+
+/// The file that has this place among the inputs of a line.
+fn source_of(place: usize, name: &Word, language: &Option<Word>) -> Result<Source, AllocError>
+    ensures { IfOk result (λ source. source ≡ record { place = place; name = name.now; language = language.now }) }
+{
+    Ok(Source {
+        place,
+        name: name.clone()?,
+        language: copied_word(language)?,
+    })
+}
+
+/// The jobs of the files among the inputs of a line, worked in this context.
+#[tactic(auto, using(crate::proofs::Asked::asks_further))]
+fn jobs_in<S: System>(
+    alloc: Global,
+    inputs: &[Input],
+    tree: &SpecTree,
+    context: &mut Context,
+    sys: &mut S,
+    facts: &mut FactTable,
+) -> Result<Listing<Job>, MachineFault>
+    requires { tree.now ≡ first_text }
+    ensures asks { Asks (S.events sys.old) (S.events sys.new) facts.old facts.new }
+    ensures works { (F : Facts) → Extends facts.new F → GivesKnown machine.Memory (λ done. done) result (jobs F context.old.switches 0 inputs.now) }
+{
+    let mut jobs = Listing::new(alloc);
+    for (place, input) in inputs.iter().enumerate() {
+        let Input::File { name, lang } = input else {
+            continue;
+        };
+        context.set_input(Some(source_of(place, name, lang)?));
+        jobs.push(run(alloc, tree, context, sys, facts)?.job)?;
+    }
+    Ok(jobs)
+}
+
+/// The jobs of the files of a line. The text is read once, and the switches are copied once, if there is a file.
+#[tactic(auto, using(crate::proofs::Asked::asks_further))]
+fn jobs_of<S: System>(
+    alloc: Global,
+    line: &Line,
+    sys: &mut S,
+    facts: &mut FactTable,
+) -> Result<Listing<Job>, MachineFault>
+    ensures asks { Asks (S.events sys.old) (S.events sys.new) facts.old facts.new }
+    ensures works { (F : Facts) → Extends facts.new F → GivesKnown machine.Memory (λ done. done) result (jobs F line.now.switches 0 line.now.inputs) }
+{
+    let inputs = line.inputs.as_slice();
+    if !has_file(inputs) {
+        return Ok(Listing::new(alloc));
+    }
+    let tree = first_tree(alloc)?;
+    let switches = copied_switches(alloc, line.switches.as_slice())?;
+    let mut context = Context::new(alloc, switches, None)?;
+    jobs_in(alloc, inputs, &tree, &mut context, sys, facts)
+}
+
+/// The plan of a line: the job of each of its files in order. It asks the system only where the table has no
+/// answer.
+///
+/// # Errors
+/// The machine's refusal for the first file whose text has no job.
+#[tactic(auto, using(crate::proofs::Asked::asks_further))]
+pub fn plan<S: System>(
+    alloc: Global,
+    line: &Line,
+    sys: &mut S,
+    facts: &mut FactTable,
+) -> Result<Plan, PlanFault>
+    ensures asks { Asks (S.events sys.old) (S.events sys.new) facts.old facts.new }
+    ensures plans { (F : Facts) → Extends facts.new F → GivesKnown PlanFault.Memory (λ p. p) result (denoted F line.now) }
+    ensures apart { IfErr result (λ fault. fault ≢ PlanFault.Machine machine.Memory) }
+{
+    let jobs = jobs_of(alloc, line, sys, facts)?;
+    Ok(Plan {
+        notices: Listing::new(alloc),
+        jobs,
+        link: None,
+    })
+}
+
+#[cfg(test)]
+mod tests;
