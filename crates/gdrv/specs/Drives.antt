@@ -1,0 +1,93 @@
+use Rattle.drv_args.specs.Expansion.{Expands, Refuses as RefusesExpansion}
+use Rattle.drv_args.specs.Lines.{line_read}
+use Rattle.drv_args.specs.declared.fault.ArgsFault.TheVariants as args_fault
+use Rattle.drv_args.specs.declared.fault.ArgsFault.{ArgsFault}
+use Rattle.drv_args.specs.declared.line.Expanded.{Expanded}
+use Rattle.drv_args.specs.declared.line.Line.{Line}
+use Rattle.drv_plan.specs.Denoted.{denoted}
+use Rattle.drv_plan.specs.declared.fault.PlanFault.TheVariants as plan_fault
+use Rattle.drv_plan.specs.declared.fault.PlanFault.{PlanFault}
+use Rattle.drv_system.specs.Asking.{AreNew}
+use Rattle.drv_system.specs.Facts.{Facts, learn, no_facts}
+use Rattle.drv_system.specs.Known.{Is}
+use Rattle.drv_system.specs.declared.event.Event.TheVariants.{Say}
+use Rattle.drv_system.specs.declared.event.Event.{Event}
+use Rattle.drv_system.specs.declared.event.TellAnswer.TheVariants.{Failed, Told}
+use Rattle.drv_system.specs.declared.event.TellAnswer.{TellAnswer}
+use Rattle.drv_words.specs.Lines.{lines_of}
+use Rattle.drv_words.specs.Printed.{lines_text}
+use Rattle.drv_words.specs.declared.plan.Plan.{Plan}
+use Rattle.gdrv.specs.declared.ending.Ending.TheVariants.{Done, OutOfMemory, Refused}
+use Rattle.gdrv.specs.declared.ending.Ending.{Ending}
+use Rattle.gdrv.specs.declared.ending.Refusal.TheVariants.{Args, Plan as NoPlan}
+use Rattle.gdrv.specs.declared.ending.Refusal.{Refusal}
+use Rattle.std.specs.Prelude.{◌≡◌, Err, List, [], ◌∷◌, ◌++◌, Ok, Result, ℕ, ⊤}
+
+-- What a call of the driver comes to, over facts (GCC manual, "Overall Options"; that it always prints the plan and
+-- starts nothing is this project's profile until plans are run).
+
+-- The plan that arguments come to. What words expand to is a relation, of which the law `one_expansion` says that it has
+-- one value or one refusal, and never both; what follows are functions. So arguments come to one plan, or to one refusal,
+-- and never to both: the law `one_ending`.
+pub record Drives (F : Facts) (args : List (List ℕ)) (plan : Plan) : Type 0 where
+  pub expanded : Expanded
+  pub line : Line
+  pub expands : Expands F 2000 args (Ok expanded)
+  pub reads : line_read expanded ≡ Ok line
+  pub plans : denoted F line ≡ Is (Ok plan)
+
+-- The refusal that arguments come to: of their response files, of the line, or of the plan. None of these definitions
+-- knows want of memory.
+pub data Refuses (F : Facts) (args : List (List ℕ)) : Refusal → Type 0 where
+  not_expanded : {fault : ArgsFault} → RefusesExpansion F 2000 args fault → Refuses F args (Args fault)
+  not_read : {expanded : Expanded} {fault : ArgsFault} → Expands F 2000 args (Ok expanded) → line_read expanded ≡ Err fault → Refuses F args (Args fault)
+  not_planned : {expanded : Expanded} {line : Line} {fault : PlanFault} → Expands F 2000 args (Ok expanded) → line_read expanded ≡ Ok line → denoted F line ≡ Is (Err fault) → Refuses F args (NoPlan fault)
+
+-- how a step's fault ends the call
+abbrev pub stopped_by_args : ArgsFault → Ending
+stopped_by_args args_fault.Memory = OutOfMemory
+stopped_by_args fault = Refused (Args fault)
+
+abbrev pub stopped_by_plan : PlanFault → Ending
+stopped_by_plan plan_fault.Memory = OutOfMemory
+stopped_by_plan fault = Refused (NoPlan fault)
+
+-- what planning comes to: the plan, or an ending in its place; want of memory may come in place of either
+abbrev pub Comes : Facts → List (List ℕ) → Result Plan Ending → Type 0
+Comes F args (Ok plan) = Drives F args plan
+Comes F args (Err (Refused refusal)) = Refuses F args refusal
+Comes F args (Err OutOfMemory) = ⊤
+Comes F args (Err (Done status)) = ⊥
+
+-- the exit status after a text was said
+abbrev pub status_of : TellAnswer → ℕ
+status_of Told = 0
+status_of Failed = 1
+
+-- events that say a text, with the exit status: an empty text is not said, any other is said once
+abbrev pub Says : List ℕ → ℕ → List Event → Type 0
+Says [] status said = (status ≡ 0) × (said ≡ [])
+Says (b ∷ text) status said = (answer : TellAnswer) × (said ≡ Say (b ∷ text) answer ∷ []) × (status ≡ status_of answer)
+
+-- the plan was said, and nothing else
+abbrev pub SaysPlan : List Event → List Event → Plan → ℕ → Type 0
+SaysPlan journal journal' plan status = (said : List Event) × (journal' ≡ journal ++ said) × Says (lines_text (lines_of plan)) status said
+
+-- what stands behind the questions of a call, by how it ended: the plan said after `Done`, otherwise nothing
+abbrev pub Ends : Facts → List (List ℕ) → Ending → List Event → Type 0
+Ends F args (Done status) said = (plan : Plan) × Drives F args plan × Says (lines_text (lines_of plan)) status said
+Ends F args (Refused refusal) said = Refuses F args refusal × (said ≡ [])
+Ends F args OutOfMemory said = said ≡ []
+
+-- A call: it asked what it did not know, and its ending is that of the answers to these questions alone.
+pub record Drove (journal journal' : List Event) (args : List (List ℕ)) (ending : Ending) : Type 0 where
+  pub asked : List Event
+  pub said : List Event
+  pub questions : AreNew no_facts asked
+  pub journal_grows : journal' ≡ journal ++ asked ++ said
+  pub ends : Ends (learn no_facts asked) args ending said
+
+-- the exit status of an ending
+abbrev pub exit_status_of : Ending → ℕ
+exit_status_of (Done status) = status
+exit_status_of ending = 1

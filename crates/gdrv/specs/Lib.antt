@@ -1,0 +1,3 @@
+pub mod Drives
+pub mod Seed
+pub mod Texts

@@ -1,0 +1,53 @@
+//! The driver: a command line in, and its plan or its refusal on standard error.
+#![tactic(auto)]
+
+ghost use Rattle.gdrv.specs.Drives.{exit_status_of};
+ghost use Rattle.std.specs.Prelude.{◌≡◌};
+
+mod driving;
+mod ending;
+mod laws;
+mod planning;
+mod process;
+mod seed;
+mod wording;
+
+use driving::drive;
+use drv_system::HostSystem;
+use ending::Ending;
+use process::{arguments, clock_seed, complain};
+use std::io::ErrorKind;
+use std::process::ExitCode;
+use wording::fault_line;
+
+const OUT_OF_MEMORY: &[u8] = b"gdrv: out of memory\n";
+
+const BAD_ARGUMENT: &[u8] = b"gdrv: bad argument\n";
+
+/// The exit status of an ending; why a call failed is told first.
+fn finish(rt: &HostRuntime, ending: &Ending) -> ExitCode
+    ensures { result.status ≡ exit_status_of ending.now }
+{
+    match ending {
+        Ending::Done(status) => ExitCode::from(*status),
+        Ending::Refused(refusal) => match fault_line(rt.alloc(), refusal) {
+            Ok(line) => complain(rt, line.as_bytes()),
+            Err(_) => complain(rt, OUT_OF_MEMORY),
+        },
+        Ending::OutOfMemory => complain(rt, OUT_OF_MEMORY),
+    }
+}
+
+fn main(rt: HostRuntime) -> ExitCode {
+    let args = match arguments(&rt) {
+        Ok(args) => args,
+        Err(e) if e.kind() == ErrorKind::OutOfMemory => return complain(&rt, OUT_OF_MEMORY),
+        Err(_) => return complain(&rt, BAD_ARGUMENT),
+    };
+    let Ok(own) = rt.clone() else {
+        return complain(&rt, OUT_OF_MEMORY);
+    };
+    let mut sys = HostSystem::new(own);
+    let ending = drive(rt.alloc(), &mut sys, args.as_slice(), clock_seed(&rt));
+    finish(&rt, &ending)
+}
