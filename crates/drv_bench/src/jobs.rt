@@ -1,6 +1,8 @@
 //! The jobs.
 
 use drv_args::{expand, read};
+use drv_machine::Context;
+use drv_syntax::parse;
 use drv_system::{FactTable, ScriptSystem};
 use drv_words::{Command, Group, Job, Listing, Plan, Word, plan_lines, render, split};
 use std::alloc::{AllocError, Global};
@@ -77,6 +79,17 @@ fn split_words(alloc: Global, count: usize, length: usize) -> Result<usize, Allo
     Ok(words.len())
 }
 
+/// A system with these files and nothing else.
+fn system(alloc: Global, files: Listing<(Word, Option<Word>)>) -> ScriptSystem {
+    ScriptSystem::new(
+        alloc,
+        files,
+        Listing::new(alloc),
+        Listing::new(alloc),
+        Listing::new(alloc),
+    )
+}
+
 /// How many switches one response file of so many options gives.
 fn switches(alloc: Global, count: usize, length: usize) -> Result<usize, AllocError> {
     let mut files = Listing::new(alloc);
@@ -84,13 +97,7 @@ fn switches(alloc: Global, count: usize, length: usize) -> Result<usize, AllocEr
         Word::from_bytes(alloc, b"f")?,
         Some(response(alloc, count, length)?),
     ))?;
-    let mut sys = ScriptSystem::new(
-        alloc,
-        files,
-        Listing::new(alloc),
-        Listing::new(alloc),
-        Listing::new(alloc),
-    );
+    let mut sys = system(alloc, files);
     let mut args = Listing::new(alloc);
     args.push(Word::from_bytes(alloc, b"a.c")?)?;
     args.push(Word::from_bytes(alloc, b"@f")?)?;
@@ -104,6 +111,28 @@ fn switches(alloc: Global, count: usize, length: usize) -> Result<usize, AllocEr
     }
 }
 
+/// How many items a spec text of so many plain bytes has.
+fn parsed(alloc: Global, count: usize) -> Result<usize, AllocError> {
+    match parse(alloc, letters(alloc, count)?.as_bytes()) {
+        Ok(tree) => Ok(tree.tokens().len()),
+        Err(_) => Ok(0),
+    }
+}
+
+/// What it costs to work a spec text of so many plain bytes.
+fn worked(alloc: Global, count: usize) -> Result<usize, AllocError> {
+    let Ok(tree) = parse(alloc, letters(alloc, count)?.as_bytes()) else {
+        return Ok(0);
+    };
+    let context = Context::new(alloc, Listing::new(alloc), None)?;
+    let mut sys = system(alloc, Listing::new(alloc));
+    let mut facts = FactTable::new(alloc);
+    match drv_machine::run(alloc, &tree, &context, &mut sys, &mut facts) {
+        Ok(outcome) => Ok(outcome.cost),
+        Err(_) => Ok(0),
+    }
+}
+
 /// Does a job, and answers the size of what came of it; none if there is no such job, or memory ran out.
 pub fn run(alloc: Global, job: &str, count: &str, length: &str) -> Option<usize> {
     let count = count.parse::<usize>().ok()?;
@@ -112,6 +141,8 @@ pub fn run(alloc: Global, job: &str, count: &str, length: &str) -> Option<usize>
         "render" => rendered(alloc, count).ok(),
         "split" => split_words(alloc, count, length).ok(),
         "arguments" => switches(alloc, count, length).ok(),
+        "parse" => parsed(alloc, count).ok(),
+        "work" => worked(alloc, count).ok(),
         _ => None,
     }
 }

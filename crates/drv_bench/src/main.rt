@@ -6,7 +6,8 @@ mod jobs;
 use std::process::ExitCode;
 use std::{env, io};
 
-const USAGE: &str = "usage: drv_bench render WORDS | split WORDS LENGTH | arguments WORDS LENGTH";
+const USAGE: &str =
+    "usage: drv_bench render WORDS | split WORDS LENGTH | arguments WORDS LENGTH | parse BYTES | work ITEMS";
 
 fn main(rt: HostRuntime) -> io::Result<ExitCode> {
     let args: Vec<String> = env::args(&rt)?.collect(rt.alloc())?;
