@@ -1,4 +1,4 @@
-//! What working a spec text comes to: the definitions, and the types that they speak of.
+//! A spec text worked: its job and its cost, or its first refusal; the rows of the table that are built.
 #![tactic(auto)]
 
 mod asking;
