@@ -5,13 +5,13 @@ use Rattle.drv_machine.specs.Atoms.{choices_step, each_hit, first_true, has_star
 use Rattle.drv_machine.specs.ByKind.{TrueTest, asks_switch, labelled}
 use Rattle.drv_machine.specs.Context.{Context, argument, names}
 use Rattle.drv_machine.specs.Running.{State, run}
-use Rattle.drv_machine.specs.Standing.{Part, Stands, behind_tests, is_test, stars, tests_in}
+use Rattle.drv_machine.specs.Standing.{Part, Stands, behind_tests, stars, tests_in}
 use Rattle.drv_machine.specs.Working.{◌>>=◌, ◌>>◌, Answer, Break, Levels, Step, look, nothing, opened, puts, word_of}
 use Rattle.drv_machine.specs.declared.fault.MachineFault.TheVariants.{Memory, SpecTooDeep}
 use Rattle.drv_machine.specs.declared.fault.MachineFault.{MachineFault}
 use Rattle.drv_match.specs.Matching.{is_hit, name_at}
 use Rattle.drv_match.specs.declared.pattern.Pattern as switches
-use Rattle.drv_syntax.specs.Labels.{Nodes, asked_nodes, both, choice_nodes, label_at, labels_of, no_label, node, nodes_of, test_label, test_nodes}
+use Rattle.drv_syntax.specs.Labels.{Nodes, both, choice_nodes, label_at, labels_of, no_label, nodes_of, test_label, test_nodes}
 use Rattle.drv_syntax.specs.Parsed.{tree_of}
 use Rattle.drv_syntax.specs.Tokens.{tokens_of}
 use Rattle.drv_syntax.specs.Tree as tree

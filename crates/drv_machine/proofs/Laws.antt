@@ -3,7 +3,7 @@ use Rattle.drv_machine.specs.Context.{Context}
 use Rattle.drv_machine.specs.Cutting.{Cut, all_taken, nothing_cut, taken}
 use Rattle.drv_machine.specs.Outcome.{cut, finished, outcome}
 use Rattle.drv_machine.specs.Running.{State, begun, done, run}
-use Rattle.drv_machine.specs.Working.{◌>>-◌, ◌>>=◌, ◌>>◌, Answer, Atom, Break, End, Goes, Refuses, Step, Waits, Work, behind, follow, most_open, puts}
+use Rattle.drv_machine.specs.Working.{◌>>-◌, ◌>>=◌, Answer, Atom, Goes, Refuses, Step, Waits, Work, behind, follow}
 use Rattle.drv_syntax.specs.Tree.{Items}
 use Rattle.drv_system.specs.Facts.{Facts}
 use Rattle.drv_system.specs.Known.{Is, Unasked}

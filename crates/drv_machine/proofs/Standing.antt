@@ -1,11 +1,9 @@
-use Rattle.drv_machine.specs.Atoms.{asked_has_star, brace_has_star, choices_have_star, has_star, item_has_star, tests_have_star}
 use Rattle.drv_machine.specs.Standing.{Part, Spans, Stand, Stands, behind_tests, is_test, starred, stars, test_stars, tests_in}
 use Rattle.drv_syntax.proofs.WalkNodes.{flat, items_flat}
-use Rattle.drv_syntax.specs.Labels.{Label, Nodes, asked_nodes, both, brace_nodes, choice_nodes, inner_nodes, label_of, labels, labels_of, no_label, no_node, node, nodes_of, pattern_nodes, test_label, test_nodes}
+use Rattle.drv_syntax.specs.Labels.{Label, Nodes, both, labels, labels_of, no_label, no_node, node, nodes_of}
 use Rattle.drv_syntax.specs.Parsed.{tree_of}
-use Rattle.drv_syntax.specs.Tokens.{kind_of, tokens_of}
-use Rattle.drv_syntax.specs.Tree as tree
-use Rattle.drv_syntax.specs.Tree.{Asked, Brace, Choices, Item, Items, Pattern, Span, Tests}
+use Rattle.drv_syntax.specs.Tokens.{tokens_of}
+use Rattle.drv_syntax.specs.Tree.{Span}
 use Rattle.drv_syntax.specs.declared.token.Token.{Token}
 use Rattle.drv_syntax.specs.declared.token.TokenKind.TheVariants as kinds
 use Rattle.drv_syntax.specs.declared.token.TokenKind.{TokenKind}

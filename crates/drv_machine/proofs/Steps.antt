@@ -1,7 +1,7 @@
 use Rattle.drv_machine.proofs.Laws.{run_then}
 use Rattle.drv_machine.specs.Context.{Context}
 use Rattle.drv_machine.specs.Running.{State, run}
-use Rattle.drv_machine.specs.Working.{◌>>-◌, ◌>>=◌, Answer, Step, look}
+use Rattle.drv_machine.specs.Working.{◌>>-◌, ◌>>=◌, Answer, Step}
 use Rattle.drv_machine.specs.declared.fault.MachineFault.TheVariants.{Memory}
 use Rattle.drv_machine.specs.declared.fault.MachineFault.{MachineFault}
 use Rattle.drv_system.specs.Facts.{Facts}

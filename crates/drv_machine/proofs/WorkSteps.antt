@@ -1,12 +1,12 @@
 use Rattle.drv_machine.proofs.ItemKinds.{inner_step, item_by_kind}
 use Rattle.drv_machine.proofs.Standing.{next_at, some_same, stand_grows}
-use Rattle.drv_machine.proofs.Steps.{then_err, then_fails, then_ok}
-use Rattle.drv_machine.specs.Atoms.{item_step, items_step, levels_left}
+use Rattle.drv_machine.proofs.Steps.{then_err, then_ok}
+use Rattle.drv_machine.specs.Atoms.{item_step, items_step}
 use Rattle.drv_machine.specs.ByKind.{Means, kind_step}
 use Rattle.drv_machine.specs.Context.{Context}
 use Rattle.drv_machine.specs.Running.{State, run}
 use Rattle.drv_machine.specs.Standing.{Part, Stands}
-use Rattle.drv_machine.specs.Working.{◌>>=◌, ◌>>◌, Levels, Step, counted}
+use Rattle.drv_machine.specs.Working.{◌>>◌, Levels, Step, counted}
 use Rattle.drv_machine.specs.declared.fault.MachineFault.TheVariants.{Memory}
 use Rattle.drv_machine.specs.declared.fault.MachineFault.{MachineFault}
 use Rattle.drv_syntax.specs.Labels.{inner_nodes, label_at, label_of, labels_of, nodes_of}
@@ -17,7 +17,6 @@ use Rattle.drv_syntax.specs.Tree.{Item, Items, Span}
 use Rattle.drv_syntax.specs.declared.token.Token.{Token}
 use Rattle.drv_syntax.specs.declared.token.TokenKind.{TokenKind}
 use Rattle.drv_system.specs.Facts.{Facts}
-use Rattle.drv_system.specs.Gives.{GivesKnown}
 use Rattle.drv_system.specs.Known.{Is}
 use Rattle.std.proofs.Common.{◌≡◌, ◌⊎◌, ◌<◌, ◌≤◌, ◌+◌, ◌∙◌, Err, List, Ok, Some, ap, arith, inl, inr, refl, slice_get, subst, sym, ℕ}
 

@@ -3,14 +3,13 @@ use Rattle.drv_machine.specs.Context.{Context, names}
 use Rattle.drv_machine.specs.Names.{base, is_word, language_of, stem, suffix_of}
 use Rattle.drv_machine.specs.Running.{State, run}
 use Rattle.drv_machine.specs.Standing.{Stands}
-use Rattle.drv_machine.specs.Working.{◌>>=◌, Atom, Break, End, Levels, Piped, Put, Step, bytes, change, give, look, puts, refuse}
+use Rattle.drv_machine.specs.Working.{◌>>=◌, Atom, Break, End, Levels, Piped, Step, bytes, change, give, look, puts, refuse}
 use Rattle.drv_machine.specs.declared.fault.MachineFault.TheVariants.{Memory, NotYet}
 use Rattle.drv_machine.specs.declared.fault.MachineFault.{MachineFault}
 use Rattle.drv_match.specs.Matching.{hidden_by, hits, is_hit}
 use Rattle.drv_match.specs.declared.pattern.Pattern as switches
 use Rattle.drv_syntax.specs.Labels.{Label, choice_nodes, label_at, pattern_nodes, test_label}
 use Rattle.drv_syntax.specs.Parsed.{tree_of}
-use Rattle.drv_syntax.specs.Tokens.{tokens_of}
 use Rattle.drv_syntax.specs.Tree.{Asked, Choices, Pattern, Span}
 use Rattle.drv_syntax.specs.declared.token.TestKind.TheVariants as asks
 use Rattle.drv_syntax.specs.declared.token.TestKind.{TestKind}
@@ -19,7 +18,7 @@ use Rattle.drv_syntax.specs.declared.token.TokenKind.{TokenKind}
 use Rattle.drv_system.specs.Facts.{Facts}
 use Rattle.drv_system.specs.Known.{Is}
 use Rattle.std.specs.List.{filter, flat_map, list_any, range_with_len}
-use Rattle.std.specs.Prelude.{◌≡◌, ◌⊎◌, ◌<◌, ◌-◌, Bool, List, [], ◌∷◌, Option, None, Some, Result, Err, Ok, false, length, nat_lt, true, ⊤, ℕ}
+use Rattle.std.specs.Prelude.{◌≡◌, ◌⊎◌, ◌-◌, Bool, List, [], ◌∷◌, Option, None, Some, Result, Err, Ok, false, length, nat_lt, true, ⊤, ℕ}
 
 -- What an item means, by its kind and its label (this project's profile). For the clauses of the code alone.
 

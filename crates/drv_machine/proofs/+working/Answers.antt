@@ -4,26 +4,21 @@ use Rattle.drv_machine.proofs.EmitSteps.{in_line, line_end}
 use Rattle.drv_machine.proofs.Standing.{front_in, here, stand_grows}
 use Rattle.drv_machine.proofs.Steps.{fails_as, gives_as, then_fails, then_ok}
 use Rattle.drv_machine.proofs.WorkSteps.{by_kind, count_fails, item_done, item_fails, items_end}
-use Rattle.drv_machine.specs.Atoms.{choices_step, each_hit, first_true, has_star, input_name, items_step, levels_left, matching, places, worked}
-use Rattle.drv_machine.specs.ByKind.{Found, Means, kind_step, labelled}
-use Rattle.drv_machine.specs.Context.{argument, names}
+use Rattle.drv_machine.specs.Atoms.{choices_step, each_hit, first_true, input_name, items_step, levels_left, places}
+use Rattle.drv_machine.specs.ByKind.{Found, kind_step, labelled}
 use Rattle.drv_machine.specs.Names.{base, stem}
 use Rattle.drv_machine.specs.Running.{State, run}
-use Rattle.drv_machine.specs.Standing.{Spans, Stands, behind_tests, tests_in}
-use Rattle.drv_machine.specs.Working.{◌>>=◌, Answer, Break, Step, bytes, puts, word_of}
-use Rattle.drv_machine.specs.declared.fault.MachineFault.TheVariants.{Memory, SpecTooDeep}
-use Rattle.drv_match.specs.Matching.{name_at}
-use Rattle.drv_syntax.specs.Labels.{label_at, nodes_of, test_label, test_nodes}
+use Rattle.drv_machine.specs.Standing.{behind_tests, tests_in}
+use Rattle.drv_machine.specs.Working.{Answer, Break, bytes, puts, word_of}
+use Rattle.drv_machine.specs.declared.fault.MachineFault.TheVariants.{Memory}
+use Rattle.drv_syntax.specs.Labels.{label_at}
 use Rattle.drv_syntax.specs.Parsed.{tree_of}
 use Rattle.drv_syntax.specs.Tokens.{tokens_of}
-use Rattle.drv_syntax.specs.Tree as tree
-use Rattle.drv_syntax.specs.Tree.{Tests}
 use Rattle.drv_syntax.specs.declared.token.TokenKind.TheVariants as kinds
-use Rattle.drv_system.specs.Facts.{Facts}
 use Rattle.drv_system.specs.Gives.{GivesKnown}
 use Rattle.drv_system.specs.Known.{Is}
 use Rattle.std.specs.Option.{IfSome}
-use Rattle.std.proofs.Common.{Bool, Err, None, Ok, Option, Some, ap, arith, drop, false, inl, inr, length, refl, rules, subst, sym, true, ℕ, ◌+◌, ◌-◌, ◌<◌, ◌∙◌, ◌∷◌, ◌≡◌, ◌⊎◌, []}
+use Rattle.std.proofs.Common.{Err, Ok, Option, ap, arith, false, inr, length, refl, rules, subst, sym, true, ℕ, ◌+◌, ◌-◌, ◌<◌, ◌∙◌, ◌∷◌, ◌≡◌, ◌⊎◌}
 
 -- Alternatives.
 

@@ -1,14 +1,9 @@
 use Rattle.drv_machine.proofs.Standing.{front_in, here}
 use Rattle.drv_machine.proofs.TrueTests.{found_false, found_refusal, found_true, no_tests_left}
 use Rattle.drv_machine.proofs.asking.first_true.Goals as goal
-use Rattle.drv_machine.proofs.Steps.{fails_as}
 use Rattle.drv_machine.specs.Atoms as atoms
-use Rattle.drv_machine.specs.ByKind.{asked_step}
 use Rattle.drv_machine.specs.Running.{run}
-use Rattle.drv_machine.specs.Standing.{Stands}
-use Rattle.drv_syntax.specs.Labels.{Label, test_label, test_nodes}
-use Rattle.drv_syntax.specs.Tree.{Tests}
-use Rattle.std.proofs.Common.{rules, ap, arith, refl, subst, sym, ◌∙◌, ◌≡◌, ℕ}
+use Rattle.std.proofs.Common.{rules, ap, arith, sym, ◌∙◌}
 
 pub truth-requires-clause-in_list : goal.truth-requires-clause-in_list
 truth-requires-clause-in_list c = front_in c.args.tree.now c.loop-at.at c.args.end c.loop-at-test.true c.loop-at.invariant.spans

@@ -6,7 +6,7 @@ use Rattle.drv_machine.specs.Running.{run}
 use Rattle.drv_machine.specs.Working.{puts}
 use Rattle.drv_machine.specs.declared.fault.MachineFault.TheVariants.{Memory}
 use Rattle.drv_system.specs.Gives.{GivesKnown}
-use Rattle.std.proofs.Common.{ap, refl, subst, sym, ◌∙◌, ◌≡◌}
+use Rattle.std.proofs.Common.{ap, subst, sym, ◌∙◌, ◌≡◌}
 
 pub returns-clause-does : goal.returns-clause-does
 returns-clause-does c F patterns s =

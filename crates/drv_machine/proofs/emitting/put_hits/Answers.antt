@@ -3,13 +3,13 @@ use Rattle.drv_machine.proofs.emitting.put_hits.Goals as goal
 use Rattle.drv_machine.proofs.Steps.{fails_as}
 use Rattle.drv_machine.specs.Atoms.{switch_atoms}
 use Rattle.drv_machine.specs.ByKind.{emitted_from}
-use Rattle.drv_machine.specs.Running.{State, run}
-use Rattle.drv_machine.specs.Working.{Break, Put, puts, word_of}
+use Rattle.drv_machine.specs.Running.{run}
+use Rattle.drv_machine.specs.Working.{puts}
 use Rattle.drv_machine.specs.declared.fault.MachineFault.TheVariants.{Memory}
 use Rattle.drv_system.specs.Facts.{Facts, no_facts}
 use Rattle.drv_match.specs.Matching.{name_at}
 use Rattle.drv_system.specs.Known.{Is}
-use Rattle.std.proofs.Common.{Err, Ok, ap, false, map, rules, subst, sym, true, ◌++◌, ◌∙◌, ◌∷◌, ◌≡◌, ◌⊎◌}
+use Rattle.std.proofs.Common.{Err, Ok, ap, false, rules, subst, sym, true, ◌∙◌, ◌≡◌, ◌⊎◌}
 
 pub loop-i-preserved-then-not-is_any_hit : goal.loop-i-preserved-then-not-is_any_hit
 loop-i-preserved-then-not-is_any_hit c = record {

@@ -3,7 +3,7 @@ use Rattle.drv_machine.proofs.emitting.put_hits.Given as goal
 use Rattle.drv_machine.specs.Running.{run}
 use Rattle.drv_machine.specs.Working.{puts}
 use Rattle.drv_system.specs.Facts.{Facts}
-use Rattle.std.proofs.Common.{length, ◌≡◌}
+use Rattle.std.proofs.Common.{◌≡◌}
 
 abbrev pub invariant-loop-i : goal.invariant-loop-i
 invariant-loop-i l = record {

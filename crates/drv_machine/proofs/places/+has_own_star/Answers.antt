@@ -2,9 +2,8 @@ use Rattle.drv_machine.proofs.ItemKinds.{tests_in_stars}
 use Rattle.drv_machine.proofs.Standing.{front_in, here, seen_end, seen_found, seen_step, stand_grows, starred_inside}
 use Rattle.drv_machine.proofs.places.+has_own_star.Goals as goal
 use Rattle.drv_machine.proofs.places.+has_own_star.Goals.{in-Alternative, in-Star, in_default}
-use Rattle.drv_machine.specs.Standing.{Spans, Stands, behind_tests, starred, stars, test_stars, tests_in}
-use Rattle.drv_syntax.specs.Labels.{Nodes}
-use Rattle.std.proofs.Common.{Bool, ap, arith, false, refl, subst, sym, true, ◌+◌, ◌∙◌, ◌≡◌}
+use Rattle.drv_machine.specs.Standing.{behind_tests, starred, stars, test_stars, tests_in}
+use Rattle.std.proofs.Common.{ap, arith, false, sym, true, ◌∙◌, ◌≡◌}
 
 pub token_at-token-requires : goal.token_at-token-requires
 token_at-token-requires t c = front_in c.args.tree.now c.loop-at.at c.args.end c.loop-at-test.true c.loop-at.invariant.spans

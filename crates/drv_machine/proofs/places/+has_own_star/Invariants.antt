@@ -1,7 +1,7 @@
-use Rattle.drv_machine.specs.Standing.{Spans, Stands, stars}
+use Rattle.drv_machine.specs.Standing.{Spans, Stands}
 use Rattle.drv_machine.proofs.Standing.{Seen}
 use Rattle.drv_syntax.specs.Labels.{Nodes}
-use Rattle.std.proofs.Common.{◌≡◌, ◌-◌, ◌≤◌}
+use Rattle.std.proofs.Common.{◌-◌, ◌≤◌}
 use Rattle.drv_machine.proofs.places.+has_own_star.Given as goal
 
 abbrev pub decreases-has_own_star : goal.decreases-has_own_star

@@ -1,8 +1,8 @@
 use Rattle.drv_machine.proofs.Standing.{front_in, here, not_test, passed_end, passed_step, passed_stop}
-use Rattle.drv_machine.specs.Standing.{Stands, behind_tests, is_test, tests_in}
+use Rattle.drv_machine.specs.Standing.{Stands, is_test}
 use Rattle.drv_machine.proofs.places.tests_end.Goals as goal
 use Rattle.drv_syntax.specs.Labels.{Nodes}
-use Rattle.std.proofs.Common.{ap, arith, refl, subst, sym, ◌∙◌, ◌≡◌}
+use Rattle.std.proofs.Common.{ap, arith}
 
 pub token_at-token-requires : goal.token_at-token-requires
 token_at-token-requires c = front_in c.args.tree.now c.loop-at.at c.args.end c.loop-at-test.true c.loop-at.invariant.spans

@@ -7,7 +7,7 @@ use Rattle.drv_machine.specs.Working.{Break, End, puts}
 use Rattle.drv_syntax.specs.Labels.{nodes_of}
 use Rattle.drv_syntax.specs.Parsed.{tree_of}
 use Rattle.drv_system.specs.Facts.{no_facts}
-use Rattle.std.proofs.Common.{[], ap, false, length, refl, rules, sym, ◌∙◌, ◌∷◌}
+use Rattle.std.proofs.Common.{[], ap, false, length, rules, sym, ◌∙◌, ◌∷◌}
 use Rattle.std.proofs.lemmas.List.{length-map}
 
 pub work_items-requires-clause-spans : goal.work_items-requires-clause-spans
