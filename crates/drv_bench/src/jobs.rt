@@ -1,5 +1,7 @@
 //! The jobs.
 
+ghost use Rattle.std.specs.Prelude.{◌≡◌, IfOk, replicate};
+
 use drv_args::{expand, read};
 use drv_machine::Context;
 use drv_syntax::parse;
@@ -8,12 +10,10 @@ use drv_words::{Command, Group, Job, Listing, Plan, Word, plan_lines, render, sp
 use std::alloc::{AllocError, Global};
 
 /// A word of so many letters.
-fn letters(alloc: Global, length: usize) -> Result<Word, AllocError> {
-    let mut word = Word::empty(alloc);
-    for _ in 0..length {
-        word.push(b'x')?;
-    }
-    Ok(word)
+fn letters(alloc: Global, length: usize) -> Result<Word, AllocError>
+    ensures { IfOk result (λ word. word ≡ replicate length 120) }
+{
+    Ok(Word::from_vec(vec![in alloc; b'x'; length]?))
 }
 
 /// So many words of ten letters.
