@@ -1,10 +1,10 @@
 use Rattle.drv_words.specs.Printed.{Escapes, Shows, ShowsEnd, ShowsWord, ShowsWords, bare, in_quotes, into_next, is_bare, is_plain, is_special, line, no_byte, no_line, no_pipe, no_word, one_more, other, special}
-use Rattle.drv_words.specs.Reader as r
-use Rattle.drv_words.specs.Reader.{escape, inside, lines_read, longer, read, step, with_word}
+use Rattle.drv_words.specs.LineReader as r
+use Rattle.drv_words.specs.LineReader.{escape, inside, lines_read, longer, read, step, with_word}
 use Rattle.drv_words.specs.declared.plan.PlanLine.{PlanLine}
 use Rattle.drv_words.specs.declared.reading_back.Place.{Place}
 use Rattle.drv_words.specs.declared.reading_back.Place.TheVariants.{AtWord, Bare, Between, Escaped, Quoted, Wrong}
-use Rattle.drv_words.specs.declared.reading_back.Reader.{Reader}
+use Rattle.drv_words.specs.declared.reading_back.LineReader.{LineReader}
 use Rattle.std.proofs.Common.{◌≡◌, ◌||◌, ◌&&◌, ◌==◌, Bool, false, true, List, [], ◌∷◌, ◌++◌, None, Option, Some, length, nat_lt, if◌then◌else◌, refl, sym, ap, ◌∙◌, append_assoc, ℕ}
 use Rattle.std.proofs.lemmas.List.{append-nil}
 use Rattle.std.proofs.Math.Seq.{append_snoc}
@@ -14,14 +14,14 @@ use Rattle.std.specs.List.{list_all}
 -- behind it.
 
 -- a reader with these fields
-abbrev pub at : List PlanLine → Option (List ℕ) → List (List ℕ) → List ℕ → Place → Reader
+abbrev pub at : List PlanLine → Option (List ℕ) → List (List ℕ) → List ℕ → Place → LineReader
 at lines program words word place = record { lines = lines; program = program; words = words; word = word; place = place }
 
-pub read-append : (reader : Reader) (a b : List ℕ) → read reader (a ++ b) ≡ read (read reader a) b
+pub read-append : (reader : LineReader) (a b : List ℕ) → read reader (a ++ b) ≡ read (read reader a) b
 read-append reader [] b = refl
 read-append reader (x ∷ a) b = read-append (step reader x) a b
 
-inside_other : (reader : Reader) (b : ℕ) → is_special b ≡ false → inside reader b ≡ longer reader b reader.place
+inside_other : (reader : LineReader) (b : ℕ) → is_special b ≡ false → inside reader b ≡ longer reader b reader.place
 inside_other reader b e = by (b == 34) (b == 92) (b == 36) e
   where
     by : (quote backslash dollar : Bool) → (quote || backslash || dollar) ≡ false

@@ -63,3 +63,6 @@ text_of_lines (line {words} {end} {rest} {l} {lines} shown ends others) =
 -- the text of lines, and no other, shows them
 pub shown_text : (text : List ℕ) (lines : List PlanLine) → text ≡ lines_text lines → Shows text lines
 shown_text text lines e = let P : List ℕ → Type 0 = λ t. Shows t lines in subst P (sym e) (shows_lines lines)
+
+pub shown_word : (text word : List ℕ) → text ≡ quoted word → ShowsWord text word
+shown_word text word e = let P : List ℕ → Type 0 = λ t. ShowsWord t word in subst P (sym e) (shows_word word)

@@ -1,12 +1,12 @@
 use Rattle.drv_words.proofs.ReadBack.{at}
 use Rattle.drv_words.proofs.Shown.{shows_lines}
 use Rattle.drv_words.specs.Printed.{Shows, end_text, escaped, is_bare, is_plain, is_special, line_text, lines_text, quoted, words_text}
-use Rattle.drv_words.specs.Reader as r
-use Rattle.drv_words.specs.Reader.{finished, lines_read, read, step}
+use Rattle.drv_words.specs.LineReader as r
+use Rattle.drv_words.specs.LineReader.{finished, lines_read, read, step}
 use Rattle.drv_words.specs.declared.plan.PlanLine.{PlanLine}
 use Rattle.drv_words.specs.declared.reading_back.Place.{Place}
 use Rattle.drv_words.specs.declared.reading_back.Place.TheVariants.{AtWord, Bar, Bare, Between, Escaped, Quoted, Wrong}
-use Rattle.drv_words.specs.declared.reading_back.Reader.{Reader}
+use Rattle.drv_words.specs.declared.reading_back.LineReader.{LineReader}
 use Rattle.std.proofs.Common.{◌≡◌, ◌&&◌, ◌==◌, Bool, false, true, List, [], ◌∷◌, ◌++◌, None, Option, Some, is_some, length, nat_lt, if◌then◌else◌, refl, sym, ap, subst, ◌∙◌, append_assoc, arith, ℕ}
 use Rattle.std.proofs.lemmas.Bool.{eqb-true}
 use Rattle.std.proofs.lemmas.Bool.Decides.{nat_tests}
@@ -48,11 +48,11 @@ NoWords None words = words ≡ []
 NoWords (Some program) words = Unit {0}
 
 -- the reader has taken this text
-abbrev Took : Place → Reader → List ℕ → Type 0
+abbrev Took : Place → LineReader → List ℕ → Type 0
 Took Wrong reader text = Unit {0}
 Took place reader text = (text ≡ lines_text reader.lines ++ open_text reader.program reader.words ++ part place reader.word) × NoWords reader.program reader.words × Held place reader.word
 
-abbrev Takes : Reader → List ℕ → Type 0
+abbrev Takes : LineReader → List ℕ → Type 0
 Takes reader text = Took reader.place reader text
 
 -- texts
@@ -276,7 +276,7 @@ step_takes Bar lines program words word b text (is, none, held) =
 step_takes Wrong lines program words word b text took = tt
 
 -- a text
-read_takes : (reader : Reader) (front text : List ℕ) → Takes reader front → Takes (read reader text) (front ++ text)
+read_takes : (reader : LineReader) (front text : List ℕ) → Takes reader front → Takes (read reader text) (front ++ text)
 read_takes reader front [] took = let P : List ℕ → Type 0 = λ t. Takes reader t in subst P (sym (append-nil front)) took
 read_takes reader front (b ∷ text) took =
     let P : List ℕ → Type 0 = λ t. Takes (read (step reader b) text) t in
@@ -299,7 +299,7 @@ finished_is Wrong program lines found words word text took e = absurd cc
 -- a text that is read shows the lines
 pub read_is_shown : (text : List ℕ) (lines : List PlanLine) → lines_read text ≡ Some lines → Shows text lines
 read_is_shown text lines e =
-    let last : Reader = read r.start text in
+    let last : LineReader = read r.start text in
     let is : text ≡ lines_text lines =
     finished_is last.place last.program last.lines lines last.words last.word text (read_takes r.start [] text (refl, refl, refl)) e in
     let P : List ℕ → Type 0 = λ t. Shows t lines in

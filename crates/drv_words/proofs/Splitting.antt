@@ -178,3 +178,10 @@ split_is_grammar text words e =
 
 pub split_is_only : (text : List ℕ) (words : List (List ℕ)) → words ≡ words_of start text → (others : List (List ℕ)) → Splits text others → words ≡ others
 split_is_only text words e others splits = e ∙ splits_split splits []
+
+-- a text has words, and no others
+pub some_words : (text : List ℕ) → (words : List (List ℕ)) × Splits text words
+some_words text = let goes : Goes text = goes_on text in (goes.words, goes.splits)
+
+pub one_list : (text : List ℕ) (a b : List (List ℕ)) → Splits text a → Splits text b → a ≡ b
+one_list text a b splits_a splits_b = sym (splits_split splits_a []) ∙ splits_split splits_b []

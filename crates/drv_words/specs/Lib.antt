@@ -1,6 +1,9 @@
+pub mod Bytes
 pub mod Gives
+pub mod LineReader
 pub mod Lines
+pub mod Places
 pub mod Printed
-pub mod Reader
 pub mod Response
 pub mod Splitter
+pub mod Stepping

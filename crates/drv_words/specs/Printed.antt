@@ -1,3 +1,4 @@
+use Rattle.drv_words.specs.Bytes as byte
 use Rattle.drv_words.specs.declared.plan.PlanLine.{PlanLine}
 use Rattle.std.specs.Char.{is_ascii_alphanumeric}
 use Rattle.std.specs.List.{flat_map, list_all}
@@ -8,7 +9,7 @@ use Rattle.std.specs.Prelude.{◌≡◌, Bool, false, true, ◌||◌, ◌&&◌, 
 
 -- a letter, a digit or one of ./-_
 abbrev pub is_plain : ℕ → Bool
-is_plain b = is_ascii_alphanumeric b || b == 46 || b == 47 || b == 45 || b == 95
+is_plain b = is_ascii_alphanumeric b || b == byte.period || b == byte.slash || b == byte.hyphen || b == byte.underscore
 
 -- a word that needs no quotes: it has a byte, and each is plain
 abbrev pub is_bare : List ℕ → Bool
@@ -16,7 +17,7 @@ is_bare word = nat_lt 0 (length word) && list_all is_plain word
 
 -- a byte behind a backslash between quotes: a double quote, a backslash or a dollar sign
 abbrev pub is_special : ℕ → Bool
-is_special b = b == 34 || b == 92 || b == 36
+is_special b = b == byte.double_quote || b == byte.backslash || b == byte.dollar
 
 -- The grammar, by cases: first the text, then what it shows.
 
@@ -24,22 +25,22 @@ is_special b = b == 34 || b == 92 || b == 36
 pub data Escapes : List ℕ → List ℕ → Type 0 where
   no_byte : Escapes [] []
   other : {b : ℕ} {text word : List ℕ} → is_special b ≡ false → Escapes text word → Escapes (b ∷ text) (b ∷ word)
-  special : {b : ℕ} {text word : List ℕ} → is_special b ≡ true → Escapes text word → Escapes (92 ∷ b ∷ text) (b ∷ word)
+  special : {b : ℕ} {text word : List ℕ} → is_special b ≡ true → Escapes text word → Escapes (byte.backslash ∷ b ∷ text) (b ∷ word)
 
 -- one word
 pub data ShowsWord : List ℕ → List ℕ → Type 0 where
   bare : {word : List ℕ} → is_bare word ≡ true → ShowsWord word word
-  in_quotes : {text word : List ℕ} → is_bare word ≡ false → Escapes text word → ShowsWord (34 ∷ text ++ 34 ∷ []) word
+  in_quotes : {text word : List ℕ} → is_bare word ≡ false → Escapes text word → ShowsWord (byte.double_quote ∷ text ++ byte.double_quote ∷ []) word
 
 -- words, each behind a space
 pub data ShowsWords : List ℕ → List (List ℕ) → Type 0 where
   no_word : ShowsWords [] []
-  one_more : {text word rest : List ℕ} {words : List (List ℕ)} → ShowsWord text word → ShowsWords rest words → ShowsWords (32 ∷ text ++ rest) (word ∷ words)
+  one_more : {text word rest : List ℕ} {words : List (List ℕ)} → ShowsWord text word → ShowsWords rest words → ShowsWords (byte.space ∷ text ++ rest) (word ∷ words)
 
 -- the end of a line, and whether it is piped
 pub data ShowsEnd : List ℕ → Bool → Type 0 where
-  into_next : ShowsEnd (32 ∷ 124 ∷ 10 ∷ []) true
-  no_pipe : ShowsEnd (10 ∷ []) false
+  into_next : ShowsEnd (byte.space ∷ byte.bar ∷ byte.newline ∷ []) true
+  no_pipe : ShowsEnd (byte.newline ∷ []) false
 
 -- lines
 pub data Shows : List ℕ → List PlanLine → Type 0 where
@@ -50,16 +51,16 @@ pub data Shows : List ℕ → List PlanLine → Type 0 where
 
 abbrev pub escaped : List ℕ → List ℕ
 escaped [] = []
-escaped (b ∷ word) = if is_special b then 92 ∷ b ∷ escaped word else b ∷ escaped word
+escaped (b ∷ word) = if is_special b then byte.backslash ∷ b ∷ escaped word else b ∷ escaped word
 
 abbrev pub quoted : List ℕ → List ℕ
-quoted word = if is_bare word then word else 34 ∷ escaped word ++ 34 ∷ []
+quoted word = if is_bare word then word else byte.double_quote ∷ escaped word ++ byte.double_quote ∷ []
 
 abbrev pub words_text : List (List ℕ) → List ℕ
-words_text = flat_map (λ word. 32 ∷ quoted word)
+words_text = flat_map (λ word. byte.space ∷ quoted word)
 
 abbrev pub end_text : Bool → List ℕ
-end_text piped = if piped then 32 ∷ 124 ∷ 10 ∷ [] else 10 ∷ []
+end_text piped = if piped then byte.space ∷ byte.bar ∷ byte.newline ∷ [] else byte.newline ∷ []
 
 abbrev pub line_text : PlanLine → List ℕ
 line_text l = words_text (l.command.program ∷ l.command.words) ++ end_text l.piped

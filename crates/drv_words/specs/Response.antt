@@ -1,3 +1,4 @@
+use Rattle.drv_words.specs.Bytes as byte
 use Rattle.std.specs.Int.{is_in_range}
 use Rattle.std.specs.List.{flat_map}
 use Rattle.std.specs.Prelude.{◌≡◌, ◌||◌, ◌==◌, Bool, false, true, List, [], ◌∷◌, ◌++◌, if◌then◌else◌, ℕ}
@@ -7,26 +8,26 @@ use Rattle.std.specs.Prelude.{◌≡◌, ◌||◌, ◌==◌, Bool, false, true, 
 
 -- tab to carriage return, and space
 abbrev pub is_space : ℕ → Bool
-is_space b = is_in_range 9 13 b || b == 32
+is_space b = is_in_range byte.tab byte.carriage_return b || b == byte.space
 
 -- a single or a double quote
 abbrev pub is_quote : ℕ → Bool
-is_quote b = b == 39 || b == 34
+is_quote b = b == byte.single_quote || b == byte.double_quote
 
 -- a quoted run behind its opening quote: a backslash stands for the byte behind it, and the end of the text
 -- closes the run
 pub data IsRun : ℕ → List ℕ → List ℕ → List ℕ → Type 0 where
   run_closed : {mark : ℕ} {rest : List ℕ} → IsRun mark (mark ∷ rest) [] rest
   run_unclosed : {mark : ℕ} → IsRun mark [] [] []
-  run_backslash : {mark : ℕ} → IsRun mark (92 ∷ []) [] []
-  run_escaped : {mark b : ℕ} {text bytes rest : List ℕ} → IsRun mark text bytes rest → IsRun mark (92 ∷ b ∷ text) (b ∷ bytes) rest
-  run_plain : {mark b : ℕ} {text bytes rest : List ℕ} → (b == mark) ≡ false → (b == 92) ≡ false → IsRun mark text bytes rest → IsRun mark (b ∷ text) (b ∷ bytes) rest
+  run_backslash : {mark : ℕ} → IsRun mark (byte.backslash ∷ []) [] []
+  run_escaped : {mark b : ℕ} {text bytes rest : List ℕ} → IsRun mark text bytes rest → IsRun mark (byte.backslash ∷ b ∷ text) (b ∷ bytes) rest
+  run_plain : {mark b : ℕ} {text bytes rest : List ℕ} → (b == mark) ≡ false → (b == byte.backslash) ≡ false → IsRun mark text bytes rest → IsRun mark (b ∷ text) (b ∷ bytes) rest
 
 -- a piece of a word: a plain byte, a backslash and the byte that it stands for, or a quoted run
 pub data IsPiece : List ℕ → List ℕ → List ℕ → Type 0 where
-  plain : {b : ℕ} {rest : List ℕ} → is_space b ≡ false → is_quote b ≡ false → (b == 92) ≡ false → IsPiece (b ∷ rest) (b ∷ []) rest
-  escaped : {b : ℕ} {rest : List ℕ} → IsPiece (92 ∷ b ∷ rest) (b ∷ []) rest
-  backslash : IsPiece (92 ∷ []) [] []
+  plain : {b : ℕ} {rest : List ℕ} → is_space b ≡ false → is_quote b ≡ false → (b == byte.backslash) ≡ false → IsPiece (b ∷ rest) (b ∷ []) rest
+  escaped : {b : ℕ} {rest : List ℕ} → IsPiece (byte.backslash ∷ b ∷ rest) (b ∷ []) rest
+  backslash : IsPiece (byte.backslash ∷ []) [] []
   quoted : {mark : ℕ} {text bytes rest : List ℕ} → is_quote mark ≡ true → IsRun mark text bytes rest → IsPiece (mark ∷ text) bytes rest
 
 -- a word ends at the end of the text, and before white space
@@ -49,16 +50,16 @@ pub data Splits : List ℕ → List (List ℕ) → Type 0 where
 
 -- the bytes behind a backslash: white space, both quotes and the backslash
 abbrev pub is_marked : ℕ → Bool
-is_marked b = is_space b || is_quote b || b == 92
+is_marked b = is_space b || is_quote b || b == byte.backslash
 
 abbrev pub marked : List ℕ → List ℕ
 marked [] = []
-marked (b ∷ word) = if is_marked b then 92 ∷ b ∷ marked word else b ∷ marked word
+marked (b ∷ word) = if is_marked b then byte.backslash ∷ b ∷ marked word else b ∷ marked word
 
 -- the empty word stands as two quotes
 abbrev pub response : List ℕ → List ℕ
-response [] = 34 ∷ 34 ∷ []
+response [] = byte.double_quote ∷ byte.double_quote ∷ []
 response (b ∷ word) = marked (b ∷ word)
 
 abbrev pub response_text : List (List ℕ) → List ℕ
-response_text = flat_map (λ word. response word ++ 10 ∷ [])
+response_text = flat_map (λ word. response word ++ byte.newline ∷ [])

@@ -1,3 +1,4 @@
+use Rattle.drv_words.specs.Bytes as byte
 use Rattle.drv_words.specs.Response.{is_quote, is_space}
 use Rattle.drv_words.specs.declared.response.Splitter.{Splitter}
 use Rattle.std.specs.Prelude.{◌==◌, List, [], ◌∷◌, ◌++◌, None, Option, Some, false, if◌then◌else◌, true, ℕ}
@@ -32,14 +33,14 @@ ended splitter = word_ended splitter.word splitter
 -- a byte inside a quoted run, and outside
 abbrev pub quoted_step : ℕ → Splitter → ℕ → Splitter
 quoted_step mark splitter b =
-    if b == 92 then record splitter { escaped = true }
+    if b == byte.backslash then record splitter { escaped = true }
     else if b == mark then record splitter { quote = None }
     else with_byte splitter b
 
 abbrev pub plain_step : Splitter → ℕ → Splitter
 plain_step splitter b =
     if is_space b then ended splitter
-    else if b == 92 then record (opened splitter) { escaped = true }
+    else if b == byte.backslash then record (opened splitter) { escaped = true }
     else if is_quote b then record (opened splitter) { quote = Some b }
     else with_byte splitter b
 

@@ -8,8 +8,7 @@ mod printing;
 mod quoting;
 mod reading_back;
 mod response;
-#[cfg(test)]
-mod tests;
+mod steps;
 mod word;
 
 pub use answers::{Answer, ClaimAnswer, NotStarted, RemoveAnswer, StartAnswer, WaitAnswer};
@@ -18,5 +17,6 @@ pub use plan::{Command, Group, Job, Plan, PlanLine, Temp};
 pub use printing::{plan_lines, render};
 pub use quoting::quote;
 pub use reading_back::{one_list_of_lines, read_back};
-pub use response::{respond_text, split};
+pub use response::{one_list_of_words, respond_text, split};
+pub use steps::{Note, Place, RunEvent, Step};
 pub use word::Word;

@@ -89,7 +89,8 @@ pub struct Temp {
 /// The work on one source, or the link.
 #[derive(Debug, Drop)]
 pub struct Job {
-    /// The place of the source among the line's inputs; none for the link.
+    /// The place of the source among the line's inputs; none for the link, and in a job as `run` of the machine
+    /// answers it.
     pub source: Option<usize>,
     /// The groups, one after another.
     pub groups: Listing<Group>,

@@ -1,6 +1,6 @@
 //! The printed form of a word.
 
-ghost use Rattle.drv_words.specs.Printed.{is_bare, is_plain, is_special, quoted, escaped};
+ghost use Rattle.drv_words.specs.Printed.{ShowsWord, is_bare, is_plain, is_special, quoted, escaped};
 ghost use Rattle.std.specs.List.{list_all};
 ghost use Rattle.std.specs.Prelude.{◌≡◌, ◌++◌, IfOk, OnOk};
 
@@ -64,7 +64,8 @@ pub(crate) fn push_quoted(text: &mut Word, word: &Word) -> Result<(), AllocError
 /// The printed form of a word, as in a line of `-###`: a word of letters, digits and `./-_` stands as it is,
 /// any other in double quotes with a backslash before `"`, `\` and `$` (GCC manual, "Overall Options").
 pub fn quote(alloc: Global, word: &Word) -> Result<Word, AllocError>
-    ensures { IfOk result (λ text. text ≡ quoted word.now) }
+    ensures text { IfOk result (λ text. text ≡ quoted word.now) }
+    ensures shows { IfOk result (λ text. ShowsWord text word.now) }
 {
     let mut text = Word::empty(alloc);
     push_quoted(&mut text, word)?;

@@ -1,7 +1,7 @@
 //! Reading printed lines back.
 
 ghost use Rattle.drv_words.specs.Printed.{Shows};
-ghost use Rattle.drv_words.specs.Reader.{at_word, bare, behind_bar, between, escape, finished, inside, lines_read, start, step, with_line, with_word};
+ghost use Rattle.drv_words.specs.LineReader.{at_word, bare, behind_bar, between, escape, finished, inside, lines_read, start, step, with_line, with_word};
 ghost use Rattle.drv_words.specs.declared.plan.PlanLine.{PlanLine};
 ghost use Rattle.std.specs.Prelude.{◌≡◌, IfOk, IfSome, List, OnOk, Some, ℕ};
 
@@ -31,7 +31,7 @@ enum Place {
 
 /// A reader of printed lines: the lines that ended, and what is there of the next one.
 #[derive(Drop)]
-struct Reader {
+struct LineReader {
     lines: Listing<PlanLine>,
     program: Option<Word>,
     words: Listing<Word>,
@@ -39,11 +39,11 @@ struct Reader {
     place: Place,
 }
 
-impl Reader {
-    fn new(alloc: Global) -> Reader
+impl LineReader {
+    fn new(alloc: Global) -> LineReader
         ensures { result ≡ start }
     {
-        Reader {
+        LineReader {
             lines: Listing::new(alloc),
             program: None,
             words: Listing::new(alloc),
@@ -188,7 +188,7 @@ impl Reader {
 fn read_lines(alloc: Global, text: &[u8]) -> Result<Option<Listing<PlanLine>>, AllocError>
     ensures { IfOk result (λ lines. lines ≡ lines_read text.now) }
 {
-    let mut reader = Reader::new(alloc);
+    let mut reader = LineReader::new(alloc);
     for &byte in text {
         reader.take(alloc, byte)?;
     }

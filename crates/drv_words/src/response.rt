@@ -148,6 +148,12 @@ pub fn split(alloc: Global, text: &[u8]) -> Result<Listing<Word>, AllocError>
     split_text(alloc, text)
 }
 
+/// A law: a text has a list of words, and one alone.
+pub fn one_list_of_words()
+    ensures some { (text : List ℕ) → (words : List (List ℕ)) × Splits text words }
+    ensures one { (text : List ℕ) (a b : List (List ℕ)) → Splits text a → Splits text b → a ≡ b }
+{}
+
 /// Adds the bytes of a word, each marked by a backslash where it has to be.
 fn push_marked(text: &mut Word, word: &[u8]) -> Result<(), AllocError>
     ensures { OnOk result (text.new ≡ text.old ++ marked word.now) }

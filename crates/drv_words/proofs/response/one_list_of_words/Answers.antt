@@ -1,0 +1,8 @@
+use Rattle.drv_words.proofs.Splitting.{one_list, some_words}
+use Rattle.drv_words.proofs.response.one_list_of_words.Goals as goal
+
+pub returns-clause-some : goal.returns-clause-some
+returns-clause-some c = some_words
+
+pub returns-clause-one : goal.returns-clause-one
+returns-clause-one c = one_list
