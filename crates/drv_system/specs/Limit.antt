@@ -1,6 +1,8 @@
-use Rattle.std.specs.Prelude.{Bool, List, length, nat_lt, ℕ}
+use Rattle.drv_system.specs.declared.event.ReadAnswer.{ReadAnswer}
+use Rattle.drv_system.specs.declared.event.ReadAnswer.TheVariants.{Read}
+use Rattle.std.specs.Prelude.{◌≡◌, Bool, List, false, length, nat_lt, ℕ, ⊤}
 
--- The most that a file may hold (this project's profile).
+-- The most that a file may hold, and the most reads that it is read by (this project's profile).
 
 -- 16 MiB
 abbrev pub most_bytes : ℕ
@@ -8,3 +10,11 @@ most_bytes = 16777216
 
 abbrev pub is_too_large : List ℕ → Bool
 is_too_large bytes = nat_lt most_bytes (length bytes)
+
+abbrev pub most_reads : ℕ
+most_reads = 33554432
+
+-- an answer is never longer than a file may be
+abbrev pub IsWithinLimit : ReadAnswer → Type 0
+IsWithinLimit (Read bytes) = is_too_large bytes ≡ false
+IsWithinLimit answer = ⊤

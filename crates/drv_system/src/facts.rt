@@ -7,7 +7,7 @@ ghost use Rattle.drv_system.specs.declared.event.Event.TheVariants as event;
 ghost use Rattle.std.specs.Option.{option_copied};
 ghost use Rattle.std.specs.Prelude.{◌≡◌, IfOk, IsSome, List, OnOk, Some, ℕ};
 
-use crate::answers::Answers;
+use crate::answer_map::AnswerMap;
 use crate::{PathKind, ReadAnswer, System};
 use drv_words::Word;
 use std::alloc::{AllocError, Global};
@@ -16,9 +16,9 @@ use std::marker::Model;
 /// The first answers to what was asked, by path or name.
 #[derive(Drop)]
 pub struct FactTable {
-    reads: Answers<ReadAnswer>,
-    kinds: Answers<PathKind>,
-    variables: Answers<Option<Word>>,
+    reads: AnswerMap<ReadAnswer>,
+    kinds: AnswerMap<PathKind>,
+    variables: AnswerMap<Option<Word>>,
 }
 
 impl Model for FactTable {
@@ -35,9 +35,9 @@ impl FactTable {
         ensures { result ≡ no_facts }
     {
         FactTable {
-            reads: Answers::new(alloc),
-            kinds: Answers::new(alloc),
-            variables: Answers::new(alloc),
+            reads: AnswerMap::new(alloc),
+            kinds: AnswerMap::new(alloc),
+            variables: AnswerMap::new(alloc),
         }
     }
 
@@ -130,6 +130,3 @@ pub fn first_answers_law()
     ensures kinds { (events : List Event) (path : List ℕ) → kind_of (learn no_facts events) path ≡ first_kind path events }
     ensures variables { (events : List Event) (name : List ℕ) → variable_of (learn no_facts events) name ≡ first_variable name events }
 {}
-
-#[cfg(test)]
-mod tests;

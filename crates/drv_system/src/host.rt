@@ -146,6 +146,3 @@ fn copied(value: &Option<Word>) -> Result<Option<Word>, AllocError>
         None => Ok(None),
     }
 }
-
-#[cfg(test)]
-mod tests;

@@ -1,11 +1,9 @@
 //! The outside of a compiler driver: files, variables and streams, what was asked of them, and what is known from it.
 #![tactic(auto)]
 
-mod answers;
+mod answer_map;
 mod event;
 mod facts;
-#[cfg(test)]
-mod fixture;
 mod host;
 mod reading;
 mod script;

@@ -1,7 +1,10 @@
 //! Reading a whole file within bounds.
 
-ghost use Rattle.drv_system.specs.Reading.{IsWithinLimit, ReadsAs};
-ghost use Rattle.std.specs.Prelude.{IfOk};
+ghost use Rattle.drv_system.specs.Limit.{IsWithinLimit, most_reads};
+ghost use Rattle.drv_system.specs.Reading.{GivesUp, ReadsAs, is_failure};
+ghost use Rattle.std.specs.Io.{ReadsAtMost};
+ghost use Rattle.std.specs.Io.KnownBytes.{IsAtEnd, ReadConsumes};
+ghost use Rattle.std.specs.Prelude.{◌≡◌, ◌+◌, ◌<◌, IfOk, false, length};
 
 use crate::{MOST_BYTES, ReadAnswer};
 use drv_words::Word;
@@ -18,7 +21,7 @@ pub fn read_path<R: Files>(rt: &R, alloc: Global, path: &str) -> Result<ReadAnsw
     ensures { IfOk result IsWithinLimit }
 {
     match File::open(rt, path) {
-        Ok(mut file) => read_all(alloc, &mut file, MOST_READS),
+        Ok(file) => Source::new(file).read_whole(alloc),
         Err(e) if e.kind() == ErrorKind::OutOfMemory => Err(AllocError),
         Err(e) if is_absent(&e) => Ok(ReadAnswer::Missing),
         Err(_) => Ok(ReadAnswer::Failed),
@@ -26,32 +29,92 @@ pub fn read_path<R: Files>(rt: &R, alloc: Global, path: &str) -> Result<ReadAnsw
 }
 
 /// Whether an error says that nothing has the path, one that leads through a plain file included.
-fn is_absent(error: &Error) -> bool {
+pub(crate) fn is_absent(error: &Error) -> bool {
     matches!(error.kind(), ErrorKind::NotFound | ErrorKind::NotADirectory)
 }
 
-/// Reads a file from where it stands to its end, by at most so many reads. One that does not end within the bounds is not read.
-fn read_all<F: Read>(alloc: Global, file: &mut F, most_reads: u32) -> Result<ReadAnswer, AllocError>
-    ensures whole { IfOk result (ReadsAs (F.remaining file.old)) }
-    ensures within { IfOk result IsWithinLimit }
-{
-    let mut bytes = Vec::new(alloc);
-    let mut buffer = [0u8; 65536];
-    for _ in 0..most_reads {
-        match file.read(&mut buffer) {
-            Ok(0) => return Ok(ReadAnswer::Read(Word::from_vec(bytes))),
-            Ok(n) => {
-                if n > MOST_BYTES - bytes.len() {
-                    return Ok(ReadAnswer::TooLarge);
-                }
-                bytes.extend_from_slice(&buffer[..n])?;
-            }
-            Err(e) if e.kind() == ErrorKind::Interrupted => {}
-            Err(_) => return Ok(ReadAnswer::Failed),
-        }
-    }
-    Ok(ReadAnswer::Failed)
+/// Why a read gave nothing.
+#[derive(Clone, Copy)]
+enum ReadFault {
+    /// It was interrupted, and can be made again.
+    Interrupted,
+    /// It failed.
+    Failed,
 }
 
-#[cfg(test)]
-mod tests;
+/// A file that is being read: how many reads were made of it, and whether the last one failed.
+#[derive(Drop)]
+struct Source<F> {
+    file: F,
+    reads: u32,
+    failed: bool,
+}
+
+impl<F: Read> Source<F> {
+    /// A file of which nothing was read yet.
+    fn new(file: F) -> Source<F>
+        ensures { result ≡ record { file = file; reads = 0; failed = false } }
+    {
+        Source {
+            file,
+            reads: 0,
+            failed: false,
+        }
+    }
+
+    /// Makes one read.
+    fn read(&mut self, buffer: &mut [u8]) -> Result<usize, ReadFault>
+        requires count { self.old.reads < 4294967295 }
+        requires room { 0 < length buffer.old }
+        ensures reads { self.new.reads ≡ self.old.reads + 1 }
+        ensures failed { self.new.failed ≡ is_failure result }
+        ensures bound { ReadsAtMost result buffer.new }
+        ensures bytes { ReadConsumes (F.remaining self.old.file) (F.remaining self.new.file) result buffer.new }
+        ensures end { IfOk result (λ n. n ≡ 0 → IsAtEnd (F.remaining self.new.file)) }
+    {
+        self.reads += 1;
+        self.failed = false;
+        match self.file.read(buffer) {
+            Ok(count) => Ok(count),
+            Err(e) if e.kind() == ErrorKind::Interrupted => Err(ReadFault::Interrupted),
+            Err(_) => {
+                self.failed = true;
+                Err(ReadFault::Failed)
+            }
+        }
+    }
+
+    /// Reads to the end, by at most so many reads. A file that does not end within the bounds is not read.
+    fn read_within(&mut self, alloc: Global, most: u32) -> Result<ReadAnswer, AllocError>
+        requires { self.old.reads ≡ 0 }
+        ensures read { IfOk result (ReadsAs (F.remaining self.old.file)) }
+        ensures given_up { IfOk result (GivesUp most self.new.reads self.new.failed) }
+        ensures within { IfOk result IsWithinLimit }
+    {
+        let mut bytes = Vec::new(alloc);
+        let mut buffer = [0u8; 65536];
+        for _ in 0..most {
+            let count = match self.read(&mut buffer) {
+                Ok(0) => return Ok(ReadAnswer::Read(Word::from_vec(bytes))),
+                Ok(count) => count,
+                Err(ReadFault::Interrupted) => continue,
+                Err(ReadFault::Failed) => return Ok(ReadAnswer::Failed),
+            };
+            if count > MOST_BYTES - bytes.len() {
+                return Ok(ReadAnswer::TooLarge);
+            }
+            bytes.extend_from_slice(&buffer[..count])?;
+        }
+        Ok(ReadAnswer::Failed)
+    }
+
+    /// Reads to the end, by at most 33,554,432 reads.
+    fn read_whole(&mut self, alloc: Global) -> Result<ReadAnswer, AllocError>
+        requires { self.old.reads ≡ 0 }
+        ensures read { IfOk result (ReadsAs (F.remaining self.old.file)) }
+        ensures given_up { IfOk result (GivesUp most_reads self.new.reads self.new.failed) }
+        ensures within { IfOk result IsWithinLimit }
+    {
+        self.read_within(alloc, MOST_READS)
+    }
+}

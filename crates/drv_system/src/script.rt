@@ -1,6 +1,6 @@
 //! A system that answers from lists.
 
-ghost use Rattle.drv_system.specs.Reading.{IsWithinLimit};
+ghost use Rattle.drv_system.specs.Limit.{IsWithinLimit};
 ghost use Rattle.drv_system.specs.Script.{read_as, scripted_kind, scripted_read, scripted_telling, scripted_variable};
 ghost use Rattle.drv_system.specs.declared.event.Event.TheVariants as event;
 ghost use Rattle.drv_system.specs.declared.event.TellAnswer.TheVariants as tell;
@@ -188,6 +188,3 @@ fn telling(mute: bool) -> TellAnswer
         TellAnswer::Told
     }
 }
-
-#[cfg(test)]
-mod tests;

@@ -1,6 +1,6 @@
 //! The outside as a trait.
 
-ghost use Rattle.drv_system.specs.Reading.{IsWithinLimit};
+ghost use Rattle.drv_system.specs.Limit.{IsWithinLimit};
 ghost use Rattle.drv_system.specs.declared.event.Event.TheVariants as event;
 ghost use Rattle.std.specs.Prelude.{◌≡◌, ◌∷◌, ◌++◌, [], IfOk, List, OnErr};
 

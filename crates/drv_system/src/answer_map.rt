@@ -13,13 +13,13 @@ use std::alloc::{AllocError, Global};
 use std::collections::BTreeMap;
 use std::marker::Model;
 
-/// Answers by path or name, in an ordered tree: no choice of names makes a look-up slow.
+/// AnswerMap by path or name, in an ordered tree: no choice of names makes a look-up slow.
 #[derive(Drop)]
-pub struct Answers<V> {
+pub struct AnswerMap<V> {
     given: BTreeMap<Word, V>,
 }
 
-impl<V> Model for Answers<V> {
+impl<V> Model for AnswerMap<V> {
     ghost use Rattle.std.specs.Prelude.{List, ℕ};
 
     ghost Value = { List (List ℕ × V) };
@@ -27,12 +27,12 @@ impl<V> Model for Answers<V> {
     ghost view = { λ a. a.given.entries };
 }
 
-impl<V: Drop> Answers<V> {
+impl<V: Drop> AnswerMap<V> {
     /// No answers, which takes no memory.
-    pub fn new(alloc: Global) -> Answers<V>
+    pub fn new(alloc: Global) -> AnswerMap<V>
         ensures { result ≡ [] }
     {
-        Answers {
+        AnswerMap {
             given: BTreeMap::new(alloc),
         }
     }
