@@ -1,4 +1,5 @@
-use Rattle.drv_args.specs.Expansion.{Expands, Itself, Means, Refuses, Responds, Text, behind, by_answer, by_name, by_text, file_named, inside, itself, later, meant, no_word, too_large, too_many}
+use Rattle.drv_args.specs.Expansion.{Expands, Itself, Refuses, Responds, Text, behind, by_answer, by_name, by_text, file_named, inside, itself, later, replacement_of, no_word, too_large, too_many}
+use Rattle.drv_args.specs.Replacing.{IsReplaced}
 use Rattle.drv_args.specs.declared.fault.ArgsFault.TheVariants.{Memory, ResponseTooLarge, TooManyFiles}
 use Rattle.drv_args.specs.declared.fault.ArgsFault.{ArgsFault}
 use Rattle.drv_args.specs.declared.line.Expanded.{Expanded}
@@ -14,9 +15,9 @@ use Rattle.std.proofs.lemmas.List.{append-nil, reverse-append, reverse-reverse}
 
 -- Words that are expanded in front of others.
 
--- what a word means by the facts after the call that asked
-pub meant_is : (F G : Facts) (word path : List ℕ) (answer : ReadAnswer) → Extends G F → file_named word ≡ Some path → read_of G path ≡ Some answer → meant F word ≡ Is (by_answer path answer)
-meant_is F G word path answer e named known =
+-- what stands for a word by the facts after the call that asked
+pub replacement_is : (F G : Facts) (word path : List ℕ) (answer : ReadAnswer) → Extends G F → file_named word ≡ Some path → read_of G path ≡ Some answer → replacement_of F word ≡ Is (by_answer path answer)
+replacement_is F G word path answer e named known =
     ap (by_name F) named ∙ ap (λ a. asked a >>= λ answer. Is (by_answer path answer)) (e.reads path answer known)
 
 pub itself_by : (path : List ℕ) (answer : ReadAnswer) → (answer ≡ Missing) ⊎ (answer ≡ Failed) → Is (by_answer path answer) ≡ Is Itself
@@ -71,14 +72,14 @@ pub goes_from_start : (F : Facts) (args : List (List ℕ)) → GoesOn F 2000 arg
 goes_from_start F args = record { responds = λ left' more r. r; refuses = λ fault r. r }
 
 pub goes_by_itself : (F : Facts) (left : ℕ) (word : List ℕ) (words out args : List (List ℕ))
-    → meant F word ≡ Is Itself → GoesOn F left (word ∷ words) out args → GoesOn F left words (out ++ word ∷ []) args
+    → replacement_of F word ≡ Is Itself → GoesOn F left (word ∷ words) out args → GoesOn F left words (out ++ word ∷ []) args
 goes_by_itself F left word words out args m goes = record {
   responds = λ left' more r. let P : List (List ℕ) → Type 0 = λ o. Responds F 2000 args left' o in subst P (sym (append_snoc out word more)) (goes.responds left' (word ∷ more) (itself m r));
   refuses = λ fault r. goes.refuses fault (later m r);
 }
 
 pub goes_by_text : (F : Facts) (left : ℕ) (word text : List ℕ) (inner words out args : List (List ℕ))
-    → meant F word ≡ Is (Text text) → Splits text inner → GoesOn F (suc left) (word ∷ words) out args → GoesOn F left (inner ++ words) out args
+    → replacement_of F word ≡ Is (Text text) → Splits text inner → GoesOn F (suc left) (word ∷ words) out args → GoesOn F left (inner ++ words) out args
 goes_by_text F left word text inner words out args m splits goes = record {
   responds = λ left' more r.
       let p : Parts F left inner words left' more = parts_of inner words r in
@@ -97,7 +98,7 @@ next_is : (stack rest : List (List ℕ)) (word : List ℕ) → stack ≡ rest ++
 next_is stack rest word e = ap reverse e ∙ reverse-append rest (word ∷ [])
 
 pub itself_goes : (F : Facts) (left : ℕ) (stack rest : List (List ℕ)) (word : List ℕ) (out out' args : List (List ℕ))
-    → stack ≡ rest ++ word ∷ [] → out' ≡ out ++ word ∷ [] → meant F word ≡ Is Itself → GoesOn F left (reverse stack) out args → GoesOn F left (reverse rest) out' args
+    → stack ≡ rest ++ word ∷ [] → out' ≡ out ++ word ∷ [] → replacement_of F word ≡ Is Itself → GoesOn F left (reverse stack) out args → GoesOn F left (reverse rest) out' args
 itself_goes F left stack rest word out out' args popped pushed m goes =
     let P : List (List ℕ) → Type 0 = λ o. GoesOn F left (reverse rest) o args in
     let Q : List (List ℕ) → Type 0 = λ ws. GoesOn F left ws out args in
@@ -105,7 +106,7 @@ itself_goes F left stack rest word out out' args popped pushed m goes =
 
 -- a word that stands for words
 abbrev pub StandsFor : Facts → List ℕ → List (List ℕ) → Type 0
-StandsFor F word inner = (text : List ℕ) × (meant F word ≡ Is (Text text)) × Splits text inner
+StandsFor F word inner = (text : List ℕ) × (replacement_of F word ≡ Is (Text text)) × Splits text inner
 
 pub text_goes : (F : Facts) (left left' : ℕ) (stack rest stack' : List (List ℕ)) (word : List ℕ) (inner out args : List (List ℕ))
     → stack ≡ rest ++ word ∷ [] → left ≡ suc left' → stack' ≡ rest ++ reverse inner → StandsFor F word inner → GoesOn F left (reverse stack) out args → GoesOn F left' (reverse stack') out args
@@ -124,7 +125,7 @@ many_refused F left stack rest word inner out args popped none (text, m, splits)
     goes.refuses TooManyFiles (subst Q (sym (next_is stack rest word popped)) (subst P (sym none) (too_many m)))
 
 pub large_refused : (F : Facts) (left : ℕ) (stack rest : List (List ℕ)) (word : List ℕ) (out args : List (List ℕ)) (fault : ArgsFault)
-    → stack ≡ rest ++ word ∷ [] → Means F word (Err fault) → GoesOn F left (reverse stack) out args → (fault ≡ Memory) ⊎ Refuses F 2000 args fault
+    → stack ≡ rest ++ word ∷ [] → IsReplaced F word (Err fault) → GoesOn F left (reverse stack) out args → (fault ≡ Memory) ⊎ Refuses F 2000 args fault
 large_refused F left stack rest word out args fault popped (inl memory) goes = inl memory
 large_refused F left stack rest word out args fault popped (inr (path, m, e)) goes =
     let P : ArgsFault → Type 0 = λ f. Refuses F 2000 args f in

@@ -1,5 +1,7 @@
-use Rattle.drv_args.specs.Fronts.{Alone, Bad, Fits, Item, Offends, Reads, Start, Wants, alone, and_items, bad_jobs, by_start, front, item, items_behind, items_of, lacks_argument, later, no_front, start_of, with_next}
+use Rattle.drv_args.specs.Fronts.{Alone, Bad, Fits, Item, Offends, Reads, Start, Wants, alone, and_items, at_last, at_word, bad_jobs, front, item, items_of, lacks_argument, later, no_front, start_of, with_next}
+use Rattle.drv_args.specs.declared.fault.ArgsFault.TheVariants.{BadJobs}
 use Rattle.drv_args.specs.declared.fault.ArgsFault.{ArgsFault}
+use Rattle.drv_args.specs.declared.option_table.Effect.{Effect}
 use Rattle.std.proofs.Common.{◌≡◌, ◌↔◌, Err, List, [], ◌∷◌, ◌++◌, Ok, Result, refl, subst, ap, ◌∙◌, ℕ}
 
 -- Items are those of fronts.
@@ -17,29 +19,43 @@ comes : (words : List (List ℕ)) → Comes words (items_of words)
 comes [] = no_front
 comes (word ∷ []) = by (start_of word) refl
   where
-    by : (s : Start) → start_of word ≡ s → Comes (word ∷ []) (by_start s word (λ waiting. items_behind waiting []))
-    by (Alone i) e = with_front (word ∷ []) [] i (alone e) (Ok []) no_front
+    by : (s : Start) → start_of word ≡ s → Comes (word ∷ []) (at_last s word)
+    by (Alone i) e = front (alone e) no_front
     by Bad e = bad_jobs e
-    by (Wants meaning option) e = lacks_argument e
-comes (word ∷ argument ∷ words) = by (start_of word) refl (comes (argument ∷ words)) (comes words)
+    by (Wants effect option) e = lacks_argument e
+comes (word ∷ next ∷ words) = by (start_of word) refl (comes (next ∷ words)) (comes words)
   where
-    by : (s : Start) → start_of word ≡ s → Comes (argument ∷ words) (items_of (argument ∷ words)) → Comes words (items_of words)
-        → Comes (word ∷ argument ∷ words) (by_start s word (λ waiting. items_behind waiting (argument ∷ words)))
-    by (Alone i) e next behind = with_front (word ∷ []) (argument ∷ words) i (alone e) (items_of (argument ∷ words)) next
-    by Bad e next behind = bad_jobs e
-    by (Wants meaning option) e next behind = with_front (word ∷ argument ∷ []) words (item meaning option argument) (with_next e) (items_of words) behind
+    by : (s : Start) → start_of word ≡ s → Comes (next ∷ words) (items_of (next ∷ words)) → Comes words (items_of words)
+        → Comes (word ∷ next ∷ words) (at_word s word next (items_of (next ∷ words)) (items_of words))
+    by (Alone i) e others behind = with_front (word ∷ []) (next ∷ words) i (alone e) (items_of (next ∷ words)) others
+    by Bad e others behind = bad_jobs e
+    by (Wants effect option) e others behind = with_front (word ∷ next ∷ []) words (item effect option next) (with_next e) (items_of words) behind
+
+-- a word that is a front by itself, and what is behind it
+pub alone_first : (word : List ℕ) (i : Item) (words : List (List ℕ)) → start_of word ≡ Alone i → items_of (word ∷ words) ≡ and_items i (items_of words)
+alone_first word i [] e = ap (λ s. at_last s word) e
+alone_first word i (next ∷ words) e = ap (λ s. at_word s word next (items_of (next ∷ words)) (items_of words)) e
+
+-- a word that wants the next one, and what is behind the two
+pub with_next_first : (word next option : List ℕ) (effect : Effect) (words : List (List ℕ)) → start_of word ≡ Wants effect option → items_of (word ∷ next ∷ words) ≡ and_items (item effect option next) (items_of words)
+with_next_first word next option effect words e = ap (λ s. at_word s word next (items_of (next ∷ words)) (items_of words)) e
+
+-- a word that is refused
+pub bad_first : (word : List ℕ) (words : List (List ℕ)) → start_of word ≡ Bad → items_of (word ∷ words) ≡ Err (BadJobs word)
+bad_first word [] e = ap (λ s. at_last s word) e
+bad_first word (next ∷ words) e = ap (λ s. at_word s word next (items_of (next ∷ words)) (items_of words)) e
 
 fits_items : {words : List (List ℕ)} {i : Item} → Fits words i → (rest : List (List ℕ)) → items_of (words ++ rest) ≡ and_items i (items_of rest)
-fits_items (alone {word} {i} e) rest = ap (λ s. by_start s word (λ waiting. items_behind waiting rest)) e
-fits_items (with_next {word} {argument} {option} {meaning} e) rest = ap (λ s. by_start s word (λ waiting. items_behind waiting (argument ∷ rest))) e
+fits_items (alone {word} {i} e) rest = alone_first word i rest e
+fits_items (with_next {word} {argument} {option} {effect} e) rest = with_next_first word argument option effect rest e
 
 reads_items : {words : List (List ℕ)} {items : List Item} → Reads words items → items_of words ≡ Ok items
 reads_items no_front = refl
 reads_items (front {words} {rest} {i} {items} fits reads) = fits_items fits rest ∙ ap (and_items i) (reads_items reads)
 
 offends_items : {words : List (List ℕ)} {fault : ArgsFault} → Offends words fault → items_of words ≡ Err fault
-offends_items (lacks_argument {word} e) = ap (λ s. by_start s word (λ waiting. items_behind waiting [])) e
-offends_items (bad_jobs {word} {words} e) = ap (λ s. by_start s word (λ waiting. items_behind waiting words)) e
+offends_items (lacks_argument {word} e) = ap (λ s. at_last s word) e
+offends_items (bad_jobs {word} {words} e) = bad_first word words e
 offends_items (later {words} {rest} {i} {fault} fits offends) = fits_items fits rest ∙ ap (and_items i) (offends_items offends)
 
 pub reads_law : (words : List (List ℕ)) (items : List Item) → (Reads words items ↔ (items_of words ≡ Ok items))

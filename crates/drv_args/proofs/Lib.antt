@@ -1,7 +1,8 @@
 pub mod Asked
 pub mod Expanding
 pub mod FrontLaws
-pub mod Noting
+pub mod LineSteps
+pub mod Lookups
 pub mod OneExpansion
 pub mod Verdicts
-pub mod Words
+pub mod WorkedLines

@@ -1,4 +1,4 @@
-use Rattle.drv_args.specs.Expansion.{Itself, Large, Meant, Refuses, Responds, Text, behind, by_text, inside, itself, later, meant, no_word, too_large, too_many}
+use Rattle.drv_args.specs.Expansion.{Itself, Large, Replacement, Refuses, Responds, Text, behind, by_text, inside, itself, later, replacement_of, no_word, too_large, too_many}
 use Rattle.drv_args.specs.declared.fault.ArgsFault.TheVariants.{ResponseTooLarge}
 use Rattle.drv_args.specs.declared.fault.ArgsFault.{ArgsFault}
 use Rattle.drv_system.specs.Facts.{Facts}
@@ -14,23 +14,23 @@ one_split : (text : List ℕ) (a b : List (List ℕ)) → Splits text a → Spli
 one_split text a b splits_a splits_b =
     sym (split_is_only text (words_of start text) refl a splits_a) ∙ split_is_only text (words_of start text) refl b splits_b
 
-one_meant : (F : Facts) (word : List ℕ) (a b : Meant) → meant F word ≡ Is a → meant F word ≡ Is b → a ≡ b
-one_meant F word a b m m' = let same : Is a ≡ Is b = sym m ∙ m' in cc
+one_replacement : (F : Facts) (word : List ℕ) (a b : Replacement) → replacement_of F word ≡ Is a → replacement_of F word ≡ Is b → a ≡ b
+one_replacement F word a b m m' = let same : Is a ≡ Is b = sym m ∙ m' in cc
 
-not_itself : (F : Facts) (word text : List ℕ) → meant F word ≡ Is Itself → meant F word ≡ Is (Text text) → ⊥
-not_itself F word text m m' = let same : Itself ≡ Text text = one_meant F word Itself (Text text) m m' in cc
+not_itself : (F : Facts) (word text : List ℕ) → replacement_of F word ≡ Is Itself → replacement_of F word ≡ Is (Text text) → ⊥
+not_itself F word text m m' = let same : Itself ≡ Text text = one_replacement F word Itself (Text text) m m' in cc
 
-not_large : (F : Facts) (word path : List ℕ) → meant F word ≡ Is (Large path) → meant F word ≡ Is Itself → ⊥
-not_large F word path m m' = let same : Large path ≡ Itself = one_meant F word (Large path) Itself m m' in cc
+not_large : (F : Facts) (word path : List ℕ) → replacement_of F word ≡ Is (Large path) → replacement_of F word ≡ Is Itself → ⊥
+not_large F word path m m' = let same : Large path ≡ Itself = one_replacement F word (Large path) Itself m m' in cc
 
-not_text : (F : Facts) (word path text : List ℕ) → meant F word ≡ Is (Large path) → meant F word ≡ Is (Text text) → ⊥
-not_text F word path text m m' = let same : Large path ≡ Text text = one_meant F word (Large path) (Text text) m m' in cc
+not_text : (F : Facts) (word path text : List ℕ) → replacement_of F word ≡ Is (Large path) → replacement_of F word ≡ Is (Text text) → ⊥
+not_text F word path text m m' = let same : Large path ≡ Text text = one_replacement F word (Large path) (Text text) m m' in cc
 
 -- the same words stand for a word
 same_inner : (F : Facts) (word text text' : List ℕ) (inner inner' : List (List ℕ))
-    → meant F word ≡ Is (Text text) → Splits text inner → meant F word ≡ Is (Text text') → Splits text' inner' → inner' ≡ inner
+    → replacement_of F word ≡ Is (Text text) → Splits text inner → replacement_of F word ≡ Is (Text text') → Splits text' inner' → inner' ≡ inner
 same_inner F word text text' inner inner' m splits m' splits' =
-    let same : Text text' ≡ Text text = one_meant F word (Text text') (Text text) m' m in
+    let same : Text text' ≡ Text text = one_replacement F word (Text text') (Text text) m' m in
     let texts : text' ≡ text = cc in
     one_split text inner' inner (subst (λ (t : List ℕ). Splits t inner') texts splits') splits
 
@@ -77,7 +77,7 @@ responds_alone F left a words out fault responds refused = never_both responds r
 -- words are refused for one reason
 one_refusal : {F : Facts} {left : ℕ} {words : List (List ℕ)} {f g : ArgsFault} → Refuses F left words f → Refuses F left words g → f ≡ g
 one_refusal {F = F} (too_large {word = word} {path = path} m) (too_large {path = path'} m') =
-    let large : Large path ≡ Large path' = one_meant F word (Large path) (Large path') m m' in
+    let large : Large path ≡ Large path' = one_replacement F word (Large path) (Large path') m m' in
     let paths : path ≡ path' = cc in
     ap ResponseTooLarge paths
 one_refusal {F = F} (too_large {word = word} {path = path} m) (too_many {text = text} m') = absurd (not_text F word path text m m')

@@ -1,6 +1,8 @@
+pub mod Building
 pub mod Expansion
 pub mod Fronts
 pub mod Judging
 pub mod Lines
+pub mod Lookup
 pub mod Options
-pub mod Reader
+pub mod Replacing

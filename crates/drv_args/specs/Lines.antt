@@ -1,3 +1,4 @@
+use Rattle.drv_words.specs.Bytes.{comma}
 use Rattle.drv_args.specs.Fronts.{Item, items_of}
 use Rattle.drv_args.specs.declared.fault.ArgsFault.TheVariants.{NoInputs, OutputIsInput, OutputWithMany, StdinNeedsLanguage, TooManyArguments}
 use Rattle.drv_args.specs.declared.fault.ArgsFault.{ArgsFault}
@@ -6,10 +7,14 @@ use Rattle.drv_args.specs.declared.line.Input.TheVariants as input
 use Rattle.drv_args.specs.declared.line.Input.{Input}
 use Rattle.drv_args.specs.declared.line.Line.{Line}
 use Rattle.drv_args.specs.declared.line.Switch.{Switch}
-use Rattle.drv_args.specs.declared.option_table.Meaning.TheVariants as means
-use Rattle.drv_args.specs.declared.option_table.Meaning.{Meaning}
+use Rattle.drv_args.specs.declared.option_table.Effect.TheVariants as effect
+use Rattle.drv_args.specs.declared.option_table.Effect.{Effect}
+use Rattle.drv_args.specs.declared.option_table.Setting.TheVariants as setting
+use Rattle.drv_args.specs.declared.option_table.Setting.{Setting}
+use Rattle.drv_args.specs.declared.option_table.Tool.TheVariants as tool
+use Rattle.drv_words.specs.Bytes.{comma}
 use Rattle.std.specs.Cmp.Lexicographic.{pointwise}
-use Rattle.std.specs.List.{filter_map, flat_map, list_any}
+use Rattle.std.specs.List.{filter_map, flat_map, list_any, slice_split}
 use Rattle.std.specs.Prelude.{◌&&◌, ◌||◌, ◌==◌, Bool, Err, List, [], ◌∷◌, ◌++◌, None, Ok, Option, Result, Some, codes, count_by, drop, false, if◌then◌else◌, length, map, nat_eq, nat_lt, not, true, ℕ}
 
 -- The line that items make: each part is a filter of the one list (GCC manual, "Overall Options"; this project's
@@ -22,114 +27,103 @@ same = pointwise nat_eq
 abbrev pub named : List ℕ → Option (List ℕ) → Option Switch
 named option argument = Some (record { name = drop 1 option; arg = argument })
 
-abbrev pub switch_of : Meaning → List ℕ → List ℕ → Option Switch
-switch_of means.Switch option argument = named option None
-switch_of means.Pipe option argument = named option None
-switch_of means.Verbose option argument = named option None
-switch_of means.Specs option argument = Some (record { name = codes "specs=" ++ argument; arg = None })
-switch_of means.Output option argument = named option (Some argument)
-switch_of means.SwitchWithArgument option argument = named option (Some argument)
-switch_of means.Prefix option argument = named (option ++ argument) None
-switch_of means.JoinedSwitch option argument = named (option ++ argument) None
+-- an option that turns a setting on, and is a switch too
+abbrev pub is_switch_too : Setting → Bool
+is_switch_too setting.Pipe = true
+is_switch_too setting.Verbose = true
+is_switch_too _ = false
+
+abbrev pub switch_of : Effect → List ℕ → List ℕ → Option Switch
+switch_of (effect.TurnsOn setting) option argument = if is_switch_too setting then named option None else None
+switch_of effect.Switch option argument = named option None
+switch_of effect.SwitchWithArgument option argument = named option (Some argument)
+switch_of effect.JoinedSwitch option argument = named (option ++ argument) None
+switch_of effect.Specs option argument = Some (record { name = codes "specs=" ++ argument; arg = None })
+switch_of effect.Prefix option argument = named (option ++ argument) None
+switch_of effect.Output option argument = named option (Some argument)
 switch_of _ option argument = None
 
 abbrev pub switches_of : List Item → List Switch
-switches_of = filter_map (λ i. switch_of i.meaning i.option i.argument)
+switches_of = filter_map (λ i. switch_of i.effect i.option i.argument)
 
--- the pieces of a text between commas, empty ones too; the first goes on from what is in front
-abbrev pub pieces_from : List ℕ → List ℕ → List (List ℕ)
-pieces_from front [] = front ∷ []
-pieces_from front (b ∷ text) = if b == 44 then front ∷ pieces_from [] text else pieces_from (front ++ b ∷ []) text
-
+-- the pieces of a text, cut at each comma, empty pieces too
 abbrev pub pieces_of : List ℕ → List (List ℕ)
-pieces_of text = pieces_from [] text
+pieces_of = slice_split (λ b. b == comma)
 
-abbrev pub assembler_pieces : Meaning → List ℕ → List (List ℕ)
-assembler_pieces means.AssemblerPieces argument = pieces_of argument
-assembler_pieces means.AssemblerPiece argument = argument ∷ []
+abbrev pub assembler_pieces : Effect → List ℕ → List (List ℕ)
+assembler_pieces (effect.Pieces tool.Assembler) argument = pieces_of argument
+assembler_pieces (effect.Piece tool.Assembler) argument = argument ∷ []
 assembler_pieces _ argument = []
 
-abbrev pub preprocessor_pieces : Meaning → List ℕ → List (List ℕ)
-preprocessor_pieces means.PreprocessorPieces argument = pieces_of argument
-preprocessor_pieces means.PreprocessorPiece argument = argument ∷ []
+abbrev pub preprocessor_pieces : Effect → List ℕ → List (List ℕ)
+preprocessor_pieces (effect.Pieces tool.Preprocessor) argument = pieces_of argument
+preprocessor_pieces (effect.Piece tool.Preprocessor) argument = argument ∷ []
 preprocessor_pieces _ argument = []
 
 -- the language in force behind -x: `none` turns it off
 abbrev pub language_of : List ℕ → Option (List ℕ)
 language_of word = if same word (codes "none") then None else Some word
 
-abbrev pub language_behind : Meaning → List ℕ → Option (List ℕ) → Option (List ℕ)
-language_behind means.Language argument language = language_of argument
+abbrev pub language_behind : Effect → List ℕ → Option (List ℕ) → Option (List ℕ)
+language_behind effect.Language argument language = language_of argument
 language_behind _ argument language = language
 
-abbrev pub inputs_at : Meaning → List ℕ → List ℕ → Option (List ℕ) → List Input
-inputs_at means.File option argument language = input.File option language ∷ []
-inputs_at means.Library option argument language = input.Library (option ++ argument) ∷ []
-inputs_at means.LinkerPieces option argument language = map input.LinkWord (pieces_of argument)
-inputs_at means.LinkerPiece option argument language = input.LinkWord argument ∷ []
+abbrev pub inputs_at : Effect → List ℕ → List ℕ → Option (List ℕ) → List Input
+inputs_at effect.File option argument language = input.File option language ∷ []
+inputs_at effect.Library option argument language = input.Library (option ++ argument) ∷ []
+inputs_at (effect.Pieces tool.Linker) option argument language = map input.LinkWord (pieces_of argument)
+inputs_at (effect.Piece tool.Linker) option argument language = input.LinkWord argument ∷ []
 inputs_at _ option argument language = []
 
 -- the inputs, with the language that is in force before them
 abbrev pub inputs_of : Option (List ℕ) → List Item → List Input
 inputs_of language [] = []
-inputs_of language (i ∷ items) = inputs_at i.meaning i.option i.argument language ++ inputs_of (language_behind i.meaning i.argument language) items
+inputs_of language (i ∷ items) = inputs_at i.effect i.option i.argument language ++ inputs_of (language_behind i.effect i.argument language) items
 
-abbrev pub is_dry : Meaning → Bool
-is_dry means.Dry = true
-is_dry _ = false
+abbrev pub turns_on : Setting → Effect → Bool
+turns_on setting.Dry (effect.TurnsOn setting.Dry) = true
+turns_on setting.Verbose (effect.TurnsOn setting.Verbose) = true
+turns_on setting.Dump (effect.TurnsOn setting.Dump) = true
+turns_on setting.PassCodes (effect.TurnsOn setting.PassCodes) = true
+turns_on setting.Pipe (effect.TurnsOn setting.Pipe) = true
+turns_on _ _ = false
 
-abbrev pub is_dump : Meaning → Bool
-is_dump means.Dump = true
-is_dump _ = false
-
-abbrev pub is_pass_codes : Meaning → Bool
-is_pass_codes means.PassCodes = true
-is_pass_codes _ = false
-
-abbrev pub is_pipe : Meaning → Bool
-is_pipe means.Pipe = true
-is_pipe _ = false
-
-abbrev pub is_verbose : Meaning → Bool
-is_verbose means.Verbose = true
-is_verbose _ = false
-
-abbrev pub has : (Meaning → Bool) → List Item → Bool
-has is items = list_any (λ i. is i.meaning) items
+abbrev pub is_on : Setting → List Item → Bool
+is_on setting = list_any (λ i. turns_on setting i.effect)
 
 -- the last of what is there
-abbrev pub output_behind : Meaning → List ℕ → Option (List ℕ) → Option (List ℕ)
-output_behind means.Output argument output = Some argument
+abbrev pub output_behind : Effect → List ℕ → Option (List ℕ) → Option (List ℕ)
+output_behind effect.Output argument output = Some argument
 output_behind _ argument output = output
 
 abbrev pub last_output : Option (List ℕ) → List Item → Option (List ℕ)
 last_output output [] = output
-last_output output (i ∷ items) = last_output (output_behind i.meaning i.argument output) items
+last_output output (i ∷ items) = last_output (output_behind i.effect i.argument output) items
 
-abbrev pub spec_of : Meaning → List ℕ → Option (List ℕ)
-spec_of means.Specs argument = Some argument
+abbrev pub spec_of : Effect → List ℕ → Option (List ℕ)
+spec_of effect.Specs argument = Some argument
 spec_of _ argument = None
 
-abbrev pub prefix_of : Meaning → List ℕ → Option (List ℕ)
-prefix_of means.Prefix argument = Some argument
+abbrev pub prefix_of : Effect → List ℕ → Option (List ℕ)
+prefix_of effect.Prefix argument = Some argument
 prefix_of _ argument = None
 
 abbrev pub line_of : Bool → List Item → Line
 line_of from_file items = record {
   switches = switches_of items;
   inputs = inputs_of None items;
-  asm_opts = flat_map (λ i. assembler_pieces i.meaning i.argument) items;
-  cpp_opts = flat_map (λ i. preprocessor_pieces i.meaning i.argument) items;
+  asm_opts = flat_map (λ i. assembler_pieces i.effect i.argument) items;
+  cpp_opts = flat_map (λ i. preprocessor_pieces i.effect i.argument) items;
   settings = record {
-    dry = has is_dry items;
-    verbose = has is_verbose items;
-    dump = has is_dump items;
-    pass_codes = has is_pass_codes items;
-    pipe = has is_pipe items;
+    dry = is_on setting.Dry items;
+    verbose = is_on setting.Verbose items;
+    dump = is_on setting.Dump items;
+    pass_codes = is_on setting.PassCodes items;
+    pipe = is_on setting.Pipe items;
     from_file = from_file;
     output = last_output None items;
-    specs = filter_map (λ i. spec_of i.meaning i.argument) items;
-    prefixes = filter_map (λ i. prefix_of i.meaning i.argument) items;
+    specs = filter_map (λ i. spec_of i.effect i.argument) items;
+    prefixes = filter_map (λ i. prefix_of i.effect i.argument) items;
     jobs = 1;
   };
 }

@@ -1,8 +1,9 @@
+use Rattle.drv_args.specs.declared.option_table.Effect.TheVariants as effect
+use Rattle.drv_args.specs.declared.option_table.Effect.{Effect}
 use Rattle.drv_args.specs.declared.option_table.Form.TheVariants.{Either, Exact, Joined, Separate}
 use Rattle.drv_args.specs.declared.option_table.Form.{Form}
-use Rattle.drv_args.specs.declared.option_table.Meaning.TheVariants as means
-use Rattle.drv_args.specs.declared.option_table.Meaning.{Meaning}
-use Rattle.drv_args.specs.declared.option_table.Row.{Row}
+use Rattle.drv_args.specs.declared.option_table.Setting.TheVariants as setting
+use Rattle.drv_args.specs.declared.option_table.Tool.TheVariants as tool
 use Rattle.std.specs.Cmp.Lexicographic.{pointwise}
 use Rattle.std.specs.List.{starts_with}
 use Rattle.std.specs.Prelude.{Bool, List, [], ◌∷◌, Option, codes, find, nat_eq, ℕ}
@@ -13,60 +14,60 @@ use Rattle.std.specs.Prelude.{Bool, List, [], ◌∷◌, Option, codes, find, na
 pub record OptionRow : Type 0 where
   pub option : List ℕ
   pub form : Form
-  pub meaning : Meaning
+  pub effect : Effect
 
-abbrev pub row : List ℕ → Form → Meaning → OptionRow
-row option form meaning = record { option = option; form = form; meaning = meaning }
+abbrev pub row : List ℕ → Form → Effect → OptionRow
+row option form effect = record { option = option; form = form; effect = effect }
 
 unfoldable pub option_table : List OptionRow
 option_table =
-    row (codes "-###") Exact means.Dry
-    ∷ row (codes "-dumpspecs") Exact means.Dump
-    ∷ row (codes "-pass-exit-codes") Exact means.PassCodes
-    ∷ row (codes "-pipe") Exact means.Pipe
-    ∷ row (codes "-v") Exact means.Verbose
-    ∷ row (codes "-c") Exact means.Switch
-    ∷ row (codes "-S") Exact means.Switch
-    ∷ row (codes "-E") Exact means.Switch
-    ∷ row (codes "-specs=") Joined means.Specs
-    ∷ row (codes "--specs=") Joined means.Specs
-    ∷ row (codes "-x") Either means.Language
-    ∷ row (codes "-o") Either means.Output
-    ∷ row (codes "-B") Either means.Prefix
-    ∷ row (codes "-L") Either means.JoinedSwitch
-    ∷ row (codes "-l") Either means.Library
-    ∷ row (codes "-D") Either means.SwitchWithArgument
-    ∷ row (codes "-U") Either means.SwitchWithArgument
-    ∷ row (codes "-I") Either means.SwitchWithArgument
-    ∷ row (codes "-A") Separate means.SwitchWithArgument
-    ∷ row (codes "-e") Separate means.SwitchWithArgument
-    ∷ row (codes "-u") Separate means.SwitchWithArgument
-    ∷ row (codes "-z") Separate means.SwitchWithArgument
-    ∷ row (codes "-T") Separate means.SwitchWithArgument
-    ∷ row (codes "-Tbss") Separate means.SwitchWithArgument
-    ∷ row (codes "-Tdata") Separate means.SwitchWithArgument
-    ∷ row (codes "-Ttext") Separate means.SwitchWithArgument
-    ∷ row (codes "-MF") Separate means.SwitchWithArgument
-    ∷ row (codes "-MT") Separate means.SwitchWithArgument
-    ∷ row (codes "-MQ") Separate means.SwitchWithArgument
-    ∷ row (codes "-include") Separate means.SwitchWithArgument
-    ∷ row (codes "-imacros") Separate means.SwitchWithArgument
-    ∷ row (codes "-idirafter") Separate means.SwitchWithArgument
-    ∷ row (codes "-iprefix") Separate means.SwitchWithArgument
-    ∷ row (codes "-iquote") Separate means.SwitchWithArgument
-    ∷ row (codes "-isysroot") Separate means.SwitchWithArgument
-    ∷ row (codes "-isystem") Separate means.SwitchWithArgument
-    ∷ row (codes "-iwithprefix") Separate means.SwitchWithArgument
-    ∷ row (codes "-iwithprefixbefore") Separate means.SwitchWithArgument
-    ∷ row (codes "-aux-info") Separate means.SwitchWithArgument
-    ∷ row (codes "--param") Separate means.SwitchWithArgument
-    ∷ row (codes "-Wa,") Joined means.AssemblerPieces
-    ∷ row (codes "-Wp,") Joined means.PreprocessorPieces
-    ∷ row (codes "-Wl,") Joined means.LinkerPieces
-    ∷ row (codes "-Xassembler") Separate means.AssemblerPiece
-    ∷ row (codes "-Xpreprocessor") Separate means.PreprocessorPiece
-    ∷ row (codes "-Xlinker") Separate means.LinkerPiece
-    ∷ row (codes "--jobs") Joined means.Jobs
+    row (codes "-###") Exact (effect.TurnsOn setting.Dry)
+    ∷ row (codes "-dumpspecs") Exact (effect.TurnsOn setting.Dump)
+    ∷ row (codes "-pass-exit-codes") Exact (effect.TurnsOn setting.PassCodes)
+    ∷ row (codes "-pipe") Exact (effect.TurnsOn setting.Pipe)
+    ∷ row (codes "-v") Exact (effect.TurnsOn setting.Verbose)
+    ∷ row (codes "-c") Exact effect.Switch
+    ∷ row (codes "-S") Exact effect.Switch
+    ∷ row (codes "-E") Exact effect.Switch
+    ∷ row (codes "-specs=") Joined effect.Specs
+    ∷ row (codes "--specs=") Joined effect.Specs
+    ∷ row (codes "-x") Either effect.Language
+    ∷ row (codes "-o") Either effect.Output
+    ∷ row (codes "-B") Either effect.Prefix
+    ∷ row (codes "-L") Either effect.JoinedSwitch
+    ∷ row (codes "-l") Either effect.Library
+    ∷ row (codes "-D") Either effect.SwitchWithArgument
+    ∷ row (codes "-U") Either effect.SwitchWithArgument
+    ∷ row (codes "-I") Either effect.SwitchWithArgument
+    ∷ row (codes "-A") Separate effect.SwitchWithArgument
+    ∷ row (codes "-e") Separate effect.SwitchWithArgument
+    ∷ row (codes "-u") Separate effect.SwitchWithArgument
+    ∷ row (codes "-z") Separate effect.SwitchWithArgument
+    ∷ row (codes "-T") Separate effect.SwitchWithArgument
+    ∷ row (codes "-Tbss") Separate effect.SwitchWithArgument
+    ∷ row (codes "-Tdata") Separate effect.SwitchWithArgument
+    ∷ row (codes "-Ttext") Separate effect.SwitchWithArgument
+    ∷ row (codes "-MF") Separate effect.SwitchWithArgument
+    ∷ row (codes "-MT") Separate effect.SwitchWithArgument
+    ∷ row (codes "-MQ") Separate effect.SwitchWithArgument
+    ∷ row (codes "-include") Separate effect.SwitchWithArgument
+    ∷ row (codes "-imacros") Separate effect.SwitchWithArgument
+    ∷ row (codes "-idirafter") Separate effect.SwitchWithArgument
+    ∷ row (codes "-iprefix") Separate effect.SwitchWithArgument
+    ∷ row (codes "-iquote") Separate effect.SwitchWithArgument
+    ∷ row (codes "-isysroot") Separate effect.SwitchWithArgument
+    ∷ row (codes "-isystem") Separate effect.SwitchWithArgument
+    ∷ row (codes "-iwithprefix") Separate effect.SwitchWithArgument
+    ∷ row (codes "-iwithprefixbefore") Separate effect.SwitchWithArgument
+    ∷ row (codes "-aux-info") Separate effect.SwitchWithArgument
+    ∷ row (codes "--param") Separate effect.SwitchWithArgument
+    ∷ row (codes "-Wa,") Joined (effect.Pieces tool.Assembler)
+    ∷ row (codes "-Wp,") Joined (effect.Pieces tool.Preprocessor)
+    ∷ row (codes "-Wl,") Joined (effect.Pieces tool.Linker)
+    ∷ row (codes "-Xassembler") Separate (effect.Piece tool.Assembler)
+    ∷ row (codes "-Xpreprocessor") Separate (effect.Piece tool.Preprocessor)
+    ∷ row (codes "-Xlinker") Separate (effect.Piece tool.Linker)
+    ∷ row (codes "--jobs") Joined effect.Jobs
     ∷ []
 
 -- whether a row fits a word
@@ -81,7 +82,3 @@ row_fits word r = form_fits r.form r.option word
 
 abbrev pub first_row : List ℕ → Option OptionRow
 first_row word = find (row_fits word) option_table
-
--- a row of the code's table, without its references
-abbrev pub shown : Row → OptionRow
-shown r = row r.option.now r.form r.meaning

@@ -1,6 +1,7 @@
 //! Response files expanded.
 
-ghost use Rattle.drv_args.specs.Expansion.{Expands, Means, file_named};
+ghost use Rattle.drv_args.specs.Expansion.{Expands, file_named};
+ghost use Rattle.drv_args.specs.Replacing.{IsReplaced};
 ghost use Rattle.drv_system.specs.Asking.{Asks, Extends};
 ghost use Rattle.drv_system.specs.Facts.{Facts};
 ghost use Rattle.std.specs.Prelude.{◌≡◌, ◌++◌, IfOk, List, OnOk, ℕ, reverse};
@@ -9,9 +10,6 @@ use crate::{ArgsFault, Expanded};
 use drv_system::{FactTable, ReadAnswer, System};
 use drv_words::{Listing, Word, split};
 use std::alloc::{AllocError, Global};
-
-#[cfg(test)]
-mod tests;
 
 /// How many words may be replaced.
 const MOST_FILES: u32 = 2000;
@@ -35,7 +33,7 @@ fn replacement<S: System>(
     facts: &mut FactTable,
 ) -> Result<Option<Listing<Word>>, ArgsFault>
     ensures asks { Asks (S.events sys.old) (S.events sys.new) facts.old facts.new }
-    ensures means { (F : Facts) → Extends facts.new F → Means F word.now result }
+    ensures replaces { (F : Facts) → Extends facts.new F → IsReplaced F word.now result }
 {
     let Some(path) = named_file(alloc, word)? else {
         return Ok(None);
@@ -86,8 +84,8 @@ pub fn expand<S: System>(
     ensures asks { Asks (S.events sys.old) (S.events sys.new) facts.old facts.new }
     ensures expands { (F : Facts) → Extends facts.new F → Expands F 2000 args.now result }
 {
-    let mut stack = Vec::new(alloc);
-    push_reversed(&mut stack, copied(alloc, args)?)?;
+    let mut stack = copied(alloc, args)?.into_vec();
+    stack.reverse();
     let mut words = Listing::new(alloc);
     let mut left = MOST_FILES;
     while let Some(word) = stack.pop() {

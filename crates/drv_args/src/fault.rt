@@ -11,31 +11,31 @@ pub enum ArgsFault {
     #[error("out of memory")]
     Memory,
     /// More than 2,000 words were replaced by response files.
-    #[error("too many response files")]
+    #[error("too many @-files")]
     TooManyFiles,
     /// The response file of this path has more than 16,777,216 bytes.
-    #[error("a response file is too large")]
+    #[error("ResponseTooLarge")]
     ResponseTooLarge(Word),
     /// There are more than 65,536 words.
-    #[error("too many arguments")]
+    #[error("more than 65536 arguments")]
     TooManyArguments,
     /// This option takes the next word, and is the last.
-    #[error("an option lacks its argument")]
+    #[error("MissingArgument")]
     MissingArgument(Word),
     /// This word names no number of jobs.
-    #[error("a bad number of jobs")]
+    #[error("BadJobs")]
     BadJobs(Word),
     /// Nothing is to be worked or linked.
     #[error("no input files")]
     NoInputs,
     /// Standard input is an input, and neither `-x` nor `-E` says how it is worked.
-    #[error("standard input needs a language")]
+    #[error("-E or -x required when input is from standard input")]
     StdinNeedsLanguage,
     /// `-o` stands with `-c`, `-S` or `-E` and more than one file.
-    #[error("one output for several files")]
+    #[error("cannot specify -o with -c, -S or -E with multiple files")]
     OutputWithMany,
     /// This input is the output too.
-    #[error("an input is the output")]
+    #[error("OutputIsInput")]
     OutputIsInput(Word),
 }
 

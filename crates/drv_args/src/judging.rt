@@ -11,7 +11,7 @@ use crate::{ArgsFault, Input, Line};
 use drv_words::Word;
 
 /// Whether the line has a switch of this name.
-fn has_switch_named(line: &Line, name: &[u8]) -> bool
+fn has_switch(line: &Line, name: &[u8]) -> bool
     ensures { result ≡ has_switch name.now line.now }
 {
     line.switches
@@ -21,14 +21,14 @@ fn has_switch_named(line: &Line, name: &[u8]) -> bool
 }
 
 /// Whether the driver stops before the link.
-fn does_stop(line: &Line) -> bool
+fn stops(line: &Line) -> bool
     ensures { result ≡ stops line.now }
 {
-    has_switch_named(line, b"c") || has_switch_named(line, b"S") || has_switch_named(line, b"E")
+    has_switch(line, b"c") || has_switch(line, b"S") || has_switch(line, b"E")
 }
 
 /// Whether an input is standard input without a language.
-fn is_stdin_without_language(input: &Input) -> bool
+fn is_bare_stdin(input: &Input) -> bool
     ensures { result ≡ is_bare_stdin input.now }
 {
     match input {
@@ -41,18 +41,18 @@ fn is_stdin_without_language(input: &Input) -> bool
 fn has_bare_stdin(inputs: &[Input]) -> bool
     ensures { result ≡ list_any is_bare_stdin inputs.now }
 {
-    inputs.iter().any(is_stdin_without_language)
+    inputs.iter().any(is_bare_stdin)
 }
 
 /// Whether standard input is an input, and neither a language nor `-E` says how it is worked.
-fn does_need_language(line: &Line) -> bool
+fn needs_language(line: &Line) -> bool
     ensures { result ≡ needs_language line.now }
 {
-    has_bare_stdin(line.inputs.as_slice()) && !has_switch_named(line, b"E")
+    has_bare_stdin(line.inputs.as_slice()) && !has_switch(line, b"E")
 }
 
 /// Whether an input is a file.
-fn is_file_of_line(input: &Input) -> bool
+fn is_file_input(input: &Input) -> bool
     ensures { result ≡ is_file_input input.now }
 {
     matches!(input, Input::File { .. })
@@ -62,18 +62,18 @@ fn is_file_of_line(input: &Input) -> bool
 fn file_count(inputs: &[Input]) -> usize
     ensures { result ≡ count_by is_file_input inputs.now }
 {
-    inputs.iter().filter(|input| is_file_of_line(input)).count()
+    inputs.iter().filter(|input| is_file_input(input)).count()
 }
 
 /// Whether one output is to serve several files.
-fn has_one_for_many(line: &Line) -> bool
+fn has_many(line: &Line) -> bool
     ensures { result ≡ has_many line.now }
 {
-    does_stop(line) && file_count(line.inputs.as_slice()) > 1
+    stops(line) && file_count(line.inputs.as_slice()) > 1
 }
 
 /// Whether an input is the file of this name.
-fn is_file_of_name(output: &[u8], input: &Input) -> bool
+fn is_file_named(output: &[u8], input: &Input) -> bool
     ensures { result ≡ is_file_named output.now input.now }
 {
     match input {
@@ -83,7 +83,7 @@ fn is_file_of_name(output: &[u8], input: &Input) -> bool
 }
 
 /// Whether an output is no file of its own: standard output, or the file that takes everything.
-fn is_no_file(output: &[u8]) -> bool
+fn is_sink(output: &[u8]) -> bool
     ensures { result ≡ is_sink output.now }
 {
     output == b"-".as_slice() || output == b"/dev/null".as_slice()
@@ -93,31 +93,31 @@ fn is_no_file(output: &[u8]) -> bool
 fn has_file(inputs: &[Input], name: &[u8]) -> bool
     ensures { result ≡ list_any (is_file_named name.now) inputs.now }
 {
-    inputs.iter().any(|input| is_file_of_name(name, input))
+    inputs.iter().any(|input| is_file_named(name, input))
 }
 
 /// Whether the output is an input too.
-fn is_an_input(output: &[u8], line: &Line) -> bool
+fn is_input(output: &[u8], line: &Line) -> bool
     ensures { result ≡ is_input output.now line.now }
 {
-    !is_no_file(output) && has_file(line.inputs.as_slice(), output)
+    !is_sink(output) && has_file(line.inputs.as_slice(), output)
 }
 
 /// The refusal that an output calls for.
-fn judge_output(line: &Line, output: &Word) -> Result<(), ArgsFault>
+fn output_fault(line: &Line, output: &Word) -> Result<(), ArgsFault>
     ensures { Finds result (output_fault (Some output.now) line.now) }
 {
-    if has_one_for_many(line) {
+    if has_many(line) {
         return Err(ArgsFault::OutputWithMany);
     }
-    if is_an_input(output.as_bytes(), line) {
+    if is_input(output.as_bytes(), line) {
         return Err(ArgsFault::OutputIsInput(output.clone()?));
     }
     Ok(())
 }
 
 /// The first refusal that a line calls for: none where the specs are dumped.
-fn first_fault(line: &Line) -> Result<(), ArgsFault>
+fn line_fault(line: &Line) -> Result<(), ArgsFault>
     ensures { Finds result (line_fault line.now) }
 {
     if line.settings.dump {
@@ -126,11 +126,11 @@ fn first_fault(line: &Line) -> Result<(), ArgsFault>
     if line.inputs.is_empty() {
         return Err(ArgsFault::NoInputs);
     }
-    if does_need_language(line) {
+    if needs_language(line) {
         return Err(ArgsFault::StdinNeedsLanguage);
     }
     match &line.settings.output {
-        Some(output) => judge_output(line, output),
+        Some(output) => output_fault(line, output),
         None => Ok(()),
     }
 }
@@ -140,7 +140,7 @@ fn first_fault(line: &Line) -> Result<(), ArgsFault>
 pub(crate) fn judge(line: Line) -> Result<Line, ArgsFault>
     ensures { Gives fault.Memory (λ line. line) result (judged line (line_fault line)) }
 {
-    match first_fault(&line) {
+    match line_fault(&line) {
         Ok(()) => Ok(line),
         Err(fault) => Err(fault),
     }

@@ -1,13 +1,13 @@
 //! The arguments of a driver: response files expanded, and words read by the option table.
 #![tactic(auto)]
 
+mod building;
 mod expansion;
 mod fault;
 mod judging;
 mod laws;
 mod line;
 mod option_table;
-mod reader;
 mod reading;
 
 pub use expansion::expand;

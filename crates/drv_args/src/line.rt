@@ -33,7 +33,7 @@ pub struct Settings {
     pub pass_codes: bool,
     /// `-pipe`.
     pub pipe: bool,
-    /// Whether a response file gave words of the line.
+    /// Whether a word of the line was replaced by those of a response file, also by none.
     pub from_file: bool,
     /// The argument of the last `-o`.
     pub output: Option<Word>,
@@ -61,6 +61,6 @@ pub struct Line {
 #[derive(Debug, Drop)]
 pub struct Expanded {
     pub words: Listing<Word>,
-    /// Whether a response file gave words.
+    /// Whether a word was replaced by those of a response file, also by none.
     pub from_file: bool,
 }

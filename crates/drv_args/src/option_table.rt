@@ -1,5 +1,11 @@
 //! The option table: a row an option. The first row that fits a word decides.
 
+ghost use Rattle.drv_args.specs.Lines.{is_switch_too};
+ghost use Rattle.drv_args.specs.Lookup.{may_fit, shown};
+ghost use Rattle.drv_args.specs.Options.{option_table};
+ghost use Rattle.std.specs.List.{filter};
+ghost use Rattle.std.specs.Prelude.{◌≡◌, map};
+
 /// How a row's option stands in a word.
 #[derive(Clone, Copy)]
 pub(crate) enum Form {
@@ -13,50 +19,66 @@ pub(crate) enum Form {
     Either,
 }
 
-/// What an option gives to the line.
+/// A setting of the call that is on or off.
 #[derive(Clone, Copy)]
-pub(crate) enum Meaning {
+pub(crate) enum Setting {
     /// The plan is printed and nothing is started.
     Dry,
+    /// The plan is printed before it is run.
+    Verbose,
     /// The specs are printed.
     Dump,
     /// The status is the greatest of the commands'.
     PassCodes,
-    /// Commands are piped; a switch too.
+    /// Commands are piped.
     Pipe,
-    /// The plan is printed before it is run; a switch too.
-    Verbose,
-    /// A switch of this name.
+}
+
+impl Setting {
+    /// Whether the option that turns it on is a switch too.
+    pub(crate) fn is_switch_too(self) -> bool
+        ensures { result ≡ is_switch_too self }
+    {
+        matches!(self, Setting::Pipe | Setting::Verbose)
+    }
+}
+
+/// A tool that the line has words for.
+#[derive(Clone, Copy)]
+pub(crate) enum Tool {
+    Assembler,
+    Preprocessor,
+    Linker,
+}
+
+/// What an option does.
+#[derive(Clone, Copy)]
+pub(crate) enum Effect {
+    /// It turns a setting on.
+    TurnsOn(Setting),
+    /// It is a switch of this name.
     Switch,
-    /// A spec file; a switch too.
-    Specs,
-    /// The language of the files that follow.
-    Language,
-    /// The output; a switch with this argument too.
-    Output,
-    /// A prefix; a switch too, with the argument in its name.
-    Prefix,
-    /// A switch with the argument in its name.
-    JoinedSwitch,
-    /// A switch with this argument.
+    /// It is a switch with this argument.
     SwitchWithArgument,
-    /// A library.
+    /// It is a switch with the argument in its name.
+    JoinedSwitch,
+    /// It names a spec file, and is a switch too.
+    Specs,
+    /// It is a prefix, and a switch with the argument in its name too.
+    Prefix,
+    /// It names the output, and is a switch with this argument too.
+    Output,
+    /// It is the language of the files that follow.
+    Language,
+    /// It is a library.
     Library,
-    /// Pieces for the assembler, between commas.
-    AssemblerPieces,
-    /// Pieces for the preprocessor, between commas.
-    PreprocessorPieces,
-    /// Pieces for the linker, between commas.
-    LinkerPieces,
-    /// One piece for the assembler.
-    AssemblerPiece,
-    /// One piece for the preprocessor.
-    PreprocessorPiece,
-    /// One piece for the linker.
-    LinkerPiece,
-    /// A number of jobs.
+    /// It has pieces for a tool, between commas.
+    Pieces(Tool),
+    /// It has one piece for a tool.
+    Piece(Tool),
+    /// It is a number of jobs.
     Jobs,
-    /// An input file.
+    /// It is an input file.
     File,
 }
 
@@ -65,68 +87,116 @@ pub(crate) enum Meaning {
 pub(crate) struct Row {
     pub(crate) option: &'static [u8],
     pub(crate) form: Form,
-    pub(crate) meaning: Meaning,
+    pub(crate) effect: Effect,
 }
 
-/// A row.
+/// A row of an option.
 macro_rules! row {
-    ($option:literal, $form:ident, $meaning:ident) => {
+    ($option:literal, $form:ident, $effect:expr) => {
         Row {
             option: $option,
             form: Form::$form,
-            meaning: Meaning::$meaning,
+            effect: $effect,
         }
     };
 }
 
-/// The rows (GCC manual, "Overall Options", "Directory Options", "Preprocessor Options", "Link Options"; which
-/// forms an option has is this project's profile).
-pub(crate) const OPTION_TABLE: [Row; 47] = [
-    row!(b"-###", Exact, Dry),
-    row!(b"-dumpspecs", Exact, Dump),
-    row!(b"-pass-exit-codes", Exact, PassCodes),
-    row!(b"-pipe", Exact, Pipe),
-    row!(b"-v", Exact, Verbose),
-    row!(b"-c", Exact, Switch),
-    row!(b"-S", Exact, Switch),
-    row!(b"-E", Exact, Switch),
-    row!(b"-specs=", Joined, Specs),
-    row!(b"--specs=", Joined, Specs),
-    row!(b"-x", Either, Language),
-    row!(b"-o", Either, Output),
-    row!(b"-B", Either, Prefix),
-    row!(b"-L", Either, JoinedSwitch),
-    row!(b"-l", Either, Library),
-    row!(b"-D", Either, SwitchWithArgument),
-    row!(b"-U", Either, SwitchWithArgument),
-    row!(b"-I", Either, SwitchWithArgument),
-    row!(b"-A", Separate, SwitchWithArgument),
-    row!(b"-e", Separate, SwitchWithArgument),
-    row!(b"-u", Separate, SwitchWithArgument),
-    row!(b"-z", Separate, SwitchWithArgument),
-    row!(b"-T", Separate, SwitchWithArgument),
-    row!(b"-Tbss", Separate, SwitchWithArgument),
-    row!(b"-Tdata", Separate, SwitchWithArgument),
-    row!(b"-Ttext", Separate, SwitchWithArgument),
-    row!(b"-MF", Separate, SwitchWithArgument),
-    row!(b"-MT", Separate, SwitchWithArgument),
-    row!(b"-MQ", Separate, SwitchWithArgument),
-    row!(b"-include", Separate, SwitchWithArgument),
-    row!(b"-imacros", Separate, SwitchWithArgument),
-    row!(b"-idirafter", Separate, SwitchWithArgument),
-    row!(b"-iprefix", Separate, SwitchWithArgument),
-    row!(b"-iquote", Separate, SwitchWithArgument),
-    row!(b"-isysroot", Separate, SwitchWithArgument),
-    row!(b"-isystem", Separate, SwitchWithArgument),
-    row!(b"-iwithprefix", Separate, SwitchWithArgument),
-    row!(b"-iwithprefixbefore", Separate, SwitchWithArgument),
-    row!(b"-aux-info", Separate, SwitchWithArgument),
-    row!(b"--param", Separate, SwitchWithArgument),
-    row!(b"-Wa,", Joined, AssemblerPieces),
-    row!(b"-Wp,", Joined, PreprocessorPieces),
-    row!(b"-Wl,", Joined, LinkerPieces),
-    row!(b"-Xassembler", Separate, AssemblerPiece),
-    row!(b"-Xpreprocessor", Separate, PreprocessorPiece),
-    row!(b"-Xlinker", Separate, LinkerPiece),
-    row!(b"--jobs", Joined, Jobs),
+/// Rows of options whose word is the option.
+macro_rules! exact {
+    ($option:literal, $effect:expr) => { &[row!($option, Exact, $effect)] };
+}
+
+/// Rows of options whose argument is joined or the next word.
+macro_rules! either {
+    ($option:literal, $effect:expr) => { &[row!($option, Either, $effect)] };
+}
+
+/// Rows of options that are switches, and whose argument is the next word.
+macro_rules! separate {
+    ($($option:literal),+) => { &[$(row!($option, Separate, Effect::SwitchWithArgument)),+] };
+}
+
+/// The rows whose option begins with two dashes.
+const LONG: [Row; 3] = [
+    row!(b"--specs=", Joined, Effect::Specs),
+    row!(b"--param", Separate, Effect::SwitchWithArgument),
+    row!(b"--jobs", Joined, Effect::Jobs),
 ];
+
+/// The rows whose option begins with `-p`.
+const WITH_P: [Row; 2] = [
+    row!(
+        b"-pass-exit-codes",
+        Exact,
+        Effect::TurnsOn(Setting::PassCodes)
+    ),
+    row!(b"-pipe", Exact, Effect::TurnsOn(Setting::Pipe)),
+];
+
+/// The rows whose option begins with `-W`.
+const WITH_W: [Row; 3] = [
+    row!(b"-Wa,", Joined, Effect::Pieces(Tool::Assembler)),
+    row!(b"-Wp,", Joined, Effect::Pieces(Tool::Preprocessor)),
+    row!(b"-Wl,", Joined, Effect::Pieces(Tool::Linker)),
+];
+
+/// The rows whose option begins with `-X`.
+const WITH_X: [Row; 3] = [
+    row!(b"-Xassembler", Separate, Effect::Piece(Tool::Assembler)),
+    row!(
+        b"-Xpreprocessor",
+        Separate,
+        Effect::Piece(Tool::Preprocessor)
+    ),
+    row!(b"-Xlinker", Separate, Effect::Piece(Tool::Linker)),
+];
+
+/// The rows whose option begins with `-i`.
+const WITH_I: &[Row] = separate!(
+    b"-include",
+    b"-imacros",
+    b"-idirafter",
+    b"-iprefix",
+    b"-iquote",
+    b"-isysroot",
+    b"-isystem",
+    b"-iwithprefix",
+    b"-iwithprefixbefore"
+);
+
+/// The rows whose option begins with `-` and this byte, in the order of the table (GCC manual, "Overall Options",
+/// "Directory Options", "Preprocessor Options", "Link Options"; which forms an option has is this project's profile).
+pub(crate) fn rows_behind(letter: u8) -> &'static [Row]
+    ensures { map shown result.now ≡ filter (may_fit letter) option_table }
+{
+    match letter {
+        b'#' => exact!(b"-###", Effect::TurnsOn(Setting::Dry)),
+        b'-' => &LONG,
+        b'A' => separate!(b"-A"),
+        b'B' => either!(b"-B", Effect::Prefix),
+        b'D' => either!(b"-D", Effect::SwitchWithArgument),
+        b'E' => exact!(b"-E", Effect::Switch),
+        b'I' => either!(b"-I", Effect::SwitchWithArgument),
+        b'L' => either!(b"-L", Effect::JoinedSwitch),
+        b'M' => separate!(b"-MF", b"-MT", b"-MQ"),
+        b'S' => exact!(b"-S", Effect::Switch),
+        b'T' => separate!(b"-T", b"-Tbss", b"-Tdata", b"-Ttext"),
+        b'U' => either!(b"-U", Effect::SwitchWithArgument),
+        b'W' => &WITH_W,
+        b'X' => &WITH_X,
+        b'a' => separate!(b"-aux-info"),
+        b'c' => exact!(b"-c", Effect::Switch),
+        b'd' => exact!(b"-dumpspecs", Effect::TurnsOn(Setting::Dump)),
+        b'e' => separate!(b"-e"),
+        b'i' => WITH_I,
+        b'l' => either!(b"-l", Effect::Library),
+        b'o' => either!(b"-o", Effect::Output),
+        b'p' => &WITH_P,
+        b's' => &[row!(b"-specs=", Joined, Effect::Specs)],
+        b'u' => separate!(b"-u"),
+        b'v' => exact!(b"-v", Effect::TurnsOn(Setting::Verbose)),
+        b'x' => either!(b"-x", Effect::Language),
+        b'z' => separate!(b"-z"),
+        _ => &[],
+    }
+}

@@ -1,23 +1,21 @@
 //! Words read by the option table.
 
-ghost use Rattle.drv_args.specs.Fronts.{by_form, is_file, items_of, start_of};
+ghost use Rattle.drv_args.specs.Building.{start_shown};
+ghost use Rattle.drv_args.specs.Fronts.{by_effect, items_of, start_of};
 ghost use Rattle.drv_args.specs.Lines.{line_of_items, line_read};
-ghost use Rattle.drv_args.specs.Options.{first_row, row_fits, shown};
-ghost use Rattle.drv_args.specs.Reader.{begun_start};
+ghost use Rattle.drv_args.specs.Lookup.{shown};
+ghost use Rattle.drv_args.specs.Options.{row_fits};
 ghost use Rattle.drv_args.specs.declared.fault.ArgsFault.TheVariants as fault;
 ghost use Rattle.drv_words.specs.Gives.{Gives};
 ghost use Rattle.std.specs.Option.{option_map};
 ghost use Rattle.std.specs.Prelude.{◌≡◌, drop, find, length, map};
 
+use crate::building::LineBuilder;
 use crate::judging::judge;
-use crate::option_table::{Form, Meaning, OPTION_TABLE, Row};
-use crate::reader::Reader;
+use crate::option_table::{Effect, Form, Row, rows_behind};
 use crate::{ArgsFault, Expanded, Line};
 use drv_words::Word;
 use std::alloc::Global;
-
-#[cfg(test)]
-mod tests;
 
 /// How many words a line may have.
 const MOST_ARGUMENTS: usize = 65536;
@@ -44,47 +42,22 @@ fn first_fit(table: &[Row], word: &[u8]) -> Option<Row>
     None
 }
 
-/// The first row of the option table that fits a word.
-fn row_for(word: &[u8]) -> Option<Row>
-    ensures { option_map shown result ≡ first_row word.now }
-{
-    first_fit(&OPTION_TABLE, word)
-}
-
 /// How a word begins a front of the line.
 #[derive(Clone, Copy)]
-enum Begun<'a> {
+enum Start<'a> {
     /// It is one by itself.
     Alone {
-        meaning: Meaning,
+        effect: Effect,
         option: &'a [u8],
         argument: &'a [u8],
     },
     /// It wants the next word as its argument.
     Wants {
-        meaning: Meaning,
+        effect: Effect,
         option: &'a [u8],
     },
     /// It is refused.
     Bad,
-}
-
-/// An option that waits for its argument.
-#[derive(Clone, Copy)]
-struct Pending<'a> {
-    word: &'a Word,
-    meaning: Meaning,
-    option: &'a [u8],
-}
-
-/// Whether a word names a file: it is `-`, or doesn't begin with `-`.
-fn is_file_word(word: &[u8]) -> bool
-    ensures { result ≡ is_file word.now }
-{
-    match word {
-        [first, _, ..] => *first != b'-',
-        _ => true,
-    }
 }
 
 /// The rest of a word behind an option.
@@ -98,26 +71,29 @@ fn rest_behind<'a>(word: &'a [u8], option: &[u8]) -> &'a [u8]
     }
 }
 
-/// How a word begins by the row that fits it.
-fn begin_by_row<'a>(row: Row, word: &'a [u8]) -> Begun<'a>
-    ensures { begun_start result ≡ by_form row.form row.meaning row.option.now word.now }
+/// How a word begins a front by the row that fits it.
+fn start_by_row<'a>(row: Row, word: &'a [u8]) -> Start<'a>
+    ensures { start_shown result ≡ by_effect row.effect (shown row) word.now }
 {
     let Row {
         option,
         form,
-        meaning,
+        effect,
     } = row;
+    if matches!(effect, Effect::Jobs) {
+        return Start::Bad;
+    }
     let argument = rest_behind(word, option);
     match form {
-        Form::Exact => Begun::Alone {
-            meaning,
+        Form::Exact => Start::Alone {
+            effect,
             option,
             argument: &[],
         },
-        Form::Separate => Begun::Wants { meaning, option },
-        Form::Either if option.len() == word.len() => Begun::Wants { meaning, option },
-        Form::Joined | Form::Either => Begun::Alone {
-            meaning,
+        Form::Separate => Start::Wants { effect, option },
+        Form::Either if option.len() == word.len() => Start::Wants { effect, option },
+        Form::Joined | Form::Either => Start::Alone {
+            effect,
             option,
             argument,
         },
@@ -125,66 +101,53 @@ fn begin_by_row<'a>(row: Row, word: &'a [u8]) -> Begun<'a>
 }
 
 /// How a word begins a front.
-fn begin<'a>(word: &'a [u8]) -> Begun<'a>
-    ensures { begun_start result ≡ start_of word.now }
+fn start_of<'a>(word: &'a [u8]) -> Start<'a>
+    ensures { start_shown result ≡ start_of word.now }
 {
-    if is_file_word(word) {
-        return Begun::Alone {
-            meaning: Meaning::File,
-            option: word,
-            argument: &[],
-        };
-    }
-    let Some(row) = row_for(word) else {
-        return Begun::Alone {
-            meaning: Meaning::Switch,
+    let [b'-', letter, ..] = word else {
+        return Start::Alone {
+            effect: Effect::File,
             option: word,
             argument: &[],
         };
     };
-    if matches!(row.meaning, Meaning::Jobs) {
-        return Begun::Bad;
+    match first_fit(rows_behind(*letter), word) {
+        Some(row) => start_by_row(row, word),
+        None => Start::Alone {
+            effect: Effect::Switch,
+            option: word,
+            argument: &[],
+        },
     }
-    begin_by_row(row, word)
 }
 
 /// Reads words into a line.
 fn read_words(alloc: Global, words: &[Word], from_file: bool) -> Result<Line, ArgsFault>
     ensures { Gives fault.Memory (λ line. line) result (line_of_items from_file (items_of words.now)) }
 {
-    let mut reader = Reader::new(alloc, from_file);
-    let mut pending: Option<Pending> = None;
-    for word in words {
-        if let Some(
-            Pending {
-                meaning,
-                option,
-                ..
-            },
-        ) = pending
-        {
-            reader.note(alloc, meaning, option, word.as_bytes())?;
-            pending = None;
-            continue;
-        }
-        match begin(word.as_bytes()) {
-            Begun::Alone {
-                meaning,
+    let mut builder = LineBuilder::new(alloc, from_file);
+    let mut left = words;
+    while let [word, behind @ ..] = left {
+        match start_of(word.as_bytes()) {
+            Start::Alone {
+                effect,
                 option,
                 argument,
-            } => reader.note(alloc, meaning, option, argument)?,
-            Begun::Wants { meaning, option } => pending = Some(Pending {
-                word,
-                meaning,
-                option,
-            }),
-            Begun::Bad => return Err(ArgsFault::BadJobs(word.clone()?)),
+            } => {
+                builder.note(alloc, effect, option, argument)?;
+                left = behind;
+            }
+            Start::Wants { effect, option } => {
+                let [argument, others @ ..] = behind else {
+                    return Err(ArgsFault::MissingArgument(word.clone()?));
+                };
+                builder.note(alloc, effect, option, argument.as_bytes())?;
+                left = others;
+            }
+            Start::Bad => return Err(ArgsFault::BadJobs(word.clone()?)),
         }
     }
-    match pending {
-        Some(Pending { word, .. }) => Err(ArgsFault::MissingArgument(word.clone()?)),
-        None => Ok(reader.line),
-    }
+    Ok(builder.line)
 }
 
 /// Reads words by the option table: the first row that fits a word decides (GCC manual, "Overall Options").

@@ -5,7 +5,7 @@ ghost use Rattle.std.specs.Prelude.{◌≡◌, IfOk, replicate};
 use drv_args::{expand, read};
 use drv_machine::Context;
 use drv_syntax::parse;
-use drv_system::{FactTable, ScriptSystem};
+use drv_system::{FactTable, ScriptSystem, System};
 use drv_words::{Command, Group, Job, Listing, Plan, Word, plan_lines, render, split};
 use std::alloc::{AllocError, Global};
 
@@ -133,6 +133,27 @@ fn worked(alloc: Global, count: usize) -> Result<usize, AllocError> {
     }
 }
 
+/// A path for each number. All of them end in the bytes that make an unkeyed folding hash forget what stood before.
+fn hostile_path(alloc: Global, number: u32) -> Result<Word, AllocError> {
+    let mut path = Word::from_bytes(alloc, b"/some/long/folder/")?;
+    path.extend_from_slice(&number.to_be_bytes())?;
+    path.extend_from_slice(&number.to_be_bytes())?;
+    path.extend_from_slice(&0x9e37_79b9_7f4a_7c15u64.to_le_bytes())?;
+    Ok(path)
+}
+
+/// How many questions it takes to learn the kinds of so many paths, each asked for twice.
+fn asked(alloc: Global, count: u32) -> Result<usize, AllocError> {
+    let mut sys = system(alloc, Listing::new(alloc));
+    let mut facts = FactTable::new(alloc);
+    for _ in 0..2 {
+        for number in 0..count {
+            facts.kind(&mut sys, &hostile_path(alloc, number)?)?;
+        }
+    }
+    Ok(sys.journal().len())
+}
+
 /// Does a job, and answers the size of what came of it; none if there is no such job, or memory ran out.
 pub fn run(alloc: Global, job: &str, count: &str, length: &str) -> Option<usize> {
     let count = count.parse::<usize>().ok()?;
@@ -143,6 +164,7 @@ pub fn run(alloc: Global, job: &str, count: &str, length: &str) -> Option<usize>
         "arguments" => switches(alloc, count, length).ok(),
         "parse" => parsed(alloc, count).ok(),
         "work" => worked(alloc, count).ok(),
+        "facts" => asked(alloc, u32::try_from(count).ok()?).ok(),
         _ => None,
     }
 }

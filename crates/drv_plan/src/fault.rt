@@ -12,7 +12,7 @@ pub enum PlanFault {
     Memory,
     /// A spec text that is worked for a file of the line has no job. The refusal isn't `Memory`, which is the
     /// plan's own.
-    #[error("a spec text has no job")]
+    #[error("{0}")]
     Machine(MachineFault),
 }
 

@@ -128,6 +128,3 @@ pub fn plan<S: System>(
         link: None,
     })
 }
-
-#[cfg(test)]
-mod tests;

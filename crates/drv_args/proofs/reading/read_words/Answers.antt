@@ -1,21 +1,21 @@
-use Rattle.drv_args.proofs.Words.{alone_preserves, first_line, wants_preserves}
-use Rattle.drv_args.specs.Fronts.{items_of}
-use Rattle.drv_args.specs.Reader.{line_with, waiting_of}
-use Rattle.std.proofs.Common.{ap, ◌∙◌}
+use Rattle.drv_args.proofs.LineSteps.{alone_next, first_line, last_line, wants_next}
 use Rattle.drv_args.proofs.reading.read_words.Goals as goal
-use Rattle.drv_args.proofs.reading.read_words.Goals.{in-Alone+in_ok-note-in-Alone, in-Wants}
+use Rattle.drv_args.specs.Building.{line_with}
+use Rattle.drv_args.specs.Fronts.{items_of}
+use Rattle.std.proofs.Common.{◌∙◌, ap}
 
-pub loop-word-init : goal.loop-word-init
-loop-word-init c = ap (λ r. line_with r (items_of c.args.words.now)) c.new-reader.ensures ∙ first_line c.args.from_file (items_of c.args.words.now)
+pub loop-left-init : goal.loop-left-init
+loop-left-init c = ap (λ b. line_with b (items_of c.args.words.now)) c.new-builder.ensures ∙ first_line c.args.from_file (items_of c.args.words.now)
 
-pub loop-word-preserved : goal.loop-word-preserved
-loop-word-preserved c = elim c.match-begin.branch [
-  | in-Alone+in_ok-note-in-Alone w ↦
-      alone_preserves c.args.words.now c.loop-word.word-index c.word-item.result c.as_bytes-in-loop-word.result.now c.loop-word.reader c.match-begin.reader
-      (waiting_of c.loop-word.pending) (waiting_of c.match-begin.pending) w.in-Alone.meaning w.in-Alone.option.now w.in-Alone.argument.now _
-      c.loop-word-test.true c.word-item.is c.as_bytes-in-loop-word.ensures (ap waiting_of c.in_default.is) (ap waiting_of w.pending-is) (w.reader-is ∙ w.in_ok-note-in-Alone.ensures) w.in-Alone.ensures c.loop-word.invariant
-  | in-Wants w ↦
-      wants_preserves c.args.words.now c.loop-word.word-index c.word-item.result c.as_bytes-in-loop-word.result.now c.loop-word.reader c.match-begin.reader
-      (waiting_of c.loop-word.pending) (waiting_of c.match-begin.pending) w.in-Wants.meaning w.in-Wants.option.now _
-      c.loop-word-test.true c.word-item.is c.as_bytes-in-loop-word.ensures (ap waiting_of c.in_default.is) (ap waiting_of w.pending-is) w.reader-is w.in-Wants.ensures c.loop-word.invariant
-]
+pub loop-left-preserved-in-Alone : goal.loop-left-preserved-in-Alone
+loop-left-preserved-in-Alone c =
+    alone_next c.loop-left.left.now c.word-item.result c.as_bytes.result.now c.loop-left.builder c.note.new.self c.in-Alone.effect c.in-Alone.option.now c.in-Alone.argument.now _
+    c.in-len1-up.len_at_least c.word-item.is c.as_bytes.ensures c.in-Alone.ensures c.in_ok-note-in-Alone.ensures c.loop-left.invariant
+
+pub loop-left-preserved : goal.loop-left-preserved
+loop-left-preserved c =
+    wants_next c.loop-left.left.now c.word-item.result c.as_bytes.result.now c.argument-item.result c.as_bytes-in-Wants.result.now c.loop-left.builder c.note-in-Wants.new.self c.in-Wants.effect c.in-Wants.option.now _
+    c.in-len1-up.len_at_least c.word-item.is c.as_bytes.ensures c.in-Wants.ensures c.in-len1-up-behind.len_at_least c.argument-item.is c.as_bytes-in-Wants.ensures c.in_ok-note-in-Wants.ensures c.loop-left.invariant
+
+pub returns : goal.returns
+returns c = last_line c.loop-left.left.now c.loop-left.builder _ c.in_default.len_below c.loop-left.invariant

@@ -1,0 +1,220 @@
+//! A line that is built item by item.
+
+ghost use Rattle.drv_args.specs.Building.{begun, noted, with_inputs, with_pieces, with_setting, with_switch};
+ghost use Rattle.drv_args.specs.Fronts.{item};
+ghost use Rattle.drv_args.specs.Lines.{language_of, pieces_of};
+ghost use Rattle.drv_args.specs.declared.line.Input.TheVariants as input;
+ghost use Rattle.std.specs.Prelude.{◌≡◌, ◌∷◌, ◌++◌, [], IfOk, OnOk, Some, drop};
+
+use crate::option_table::{Effect, Setting, Tool};
+use crate::{Input, Line, Settings, Switch};
+use drv_words::{Listing, Word};
+use std::alloc::{AllocError, Global};
+
+/// A line as far as it is built, and the language in force.
+#[derive(Drop)]
+pub(crate) struct LineBuilder {
+    pub(crate) line: Line,
+    language: Option<Word>,
+}
+
+/// A word of two parts.
+fn joined(alloc: Global, front: &[u8], back: &[u8]) -> Result<Word, AllocError>
+    ensures { IfOk result (λ word. word ≡ front.now ++ back.now) }
+{
+    let mut word = Word::from_bytes(alloc, front)?;
+    word.extend_from_slice(back)?;
+    Ok(word)
+}
+
+/// An option's name: the option without its first `-`.
+fn name_of(option: &[u8]) -> &[u8]
+    ensures { result.now ≡ drop 1 option.now }
+{
+    match option {
+        [] => option,
+        [_, name @ ..] => name,
+    }
+}
+
+/// A word of an option's name and an argument.
+fn joined_name(alloc: Global, option: &[u8], argument: &[u8]) -> Result<Word, AllocError>
+    ensures { IfOk result (λ word. word ≡ drop 1 (option.now ++ argument.now)) }
+{
+    match option {
+        [] => Word::from_bytes(alloc, name_of(argument)),
+        [_, name @ ..] => joined(alloc, name, argument),
+    }
+}
+
+/// The language that the argument of `-x` puts in force: `none` turns it off.
+fn language_for(alloc: Global, argument: &[u8]) -> Result<Option<Word>, AllocError>
+    ensures { IfOk result (λ language. language ≡ language_of argument.now) }
+{
+    if argument == b"none".as_slice() {
+        return Ok(None);
+    }
+    Ok(Some(Word::from_bytes(alloc, argument)?))
+}
+
+/// A copy of the language in force.
+fn language_copy(language: &Option<Word>) -> Result<Option<Word>, AllocError>
+    ensures { IfOk result (λ copy. copy ≡ language.now) }
+{
+    match language {
+        Some(word) => Ok(Some(word.clone()?)),
+        None => Ok(None),
+    }
+}
+
+impl LineBuilder {
+    /// A line without items.
+    pub(crate) fn new(alloc: Global, from_file: bool) -> LineBuilder
+        ensures { result ≡ begun from_file }
+    {
+        let settings = Settings {
+            dry: false,
+            verbose: false,
+            dump: false,
+            pass_codes: false,
+            pipe: false,
+            from_file,
+            output: None,
+            specs: Listing::new(alloc),
+            prefixes: Listing::new(alloc),
+            jobs: 1,
+        };
+        let line = Line {
+            switches: Listing::new(alloc),
+            inputs: Listing::new(alloc),
+            asm_opts: Listing::new(alloc),
+            cpp_opts: Listing::new(alloc),
+            settings,
+        };
+        LineBuilder {
+            line,
+            language: None,
+        }
+    }
+
+    fn add_switch(&mut self, name: Word, arg: Option<Word>) -> Result<(), AllocError>
+        ensures { OnOk result (self.new ≡ with_switch self.old name arg) }
+    {
+        self.line.switches.push(Switch { name, arg })?;
+        Ok(())
+    }
+
+    fn add_switch_with(
+        &mut self,
+        alloc: Global,
+        option: &[u8],
+        argument: &[u8],
+    ) -> Result<(), AllocError>
+        ensures { OnOk result (self.new ≡ with_switch self.old (drop 1 option.now) (Some argument.now)) }
+    {
+        let name = Word::from_bytes(alloc, name_of(option))?;
+        self.add_switch(name, Some(Word::from_bytes(alloc, argument)?))
+    }
+
+    fn add_input(&mut self, input: Input) -> Result<(), AllocError>
+        ensures { OnOk result (self.new ≡ with_inputs self.old (input ∷ [])) }
+    {
+        self.line.inputs.push(input)?;
+        Ok(())
+    }
+
+    /// Adds a file with the language in force.
+    fn add_file(&mut self, alloc: Global, name: &[u8]) -> Result<(), AllocError>
+        ensures { OnOk result (self.new ≡ with_inputs self.old (input.File name.now self.old.language ∷ [])) }
+    {
+        let name = Word::from_bytes(alloc, name)?;
+        let lang = language_copy(&self.language)?;
+        self.add_input(Input::File { name, lang })
+    }
+
+    fn turn_on(&mut self, setting: Setting)
+        ensures { self.new ≡ with_setting self.old setting }
+    {
+        let settings = &mut self.line.settings;
+        match setting {
+            Setting::Dry => settings.dry = true,
+            Setting::Verbose => settings.verbose = true,
+            Setting::Dump => settings.dump = true,
+            Setting::PassCodes => settings.pass_codes = true,
+            Setting::Pipe => settings.pipe = true,
+        }
+    }
+
+    /// Adds a piece for a tool.
+    fn add_piece(&mut self, tool: Tool, piece: Word) -> Result<(), AllocError>
+        ensures { OnOk result (self.new ≡ with_pieces self.old tool (piece ∷ [])) }
+    {
+        match tool {
+            Tool::Assembler => self.line.asm_opts.push(piece)?,
+            Tool::Preprocessor => self.line.cpp_opts.push(piece)?,
+            Tool::Linker => self.line.inputs.push(Input::LinkWord(piece))?,
+        }
+        Ok(())
+    }
+
+    /// Adds the pieces of a text between commas, empty ones too, for a tool.
+    fn add_pieces(&mut self, alloc: Global, tool: Tool, text: &[u8]) -> Result<(), AllocError>
+        ensures { OnOk result (self.new ≡ with_pieces self.old tool (pieces_of text.now)) }
+    {
+        for piece in text.split(|byte| *byte == b',') {
+            self.add_piece(tool, Word::from_bytes(alloc, piece)?)?;
+        }
+        Ok(())
+    }
+
+    /// Adds all that an item gives.
+    pub(crate) fn note(
+        &mut self,
+        alloc: Global,
+        effect: Effect,
+        option: &[u8],
+        argument: &[u8],
+    ) -> Result<(), AllocError>
+        ensures { OnOk result (self.new ≡ noted self.old (item effect option.now argument.now)) }
+    {
+        match effect {
+            Effect::TurnsOn(setting) => {
+                self.turn_on(setting);
+                if !setting.is_switch_too() {
+                    return Ok(());
+                }
+                self.add_switch(Word::from_bytes(alloc, name_of(option))?, None)
+            }
+            Effect::Switch => self.add_switch(Word::from_bytes(alloc, name_of(option))?, None),
+            Effect::SwitchWithArgument => self.add_switch_with(alloc, option, argument),
+            Effect::JoinedSwitch => self.add_switch(joined_name(alloc, option, argument)?, None),
+            Effect::Specs => {
+                self.line
+                    .settings
+                    .specs
+                    .push(Word::from_bytes(alloc, argument)?)?;
+                self.add_switch(joined(alloc, b"specs=", argument)?, None)
+            }
+            Effect::Prefix => {
+                self.line
+                    .settings
+                    .prefixes
+                    .push(Word::from_bytes(alloc, argument)?)?;
+                self.add_switch(joined_name(alloc, option, argument)?, None)
+            }
+            Effect::Output => {
+                self.line.settings.output = Some(Word::from_bytes(alloc, argument)?);
+                self.add_switch_with(alloc, option, argument)
+            }
+            Effect::Language => {
+                self.language = language_for(alloc, argument)?;
+                Ok(())
+            }
+            Effect::Library => self.add_input(Input::Library(joined(alloc, option, argument)?)),
+            Effect::Pieces(tool) => self.add_pieces(alloc, tool, argument),
+            Effect::Piece(tool) => self.add_piece(tool, Word::from_bytes(alloc, argument)?),
+            Effect::Jobs => Ok(()),
+            Effect::File => self.add_file(alloc, option),
+        }
+    }
+}
