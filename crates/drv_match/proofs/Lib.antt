@@ -1,2 +1,6 @@
-pub mod Cancelling
-pub mod Places
+mod Blocks
+mod ByName
+mod Cancelling
+mod Lasts
+mod Parts
+mod Tallies

@@ -1,2 +1,4 @@
-pub mod Liveness
+pub mod Indexed
 pub mod Matching
+pub mod Order
+pub mod Pattern

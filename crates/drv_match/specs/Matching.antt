@@ -1,25 +1,26 @@
-use Rattle.drv_match.specs.declared.pattern.Pattern.{Pattern}
+use Rattle.drv_match.specs.Pattern.{Pattern}
 use Rattle.std.specs.Cmp.Lexicographic.{pointwise}
 use Rattle.std.specs.List.{filter, list_any, range_with_len, starts_with}
-use Rattle.std.specs.Prelude.{◌&&◌, ◌+◌, ◌==◌, ◌||◌, Bool, List, [], ◌∷◌, drop, false, get_or, if◌then◌else◌, length, nat_eq, nat_le, not, ℕ}
+use Rattle.std.specs.Prelude.{◌&&◌, ◌+◌, ◌++◌, ◌==◌, ◌||◌, Bool, List, [], ◌∷◌, codes, drop, false, get_or, if◌then◌else◌, length, nat_eq, nat_le, not, ℕ}
+use Rattle.std.specs.Str.{byte}
 
 -- Which switches of a command line are live, and which of them a pattern hits. A line is the list of its
 -- switches' names, each without its first `-`; a place counts from 0.
 
--- an optimization level, of which the last counts: its name begins with `O`, byte 79 (GCC manual, "Optimize Options")
+-- an optimization level, of which the last counts: its name begins with `O` (GCC manual, "Optimize Options")
 abbrev pub is_level : List ℕ → Bool
 is_level [] = false
-is_level (letter ∷ rest) = letter == 79
+is_level (letter ∷ rest) = letter == byte "O"
 
--- a name that has a negative form: it begins with f, m or W, bytes 102, 109 and 87 (GCC manual, "Invoking GCC")
+-- a name that has a negative form: it begins with f, m or W (GCC manual, "Invoking GCC")
 abbrev pub has_negative : List ℕ → Bool
 has_negative [] = false
-has_negative (letter ∷ rest) = letter == 102 || letter == 109 || letter == 87
+has_negative (letter ∷ rest) = letter == byte "f" || letter == byte "m" || letter == byte "W"
 
--- the negative form: `no-`, bytes 110, 111 and 45, stands behind the letter (GCC manual, "Invoking GCC")
+-- the negative form: `no-` stands behind the letter (GCC manual, "Invoking GCC")
 abbrev pub negative : List ℕ → List ℕ
 negative [] = []
-negative (letter ∷ rest) = letter ∷ 110 ∷ 111 ∷ 45 ∷ rest
+negative (letter ∷ rest) = letter ∷ codes "no-" ++ rest
 
 -- the first name is the negative form of the second
 abbrev pub is_negative_of : List ℕ → List ℕ → Bool

@@ -3,7 +3,9 @@
 
 mod hidden;
 mod liveness;
+mod names;
 mod pattern;
+mod sorting;
 mod switches;
 
 pub use hidden::Hidden;

@@ -1,89 +1,87 @@
-//! Which switches of a line are live, worked out from its end.
+//! Which switches of a line are live, worked out once by look-ups in the places by name.
 
-ghost use Rattle.drv_match.specs.Liveness.{is_cancelled, liveness, positive, Knows};
-ghost use Rattle.drv_match.specs.Matching.{has_negative, is_level, negative};
-ghost use Rattle.std.specs.BTreeSet.{keys};
+ghost use Rattle.drv_match.specs.Indexed.{IsLast, IsLiveness, positive};
+ghost use Rattle.drv_match.specs.Matching.{cancels, has_negative, is_level, negative};
+ghost use Rattle.drv_match.specs.Order.{IsOrder};
 ghost use Rattle.std.specs.Cmp.Lexicographic.{pointwise};
-ghost use Rattle.std.specs.List.{list_any};
-ghost use Rattle.std.specs.Prelude.{nat_eq, ◌≡◌, ◌∷◌, [], IfOk, List, OnOk, false, length, ℕ};
+ghost use Rattle.std.specs.Prelude.{◌≡◌, IfOk, None, OnOk, Some, if◌then◌else◌, nat_eq};
 
-use drv_words::Word;
+use crate::names::Names;
 use std::alloc::{AllocError, Global};
-use std::collections::BTreeSet;
 
-/// For each switch whether no later one cancels it.
-pub(crate) fn live_flags(alloc: Global, names: &[Word]) -> Result<Vec<bool>, AllocError>
-    ensures { IfOk result (λ flags. flags.items ≡ liveness names.now) }
+/// For each switch whether no later one cancels it. The order is that of the places by name, so that switches of one
+/// name stand together, and what cancels them is looked up once. Want of memory is the only error.
+pub fn live_flags(alloc: Global, names: &Names, order: &[usize]) -> Result<Vec<bool>, AllocError>
+    requires { IsOrder names.now order.now }
+    ensures { IfOk result (λ flags. IsLiveness names.now flags.items) }
 {
+    let level = last_level(names);
+    let mut form = Vec::new(alloc);
     let mut flags = vec![in alloc; true; names.len()]?;
-    let mut later = Later::new(alloc);
-    let mut i = names.len();
-    while i > 0 {
-        i -= 1;
-        let name = names[i].as_bytes();
-        flags[i] = !later.cancels(alloc, name)?;
-        later.insert(alloc, name)?;
+    let mut first_live = 0;
+    for k in 0..order.len() {
+        let place = order[k];
+        let name = names.get(place);
+        if k == 0 || name != names.get(order[k - 1]) {
+            first_live = last_cancelling(names, order, level, name, &mut form)?;
+        }
+        flags[place] = place >= first_live;
     }
     Ok(flags)
 }
 
-/// What the later switches of a line are, as far as they can cancel an earlier one.
-#[derive(Drop)]
-struct Later {
-    /// Whether one is an optimization level.
-    level: bool,
-    /// The names that have a negative form.
-    names: BTreeSet<Word>,
+/// The place of the last optimization level, or 0 if there is none.
+fn last_level(names: &Names) -> usize
+    ensures { IsLast is_level names.now result }
+{
+    let mut place = names.len();
+    while place > 0 {
+        place -= 1;
+        if is_level(names.get(place)) {
+            return place;
+        }
+    }
+    0
 }
 
-impl Later {
-    /// No later switch.
-    fn new(alloc: Global) -> Later
-        ensures { Knows result.level (keys result.names) [] }
-    {
-        Later {
-            level: false,
-            names: BTreeSet::new(alloc),
-        }
+/// The place of the last switch that cancels an earlier one of this name, or 0 if there is none. What is cancelled are
+/// switches before that place. The form is room for a name that is looked up.
+fn last_cancelling(
+    names: &Names,
+    order: &[usize],
+    level: usize,
+    name: &[u8],
+    form: &mut Vec<u8>,
+) -> Result<usize, AllocError>
+    requires in_order { IsOrder names.now order.now }
+    requires levels { IsLast is_level names.now level }
+    ensures { IfOk result (λ place. IsLast (λ later. cancels later name.now) names.now place) }
+{
+    if is_level(name) {
+        return Ok(level);
     }
+    if !has_negative(name) {
+        return Ok(0);
+    }
+    write_negative(name, form)?;
+    let negative = last_named(names, order, form);
+    if !write_positive(name, form)? {
+        return Ok(negative);
+    }
+    Ok(negative.max(last_named(names, order, form)))
+}
 
-    /// Whether one of the later switches cancels one of this name.
-    fn cancels(&self, alloc: Global, name: &[u8]) -> Result<bool, AllocError>
-        ensures { IfOk result (λ is. is ≡ is_cancelled self.now.level (keys self.now.names) name.now) }
-    {
-        if is_level(name) {
-            return Ok(self.level);
-        }
-        if !has_negative(name) {
-            return Ok(false);
-        }
-        if self.has(&negative_of(alloc, name)?) {
-            return Ok(true);
-        }
-        match positive_of(alloc, name)? {
-            Some(positive) => Ok(self.has(&positive)),
-            None => Ok(false),
-        }
+/// The place of the last switch of this name, or 0 if there is none.
+fn last_named(names: &Names, order: &[usize], name: &[u8]) -> usize
+    requires { IsOrder names.now order.now }
+    ensures { IsLast (pointwise nat_eq name.now) names.now result }
+{
+    let end = order.partition_point(|i| names.get(*i).cmp(name).is_le());
+    if end == 0 {
+        return 0;
     }
-
-    /// Whether one of the later switches has this name, which has a negative form.
-    #[tactic(auto, using(crate::proofs::Cancelling::any_in_order))]
-    fn has(&self, name: &Word) -> bool
-        ensures { result ≡ list_any (pointwise nat_eq name.now) (keys self.now.names) }
-    {
-        self.names.contains(name)
-    }
-
-    /// Takes in a switch that stands before them.
-    fn insert(&mut self, alloc: Global, name: &[u8]) -> Result<(), AllocError>
-        ensures { (later : List (List ℕ)) → Knows self.old.level (keys self.old.names) later → OnOk result (Knows self.new.level (keys self.new.names) (name.now ∷ later)) }
-    {
-        self.level |= is_level(name);
-        if has_negative(name) {
-            self.names.insert(Word::from_bytes(alloc, name)?)?;
-        }
-        Ok(())
-    }
+    let place = order[end - 1];
+    if names.get(place) == name { place } else { 0 }
 }
 
 /// Whether this is an optimization level, as `O2`.
@@ -100,28 +98,28 @@ fn has_negative(name: &[u8]) -> bool
     matches!(name, [b'f' | b'm' | b'W', ..])
 }
 
-/// The negative form of a name.
-fn negative_of(alloc: Global, name: &[u8]) -> Result<Word, AllocError>
-    ensures { IfOk result (λ word. word ≡ negative name.now) }
+/// Writes the negative form of a name.
+fn write_negative(name: &[u8], form: &mut Vec<u8>) -> Result<(), AllocError>
+    ensures { OnOk result (form.new.items ≡ negative name.now) }
 {
-    let mut negative = Word::empty(alloc);
+    form.clear();
     if let [letter, rest @ ..] = name {
-        negative.push(*letter)?;
-        negative.extend_from_slice(b"no-")?;
-        negative.extend_from_slice(rest)?;
+        form.push(*letter)?;
+        form.extend_from_slice(b"no-")?;
+        form.extend_from_slice(rest)?;
     }
-    Ok(negative)
+    Ok(())
 }
 
-/// The name that this is the negative form of, if it is one.
-fn positive_of(alloc: Global, name: &[u8]) -> Result<Option<Word>, AllocError>
-    ensures { IfOk result (λ word. word ≡ positive name.now) }
+/// Writes the name that this is the negative form of, if it is one, and says whether it is.
+fn write_positive(name: &[u8], form: &mut Vec<u8>) -> Result<bool, AllocError>
+    ensures { IfOk result (λ is. positive name.now ≡ (if is then Some form.new.items else None)) }
 {
     let [letter, b'n', b'o', b'-', rest @ ..] = name else {
-        return Ok(None);
+        return Ok(false);
     };
-    let mut positive = Word::empty(alloc);
-    positive.push(*letter)?;
-    positive.extend_from_slice(rest)?;
-    Ok(Some(positive))
+    form.clear();
+    form.push(*letter)?;
+    form.extend_from_slice(rest)?;
+    Ok(true)
 }

@@ -1,27 +1,35 @@
 //! What names switches in a spec: `S` and `S*`.
 
-ghost use Rattle.std.specs.Prelude.{◌≡◌, List, ℕ};
+ghost use Rattle.drv_match.specs.Matching.{is_broad, is_named};
+ghost use Rattle.std.specs.Prelude.{◌≡◌};
 
-use drv_words::Word;
+use std::marker::Model;
 
-/// A pattern of switches: those of this name, or with a star those whose name begins with it.
+/// A pattern of switches: those of this name, or with a star those whose name begins with it. It is lent its name,
+/// so that asking takes no memory.
 #[derive(Debug, Drop)]
-pub struct Pattern {
-    pub name: Word,
+pub struct Pattern<'a> {
+    pub name: &'a [u8],
     pub star: bool,
 }
 
-impl Pattern {
-    ghost use Rattle.drv_match.specs.Matching.{is_broad, is_named};
+impl<'a> Model for Pattern<'a> {
+    ghost use Rattle.drv_match.specs.Pattern as specs;
 
+    ghost Value = { specs.Pattern };
+
+    ghost view = { λ p. record { name = p.name.now; star = p.star } };
+}
+
+impl<'a> Pattern<'a> {
     /// Whether the pattern names a switch of this name.
     pub(crate) fn is_named(&self, name: &[u8]) -> bool
         ensures { result ≡ is_named self.now name.now }
     {
         if self.star {
-            name.starts_with(self.name.as_bytes())
+            name.starts_with(self.name)
         } else {
-            name == self.name.as_bytes()
+            name == self.name
         }
     }
 

@@ -1,31 +1,39 @@
 //! The switches of a line, and which of them a pattern hits.
 
-ghost use Rattle.drv_match.specs.Liveness.{liveness};
-ghost use Rattle.drv_match.specs.Matching.{hidden_by, hits, is_hit, is_live, name_at};
-ghost use Rattle.std.specs.Prelude.{◌≡◌, ◌<◌, Bool, IfOk, List, length, map, nat_lt, ℕ};
+ghost use Rattle.drv_match.specs.Indexed.{AreNamed};
+ghost use Rattle.drv_match.specs.Matching.{hidden_by, hits, is_broad, is_hit, is_live, name_at};
+ghost use Rattle.drv_match.specs.Order.{IsBlock, IsOrder};
+ghost use Rattle.std.specs.Prelude.{◌≡◌, ◌<◌, ◌&&◌, ◌||◌, Bool, IfOk, List, false, get_or, length, map, nat_lt, not, ℕ};
 
 use crate::hidden::Hidden;
 use crate::liveness::live_flags;
+use crate::names::Names;
 use crate::pattern::Pattern;
+use crate::sorting::{block_of, places_by_name};
 use drv_args::Switch;
-use drv_words::{Listing, Word};
+use drv_words::Listing;
 use std::alloc::{AllocError, Global};
 use std::marker::Model;
 
 /// The switches of a command line, seen as the list of their names in order.
 #[derive(Debug, Drop)]
 pub struct Switches {
-    names: Listing<Word>,
+    names: Names,
+    /// All places, by name, then by place.
+    order: Vec<usize>,
     /// For each switch whether no later one cancels it.
     live: Vec<bool>,
 }
 
 impl Model for Switches {
+    ghost use Rattle.drv_match.specs.Indexed.{IsIndex};
+    ghost use Rattle.std.specs.Prelude.{List, ℕ};
+
     ghost Value = { List (List ℕ) };
 
     ghost view = { λ s. s.names };
 
-    ghost invariant = { λ s. s.live.items ≡ liveness s.names };
+    ghost invariant = { λ s. IsIndex s.names s.order.items s.live.items };
 }
 
 impl Switches {
@@ -33,12 +41,10 @@ impl Switches {
     pub fn new(alloc: Global, switches: &[Switch]) -> Result<Switches, AllocError>
         ensures { IfOk result (λ made. made ≡ map (λ switch. switch.name) switches.now) }
     {
-        let mut names = Listing::new(alloc);
-        for switch in switches {
-            names.push(switch.name.clone()?)?;
-        }
-        let live = live_flags(alloc, names.as_slice())?;
-        Ok(Switches { names, live })
+        let names = Names::of(alloc, switches)?;
+        let order = places_by_name(alloc, &names)?;
+        let live = live_flags(alloc, &names, &order)?;
+        Ok(Switches { names, order, live })
     }
 
     /// The number of switches of the line. It takes no memory.
@@ -53,7 +59,7 @@ impl Switches {
         requires { i < length self.now }
         ensures { result.now ≡ name_at self.now i }
     {
-        self.names.as_slice()[i].as_bytes()
+        self.names.get(i)
     }
 
     /// Whether no later switch cancels the one at this place. It takes no memory.
@@ -64,32 +70,52 @@ impl Switches {
         self.live[i]
     }
 
+    /// All places, by name, then by place. It takes no memory.
+    pub fn order(&self) -> &[usize]
+        ensures { IsOrder self.now result.now }
+    {
+        self.order.as_slice()
+    }
+
+    /// Where, within the order, the switches stand that a pattern names: the start, and the end behind them. It takes
+    /// no memory.
+    pub fn block(&self, pattern: &Pattern<'_>) -> (usize, usize)
+        ensures { (order : List ℕ) → IsOrder self.now order → IsBlock self.now order pattern.now result.0 result.1 }
+    {
+        block_of(&self.names, &self.order, pattern)
+    }
+
     /// The places of the switches that a pattern hits, in order. Want of memory is the only error.
     pub fn hits(
         &self,
         alloc: Global,
-        pattern: &Pattern,
+        pattern: &Pattern<'_>,
         hidden: &Hidden,
     ) -> Result<Listing<usize>, AllocError>
         requires { length hidden.now ≡ length self.now }
         ensures { IfOk result (λ places. places ≡ hits self.now hidden.now pattern.now) }
     {
-        let mut places = Listing::new(alloc);
-        for i in 0..self.len() {
-            if self.is_hit(pattern, hidden, i) {
-                places.push(i)?;
+        let named = self.named(pattern);
+        let broad = pattern.is_broad();
+        let mut places = Vec::new(alloc);
+        for place in named {
+            if self.counts(broad, hidden, *place) {
+                places.push(*place)?;
             }
         }
-        Ok(places)
+        places.sort_unstable();
+        Ok(Listing::from_vec(places))
     }
 
     /// Whether a pattern hits any switch. It takes no memory.
-    pub fn has_hit(&self, pattern: &Pattern, hidden: &Hidden) -> bool
+    pub fn has_hit(&self, pattern: &Pattern<'_>, hidden: &Hidden) -> bool
         requires { length hidden.now ≡ length self.now }
         ensures { result ≡ nat_lt 0 (length (hits self.now hidden.now pattern.now)) }
     {
-        for place in 0..self.len() {
-            if self.is_hit(pattern, hidden, place) {
+        let named = self.named(pattern);
+        let broad = pattern.is_broad();
+        for place in named {
+            if self.counts(broad, hidden, *place) {
                 return true;
             }
         }
@@ -98,7 +124,7 @@ impl Switches {
 
     /// Whether a pattern hits the switch at this place: it names the switch, which isn't hidden, and which is
     /// live if the pattern takes live ones alone. It takes no memory.
-    pub fn is_hit(&self, pattern: &Pattern, hidden: &Hidden, i: usize) -> bool
+    pub fn is_hit(&self, pattern: &Pattern<'_>, hidden: &Hidden, i: usize) -> bool
         requires in_range { i < length self.now }
         requires of_these { length hidden.now ≡ length self.now }
         ensures { result ≡ is_hit self.now hidden.now pattern.now i }
@@ -109,18 +135,31 @@ impl Switches {
     }
 
     /// Hides every switch that a pattern names, live or not. It takes no memory.
-    pub fn hide(&self, pattern: &Pattern, hidden: &mut Hidden)
+    pub fn hide(&self, pattern: &Pattern<'_>, hidden: &mut Hidden)
         requires { length hidden.old ≡ length self.now }
         ensures named { hidden.new ≡ hidden_by pattern.now self.now hidden.old }
         ensures as_many { length hidden.new ≡ length self.now }
     {
-        for i in 0..self.len() {
-            if pattern.is_named(self.name(i)) {
-                hidden.set(i, true);
-            }
+        let named = self.named(pattern);
+        for place in named {
+            hidden.set(*place, true);
         }
     }
-}
 
-#[cfg(test)]
-mod tests;
+    /// The places that a pattern names, by name, then by place.
+    fn named(&self, pattern: &Pattern<'_>) -> &[usize]
+        ensures { AreNamed self.now pattern.now result.now }
+    {
+        let (start, end) = self.block(pattern);
+        &self.order()[start..end]
+    }
+
+    /// Whether a switch that a pattern names is hit: it isn't hidden, and it is live or the pattern is broad.
+    fn counts(&self, broad: bool, hidden: &Hidden, i: usize) -> bool
+        requires in_range { i < length self.now }
+        requires of_these { length hidden.now ≡ length self.now }
+        ensures { result ≡ (not (get_or hidden.now i false) && (broad || is_live self.now i)) }
+    {
+        !hidden.contains(i) && (broad || self.live(i))
+    }
+}

@@ -1,14 +1,11 @@
-use Rattle.drv_match.specs.Liveness.{Knows, liveness}
-use Rattle.std.proofs.Common.{◌≡◌, ◌≤◌, drop, length}
+use Rattle.drv_match.specs.Indexed.{IsLast}
+use Rattle.drv_match.specs.Matching.{cancels, is_live, name_at}
 use Rattle.drv_match.proofs.liveness.live_flags.Given as goal
+use Rattle.std.proofs.Common.{◌≡◌, ◌-◌, ◌<◌, false, get_or, length, ℕ}
 
-abbrev pub invariant-loop-i : goal.invariant-loop-i
-invariant-loop-i l = record {
-  within : l.i ≤ length l.names;
+abbrev pub invariant-loop-k : goal.invariant-loop-k
+invariant-loop-k l = record {
   as_many : length l.flags.items ≡ length l.names;
-  done : drop l.i l.flags.items ≡ liveness (drop l.i l.names);
-  known : Knows l.later.level l.later.names.keys (drop l.i l.names);
+  told : (j : ℕ) → j < l.k → get_or l.flags.items (get_or l.order j 0) false ≡ is_live l.names (get_or l.order j 0);
+  known : 0 < l.k → IsLast (λ later. cancels later (name_at l.names (get_or l.order (l.k - 1) 0))) l.names l.first_live;
 }
-
-abbrev pub decreases-loop-i : goal.decreases-loop-i
-decreases-loop-i l = l.i

@@ -1,10 +1,9 @@
-use Rattle.drv_match.proofs.Places.{hit_here, pass_next}
-use Rattle.drv_match.specs.Matching.{hits, is_hit}
+use Rattle.drv_match.proofs.Parts.{named_any, named_within}
 use Rattle.drv_match.proofs.switches.Switches.has_hit.Goals as goal
-use Rattle.std.proofs.Common.{◌∙◌, [], arith, length, sym}
+use Rattle.std.proofs.Common.{arith}
 
-pub returns-then-is_hit : goal.returns-then-is_hit
-returns-then-is_hit c = hit_here (is_hit c.args.self.now c.args.hidden.now c.args.pattern.now) (hits c.args.self.now c.args.hidden.now c.args.pattern.now) c.loop-place.place (length c.args.self.now) (omega arith) (sym c.is_hit.ensures ∙ c.if-is_hit.true) c.loop-place.invariant
+pub loop-place-init : goal.loop-place-init
+loop-place-init c = named_any c.args.self.now c.named-named.result.now c.args.hidden.now c.args.pattern.now c.named-named.ensures
 
-pub loop-place-preserved : goal.loop-place-preserved
-loop-place-preserved c = pass_next (is_hit c.args.self.now c.args.hidden.now c.args.pattern.now) [] (hits c.args.self.now c.args.hidden.now c.args.pattern.now) c.loop-place.place (length c.args.self.now) (omega arith) (sym c.is_hit.ensures ∙ c.if-is_hit.false) c.loop-place.invariant
+pub counts-requires-clause-in_range : goal.counts-requires-clause-in_range
+counts-requires-clause-in_range c = named_within c.args.self.now c.args.pattern.now c.named-named.result.now c.named-named.ensures c.loop-place.place-index (omega arith)

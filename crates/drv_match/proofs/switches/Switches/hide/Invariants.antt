@@ -1,9 +1,9 @@
-use Rattle.drv_match.specs.Matching.{hidden_by}
-use Rattle.std.proofs.Common.{◌≡◌, ◌++◌, drop, length, take}
+use Rattle.drv_match.proofs.Parts.{all_hidden}
 use Rattle.drv_match.proofs.switches.Switches.hide.Given as goal
+use Rattle.std.proofs.Common.{◌≡◌, drop, length}
 
-abbrev pub invariant-loop-i : goal.invariant-loop-i
-invariant-loop-i l = record {
+abbrev pub invariant-loop-place : goal.invariant-loop-place
+invariant-loop-place l = record {
   as_many : length l.hidden ≡ length l.self;
-  done : take l.i l.hidden ++ hidden_by l.pattern (drop l.i l.self) (drop l.i l.hidden) ≡ hidden_by l.pattern l.self l.fn.hidden;
+  done : all_hidden (drop l.place-index l.named) l.hidden ≡ all_hidden l.named l.fn.hidden;
 }

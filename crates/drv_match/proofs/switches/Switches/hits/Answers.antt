@@ -1,11 +1,11 @@
-use Rattle.drv_match.proofs.Places.{hit_next, pass_next}
-use Rattle.drv_match.specs.Matching.{is_hit}
+use Rattle.drv_match.proofs.Parts.{counted, counts, named_hits, named_within}
 use Rattle.drv_match.proofs.switches.Switches.hits.Goals as goal
-use Rattle.drv_match.proofs.switches.Switches.hits.Goals.{else-is_hit, then-is_hit+in_ok-push}
-use Rattle.std.proofs.Common.{◌∙◌, arith, length, sym}
+use Rattle.drv_match.specs.Matching.{is_broad}
+use Rattle.std.proofs.Common.{◌∙◌, arith}
+use Rattle.std.proofs.lemmas.List.Sorted.{IsNonDecreasingBy-from_sort}
 
-pub loop-i-preserved : goal.loop-i-preserved
-loop-i-preserved c = elim c.if-is_hit.branch [
-  | then-is_hit+in_ok-push w ↦ hit_next (is_hit c.args.self.now c.args.hidden.now c.args.pattern.now) c.loop-i.places _ _ c.loop-i.i (length c.args.self.now) (omega arith) (sym c.is_hit.ensures ∙ w.if-is_hit.true) (w.places-is ∙ w.in_ok-push.ensures.ok) c.loop-i.invariant
-  | else-is_hit w ↦ rw w.places-is (pass_next (is_hit c.args.self.now c.args.hidden.now c.args.pattern.now) c.loop-i.places _ c.loop-i.i (length c.args.self.now) (omega arith) (sym c.is_hit.ensures ∙ w.if-is_hit.false) c.loop-i.invariant)
-]
+pub counts-requires-clause-in_range : goal.counts-requires-clause-in_range
+counts-requires-clause-in_range c = named_within c.args.self.now c.args.pattern.now c.named-named.result.now c.named-named.ensures c.loop-place.place-index (omega arith)
+
+pub returns : goal.returns
+returns c = c.from_vec.ensures ∙ named_hits c.args.self.now c.named-named.result.now c.loop-place.places.items _ c.args.hidden.now c.args.pattern.now c.named-named.ensures (counted (counts c.args.self.now c.args.hidden.now (is_broad c.args.pattern.now)) c.loop-place.places.items c.named-named.result.now c.loop-place.place-index (omega arith) c.loop-place.invariant) c.sort_unstable.ensures.permutation (IsNonDecreasingBy-from_sort (λ i. i) _ c.sort_unstable.ensures.sorted)

@@ -1,8 +1,7 @@
-use Rattle.drv_match.specs.Matching.{hits, is_hit}
-use Rattle.std.proofs.Common.{◌≡◌, ◌-◌, ◌++◌, filter, length}
-use Rattle.std.specs.List.{range_with_len}
+use Rattle.drv_match.proofs.Parts.{counts}
+use Rattle.drv_match.specs.Matching.{is_broad}
 use Rattle.drv_match.proofs.switches.Switches.hits.Given as goal
+use Rattle.std.proofs.Common.{◌≡◌, ◌++◌, drop, filter}
 
-abbrev pub invariant-loop-i : goal.invariant-loop-i
-invariant-loop-i l =
-    l.places ++ filter (is_hit l.self l.hidden l.pattern) (range_with_len l.i (length l.self - l.i)) ≡ hits l.self l.hidden l.pattern
+abbrev pub invariant-loop-place : goal.invariant-loop-place
+invariant-loop-place l = l.places.items ++ filter (counts l.self l.hidden (is_broad l.pattern)) (drop l.place-index l.named) ≡ filter (counts l.self l.hidden (is_broad l.pattern)) l.named

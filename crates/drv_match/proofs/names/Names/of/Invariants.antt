@@ -1,6 +1,6 @@
 use Rattle.drv_args.specs.declared.line.Switch.{Switch}
+use Rattle.drv_match.proofs.names.Names.of.Given as goal
 use Rattle.std.proofs.Common.{◌≡◌, ◌++◌, List, drop, map, ℕ}
-use Rattle.drv_match.proofs.switches.Switches.new.Given as goal
 
 abbrev pub invariant-loop-switch : goal.invariant-loop-switch
 invariant-loop-switch l =

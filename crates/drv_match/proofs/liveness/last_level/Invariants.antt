@@ -1,0 +1,12 @@
+use Rattle.drv_match.proofs.liveness.last_level.Given as goal
+use Rattle.drv_match.specs.Matching.{is_level, name_at}
+use Rattle.std.proofs.Common.{◌≡◌, ◌<◌, ◌≤◌, false, length, ℕ}
+
+abbrev pub invariant-loop-place : goal.invariant-loop-place
+invariant-loop-place l = record {
+  within : l.place ≤ length l.names;
+  none : (i : ℕ) → l.place ≤ i → i < length l.names → is_level (name_at l.names i) ≡ false;
+}
+
+abbrev pub decreases-loop-place : goal.decreases-loop-place
+decreases-loop-place l = l.place

@@ -1,0 +1,28 @@
+use Rattle.drv_match.specs.Matching.{is_named, name_at}
+use Rattle.drv_match.specs.Pattern.{Pattern}
+use Rattle.std.specs.Cmp.Lexicographic.{slice_cmp}
+use Rattle.std.specs.List.{AllWithin, range_with_len}
+use Rattle.std.specs.List.Sorted.{IsPermutation, IsSorted}
+use Rattle.std.specs.Ordering.{nat_cmp, ordering_then}
+use Rattle.std.specs.declared.cmp.Ordering.{Ordering}
+use Rattle.std.specs.Prelude.{◌≡◌, ◌≤◌, List, false, length, true, ℕ}
+
+-- The places of a line in the order of their names, in which the switches that a pattern names stand together (this
+-- project's profile).
+
+-- how two places stand: by name, byte by byte, then by place
+abbrev pub by_name : List (List ℕ) → ℕ → ℕ → Ordering
+by_name names i j = ordering_then (slice_cmp nat_cmp (name_at names i) (name_at names j)) (nat_cmp i j)
+
+-- all places of a line, by name, then by place
+pub record IsOrder (names : List (List ℕ)) (order : List ℕ) : Type 0 where
+  pub places : IsPermutation (range_with_len 0 (length names)) order
+  pub sorted : IsSorted (by_name names) order
+
+-- within that order, the pattern names the places from the start up to the end, and no other ones
+pub record IsBlock (names : List (List ℕ)) (order : List ℕ) (pattern : Pattern) (start end : ℕ) : Type 0 where
+  pub ascends : start ≤ end
+  pub within : end ≤ length order
+  pub before : AllWithin (λ i. is_named pattern (name_at names i) ≡ false) order 0 start
+  pub named : AllWithin (λ i. is_named pattern (name_at names i) ≡ true) order start end
+  pub behind : AllWithin (λ i. is_named pattern (name_at names i) ≡ false) order end (length order)

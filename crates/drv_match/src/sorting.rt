@@ -1,0 +1,31 @@
+//! The places of a line by name, and the block of them that a pattern names.
+
+ghost use Rattle.drv_match.specs.Order.{IsBlock, IsOrder};
+ghost use Rattle.std.specs.Prelude.{IfOk};
+
+use crate::names::Names;
+use crate::pattern::Pattern;
+use std::alloc::{AllocError, Global};
+
+/// All places of these names, by name, then by place. Want of memory is the only error.
+pub fn places_by_name(alloc: Global, names: &Names) -> Result<Vec<usize>, AllocError>
+    ensures { IfOk result (λ order. IsOrder names.now order.items) }
+{
+    let mut order: Vec<usize> = (0..names.len()).collect(alloc)?;
+    order.sort_by(|i, j| names.get(*i).cmp(names.get(*j)))?;
+    Ok(order)
+}
+
+/// Where, within the places by name, those stand that the pattern names: the start, and the end behind them.
+pub fn block_of(names: &Names, order: &[usize], pattern: &Pattern<'_>) -> (usize, usize)
+    requires { IsOrder names.now order.now }
+    ensures { IsBlock names.now order.now pattern.now result.0 result.1 }
+{
+    let least = pattern.name;
+    let start = order.partition_point(|i| names.get(*i).cmp(least).is_lt());
+    let end = order.partition_point(|i| {
+        let name = names.get(*i);
+        name.cmp(least).is_lt() || pattern.is_named(name)
+    });
+    (start, end)
+}
