@@ -16,10 +16,10 @@ use Rattle.std.specs.Prelude.{◌==◌, Option, Some}
 
 -- Each case of the grammar is read as its tree.
 
-abbrev list : Context → Items → Here
+abbrev pub list : Context → Items → Here
 list c past = record { context = c; done = past }
 
-abbrev at_item : Context → Items → Place
+abbrev pub at_item : Context → Items → Place
 at_item c past = o.AtItem (list c past)
 
 same_placed : (size i j n m : ℕ) (text mid : List ℕ) (c : Context) (past : Items) (item : Item) → At size i text → At size j mid → At size n text → At size m mid
@@ -27,7 +27,7 @@ same_placed : (size i j n m : ℕ) (text mid : List ℕ) (c : Context) (past : I
 same_placed size i j n m text mid c past item a b d e =
     ap (λ (x : ℕ). o.AtItem (placed (list c past) x m item)) (same_place size n i text d a) ∙ ap (λ (x : ℕ). o.AtItem (placed (list c past) i x item)) (same_place size m j mid e b)
 
-same_asked : (size i j n m : ℕ) (text mid : List ℕ) (h : Head) (negated : Bool) (asked : Asked) → At size i text → At size j mid → At size n text → At size m mid
+pub same_asked : (size i j n m : ℕ) (text mid : List ℕ) (h : Head) (negated : Bool) (asked : Asked) → At size i text → At size j mid → At size n text → At size m mid
     → behind_asked h n m negated asked ≡ behind_asked h i j negated asked
 same_asked size i j n m text mid h negated asked a b d e =
     ap (λ (x : ℕ). behind_asked h x m negated asked) (same_place size n i text d a) ∙ ap (λ (x : ℕ). behind_asked h i x negated asked) (same_place size m j mid e b)
@@ -35,7 +35,7 @@ same_asked size i j n m text mid h negated asked a b d e =
 behind_byte : (size n m b : ℕ) (text rest : List ℕ) → At size n (b ∷ text) → m ≡ n + 1 → At size m text
 behind_byte size n m b text rest a e = omega arith
 
-abbrev head : Context → Items → ℕ → BraceKind → Choices → Tests → Head
+abbrev pub head : Context → Items → ℕ → BraceKind → Choices → Tests → Head
 head c past at kind cs before = choosing (list c past) at kind cs before
 
 -- what goes on from a colon or a bar behind tests
@@ -44,7 +44,7 @@ Then ws here at kind cs all size end vs q rest = (m : ℕ) (middle : Tests) (pat
     → Leads ws (o.BehindTest (choosing here at kind cs middle) patterns (Some all) false) m end vs q rest
 
 -- a ! or none, and what the test asks
-sign_read : {size : ℕ} {u v w : List ℕ} {negated : Bool} {ws : List Waiting} (h : Head) (asked : Asked) → IsSign u negated v
+pub sign_read : {size : ℕ} {u v w : List ℕ} {negated : Bool} {ws : List Waiting} (h : Head) (asked : Asked) → IsSign u negated v
     → ((p : Place) (n start : ℕ) → Asks p n h start negated → At size n v → Leads ws p n v ws (λ m. behind_asked h start m negated asked) w)
     → (p : Place) → ((n : ℕ) → Asks p n h n false) → ((n : ℕ) → turn p n 33 ≡ Goes (o.TestNegated h n)) → (n : ℕ) → At size n u → Leads ws p n u ws (λ m. behind_asked h n m negated asked) w
 sign_read h asked (s.plain_sign g) k p asks bang n a = k p n n (asks n) a
@@ -60,7 +60,7 @@ mutual
       (λ m f. to (λ k g. ap (at_item c) (join_assoc past (more (span i j) item none) items))
       (items_read ds ws (join past (more (span i j) item none)) m (further size n m text mid a f)))
 
-  item_read : {size : ℕ} {c : Context} {text rest : List ℕ} {item : Item} → IsItem size c text item rest → (ws : List Waiting) (past : Items) (n : ℕ) → At size n text
+  pub item_read : {size : ℕ} {c : Context} {text rest : List ℕ} {item : Item} → IsItem size c text item rest → (ws : List Waiting) (past : Items) (n : ℕ) → At size n text
       → Leads ws (at_item c past) n text ws (λ m. o.AtItem (placed (list c past) n m item)) rest
   item_read {c = c} (s.plain {b} e f) ws past n a = one (plain_turn (list c past) n b e f)
   item_read {c = c} s.escape ws past n a = goes refl (one refl)
@@ -160,7 +160,7 @@ mutual
       (λ m middle patterns r. subst (λ (y : Tests). Leads ws (o.BehindTest (choosing (list c past) at kind cs middle) patterns (Some y) false) m end vs q last)
       (sym (join_tests_assoc before (test (span i j) negated asked no_test) tests)) (k m middle patterns r))))))
 
-  asked_read : {size : ℕ} {c c' : Context} {v w : List ℕ} {asked : Asked} {p : Place} {n start : ℕ} {negated : Bool} → IsAsked size c' v asked w → in_braces c ≡ c' → (ws : List Waiting) (past : Items)
+  pub asked_read : {size : ℕ} {c c' : Context} {v w : List ℕ} {asked : Asked} {p : Place} {n start : ℕ} {negated : Bool} → IsAsked size c' v asked w → in_braces c ≡ c' → (ws : List Waiting) (past : Items)
       (at : ℕ) (kind : BraceKind) (cs : Choices) (before : Tests) → Asks p n (head c past at kind cs before) start negated → At size n v → Stops (λ b. b == 42) w
       → Leads ws p n v ws (λ m. behind_asked (head c past at kind cs before) start m negated asked) w
   asked_read (s.switch g q) e ws past at kind cs before asks a st = pattern_read ws (asks_words asks g) q

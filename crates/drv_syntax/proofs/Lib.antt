@@ -1,7 +1,11 @@
+mod CountSamples
+mod FrontSamples
 mod LabelSamples
 mod Samples
 pub mod Covers
 pub mod Emits
+pub mod FrontLeads
+pub mod FrontsRead
 pub mod Leads
 pub mod MarkedWords
 pub mod Names

@@ -1,8 +1,9 @@
-use Rattle.drv_syntax.specs.Labels.{Label}
-use Rattle.drv_syntax.specs.Marks.{Within, marked_label, marked_labels}
+use Rattle.drv_syntax.specs.Labels.{Label, no_label}
+use Rattle.drv_syntax.specs.Reader.Marks.{Within, marked_label, marked_labels}
 use Rattle.drv_syntax.specs.declared.labels.Mark.{Mark}
+use Rattle.drv_syntax.specs.declared.token.TestKind.TheVariants as asking
 use Rattle.drv_syntax.specs.declared.token.TestKind.{TestKind}
-use Rattle.std.proofs.Common.{◌≡◌, ℕ, ◌-◌, ◌<◌, ◌≤◌, Bool, List, [], ◌∷◌, ◌++◌, length, take, drop, get_or, refl, subst, suc, sym, zero, ap, ◌∙◌, arith, append_assoc, length-append}
+use Rattle.std.proofs.Common.{◌≡◌, ℕ, ◌-◌, ◌<◌, ◌≤◌, Bool, false, List, [], ◌∷◌, ◌++◌, length, take, drop, get_or, refl, subst, suc, sym, zero, ap, ◌∙◌, arith, append_assoc, length-append}
 use Rattle.std.proofs.Math.Seq.{drop-append_seam, take-length}
 use Rattle.std.proofs.lemmas.List.{drop-append-le, length-drop, length-map, map-append, take-append-le, take-map}
 
@@ -82,6 +83,30 @@ labels_pushed words first second front word marks all now start end starred nega
   where
     whole : second ≡ words ++ (front ++ word)
     whole = g ∙ ap (λ ws. ws ++ word) f ∙ append_assoc words front word
+
+pub labels_marked : (words first second word : List ℕ) (mark : ℕ) (marks all : List Mark) (now : List Label) (start end : ℕ) (starred negated : Bool) (asks : TestKind)
+    → now ≡ marked_labels words marks → Within (length words) marks → first ≡ words ++ mark ∷ [] → second ≡ first ++ word → start ≡ length words → end ≡ length second
+    → all ≡ marks ++ record { start = start; end = end; starred = starred; negated = negated; asks = asks } ∷ []
+    → now ++ record { word = mark ∷ word; starred = starred; negated = negated; asks = asks } ∷ [] ≡ marked_labels second all
+labels_marked words first second word mark marks all now start end starred negated asks e w f g h k a =
+    labels_pushed words first second (mark ∷ []) word marks all now start end starred negated asks e w f g h k a
+
+pub labels_added : (words second word : List ℕ) (marks all : List Mark) (now : List Label) (start end : ℕ) (starred negated : Bool) (asks : TestKind)
+    → now ≡ marked_labels words marks → Within (length words) marks → second ≡ words ++ word → start ≡ length words → end ≡ length second
+    → all ≡ marks ++ record { start = start; end = end; starred = starred; negated = negated; asks = asks } ∷ []
+    → now ++ record { word = word; starred = starred; negated = negated; asks = asks } ∷ [] ≡ marked_labels second all
+labels_added words second word marks all now start end starred negated asks e w f h k a =
+    ap (λ ls. ls ++ record { word = word; starred = starred; negated = negated; asks = asks } ∷ []) e
+    ∙ sym (labels_push words word marks start end starred negated asks w h (k ∙ ap (λ ws. length ws) f))
+    ∙ ap (λ ws. marked_labels ws (marks ++ record { start = start; end = end; starred = starred; negated = negated; asks = asks } ∷ [])) (sym f)
+    ∙ ap (λ ms. marked_labels second ms) (sym a)
+
+pub labels_none : (words : List ℕ) (marks all : List Mark) (now : List Label) → now ≡ marked_labels words marks
+    → all ≡ marks ++ record { start = 0; end = 0; starred = false; negated = false; asks = asking.Switch } ∷ [] → now ++ no_label ∷ [] ≡ marked_labels words all
+labels_none words marks all now e a =
+    ap (λ ls. ls ++ no_label ∷ []) e
+    ∙ sym (map-append (λ m. marked_label words m) marks (record { start = 0; end = 0; starred = false; negated = false; asks = asking.Switch } ∷ []))
+    ∙ ap (λ ms. marked_labels words ms) (sym a)
 
 pub labels_take : (words : List ℕ) (n : ℕ) (marks : List Mark) → marked_labels words (take n marks) ≡ take n (marked_labels words marks)
 labels_take words n marks = sym (take-map (λ m. marked_label words m) n marks)

@@ -15,6 +15,15 @@ is_same_front (b ∷ p) more (c ∷ q) h = by (b == c) refl h (is_same_front p m
     by true e h k = rw e (k (rw e at h))
     by false e h k = differs (sym (rw e at h))
 
+is_front_front : (p more f : List ℕ) → is_front (p ++ more) f ≡ true → is_front p f ≡ true
+is_front_front [] more f h = refl
+is_front_front (b ∷ p) more [] h = differs (sym h)
+is_front_front (b ∷ p) more (c ∷ q) h = by (b == c) refl h (is_front_front p more q)
+  where
+    by : (z : Bool) → (b == c) ≡ z → is_front ((b ∷ p) ++ more) (c ∷ q) ≡ true → (is_front (p ++ more) q ≡ true → is_front p q ≡ true) → is_front (b ∷ p) (c ∷ q) ≡ true
+    by true e h k = rw e (k (rw e at h))
+    by false e h k = differs (sym (rw e at h))
+
 any_more : (f g : List ℕ → Bool) (xs : List (List ℕ)) → ((x : List ℕ) → f x ≡ true → g x ≡ true) → any_of f xs ≡ true → any_of g xs ≡ true
 any_more f g [] k h = h
 any_more f g (x ∷ xs) k h = by (f x) refl h (any_more f g xs k)
@@ -29,6 +38,10 @@ any_more f g (x ∷ xs) k h = by (f x) refl h (any_more f g xs k)
 
 pub function_front : (p more : List ℕ) → is_function (p ++ more) ≡ true → is_function_front p ≡ true
 function_front p more h = any_more (is_same (p ++ more)) (is_front p) functions (is_same_front p more) h
+
+-- a front of a front of a name is one
+pub front_front : (p more : List ℕ) → is_function_front (p ++ more) ≡ true → is_function_front p ≡ true
+front_front p more h = any_more (is_front (p ++ more)) (is_front p) functions (is_front_front p more) h
 
 no_front : (name f : List ℕ) → is_of f 40 ≡ false → is_front (name ++ 40 ∷ []) f ≡ false
 no_front [] [] h = refl

@@ -1,3 +1,4 @@
+use Rattle.drv_syntax.proofs.FrontLeads.{IsFrontFrom, ended, onto}
 use Rattle.drv_syntax.proofs.Leads.{Leads, and_then, goes, none_of, one, other, same_run, stays}
 use Rattle.drv_syntax.proofs.Words.{alike, at_front, no_word, quoted, stops, stops_at, test_word}
 use Rattle.drv_syntax.specs.Bytes.{BraceKind, is_mark, is_space, is_word}
@@ -53,11 +54,11 @@ due_asks h n = record { byte = λ b e f g. rw (e, f) refl }
 pub negated_asks : (h : Head) (start n : ℕ) → Asks (o.TestNegated h start) n h start true
 negated_asks h start n = record { byte = λ b e f g. rw e refl }
 
-asks_word : {p : Place} {n start : ℕ} {h : Head} {negated : Bool} → Asks p n h start negated → (b : ℕ) → is_mark b ≡ false → (b == 92) ≡ false → is_word b ≡ true
+pub asks_word : {p : Place} {n start : ℕ} {h : Head} {negated : Bool} → Asks p n h start negated → (b : ℕ) → is_mark b ≡ false → (b == 92) ≡ false → is_word b ≡ true
     → turn p n b ≡ Goes (o.TestWord h start negated (b ∷ []))
 asks_word a b e f g = a.byte b (none_of is_word (32 ∷ 9 ∷ 10 ∷ []) b g (refl, (refl, (refl, tt)))) (other is_word b 33 g refl) (other is_word b 58 g refl) ∙ rw (f, e, g) refl
 
-asks_escape : {p : Place} {n start : ℕ} {h : Head} {negated : Bool} → Asks p n h start negated → turn p n 92 ≡ Goes (o.TestWordEscape h start negated [])
+pub asks_escape : {p : Place} {n start : ℕ} {h : Head} {negated : Bool} → Asks p n h start negated → turn p n 92 ≡ Goes (o.TestWordEscape h start negated [])
 asks_escape a = a.byte 92 refl refl refl
 
 pub asks_mark : {p : Place} {n start : ℕ} {h : Head} {negated : Bool} → Asks p n h start negated → (b : ℕ) → is_mark b ≡ true → turn p n b ≡ Goes (o.TestMark h start negated b)
@@ -107,12 +108,14 @@ choosing here at kind choices tests = record { here = here; at = at; kind = kind
 pub record Closing (ws : List Waiting) (p : Place) (n : ℕ) (text : List ℕ) (here : Here) (at : ℕ) (kind : BraceKind) (ps : List (Span × Pattern)) : Type 0 where
   pub brace : {rest : List ℕ} → AreSpaces text (125 ∷ rest) → Leads ws p n text ws (λ m. o.AtItem (emitted_item (emitting here at kind []) m ps)) rest
   pub and : {rest : List ℕ} → AreSpaces text (38 ∷ rest) → Leads ws p n text ws (λ _. o.PatternDue (emitting here at kind ps)) rest
+  pub end : AreSpaces text [] → IsFrontFrom ws p n text
 
 pub behind_closing : (ws : List Waiting) (n : ℕ) (text : List ℕ) (here : Here) (at : ℕ) (kind : BraceKind) (before ps : List (Span × Pattern)) (ts : Option Tests) (bare : Bool)
     → Closing ws (o.BehindTest (emitting here at kind before) (Some ps) ts bare) n text here at kind ps
 behind_closing ws n text here at kind before ps ts bare = record {
   brace = λ q. and_then (spaces_read ws p (behind_space h (Some ps) ts bare) n q) (λ m fits. one refl);
   and = λ q. and_then (spaces_read ws p (behind_space h (Some ps) ts bare) n q) (λ m fits. one refl);
+  end = λ q. onto (spaces_read ws p (behind_space h (Some ps) ts bare) n q) (λ m fits. ended ws p m);
 }
   where
     h : Head

@@ -1,5 +1,5 @@
 use Rattle.drv_syntax.specs.Outcome as o
-use Rattle.drv_syntax.specs.Outcome.{Bad, Closes, Cut, Front, Goes, Got, Not, On, Opens, Out, Place, Refused, Resumed, Turn, Waiting, after, closed, end_of, finish, outermost, read, resume, resumed, run, turn}
+use Rattle.drv_syntax.specs.Outcome.{Bad, Closes, Cut, Goes, Got, Not, On, Opens, Out, Place, Refused, Resumed, Turn, Unrefused, Waiting, after, closed, end_of, finish, outermost, read, resume, resumed, run, turn}
 use Rattle.drv_syntax.specs.Contexts.{top}
 use Rattle.drv_syntax.specs.Tree.{Items}
 use Rattle.drv_syntax.specs.declared.fault.SyntaxFault.{SyntaxFault}
@@ -55,11 +55,11 @@ finishes (o.TestPercent h start negated at) n = cut _
 finishes (o.TestFunction h start negated at name) n = cut _
 finishes (o.BehindTest h patterns tests bare) n = cut _
 
-ends : (ws : List Waiting) (p : Place) (n : ℕ) → IsFront (end_of ws p n)
+pub ends : (ws : List Waiting) (p : Place) (n : ℕ) → IsFront (end_of ws p n)
 ends [] p n = finishes p n
 ends (w ∷ ws) p n = cut (outermost w ws)
 
-not_bad : (out : Out) (k : ℕ) (fault : SyntaxFault) {A : Type 0} → IsFront out → out ≡ Bad k fault → A
+pub not_bad : (out : Out) (k : ℕ) (fault : SyntaxFault) {A : Type 0} → IsFront out → out ≡ Bad k fault → A
 not_bad out k fault (inl (items, e)) h = absurd cc
 not_bad out k fault (inr (at, e)) h = absurd cc
 
@@ -107,7 +107,7 @@ fails [] k fault ws p n h = not_bad (end_of ws p n) k fault (ends ws p n) h
 fails (b ∷ text) k fault ws p n h = by_turn b k fault text (λ vs q m. fails text k fault vs q m) ws p n (turn p n b) refl h
 
 pub shortest : (text : List ℕ) (k : ℕ) (fault : SyntaxFault) → read text ≡ Bad k fault
-    → (k < length text) × ((j : ℕ) → j ≤ k → Front (take j text)) × ((rest : List ℕ) → read (take (k + 1) text ++ rest) ≡ Bad k fault)
+    → (k < length text) × ((j : ℕ) → j ≤ k → Unrefused (take j text)) × ((rest : List ℕ) → read (take (k + 1) text ++ rest) ≡ Bad k fault)
 shortest text k fault h =
     let r = fails text k fault [] (o.list_in top) 0 h in
     let e : r.j ≡ k = omega arith in

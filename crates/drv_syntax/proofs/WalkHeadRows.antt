@@ -3,19 +3,19 @@ use Rattle.drv_syntax.specs.Outcome as o
 use Rattle.drv_syntax.specs.Outcome.{Here, Place, Turn, join, placed, turn, turn_item, turn_percent}
 use Rattle.drv_syntax.specs.Tree as tree
 use Rattle.drv_syntax.specs.Tree.{Asked, Choices, Item, Items, Pattern, Span, Tests}
-use Rattle.drv_syntax.specs.Walk as w
-use Rattle.drv_syntax.specs.Walk.{leaf_kind, leaf_label, list_turn, start_action, percent_action, goes_of, goes_action, head_action, choice_action}
-use Rattle.drv_syntax.specs.WalkSteps.{form_at}
-use Rattle.drv_syntax.specs.declared.stage.Behind.TheVariants as behinds
-use Rattle.drv_syntax.specs.declared.stage.Behind.{Behind}
-use Rattle.drv_syntax.specs.declared.stage.ChoiceAction.{ChoiceAction}
-use Rattle.drv_syntax.specs.declared.stage.Context.{Context}
-use Rattle.drv_syntax.specs.declared.stage.Form.{Form}
-use Rattle.drv_syntax.specs.declared.stage.Head.{Head}
-use Rattle.drv_syntax.specs.declared.stage.HeadAction.TheVariants as heads
-use Rattle.drv_syntax.specs.declared.stage.HeadAction.{HeadAction}
-use Rattle.drv_syntax.specs.declared.stage.HeadStage.TheVariants as places
-use Rattle.drv_syntax.specs.declared.stage.HeadStage.{HeadStage}
+use Rattle.drv_syntax.specs.Reader.Turns as w
+use Rattle.drv_syntax.specs.Reader.Turns.{leaf_kind, leaf_label, list_turn, start_action, percent_action, goes_of, goes_action, head_action, choice_action}
+use Rattle.drv_syntax.specs.Reader.Steps.{form_at}
+use Rattle.drv_syntax.specs.declared.reader.stages.Behind.TheVariants as behinds
+use Rattle.drv_syntax.specs.declared.reader.stages.Behind.{Behind}
+use Rattle.drv_syntax.specs.declared.reader.actions.ChoiceAction.{ChoiceAction}
+use Rattle.drv_syntax.specs.declared.reader.stages.Context.{Context}
+use Rattle.drv_syntax.specs.declared.reader.stages.Form.{Form}
+use Rattle.drv_syntax.specs.declared.reader.stages.Head.{Head}
+use Rattle.drv_syntax.specs.declared.reader.actions.HeadAction.TheVariants as heads
+use Rattle.drv_syntax.specs.declared.reader.actions.HeadAction.{HeadAction}
+use Rattle.drv_syntax.specs.declared.reader.stages.HeadStage.TheVariants as places
+use Rattle.drv_syntax.specs.declared.reader.stages.HeadStage.{HeadStage}
 use Rattle.std.proofs.Common.{◌≡◌, ℕ, ◌+◌, ◌-◌, Bool, true, false, List, [], ◌∷◌, ◌++◌, refl, if◌then◌else◌}
 use Rattle.std.specs.Prelude.{◌==◌}
 use Rattle.drv_syntax.proofs.WalkMeaning.{either, headed, Fits, fits_fresh, fits_patterns, fits_later, fits_tests, patterns_of, tests_of, is_bare, head_place, meant_head, meant_choice}

@@ -5,24 +5,24 @@ use Rattle.drv_syntax.specs.Outcome as o
 use Rattle.drv_syntax.specs.Outcome.{Here, Out, Place, Turn, after, closed, join, join_choices, join_tests, judged, parsed, read, resumed, run, turn}
 use Rattle.drv_syntax.specs.Tree as tree
 use Rattle.drv_syntax.specs.Tree.{Asked, Brace, Choices, Item, Items, Pattern, Span, Tests, first_place, last_place, trimmed}
-use Rattle.drv_syntax.specs.Walk as w
-use Rattle.drv_syntax.specs.WalkSteps as s
-use Rattle.drv_syntax.specs.WalkSteps.{Walk, open_token}
+use Rattle.drv_syntax.specs.Reader.Turns as w
+use Rattle.drv_syntax.specs.Reader.Steps as s
+use Rattle.drv_syntax.specs.Reader.Steps.{Walk, open_token}
 use Rattle.drv_syntax.specs.declared.fault.SyntaxFault.{SyntaxFault}
-use Rattle.drv_syntax.specs.declared.stage.BraceKind.{BraceKind}
-use Rattle.drv_syntax.specs.declared.stage.ChoiceAction.TheVariants as choosing
-use Rattle.drv_syntax.specs.declared.stage.ChoiceAction.{ChoiceAction}
-use Rattle.drv_syntax.specs.declared.stage.Context.{Context}
-use Rattle.drv_syntax.specs.declared.stage.Form.{Form}
-use Rattle.drv_syntax.specs.declared.stage.Frame.TheVariants as frames
-use Rattle.drv_syntax.specs.declared.stage.Frame.{Frame}
-use Rattle.drv_syntax.specs.declared.stage.HeadAction.TheVariants as heads
-use Rattle.drv_syntax.specs.declared.stage.HeadAction.{HeadAction}
-use Rattle.drv_syntax.specs.declared.stage.HeadStage.{HeadStage}
-use Rattle.drv_syntax.specs.declared.stage.ListStage.TheVariants as stages
-use Rattle.drv_syntax.specs.declared.stage.Stage.TheVariants as staged
-use Rattle.drv_syntax.specs.declared.stage.Stage.{Stage}
-use Rattle.drv_syntax.specs.declared.stage.StarOwner.TheVariants as owners
+use Rattle.drv_syntax.specs.declared.reader.stages.BraceKind.{BraceKind}
+use Rattle.drv_syntax.specs.declared.reader.actions.ChoiceAction.TheVariants as choosing
+use Rattle.drv_syntax.specs.declared.reader.actions.ChoiceAction.{ChoiceAction}
+use Rattle.drv_syntax.specs.declared.reader.stages.Context.{Context}
+use Rattle.drv_syntax.specs.declared.reader.stages.Form.{Form}
+use Rattle.drv_syntax.specs.declared.reader.stages.Frame.TheVariants as frames
+use Rattle.drv_syntax.specs.declared.reader.stages.Frame.{Frame}
+use Rattle.drv_syntax.specs.declared.reader.actions.HeadAction.TheVariants as heads
+use Rattle.drv_syntax.specs.declared.reader.actions.HeadAction.{HeadAction}
+use Rattle.drv_syntax.specs.declared.reader.stages.HeadStage.{HeadStage}
+use Rattle.drv_syntax.specs.declared.reader.stages.ListStage.TheVariants as stages
+use Rattle.drv_syntax.specs.declared.reader.stages.Stage.TheVariants as staged
+use Rattle.drv_syntax.specs.declared.reader.stages.Stage.{Stage}
+use Rattle.drv_syntax.specs.declared.reader.stages.StarOwner.TheVariants as owners
 use Rattle.drv_syntax.specs.declared.token.TokenKind.TheVariants as kinds
 use Rattle.drv_syntax.proofs.WalkNodes.{Parts, all, all_open, opened}
 use Rattle.drv_syntax.proofs.WalkMeaning.{Fits, fits_fresh, fits_later, fits_patterns, fits_tests, head_place, is_bare, meant_choice, meant_head, shown}

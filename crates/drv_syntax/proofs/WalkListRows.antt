@@ -4,24 +4,24 @@ use Rattle.drv_syntax.specs.Outcome as o
 use Rattle.drv_syntax.specs.Outcome.{Here, Place, Turn, join, placed, turn, turn_item, turn_percent}
 use Rattle.drv_syntax.specs.Tree as tree
 use Rattle.drv_syntax.specs.Tree.{Asked, Choices, Item, Items, Pattern, Span, Tests}
-use Rattle.drv_syntax.specs.Walk as w
-use Rattle.drv_syntax.specs.Walk.{leaf_kind, leaf_label, list_turn, start_action, percent_action, goes_of, goes_action, head_action, choice_action}
+use Rattle.drv_syntax.specs.Reader.Turns as w
+use Rattle.drv_syntax.specs.Reader.Turns.{leaf_kind, leaf_label, list_turn, start_action, percent_action, goes_of, goes_action, head_action, choice_action}
 use Rattle.drv_syntax.specs.declared.fault.SyntaxFault.TheVariants.{BadDirective}
-use Rattle.drv_syntax.specs.declared.stage.Context.{Context}
-use Rattle.drv_syntax.specs.declared.stage.Goes.TheVariants as goes
-use Rattle.drv_syntax.specs.declared.stage.Goes.{Goes}
-use Rattle.drv_syntax.specs.declared.stage.Leaf.TheVariants as leaves
-use Rattle.drv_syntax.specs.declared.stage.ListAction.{ListAction}
-use Rattle.drv_syntax.specs.declared.stage.ListKind.TheVariants as lists
-use Rattle.drv_syntax.specs.declared.stage.ListKind.{ListKind}
-use Rattle.drv_syntax.specs.declared.stage.ListStage.TheVariants as stages
-use Rattle.drv_syntax.specs.declared.stage.ListStage.{ListStage}
-use Rattle.drv_syntax.specs.declared.stage.ListTurn.{ListTurn}
-use Rattle.drv_syntax.specs.declared.stage.SayKind.TheVariants as sayings
-use Rattle.drv_syntax.specs.declared.stage.SayKind.{SayKind}
-use Rattle.drv_syntax.specs.declared.stage.StarOwner.TheVariants as owners
-use Rattle.drv_syntax.specs.declared.stage.StarOwner.{StarOwner}
-use Rattle.drv_syntax.specs.declared.stage.Taken.TheVariants as takes
+use Rattle.drv_syntax.specs.declared.reader.stages.Context.{Context}
+use Rattle.drv_syntax.specs.declared.reader.actions.Goes.TheVariants as goes
+use Rattle.drv_syntax.specs.declared.reader.actions.Goes.{Goes}
+use Rattle.drv_syntax.specs.declared.reader.actions.Leaf.TheVariants as leaves
+use Rattle.drv_syntax.specs.declared.reader.actions.ListAction.{ListAction}
+use Rattle.drv_syntax.specs.declared.reader.stages.ListKind.TheVariants as lists
+use Rattle.drv_syntax.specs.declared.reader.stages.ListKind.{ListKind}
+use Rattle.drv_syntax.specs.declared.reader.stages.ListStage.TheVariants as stages
+use Rattle.drv_syntax.specs.declared.reader.stages.ListStage.{ListStage}
+use Rattle.drv_syntax.specs.declared.reader.actions.ListTurn.{ListTurn}
+use Rattle.drv_syntax.specs.declared.reader.stages.SayKind.TheVariants as sayings
+use Rattle.drv_syntax.specs.declared.reader.stages.SayKind.{SayKind}
+use Rattle.drv_syntax.specs.declared.reader.stages.StarOwner.TheVariants as owners
+use Rattle.drv_syntax.specs.declared.reader.stages.StarOwner.{StarOwner}
+use Rattle.drv_syntax.specs.declared.reader.actions.Taken.TheVariants as takes
 use Rattle.std.proofs.Common.{◌≡◌, ℕ, ◌+◌, Bool, true, false, List, [], ◌∷◌, ◌++◌, length, refl, sym, ap, ◌∙◌, arith, length-append, if◌then◌else◌}
 use Rattle.drv_syntax.specs.declared.token.TempKind.{TempKind}
 use Rattle.std.proofs.lemmas.Bool.Decides.{nat_tests}

@@ -7,24 +7,24 @@ use Rattle.drv_syntax.specs.Spelling.{span}
 use Rattle.drv_syntax.specs.Tokens.{kind_of}
 use Rattle.drv_syntax.specs.Tree as tree
 use Rattle.drv_syntax.specs.Tree.{Asked, Brace, Choices, Item, Items, Pattern, Span, Tests, first_place, last_place, trimmed}
-use Rattle.drv_syntax.specs.Walk as w
-use Rattle.drv_syntax.specs.WalkSteps as s
-use Rattle.drv_syntax.specs.WalkSteps.{Walk, open_token}
+use Rattle.drv_syntax.specs.Reader.Turns as w
+use Rattle.drv_syntax.specs.Reader.Steps as s
+use Rattle.drv_syntax.specs.Reader.Steps.{Walk, open_token}
 use Rattle.drv_syntax.specs.declared.fault.SyntaxFault.TheVariants.{EmptyTest}
-use Rattle.drv_syntax.specs.declared.stage.BraceKind.TheVariants as braces
-use Rattle.drv_syntax.specs.declared.stage.BraceKind.{BraceKind}
-use Rattle.drv_syntax.specs.declared.stage.Context.{Context}
-use Rattle.drv_syntax.specs.declared.stage.Form.TheVariants as forms
-use Rattle.drv_syntax.specs.declared.stage.Frame.TheVariants as frames
-use Rattle.drv_syntax.specs.declared.stage.Frame.{Frame}
-use Rattle.drv_syntax.specs.declared.stage.ListAction.TheVariants as acts
-use Rattle.drv_syntax.specs.declared.stage.ListAction.{ListAction}
-use Rattle.drv_syntax.specs.declared.stage.ListStage.TheVariants as stages
-use Rattle.drv_syntax.specs.declared.stage.ListStage.{ListStage}
-use Rattle.drv_syntax.specs.declared.stage.ListTurn.{ListTurn}
-use Rattle.drv_syntax.specs.declared.stage.Part.{Part}
-use Rattle.drv_syntax.specs.declared.stage.Stage.TheVariants as staged
-use Rattle.drv_syntax.specs.declared.stage.Stage.{Stage}
+use Rattle.drv_syntax.specs.declared.reader.stages.BraceKind.TheVariants as braces
+use Rattle.drv_syntax.specs.declared.reader.stages.BraceKind.{BraceKind}
+use Rattle.drv_syntax.specs.declared.reader.stages.Context.{Context}
+use Rattle.drv_syntax.specs.declared.reader.stages.Form.TheVariants as forms
+use Rattle.drv_syntax.specs.declared.reader.stages.Frame.TheVariants as frames
+use Rattle.drv_syntax.specs.declared.reader.stages.Frame.{Frame}
+use Rattle.drv_syntax.specs.declared.reader.actions.ListAction.TheVariants as acts
+use Rattle.drv_syntax.specs.declared.reader.actions.ListAction.{ListAction}
+use Rattle.drv_syntax.specs.declared.reader.stages.ListStage.TheVariants as stages
+use Rattle.drv_syntax.specs.declared.reader.stages.ListStage.{ListStage}
+use Rattle.drv_syntax.specs.declared.reader.actions.ListTurn.{ListTurn}
+use Rattle.drv_syntax.specs.declared.reader.actions.Part.{Part}
+use Rattle.drv_syntax.specs.declared.reader.stages.Stage.TheVariants as staged
+use Rattle.drv_syntax.specs.declared.reader.stages.Stage.{Stage}
 use Rattle.drv_syntax.specs.declared.token.TokenKind.TheVariants as kinds
 use Rattle.drv_syntax.specs.declared.token.TokenKind.{TokenKind}
 use Rattle.drv_syntax.proofs.WalkNodes.{Parts, all, all_close, all_leaf, all_open, ended, opened, shortened, both_assoc, both_none, choices_join, items_join, last_join, tests_join, trailing, trailing_plain, trailing_white, trim_all, trimmed_plain, trimmed_white, white}

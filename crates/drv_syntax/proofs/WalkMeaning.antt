@@ -7,38 +7,38 @@ use Rattle.drv_syntax.specs.Spelling.{span}
 use Rattle.drv_syntax.specs.Tokens.{kind_of}
 use Rattle.drv_syntax.specs.Tree as tree
 use Rattle.drv_syntax.specs.Tree.{Asked, Choices, Item, Items, Pattern, Span, Tests}
-use Rattle.drv_syntax.specs.Walk as w
-use Rattle.drv_syntax.specs.Walk.{leaf_kind, leaf_label, list_turn, start_action, percent_action, goes_of, goes_action, head_action, choice_action}
-use Rattle.drv_syntax.specs.WalkSteps.{is_white}
-use Rattle.drv_syntax.specs.declared.stage.Behind.TheVariants as behinds
-use Rattle.drv_syntax.specs.declared.stage.Behind.{Behind}
-use Rattle.drv_syntax.specs.declared.stage.BraceKind.TheVariants as braces
-use Rattle.drv_syntax.specs.declared.stage.BraceKind.{BraceKind}
-use Rattle.drv_syntax.specs.declared.stage.ChoiceAction.TheVariants as choosing
-use Rattle.drv_syntax.specs.declared.stage.ChoiceAction.{ChoiceAction}
-use Rattle.drv_syntax.specs.declared.stage.Context.{Context}
-use Rattle.drv_syntax.specs.declared.stage.Form.TheVariants as forms
-use Rattle.drv_syntax.specs.declared.stage.Form.{Form}
-use Rattle.drv_syntax.specs.declared.stage.Head.{Head}
-use Rattle.drv_syntax.specs.declared.stage.HeadAction.TheVariants as heads
-use Rattle.drv_syntax.specs.declared.stage.HeadAction.{HeadAction}
-use Rattle.drv_syntax.specs.declared.stage.HeadStage.TheVariants as places
-use Rattle.drv_syntax.specs.declared.stage.HeadStage.{HeadStage}
-use Rattle.drv_syntax.specs.declared.stage.Leaf.TheVariants as leaves
-use Rattle.drv_syntax.specs.declared.stage.Leaf.{Leaf}
-use Rattle.drv_syntax.specs.declared.stage.ListAction.TheVariants as acts
-use Rattle.drv_syntax.specs.declared.stage.ListAction.{ListAction}
-use Rattle.drv_syntax.specs.declared.stage.ListKind.TheVariants as lists
-use Rattle.drv_syntax.specs.declared.stage.ListKind.{ListKind}
-use Rattle.drv_syntax.specs.declared.stage.ListStage.TheVariants as stages
-use Rattle.drv_syntax.specs.declared.stage.ListStage.{ListStage}
-use Rattle.drv_syntax.specs.declared.stage.ListTurn.{ListTurn}
-use Rattle.drv_syntax.specs.declared.stage.Open.{Open}
-use Rattle.drv_syntax.specs.declared.stage.Part.{Part}
-use Rattle.drv_syntax.specs.declared.stage.SayKind.TheVariants as sayings
-use Rattle.drv_syntax.specs.declared.stage.SayKind.{SayKind}
-use Rattle.drv_syntax.specs.declared.stage.StarOwner.TheVariants as owners
-use Rattle.drv_syntax.specs.declared.stage.StarOwner.{StarOwner}
+use Rattle.drv_syntax.specs.Reader.Turns as w
+use Rattle.drv_syntax.specs.Reader.Turns.{leaf_kind, leaf_label, list_turn, start_action, percent_action, goes_of, goes_action, head_action, choice_action}
+use Rattle.drv_syntax.specs.Reader.Steps.{is_white}
+use Rattle.drv_syntax.specs.declared.reader.stages.Behind.TheVariants as behinds
+use Rattle.drv_syntax.specs.declared.reader.stages.Behind.{Behind}
+use Rattle.drv_syntax.specs.declared.reader.stages.BraceKind.TheVariants as braces
+use Rattle.drv_syntax.specs.declared.reader.stages.BraceKind.{BraceKind}
+use Rattle.drv_syntax.specs.declared.reader.actions.ChoiceAction.TheVariants as choosing
+use Rattle.drv_syntax.specs.declared.reader.actions.ChoiceAction.{ChoiceAction}
+use Rattle.drv_syntax.specs.declared.reader.stages.Context.{Context}
+use Rattle.drv_syntax.specs.declared.reader.stages.Form.TheVariants as forms
+use Rattle.drv_syntax.specs.declared.reader.stages.Form.{Form}
+use Rattle.drv_syntax.specs.declared.reader.stages.Head.{Head}
+use Rattle.drv_syntax.specs.declared.reader.actions.HeadAction.TheVariants as heads
+use Rattle.drv_syntax.specs.declared.reader.actions.HeadAction.{HeadAction}
+use Rattle.drv_syntax.specs.declared.reader.stages.HeadStage.TheVariants as places
+use Rattle.drv_syntax.specs.declared.reader.stages.HeadStage.{HeadStage}
+use Rattle.drv_syntax.specs.declared.reader.actions.Leaf.TheVariants as leaves
+use Rattle.drv_syntax.specs.declared.reader.actions.Leaf.{Leaf}
+use Rattle.drv_syntax.specs.declared.reader.actions.ListAction.TheVariants as acts
+use Rattle.drv_syntax.specs.declared.reader.actions.ListAction.{ListAction}
+use Rattle.drv_syntax.specs.declared.reader.stages.ListKind.TheVariants as lists
+use Rattle.drv_syntax.specs.declared.reader.stages.ListKind.{ListKind}
+use Rattle.drv_syntax.specs.declared.reader.stages.ListStage.TheVariants as stages
+use Rattle.drv_syntax.specs.declared.reader.stages.ListStage.{ListStage}
+use Rattle.drv_syntax.specs.declared.reader.actions.ListTurn.{ListTurn}
+use Rattle.drv_syntax.specs.declared.reader.stages.Open.{Open}
+use Rattle.drv_syntax.specs.declared.reader.actions.Part.{Part}
+use Rattle.drv_syntax.specs.declared.reader.stages.SayKind.TheVariants as sayings
+use Rattle.drv_syntax.specs.declared.reader.stages.SayKind.{SayKind}
+use Rattle.drv_syntax.specs.declared.reader.stages.StarOwner.TheVariants as owners
+use Rattle.drv_syntax.specs.declared.reader.stages.StarOwner.{StarOwner}
 use Rattle.drv_syntax.proofs.WalkNodes.{white}
 use Rattle.std.proofs.Common.{◌≡◌, ℕ, Bool, true, false, List, [], ◌∷◌, ◌++◌, refl, ap, if◌then◌else◌}
 use Rattle.std.specs.Prelude.{Option, None, Some}

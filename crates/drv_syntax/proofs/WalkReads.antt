@@ -5,25 +5,25 @@ use Rattle.drv_syntax.specs.Outcome.{Here, Out, Place, Turn, after, closed, join
 use Rattle.drv_syntax.specs.Parsed.{listed, tree_in, tree_of}
 use Rattle.drv_syntax.specs.Tree as tree
 use Rattle.drv_syntax.specs.Tree.{Asked, Brace, Choices, Item, Items, Pattern, Span, Tests, first_place, last_place, trimmed}
-use Rattle.drv_syntax.specs.Walk as w
-use Rattle.drv_syntax.specs.WalkState.{parts_in}
-use Rattle.drv_syntax.specs.WalkSteps as s
-use Rattle.drv_syntax.specs.WalkSteps.{Walk, open_token}
+use Rattle.drv_syntax.specs.Reader.Turns as w
+use Rattle.drv_syntax.specs.Reader.States.{parts_in}
+use Rattle.drv_syntax.specs.Reader.Steps as s
+use Rattle.drv_syntax.specs.Reader.Steps.{Walk, open_token}
 use Rattle.drv_syntax.specs.declared.fault.SyntaxFault.TheVariants.{TextTooLong, Unclosed}
 use Rattle.drv_syntax.specs.declared.fault.SyntaxFault.{SyntaxFault}
-use Rattle.drv_syntax.specs.declared.stage.Context.{Context}
-use Rattle.drv_syntax.specs.declared.stage.Frame.{Frame}
-use Rattle.drv_syntax.specs.declared.stage.HeadStage.TheVariants as places
-use Rattle.drv_syntax.specs.declared.stage.HeadStage.{HeadStage}
-use Rattle.drv_syntax.specs.declared.stage.Leaf.TheVariants as leaves
-use Rattle.drv_syntax.specs.declared.stage.Leaf.{Leaf}
-use Rattle.drv_syntax.specs.declared.stage.ListKind.TheVariants as lists
-use Rattle.drv_syntax.specs.declared.stage.ListStage.TheVariants as stages
-use Rattle.drv_syntax.specs.declared.stage.ListStage.{ListStage}
-use Rattle.drv_syntax.specs.declared.stage.SayKind.TheVariants as sayings
-use Rattle.drv_syntax.specs.declared.stage.StarOwner.TheVariants as owners
-use Rattle.drv_syntax.specs.declared.stage.Taken.TheVariants as takes
-use Rattle.drv_syntax.specs.declared.stage.Taken.{Taken}
+use Rattle.drv_syntax.specs.declared.reader.stages.Context.{Context}
+use Rattle.drv_syntax.specs.declared.reader.stages.Frame.{Frame}
+use Rattle.drv_syntax.specs.declared.reader.stages.HeadStage.TheVariants as places
+use Rattle.drv_syntax.specs.declared.reader.stages.HeadStage.{HeadStage}
+use Rattle.drv_syntax.specs.declared.reader.actions.Leaf.TheVariants as leaves
+use Rattle.drv_syntax.specs.declared.reader.actions.Leaf.{Leaf}
+use Rattle.drv_syntax.specs.declared.reader.stages.ListKind.TheVariants as lists
+use Rattle.drv_syntax.specs.declared.reader.stages.ListStage.TheVariants as stages
+use Rattle.drv_syntax.specs.declared.reader.stages.ListStage.{ListStage}
+use Rattle.drv_syntax.specs.declared.reader.stages.SayKind.TheVariants as sayings
+use Rattle.drv_syntax.specs.declared.reader.stages.StarOwner.TheVariants as owners
+use Rattle.drv_syntax.specs.declared.reader.actions.Taken.TheVariants as takes
+use Rattle.drv_syntax.specs.declared.reader.actions.Taken.{Taken}
 use Rattle.drv_syntax.specs.declared.token.Token.{Token}
 use Rattle.drv_syntax.proofs.WalkNodes.{items_flat}
 use Rattle.drv_syntax.proofs.WalkMeaning.{head_place, here, item_of, list_place, shown, with_item}

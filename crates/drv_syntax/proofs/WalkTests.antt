@@ -5,24 +5,24 @@ use Rattle.drv_syntax.specs.Outcome.{Here, Out, Place, Turn, after, closed, join
 use Rattle.drv_syntax.specs.Spelling.{span}
 use Rattle.drv_syntax.specs.Tree as tree
 use Rattle.drv_syntax.specs.Tree.{Asked, Brace, Choices, Item, Items, Pattern, Span, Tests, first_place, last_place, trimmed}
-use Rattle.drv_syntax.specs.Walk as w
-use Rattle.drv_syntax.specs.WalkSteps as s
-use Rattle.drv_syntax.specs.WalkSteps.{Walk, open_token}
+use Rattle.drv_syntax.specs.Reader.Turns as w
+use Rattle.drv_syntax.specs.Reader.Steps as s
+use Rattle.drv_syntax.specs.Reader.Steps.{Walk, open_token}
 use Rattle.drv_syntax.specs.declared.fault.SyntaxFault.TheVariants.{BadDirective, EmptyTest}
 use Rattle.drv_syntax.specs.declared.fault.SyntaxFault.{SyntaxFault}
-use Rattle.drv_syntax.specs.declared.stage.Behind.TheVariants as behinds
-use Rattle.drv_syntax.specs.declared.stage.Behind.{Behind}
-use Rattle.drv_syntax.specs.declared.stage.BraceKind.{BraceKind}
-use Rattle.drv_syntax.specs.declared.stage.Context.{Context}
-use Rattle.drv_syntax.specs.declared.stage.Form.TheVariants as forms
-use Rattle.drv_syntax.specs.declared.stage.Form.{Form}
-use Rattle.drv_syntax.specs.declared.stage.Frame.TheVariants as frames
-use Rattle.drv_syntax.specs.declared.stage.Frame.{Frame}
-use Rattle.drv_syntax.specs.declared.stage.HeadStage.TheVariants as places
-use Rattle.drv_syntax.specs.declared.stage.ListStage.TheVariants as stages
-use Rattle.drv_syntax.specs.declared.stage.Stage.TheVariants as staged
-use Rattle.drv_syntax.specs.declared.stage.Stage.{Stage}
-use Rattle.drv_syntax.specs.declared.stage.StarOwner.TheVariants as owners
+use Rattle.drv_syntax.specs.declared.reader.stages.Behind.TheVariants as behinds
+use Rattle.drv_syntax.specs.declared.reader.stages.Behind.{Behind}
+use Rattle.drv_syntax.specs.declared.reader.stages.BraceKind.{BraceKind}
+use Rattle.drv_syntax.specs.declared.reader.stages.Context.{Context}
+use Rattle.drv_syntax.specs.declared.reader.stages.Form.TheVariants as forms
+use Rattle.drv_syntax.specs.declared.reader.stages.Form.{Form}
+use Rattle.drv_syntax.specs.declared.reader.stages.Frame.TheVariants as frames
+use Rattle.drv_syntax.specs.declared.reader.stages.Frame.{Frame}
+use Rattle.drv_syntax.specs.declared.reader.stages.HeadStage.TheVariants as places
+use Rattle.drv_syntax.specs.declared.reader.stages.ListStage.TheVariants as stages
+use Rattle.drv_syntax.specs.declared.reader.stages.Stage.TheVariants as staged
+use Rattle.drv_syntax.specs.declared.reader.stages.Stage.{Stage}
+use Rattle.drv_syntax.specs.declared.reader.stages.StarOwner.TheVariants as owners
 use Rattle.drv_syntax.specs.declared.token.TestKind.TheVariants as asking
 use Rattle.drv_syntax.specs.declared.token.TokenKind.TheVariants as kinds
 use Rattle.drv_syntax.proofs.WalkNodes.{Parts, all, all_leaf, all_open, ended, leafed, both_none, patterns_join, tests_join}

@@ -1,6 +1,7 @@
+use Rattle.drv_words.specs.Bytes as ascii
 use Rattle.drv_syntax.specs.Bytes.{is_of}
 use Rattle.drv_syntax.specs.Tree.{Blank, Item, HasLanguage, Newline, Pipe, Plain, HasResult, HasSuffix, HasSwitch, Tests, no_test, pattern, test}
-use Rattle.std.specs.Prelude.{◌-◌, ◌==◌, Bool, false, true, if◌then◌else◌, [], ◌∷◌, ℕ}
+use Rattle.std.specs.Prelude.{◌-◌, ◌==◌, Bool, false, true, if◌then◌else◌, [], ◌∷◌, codes, ℕ}
 
 -- Where a list of items stands, and what that means for its bytes and directives (this project's profile).
 
@@ -52,18 +53,18 @@ in_x c tests = record { kind = InX; in_arguments = c.in_arguments; owner = owner
 -- the byte ends a list: in an X a semicolon or a brace, in arguments a bracket
 abbrev pub is_end : Kind → ℕ → Bool
 is_end Top b = false
-is_end InX b = is_of (59 ∷ 125 ∷ []) b
-is_end InArguments b = b == 41
+is_end InX b = is_of (codes ";}") b
+is_end InArguments b = b == ascii.closing_parenthesis
 
 -- the byte belongs to the text of %e and %n: up to a newline, and in an X up to its end
 abbrev pub is_said : Kind → ℕ → Bool
-is_said Top b = if b == 10 then false else true
-is_said InX b = if is_of (10 ∷ 59 ∷ 125 ∷ []) b then false else true
-is_said InArguments b = if b == 10 then false else true
+is_said Top b = if b == ascii.newline then false else true
+is_said InX b = if is_of (ascii.newline ∷ ascii.semicolon ∷ ascii.closing_brace ∷ []) b then false else true
+is_said InArguments b = if b == ascii.newline then false else true
 
 -- a newline is a blank in arguments, and | is plain
 abbrev pub newline_in : Bool → Item
 newline_in in_arguments = if in_arguments then Blank else Newline
 
 abbrev pub bar_in : Bool → Item
-bar_in in_arguments = if in_arguments then Plain 124 else Pipe
+bar_in in_arguments = if in_arguments then Plain ascii.bar else Pipe

@@ -1,12 +1,10 @@
 pub mod Bytes
 pub mod Contexts
+pub mod Fronts
 pub mod Labels
-pub mod Marks
 pub mod Outcome
 pub mod Parsed
+pub mod Reader
 pub mod Spelling
 pub mod Tokens
 pub mod Tree
-pub mod Walk
-pub mod WalkState
-pub mod WalkSteps

@@ -1,3 +1,4 @@
+use Rattle.drv_words.specs.Bytes as ascii
 use Rattle.drv_syntax.specs.Bytes.{BraceKind, Form, InPlace, NoForm, OfStar, SayKind, Whole, WithBraces, WithCall, WithMarkedBraces, WithName, WithOption, WithPattern, WithSaying, WithSuffix, braced, form_of, is_allowed, is_blank, is_function, is_function_front, is_mark, is_name, is_space, is_suffix, is_word, said}
 use Rattle.drv_syntax.specs.Contexts.{Context, Mixed, Nobody, Owner, Starred, bar_in, in_arguments, in_braces, in_x, is_end, is_said, newline_in, top}
 use Rattle.drv_syntax.specs.Tree.{AddOption, Asked, Blank, Choices, Choose, Emit, Escape, Function, Hide, Item, Items, HasLanguage, NamedText, Pattern, Plain, HasResult, Span, Star, HasSuffix, HasSwitch, TempName, Tests, alternative, choice, more, no_choice, no_test, none, pattern, test}
@@ -5,7 +6,7 @@ use Rattle.drv_syntax.specs.Spelling.{span}
 use Rattle.drv_syntax.specs.declared.fault.SyntaxFault.{SyntaxFault}
 use Rattle.drv_syntax.specs.declared.fault.SyntaxFault.TheVariants.{BadDirective, EmptyTest, MixedStar, StarOutside, TextTooLong, TooNested, Unclosed, UnknownFunction}
 use Rattle.drv_syntax.specs.declared.token.TempKind.{TempKind}
-use Rattle.std.specs.Prelude.{◌≡◌, ◌⊎◌, ◌+◌, ◌-◌, ◌==◌, Bool, false, true, if◌then◌else◌, List, [], ◌∷◌, ◌++◌, length, nat_le, Option, None, Some, Result, Err, Ok, ℕ}
+use Rattle.std.specs.Prelude.{◌≡◌, ◌⊎◌, ◌+◌, ◌-◌, ◌==◌, Bool, false, true, if◌then◌else◌, List, [], ◌∷◌, ◌++◌, length, nat_le, Option, None, Some, Result, Err, Ok, codes, ℕ}
 
 -- What a text gives, byte after byte: a tree, that it is cut short, or the first byte that no longer fits (this
 -- project's profile).
@@ -117,12 +118,12 @@ then_item here start end item = Goes (AtItem (placed here start end item))
 -- where an item begins: n is the place of the byte b
 abbrev pub turn_item : Here → ℕ → ℕ → Turn
 turn_item here n b =
-    if b == 92 then Goes (BehindBackslash here n)
-    else if b == 37 then Goes (BehindPercent here n)
+    if b == ascii.backslash then Goes (BehindBackslash here n)
+    else if b == ascii.percent then Goes (BehindPercent here n)
     else if is_end here.context.kind b then Closes here.done b
     else if is_blank b then then_item here n (n + 1) Blank
-    else if b == 10 then then_item here n (n + 1) (newline_in here.context.in_arguments)
-    else if b == 124 then then_item here n (n + 1) (bar_in here.context.in_arguments)
+    else if b == ascii.newline then then_item here n (n + 1) (newline_in here.context.in_arguments)
+    else if b == ascii.bar then then_item here n (n + 1) (bar_in here.context.in_arguments)
     else then_item here n (n + 1) (Plain b)
 
 abbrev pub turn_star : Here → ℕ → ℕ → Owner → Turn
@@ -154,7 +155,7 @@ turn_percent here at n b = if is_allowed here.context.in_arguments b then turn_f
 abbrev pub turn_suffix : Here → ℕ → TempKind → ℕ → ℕ → Turn
 turn_suffix here at kind n b =
     if is_suffix b then Goes (SuffixRun here at kind (b ∷ []))
-    else if b == 37 then Goes (SuffixPercent here at kind n)
+    else if b == ascii.percent then Goes (SuffixPercent here at kind n)
     else turn_item (placed here at n (TempName kind [])) n b
 
 abbrev pub turn_suffix_run : Here → ℕ → TempKind → List ℕ → ℕ → ℕ → Turn
@@ -163,48 +164,48 @@ turn_suffix_run here at kind suffix n b =
 
 abbrev pub turn_suffix_percent : Here → ℕ → TempKind → ℕ → ℕ → ℕ → Turn
 turn_suffix_percent here at kind percent n b =
-    if b == 79 then then_item here at (n + 1) (TempName kind (46 ∷ 111 ∷ [])) else turn_percent (placed here at percent (TempName kind [])) percent n b
+    if b == ascii.capital_o then then_item here at (n + 1) (TempName kind (codes ".o")) else turn_percent (placed here at percent (TempName kind [])) percent n b
 
 abbrev pub turn_option : Here → ℕ → List ℕ → ℕ → ℕ → Turn
-turn_option here at [] n b = if b == 92 then Goes (OptionEscape here at []) else if b == 125 then Refused (BadDirective at) else Goes (OptionText here at (b ∷ []))
+turn_option here at [] n b = if b == ascii.backslash then Goes (OptionEscape here at []) else if b == ascii.closing_brace then Refused (BadDirective at) else Goes (OptionText here at (b ∷ []))
 turn_option here at (x ∷ xs) n b =
-    if b == 92 then Goes (OptionEscape here at (x ∷ xs))
-    else if b == 125 then then_item here at (n + 1) (AddOption (x ∷ xs))
+    if b == ascii.backslash then Goes (OptionEscape here at (x ∷ xs))
+    else if b == ascii.closing_brace then then_item here at (n + 1) (AddOption (x ∷ xs))
     else Goes (OptionText here at (x ∷ xs ++ b ∷ []))
 
 abbrev pub turn_saying : Here → ℕ → SayKind → List ℕ → ℕ → ℕ → Turn
 turn_saying here at kind words n b =
-    if b == 92 then Goes (SayingEscape here at kind words n)
+    if b == ascii.backslash then Goes (SayingEscape here at kind words n)
     else if is_said here.context.kind b then Goes (SayingText here at kind (words ++ b ∷ []))
-    else if b == 10 then then_item here at (n + 1) (said kind words)
+    else if b == ascii.newline then then_item here at (n + 1) (said kind words)
     else turn_item (placed here at n (said kind words)) n b
 
 abbrev pub turn_name : Here → ℕ → List ℕ → ℕ → ℕ → Turn
 turn_name here at [] n b = if is_name b then Goes (NameText here at (b ∷ [])) else Refused (BadDirective at)
 turn_name here at (x ∷ xs) n b =
     if is_name b then (if nat_le (length (x ∷ xs ++ b ∷ [])) 255 then Goes (NameText here at (x ∷ xs ++ b ∷ [])) else Refused (BadDirective at))
-    else if b == 41 then then_item here at (n + 1) (NamedText (x ∷ xs))
+    else if b == ascii.closing_parenthesis then then_item here at (n + 1) (NamedText (x ∷ xs))
     else Refused (BadDirective at)
 
 abbrev pub turn_hide : Here → ℕ → ℕ → ℕ → Turn
 turn_hide here at n b =
-    if b == 92 then Goes (HideEscape here at [])
+    if b == ascii.backslash then Goes (HideEscape here at [])
     else if is_word b then Goes (HideWord here at (b ∷ []))
-    else if b == 42 then then_item here at (n + 1) (Hide (pattern [] true))
+    else if b == ascii.asterisk then then_item here at (n + 1) (Hide (pattern [] true))
     else Refused (EmptyTest at)
 
 abbrev pub turn_hide_word : Here → ℕ → List ℕ → ℕ → ℕ → Turn
 turn_hide_word here at word n b =
-    if b == 92 then Goes (HideEscape here at word)
+    if b == ascii.backslash then Goes (HideEscape here at word)
     else if is_word b then Goes (HideWord here at (word ++ b ∷ []))
-    else if b == 42 then then_item here at (n + 1) (Hide (pattern word true))
+    else if b == ascii.asterisk then then_item here at (n + 1) (Hide (pattern word true))
     else turn_item (placed here at n (Hide (pattern word false))) n b
 
 -- behind %: and so much of a name: what a ( does, and what a further byte of the name
 abbrev pub turn_function : ℕ → List ℕ → ℕ → Turn → Place → Turn
 turn_function at name b opened further =
     if is_function_front (name ++ b ∷ []) then Goes further
-    else if b == 40 then (if is_function name then opened else Refused (UnknownFunction at))
+    else if b == ascii.opening_parenthesis then (if is_function name then opened else Refused (UnknownFunction at))
     else Refused (UnknownFunction at)
 
 abbrev pub list_in : Context → Place
@@ -230,10 +231,10 @@ turn_and h None = Refused (BadDirective h.at)
 abbrev pub turn_behind : Head → Option (List (Span × Pattern)) → Option Tests → Bool → ℕ → ℕ → Turn
 turn_behind h patterns tests bare n b =
     if is_space b then Goes (BehindTest h patterns tests bare)
-    else if b == 125 then turn_brace h patterns n
-    else if b == 38 then turn_and h patterns
-    else if b == 58 then turn_colon h tests bare n
-    else if b == 124 then turn_bar h tests bare
+    else if b == ascii.closing_brace then turn_brace h patterns n
+    else if b == ascii.ampersand then turn_and h patterns
+    else if b == ascii.colon then turn_colon h tests bare n
+    else if b == ascii.bar then turn_bar h tests bare
     else Refused (BadDirective h.at)
 
 -- the patterns with one more, where braces can still hold patterns alone
@@ -260,27 +261,27 @@ behind_pattern h start end negated p = BehindTest h (emitted h start end negated
 
 abbrev pub turn_word : Head → ℕ → Bool → List ℕ → ℕ → ℕ → Turn
 turn_word h start negated word n b =
-    if b == 92 then Goes (TestWordEscape h start negated word)
+    if b == ascii.backslash then Goes (TestWordEscape h start negated word)
     else if is_word b then Goes (TestWord h start negated (word ++ b ∷ []))
-    else if b == 42 then Goes (behind_pattern h start (n + 1) negated (pattern word true))
+    else if b == ascii.asterisk then Goes (behind_pattern h start (n + 1) negated (pattern word true))
     else turn_behind h (emitted h start n negated (pattern word false)) (tested h start n negated (HasSwitch (pattern word false))) false n b
 
 abbrev pub marked : ℕ → List ℕ → Asked
-marked mark word = if mark == 46 then HasSuffix word else HasLanguage word
+marked mark word = if mark == ascii.period then HasSuffix word else HasLanguage word
 
 -- behind a . or , that may be the whole word of a pattern, without a star or with one
 abbrev pub turn_bare : Head → Option (List (Span × Pattern)) → Option (List (Span × Pattern)) → ℕ → ℕ → Turn
 turn_bare h None starred n b = Refused (EmptyTest h.at)
 turn_bare h (Some patterns) starred n b =
-    if b == 42 then Goes (BehindTest h starred None false)
-    else if b == 125 then turn_brace h (Some patterns) n
-    else if b == 38 then turn_and h (Some patterns)
+    if b == ascii.asterisk then Goes (BehindTest h starred None false)
+    else if b == ascii.closing_brace then turn_brace h (Some patterns) n
+    else if b == ascii.ampersand then turn_and h (Some patterns)
     else if is_space b then Goes (BehindTest h (Some patterns) None true)
     else Refused (EmptyTest h.at)
 
 abbrev pub turn_mark : Head → ℕ → Bool → ℕ → ℕ → ℕ → Turn
 turn_mark h start negated mark n b =
-    if b == 92 then Goes (MarkedEscape h start negated mark [])
+    if b == ascii.backslash then Goes (MarkedEscape h start negated mark [])
     else if is_word b then Goes (MarkedWord h start negated mark (b ∷ []))
     else turn_bare h (emitted h start n negated (pattern (mark ∷ []) false)) (emitted h start (n + 1) negated (pattern (mark ∷ []) true)) n b
 
@@ -290,36 +291,36 @@ turn_starred_mark h None = Refused (BadDirective h.at)
 
 abbrev pub turn_marked_word : Head → ℕ → Bool → ℕ → List ℕ → ℕ → ℕ → Turn
 turn_marked_word h start negated mark word n b =
-    if b == 92 then Goes (MarkedEscape h start negated mark word)
+    if b == ascii.backslash then Goes (MarkedEscape h start negated mark word)
     else if is_word b then Goes (MarkedWord h start negated mark (word ++ b ∷ []))
-    else if b == 42 then turn_starred_mark h (emitted h start (n + 1) negated (pattern (mark ∷ word) true))
+    else if b == ascii.asterisk then turn_starred_mark h (emitted h start (n + 1) negated (pattern (mark ∷ word) true))
     else turn_behind h (emitted h start n negated (pattern (mark ∷ word) false)) (tested h start n negated (marked mark word)) false n b
 
 -- where a test's pattern, mark or function is due
 abbrev pub turn_asked : Head → ℕ → Bool → ℕ → ℕ → Turn
 turn_asked h start negated n b =
-    if b == 92 then Goes (TestWordEscape h start negated [])
+    if b == ascii.backslash then Goes (TestWordEscape h start negated [])
     else if is_mark b then Goes (TestMark h start negated b)
     else if is_word b then Goes (TestWord h start negated (b ∷ []))
-    else if b == 42 then Goes (behind_pattern h start (n + 1) negated (pattern [] true))
-    else if b == 37 then nested (h.here.context.levels - 1) n (Goes (TestPercent h start negated n))
+    else if b == ascii.asterisk then Goes (behind_pattern h start (n + 1) negated (pattern [] true))
+    else if b == ascii.percent then nested (h.here.context.levels - 1) n (Goes (TestPercent h start negated n))
     else Refused (EmptyTest h.at)
 
 abbrev pub turn_due : Head → Place → ℕ → ℕ → Turn
-turn_due h same n b = if is_space b then Goes same else if b == 33 then Goes (TestNegated h n) else turn_asked h n false n b
+turn_due h same n b = if is_space b then Goes same else if b == ascii.exclamation_mark then Goes (TestNegated h n) else turn_asked h n false n b
 
 abbrev pub turn_pattern : Head → ℕ → ℕ → Turn
 turn_pattern h n b =
     if is_space b then Goes (PatternDue h)
-    else if b == 92 then Goes (TestWordEscape h n false [])
+    else if b == ascii.backslash then Goes (TestWordEscape h n false [])
     else if is_word b then Goes (TestWord h n false (b ∷ []))
-    else if b == 42 then Goes (behind_pattern h n (n + 1) false (pattern [] true))
+    else if b == ascii.asterisk then Goes (behind_pattern h n (n + 1) false (pattern [] true))
     else Refused (EmptyTest h.at)
 
 -- where an alternative begins, which may be a default
 abbrev pub turn_start : Head → Choices → ℕ → ℕ → Turn
 turn_start h no_choice n b = turn_due h (ChoiceStart h) n b
-turn_start h (choice s tests items choices) n b = if b == 58 then turn_colon h (Some no_test) false n else turn_due h (ChoiceStart h) n b
+turn_start h (choice s tests items choices) n b = if b == ascii.colon then turn_colon h (Some no_test) false n else turn_due h (ChoiceStart h) n b
 
 abbrev pub turn : Place → ℕ → ℕ → Turn
 turn (AtItem here) n b = turn_item here n b
@@ -328,7 +329,7 @@ turn (BehindPercent here at) n b = turn_percent here at n b
 turn (SuffixStart here at kind) n b = turn_suffix here at kind n b
 turn (SuffixRun here at kind suffix) n b = turn_suffix_run here at kind suffix n b
 turn (SuffixPercent here at kind percent) n b = turn_suffix_percent here at kind percent n b
-turn (OptionOpen here at) n b = if b == 123 then Goes (OptionText here at []) else Refused (BadDirective at)
+turn (OptionOpen here at) n b = if b == ascii.opening_brace then Goes (OptionText here at []) else Refused (BadDirective at)
 turn (OptionText here at option) n b = turn_option here at option n b
 turn (OptionEscape here at option) n b = Goes (OptionText here at (option ++ b ∷ []))
 turn (SayingText here at kind words) n b = turn_saying here at kind words n b
@@ -338,7 +339,7 @@ turn (HideStart here at) n b = turn_hide here at n b
 turn (HideWord here at word) n b = turn_hide_word here at word n b
 turn (HideEscape here at word) n b = Goes (HideWord here at (word ++ b ∷ []))
 turn (FunctionName here at name) n b = turn_function at name b (Opens (list_in (in_arguments here.context)) (WaitsCall here at name)) (FunctionName here at (name ++ b ∷ []))
-turn (BraceOpen here at kind) n b = if b == 123 then Goes (ChoiceStart (fresh here at kind)) else Refused (BadDirective at)
+turn (BraceOpen here at kind) n b = if b == ascii.opening_brace then Goes (ChoiceStart (fresh here at kind)) else Refused (BadDirective at)
 turn (ChoiceStart h) n b = turn_start h h.choices n b
 turn (TestDue h) n b = turn_due h (TestDue h) n b
 turn (TestNegated h start) n b = if is_space b then Goes (TestNegated h start) else turn_asked h start true n b
@@ -348,7 +349,7 @@ turn (TestWordEscape h start negated word) n b = Goes (TestWord h start negated 
 turn (TestMark h start negated mark) n b = turn_mark h start negated mark n b
 turn (MarkedWord h start negated mark word) n b = turn_marked_word h start negated mark word n b
 turn (MarkedEscape h start negated mark word) n b = Goes (MarkedWord h start negated mark (word ++ b ∷ []))
-turn (TestPercent h start negated at) n b = if b == 58 then Goes (TestFunction h start negated at []) else Refused (BadDirective at)
+turn (TestPercent h start negated at) n b = if b == ascii.colon then Goes (TestFunction h start negated at []) else Refused (BadDirective at)
 turn (TestFunction h start negated at name) n b =
     turn_function at name b (Opens (list_in (in_arguments (in_braces h.here.context))) (WaitsTest h start negated name)) (TestFunction h start negated at (name ++ b ∷ []))
 turn (BehindTest h patterns tests bare) n b = turn_behind h patterns tests bare n b
@@ -359,9 +360,9 @@ pub data Resumed : Type 0 where
   Not : SyntaxFault → Resumed
 
 abbrev pub resume_x : Head → ℕ → Tests → Items → ℕ → ℕ → Resumed
-resume_x h colon no_test items n b = if b == 125 then On (AtItem (chosen_item h (n + 1) (with_choice h colon items))) else Not (EmptyTest h.at)
+resume_x h colon no_test items n b = if b == ascii.closing_brace then On (AtItem (chosen_item h (n + 1) (with_choice h colon items))) else Not (EmptyTest h.at)
 resume_x h colon (test s negated asked tests) items n b =
-    On (if b == 125 then AtItem (chosen_item h (n + 1) (with_choice h colon items)) else ChoiceStart (next_head h colon items))
+    On (if b == ascii.closing_brace then AtItem (chosen_item h (n + 1) (with_choice h colon items)) else ChoiceStart (next_head h colon items))
 
 abbrev pub resume : Waiting → Items → ℕ → ℕ → Resumed
 resume (WaitsX h colon) items n b = resume_x h colon h.tests items n b
@@ -443,9 +444,9 @@ run waiting place n (b ∷ text) = after (turn place n b) waiting (λ w p. run w
 abbrev pub read : List ℕ → Out
 read text = run [] (list_in top) 0 text
 
--- a text whose last item, and in it the last part at each depth, is whole or cut short
-abbrev pub Front : List ℕ → Type 0
-Front text = ((items : Items) × (read text ≡ Got items)) ⊎ ((at : ℕ) × (read text ≡ Cut at))
+-- a text that is not refused: it gives a tree, or it is cut short
+abbrev pub Unrefused : List ℕ → Type 0
+Unrefused text = ((items : Items) × (read text ≡ Got items)) ⊎ ((at : ℕ) × (read text ≡ Cut at))
 
 -- a spec text has at most so many bytes
 abbrev pub text_limit : ℕ

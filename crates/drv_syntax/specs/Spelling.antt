@@ -1,8 +1,9 @@
+use Rattle.drv_words.specs.Bytes as ascii
 use Rattle.drv_syntax.specs.Bytes.{BraceKind, Form, InPlace, OfStar, SayKind, Whole, WithBraces, WithCall, WithMarkedBraces, WithName, WithOption, WithPattern, WithSaying, WithSuffix, braced, form_of, is_allowed, is_blank, is_function, is_mark, is_name, is_option, is_plain, is_space, is_suffix, is_word, said}
 use Rattle.drv_syntax.specs.Contexts.{Context, Kind, Starred, Top, bar_in, in_arguments, in_braces, in_x, is_end, is_said, newline_in, top}
 use Rattle.drv_syntax.specs.Tree.{AddOption, Asked, Blank, Brace, Choices, Choose, Emit, Escape, Function, Hide, Item, Items, HasLanguage, NamedText, Pattern, Plain, HasResult, Span, Star, HasSuffix, HasSwitch, TempName, Tests, alternative, more, no_choice, no_test, none, pattern, test}
 use Rattle.drv_syntax.specs.declared.token.TempKind.{TempKind}
-use Rattle.std.specs.Prelude.{◌≡◌, ◌≤◌, ◌+◌, ◌==◌, Bool, false, true, List, [], ◌∷◌, ◌++◌, length, ℕ}
+use Rattle.std.specs.Prelude.{◌≡◌, ◌≤◌, ◌+◌, ◌==◌, Bool, false, true, List, [], ◌∷◌, ◌++◌, length, codes, ℕ}
 
 -- The grammar of spec texts (GCC manual, "Spec Files"; what that leaves open is this project's profile). A family
 -- says of a text what stands at its front, and what is left behind it.
@@ -20,14 +21,14 @@ pub data IsRun (f : ℕ → Bool) : List ℕ → List ℕ → List ℕ → Type 
 -- the longest run of such bytes and of escapes, where a backslash makes the next byte plain
 pub data IsQuoted (f : ℕ → Bool) : List ℕ → List ℕ → List ℕ → Type 0 where
   quoted_end : IsQuoted f [] [] []
-  quoted_stop : {b : ℕ} {rest : List ℕ} → (b == 92) ≡ false → f b ≡ false → IsQuoted f (b ∷ rest) [] (b ∷ rest)
-  quoted_escape : {b : ℕ} {text run rest : List ℕ} → IsQuoted f text run rest → IsQuoted f (92 ∷ b ∷ text) (b ∷ run) rest
-  quoted_byte : {b : ℕ} {text run rest : List ℕ} → (b == 92) ≡ false → f b ≡ true → IsQuoted f text run rest → IsQuoted f (b ∷ text) (b ∷ run) rest
+  quoted_stop : {b : ℕ} {rest : List ℕ} → (b == ascii.backslash) ≡ false → f b ≡ false → IsQuoted f (b ∷ rest) [] (b ∷ rest)
+  quoted_escape : {b : ℕ} {text run rest : List ℕ} → IsQuoted f text run rest → IsQuoted f (ascii.backslash ∷ b ∷ text) (b ∷ run) rest
+  quoted_byte : {b : ℕ} {text run rest : List ℕ} → (b == ascii.backslash) ≡ false → f b ≡ true → IsQuoted f text run rest → IsQuoted f (b ∷ text) (b ∷ run) rest
 
 -- a pattern: a word, a word with a star, or a star alone
 pub data IsPattern : List ℕ → Pattern → List ℕ → Type 0 where
-  unstarred : {b : ℕ} {text word rest : List ℕ} → IsQuoted is_word text (b ∷ word) rest → Stops (λ c. c == 42) rest → IsPattern text (pattern (b ∷ word) false) rest
-  starred : {text word rest : List ℕ} → IsQuoted is_word text word (42 ∷ rest) → IsPattern text (pattern word true) rest
+  unstarred : {b : ℕ} {text word rest : List ℕ} → IsQuoted is_word text (b ∷ word) rest → Stops (λ c. c == ascii.asterisk) rest → IsPattern text (pattern (b ∷ word) false) rest
+  starred : {text word rest : List ℕ} → IsQuoted is_word text word (ascii.asterisk ∷ rest) → IsPattern text (pattern word true) rest
 
 -- white space, or none
 pub data AreSpaces : List ℕ → List ℕ → Type 0 where
@@ -37,15 +38,15 @@ pub data AreSpaces : List ℕ → List ℕ → Type 0 where
 -- a suffix: the longest run of letters and periods, or %O for .o, or none
 pub data IsSuffix : List ℕ → List ℕ → List ℕ → Type 0 where
   suffix_run : {b : ℕ} {text run rest : List ℕ} → IsRun is_suffix text (b ∷ run) rest → IsSuffix text (b ∷ run) rest
-  suffix_object : {rest : List ℕ} → IsSuffix (37 ∷ 79 ∷ rest) (46 ∷ 111 ∷ []) rest
+  suffix_object : {rest : List ℕ} → IsSuffix (ascii.percent ∷ ascii.capital_o ∷ rest) (codes ".o") rest
   suffix_none : IsSuffix [] [] []
-  suffix_other : {b : ℕ} {rest : List ℕ} → is_suffix b ≡ false → (b == 37) ≡ false → IsSuffix (b ∷ rest) [] (b ∷ rest)
-  suffix_directive : {b : ℕ} {rest : List ℕ} → (b == 79) ≡ false → IsSuffix (37 ∷ b ∷ rest) [] (37 ∷ b ∷ rest)
+  suffix_other : {b : ℕ} {rest : List ℕ} → is_suffix b ≡ false → (b == ascii.percent) ≡ false → IsSuffix (b ∷ rest) [] (b ∷ rest)
+  suffix_directive : {b : ℕ} {rest : List ℕ} → (b == ascii.capital_o) ≡ false → IsSuffix (ascii.percent ∷ b ∷ rest) [] (ascii.percent ∷ b ∷ rest)
 
 -- behind the text of %e and %n: its newline, or what else ends it
 pub data EndsSaying : List ℕ → List ℕ → Type 0 where
-  by_newline : {rest : List ℕ} → EndsSaying (10 ∷ rest) rest
-  by_other : {rest : List ℕ} → Stops (λ b. b == 10) rest → EndsSaying rest rest
+  by_newline : {rest : List ℕ} → EndsSaying (ascii.newline ∷ rest) rest
+  by_other : {rest : List ℕ} → Stops (λ b. b == ascii.newline) rest → EndsSaying rest rest
 
 -- where a list ends
 pub data EndsList : Kind → List ℕ → Type 0 where
@@ -54,8 +55,8 @@ pub data EndsList : Kind → List ℕ → Type 0 where
 
 -- a ! or nothing
 pub data IsSign : List ℕ → Bool → List ℕ → Type 0 where
-  plain_sign : {rest : List ℕ} → Stops (λ b. b == 33) rest → IsSign rest false rest
-  not_sign : {text rest : List ℕ} → AreSpaces text rest → IsSign (33 ∷ text) true rest
+  plain_sign : {rest : List ℕ} → Stops (λ b. b == ascii.exclamation_mark) rest → IsSign rest false rest
+  not_sign : {text rest : List ℕ} → AreSpaces text rest → IsSign (ascii.exclamation_mark ∷ text) true rest
 
 -- in a text of this size the rest begins at this place
 abbrev pub At : ℕ → ℕ → List ℕ → Type 0
@@ -66,9 +67,9 @@ span start end = record { start = start; end = end }
 
 -- patterns, up to the brace that closes them
 pub data ArePatterns (size : ℕ) : List ℕ → List (Span × Pattern) → List ℕ → Type 0 where
-  last_pattern : {n m : ℕ} {t u v rest : List ℕ} {p : Pattern} → AreSpaces t u → At size n u → IsPattern u p v → At size m v → AreSpaces v (125 ∷ rest)
+  last_pattern : {n m : ℕ} {t u v rest : List ℕ} {p : Pattern} → AreSpaces t u → At size n u → IsPattern u p v → At size m v → AreSpaces v (ascii.closing_brace ∷ rest)
       → ArePatterns size t ((span n m, p) ∷ []) rest
-  next_pattern : {n m : ℕ} {t u v w rest : List ℕ} {p : Pattern} {ps : List (Span × Pattern)} → AreSpaces t u → At size n u → IsPattern u p v → At size m v → AreSpaces v (38 ∷ w)
+  next_pattern : {n m : ℕ} {t u v w rest : List ℕ} {p : Pattern} {ps : List (Span × Pattern)} → AreSpaces t u → At size n u → IsPattern u p v → At size m v → AreSpaces v (ascii.ampersand ∷ w)
       → ArePatterns size w ps rest → ArePatterns size t ((span n m, p) ∷ ps) rest
 
 mutual
@@ -79,34 +80,34 @@ mutual
 
   pub data IsItem (size : ℕ) : Context → List ℕ → Item → List ℕ → Type 0 where
     plain : {c : Context} {b : ℕ} {rest : List ℕ} → is_plain b ≡ true → is_end c.kind b ≡ false → IsItem size c (b ∷ rest) (Plain b) rest
-    escape : {c : Context} {b : ℕ} {rest : List ℕ} → IsItem size c (92 ∷ b ∷ rest) (Escape b) rest
+    escape : {c : Context} {b : ℕ} {rest : List ℕ} → IsItem size c (ascii.backslash ∷ b ∷ rest) (Escape b) rest
     blank : {c : Context} {b : ℕ} {rest : List ℕ} → is_blank b ≡ true → IsItem size c (b ∷ rest) Blank rest
-    newline : {c : Context} {rest : List ℕ} → IsItem size c (10 ∷ rest) (newline_in c.in_arguments) rest
-    pipe : {c : Context} {rest : List ℕ} → IsItem size c (124 ∷ rest) (bar_in c.in_arguments) rest
+    newline : {c : Context} {rest : List ℕ} → IsItem size c (ascii.newline ∷ rest) (newline_in c.in_arguments) rest
+    pipe : {c : Context} {rest : List ℕ} → IsItem size c (ascii.bar ∷ rest) (bar_in c.in_arguments) rest
     directive : {c : Context} {b : ℕ} {text rest : List ℕ} {item : Item} → is_allowed c.in_arguments b ≡ true → IsDirective size c (form_of b) text item rest
-        → IsItem size c (37 ∷ b ∷ text) item rest
+        → IsItem size c (ascii.percent ∷ b ∷ text) item rest
 
   -- what stands behind the byte of a directive
   pub data IsDirective (size : ℕ) : Context → Form → List ℕ → Item → List ℕ → Type 0 where
     whole : {c : Context} {rest : List ℕ} {item : Item} → IsDirective size c (Whole item) rest item rest
     temp_name : {c : Context} {kind : TempKind} {text suffix rest : List ℕ} → IsSuffix text suffix rest → IsDirective size c (WithSuffix kind) text (TempName kind suffix) rest
-    add_option : {c : Context} {b : ℕ} {text option rest : List ℕ} → IsQuoted is_option text (b ∷ option) (125 ∷ rest)
-        → IsDirective size c WithOption (123 ∷ text) (AddOption (b ∷ option)) rest
+    add_option : {c : Context} {b : ℕ} {text option rest : List ℕ} → IsQuoted is_option text (b ∷ option) (ascii.closing_brace ∷ rest)
+        → IsDirective size c WithOption (ascii.opening_brace ∷ text) (AddOption (b ∷ option)) rest
     saying : {c : Context} {kind : SayKind} {text words mid rest : List ℕ} → IsQuoted (is_said c.kind) text words mid → EndsSaying mid rest
         → IsDirective size c (WithSaying kind) text (said kind words) rest
-    named_text : {c : Context} {b : ℕ} {text name rest : List ℕ} → IsRun is_name text (b ∷ name) (41 ∷ rest) → length (b ∷ name) ≤ 255
+    named_text : {c : Context} {b : ℕ} {text name rest : List ℕ} → IsRun is_name text (b ∷ name) (ascii.closing_parenthesis ∷ rest) → length (b ∷ name) ≤ 255
         → IsDirective size c WithName text (NamedText (b ∷ name)) rest
     hide : {c : Context} {text rest : List ℕ} {p : Pattern} → IsPattern text p rest → IsDirective size c WithPattern text (Hide p) rest
     star : {c : Context} {rest : List ℕ} → c.owner ≡ Starred → IsDirective size c OfStar rest Star rest
     function : {c : Context} {text name rest : List ℕ} {arguments : Items} → IsCall size c text name arguments rest → IsDirective size c WithCall text (Function name arguments) rest
     braces : {c : Context} {text rest : List ℕ} {brace : Brace} → IsBrace size c text brace rest → IsDirective size c WithBraces text (braced InPlace brace) rest
     marked_braces : {c : Context} {kind : BraceKind} {text rest : List ℕ} {brace : Brace} → IsBrace size c text brace rest
-        → IsDirective size c (WithMarkedBraces kind) (123 ∷ text) (braced kind brace) rest
+        → IsDirective size c (WithMarkedBraces kind) (ascii.opening_brace ∷ text) (braced kind brace) rest
 
   -- a function's name and its arguments
   pub data IsCall (size : ℕ) : Context → List ℕ → List ℕ → Items → List ℕ → Type 0 where
-    call : {c : Context} {text name rest : List ℕ} {arguments : Items} → (c.levels == 0) ≡ false → is_function name ≡ true → AreItems size (in_arguments c) text arguments (41 ∷ rest)
-        → IsCall size c (name ++ 40 ∷ text) name arguments rest
+    call : {c : Context} {text name rest : List ℕ} {arguments : Items} → (c.levels == 0) ≡ false → is_function name ≡ true → AreItems size (in_arguments c) text arguments (ascii.closing_parenthesis ∷ rest)
+        → IsCall size c (name ++ ascii.opening_parenthesis ∷ text) name arguments rest
 
   -- the inside of braces, and the brace that closes them
   pub data IsBrace (size : ℕ) : Context → List ℕ → Brace → List ℕ → Type 0 where
@@ -116,31 +117,31 @@ mutual
 
   -- alternatives
   pub data AreChoices (size : ℕ) : Context → List ℕ → Choices → List ℕ → Type 0 where
-    last_choice : {c : Context} (colon : ℕ) {text mid rest : List ℕ} {tests : Tests} {items : Items} → AreTests size c text tests (58 ∷ mid) → At size colon (58 ∷ mid)
-        → AreItems size (in_x c tests) mid items (125 ∷ rest) → AreChoices size c text (alternative colon tests items no_choice) rest
-    next_choice : {c : Context} (colon : ℕ) {text mid next rest : List ℕ} {tests : Tests} {items : Items} {choices : Choices} → AreTests size c text tests (58 ∷ mid)
-        → At size colon (58 ∷ mid) → AreItems size (in_x c tests) mid items (59 ∷ next) → AreLater size c next choices rest
+    last_choice : {c : Context} (colon : ℕ) {text mid rest : List ℕ} {tests : Tests} {items : Items} → AreTests size c text tests (ascii.colon ∷ mid) → At size colon (ascii.colon ∷ mid)
+        → AreItems size (in_x c tests) mid items (ascii.closing_brace ∷ rest) → AreChoices size c text (alternative colon tests items no_choice) rest
+    next_choice : {c : Context} (colon : ℕ) {text mid next rest : List ℕ} {tests : Tests} {items : Items} {choices : Choices} → AreTests size c text tests (ascii.colon ∷ mid)
+        → At size colon (ascii.colon ∷ mid) → AreItems size (in_x c tests) mid items (ascii.semicolon ∷ next) → AreLater size c next choices rest
         → AreChoices size c text (alternative colon tests items choices) rest
 
   -- alternatives behind the first, of which the last may be the default
   pub data AreLater (size : ℕ) : Context → List ℕ → Choices → List ℕ → Type 0 where
     with_tests : {c : Context} {text rest : List ℕ} {choices : Choices} → AreChoices size c text choices rest → AreLater size c text choices rest
-    default : {c : Context} (colon : ℕ) {text mid rest : List ℕ} {items : Items} → AreSpaces text (58 ∷ mid) → At size colon (58 ∷ mid)
-        → AreItems size (in_x c no_test) mid items (125 ∷ rest) → AreLater size c text (alternative colon no_test items no_choice) rest
+    default : {c : Context} (colon : ℕ) {text mid rest : List ℕ} {items : Items} → AreSpaces text (ascii.colon ∷ mid) → At size colon (ascii.colon ∷ mid)
+        → AreItems size (in_x c no_test) mid items (ascii.closing_brace ∷ rest) → AreLater size c text (alternative colon no_test items no_choice) rest
 
   -- tests, up to their colon
   pub data AreTests (size : ℕ) : Context → List ℕ → Tests → List ℕ → Type 0 where
     last_test : {c : Context} {n m : ℕ} {t u v w rest : List ℕ} {negated : Bool} {asked : Asked} → AreSpaces t u → At size n u → IsSign u negated v → IsAsked size c v asked w
-        → At size m w → AreSpaces w (58 ∷ rest) → AreTests size c t (test (span n m) negated asked no_test) (58 ∷ rest)
+        → At size m w → AreSpaces w (ascii.colon ∷ rest) → AreTests size c t (test (span n m) negated asked no_test) (ascii.colon ∷ rest)
     next_test : {c : Context} {n m : ℕ} {t u v w x rest : List ℕ} {negated : Bool} {asked : Asked} {tests : Tests} → AreSpaces t u → At size n u → IsSign u negated v
-        → IsAsked size c v asked w → At size m w → AreSpaces w (124 ∷ x) → AreTests size c x tests rest → AreTests size c t (test (span n m) negated asked tests) rest
+        → IsAsked size c v asked w → At size m w → AreSpaces w (ascii.bar ∷ x) → AreTests size c x tests rest → AreTests size c t (test (span n m) negated asked tests) rest
 
   -- what a test asks: of a switch, a suffix, a language or a function's result
   pub data IsAsked (size : ℕ) : Context → List ℕ → Asked → List ℕ → Type 0 where
     switch : {c : Context} {text rest : List ℕ} {p : Pattern} → Stops is_mark text → IsPattern text p rest → IsAsked size c text (HasSwitch p) rest
-    suffix : {c : Context} {b : ℕ} {text word rest : List ℕ} → IsQuoted is_word text (b ∷ word) rest → IsAsked size c (46 ∷ text) (HasSuffix (b ∷ word)) rest
-    language : {c : Context} {b : ℕ} {text word rest : List ℕ} → IsQuoted is_word text (b ∷ word) rest → IsAsked size c (44 ∷ text) (HasLanguage (b ∷ word)) rest
-    result : {c : Context} {text name rest : List ℕ} {arguments : Items} → IsCall size c text name arguments rest → IsAsked size c (37 ∷ 58 ∷ text) (HasResult name arguments) rest
+    suffix : {c : Context} {b : ℕ} {text word rest : List ℕ} → IsQuoted is_word text (b ∷ word) rest → IsAsked size c (ascii.period ∷ text) (HasSuffix (b ∷ word)) rest
+    language : {c : Context} {b : ℕ} {text word rest : List ℕ} → IsQuoted is_word text (b ∷ word) rest → IsAsked size c (ascii.comma ∷ text) (HasLanguage (b ∷ word)) rest
+    result : {c : Context} {text name rest : List ℕ} {arguments : Items} → IsCall size c text name arguments rest → IsAsked size c (ascii.percent ∷ ascii.colon ∷ text) (HasResult name arguments) rest
 
 -- a text has this tree
 abbrev pub Spells : List ℕ → Items → Type 0

@@ -12,25 +12,25 @@ pub enum SyntaxFault {
     #[error("out of memory")]
     Memory,
     /// No such directive or form, or not allowed where it stands.
-    #[error("bad directive at byte {0}")]
+    #[error("BadDirective")]
     BadDirective(usize),
     /// The text ends in this directive, or in the escape of this backslash.
-    #[error("unclosed directive at byte {0}")]
+    #[error("Unclosed")]
     Unclosed(usize),
     /// A `%*` that stands in no braces.
-    #[error("%* outside braces at byte {0}")]
+    #[error("StarOutside")]
     StarOutside(usize),
     /// A `%*` whose alternative has a test that is no starred pattern, or no test.
-    #[error("%* with a test that is not starred at byte {0}")]
+    #[error("MixedStar")]
     MixedStar(usize),
     /// More than 64 braces and arguments stand in one another.
-    #[error("nested too deep at byte {0}")]
+    #[error("TooNested")]
     TooNested(usize),
     /// A `%:` without the name of a function and a `(`.
-    #[error("unknown spec function at byte {0}")]
+    #[error("UnknownFunction")]
     UnknownFunction(usize),
     /// A test or pattern without a word and a star, or an alternative without tests that is the only one or not the last.
-    #[error("empty test at byte {0}")]
+    #[error("EmptyTest")]
     EmptyTest(usize),
     /// The text has more than 1,048,576 bytes.
     #[error("spec text too long")]

@@ -1,7 +1,7 @@
 //! What the parts of a text name.
 
-ghost use Rattle.drv_syntax.specs.Labels.{no_label};
-ghost use Rattle.std.specs.Prelude.{◌≡◌, ◌<◌, ◌++◌, ◌∷◌, [], get_or, length, Ok, take};
+ghost use Rattle.drv_syntax.specs.Labels.{no_label, word_label};
+ghost use Rattle.std.specs.Prelude.{◌≡◌, ◌<◌, ◌++◌, ◌∷◌, [], false, get_or, length, Ok, take};
 ghost use Rattle.drv_words.specs.Gives.{Gives};
 
 use crate::fault::SyntaxFault;
@@ -13,9 +13,9 @@ use std::marker::Model;
 #[derive(Clone, Copy)]
 pub struct Mark {
     /// Where it begins.
-    pub start: usize,
+    pub start: u32,
     /// Where it ends.
-    pub end: usize,
+    pub end: u32,
     /// A star stands behind it.
     pub starred: bool,
     /// A `!` stands before it.
@@ -33,7 +33,7 @@ pub struct Labels {
 
 impl Model for Labels {
     ghost use Rattle.drv_syntax.specs.Labels.{Label};
-    ghost use Rattle.drv_syntax.specs.Marks.{Within, marked_labels};
+    ghost use Rattle.drv_syntax.specs.Reader.Marks.{Within, marked_labels};
     ghost use Rattle.std.specs.Prelude.{List, length};
 
     ghost Value = { List Label };
@@ -44,36 +44,38 @@ impl Model for Labels {
 }
 
 impl Labels {
-    /// None, with room for so many.
-    pub fn with_capacity(alloc: Global, size: usize) -> Result<Labels, SyntaxFault>
+    /// None yet, with room for so many, and for a byte each.
+    pub fn with_capacity(alloc: Global, count: usize) -> Result<Labels, SyntaxFault>
         ensures { Gives SyntaxFault.Memory (λ made. made) result (Ok []) }
     {
         Ok(Labels {
-            words: Vec::with_capacity(alloc, size)?,
-            marks: Vec::with_capacity(alloc, size)?,
+            words: Vec::with_capacity(alloc, count)?,
+            marks: Vec::with_capacity(alloc, count)?,
         })
     }
 
-    #[tactic(auto, using(crate::proofs::MarkedWords::within_more, crate::proofs::MarkedWords::within_push, crate::proofs::MarkedWords::labels_pushed))]
-    /// One more, whose word is these bytes and those behind them.
+    /// One more, which names this word.
+    #[tactic(auto, using(crate::proofs::MarkedWords::within_more, crate::proofs::MarkedWords::within_push, crate::proofs::MarkedWords::labels_added))]
     pub fn push(
         &mut self,
-        front: &[u8],
         word: &[u8],
         starred: bool,
         negated: bool,
         asks: TestKind,
     ) -> Result<(), SyntaxFault>
         ensures { Gives SyntaxFault.Memory (λ _. self.new) result (Ok (self.old
-            ++ record { word = front.now ++ word.now; starred = starred; negated = negated; asks = asks } ∷ [])) }
+            ++ record { word = word.now; starred = starred; negated = negated; asks = asks } ∷ [])) }
     {
         let start = self.words.len();
-        self.words.extend_from_slice(front)?;
         self.words.extend_from_slice(word)?;
         let end = self.words.len();
+        if end > u32::MAX as usize {
+            // No text comes here: it has at most 1,048,576 bytes, and each adds at most nine.
+            return Err(SyntaxFault::Memory);
+        }
         self.marks.push(Mark {
-            start,
-            end,
+            start: start as u32,
+            end: end as u32,
             starred,
             negated,
             asks,
@@ -81,8 +83,67 @@ impl Labels {
         Ok(())
     }
 
-    #[tactic(auto, using(crate::proofs::MarkedWords::within_take, crate::proofs::MarkedWords::labels_take))]
+    /// One more, which names this byte and this word behind it.
+    #[tactic(auto, using(crate::proofs::MarkedWords::within_more, crate::proofs::MarkedWords::within_push, crate::proofs::MarkedWords::labels_marked))]
+    pub fn push_marked(&mut self, mark: u8, word: &[u8], starred: bool) -> Result<(), SyntaxFault>
+        ensures { Gives SyntaxFault.Memory (λ _. self.new) result (Ok (self.old
+            ++ record { word = mark ∷ word.now; starred = starred; negated = false; asks = TestKind.Switch } ∷ [])) }
+    {
+        let start = self.words.len();
+        self.words.push(mark)?;
+        self.words.extend_from_slice(word)?;
+        let end = self.words.len();
+        if end > u32::MAX as usize {
+            return Err(SyntaxFault::Memory);
+        }
+        self.marks.push(Mark {
+            start: start as u32,
+            end: end as u32,
+            starred,
+            negated: false,
+            asks: TestKind::Switch,
+        })?;
+        Ok(())
+    }
+
+    /// One more, which names this byte.
+    #[tactic(auto, using(crate::proofs::MarkedWords::within_more, crate::proofs::MarkedWords::within_push, crate::proofs::MarkedWords::labels_added))]
+    pub fn push_byte(&mut self, b: u8) -> Result<(), SyntaxFault>
+        ensures { Gives SyntaxFault.Memory (λ _. self.new) result (Ok (self.old ++ word_label (b ∷ []) ∷ [])) }
+    {
+        let start = self.words.len();
+        self.words.push(b)?;
+        let end = self.words.len();
+        if end > u32::MAX as usize {
+            return Err(SyntaxFault::Memory);
+        }
+        self.marks.push(Mark {
+            start: start as u32,
+            end: end as u32,
+            starred: false,
+            negated: false,
+            asks: TestKind::Switch,
+        })?;
+        Ok(())
+    }
+
+    /// One more, which names nothing.
+    #[tactic(auto, using(crate::proofs::MarkedWords::within_push, crate::proofs::MarkedWords::labels_none))]
+    pub fn push_none(&mut self) -> Result<(), SyntaxFault>
+        ensures { Gives SyntaxFault.Memory (λ _. self.new) result (Ok (self.old ++ no_label ∷ [])) }
+    {
+        self.marks.push(Mark {
+            start: 0,
+            end: 0,
+            starred: false,
+            negated: false,
+            asks: TestKind::Switch,
+        })?;
+        Ok(())
+    }
+
     /// Only the first ones, so many.
+    #[tactic(auto, using(crate::proofs::MarkedWords::within_take, crate::proofs::MarkedWords::labels_take))]
     pub fn truncate(&mut self, count: usize)
         ensures { self.new ≡ take count self.old }
     {
@@ -102,7 +163,7 @@ impl Labels {
         ensures { result.now ≡ (get_or self.now place no_label).word }
     {
         let mark = self.marks[place];
-        &self.words[mark.start..mark.end]
+        &self.words[mark.start as usize..mark.end as usize]
     }
 
     /// Whether a star stands behind its word.

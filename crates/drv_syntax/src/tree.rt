@@ -9,7 +9,7 @@ ghost use Rattle.std.specs.Prelude.{◌≡◌, ◌<◌, IfOk, length};
 
 use crate::fault::SyntaxFault;
 use crate::labels::Labels;
-use crate::reading::read_parts;
+use crate::reader::read_parts;
 use crate::token::{TestKind, Token};
 use std::alloc::Global;
 use std::marker::Model;

@@ -1,0 +1,5 @@
+use Rattle.drv_syntax.proofs.FrontsRead.{front_is_read}
+use Rattle.drv_syntax.proofs.laws.front_is_unrefused.Goals as goal
+
+pub returns : goal.returns
+returns c = front_is_read

@@ -1,0 +1,5 @@
+-- How the code goes over a text, byte by byte. No public contract rests on these.
+pub mod Marks
+pub mod States
+pub mod Steps
+pub mod Turns

@@ -1,0 +1,385 @@
+use Rattle.drv_words.specs.Bytes as ascii
+use Rattle.drv_syntax.specs.Bytes.{is_space}
+use Rattle.drv_syntax.specs.Labels.{Label, no_label, word_label}
+use Rattle.drv_syntax.specs.Reader.Turns.{behind_pattern, behind_test, called_label, chooses, choice_action, emits, head_action, leaf_kind, leaf_label, list_turn, taken_word}
+use Rattle.drv_syntax.specs.declared.fault.SyntaxFault.TheVariants.{BadDirective, EmptyTest, Unclosed}
+use Rattle.drv_syntax.specs.declared.fault.SyntaxFault.{SyntaxFault}
+use Rattle.drv_syntax.specs.declared.reader.stages.Behind.TheVariants as behinds
+use Rattle.drv_syntax.specs.declared.reader.stages.Behind.{Behind}
+use Rattle.drv_syntax.specs.declared.reader.stages.BraceKind.TheVariants as braces
+use Rattle.drv_syntax.specs.declared.reader.stages.BraceKind.{BraceKind}
+use Rattle.drv_syntax.specs.declared.reader.actions.ChoiceAction.TheVariants as choices
+use Rattle.drv_syntax.specs.declared.reader.actions.ChoiceAction.{ChoiceAction}
+use Rattle.drv_syntax.specs.declared.reader.stages.Context.{Context}
+use Rattle.drv_syntax.specs.declared.reader.stages.Form.TheVariants as forms
+use Rattle.drv_syntax.specs.declared.reader.stages.Form.{Form}
+use Rattle.drv_syntax.specs.declared.reader.stages.Frame.TheVariants as frames
+use Rattle.drv_syntax.specs.declared.reader.stages.Frame.{Frame}
+use Rattle.drv_syntax.specs.declared.reader.stages.Head.{Head}
+use Rattle.drv_syntax.specs.declared.reader.actions.HeadAction.TheVariants as heads
+use Rattle.drv_syntax.specs.declared.reader.actions.HeadAction.{HeadAction}
+use Rattle.drv_syntax.specs.declared.reader.stages.HeadStage.TheVariants as places
+use Rattle.drv_syntax.specs.declared.reader.actions.Leaf.TheVariants as leaves
+use Rattle.drv_syntax.specs.declared.reader.actions.Leaf.{Leaf}
+use Rattle.drv_syntax.specs.declared.reader.actions.ListAction.TheVariants as acts
+use Rattle.drv_syntax.specs.declared.reader.actions.ListAction.{ListAction}
+use Rattle.drv_syntax.specs.declared.reader.stages.ListKind.TheVariants as lists
+use Rattle.drv_syntax.specs.declared.reader.stages.ListStage.TheVariants as stages
+use Rattle.drv_syntax.specs.declared.reader.stages.ListStage.{ListStage}
+use Rattle.drv_syntax.specs.declared.reader.actions.ListTurn.{ListTurn}
+use Rattle.drv_syntax.specs.declared.reader.stages.Open.{Open}
+use Rattle.drv_syntax.specs.declared.reader.actions.Part.{Part}
+use Rattle.drv_syntax.specs.declared.reader.stages.Stage.TheVariants as at
+use Rattle.drv_syntax.specs.declared.reader.stages.Stage.{Stage}
+use Rattle.drv_syntax.specs.declared.reader.stages.StarOwner.TheVariants as owners
+use Rattle.drv_syntax.specs.declared.reader.stages.StarOwner.{StarOwner}
+use Rattle.drv_syntax.specs.declared.reader.actions.Taken.TheVariants as takes
+use Rattle.drv_syntax.specs.declared.reader.actions.Taken.{Taken}
+use Rattle.drv_syntax.specs.declared.token.Token.{Token}
+use Rattle.drv_syntax.specs.declared.token.TokenKind.TheVariants as kinds
+use Rattle.drv_syntax.specs.declared.token.TokenKind.{TokenKind}
+use Rattle.std.specs.Prelude.{◌+◌, ◌-◌, ◌==◌, Bool, false, true, if◌then◌else◌, ◌&&◌, List, [], ◌∷◌, ◌++◌, length, take, slice_set, Option, None, Some, Result, Err, Ok, ℕ}
+
+-- The state of the code that reads a text, and what each byte makes of it (this project's profile). For the clauses of
+-- the code alone.
+
+pub record Walk : Type 0 where
+  pub stage : Stage
+  pub context : Context  -- of the innermost list
+  pub waiting : List Frame  -- the directives that wait for the end of a list in them, innermost first
+  pub tokens : List Token  -- those still open among them, with places to be filled in
+  pub labels : List Label  -- theirs
+  pub word : List ℕ  -- what has been read of a word
+  pub kept : ℕ  -- where the innermost list ends without its trailing white space
+  pub trailing : ℕ  -- how many bytes of white space it ends in
+
+abbrev pub open_token : TokenKind → ℕ → Token
+open_token kind start = record { kind = kind; start = start; end = start; next = 0 }
+
+-- where the next token goes
+abbrev pub next_open : Walk → ℕ → Open
+next_open w start = record { token = length w.tokens; start = start }
+
+abbrev pub with_token : TokenKind → ℕ → Walk → Walk
+with_token kind start w = record w { tokens = w.tokens ++ open_token kind start ∷ [] }
+
+abbrev pub with_label : Label → Walk → Walk
+with_label label w = record w { labels = w.labels ++ label ∷ [] }
+
+-- a token without tokens inside it
+abbrev pub with_leaf : TokenKind → ℕ → ℕ → Walk → Walk
+with_leaf kind start end w = record w { tokens = w.tokens ++ record { kind = kind; start = start; end = end; next = length w.tokens + 1 } ∷ [] }
+
+abbrev pub close_token : TokenKind → Open → ℕ → Walk → Walk
+close_token kind part end w = record w { tokens = slice_set w.tokens part.token (record { kind = kind; start = part.start; end = end; next = length w.tokens }) }
+
+abbrev pub is_white : Leaf → Bool
+is_white leaves.Blank = true
+is_white leaves.Newline = true
+is_white _ = false
+
+-- an item without parts inside it
+abbrev pub with_part : Part → Walk → Walk
+with_part p w =
+    record {
+      stage = at.List stages.Start;
+      context = w.context;
+      waiting = w.waiting;
+      tokens = w.tokens ++ record { kind = leaf_kind p.leaf; start = p.start; end = p.end; next = length w.tokens + 1 } ∷ [];
+      labels = w.labels ++ leaf_label p.leaf (taken_word p.taken w.word) ∷ [];
+      word = [];
+      kept = if is_white p.leaf then w.kept else p.end;
+      trailing = if is_white p.leaf then w.trailing + 1 else 0;
+    }
+
+abbrev pub at_stage : Stage → Walk → Walk
+at_stage stage w = record w { stage = stage }
+
+abbrev pub with_word : List ℕ → Walk → Walk
+with_word word w = record w { word = word }
+
+-- behind an item that ends at this place, in a list with this context
+abbrev pub behind_item : Context → ℕ → Walk → Walk
+behind_item c end w = record { stage = at.List stages.Start; context = c; waiting = w.waiting; tokens = w.tokens; labels = w.labels; word = []; kept = end; trailing = 0 }
+
+abbrev pub deeper_context : Context → Context
+deeper_context c = record { kind = c.kind; in_arguments = c.in_arguments; owner = c.owner; levels = c.levels - 1 }
+
+abbrev pub arguments_context : Context → Context
+arguments_context c = record { kind = lists.InArguments; in_arguments = true; owner = c.owner; levels = c.levels - 1 }
+
+abbrev pub x_context : Context → StarOwner → Context
+x_context c owner = record { kind = lists.InX; in_arguments = c.in_arguments; owner = owner; levels = c.levels - 1 }
+
+abbrev pub brace_token : BraceKind → Bool → TokenKind
+brace_token braces.InPlace true = kinds.Emit
+brace_token braces.InPlace false = kinds.Choose
+brace_token braces.IntoFailureFile emitted = kinds.FailureFile
+brace_token braces.IntoArgumentsFile emitted = kinds.ArgumentsFile
+
+-- a list opens, in which a directive waits
+abbrev pub enter : Frame → Context → ℕ → Walk → Walk
+enter frame c kept w =
+    record { stage = at.List stages.Start; context = c; waiting = frame ∷ w.waiting; tokens = w.tokens; labels = w.labels; word = []; kept = kept; trailing = 0 }
+
+abbrev pub open_braces : ℕ → BraceKind → Walk → Walk
+open_braces start kind w =
+    with_label no_label (with_token (brace_token kind false) start (record w { stage = at.Choice (record { kind = kind; part = next_open w start }) false; word = [] }))
+
+abbrev pub open_call : ℕ → Walk → Walk
+open_call start w =
+    with_label (word_label w.word) (with_token kinds.Function start (enter (frames.Call w.context (next_open w start)) (arguments_context w.context) 0 w))
+
+-- the alternative of the tests so far, which begins here if there are none
+abbrev pub alternative_of : Form → ℕ → Walk → Open
+alternative_of forms.Fresh start w = next_open w start
+alternative_of forms.Patterns start w = next_open w start
+alternative_of forms.Later start w = next_open w start
+alternative_of (forms.Tests part starred) start w = part
+
+abbrev pub open_alternative : ℕ → Walk → Walk
+open_alternative start w = with_label no_label (with_token kinds.Alternative start w)
+
+abbrev pub with_alternative : Form → ℕ → Walk → Walk
+with_alternative forms.Fresh start w = open_alternative start w
+with_alternative forms.Patterns start w = open_alternative start w
+with_alternative forms.Later start w = open_alternative start w
+with_alternative (forms.Tests part starred) start w = w
+
+abbrev pub stars : Form → Bool
+stars forms.Fresh = true
+stars forms.Patterns = true
+stars forms.Later = true
+stars (forms.Tests part starred) = starred
+
+abbrev pub enter_test : Head → Open → Bool → ℕ → Bool → Walk → Walk
+enter_test head part chosen start negated w =
+    with_label (called_label negated w.word)
+    (with_token kinds.Test start (enter (frames.Test w.context head part (next_open w start) chosen) (arguments_context (deeper_context w.context)) 0 w))
+
+abbrev pub open_test : Head → Form → ℕ → Bool → Walk → Walk
+open_test head form start negated w = enter_test head (alternative_of form start w) (chooses form) start negated (with_alternative form start w)
+
+-- what stands behind a test
+abbrev pub first_of : Behind → ℕ
+first_of (behinds.Switch start end negated starred) = start
+first_of (behinds.Marked start end negated mark) = start
+first_of (behinds.StarredMark start end negated mark) = start
+first_of (behinds.Bare start end negated mark) = start
+
+abbrev pub last_of : Behind → ℕ
+last_of (behinds.Switch start end negated starred) = end
+last_of (behinds.Marked start end negated mark) = end
+last_of (behinds.StarredMark start end negated mark) = end
+last_of (behinds.Bare start end negated mark) = end
+
+abbrev pub negates : Behind → Bool
+negates (behinds.Switch start end negated starred) = negated
+negates (behinds.Marked start end negated mark) = negated
+negates (behinds.StarredMark start end negated mark) = negated
+negates (behinds.Bare start end negated mark) = negated
+
+-- it can be a test
+abbrev pub tests : Behind → Bool
+tests (behinds.Switch start end negated starred) = true
+tests (behinds.Marked start end negated mark) = true
+tests (behinds.StarredMark start end negated mark) = false
+tests (behinds.Bare start end negated mark) = false
+
+-- it is a starred pattern without !
+abbrev pub starred_of : Behind → Bool
+starred_of (behinds.Switch start end negated starred) = if negated then false else starred
+starred_of (behinds.Marked start end negated mark) = false
+starred_of (behinds.StarredMark start end negated mark) = false
+starred_of (behinds.Bare start end negated mark) = false
+
+abbrev pub untested : ℕ → Behind → SyntaxFault
+untested at (behinds.Switch start end negated starred) = BadDirective at
+untested at (behinds.Marked start end negated mark) = BadDirective at
+untested at (behinds.StarredMark start end negated mark) = BadDirective at
+untested at (behinds.Bare start end negated mark) = EmptyTest at
+
+abbrev pub with_pattern : Behind → Walk → Walk
+with_pattern behind w = with_label (behind_pattern behind w.word) (with_leaf kinds.Pattern (first_of behind) (last_of behind) w)
+
+abbrev pub with_test : Form → Behind → Walk → Walk
+with_test form behind w =
+    with_label (behind_test behind w.word) (with_leaf kinds.Test (first_of behind) (last_of behind) (with_alternative form (first_of behind) w))
+
+-- at the braces' end
+abbrev pub close_braces : Head → Bool → ℕ → Context → Walk → Walk
+close_braces head emitted end c w = behind_item c end (close_token (brace_token head.kind emitted) head.part end w)
+
+abbrev pub ask : Head → Open → Bool → Bool → ℕ → Walk → Walk
+ask head part tested starred colon w =
+    enter (frames.X w.context head colon part tested) (x_context w.context (if starred then owners.Starred else owners.Mixed)) (colon + 1) w
+
+abbrev pub act_ends : Head → Form → Behind → ℕ → Walk → Result Walk SyntaxFault
+act_ends head form behind n w =
+    if emits form (negates behind) then Ok (close_braces head true (n + 1) w.context (with_pattern behind w)) else Err (BadDirective head.part.start)
+
+abbrev pub act_joins : Head → Form → Behind → Walk → Result Walk SyntaxFault
+act_joins head form behind w =
+    if emits form (negates behind) then Ok (at_stage (at.Braces head forms.Patterns places.PatternDue) (with_pattern behind w)) else Err (BadDirective head.part.start)
+
+abbrev pub act_asks : Head → Form → Behind → ℕ → Walk → Result Walk SyntaxFault
+act_asks head form behind n w =
+    if tests behind && chooses form
+    then Ok (ask head (alternative_of form (first_of behind) w) true (stars form && starred_of behind) n (with_test form behind w))
+    else Err (untested head.part.start behind)
+
+abbrev pub act_bars : Head → Form → Behind → Walk → Result Walk SyntaxFault
+act_bars head form behind w =
+    if tests behind && chooses form
+    then Ok (at_stage (at.Braces head (forms.Tests (alternative_of form (first_of behind) w) (stars form && starred_of behind)) places.TestDue) (with_test form behind w))
+    else Err (untested head.part.start behind)
+
+-- in braces: n is the place of the byte b
+abbrev pub act_head : Head → Form → HeadAction → ℕ → ℕ → Walk → Result Walk SyntaxFault
+act_head head form (heads.Keeps stage) n b w = Ok (at_stage (at.Braces head form stage) w)
+act_head head form (heads.Clears stage) n b w = Ok (at_stage (at.Braces head form stage) (with_word [] w))
+act_head head form (heads.Begins stage) n b w = Ok (at_stage (at.Braces head form stage) (with_word (b ∷ []) w))
+act_head head form (heads.Adds stage) n b w = Ok (at_stage (at.Braces head form stage) (with_word (w.word ++ b ∷ []) w))
+act_head head form (heads.OpensTest start negated) n b w = Ok (open_test head form start negated w)
+act_head head form (heads.Ends behind) n b w = act_ends head form behind n w
+act_head head form (heads.Joins behind) n b w = act_joins head form behind w
+act_head head form (heads.Asks behind) n b w = act_asks head form behind n w
+act_head head form (heads.Bars behind) n b w = act_bars head form behind w
+act_head head form (heads.Refused fault) n b w = Err fault
+
+-- the innermost list ends with the byte b at the place n
+abbrev pub trim : Walk → Walk
+trim w = record w { tokens = take (length w.tokens - w.trailing) w.tokens; labels = take (length w.labels - w.trailing) w.labels }
+
+abbrev pub close_x : Context → Head → Bool → ℕ → ℕ → Walk → Result Walk SyntaxFault
+close_x c head tested n b w =
+    if b == ascii.closing_brace then Ok (close_braces head false (n + 1) c w)
+    else if tested then Ok (at_stage (at.Choice head true) (behind_item c 0 w))
+    else Err (EmptyTest head.part.start)
+
+abbrev pub with_waiting : List Frame → Walk → Walk
+with_waiting waiting w = record w { waiting = waiting }
+
+abbrev pub close_frame : Frame → ℕ → ℕ → Walk → Result Walk SyntaxFault
+close_frame (frames.X c head colon part tested) n b w = close_x c head tested n b (close_token kinds.Alternative part w.kept (trim w))
+close_frame (frames.Call c part) n b w = Ok (behind_item c (n + 1) (close_token kinds.Function part (n + 1) w))
+close_frame (frames.Test c head alternative part chosen) n b w =
+    Ok (at_stage (at.Result head alternative chosen) (behind_item c 0 (close_token kinds.Test part (n + 1) w)))
+
+abbrev pub close : List Frame → ℕ → ℕ → Walk → Result Walk SyntaxFault
+close [] n b w = Err (Unclosed n)
+close (f ∷ waiting) n b w = close_frame f n b (with_waiting waiting w)
+
+abbrev pub form_at : Bool → Form
+form_at false = forms.Fresh
+form_at true = forms.Later
+
+abbrev pub act_choice : Head → Bool → ChoiceAction → ℕ → ℕ → Walk → Result Walk SyntaxFault
+act_choice head later choices.Stays n b w = Ok w
+act_choice head later choices.Defaults n b w = Ok (ask head (next_open w n) false false n (open_alternative n w))
+act_choice head later (choices.Begins action) n b w = act_head head (form_at later) action n b w
+
+abbrev pub act_list : ListAction → ℕ → ℕ → Walk → Result Walk SyntaxFault
+act_list (acts.Keeps stage) n b w = Ok (at_stage (at.List stage) w)
+act_list (acts.Clears stage) n b w = Ok (at_stage (at.List stage) (with_word [] w))
+act_list (acts.Begins stage) n b w = Ok (at_stage (at.List stage) (with_word (b ∷ []) w))
+act_list (acts.Adds stage) n b w = Ok (at_stage (at.List stage) (with_word (w.word ++ b ∷ []) w))
+act_list (acts.Item p) n b w = Ok (with_part p w)
+act_list acts.Closes n b w = close w.waiting n b w
+act_list (acts.OpensBraces start kind) n b w = Ok (open_braces start kind w)
+act_list (acts.OpensCall start) n b w = Ok (open_call start w)
+act_list (acts.Refused fault) n b w = Err fault
+
+abbrev pub with_first : Option Part → Walk → Walk
+with_first None w = w
+with_first (Some p) w = with_part p w
+
+abbrev pub act_turn : ListTurn → ℕ → ℕ → Walk → Result Walk SyntaxFault
+act_turn t n b w = act_list t.then n b (with_first t.first w)
+
+-- behind a test of a function's result
+abbrev pub act_result : Head → Open → Bool → ℕ → ℕ → Walk → Result Walk SyntaxFault
+act_result head part chosen n b w =
+    if is_space b then Ok w
+    else if b == ascii.closing_brace then Err (BadDirective head.part.start)
+    else if b == ascii.ampersand then Err (BadDirective head.part.start)
+    else if b == ascii.colon then (if chosen then Ok (ask head part true false n w) else Err (BadDirective head.part.start))
+    else if b == ascii.bar then (if chosen then Ok (at_stage (at.Braces head (forms.Tests part false) places.TestDue) w) else Err (BadDirective head.part.start))
+    else Err (BadDirective head.part.start)
+
+-- what the byte b at the place n does
+abbrev pub step_at : Stage → ℕ → ℕ → Walk → Result Walk SyntaxFault
+step_at (at.List stage) n b w = act_turn (list_turn stage w.context w.word n b) n b w
+step_at (at.Choice head later) n b w = act_choice head later (choice_action later w.context.levels head.part.start n b) n b w
+step_at (at.Braces head form stage) n b w = act_head head form (head_action stage w.context.levels head.part.start form w.word n b) n b w
+step_at (at.Result head part chosen) n b w = act_result head part chosen n b w
+
+abbrev pub step : Walk → ℕ → ℕ → Result Walk SyntaxFault
+step w n b = step_at w.stage n b w
+
+abbrev pub place_of : Frame → ℕ
+place_of (frames.X c head colon part tested) = head.part.start
+place_of (frames.Call c part) = part.start
+place_of (frames.Test c head alternative part chosen) = head.part.start
+
+abbrev pub outermost : Frame → List Frame → ℕ
+outermost f [] = place_of f
+outermost f (g ∷ fs) = outermost g fs
+
+abbrev pub end_part : Leaf → Taken → ℕ → ℕ → Walk → Result Walk SyntaxFault
+end_part leaf taken start end w = Ok (with_part (record { leaf = leaf; taken = taken; start = start; end = end }) w)
+
+-- where the text ends, of this size, and no directive waits
+abbrev pub finish_list : ListStage → ℕ → Walk → Result Walk SyntaxFault
+finish_list stages.Start n w = Ok w
+finish_list (stages.Backslash back) n w = Err (Unclosed back)
+finish_list (stages.Percent start) n w = Err (Unclosed start)
+finish_list (stages.SuffixStart start kind) n w = end_part (leaves.TempName kind) takes.Nothing start n w
+finish_list (stages.SuffixRun start kind) n w = end_part (leaves.TempName kind) takes.Word start n w
+finish_list (stages.SuffixPercent start kind percent) n w = Err (Unclosed percent)
+finish_list (stages.OptionOpen start) n w = Err (Unclosed start)
+finish_list (stages.OptionText start) n w = Err (Unclosed start)
+finish_list (stages.OptionEscape start) n w = Err (Unclosed start)
+finish_list (stages.SayingText start kind) n w = end_part (leaves.Said kind) takes.Word start n w
+finish_list (stages.SayingEscape start kind back) n w = Err (Unclosed back)
+finish_list (stages.NameText start) n w = Err (Unclosed start)
+finish_list (stages.HideStart start) n w = Err (Unclosed start)
+finish_list (stages.HideWord start) n w = end_part (leaves.Hide false) takes.Word start n w
+finish_list (stages.HideEscape start) n w = Err (Unclosed start)
+finish_list (stages.FunctionName start) n w = Err (Unclosed start)
+finish_list (stages.BraceOpen start kind) n w = Err (Unclosed start)
+
+abbrev pub finish_at : Stage → ℕ → Walk → Result Walk SyntaxFault
+finish_at (at.List stage) n w = finish_list stage n w
+finish_at (at.Choice head later) n w = Err (Unclosed head.part.start)
+finish_at (at.Braces head form stage) n w = Err (Unclosed head.part.start)
+finish_at (at.Result head part chosen) n w = Err (Unclosed head.part.start)
+
+abbrev pub finish_in : List Frame → ℕ → Walk → Result Walk SyntaxFault
+finish_in [] n w = finish_at w.stage n w
+finish_in (f ∷ fs) n w = Err (Unclosed (outermost f fs))
+
+abbrev pub finish : ℕ → Walk → Result Walk SyntaxFault
+finish n w = finish_in w.waiting n w
+
+abbrev pub started : Walk
+started =
+    record {
+      stage = at.List stages.Start;
+      context = record { kind = lists.Top; in_arguments = false; owner = owners.Nobody; levels = 64 };
+      waiting = [];
+      tokens = [];
+      labels = [];
+      word = [];
+      kept = 0;
+      trailing = 0;
+    }
+
+abbrev pub then_walk : Result Walk SyntaxFault → (Walk → Result Walk SyntaxFault) → Result Walk SyntaxFault
+then_walk (Ok w) again = again w
+then_walk (Err fault) again = Err fault
+
+-- what the rest of a text comes to, of which the next byte has the place n
+abbrev pub walk : Walk → ℕ → List ℕ → Result Walk SyntaxFault
+walk w n [] = finish n w
+walk w n (b ∷ text) = then_walk (step w n b) (λ v. walk v (n + 1) text)

@@ -1,0 +1,364 @@
+//! What the actions of bytes make of the state in which a text is read.
+
+ghost use Rattle.drv_syntax.specs.Reader.States.{Fits, state};
+ghost use Rattle.drv_syntax.specs.Reader.Steps as steps;
+ghost use Rattle.drv_words.specs.Gives.{Gives};
+ghost use Rattle.std.specs.Prelude.{◌≡◌, ◌<◌, ◌≤◌, ◌^◌, ◌+◌, length, OnOk, Ok};
+
+use crate::fault::SyntaxFault;
+use crate::reader::actions::{ChoiceAction, HeadAction, ListAction, ListTurn};
+use crate::reader::bytes::is_space;
+use crate::reader::edits::{
+    alternative_of, ask, behind_item, close_braces, close_token, first_of, negates, next_open,
+    open_alternative, open_braces, open_call, open_test, starred_of, stars, tests, untested,
+    with_part, with_pattern, with_test,
+};
+use crate::reader::head_turns::{chooses, emits};
+use crate::reader::stages::{Behind, Context, Form, Frame, Head, HeadStage, Open, Stage};
+use crate::reader::walk::Walk;
+use crate::token::TokenKind;
+
+/// `}` behind a pattern.
+pub fn act_ends(
+    head: Head,
+    form: Form,
+    behind: Behind,
+    n: u32,
+    w: &mut Walk,
+) -> Result<(), SyntaxFault>
+    requires room { length w.old.tokens.items < 2 ^ 31 }
+    requires place { n < 2 ^ 31 }
+    ensures does { Gives SyntaxFault.Memory (λ _. state w.new) result (steps.act_ends head form behind n (state w.old)) }
+    ensures fits { OnOk result (Fits w.old w.new) }
+{
+    if !emits(form, negates(behind)) {
+        return Err(SyntaxFault::BadDirective(head.part.start as usize));
+    }
+    with_pattern(behind, w)?;
+    close_braces(head, true, n + 1, w.context, w);
+    Ok(())
+}
+
+/// `&` behind a pattern.
+pub fn act_joins(head: Head, form: Form, behind: Behind, w: &mut Walk) -> Result<(), SyntaxFault>
+    requires room { length w.old.tokens.items < 2 ^ 31 }
+    ensures does { Gives SyntaxFault.Memory (λ _. state w.new) result (steps.act_joins head form behind (state w.old)) }
+    ensures fits { OnOk result (Fits w.old w.new) }
+{
+    if !emits(form, negates(behind)) {
+        return Err(SyntaxFault::BadDirective(head.part.start as usize));
+    }
+    with_pattern(behind, w)?;
+    w.stage = Stage::Braces {
+        head,
+        form: Form::Patterns,
+        stage: HeadStage::PatternDue,
+    };
+    Ok(())
+}
+
+/// `:` behind a test.
+pub fn act_asks(
+    head: Head,
+    form: Form,
+    behind: Behind,
+    n: u32,
+    w: &mut Walk,
+) -> Result<(), SyntaxFault>
+    requires room { length w.old.tokens.items < 2 ^ 31 }
+    requires place { n < 2 ^ 31 }
+    ensures does { Gives SyntaxFault.Memory (λ _. state w.new) result (steps.act_asks head form behind n (state w.old)) }
+    ensures fits { OnOk result (Fits w.old w.new) }
+{
+    if !(tests(behind) && chooses(form)) {
+        return Err(untested(head.part.start, behind));
+    }
+    let alternative = alternative_of(form, first_of(behind), w);
+    with_test(form, behind, w)?;
+    ask(
+        head,
+        alternative,
+        true,
+        stars(form) && starred_of(behind),
+        n,
+        w,
+    )
+}
+
+/// `|` behind a test.
+pub fn act_bars(head: Head, form: Form, behind: Behind, w: &mut Walk) -> Result<(), SyntaxFault>
+    requires room { length w.old.tokens.items < 2 ^ 31 }
+    ensures does { Gives SyntaxFault.Memory (λ _. state w.new) result (steps.act_bars head form behind (state w.old)) }
+    ensures fits { OnOk result (Fits w.old w.new) }
+{
+    if !(tests(behind) && chooses(form)) {
+        return Err(untested(head.part.start, behind));
+    }
+    let alternative = alternative_of(form, first_of(behind), w);
+    with_test(form, behind, w)?;
+    w.stage = Stage::Braces {
+        head,
+        form: Form::Tests {
+            alternative,
+            starred: stars(form) && starred_of(behind),
+        },
+        stage: HeadStage::TestDue,
+    };
+    Ok(())
+}
+
+/// What an action in braces makes of the state.
+pub fn act_head(
+    head: Head,
+    form: Form,
+    action: HeadAction,
+    n: u32,
+    b: u8,
+    w: &mut Walk,
+) -> Result<(), SyntaxFault>
+    requires room { length w.old.tokens.items < 2 ^ 31 }
+    requires place { n < 2 ^ 31 }
+    ensures does { Gives SyntaxFault.Memory (λ _. state w.new) result (steps.act_head head form action n b (state w.old)) }
+    ensures fits { OnOk result (Fits w.old w.new) }
+{
+    match action {
+        HeadAction::Keeps(stage) => {
+            w.stage = Stage::Braces { head, form, stage };
+            Ok(())
+        }
+        HeadAction::Clears(stage) => {
+            w.stage = Stage::Braces { head, form, stage };
+            w.word.clear();
+            Ok(())
+        }
+        HeadAction::Begins(stage) => {
+            w.stage = Stage::Braces { head, form, stage };
+            w.word.clear();
+            w.word.push(b)?;
+            Ok(())
+        }
+        HeadAction::Adds(stage) => {
+            w.stage = Stage::Braces { head, form, stage };
+            w.word.push(b)?;
+            Ok(())
+        }
+        HeadAction::OpensTest(start, negated) => open_test(head, form, start, negated, w),
+        HeadAction::Ends(behind) => act_ends(head, form, behind, n, w),
+        HeadAction::Joins(behind) => act_joins(head, form, behind, w),
+        HeadAction::Asks(behind) => act_asks(head, form, behind, n, w),
+        HeadAction::Bars(behind) => act_bars(head, form, behind, w),
+        HeadAction::Refused(fault) => Err(fault),
+    }
+}
+
+/// What braces hold so far where an alternative begins.
+pub fn form_at(later: bool) -> Form
+    ensures { result ≡ steps.form_at later }
+{
+    if later { Form::Later } else { Form::Fresh }
+}
+
+/// What an action where an alternative begins makes of the state.
+pub fn act_choice(
+    head: Head,
+    later: bool,
+    action: ChoiceAction,
+    n: u32,
+    b: u8,
+    w: &mut Walk,
+) -> Result<(), SyntaxFault>
+    requires room { length w.old.tokens.items < 2 ^ 31 }
+    requires place { n < 2 ^ 31 }
+    ensures does { Gives SyntaxFault.Memory (λ _. state w.new) result (steps.act_choice head later action n b (state w.old)) }
+    ensures fits { OnOk result (Fits w.old w.new) }
+{
+    match action {
+        ChoiceAction::Stays => Ok(()),
+        ChoiceAction::Defaults => {
+            let part = next_open(w, n);
+            open_alternative(n, w)?;
+            ask(head, part, false, false, n, w)
+        }
+        ChoiceAction::Begins(action) => act_head(head, form_at(later), action, n, b, w),
+    }
+}
+
+fn trim(w: &mut Walk)
+    ensures does { state w.new ≡ steps.trim (state w.old) }
+    ensures size { length w.new.tokens.items ≤ length w.old.tokens.items }
+    ensures trail { w.new.trailing ≡ w.old.trailing }
+{
+    let left = w.tokens.len().saturating_sub(w.trailing as usize);
+    w.tokens.truncate(left);
+    let left = w.labels.len().saturating_sub(w.trailing as usize);
+    w.labels.truncate(left);
+}
+
+fn close_x(
+    c: Context,
+    head: Head,
+    tested: bool,
+    n: u32,
+    b: u8,
+    w: &mut Walk,
+) -> Result<(), SyntaxFault>
+    requires room { length w.old.tokens.items < 2 ^ 31 }
+    requires place { n < 2 ^ 31 }
+    ensures does { Gives SyntaxFault.Memory (λ _. state w.new) result (steps.close_x c head tested n b (state w.old)) }
+    ensures fits { OnOk result (Fits w.old w.new) }
+{
+    if b == b'}' {
+        close_braces(head, false, n + 1, c, w);
+        Ok(())
+    } else if tested {
+        behind_item(c, 0, w);
+        w.stage = Stage::Choice { head, later: true };
+        Ok(())
+    } else {
+        Err(SyntaxFault::EmptyTest(head.part.start as usize))
+    }
+}
+
+fn close_frame(frame: Frame, n: u32, b: u8, w: &mut Walk) -> Result<(), SyntaxFault>
+    requires room { length w.old.tokens.items < 2 ^ 31 }
+    requires place { n < 2 ^ 31 }
+    ensures does { Gives SyntaxFault.Memory (λ _. state w.new) result (steps.close_frame frame n b (state w.old)) }
+    ensures fits { OnOk result (Fits w.old w.new) }
+{
+    match frame {
+        Frame::X {
+            context: c,
+            head,
+            alternative: part,
+            tested,
+            ..
+        } => {
+            trim(w);
+            close_token(TokenKind::Alternative, part, w.kept, w);
+            close_x(c, head, tested, n, b, w)
+        }
+        Frame::Call { context: c, part } => {
+            close_token(TokenKind::Function, part, n + 1, w);
+            behind_item(c, n + 1, w);
+            Ok(())
+        }
+        Frame::Test {
+            context: c,
+            head,
+            alternative,
+            part,
+            chosen,
+        } => {
+            close_token(TokenKind::Test, part, n + 1, w);
+            behind_item(c, 0, w);
+            w.stage = Stage::Result {
+                head,
+                alternative,
+                chosen,
+            };
+            Ok(())
+        }
+    }
+}
+
+/// The innermost list ends with this byte.
+pub fn close(n: u32, b: u8, w: &mut Walk) -> Result<(), SyntaxFault>
+    requires room { length w.old.tokens.items < 2 ^ 31 }
+    requires place { n < 2 ^ 31 }
+    ensures does { Gives SyntaxFault.Memory (λ _. state w.new) result (steps.close (state w.old).waiting n b (state w.old)) }
+    ensures fits { OnOk result (Fits w.old w.new) }
+{
+    match w.waiting.pop() {
+        Some(frame) => close_frame(frame, n, b, w),
+        None => Err(SyntaxFault::Unclosed(n as usize)),
+    }
+}
+
+/// What an action in a list of items makes of the state.
+pub fn act_list(action: ListAction, n: u32, b: u8, w: &mut Walk) -> Result<(), SyntaxFault>
+    requires room { length w.old.tokens.items < 2 ^ 31 }
+    requires place { n < 2 ^ 31 }
+    requires trail { w.old.trailing < 2 ^ 31 }
+    ensures does { Gives SyntaxFault.Memory (λ _. state w.new) result (steps.act_list action n b (state w.old)) }
+    ensures fits { OnOk result (Fits w.old w.new) }
+{
+    match action {
+        ListAction::Keeps(stage) => {
+            w.stage = Stage::List(stage);
+            Ok(())
+        }
+        ListAction::Clears(stage) => {
+            w.stage = Stage::List(stage);
+            w.word.clear();
+            Ok(())
+        }
+        ListAction::Begins(stage) => {
+            w.stage = Stage::List(stage);
+            w.word.clear();
+            w.word.push(b)?;
+            Ok(())
+        }
+        ListAction::Adds(stage) => {
+            w.stage = Stage::List(stage);
+            w.word.push(b)?;
+            Ok(())
+        }
+        ListAction::Item(part) => with_part(part, w),
+        ListAction::Closes => close(n, b, w),
+        ListAction::OpensBraces(start, kind) => open_braces(start, kind, w),
+        ListAction::OpensCall(start) => open_call(start, w),
+        ListAction::Refused(fault) => Err(fault),
+    }
+}
+
+/// What a turn in a list of items makes of the state.
+pub fn act_turn(turn: ListTurn, n: u32, b: u8, w: &mut Walk) -> Result<(), SyntaxFault>
+    requires room { length w.old.tokens.items < 2 ^ 30 }
+    requires place { n < 2 ^ 31 }
+    requires trail { w.old.trailing < 2 ^ 30 }
+    ensures does { Gives SyntaxFault.Memory (λ _. state w.new) result (steps.act_turn turn n b (state w.old)) }
+    ensures size { OnOk result (length w.new.tokens.items ≤ length w.old.tokens.items + 4) }
+    ensures trail { OnOk result (w.new.trailing ≤ w.old.trailing + 4) }
+{
+    if let Some(part) = turn.first {
+        with_part(part, w)?;
+    }
+    act_list(turn.then, n, b, w)
+}
+
+/// What a byte behind a test of a function's result makes of the state.
+pub fn act_result(
+    head: Head,
+    part: Open,
+    chosen: bool,
+    n: u32,
+    b: u8,
+    w: &mut Walk,
+) -> Result<(), SyntaxFault>
+    requires room { length w.old.tokens.items < 2 ^ 30 }
+    requires place { n < 2 ^ 31 }
+    requires trail { w.old.trailing < 2 ^ 30 }
+    ensures does { Gives SyntaxFault.Memory (λ _. state w.new) result (steps.act_result head part chosen n b (state w.old)) }
+    ensures size { OnOk result (length w.new.tokens.items ≤ length w.old.tokens.items + 4) }
+    ensures trail { OnOk result (w.new.trailing ≤ w.old.trailing + 4) }
+{
+    if is_space(b) {
+        Ok(())
+    } else if b == b'}' || b == b'&' {
+        Err(SyntaxFault::BadDirective(head.part.start as usize))
+    } else if b == b':' && chosen {
+        ask(head, part, true, false, n, w)
+    } else if b == b'|' && chosen {
+        w.stage = Stage::Braces {
+            head,
+            form: Form::Tests {
+                alternative: part,
+                starred: false,
+            },
+            stage: HeadStage::TestDue,
+        };
+        Ok(())
+    } else {
+        Err(SyntaxFault::BadDirective(head.part.start as usize))
+    }
+}

@@ -1,0 +1,107 @@
+//! What each part of a text names.
+
+ghost use Rattle.drv_syntax.specs.Labels.{no_label, word_label};
+ghost use Rattle.drv_syntax.specs.Reader.Turns as walk;
+ghost use Rattle.drv_words.specs.Gives.{Gives};
+ghost use Rattle.std.specs.Prelude.{◌≡◌, ◌++◌, ◌∷◌, [], Ok};
+
+use crate::fault::SyntaxFault;
+use crate::labels::Labels;
+use crate::reader::actions::{BuiltinName, Leaf, Taken};
+use crate::reader::stages::Behind;
+use crate::token::TestKind;
+
+fn builtin_word(name: BuiltinName) -> &'static [u8]
+    ensures { result.now ≡ walk.builtin_word name }
+{
+    match name {
+        BuiltinName::Assembler => b"asm",
+        BuiltinName::AssemblerFinal => b"asm_final",
+        BuiltinName::Linker => b"link",
+        BuiltinName::Libraries => b"lib",
+        BuiltinName::Support => b"libgcc",
+        BuiltinName::StartFiles => b"startfile",
+        BuiltinName::EndFiles => b"endfile",
+        BuiltinName::Preprocessor => b"cpp",
+        BuiltinName::Compiler => b"cc1",
+        BuiltinName::CompilerPlus => b"cc1plus",
+    }
+}
+
+/// The word of an item, where this word was being read.
+pub fn taken_word(taken: Taken, word: &[u8]) -> &[u8]
+    ensures { result.now ≡ walk.taken_word taken word.now }
+{
+    match taken {
+        Taken::Nothing => &[],
+        Taken::Word => word,
+        Taken::Object => b".o",
+    }
+}
+
+/// A part that names a word alone.
+pub fn name_word(word: &[u8], labels: &mut Labels) -> Result<(), SyntaxFault>
+    ensures { Gives SyntaxFault.Memory (λ _. labels.new) result (Ok (labels.old ++ word_label word.now ∷ [])) }
+{
+    labels.push(word, false, false, TestKind::Switch)
+}
+
+/// An item without parts inside it, with this word.
+pub fn name_leaf(leaf: Leaf, word: &[u8], labels: &mut Labels) -> Result<(), SyntaxFault>
+    ensures { Gives SyntaxFault.Memory (λ _. labels.new) result (Ok (labels.old ++ walk.leaf_label leaf word.now ∷ [])) }
+{
+    match leaf {
+        Leaf::Plain(b) | Leaf::Escape(b) => labels.push_byte(b),
+        Leaf::TempName(_) | Leaf::AddOption | Leaf::Said(_) | Leaf::NamedText => name_word(
+            word, labels,
+        ),
+        Leaf::BuiltinText(name) => name_word(builtin_word(name), labels),
+        Leaf::Hide(starred) => labels.push(word, starred, false, TestKind::Switch),
+        _ => labels.push_none(),
+    }
+}
+
+/// A pattern, with this word.
+pub fn name_pattern(behind: Behind, word: &[u8], labels: &mut Labels) -> Result<(), SyntaxFault>
+    ensures { Gives SyntaxFault.Memory (λ _. labels.new) result (Ok (labels.old ++ walk.behind_pattern behind word.now ∷ [])) }
+{
+    match behind {
+        Behind::Switch { starred, .. } => labels.push(word, starred, false, TestKind::Switch),
+        Behind::Marked { mark, .. } => labels.push_marked(mark, word, false),
+        Behind::StarredMark { mark, .. } => labels.push_marked(mark, word, true),
+        Behind::Bare { mark, .. } => labels.push_byte(mark),
+    }
+}
+
+fn mark_asks(mark: u8) -> TestKind
+    ensures { result ≡ walk.mark_asks mark }
+{
+    if mark == b'.' {
+        TestKind::Suffix
+    } else {
+        TestKind::Language
+    }
+}
+
+/// A test that asks no function, with this word.
+pub fn name_test(behind: Behind, word: &[u8], labels: &mut Labels) -> Result<(), SyntaxFault>
+    ensures { Gives SyntaxFault.Memory (λ _. labels.new) result (Ok (labels.old ++ walk.behind_test behind word.now ∷ [])) }
+{
+    match behind {
+        Behind::Switch {
+            negated,
+            starred,
+            ..
+        } => labels.push(word, starred, negated, TestKind::Switch),
+        Behind::Marked { negated, mark, .. }
+        | Behind::StarredMark { negated, mark, .. }
+        | Behind::Bare { negated, mark, .. } => labels.push(word, false, negated, mark_asks(mark)),
+    }
+}
+
+/// A test of a function with this name, with a `!` or without.
+pub fn name_call(negated: bool, name: &[u8], labels: &mut Labels) -> Result<(), SyntaxFault>
+    ensures { Gives SyntaxFault.Memory (λ _. labels.new) result (Ok (labels.old ++ walk.called_label negated name.now ∷ [])) }
+{
+    labels.push(name, false, negated, TestKind::Result)
+}

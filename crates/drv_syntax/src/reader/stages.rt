@@ -1,0 +1,306 @@
+//! Where the next byte of a text stands, without the trees read so far.
+
+use crate::token::TempKind;
+
+/// What a list of items is.
+#[derive(Clone, Copy)]
+pub enum ListKind {
+    /// A whole text.
+    Top,
+    /// The X of an alternative.
+    InX,
+    /// A function's arguments.
+    InArguments,
+}
+
+/// What `%*` finds around it.
+#[derive(Clone, Copy)]
+pub enum StarOwner {
+    /// No X.
+    Nobody,
+    /// An X without tests, or with one that is no starred pattern.
+    Mixed,
+    /// An X whose tests are starred patterns without `!`.
+    Starred,
+}
+
+/// Where a list of items stands.
+#[derive(Clone, Copy)]
+pub struct Context {
+    /// What it is.
+    pub kind: ListKind,
+    /// In arguments at any depth.
+    pub in_arguments: bool,
+    /// What `%*` finds.
+    pub owner: StarOwner,
+    /// So many more braces and arguments may stand in one another.
+    pub levels: u8,
+}
+
+/// The three braces.
+#[derive(Clone, Copy)]
+pub enum BraceKind {
+    /// `%{..}`.
+    InPlace,
+    /// `%W{..}`.
+    IntoFailureFile,
+    /// `%@{..}`.
+    IntoArgumentsFile,
+}
+
+/// A text for the user.
+#[derive(Clone, Copy)]
+pub enum SayKind {
+    /// `%e`.
+    AsError,
+    /// `%n`.
+    AsNotice,
+}
+
+/// A place in a list of items. The first number is that of the `%` or of the backslash.
+#[derive(Clone, Copy)]
+pub enum ListStage {
+    /// Where an item begins.
+    Start,
+    /// Behind a backslash.
+    Backslash {
+        backslash: u32,
+    },
+    /// Behind a `%`.
+    Percent {
+        at: u32,
+    },
+    /// Behind `%g`.
+    SuffixStart {
+        at: u32,
+        kind: TempKind,
+    },
+    /// In its suffix.
+    SuffixRun {
+        at: u32,
+        kind: TempKind,
+    },
+    /// Behind `%g%`, and the place of the second `%`.
+    SuffixPercent {
+        at: u32,
+        kind: TempKind,
+        percent: u32,
+    },
+    /// Behind `%x`.
+    OptionOpen {
+        at: u32,
+    },
+    /// In its text.
+    OptionText {
+        at: u32,
+    },
+    /// Behind a backslash in it.
+    OptionEscape {
+        at: u32,
+    },
+    /// Behind `%e`, in its text.
+    SayingText {
+        at: u32,
+        kind: SayKind,
+    },
+    /// Behind a backslash in it, which has this place.
+    SayingEscape {
+        at: u32,
+        kind: SayKind,
+        backslash: u32,
+    },
+    /// Behind `%(`, in the name.
+    NameText {
+        at: u32,
+    },
+    /// Behind `%<`.
+    HideStart {
+        at: u32,
+    },
+    /// In its word.
+    HideWord {
+        at: u32,
+    },
+    /// Behind a backslash in it.
+    HideEscape {
+        at: u32,
+    },
+    /// Behind `%:`, in the name.
+    FunctionName {
+        at: u32,
+    },
+    /// Behind `%W`.
+    BraceOpen {
+        at: u32,
+        kind: BraceKind,
+    },
+}
+
+/// A part that is not yet closed.
+#[derive(Clone, Copy)]
+pub struct Open {
+    /// Its place in the list of tokens.
+    pub token: u32,
+    /// Where it begins.
+    pub start: u32,
+}
+
+/// Braces, to the left of a colon.
+#[derive(Clone, Copy)]
+pub struct Head {
+    /// Which braces.
+    pub kind: BraceKind,
+    /// Their token.
+    pub part: Open,
+}
+
+/// What braces hold so far.
+#[derive(Clone, Copy)]
+pub enum Form {
+    /// Nothing.
+    Fresh,
+    /// Patterns.
+    Patterns,
+    /// Alternatives, and nothing of the next one.
+    Later,
+    /// Tests of this alternative; whether all are starred patterns without `!`.
+    Tests { alternative: Open, starred: bool },
+}
+
+/// What stands behind a test or a pattern, by its start, its end, and whether it has a `!`.
+#[derive(Clone, Copy)]
+pub enum Behind {
+    /// A word, with a star or without.
+    Switch {
+        start: u32,
+        end: u32,
+        negated: bool,
+        starred: bool,
+    },
+    /// A `.` or `,` and a word.
+    Marked {
+        start: u32,
+        end: u32,
+        negated: bool,
+        mark: u8,
+    },
+    /// A `.` or `,`, a word or none, and a star.
+    StarredMark {
+        start: u32,
+        end: u32,
+        negated: bool,
+        mark: u8,
+    },
+    /// A `.` or `,` alone.
+    Bare {
+        start: u32,
+        end: u32,
+        negated: bool,
+        mark: u8,
+    },
+}
+
+/// A place in braces, to the left of a colon. The first number is the start of the test.
+#[derive(Clone, Copy)]
+pub enum HeadStage {
+    /// Behind `|`.
+    TestDue,
+    /// Behind `!`.
+    TestNegated {
+        start: u32,
+    },
+    /// Behind `&`.
+    PatternDue,
+    /// In a word, with a `!` or without.
+    TestWord {
+        start: u32,
+        negated: bool,
+    },
+    /// Behind a backslash in it.
+    TestWordEscape {
+        start: u32,
+        negated: bool,
+    },
+    /// Behind the `.` or `,` that begins a test.
+    TestMark {
+        start: u32,
+        negated: bool,
+        mark: u8,
+    },
+    /// In the word behind it.
+    MarkedWord {
+        start: u32,
+        negated: bool,
+        mark: u8,
+    },
+    /// Behind a backslash in it.
+    MarkedEscape {
+        start: u32,
+        negated: bool,
+        mark: u8,
+    },
+    /// Behind the `%` of a test, and its place.
+    TestPercent {
+        start: u32,
+        negated: bool,
+        percent: u32,
+    },
+    /// In a function's name there.
+    TestFunction {
+        start: u32,
+        negated: bool,
+        percent: u32,
+    },
+    /// Behind a test or a pattern.
+    BehindTest(Behind),
+}
+
+/// Where the next byte stands.
+#[derive(Clone, Copy)]
+pub enum Stage {
+    /// In a list of items.
+    List(ListStage),
+    /// Where an alternative begins: whether others stand before it.
+    Choice {
+        head: Head,
+        later: bool,
+    },
+    /// In braces, to the left of a colon.
+    Braces {
+        head: Head,
+        form: Form,
+        stage: HeadStage,
+    },
+    /// Behind a test of a function's result, in this alternative; whether the braces can hold alternatives.
+    Result {
+        head: Head,
+        alternative: Open,
+        chosen: bool,
+    },
+}
+
+/// A directive that waits for the end of a list in it, and the context of the list that it stands in.
+#[derive(Clone, Copy)]
+pub enum Frame {
+    /// An X: the braces, the place of the colon, the alternative, and whether it has tests.
+    X {
+        context: Context,
+        head: Head,
+        colon: u32,
+        alternative: Open,
+        tested: bool,
+    },
+    /// A function.
+    Call {
+        context: Context,
+        part: Open,
+    },
+    /// A test of a function: the braces, the alternative, the test, and whether the braces can hold alternatives.
+    Test {
+        context: Context,
+        head: Head,
+        alternative: Open,
+        part: Open,
+        chosen: bool,
+    },
+}

@@ -1,0 +1,26 @@
+//! The state in which a text is read.
+
+use crate::labels::Labels;
+use crate::reader::stages::{Context, Frame, Stage};
+use crate::token::Token;
+
+/// What has been read of a text.
+#[derive(Drop)]
+pub struct Walk {
+    /// Where the next byte stands.
+    pub stage: Stage,
+    /// The context of the innermost list.
+    pub context: Context,
+    /// The directives that wait for the end of a list in them, outermost first.
+    pub waiting: Vec<Frame>,
+    /// The tokens, with those that are still open.
+    pub tokens: Vec<Token>,
+    /// Their labels.
+    pub labels: Labels,
+    /// What has been read of a word.
+    pub word: Vec<u8>,
+    /// Where the innermost list ends without its trailing white space.
+    pub kept: u32,
+    /// How many bytes of white space it ends in.
+    pub trailing: u32,
+}
