@@ -1,16 +1,17 @@
 use Rattle.drv_machine.proofs.ItemKinds.{item_no_test, stars_are, tests_first}
 use Rattle.drv_machine.proofs.Standing.{next_at, stand_grows}
 use Rattle.drv_machine.proofs.Steps.{then_err, then_ok}
-use Rattle.drv_machine.specs.Atoms.{choices_step, each_hit, first_true, has_star, items_step, levels_left, matching, places, worked}
+use Rattle.drv_machine.specs.Atoms.{choices_step, each_hit, first_true, has_star, items_step, matching, places, worked}
 use Rattle.drv_machine.specs.ByKind.{TrueTest, asks_switch, labelled}
-use Rattle.drv_machine.specs.Context.{Context, argument, names}
+use Rattle.drv_machine.specs.Context.{Context, names}
 use Rattle.drv_machine.specs.Running.{State, run}
 use Rattle.drv_machine.specs.Standing.{Part, Stands, behind_tests, stars, tests_in}
-use Rattle.drv_machine.specs.Working.{◌>>=◌, ◌>>◌, Answer, Break, Levels, Step, look, nothing, opened, puts, word_of}
-use Rattle.drv_machine.specs.declared.fault.MachineFault.TheVariants.{Memory, SpecTooDeep}
+use Rattle.drv_machine.specs.Walking.{each_from, hit_step}
+use Rattle.drv_machine.specs.Working.{◌>>=◌, ◌>>◌, Answer, Levels, Step, look, nothing}
+use Rattle.drv_machine.specs.declared.fault.MachineFault.TheVariants.{Memory}
 use Rattle.drv_machine.specs.declared.fault.MachineFault.{MachineFault}
-use Rattle.drv_match.specs.Matching.{is_hit, name_at}
-use Rattle.drv_match.specs.declared.pattern.Pattern as switches
+use Rattle.drv_match.specs.Matching.{is_hit}
+use Rattle.drv_match.specs.Pattern as switches
 use Rattle.drv_syntax.specs.Labels.{Nodes, both, choice_nodes, label_at, labels_of, no_label, nodes_of, test_label, test_nodes}
 use Rattle.drv_syntax.specs.Parsed.{tree_of}
 use Rattle.drv_syntax.specs.Tokens.{tokens_of}
@@ -20,16 +21,16 @@ use Rattle.drv_syntax.specs.declared.token.Token.{Token}
 use Rattle.drv_syntax.specs.declared.token.TokenKind.TheVariants as kinds
 use Rattle.drv_system.specs.Facts.{Facts}
 use Rattle.drv_system.specs.Known.{Is}
-use Rattle.std.proofs.Common.{◌≡◌, ◌⊎◌, ◌&&◌, ◌<◌, ◌≤◌, ◌+◌, ◌-◌, ◌∙◌, ◌∷◌, Bool, Err, List, [], None, Ok, Option, Some, ap, arith, drop, false, if◌then◌else◌, inl, inr, length, refl, slice_get, subst, suc, sym, true, zero, ℕ}
+use Rattle.std.proofs.Common.{◌≡◌, ◌⊎◌, ◌&&◌, ◌<◌, ◌≤◌, ◌+◌, ◌-◌, ◌∙◌, ◌∷◌, Bool, Err, List, None, Ok, Option, Some, ap, arith, false, if◌then◌else◌, inl, inr, length, refl, slice_get, subst, suc, sym, true, ℕ}
 use Rattle.std.specs.List.{range_with_len}
 
 -- Alternatives, one after another.
 
--- the alternatives that are left at a place
-pub record ChoicesLeft (F : Facts) (C : Context) (text : List ℕ) (s : State) (at end : ℕ) (choices : Choices) (levels : Levels) (star : List ℕ) : Type 0 where
+-- the alternatives that are left at a place, and the state that was there and that is
+pub record ChoicesLeft (F : Facts) (C : Context) (text : List ℕ) (s t : State) (at end : ℕ) (choices : Choices) (levels : Levels) (star : List ℕ) : Type 0 where
   pub rest : Choices
   pub stands : Stands text at (choice_nodes rest) end
-  pub same : run F C s (choices_step F C rest levels star) ≡ run F C s (choices_step F C choices levels star)
+  pub same : run F C t (choices_step F C rest levels star) ≡ run F C s (choices_step F C choices levels star)
 
 pub record FrontChoice (text : List ℕ) (at : ℕ) (choices : Choices) (end : ℕ) : Type 0 where
   pub span : Span
@@ -80,65 +81,71 @@ tested : (F : Facts) (C : Context) (text : List ℕ) (at end : ℕ) (span : Span
 tested F C text at end span tree.no_test items others levels star some s = absurd (some (sym s))
 tested F C text at end span (tree.test place negated asked tests) items others levels star some s = refl
 
-module _ (F : Facts) (C : Context) (text : List ℕ) (s : State) (at end : ℕ) (h : at < end) (choices : Choices) (levels : Levels) (star : List ℕ) (left : ChoicesLeft F C text s at end choices levels star) where
-  from_rest : (f : FrontChoice text at left.rest end) → run F C s (choices_step F C choices levels star) ≡ run F C s (choices_step F C (tree.choice f.span f.tests f.items f.others) levels star)
-  from_rest f = sym left.same ∙ ap (λ xs. run F C s (choices_step F C xs levels star)) f.is
+module _ (F : Facts) (C : Context) (text : List ℕ) (s t : State) (at end : ℕ) (h : at < end) (choices : Choices) (levels : Levels) (star : List ℕ) (left : ChoicesLeft F C text s t at end choices levels star) where
+  from_rest : (f : FrontChoice text at left.rest end) → run F C s (choices_step F C choices levels star) ≡ run F C t (choices_step F C (tree.choice f.span f.tests f.items f.others) levels star)
+  from_rest f = sym left.same ∙ ap (λ xs. run F C t (choices_step F C xs levels star)) f.is
 
-  module _ (token : Token) (there : slice_get (tokens_of (tree_of text)) at ≡ Some token) (middle : ℕ)
-      (first : (nodes : Nodes) → Stands text (at + 1) nodes token.next → Stands text (at + 1) (tests_in nodes) middle)
-      (behind_first : (nodes : Nodes) → Stands text (at + 1) nodes token.next → Stands text middle (behind_tests nodes) token.next) where
-    inside : (f : FrontChoice text at left.rest end) → Stands text (at + 1) (both (test_nodes f.tests) (nodes_of f.items)) token.next
-    inside f = subst (λ (k : ℕ). Stands text (at + 1) (both (test_nodes f.tests) (nodes_of f.items)) k) (sym (next_at text at token kinds.Alternative no_label f.next there f.part)) f.within
+  module _ (token : Token) (there : slice_get (tokens_of (tree_of text)) at ≡ Some token) where
+    -- the alternatives behind the first one
+    pub others_there : (choices : Choices) × Stands text token.next (choice_nodes choices) end
+    others_there =
+        let f = front_choice text at left.rest end h left.stands in
+        (f.others, subst (λ (k : ℕ). Stands text k (choice_nodes f.others) end) (sym (next_at text at token kinds.Alternative no_label f.next there f.part)) f.behind)
 
-    pub tests_there : (f : FrontChoice text at left.rest end) → Stands text (at + 1) (test_nodes f.tests) middle
-    tests_there f = subst (λ (xs : Nodes). Stands text (at + 1) xs middle) (tests_first f.tests f.items) (first (both (test_nodes f.tests) (nodes_of f.items)) (inside f))
+    module _ (middle : ℕ) (first : (nodes : Nodes) → Stands text (at + 1) nodes token.next → Stands text (at + 1) (tests_in nodes) middle)
+        (behind_first : (nodes : Nodes) → Stands text (at + 1) nodes token.next → Stands text middle (behind_tests nodes) token.next) where
+      inside : (f : FrontChoice text at left.rest end) → Stands text (at + 1) (both (test_nodes f.tests) (nodes_of f.items)) token.next
+      inside f = subst (λ (k : ℕ). Stands text (at + 1) (both (test_nodes f.tests) (nodes_of f.items)) k) (sym (next_at text at token kinds.Alternative no_label f.next there f.part)) f.within
 
-    pub items_there : (f : FrontChoice text at left.rest end) → Stands text middle (nodes_of f.items) token.next
-    items_there f = subst (λ (xs : Nodes). Stands text middle xs token.next) (tests_behind f.tests f.items) (behind_first (both (test_nodes f.tests) (nodes_of f.items)) (inside f))
+      tests_there : (f : FrontChoice text at left.rest end) → Stands text (at + 1) (test_nodes f.tests) middle
+      tests_there f = subst (λ (xs : Nodes). Stands text (at + 1) xs middle) (tests_first f.tests f.items) (first (both (test_nodes f.tests) (nodes_of f.items)) (inside f))
 
-    -- the default
-    pub default_is : (f : FrontChoice text at left.rest end) → middle ≡ at + 1 → run F C s (choices_step F C choices levels star) ≡ run F C s (items_step F C f.items levels star)
-    default_is f e = from_rest f ∙ ap (λ ts. run F C s (choices_step F C (tree.choice f.span ts f.items f.others) levels star)) (no_tests text (at + 1) middle f.tests e (tests_there f))
+      items_there : (f : FrontChoice text at left.rest end) → Stands text middle (nodes_of f.items) token.next
+      items_there f = subst (λ (xs : Nodes). Stands text middle xs token.next) (tests_behind f.tests f.items) (behind_first (both (test_nodes f.tests) (nodes_of f.items)) (inside f))
 
-    module _ (some : middle ≡ at + 1 → ⊥) where
-      with_tests : (f : FrontChoice text at left.rest end) → run F C s (choices_step F C choices levels star) ≡ run F C s (first_true F C f.tests levels star >>= by_found F C f.items f.others levels star)
-      with_tests f = from_rest f ∙ ap (run F C s) (tested F C text (at + 1) middle f.span f.tests f.items f.others levels star some (tests_there f))
+      -- the default
+      default_is : (f : FrontChoice text at left.rest end) → middle ≡ at + 1 → run F C s (choices_step F C choices levels star) ≡ run F C t (items_step F C f.items levels star)
+      default_is f e = from_rest f ∙ ap (λ ts. run F C t (choices_step F C (tree.choice f.span ts f.items f.others) levels star)) (no_tests text (at + 1) middle f.tests e (tests_there f))
 
-      pub tests_fail : (fault : MachineFault) → ((tests : Tests) → Stands text (at + 1) (test_nodes tests) middle → (fault ≡ Memory) ⊎ (run F C s (first_true F C tests levels star) ≡ Is (Err fault)))
-          → (fault ≡ Memory) ⊎ (run F C s (choices_step F C choices levels star) ≡ Is (Err fault))
-      tests_fail fault stopped = by (stopped f.tests (tests_there f))
-        where
-          f : FrontChoice text at left.rest end
-          f = front_choice text at left.rest end h left.stands
+      pub as_default : (P : Answer (Unit {0} × State) → Type 0) → middle ≡ at + 1 → ((items : Items) → Stands text middle (nodes_of items) token.next → P (run F C t (items_step F C items levels star))) → P (run F C s (choices_step F C choices levels star))
+      as_default P e working = let f = front_choice text at left.rest end h left.stands in subst P (sym (default_is f e)) (working f.items (items_there f))
 
-          by : (fault ≡ Memory) ⊎ (run F C s (first_true F C f.tests levels star) ≡ Is (Err fault)) → (fault ≡ Memory) ⊎ (run F C s (choices_step F C choices levels star) ≡ Is (Err fault))
-          by (inl memory) = inl memory
-          by (inr e) = inr (with_tests f ∙ then_err F C s (first_true F C f.tests levels star) (by_found F C f.items f.others levels star) fault e)
+      module _ (some : middle ≡ at + 1 → ⊥) where
+        with_tests : (f : FrontChoice text at left.rest end) → run F C s (choices_step F C choices levels star) ≡ run F C t (first_true F C f.tests levels star >>= by_found F C f.items f.others levels star)
+        with_tests f = from_rest f ∙ ap (run F C t) (tested F C text (at + 1) middle f.span f.tests f.items f.others levels star some (tests_there f))
 
-      pub none_true : ((tests : Tests) → Stands text (at + 1) (test_nodes tests) middle → run F C s (first_true F C tests levels star) ≡ Is (Ok (None, s))) → ChoicesLeft F C text s token.next end choices levels star
-      none_true none =
-          let f = front_choice text at left.rest end h left.stands in record {
-            rest = f.others;
-            stands = subst (λ (k : ℕ). Stands text k (choice_nodes f.others) end) (sym (next_at text at token kinds.Alternative no_label f.next there f.part)) f.behind;
-            same = sym (with_tests f ∙ then_ok F C s (first_true F C f.tests levels star) (by_found F C f.items f.others levels star) None s (none f.tests (tests_there f)));
-          }
+        pub tests_fail : (fault : MachineFault) → ((tests : Tests) → Stands text (at + 1) (test_nodes tests) middle → (fault ≡ Memory) ⊎ (run F C t (first_true F C tests levels star) ≡ Is (Err fault)))
+            → (fault ≡ Memory) ⊎ (run F C s (choices_step F C choices levels star) ≡ Is (Err fault))
+        tests_fail fault stopped = by (stopped f.tests (tests_there f))
+          where
+            f : FrontChoice text at left.rest end
+            f = front_choice text at left.rest end h left.stands
 
-      pub one_true : (test : ℕ) (P : Answer (Unit {0} × State) → Type 0) → ((tests : Tests) → Stands text (at + 1) (test_nodes tests) middle → TrueTest F C text s test (first_true F C tests levels star))
-          → ((negated : Bool) (asked : Asked) (items : Items) (others : Step (Unit {0})) → label_at (tree_of text) test ≡ test_label negated asked → Stands text middle (nodes_of items) token.next
-          → P (run F C s (worked F C (Some asked) (has_star items) (λ rest inside. items_step F C items inside rest) levels star others)))
-          → P (run F C s (choices_step F C choices levels star))
-      one_true test P found working =
-          let f = front_choice text at left.rest end h left.stands in
-          let t = found f.tests (tests_there f) in
-          subst P (sym (with_tests f ∙ then_ok F C s (first_true F C f.tests levels star) (by_found F C f.items f.others levels star) (Some t.asked) s t.gives))
-          (working t.negated t.asked f.items (choices_step F C f.others levels star) t.label_is (items_there f))
+            by : (fault ≡ Memory) ⊎ (run F C t (first_true F C f.tests levels star) ≡ Is (Err fault)) → (fault ≡ Memory) ⊎ (run F C s (choices_step F C choices levels star) ≡ Is (Err fault))
+            by (inl memory) = inl memory
+            by (inr e) = inr (with_tests f ∙ then_err F C t (first_true F C f.tests levels star) (by_found F C f.items f.others levels star) fault e)
 
-    pub as_default : (P : Answer (Unit {0} × State) → Type 0) → middle ≡ at + 1 → ((items : Items) → Stands text middle (nodes_of items) token.next → P (run F C s (items_step F C items levels star))) → P (run F C s (choices_step F C choices levels star))
-    as_default P e working = let f = front_choice text at left.rest end h left.stands in subst P (sym (default_is f e)) (working f.items (items_there f))
+        pub none_true : (u : State) → ((tests : Tests) → Stands text (at + 1) (test_nodes tests) middle → run F C t (first_true F C tests levels star) ≡ Is (Ok (None, u))) → ChoicesLeft F C text s u token.next end choices levels star
+        none_true u none =
+            let f = front_choice text at left.rest end h left.stands in record {
+              rest = f.others;
+              stands = subst (λ (k : ℕ). Stands text k (choice_nodes f.others) end) (sym (next_at text at token kinds.Alternative no_label f.next there f.part)) f.behind;
+              same = sym (with_tests f ∙ then_ok F C t (first_true F C f.tests levels star) (by_found F C f.items f.others levels star) None u (none f.tests (tests_there f)));
+            }
 
-pub choices_end : (F : Facts) (C : Context) (text : List ℕ) (s : State) (at end : ℕ) → end ≤ at → (choices : Choices) (levels : Levels) (star : List ℕ) → ChoicesLeft F C text s at end choices levels star
-    → run F C s (choices_step F C choices levels star) ≡ Is (Ok (tt, s))
-choices_end F C text s at end h choices levels star left = sym left.same ∙ ap (λ xs. run F C s (choices_step F C xs levels star)) (no_choices_left text at left.rest end h left.stands)
+        pub one_true : (u : State) (test : ℕ) (P : Answer (Unit {0} × State) → Type 0) → ((tests : Tests) → Stands text (at + 1) (test_nodes tests) middle → TrueTest F C text t u test (first_true F C tests levels star))
+            → ((negated : Bool) (asked : Asked) (items : Items) (others : Step (Unit {0})) → label_at (tree_of text) test ≡ test_label negated asked → Stands text middle (nodes_of items) token.next
+            → P (run F C u (worked F C (Some asked) (has_star items) (λ rest inside. items_step F C items inside rest) levels star others)))
+            → P (run F C s (choices_step F C choices levels star))
+        one_true u test P found working =
+            let f = front_choice text at left.rest end h left.stands in
+            let g = found f.tests (tests_there f) in
+            subst P (sym (with_tests f ∙ then_ok F C t (first_true F C f.tests levels star) (by_found F C f.items f.others levels star) (Some g.asked) u g.gives))
+            (working g.negated g.asked f.items (choices_step F C f.others levels star) g.label_is (items_there f))
+
+pub choices_end : (F : Facts) (C : Context) (text : List ℕ) (s t : State) (at end : ℕ) → end ≤ at → (choices : Choices) (levels : Levels) (star : List ℕ) → ChoicesLeft F C text s t at end choices levels star
+    → run F C s (choices_step F C choices levels star) ≡ Is (Ok (tt, t))
+choices_end F C text s t at end h choices levels star left = sym left.same ∙ ap (λ xs. run F C t (choices_step F C xs levels star)) (no_choices_left text at left.rest end h left.stands)
 
 -- X once, or for each hit
 once_is : (F : Facts) (C : Context) (negated : Bool) (asked : Asked) (own : Bool) (X : List ℕ → Levels → Step (Unit {0})) (levels : Levels) (star : List ℕ) (others : Step (Unit {0})) → asks_switch (test_label negated asked) && own ≡ false
@@ -180,10 +187,7 @@ module _ (F : Facts) (C : Context) (p : Pattern) (items : Items) where
   abbrev each : Levels → List ℕ → Step (Unit {0})
   each levels is = each_hit F C p (λ rest inside. items_step F C items inside rest) levels is
 
-  abbrev pub each_from : Levels → ℕ → Step (Unit {0})
-  each_from levels i = each levels (range_with_len i (length C.switches - i))
-
-  each_step : (levels : Levels) (i : ℕ) → i < length C.switches → each_from levels i ≡ each levels (i ∷ range_with_len (i + 1) (length C.switches - (i + 1)))
+  each_step : (levels : Levels) (i : ℕ) → i < length C.switches → each_from F C p items levels i ≡ each levels (i ∷ range_with_len (i + 1) (length C.switches - (i + 1)))
   each_step levels i h = by (length C.switches - i) (length C.switches - (i + 1)) (omega (arith, h))
     where
       by : (n m : ℕ) → n ≡ suc m → each levels (range_with_len i n) ≡ each levels (i ∷ range_with_len (i + 1) m)
@@ -191,62 +195,28 @@ module _ (F : Facts) (C : Context) (p : Pattern) (items : Items) where
 
   -- what a switch comes to
   abbrev one : Levels → ℕ → Bool → Step (Unit {0})
-  one levels i hit =
-      if hit then opened levels (λ deeper inside. items_step F C items inside (drop (length (matching p).name) (name_at (names C) i))) >> puts (Break ∷ word_of (argument C i)) else nothing
+  one levels i hit = if hit then hit_step F C p items levels i else nothing
 
   module _ (levels : Levels) (s : State) (i : ℕ) (h : i < length C.switches) (hit : Bool) (e : hit ≡ is_hit (names C) s.world.hidden (matching p) i) where
-    at_switch : run F C s (each_from levels i) ≡ run F C s (one levels i hit >> each_from levels (i + 1))
+    at_switch : run F C s (each_from F C p items levels i) ≡ run F C s (one levels i hit >> each_from F C p items levels (i + 1))
     at_switch =
         ap (run F C s) (each_step levels i h)
-        ∙ then_ok F C s (look (λ w. is_hit (names C) w.hidden (matching p) i)) (λ b. one levels i b >> each_from levels (i + 1)) (is_hit (names C) s.world.hidden (matching p) i) s refl
-        ∙ ap (λ b. run F C s (one levels i b >> each_from levels (i + 1))) (sym e)
+        ∙ then_ok F C s (look (λ w. is_hit (names C) w.hidden (matching p) i)) (λ b. one levels i b >> each_from F C p items levels (i + 1)) (is_hit (names C) s.world.hidden (matching p) i) s refl
+        ∙ ap (λ b. run F C s (one levels i b >> each_from F C p items levels (i + 1))) (sym e)
 
-    pub no_hit : hit ≡ false → run F C s (each_from levels i) ≡ run F C s (each_from levels (i + 1))
-    no_hit f = at_switch ∙ ap (λ b. run F C s (one levels i b >> each_from levels (i + 1))) f ∙ then_ok F C s nothing (λ u. each_from levels (i + 1)) tt s refl
+    pub no_hit : hit ≡ false → run F C s (each_from F C p items levels i) ≡ run F C s (each_from F C p items levels (i + 1))
+    no_hit f = at_switch ∙ ap (λ b. run F C s (one levels i b >> each_from F C p items levels (i + 1))) f ∙ then_ok F C s nothing (λ u. each_from F C p items levels (i + 1)) tt s refl
 
-    abbrev hit_step : Step (Unit {0})
-    hit_step = opened levels (λ deeper inside. items_step F C items inside (drop (length (matching p).name) (name_at (names C) i))) >> puts (Break ∷ word_of (argument C i))
+    pub at_hit : hit ≡ true → run F C s (each_from F C p items levels i) ≡ run F C s (hit_step F C p items levels i >> each_from F C p items levels (i + 1))
+    at_hit f = at_switch ∙ ap (λ b. run F C s (one levels i b >> each_from F C p items levels (i + 1))) f
 
-    at_hit : hit ≡ true → run F C s (each_from levels i) ≡ run F C s (hit_step >> each_from levels (i + 1))
-    at_hit f = at_switch ∙ ap (λ b. run F C s (one levels i b >> each_from levels (i + 1))) f
-
-  pub too_deep : (s : State) (i : ℕ) → i < length C.switches → (hit : Bool) → hit ≡ is_hit (names C) s.world.hidden (matching p) i → hit ≡ true → run F C s (each_from [] i) ≡ Is (Err SpecTooDeep)
-  too_deep s i h hit e f = at_hit [] s i h hit e f
-
-  module _ (left : ℕ) (s : State) (i : ℕ) (h : i < length C.switches) (hit : Bool) (e : hit ≡ is_hit (names C) s.world.hidden (matching p) i) (f : hit ≡ true) (rest : List ℕ)
-      (r : rest ≡ drop (length (matching p).name) (name_at (names C) i)) where
-    abbrev work : Step (Unit {0})
-    work = items_step F C items (levels_left F C left) (drop (length (matching p).name) (name_at (names C) i))
-
-    pub each_fails : (fault : MachineFault) → (fault ≡ Memory) ⊎ (run F C s (items_step F C items (levels_left F C left) rest) ≡ Is (Err fault)) → (fault ≡ Memory) ⊎ (run F C s (each_from (levels_left F C (suc left)) i) ≡ Is (Err fault))
-    each_fails fault (inl memory) = inl memory
-    each_fails fault (inr stopped) =
-        inr (at_hit (levels_left F C (suc left)) s i h hit e f
-        ∙ then_err F C s (hit_step (levels_left F C (suc left)) s i h hit e) (λ u. each_from (levels_left F C (suc left)) (i + 1)) fault
-        (then_err F C s work (λ u. puts (Break ∷ word_of (argument C i))) fault (ap (λ x. run F C s (items_step F C items (levels_left F C left) x)) (sym r) ∙ stopped)))
-
-    module _ (t : State) (went : run F C s (items_step F C items (levels_left F C left) rest) ≡ Is (Ok (tt, t))) where
-      worked_first : run F C s (hit_step (levels_left F C (suc left)) s i h hit e) ≡ run F C t (puts (Break ∷ word_of (argument C i)))
-      worked_first = then_ok F C s work (λ u. puts (Break ∷ word_of (argument C i))) tt t (ap (λ x. run F C s (items_step F C items (levels_left F C left) x)) (sym r) ∙ went)
-
-      pub argument_fails : (fault : MachineFault) → (fault ≡ Memory) ⊎ (run F C t (puts (Break ∷ word_of (argument C i))) ≡ Is (Err fault)) → (fault ≡ Memory) ⊎ (run F C s (each_from (levels_left F C (suc left)) i) ≡ Is (Err fault))
-      argument_fails fault (inl memory) = inl memory
-      argument_fails fault (inr stopped) =
-          inr (at_hit (levels_left F C (suc left)) s i h hit e f
-          ∙ then_err F C s (hit_step (levels_left F C (suc left)) s i h hit e) (λ u. each_from (levels_left F C (suc left)) (i + 1)) fault (worked_first ∙ stopped))
-
-      pub each_done : (v : State) → run F C t (puts (Break ∷ word_of (argument C i))) ≡ Is (Ok (tt, v)) → run F C s (each_from (levels_left F C (suc left)) i) ≡ run F C v (each_from (levels_left F C (suc left)) (i + 1))
-      each_done v put =
-          at_hit (levels_left F C (suc left)) s i h hit e f
-          ∙ then_ok F C s (hit_step (levels_left F C (suc left)) s i h hit e) (λ u. each_from (levels_left F C (suc left)) (i + 1)) tt v (worked_first ∙ put)
-
-  pub each_end : (levels : Levels) (s : State) (i : ℕ) → length C.switches ≡ i → run F C s (each_from levels i) ≡ Is (Ok (tt, s))
+  pub each_end : (levels : Levels) (s : State) (i : ℕ) → length C.switches ≤ i → run F C s (each_from F C p items levels i) ≡ Is (Ok (tt, s))
   each_end levels s i h = by (length C.switches - i) (omega (arith, h))
     where
       by : (n : ℕ) → n ≡ 0 → run F C s (each levels (range_with_len i n)) ≡ Is (Ok (tt, s))
       by n e = ap (λ k. run F C s (each levels (range_with_len i k))) e
 
-  pub each_all : (levels : Levels) → each_hit F C p (λ rest inside. items_step F C items inside rest) levels (places F C) ≡ each_from levels 0
+  pub each_all : (levels : Levels) → each_hit F C p (λ rest inside. items_step F C items inside rest) levels (places F C) ≡ each_from F C p items levels 0
   each_all levels = by (length C.switches - 0) (length C.switches) (omega arith)
     where
       by : (n m : ℕ) → n ≡ m → each levels (range_with_len 0 m) ≡ each levels (range_with_len 0 n)
@@ -254,12 +224,3 @@ module _ (F : Facts) (C : Context) (p : Pattern) (items : Items) where
 
 pub hit_in : (C : Context) (all : List (List ℕ)) (hidden flags : List Bool) (q : switches.Pattern) (p : Pattern) (i : ℕ) (b : Bool) → b ≡ is_hit all hidden q i → all ≡ names C → hidden ≡ flags → q ≡ matching p → b ≡ is_hit (names C) flags (matching p) i
 hit_in C all hidden flags q p i b e a h m = e ∙ ap (λ xs. is_hit xs hidden q i) a ∙ ap (λ xs. is_hit (names C) xs q i) h ∙ ap (λ x. is_hit (names C) flags x i) m
-
-pub rest_in : (C : Context) (all : List (List ℕ)) (name rest : List ℕ) (q : switches.Pattern) (p : Pattern) (i size : ℕ) → rest ≡ drop size name → name ≡ name_at all i → all ≡ names C → size ≡ length q.name → q ≡ matching p
-    → rest ≡ drop (length (matching p).name) (name_at (names C) i)
-rest_in C all name rest q p i size e n a z m =
-    e ∙ ap (drop size) (n ∙ ap (λ xs. name_at xs i) a) ∙ ap (λ k. drop k (name_at (names C) i)) (z ∙ ap (λ (x : switches.Pattern). length x.name) m)
-
-pub less_one : (left : ℕ) → (left ≡ 0 → ⊥) → left ≡ suc (left - 1)
-less_one zero h = absurd (h refl)
-less_one (suc n) h = omega arith

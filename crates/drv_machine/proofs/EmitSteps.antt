@@ -12,7 +12,7 @@ use Rattle.drv_machine.specs.Working.{◌>>-◌, Answer, Atom, Break, Put, World
 use Rattle.drv_machine.specs.declared.fault.MachineFault.TheVariants.{Memory}
 use Rattle.drv_machine.specs.declared.fault.MachineFault.{MachineFault}
 use Rattle.drv_match.specs.Matching.{is_hit, name_at}
-use Rattle.drv_match.specs.declared.pattern.Pattern as switches
+use Rattle.drv_match.specs.Pattern as switches
 use Rattle.drv_syntax.specs.Labels.{label_at, labels_of, pattern_label, pattern_nodes}
 use Rattle.drv_syntax.specs.Parsed.{tree_of}
 use Rattle.drv_syntax.specs.Tokens.{tokens_of}
@@ -21,6 +21,7 @@ use Rattle.drv_syntax.specs.declared.token.Token.{Token}
 use Rattle.drv_syntax.specs.declared.token.TokenKind.TheVariants as kinds
 use Rattle.drv_system.specs.Facts.{Facts}
 use Rattle.drv_system.specs.Known.{Is, Unasked}
+use Rattle.drv_words.specs.Bytes.{hyphen}
 use Rattle.std.proofs.Common.{◌≡◌, ◌⊎◌, ◌<◌, ◌≤◌, ◌+◌, ◌-◌, ◌∙◌, ◌++◌, ◌||◌, Bool, Err, List, [], ◌∷◌, Ok, Option, Some, ap, append-nil, append_assoc, arith, false, if◌then◌else◌, length, map, refl, slice_get, subst, suc, sym, true, ℕ}
 use Rattle.std.proofs.lemmas.List.{length-map}
 use Rattle.std.specs.List.{filter, flat_map, list_any, range_with_len}
@@ -144,11 +145,14 @@ pub in_line : (C : Context) (all : List (List ℕ)) (i n : ℕ) → i < n → n 
 in_line C all i n h e same = subst (λ (k : ℕ). i < k) (e ∙ ap (λ xs. length xs) same ∙ length-map C.switches (λ switch. switch.name)) h
 
 pub switch_is : (F : Facts) (C : Context) (name : List ℕ) (given : Option (List ℕ)) (i : ℕ) → name ≡ name_at (names C) i → given ≡ argument C i
-    → map Put (45 ∷ name) ++ Break ∷ word_of given ≡ switch_atoms F C i
-switch_is F C name given i n a = ap (λ xs. map Put (45 ∷ xs) ++ Break ∷ word_of given) n ∙ ap (λ o. map Put (45 ∷ name_at (names C) i) ++ Break ∷ word_of o) a
+    → map Put (hyphen ∷ name) ++ Break ∷ word_of given ≡ switch_atoms F C i
+switch_is F C name given i n a = ap (λ xs. map Put (hyphen ∷ xs) ++ Break ∷ word_of given) n ∙ ap (λ o. map Put (hyphen ∷ name_at (names C) i) ++ Break ∷ word_of o) a
 
 pub line_end : (C : Context) (all : List (List ℕ)) (i n : ℕ) → i ≤ n → n ≤ i → n ≡ length all → all ≡ names C → length C.switches ≡ i
 line_end C all i n h g e same = sym (ap (λ xs. length xs) same ∙ length-map C.switches (λ switch. switch.name)) ∙ sym e ∙ by (omega (arith, h, g))
   where
     by : n ≡ i → n ≡ i
     by m = m
+
+pub line_past : (C : Context) (all : List (List ℕ)) (i n : ℕ) → n ≤ i → n ≡ length all → all ≡ names C → length C.switches ≤ i
+line_past C all i n h e same = subst (λ (k : ℕ). k ≤ i) (e ∙ ap (λ xs. length xs) same ∙ length-map C.switches (λ switch. switch.name)) h

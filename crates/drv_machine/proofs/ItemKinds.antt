@@ -57,41 +57,59 @@ item_by_kind F C tree.Star levels star = refl
 item_by_kind F C (tree.FailureFile brace) levels star = refl
 item_by_kind F C (tree.ArgumentsFile brace) levels star = refl
 
+-- a part that is no item
+abbrev is_part : TokenKind → Bool
+is_part kinds.Alternative = true
+is_part kinds.Test = true
+is_part kinds.Pattern = true
+is_part _ = false
+
+item_no_part : (item : Item) → is_part (kind_of item) ≡ false
+item_no_part (tree.Plain b) = refl
+item_no_part (tree.Escape b) = refl
+item_no_part tree.Blank = refl
+item_no_part tree.Newline = refl
+item_no_part tree.Pipe = refl
+item_no_part tree.Percent = refl
+item_no_part tree.InputName = refl
+item_no_part tree.BaseStem = refl
+item_no_part tree.BaseName = refl
+item_no_part tree.ObjectSuffix = refl
+item_no_part (tree.TempName kind suffix) = refl
+item_no_part tree.Removed = refl
+item_no_part tree.Output = refl
+item_no_part tree.NoOutput = refl
+item_no_part tree.FoundFile = refl
+item_no_part tree.FoundScript = refl
+item_no_part tree.Directories = refl
+item_no_part tree.Outputs = refl
+item_no_part (tree.AddOption option) = refl
+item_no_part tree.LinkerOptions = refl
+item_no_part tree.AssemblerOptions = refl
+item_no_part tree.PreprocessorOptions = refl
+item_no_part (tree.UserError text) = refl
+item_no_part (tree.Notice text) = refl
+item_no_part (tree.NamedText name) = refl
+item_no_part (tree.BuiltinText name) = refl
+item_no_part (tree.Hide p) = refl
+item_no_part (tree.Function name arguments) = refl
+item_no_part (tree.Braces (tree.Emit patterns)) = refl
+item_no_part (tree.Braces (tree.Choose choices)) = refl
+item_no_part tree.Star = refl
+item_no_part (tree.FailureFile brace) = refl
+item_no_part (tree.ArgumentsFile brace) = refl
+
 -- no item is a test
 pub item_no_test : (item : Item) → is_test (kind_of item) ≡ false
-item_no_test (tree.Plain b) = refl
-item_no_test (tree.Escape b) = refl
-item_no_test tree.Blank = refl
-item_no_test tree.Newline = refl
-item_no_test tree.Pipe = refl
-item_no_test tree.Percent = refl
-item_no_test tree.InputName = refl
-item_no_test tree.BaseStem = refl
-item_no_test tree.BaseName = refl
-item_no_test tree.ObjectSuffix = refl
-item_no_test (tree.TempName kind suffix) = refl
-item_no_test tree.Removed = refl
-item_no_test tree.Output = refl
-item_no_test tree.NoOutput = refl
-item_no_test tree.FoundFile = refl
-item_no_test tree.FoundScript = refl
-item_no_test tree.Directories = refl
-item_no_test tree.Outputs = refl
-item_no_test (tree.AddOption option) = refl
-item_no_test tree.LinkerOptions = refl
-item_no_test tree.AssemblerOptions = refl
-item_no_test tree.PreprocessorOptions = refl
-item_no_test (tree.UserError text) = refl
-item_no_test (tree.Notice text) = refl
-item_no_test (tree.NamedText name) = refl
-item_no_test (tree.BuiltinText name) = refl
-item_no_test (tree.Hide p) = refl
-item_no_test (tree.Function name arguments) = refl
-item_no_test (tree.Braces (tree.Emit patterns)) = refl
-item_no_test (tree.Braces (tree.Choose choices)) = refl
-item_no_test tree.Star = refl
-item_no_test (tree.FailureFile brace) = refl
-item_no_test (tree.ArgumentsFile brace) = refl
+item_no_test item = by (kind_of item) (item_no_part item)
+  where
+    by : (kind : TokenKind) → is_part kind ≡ false → is_test kind ≡ false
+    by kinds.Test e = absurd cc
+    by _ e = refl
+
+-- nor an alternative
+pub item_no_alternative : (item : Item) → kind_of item ≡ kinds.Alternative → ⊥
+item_no_alternative item e = let f = item_no_part item in let g : is_part (kind_of item) ≡ true = ap is_part e in cc
 
 no_stars : (patterns : List (Span × Pattern)) → stars (pattern_nodes patterns) ≡ false
 no_stars [] = refl

@@ -26,60 +26,75 @@ tree text = by (parsed text)
 abbrev one_switch : Context
 one_switch = record { switches = record { name = codes "ma"; arg = None } ∷ []; input = None }
 
+abbrev letter_a : ℕ
+letter_a = 97
+
+abbrev letter_b : ℕ
+letter_b = 98
+
+abbrev letter_c : ℕ
+letter_c = 99
+
+abbrev letter_x : ℕ
+letter_x = 120
+
+abbrev letter_y : ℕ
+letter_y = 121
+
 module _ (F : Facts) where
   -- the job's output and its failure files
   abbrev left_behind : List Atom → Answer (Option (List ℕ) × List (List ℕ))
   left_behind atoms = all_taken F one_switch nothing_cut (atoms ++ Break ∷ End ∷ []) >>- λ c. Is (Ok (c.output, c.on_failure))
 
   -- a%w b
-  output : left_behind (Put 97 ∷ Marked AsOutput ∷ Break ∷ Put 98 ∷ []) ≡ Is (Ok (Some (codes "a"), codes "a" ∷ []))
+  output : left_behind (Put letter_a ∷ Marked AsOutput ∷ Break ∷ Put letter_b ∷ []) ≡ Is (Ok (Some (codes "a"), codes "a" ∷ []))
   output = refl
 
   -- a %wb
-  output_waits : left_behind (Put 97 ∷ Break ∷ Marked AsOutput ∷ Put 98 ∷ []) ≡ Is (Ok (Some (codes "b"), codes "b" ∷ []))
+  output_waits : left_behind (Put letter_a ∷ Break ∷ Marked AsOutput ∷ Put letter_b ∷ []) ≡ Is (Ok (Some (codes "b"), codes "b" ∷ []))
   output_waits = refl
 
   -- a %w b
-  mark_dropped : left_behind (Put 97 ∷ Break ∷ Marked AsOutput ∷ Break ∷ Put 98 ∷ []) ≡ Is (Ok (None, []))
+  mark_dropped : left_behind (Put letter_a ∷ Break ∷ Marked AsOutput ∷ Break ∷ Put letter_b ∷ []) ≡ Is (Ok (None, []))
   mark_dropped = refl
 
   -- a%w%V b and a%V%w b
-  no_output_behind : left_behind (Put 97 ∷ Marked AsOutput ∷ Without ∷ Break ∷ Put 98 ∷ []) ≡ Is (Ok (None, codes "a" ∷ []))
+  no_output_behind : left_behind (Put letter_a ∷ Marked AsOutput ∷ Without ∷ Break ∷ Put letter_b ∷ []) ≡ Is (Ok (None, codes "a" ∷ []))
   no_output_behind = refl
 
-  no_output_before : left_behind (Put 97 ∷ Without ∷ Marked AsOutput ∷ Break ∷ Put 98 ∷ []) ≡ Is (Ok (None, codes "a" ∷ []))
+  no_output_before : left_behind (Put letter_a ∷ Without ∷ Marked AsOutput ∷ Break ∷ Put letter_b ∷ []) ≡ Is (Ok (None, codes "a" ∷ []))
   no_output_before = refl
 
   -- %V a%w
-  output_later : left_behind (Without ∷ Break ∷ Put 97 ∷ Marked AsOutput ∷ []) ≡ Is (Ok (Some (codes "a"), codes "a" ∷ []))
+  output_later : left_behind (Without ∷ Break ∷ Put letter_a ∷ Marked AsOutput ∷ []) ≡ Is (Ok (Some (codes "a"), codes "a" ∷ []))
   output_later = refl
 
   -- a%W{b}, and with nothing in it
-  failure_file : left_behind (Put 97 ∷ From ∷ Put 98 ∷ Break ∷ To ∷ []) ≡ Is (Ok (None, codes "ab" ∷ []))
+  failure_file : left_behind (Put letter_a ∷ From ∷ Put letter_b ∷ Break ∷ To ∷ []) ≡ Is (Ok (None, codes "ab" ∷ []))
   failure_file = refl
 
-  failure_file_empty : left_behind (Put 97 ∷ From ∷ Break ∷ To ∷ []) ≡ Is (Ok (None, codes "a" ∷ []))
+  failure_file_empty : left_behind (Put letter_a ∷ From ∷ Break ∷ To ∷ []) ≡ Is (Ok (None, codes "a" ∷ []))
   failure_file_empty = refl
 
   -- a word that ends inside two
-  failure_file_twice : left_behind (From ∷ From ∷ Put 97 ∷ Break ∷ To ∷ Break ∷ To ∷ []) ≡ Is (Ok (None, codes "a" ∷ codes "a" ∷ []))
+  failure_file_twice : left_behind (From ∷ From ∷ Put letter_a ∷ Break ∷ To ∷ Break ∷ To ∷ []) ≡ Is (Ok (None, codes "a" ∷ codes "a" ∷ []))
   failure_file_twice = refl
 
-  failure_file_none : left_behind (Put 97 ∷ Break ∷ From ∷ Break ∷ To ∷ []) ≡ Is (Ok (None, []))
+  failure_file_none : left_behind (Put letter_a ∷ Break ∷ From ∷ Break ∷ To ∷ []) ≡ Is (Ok (None, []))
   failure_file_none = refl
 
   -- a mark stands behind a pipe, and a %V doesn't
   abbrev is_stray : List Atom → Answer Bool
   is_stray atoms = all_taken F one_switch nothing_cut atoms >>- λ c. Is (Ok c.stray)
 
-  stray_mark : is_stray (Put 97 ∷ Piped ∷ Marked AsRemoved ∷ []) ≡ Is (Ok true)
+  stray_mark : is_stray (Put letter_a ∷ Piped ∷ Marked AsRemoved ∷ []) ≡ Is (Ok true)
   stray_mark = refl
 
-  no_stray : is_stray (Put 97 ∷ Piped ∷ Without ∷ From ∷ Break ∷ To ∷ Break ∷ End ∷ []) ≡ Is (Ok false)
+  no_stray : is_stray (Put letter_a ∷ Piped ∷ Without ∷ From ∷ Break ∷ To ∷ Break ∷ End ∷ []) ≡ Is (Ok false)
   no_stray = refl
 
   -- arguments
-  arguments : argument_words F one_switch (Put 97 ∷ Put 98 ∷ Break ∷ Open ∷ Break ∷ Put 99 ∷ []) ≡ Is (Ok (codes "ab" ∷ [] ∷ codes "c" ∷ []))
+  arguments : argument_words F one_switch (Put letter_a ∷ Put letter_b ∷ Break ∷ Open ∷ Break ∷ Put letter_c ∷ []) ≡ Is (Ok (codes "ab" ∷ [] ∷ codes "c" ∷ []))
   arguments = refl
 
   abbrev words_got : Work (List (List ℕ)) → List (List ℕ)
@@ -99,29 +114,29 @@ module _ (F : Facts) where
   abbrev from_item : ℕ → World
   from_item n = record (start F one_switch) { items = n }
 
-  last_item : ends (items_step F one_switch (tree (codes "x")) [] [] (from_item 999999)) ≡ (Put 120 ∷ [], Is (Ok 1000000))
+  last_item : ends (items_step F one_switch (tree (codes "x")) [] [] (from_item 999999)) ≡ (Put letter_x ∷ [], Is (Ok 1000000))
   last_item = refl
 
-  one_item_more : ends (items_step F one_switch (tree (codes "xy")) [] [] (from_item 999999)) ≡ (Put 120 ∷ [], Is (Err TooManySteps))
+  one_item_more : ends (items_step F one_switch (tree (codes "xy")) [] [] (from_item 999999)) ≡ (Put letter_x ∷ [], Is (Err TooManySteps))
   one_item_more = refl
 
   -- a %* opens its X, and so does a named text; the limit of items comes first
   abbrev starred : Items
   starred = tree (codes "a%{m*:%*}")
 
-  open_star : ends (items_step F one_switch starred (levels_left F one_switch 1) [] (from_item 0)) ≡ (Put 97 ∷ Put 97 ∷ Break ∷ [], Is (Ok 3))
+  open_star : ends (items_step F one_switch starred (levels_left F one_switch 1) [] (from_item 0)) ≡ (Put letter_a ∷ Put letter_a ∷ Break ∷ [], Is (Ok 3))
   open_star = refl
 
-  too_deep : ends (items_step F one_switch starred [] [] (from_item 0)) ≡ (Put 97 ∷ [], Is (Err SpecTooDeep))
+  too_deep : ends (items_step F one_switch starred [] [] (from_item 0)) ≡ (Put letter_a ∷ [], Is (Err SpecTooDeep))
   too_deep = refl
 
-  many_before_deep : ends (items_step F one_switch starred [] [] (from_item 999999)) ≡ (Put 97 ∷ [], Is (Err TooManySteps))
+  many_before_deep : ends (items_step F one_switch starred [] [] (from_item 999999)) ≡ (Put letter_a ∷ [], Is (Err TooManySteps))
   many_before_deep = refl
 
-  named_too_deep : ends (named F one_switch (Some starred) (levels_left F one_switch 1) (from_item 0)) ≡ (Put 97 ∷ [], Is (Err SpecTooDeep))
+  named_too_deep : ends (named F one_switch (Some starred) (levels_left F one_switch 1) (from_item 0)) ≡ (Put letter_a ∷ [], Is (Err SpecTooDeep))
   named_too_deep = refl
 
-  named_deep : ends (named F one_switch (Some starred) (levels_left F one_switch 2) (from_item 0)) ≡ (Put 97 ∷ Put 97 ∷ Break ∷ [], Is (Ok 3))
+  named_deep : ends (named F one_switch (Some starred) (levels_left F one_switch 2) (from_item 0)) ≡ (Put letter_a ∷ Put letter_a ∷ Break ∷ [], Is (Ok 3))
   named_deep = refl
 
   named_missing : ends (named F one_switch None (levels_left F one_switch 2) (from_item 0)) ≡ ([], Is (Ok 0))
@@ -138,5 +153,5 @@ module _ (F : Facts) where
   star_in_test_open = refl
 
   -- an X without a %* of its own opens nothing
-  no_star : ends (items_step F one_switch (tree (codes "%{m*:y}")) [] [] (from_item 0)) ≡ (Put 121 ∷ [], Is (Ok 2))
+  no_star : ends (items_step F one_switch (tree (codes "%{m*:y}")) [] [] (from_item 0)) ≡ (Put letter_y ∷ [], Is (Ok 2))
   no_star = refl

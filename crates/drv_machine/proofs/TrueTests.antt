@@ -28,11 +28,11 @@ asked_is F C negated (tree.HasSuffix word) levels star = refl
 asked_is F C negated (tree.HasLanguage word) levels star = refl
 asked_is F C negated (tree.HasResult name items) levels star = refl
 
--- the tests that are left at a place
-pub record TestsLeft (F : Facts) (C : Context) (text : List ℕ) (s : State) (at end : ℕ) (tests : Tests) (levels : Levels) (star : List ℕ) : Type 0 where
+-- the tests that are left at a place, and the state that was there and that is
+pub record TestsLeft (F : Facts) (C : Context) (text : List ℕ) (s t : State) (at end : ℕ) (tests : Tests) (levels : Levels) (star : List ℕ) : Type 0 where
   pub rest : Tests
   pub stands : Stands text at (test_nodes rest) end
-  pub same : run F C s (first_true F C rest levels star) ≡ run F C s (first_true F C tests levels star)
+  pub same : run F C t (first_true F C rest levels star) ≡ run F C s (first_true F C tests levels star)
 
 pub record FrontTest (text : List ℕ) (at : ℕ) (tests : Tests) (end : ℕ) : Type 0 where
   pub span : Span
@@ -61,23 +61,23 @@ pub no_tests_left : (text : List ℕ) (at : ℕ) (tests : Tests) (end : ℕ) →
 no_tests_left text at tree.no_test end h s = refl
 no_tests_left text at (tree.test span negated asked others) end h (next, part, within, behind) = absurd (omega (arith, h, part.later, stand_grows _ _ next (test_nodes others) end behind))
 
-module _ (F : Facts) (C : Context) (s : State) (span : Span) (negated : Bool) (asked : Asked) (others : Tests) (levels : Levels) (star : List ℕ) where
+module _ (F : Facts) (C : Context) (s u : State) (span : Span) (negated : Bool) (asked : Asked) (others : Tests) (levels : Levels) (star : List ℕ) where
   abbrev judged : Bool → Step (Option Asked)
   judged holds = if turned negated holds then give (Some asked) else first_true F C others levels star
 
-  pub test_answers : (holds : Bool) → run F C s (asked_step C (test_label negated asked)) ≡ Is (Ok (holds, s)) → run F C s (first_true F C (tree.test span negated asked others) levels star) ≡ run F C s (judged holds)
-  test_answers holds e = then_ok F C s (truth F C asked levels star) judged holds s (ap (run F C s) (asked_is F C negated asked levels star) ∙ e)
+  test_answers : (holds : Bool) → run F C s (asked_step C (test_label negated asked)) ≡ Is (Ok (holds, u)) → run F C s (first_true F C (tree.test span negated asked others) levels star) ≡ run F C u (judged holds)
+  test_answers holds e = then_ok F C s (truth F C asked levels star) judged holds u (ap (run F C s) (asked_is F C negated asked levels star) ∙ e)
 
   pub test_refuses : (fault : MachineFault) → run F C s (asked_step C (test_label negated asked)) ≡ Is (Err fault) → run F C s (first_true F C (tree.test span negated asked others) levels star) ≡ Is (Err fault)
   test_refuses fault e = then_err F C s (truth F C asked levels star) judged fault (ap (run F C s) (asked_is F C negated asked levels star) ∙ e)
 
-  pub test_is_true : (holds : Bool) → run F C s (asked_step C (test_label negated asked)) ≡ Is (Ok (holds, s)) → turned negated holds ≡ true
-      → run F C s (first_true F C (tree.test span negated asked others) levels star) ≡ Is (Ok (Some asked, s))
-  test_is_true holds e t = test_answers holds e ∙ ap (λ b. run F C s (if b then give (Some asked) else first_true F C others levels star)) t
+  pub test_is_true : (holds : Bool) → run F C s (asked_step C (test_label negated asked)) ≡ Is (Ok (holds, u)) → turned negated holds ≡ true
+      → run F C s (first_true F C (tree.test span negated asked others) levels star) ≡ Is (Ok (Some asked, u))
+  test_is_true holds e t = test_answers holds e ∙ ap (λ b. run F C u (if b then give (Some asked) else first_true F C others levels star)) t
 
-  pub test_is_false : (holds : Bool) → run F C s (asked_step C (test_label negated asked)) ≡ Is (Ok (holds, s)) → turned negated holds ≡ false
-      → run F C s (first_true F C (tree.test span negated asked others) levels star) ≡ run F C s (first_true F C others levels star)
-  test_is_false holds e t = test_answers holds e ∙ ap (λ b. run F C s (if b then give (Some asked) else first_true F C others levels star)) t
+  pub test_is_false : (holds : Bool) → run F C s (asked_step C (test_label negated asked)) ≡ Is (Ok (holds, u)) → turned negated holds ≡ false
+      → run F C s (first_true F C (tree.test span negated asked others) levels star) ≡ run F C u (first_true F C others levels star)
+  test_is_false holds e t = test_answers holds e ∙ ap (λ b. run F C u (if b then give (Some asked) else first_true F C others levels star)) t
 
 turned_is : (holds negated : Bool) → turned negated holds ≡ not (beq holds negated)
 turned_is true true = refl
@@ -91,38 +91,38 @@ negated_is negated (tree.HasSuffix word) = refl
 negated_is negated (tree.HasLanguage word) = refl
 negated_is negated (tree.HasResult name items) = refl
 
-module _ (F : Facts) (C : Context) (text : List ℕ) (s : State) (at end : ℕ) (h : at < end) (tests : Tests) (levels : Levels) (star : List ℕ) (left : TestsLeft F C text s at end tests levels star) where
+module _ (F : Facts) (C : Context) (text : List ℕ) (s v : State) (at end : ℕ) (h : at < end) (tests : Tests) (levels : Levels) (star : List ℕ) (left : TestsLeft F C text s v at end tests levels star) where
   turned_at : (f : FrontTest text at left.rest end) (holds negated b : Bool) → negated ≡ (label_at (tree_of text) at).negated → not (beq holds negated) ≡ b → turned f.negated holds ≡ b
   turned_at f holds negated b n e =
       ap (λ m. turned m holds) (sym (negated_is f.negated f.asked) ∙ ap (λ (l : Label). l.negated) (sym f.part.label_is) ∙ sym n) ∙ turned_is holds negated ∙ e
 
-  asks_at : (f : FrontTest text at left.rest end) (given : Answer (Bool × State)) → run F C s (asked_step C (label_at (tree_of text) at)) ≡ given → run F C s (asked_step C (test_label f.negated f.asked)) ≡ given
-  asks_at f given e = ap (λ l. run F C s (asked_step C l)) (sym f.part.label_is) ∙ e
+  asks_at : (f : FrontTest text at left.rest end) (given : Answer (Bool × State)) → run F C v (asked_step C (label_at (tree_of text) at)) ≡ given → run F C v (asked_step C (test_label f.negated f.asked)) ≡ given
+  asks_at f given e = ap (λ l. run F C v (asked_step C l)) (sym f.part.label_is) ∙ e
 
-  from_rest : (f : FrontTest text at left.rest end) → run F C s (first_true F C tests levels star) ≡ run F C s (first_true F C (tree.test f.span f.negated f.asked f.others) levels star)
-  from_rest f = sym left.same ∙ ap (λ ts. run F C s (first_true F C ts levels star)) f.is
+  from_rest : (f : FrontTest text at left.rest end) → run F C s (first_true F C tests levels star) ≡ run F C v (first_true F C (tree.test f.span f.negated f.asked f.others) levels star)
+  from_rest f = sym left.same ∙ ap (λ ts. run F C v (first_true F C ts levels star)) f.is
 
-  pub found_true : (holds negated : Bool) → negated ≡ (label_at (tree_of text) at).negated → run F C s (asked_step C (label_at (tree_of text) at)) ≡ Is (Ok (holds, s))
-      → not (beq holds negated) ≡ true → TrueTest F C text s at (first_true F C tests levels star)
-  found_true holds negated n e t =
+  pub found_true : (u : State) (holds negated : Bool) → negated ≡ (label_at (tree_of text) at).negated → run F C v (asked_step C (label_at (tree_of text) at)) ≡ Is (Ok (holds, u))
+      → not (beq holds negated) ≡ true → TrueTest F C text s u at (first_true F C tests levels star)
+  found_true u holds negated n e t =
       let f = front_test text at left.rest end h left.stands in record {
         negated = f.negated;
         asked = f.asked;
         label_is = f.part.label_is;
-        gives = from_rest f ∙ test_is_true F C s f.span f.negated f.asked f.others levels star holds (asks_at f (Is (Ok (holds, s))) e) (turned_at f holds negated true n t);
+        gives = from_rest f ∙ test_is_true F C v u f.span f.negated f.asked f.others levels star holds (asks_at f (Is (Ok (holds, u))) e) (turned_at f holds negated true n t);
       }
 
-  pub found_false : (holds negated : Bool) → negated ≡ (label_at (tree_of text) at).negated → run F C s (asked_step C (label_at (tree_of text) at)) ≡ Is (Ok (holds, s))
-      → not (beq holds negated) ≡ false → (token : Token) → slice_get (tokens_of (tree_of text)) at ≡ Some token → TestsLeft F C text s token.next end tests levels star
-  found_false holds negated n e t token there =
+  pub found_false : (u : State) (holds negated : Bool) → negated ≡ (label_at (tree_of text) at).negated → run F C v (asked_step C (label_at (tree_of text) at)) ≡ Is (Ok (holds, u))
+      → not (beq holds negated) ≡ false → (token : Token) → slice_get (tokens_of (tree_of text)) at ≡ Some token → TestsLeft F C text s u token.next end tests levels star
+  found_false u holds negated n e t token there =
       let f = front_test text at left.rest end h left.stands in record {
         rest = f.others;
         stands = subst (λ (k : ℕ). Stands text k (test_nodes f.others) end) (sym (next_at text at token kinds.Test (test_label f.negated f.asked) f.next there f.part)) f.behind;
-        same = sym (from_rest f ∙ test_is_false F C s f.span f.negated f.asked f.others levels star holds (asks_at f (Is (Ok (holds, s))) e) (turned_at f holds negated false n t));
+        same = sym (from_rest f ∙ test_is_false F C v u f.span f.negated f.asked f.others levels star holds (asks_at f (Is (Ok (holds, u))) e) (turned_at f holds negated false n t));
       }
 
-  pub found_refusal : (fault : MachineFault) → (fault ≡ Memory) ⊎ (run F C s (asked_step C (label_at (tree_of text) at)) ≡ Is (Err fault)) → (fault ≡ Memory) ⊎ (run F C s (first_true F C tests levels star) ≡ Is (Err fault))
+  pub found_refusal : (fault : MachineFault) → (fault ≡ Memory) ⊎ (run F C v (asked_step C (label_at (tree_of text) at)) ≡ Is (Err fault)) → (fault ≡ Memory) ⊎ (run F C s (first_true F C tests levels star) ≡ Is (Err fault))
   found_refusal fault (inl memory) = inl memory
   found_refusal fault (inr e) =
       let f = front_test text at left.rest end h left.stands in
-      inr (from_rest f ∙ test_refuses F C s f.span f.negated f.asked f.others levels star fault (asks_at f (Is (Err fault)) e))
+      inr (from_rest f ∙ test_refuses F C v v f.span f.negated f.asked f.others levels star fault (asks_at f (Is (Err fault)) e))

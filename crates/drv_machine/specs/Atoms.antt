@@ -5,12 +5,13 @@ use Rattle.drv_machine.specs.Working.{◌>>-◌, ◌>>=◌, ◌>>◌, Atom, Brea
 use Rattle.drv_machine.specs.declared.context.Source.{Source}
 use Rattle.drv_machine.specs.declared.fault.MachineFault.TheVariants.{NoInput, NotYet}
 use Rattle.drv_match.specs.Matching.{hidden_by, hits, is_hit, name_at}
-use Rattle.drv_match.specs.declared.pattern.Pattern as switches
+use Rattle.drv_match.specs.Pattern as switches
 use Rattle.drv_syntax.specs.Tree.{AddOption, ArgumentsFile, Asked, AssemblerOptions, BaseName, BaseStem, Blank, Brace, Braces, BuiltinText, Choices, Choose, Directories, Emit, Escape, FailureFile, FoundFile, FoundScript, Function, HasLanguage, HasResult, HasSuffix, HasSwitch, Hide, InputName, Item, Items, LinkerOptions, NamedText, Newline, NoOutput, Notice, ObjectSuffix, Output, Outputs, Pattern, Percent, Pipe, Plain, PreprocessorOptions, Removed, Span, Star, TempName, Tests, UserError, choice, more, no_choice, no_test, none, pattern, test}
 use Rattle.drv_system.specs.Facts.{Facts}
 use Rattle.drv_system.specs.Known.{Is, Unasked}
+use Rattle.drv_words.specs.Bytes.{hyphen, percent}
 use Rattle.std.specs.List.{filter, flat_map, list_any, range_with_len}
-use Rattle.std.specs.Prelude.{Err, ◌||◌, Bool, List, [], ◌∷◌, ◌++◌, Option, None, Some, drop, false, if◌then◌else◌, length, map, nat_lt, not, suc, true, zero, ℕ}
+use Rattle.std.specs.Prelude.{Err, ◌||◌, Bool, List, [], ◌∷◌, ◌++◌, Option, None, Some, codes, drop, false, if◌then◌else◌, length, map, nat_lt, not, suc, true, zero, ℕ}
 
 -- What each item of a text means: one row for each directive (GCC manual, "Spec Files"; what it leaves open is this
 -- project's profile).
@@ -68,7 +69,7 @@ module _ (F : Facts) (C : Context) where
 
   -- a switch as it stands on the line, and its argument
   abbrev pub switch_atoms : ℕ → List Atom
-  switch_atoms i = map Put (45 ∷ name_at (names C) i) ++ Break ∷ word_of (argument C i)
+  switch_atoms i = map Put (hyphen ∷ name_at (names C) i) ++ Break ∷ word_of (argument C i)
 
   -- the switches that one of the patterns hits
   abbrev pub emitted : List (Span × Pattern) → List Bool → List Atom
@@ -111,11 +112,11 @@ module _ (F : Facts) (C : Context) where
     item_step Blank levels star = puts (Break ∷ [])
     item_step Newline levels star = puts (Break ∷ End ∷ [])
     item_step Pipe levels star = puts (Piped ∷ [])
-    item_step Percent levels star = puts (Put 37 ∷ [])
+    item_step Percent levels star = puts (Put percent ∷ [])
     item_step InputName levels star = input_name >>= bytes
     item_step BaseStem levels star = input_name >>= λ name. bytes (stem name)
     item_step BaseName levels star = input_name >>= λ name. bytes (base name)
-    item_step ObjectSuffix levels star = bytes (46 ∷ 111 ∷ [])
+    item_step ObjectSuffix levels star = bytes (codes ".o")
     item_step (TempName kind suffix) levels star = refuse NotYet
     item_step Removed levels star = refuse NotYet
     item_step Output levels star = refuse NotYet

@@ -7,7 +7,7 @@ use Rattle.drv_machine.specs.Working.{◌>>=◌, Atom, Break, End, Levels, Piped
 use Rattle.drv_machine.specs.declared.fault.MachineFault.TheVariants.{Memory, NotYet}
 use Rattle.drv_machine.specs.declared.fault.MachineFault.{MachineFault}
 use Rattle.drv_match.specs.Matching.{hidden_by, hits, is_hit}
-use Rattle.drv_match.specs.declared.pattern.Pattern as switches
+use Rattle.drv_match.specs.Pattern as switches
 use Rattle.drv_syntax.specs.Labels.{Label, choice_nodes, label_at, pattern_nodes, test_label}
 use Rattle.drv_syntax.specs.Parsed.{tree_of}
 use Rattle.drv_syntax.specs.Tree.{Asked, Choices, Pattern, Span}
@@ -17,8 +17,9 @@ use Rattle.drv_syntax.specs.declared.token.TokenKind.TheVariants as kinds
 use Rattle.drv_syntax.specs.declared.token.TokenKind.{TokenKind}
 use Rattle.drv_system.specs.Facts.{Facts}
 use Rattle.drv_system.specs.Known.{Is}
+use Rattle.drv_words.specs.Bytes.{percent}
 use Rattle.std.specs.List.{filter, flat_map, list_any, range_with_len}
-use Rattle.std.specs.Prelude.{◌≡◌, ◌⊎◌, ◌-◌, Bool, List, [], ◌∷◌, Option, None, Some, Result, Err, Ok, false, length, nat_lt, true, ⊤, ℕ}
+use Rattle.std.specs.Prelude.{◌≡◌, ◌⊎◌, ◌-◌, Bool, List, [], ◌∷◌, Option, None, Some, Result, Err, Ok, codes, false, length, nat_lt, true, ⊤, ℕ}
 
 -- What an item means, by its kind and its label (this project's profile). For the clauses of the code alone.
 
@@ -63,18 +64,18 @@ Means F C text kinds.Emit at end levels star inner =
 Means F C text kinds.Choose at end levels star inner = (choices : Choices) × Stands text at (choice_nodes choices) end × (inner ≡ choices_step F C choices levels star)
 Means F C text _ at end levels star inner = ⊤
 
--- a test that is true, at a place, and the state that is left as it was
-pub record TrueTest (F : Facts) (C : Context) (text : List ℕ) (s : State) (at : ℕ) (step : Step (Option Asked)) : Type 0 where
+-- a test that is true, at a place, and the state behind it
+pub record TrueTest (F : Facts) (C : Context) (text : List ℕ) (s t : State) (at : ℕ) (step : Step (Option Asked)) : Type 0 where
   pub negated : Bool
   pub asked : Asked
   pub label_is : label_at (tree_of text) at ≡ test_label negated asked
-  pub gives : run F C s step ≡ Is (Ok (Some asked, s))
+  pub gives : run F C s step ≡ Is (Ok (Some asked, t))
 
 -- what was found of tests
-abbrev pub Found : Facts → Context → List ℕ → State → Result (Option ℕ) MachineFault → Step (Option Asked) → Type 0
-Found F C text s (Ok None) step = run F C s step ≡ Is (Ok (None, s))
-Found F C text s (Ok (Some at)) step = TrueTest F C text s at step
-Found F C text s (Err fault) step = (fault ≡ Memory) ⊎ (run F C s step ≡ Is (Err fault))
+abbrev pub Found : Facts → Context → List ℕ → State → State → Result (Option ℕ) MachineFault → Step (Option Asked) → Type 0
+Found F C text s t (Ok None) step = run F C s step ≡ Is (Ok (None, t))
+Found F C text s t (Ok (Some at)) step = TrueTest F C text s t at step
+Found F C text s t (Err fault) step = (fault ≡ Memory) ⊎ (run F C s step ≡ Is (Err fault))
 
 -- `star` is what %* stands for, and `inner` what the braces mean
 abbrev pub kind_step : Facts → Context → TokenKind → Label → List ℕ → Step (Unit {0}) → Step (Unit {0})
@@ -83,11 +84,11 @@ kind_step F C kinds.Escape label star inner = bytes label.word
 kind_step F C kinds.Blank label star inner = puts (Break ∷ [])
 kind_step F C kinds.Newline label star inner = puts (Break ∷ End ∷ [])
 kind_step F C kinds.Pipe label star inner = puts (Piped ∷ [])
-kind_step F C kinds.Percent label star inner = bytes (37 ∷ [])
+kind_step F C kinds.Percent label star inner = bytes (percent ∷ [])
 kind_step F C kinds.InputName label star inner = input_name F C >>= bytes
 kind_step F C kinds.BaseStem label star inner = input_name F C >>= λ name. bytes (stem name)
 kind_step F C kinds.BaseName label star inner = input_name F C >>= λ name. bytes (base name)
-kind_step F C kinds.ObjectSuffix label star inner = bytes (46 ∷ 111 ∷ [])
+kind_step F C kinds.ObjectSuffix label star inner = bytes (codes ".o")
 kind_step F C kinds.Hide label star inner = hide_step C label
 kind_step F C kinds.Emit label star inner = inner
 kind_step F C kinds.Choose label star inner = inner

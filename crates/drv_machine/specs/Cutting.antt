@@ -4,7 +4,7 @@ use Rattle.drv_machine.specs.declared.fault.MachineFault.TheVariants.{NotYet}
 use Rattle.drv_system.specs.Facts.{Facts}
 use Rattle.drv_system.specs.Known.{Is}
 use Rattle.std.specs.Option.{unwrap_or}
-use Rattle.std.specs.Prelude.{◌&&◌, ◌||◌, Bool, List, [], ◌∷◌, ◌++◌, Option, None, Some, Err, Ok, false, if◌then◌else◌, is_some, map, not, true, ℕ}
+use Rattle.std.specs.Prelude.{◌&&◌, ◌||◌, Bool, List, [], ◌∷◌, ◌++◌, Option, None, Some, Err, Ok, codes, false, if◌then◌else◌, is_some, map, not, true, ℕ}
 
 -- Atoms cut into words with their marks, and words into commands (this project's profile).
 
@@ -104,7 +104,7 @@ inside_done (Some last ∷ outer) c = record c { inside = outer; on_failure = c.
 
 -- --script
 abbrev pub script_option : List ℕ
-script_option = 45 ∷ 45 ∷ 115 ∷ 99 ∷ 114 ∷ 105 ∷ 112 ∷ 116 ∷ []
+script_option = codes "--script"
 
 module _ (F : Facts) (C : Context) where
   -- what a word that is marked as a file becomes

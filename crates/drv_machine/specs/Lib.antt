@@ -1,3 +1,4 @@
+pub mod Asked
 pub mod Atoms
 pub mod ByKind
 pub mod Context
@@ -7,4 +8,5 @@ pub mod Names
 pub mod Outcome
 pub mod Running
 pub mod Standing
+pub mod Walking
 pub mod Working

@@ -1,4 +1,5 @@
 use Rattle.drv_machine.specs.declared.context.Source.{Source}
+use Rattle.drv_words.specs.Bytes.{period, slash}
 use Rattle.std.specs.Cmp.Lexicographic.{pointwise}
 use Rattle.std.specs.Prelude.{◌==◌, Bool, List, [], ◌∷◌, Option, None, Some, false, if◌then◌else◌, nat_eq, ℕ}
 
@@ -15,7 +16,7 @@ parted mark (b ∷ bs) = by (parted mark bs)
 
 -- a name without its folder: what stands behind its last slash
 abbrev pub base : List ℕ → List ℕ
-base name = by (parted 47 name)
+base name = by (parted slash name)
   where
     by : Option (List ℕ × List ℕ) → List ℕ
     by None = name
@@ -23,7 +24,7 @@ base name = by (parted 47 name)
 
 -- what stands before the last period of a name without its folder, and behind it; a period in first place doesn't count
 abbrev pub suffixed : List ℕ → Option (List ℕ × List ℕ)
-suffixed name = by (parted 46 (base name))
+suffixed name = by (parted period (base name))
   where
     by : Option (List ℕ × List ℕ) → Option (List ℕ × List ℕ)
     by None = None

@@ -1,36 +1,29 @@
 //! Braces with alternatives.
 
-ghost use Rattle.drv_machine.specs.Atoms.{choices_step, each_hit, has_star, items_step, levels_left, matching, places, worked};
+ghost use Rattle.drv_machine.specs.Asked.{Asked};
+ghost use Rattle.drv_machine.specs.Atoms.{choices_step, has_star, items_step, worked};
 ghost use Rattle.drv_machine.specs.ByKind.{asks_switch};
-ghost use Rattle.drv_machine.specs.Running.{run};
+ghost use Rattle.drv_machine.specs.Running.{State};
 ghost use Rattle.drv_machine.specs.Standing.{Spans, Stands, stars};
-ghost use Rattle.drv_machine.specs.Working.{Step};
+ghost use Rattle.drv_machine.specs.Walking.{Behind, Went};
+ghost use Rattle.drv_machine.specs.Working.{Answer, Step};
 ghost use Rattle.drv_syntax.specs.Labels.{Nodes, choice_nodes, label_at, nodes_of, test_label};
 ghost use Rattle.drv_syntax.specs.Parsed.{tree_of};
 ghost use Rattle.drv_syntax.specs.Tokens.{tokens_of};
 ghost use Rattle.drv_syntax.specs.Tree as tree;
+ghost use Rattle.drv_system.specs.Asking.{Extends};
 ghost use Rattle.drv_system.specs.Facts.{Facts};
-ghost use Rattle.drv_system.specs.Gives.{GivesKnown};
-ghost use Rattle.std.specs.Prelude.{◌≡◌, ◌&&◌, ◌<◌, ◌≤◌, Bool, OnOk, Some, drop, length};
+ghost use Rattle.std.specs.Prelude.{◌≡◌, ◌&&◌, ◌<◌, Bool, OnOk, Some, length};
 
 use crate::asking::first_true;
-use crate::items::work_items;
+use crate::hits::enter_next;
 use crate::machine::Machine;
-use crate::places::{has_own_star, pattern_at, tests_end, token_at};
+use crate::outside::Outside;
+use crate::places::{has_own_star, tests_end, token_at};
+use crate::walk::{Each, Walk};
 use crate::{Context, MachineFault};
-use drv_match::Pattern;
 use drv_syntax::{SpecTree, TestKind};
-
-/// What stands behind so many bytes.
-fn behind(bytes: &[u8], size: usize) -> &[u8]
-    ensures { result.now ≡ drop size bytes.now }
-{
-    if size <= bytes.len() {
-        &bytes[size..]
-    } else {
-        &[]
-    }
-}
+use drv_system::System;
 
 /// Whether an X is worked for each hit: the test at a place asks for a switch, and X, whose items stand from one place
 /// up to another, has a `%*` of its own.
@@ -45,91 +38,63 @@ fn is_for_each(text: &SpecTree, test: usize, start: usize, end: usize) -> bool
     }
 }
 
-/// Works an X, whose items stand from one place up to another, for each switch that is hit when its turn comes.
-#[cycle(working)]
-fn work_each(
+/// An X by the test at a place, which is true: it is opened for each hit where X has a `%*` of its own, else reached.
+fn enter_alternative(
     text: &SpecTree,
     context: &Context,
-    pattern: &Pattern,
-    start: usize,
-    end: usize,
-    left: usize,
-    machine: &mut Machine,
+    each: Each,
+    walk: &mut Walk,
+    machine: &Machine,
 ) -> Result<(), MachineFault>
-    requires spans { Spans text.now start end }
-    requires sized { length machine.old.world.hidden ≡ length context.now.switches }
-    ensures does { (F : Facts) (p : tree.Pattern) (items : tree.Items) → pattern.now ≡ matching p → Stands text.now start (nodes_of items) end → GivesKnown MachineFault.Memory (λ u. (tt, machine.new)) result (run F context.now machine.old (each_hit F context.now p (λ rest inside. items_step F context.now items inside rest) (levels_left F context.now left) (places F context.now))) }
-    ensures sized { length machine.new.world.hidden ≡ length machine.old.world.hidden }
-    ensures grows { OnOk result (machine.old.world.items ≤ machine.new.world.items) }
+    requires in_list { each.test < length (tokens_of (tree_of text.now)) }
+    requires spans { Spans text.now each.start each.end }
+    requires sized { length machine.now.world.hidden ≡ length context.now.switches }
+    ensures { (F : Facts) (negated : Bool) (asked : tree.Asked) (items : tree.Items) (others : Step (Unit {0})) (given : Answer (Unit {0} × State)) → label_at (tree_of text.now) each.test ≡ test_label negated asked → Stands text.now each.start (nodes_of items) each.end → Behind F context.now text.now walk.old each.end (λ levels star. worked F context.now (Some asked) (has_star items) (λ rest inside. items_step F context.now items inside rest) levels star others) machine.now given → Went F context.now text.now walk.new machine.now given result }
 {
-    for i in 0..context.switches().len() {
-        if !context.switches().is_hit(pattern, machine.hidden(), i) {
-            continue;
-        }
-        if left == 0 {
-            return Err(MachineFault::SpecTooDeep);
-        }
-        let rest = behind(context.switches().name(i), pattern.name.len());
-        work_items(text, context, start, end, left - 1, rest, machine)?;
-        machine.put_argument(context.argument(i))?;
+    if is_for_each(text, each.test, each.start, each.end) {
+        return enter_next(text, context, each, 0, walk, machine);
     }
+    walk.at = each.start;
     Ok(())
 }
 
-/// Works an X by the test at a place, which is true: for each hit where X has a `%*` of its own, else once.
-#[cycle(working)]
-fn work_alternative(
-    text: &SpecTree,
-    context: &Context,
-    test: usize,
-    start: usize,
-    end: usize,
-    left: usize,
-    star: &[u8],
-    machine: &mut Machine,
-) -> Result<(), MachineFault>
-    requires in_list { test < length (tokens_of (tree_of text.now)) }
-    requires spans { Spans text.now start end }
-    requires sized { length machine.old.world.hidden ≡ length context.now.switches }
-    ensures does { (F : Facts) (negated : Bool) (asked : tree.Asked) (items : tree.Items) (others : Step (Unit {0})) → label_at (tree_of text.now) test ≡ test_label negated asked → Stands text.now start (nodes_of items) end → GivesKnown MachineFault.Memory (λ u. (tt, machine.new)) result (run F context.now machine.old (worked F context.now (Some asked) (has_star items) (λ rest inside. items_step F context.now items inside rest) (levels_left F context.now left) star.now others)) }
-    ensures sized { length machine.new.world.hidden ≡ length machine.old.world.hidden }
-    ensures grows { OnOk result (machine.old.world.items ≤ machine.new.world.items) }
-{
-    if !is_for_each(text, test, start, end) {
-        return work_items(text, context, start, end, left, star, machine);
-    }
-    let pattern = pattern_at(machine.alloc(), text, test)?;
-    work_each(text, context, &pattern, start, end, left, machine)
-}
-
-/// Works the first of the alternatives with a true test that stand from one place up to another, or the default.
-#[cycle(working)]
-pub fn choose(
+/// The first of the alternatives with a true test that stand from one place up to another is reached or opened, or the
+/// default, or the place behind them.
+#[tactic(auto, using(crate::proofs::AskedCalls::asked_further))]
+pub(crate) fn choose<S: System>(
     text: &SpecTree,
     context: &Context,
     start: usize,
     end: usize,
-    left: usize,
-    star: &[u8],
+    walk: &mut Walk,
     machine: &mut Machine,
+    outside: &mut Outside<'_, S>,
 ) -> Result<(), MachineFault>
     requires spans { Spans text.now start end }
     requires sized { length machine.old.world.hidden ≡ length context.now.switches }
-    ensures does { (F : Facts) (choices : tree.Choices) → Stands text.now start (choice_nodes choices) end → GivesKnown MachineFault.Memory (λ u. (tt, machine.new)) result (run F context.now machine.old (choices_step F context.now choices (levels_left F context.now left) star.now)) }
+    ensures asks { Asked S.events outside.old outside.new }
+    ensures does { (F : Facts) → Extends outside.new.facts.now F → (choices : tree.Choices) (given : Answer (Unit {0} × State)) → Stands text.now start (choice_nodes choices) end → Behind F context.now text.now walk.old end (λ levels star. choices_step F context.now choices levels star) machine.old given → Went F context.now text.now walk.new machine.new given result }
     ensures sized { length machine.new.world.hidden ≡ length machine.old.world.hidden }
-    ensures grows { OnOk result (machine.old.world.items ≤ machine.new.world.items) }
+    ensures uncounted { OnOk result (machine.new.world.items ≡ machine.old.world.items) }
 {
     let mut at = start;
     while at < end {
         let next = token_at(text, at).next as usize;
         let items = tests_end(text, at + 1, next);
         if items == at + 1 {
-            return work_items(text, context, items, next, left, star, machine);
+            walk.at = items;
+            return Ok(());
         }
-        if let Some(test) = first_true(text, context, at + 1, items, machine)? {
-            return work_alternative(text, context, test, items, next, left, star, machine);
+        if let Some(test) = first_true(text, context, at + 1, items, machine, outside)? {
+            let each = Each {
+                test,
+                start: items,
+                end: next,
+            };
+            return enter_alternative(text, context, each, walk, machine);
         }
         at = next;
     }
+    walk.at = end;
     Ok(())
 }

@@ -11,7 +11,7 @@ pub enum MachineFault {
     #[error("out of memory")]
     Memory,
     /// The text has an error for the user, with this text.
-    #[error("an error of the spec")]
+    #[error("UserError")]
     UserError(Word),
     /// More than 64 named texts, workings of an X with a `%*`, function arguments, `%W` and `%@` are open at one time.
     #[error("specs nested too deep")]
@@ -32,7 +32,7 @@ pub enum MachineFault {
     #[error("more than 16 commands in one pipe")]
     PipeTooLong,
     /// The directive has no meaning yet.
-    #[error("a directive is not there yet")]
+    #[error("%@ is not there yet")]
     NotYet,
 }
 

@@ -6,17 +6,18 @@ mod braces;
 mod context;
 mod emitting;
 mod fault;
+mod hits;
 mod items;
 mod machine;
 mod names;
 mod outcome;
+mod outside;
 mod places;
+mod turns;
+mod walk;
 mod whole;
 
 pub use context::{Context, Source};
 pub use fault::MachineFault;
 pub use outcome::Outcome;
 pub use whole::run;
-
-#[cfg(test)]
-mod tests;

@@ -1,12 +1,15 @@
 //! What working a text holds: what is cut so far, the hidden switches, and the count of items.
 
+ghost use Rattle.drv_machine.specs.Asked.{Asked};
+ghost use Rattle.drv_machine.specs.Atoms.{switch_atoms};
 ghost use Rattle.drv_machine.specs.Context as specs;
-ghost use Rattle.drv_machine.specs.Context.{names};
+ghost use Rattle.drv_machine.specs.Context.{argument, names};
 ghost use Rattle.drv_machine.specs.Cutting.{pipe_done};
 ghost use Rattle.drv_machine.specs.Running.{begun, run};
 ghost use Rattle.drv_machine.specs.Working as step;
 ghost use Rattle.drv_machine.specs.Working.{Break, End, Open, Piped, Put, counted, puts, word_of};
 ghost use Rattle.drv_match.specs.Matching.{hidden_by};
+ghost use Rattle.drv_system.specs.Asking.{Extends};
 ghost use Rattle.drv_system.specs.Facts.{Facts};
 ghost use Rattle.drv_system.specs.Gives.{GivesKnown};
 ghost use Rattle.drv_system.specs.Known.{Is};
@@ -14,10 +17,13 @@ ghost use Rattle.std.specs.Prelude.{◌≡◌, ◌∷◌, ◌++◌, ◌+◌, ◌
 
 mod finishing;
 
-use crate::MachineFault;
+use crate::outside::Outside;
+use crate::{Context, MachineFault};
 use drv_match::{Hidden, Pattern, Switches};
+use drv_system::System;
 use drv_words::{Listing, Word};
 pub(crate) use finishing::into_outcome;
+use smallvec::SmallVec;
 use std::alloc::{AllocError, Global};
 use std::marker::Model;
 use std::mem;
@@ -48,7 +54,7 @@ pub(crate) struct Machine {
     /// Whether a word is open.
     is_open: bool,
     /// The bytes of the open word; none where no word is open.
-    word: Vec<u8>,
+    word: SmallVec<u8, 256>,
     /// The words of the open command.
     line: Listing<Word>,
     /// Whether a pipe stands behind them.
@@ -97,7 +103,7 @@ impl Machine {
         Ok(Machine {
             alloc,
             is_open: false,
-            word: Vec::new(alloc),
+            word: SmallVec::new(alloc),
             line: Listing::new(alloc),
             is_piped: false,
             lines: Listing::new(alloc),
@@ -123,15 +129,21 @@ impl Machine {
     }
 
     /// The open word, if there is one, ends.
-    pub(crate) fn end_word(&mut self) -> Result<(), MachineFault>
-        ensures does { (F : Facts) (C : specs.Context) → GivesKnown MachineFault.Memory (λ u. (tt, self.new)) result (run F C self.old (puts (Break ∷ []))) }
+    pub(crate) fn end_word<S: System>(
+        &mut self,
+        context: &Context,
+        outside: &mut Outside<'_, S>,
+    ) -> Result<(), MachineFault>
+        ensures asks { Asked S.events outside.old outside.new }
+        ensures does { (F : Facts) → Extends outside.new.facts.now F → GivesKnown MachineFault.Memory (λ u. (tt, self.new)) result (run F context.now self.old (puts (Break ∷ []))) }
         ensures sized { length self.new.world.hidden ≡ length self.old.world.hidden }
         ensures uncounted { OnOk result (self.new.world.items ≡ self.old.world.items) }
     {
         if !self.is_open {
             return Ok(());
         }
-        self.line.push(Word::from_vec(self.word.clone()?))?;
+        self.line
+            .push(Word::from_bytes(self.alloc, self.word.as_slice())?)?;
         self.word.clear();
         self.is_open = false;
         Ok(())
@@ -169,54 +181,79 @@ impl Machine {
     }
 
     /// The open word and its command end; a command without a word and a pipe is dropped.
-    pub(crate) fn end_line(&mut self) -> Result<(), MachineFault>
-        ensures does { (F : Facts) (C : specs.Context) → GivesKnown MachineFault.Memory (λ u. (tt, self.new)) result (run F C self.old (puts (Break ∷ End ∷ []))) }
+    #[tactic(auto, using(crate::proofs::AskedCalls::asked_further))]
+    pub(crate) fn end_line<S: System>(
+        &mut self,
+        context: &Context,
+        outside: &mut Outside<'_, S>,
+    ) -> Result<(), MachineFault>
+        ensures asks { Asked S.events outside.old outside.new }
+        ensures does { (F : Facts) → Extends outside.new.facts.now F → GivesKnown MachineFault.Memory (λ u. (tt, self.new)) result (run F context.now self.old (puts (Break ∷ End ∷ []))) }
         ensures sized { length self.new.world.hidden ≡ length self.old.world.hidden }
         ensures uncounted { OnOk result (self.new.world.items ≡ self.old.world.items) }
     {
-        self.end_word()?;
+        self.end_word(context, outside)?;
         self.close_line()
     }
 
     /// The open word ends, and its command with a pipe. Whether pipes stand right is judged behind the whole text.
-    pub(crate) fn pipe(&mut self) -> Result<(), MachineFault>
-        ensures does { (F : Facts) (C : specs.Context) → GivesKnown MachineFault.Memory (λ u. (tt, self.new)) result (run F C self.old (puts (Piped ∷ []))) }
+    #[tactic(auto, using(crate::proofs::AskedCalls::asked_further))]
+    pub(crate) fn pipe<S: System>(
+        &mut self,
+        context: &Context,
+        outside: &mut Outside<'_, S>,
+    ) -> Result<(), MachineFault>
+        ensures asks { Asked S.events outside.old outside.new }
+        ensures does { (F : Facts) → Extends outside.new.facts.now F → GivesKnown MachineFault.Memory (λ u. (tt, self.new)) result (run F context.now self.old (puts (Piped ∷ []))) }
         ensures sized { length self.new.world.hidden ≡ length self.old.world.hidden }
         ensures uncounted { OnOk result (self.new.world.items ≡ self.old.world.items) }
     {
-        self.end_word()?;
+        self.end_word(context, outside)?;
         self.close_with_pipe();
         Ok(())
     }
 
-    /// The open word ends, and a switch's argument, if it has one, is a word behind it.
-    pub(crate) fn put_argument(&mut self, argument: &Option<Word>) -> Result<(), MachineFault>
-        ensures does { (F : Facts) (C : specs.Context) → GivesKnown MachineFault.Memory (λ u. (tt, self.new)) result (run F C self.old (puts (Break ∷ word_of argument.now))) }
+    /// The open word ends, and the argument of the switch at a place, if it has one, is a word behind it.
+    #[tactic(auto, using(crate::proofs::AskedCalls::asked_further))]
+    pub(crate) fn put_argument<S: System>(
+        &mut self,
+        context: &Context,
+        i: usize,
+        outside: &mut Outside<'_, S>,
+    ) -> Result<(), MachineFault>
+        requires { i < length context.now.switches }
+        ensures asks { Asked S.events outside.old outside.new }
+        ensures does { (F : Facts) → Extends outside.new.facts.now F → GivesKnown MachineFault.Memory (λ u. (tt, self.new)) result (run F context.now self.old (puts (Break ∷ word_of (argument context.now i)))) }
         ensures sized { length self.new.world.hidden ≡ length self.old.world.hidden }
         ensures uncounted { OnOk result (self.new.world.items ≡ self.old.world.items) }
     {
-        self.end_word()?;
-        let Some(word) = argument else {
+        self.end_word(context, outside)?;
+        let Some(word) = context.argument(i) else {
             return Ok(());
         };
         self.open();
         self.put(word.as_bytes())?;
-        self.end_word()
+        self.end_word(context, outside)
     }
 
-    /// A switch as it stands on the line, its first `-` and its argument included; it ends the word that it stands in.
-    pub(crate) fn put_switch(
+    /// The switch at a place as it stands on the line, its first `-` and its argument included; it ends the word that it
+    /// stands in.
+    #[tactic(auto, using(crate::proofs::AskedCalls::asked_further))]
+    pub(crate) fn put_switch<S: System>(
         &mut self,
-        name: &[u8],
-        argument: &Option<Word>,
+        context: &Context,
+        i: usize,
+        outside: &mut Outside<'_, S>,
     ) -> Result<(), MachineFault>
-        ensures does { (F : Facts) (C : specs.Context) → GivesKnown MachineFault.Memory (λ u. (tt, self.new)) result (run F C self.old (puts (map Put (45 ∷ name.now) ++ Break ∷ word_of argument.now))) }
+        requires { i < length context.now.switches }
+        ensures asks { Asked S.events outside.old outside.new }
+        ensures does { (F : Facts) → Extends outside.new.facts.now F → GivesKnown MachineFault.Memory (λ u. (tt, self.new)) result (run F context.now self.old (puts (switch_atoms F context.now i))) }
         ensures sized { length self.new.world.hidden ≡ length self.old.world.hidden }
         ensures uncounted { OnOk result (self.new.world.items ≡ self.old.world.items) }
     {
         self.put(b"-")?;
-        self.put(name)?;
-        self.put_argument(argument)
+        self.put(context.switches().name(i))?;
+        self.put_argument(context, i, outside)
     }
 
     /// One more item is reached.
@@ -237,7 +274,7 @@ impl Machine {
     }
 
     /// Hides every switch that a pattern names. It takes no memory.
-    pub(crate) fn hide(&mut self, switches: &Switches, pattern: &Pattern)
+    pub(crate) fn hide(&mut self, switches: &Switches, pattern: &Pattern<'_>)
         requires { length self.old.world.hidden ≡ length switches.now }
         ensures does { self.new ≡ record self.old { world = record self.old.world { hidden = hidden_by pattern.now switches.now self.old.world.hidden } } }
         ensures sized { length self.new.world.hidden ≡ length self.old.world.hidden }

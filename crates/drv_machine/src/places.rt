@@ -5,12 +5,10 @@ ghost use Rattle.drv_machine.specs.Standing.{Spans, Stands, behind_tests, stars,
 ghost use Rattle.drv_syntax.specs.Labels.{Nodes, label_at};
 ghost use Rattle.drv_syntax.specs.Parsed.{tree_of};
 ghost use Rattle.drv_syntax.specs.Tokens.{tokens_of};
-ghost use Rattle.std.specs.Prelude.{◌≡◌, ◌<◌, IfOk, Some, length, slice_get};
+ghost use Rattle.std.specs.Prelude.{◌≡◌, ◌<◌, Some, length, slice_get};
 
 use drv_match::Pattern;
 use drv_syntax::{SpecTree, Token, TokenKind};
-use drv_words::Word;
-use std::alloc::{AllocError, Global};
 
 /// The token at a place.
 pub fn token_at(tree: &SpecTree, at: usize) -> Token
@@ -21,14 +19,14 @@ pub fn token_at(tree: &SpecTree, at: usize) -> Token
 }
 
 /// The pattern that the part at a place names.
-pub fn pattern_at(alloc: Global, tree: &SpecTree, at: usize) -> Result<Pattern, AllocError>
+pub fn pattern_at(tree: &SpecTree, at: usize) -> Pattern<'_>
     requires { at < length (tokens_of (tree_of tree.now)) }
-    ensures { IfOk result (λ pattern. pattern ≡ labelled (label_at (tree_of tree.now) at)) }
+    ensures { result ≡ labelled (label_at (tree_of tree.now) at) }
 {
-    Ok(Pattern {
-        name: Word::from_bytes(alloc, tree.word(at))?,
+    Pattern {
+        name: tree.word(at),
         star: tree.starred(at),
-    })
+    }
 }
 
 /// Where the tests end that stand first among parts.

@@ -1,5 +1,6 @@
 //! A spec text worked.
 
+ghost use Rattle.drv_machine.specs.Asked.{Asked};
 ghost use Rattle.drv_machine.specs.Atoms.{whole_text};
 ghost use Rattle.drv_machine.specs.Outcome.{outcome};
 ghost use Rattle.drv_machine.specs.Running.{begun, run};
@@ -8,25 +9,44 @@ ghost use Rattle.drv_system.specs.Asking.{Asks, Extends};
 ghost use Rattle.drv_system.specs.Facts.{Facts};
 ghost use Rattle.drv_system.specs.Gives.{GivesKnown};
 
-use crate::items::work_items;
 use crate::machine::{Machine, into_outcome};
+use crate::outside::Outside;
+use crate::turns::work_text;
 use crate::{Context, MachineFault, Outcome};
 use drv_syntax::SpecTree;
 use drv_system::{FactTable, System};
 use std::alloc::Global;
 
-/// How many parts of a text may be open at one time.
-const MOST_OPEN: usize = 64;
-
 /// The whole text cut, whose end ends its last command.
-fn cut(alloc: Global, tree: &SpecTree, context: &Context) -> Result<Machine, MachineFault>
-    ensures { (F : Facts) → GivesKnown MachineFault.Memory (λ machine. (tt, machine)) result (run F context.now (begun F context.now) (whole_text F context.now (tree_of tree.now))) }
+#[tactic(auto, using(crate::proofs::AskedCalls::asked_further))]
+fn cut<S: System>(
+    alloc: Global,
+    text: &SpecTree,
+    context: &Context,
+    outside: &mut Outside<'_, S>,
+) -> Result<Machine, MachineFault>
+    ensures asks { Asked S.events outside.old outside.new }
+    ensures does { (F : Facts) → Extends outside.new.facts.now F → GivesKnown MachineFault.Memory (λ machine. (tt, machine)) result (run F context.now (begun F context.now) (whole_text F context.now (tree_of text.now))) }
 {
     let mut machine = Machine::new(alloc, context.switches())?;
-    let end = tree.tokens().len();
-    work_items(tree, context, 0, end, MOST_OPEN, &[], &mut machine)?;
-    machine.end_line()?;
+    work_text(text, context, &mut machine, outside)?;
+    machine.end_line(context, outside)?;
     Ok(machine)
+}
+
+/// A spec text worked to its end.
+#[tactic(auto, using(crate::proofs::AskedCalls::asked_further))]
+fn worked<S: System>(
+    alloc: Global,
+    text: &SpecTree,
+    context: &Context,
+    outside: &mut Outside<'_, S>,
+) -> Result<Outcome, MachineFault>
+    ensures asks { Asked S.events outside.old outside.new }
+    ensures does { (F : Facts) → Extends outside.new.facts.now F → GivesKnown MachineFault.Memory (λ o. o) result (outcome F context.now (tree_of text.now)) }
+{
+    let machine = cut(alloc, text, context, outside)?;
+    into_outcome(machine, context, outside)
 }
 
 /// Works a spec text: its job, and what it cost. It asks the system only where the table has no answer.
@@ -43,5 +63,5 @@ pub fn run<S: System>(
     ensures asks { Asks (S.events sys.old) (S.events sys.new) facts.old facts.new }
     ensures works { (F : Facts) → Extends facts.new F → GivesKnown MachineFault.Memory (λ o. o) result (outcome F context.now (tree_of tree.now)) }
 {
-    into_outcome(cut(alloc, tree, context)?, context.place())
+    worked(alloc, tree, context, &mut Outside { sys, facts })
 }

@@ -1,24 +1,32 @@
 //! What stands behind the whole text: pipes judged, and the commands as a job.
 
-ghost use Rattle.drv_machine.specs.Context as specs;
+ghost use Rattle.drv_machine.specs.Asked.{Asked};
 ghost use Rattle.drv_machine.specs.Machine.{alone, command_of};
-ghost use Rattle.drv_machine.specs.Outcome.{ends_piped, finished, place_of};
+ghost use Rattle.drv_machine.specs.Outcome.{ends_piped, finished};
+ghost use Rattle.drv_system.specs.Asking.{Extends};
 ghost use Rattle.drv_system.specs.Facts.{Facts};
 ghost use Rattle.drv_system.specs.Gives.{GivesKnown};
 ghost use Rattle.std.specs.Prelude.{◌≡◌, ◌||◌, ◌∷◌, [], IfOk, map};
 
 use super::{CutLine, Machine};
-use crate::{MachineFault, Outcome};
+use crate::outside::Outside;
+use crate::{Context, MachineFault, Outcome};
+use drv_system::System;
 use drv_words::{Command, Group, Job, Listing, Word};
 use std::alloc::{AllocError, Global};
 
-/// The job of a text that was worked to its end, for the input at this place, or none for the link; and what it cost.
-/// Words are moved.
+/// The job of a text that was worked to its end, and what it cost. Words are moved.
 ///
 /// # Errors
 /// `StrayPipe` where a pipe is not at the end of a command with a word, or no further command follows it.
-pub(crate) fn into_outcome(machine: Machine, place: Option<usize>) -> Result<Outcome, MachineFault>
-    ensures { (F : Facts) (C : specs.Context) → place_of C.input ≡ place → GivesKnown MachineFault.Memory (λ o. o) result (finished F C machine.world machine.cut) }
+#[tactic(auto, using(crate::proofs::AskedCalls::asked_none))]
+pub(crate) fn into_outcome<S: System>(
+    machine: Machine,
+    context: &Context,
+    outside: &mut Outside<'_, S>,
+) -> Result<Outcome, MachineFault>
+    ensures asks { Asked S.events outside.old outside.new }
+    ensures does { (F : Facts) → Extends outside.new.facts.now F → GivesKnown MachineFault.Memory (λ o. o) result (finished F context.now machine.world machine.cut) }
 {
     if has_stray_pipe(&machine) {
         return Err(MachineFault::StrayPipe);
@@ -26,7 +34,7 @@ pub(crate) fn into_outcome(machine: Machine, place: Option<usize>) -> Result<Out
     let alloc = machine.alloc;
     let cost = machine.items;
     let job = Job {
-        source: place,
+        source: context.place(),
         groups: groups_of(alloc, machine.lines)?,
         temps: Listing::new(alloc),
         marked: Listing::new(alloc),

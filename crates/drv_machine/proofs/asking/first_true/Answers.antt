@@ -1,3 +1,4 @@
+use Rattle.drv_machine.proofs.AskedCalls.{asked_further, extends_before}
 use Rattle.drv_machine.proofs.Standing.{front_in, here}
 use Rattle.drv_machine.proofs.TrueTests.{found_false, found_refusal, found_true, no_tests_left}
 use Rattle.drv_machine.proofs.asking.first_true.Goals as goal
@@ -6,45 +7,49 @@ use Rattle.drv_machine.specs.Running.{run}
 use Rattle.std.proofs.Common.{rules, ap, arith, sym, ◌∙◌}
 
 pub truth-requires-clause-in_list : goal.truth-requires-clause-in_list
-truth-requires-clause-in_list c = front_in c.args.tree.now c.loop-at.at c.args.end c.loop-at-test.true c.loop-at.invariant.spans
+truth-requires-clause-in_list g c = front_in c.args.text.now c.loop-at.at c.args.end c.loop-at-test.true c.loop-at.invariant.spans
 
 pub negated-requires : goal.negated-requires
-negated-requires c = front_in c.args.tree.now c.loop-at.at c.args.end c.loop-at-test.true c.loop-at.invariant.spans
+negated-requires g c = front_in c.args.text.now c.loop-at.at c.args.end c.loop-at-test.true c.loop-at.invariant.spans
 
 pub token_at-requires : goal.token_at-requires
-token_at-requires c = front_in c.args.tree.now c.loop-at.at c.args.end c.loop-at-test.true c.loop-at.invariant.spans
+token_at-requires g c = front_in c.args.text.now c.loop-at.at c.args.end c.loop-at-test.true c.loop-at.invariant.spans
 
 pub loop-at-smaller : goal.loop-at-smaller
-loop-at-smaller c =
-    let h = here c.args.tree.now c.loop-at.at c.args.end c.loop-at-test.true c.token_at.result c.token_at.ensures c.loop-at.invariant.spans in
+loop-at-smaller g c =
+    let h = here c.args.text.now c.loop-at.at c.args.end c.loop-at-test.true c.token_at.result c.token_at.ensures c.loop-at.invariant.spans in
     omega (arith, h.later, h.in_parts)
 
-pub returns-in_err-truth-clause-finds : goal.returns-in_err-truth-clause-finds
-returns-in_err-truth-clause-finds c F tests levels star s =
+pub returns-in_err-truth-clause-does : goal.returns-in_err-truth-clause-does
+returns-in_err-truth-clause-does g c F e tests levels star s =
     let a =
-    found_refusal F c.args.context.now c.args.tree.now c.args.machine.now c.loop-at.at c.args.end c.loop-at-test.true tests levels star (c.loop-at.invariant.left F tests levels star s)
-    c.in_err-truth.field-0.0 (c.in_err-truth.ensures F) in
+    found_refusal F c.args.context.now c.args.text.now c.args.machine.now c.loop-at.machine c.loop-at.at c.args.end c.loop-at-test.true tests levels star
+    (c.loop-at.invariant.left F (extends_before c.truth.ensures.asks e) tests levels star s) c.in_err-truth.field-0.0 (c.in_err-truth.ensures.does F e) in
     let f = c.from_residual.ensures in
     search rules
 
-pub returns-then-branch-negated-clause-finds : goal.returns-then-branch-negated-clause-finds
-returns-then-branch-negated-clause-finds c F tests levels star s =
-    found_true F c.args.context.now c.args.tree.now c.args.machine.now c.loop-at.at c.args.end c.loop-at-test.true tests levels star (c.loop-at.invariant.left F tests levels star s)
-    c.in_ok-truth.field-0 c.negated.result c.negated.ensures (c.in_ok-truth.ensures F) c.if-branch-negated.true
+pub returns-then-branch-negated-clause-does : goal.returns-then-branch-negated-clause-does
+returns-then-branch-negated-clause-does g c F e tests levels star s =
+    found_true F c.args.context.now c.args.text.now c.args.machine.now c.loop-at.machine c.loop-at.at c.args.end c.loop-at-test.true tests levels star
+    (c.loop-at.invariant.left F (extends_before c.truth.ensures.asks e) tests levels star s) c.truth.new.machine c.in_ok-truth.field-0 c.negated.result c.negated.ensures (c.in_ok-truth.ensures.does F e) c.if-branch-negated.true
 
 pub loop-at-preserved : goal.loop-at-preserved
-loop-at-preserved c = record {
-  spans = (here c.args.tree.now c.loop-at.at c.args.end c.loop-at-test.true c.token_at.result c.token_at.ensures c.loop-at.invariant.spans).behind;
-  left = λ F tests levels star s.
-      found_false F c.args.context.now c.args.tree.now c.args.machine.now c.loop-at.at c.args.end c.loop-at-test.true tests levels star (c.loop-at.invariant.left F tests levels star s)
-      c.in_ok-truth.field-0 c.negated.result c.negated.ensures (c.in_ok-truth.ensures F) c.if-branch-negated.false c.token_at.result c.token_at.ensures;
+loop-at-preserved g c = record {
+  asks = asked_further c.loop-at.invariant.asks c.truth.ensures.asks;
+  spans = (here c.args.text.now c.loop-at.at c.args.end c.loop-at-test.true c.token_at.result c.token_at.ensures c.loop-at.invariant.spans).behind;
+  sized = c.truth.ensures.sized ∙ c.loop-at.invariant.sized;
+  uncounted = c.in_ok-truth.ensures.uncounted ∙ c.loop-at.invariant.uncounted;
+  left = λ F e tests levels star s.
+      found_false F c.args.context.now c.args.text.now c.args.machine.now c.loop-at.machine c.loop-at.at c.args.end c.loop-at-test.true tests levels star
+      (c.loop-at.invariant.left F (extends_before c.truth.ensures.asks e) tests levels star s) c.truth.new.machine c.in_ok-truth.field-0 c.negated.result c.negated.ensures (c.in_ok-truth.ensures.does F e)
+      c.if-branch-negated.false c.token_at.result c.token_at.ensures;
 }
 
-pub returns-clause-finds : goal.returns-clause-finds
-returns-clause-finds c F tests levels star s =
-    let left = c.loop-at.invariant.left F tests levels star s in
-    let none = no_tests_left c.args.tree.now c.loop-at.at left.rest c.args.end (omega (arith, c.loop-at-test.false)) left.stands in
-    sym left.same ∙ ap (λ ts. run F c.args.context.now c.args.machine.now (atoms.first_true F c.args.context.now ts levels star)) none
+pub returns-clause-does : goal.returns-clause-does
+returns-clause-does g c F e tests levels star s =
+    let left = c.loop-at.invariant.left F e tests levels star s in
+    let none = no_tests_left c.args.text.now c.loop-at.at left.rest c.args.end (omega (arith, c.loop-at-test.false)) left.stands in
+    sym left.same ∙ ap (λ ts. run F c.args.context.now c.loop-at.machine (atoms.first_true F c.args.context.now ts levels star)) none
 
 pub returns-then-branch-negated-clause-within : goal.returns-then-branch-negated-clause-within
-returns-then-branch-negated-clause-within c = front_in c.args.tree.now c.loop-at.at c.args.end c.loop-at-test.true c.loop-at.invariant.spans
+returns-then-branch-negated-clause-within g c = front_in c.args.text.now c.loop-at.at c.args.end c.loop-at-test.true c.loop-at.invariant.spans

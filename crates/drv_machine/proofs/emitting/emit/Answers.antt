@@ -9,7 +9,7 @@ use Rattle.drv_system.specs.Gives.{GivesKnown}
 use Rattle.std.proofs.Common.{ap, subst, sym, ◌∙◌, ◌≡◌}
 
 pub returns-clause-does : goal.returns-clause-does
-returns-clause-does c F patterns s =
+returns-clause-does g c F e patterns s =
     let whole : run F c.args.context.now c.args.machine.now (puts (emitted_from F c.args.context.now c.as_slice.result.now c.args.machine.now.world.hidden 0)) ≡ run F c.args.context.now c.args.machine.now (puts (emitted F c.args.context.now patterns c.args.machine.now.world.hidden)) =
     ap (λ list. run F c.args.context.now c.args.machine.now (puts list)) (ap (λ ps. emitted_from F c.args.context.now ps c.args.machine.now.world.hidden 0) (c.as_slice.ensures ∙ c.in_ok-patterns.ensures patterns s) ∙ sym (emitted_is F c.args.context.now patterns c.args.machine.now.world.hidden)) in
-    subst (λ given. GivesKnown Memory (λ u. (tt, c.put_hits.new.machine)) c.put_hits.result given) whole (c.put_hits.ensures.does F)
+    subst (λ given. GivesKnown Memory (λ u. (tt, c.put_hits.new.machine)) c.put_hits.result given) whole (c.put_hits.ensures.does F e)

@@ -6,20 +6,20 @@ use Rattle.std.proofs.Common.{arith}
 pub pattern_at-requires : goal.pattern_at-requires
 pattern_at-requires c = front_in c.args.text.now c.loop-at.at c.args.end c.loop-at-test.true c.loop-at.invariant.spans
 
-pub token_at-requires : goal.token_at-requires
-token_at-requires c = front_in c.args.text.now c.loop-at.at c.args.end c.loop-at-test.true c.loop-at.invariant.spans
+pub token_at-at-requires : goal.token_at-at-requires
+token_at-at-requires c = front_in c.args.text.now c.loop-at.at c.args.end c.loop-at-test.true c.loop-at.invariant.spans
 
 pub loop-at-smaller : goal.loop-at-smaller
 loop-at-smaller c =
-    let h = here c.args.text.now c.loop-at.at c.args.end c.loop-at-test.true c.token_at.result c.token_at.ensures c.loop-at.invariant.spans in
+    let h = here c.args.text.now c.loop-at.at c.args.end c.loop-at-test.true c.token_at-at.result c.token_at-at.ensures c.loop-at.invariant.spans in
     omega (arith, h.later, h.in_parts)
 
 pub loop-at-preserved : goal.loop-at-preserved
 loop-at-preserved c = record {
-  spans = (here c.args.text.now c.loop-at.at c.args.end c.loop-at-test.true c.token_at.result c.token_at.ensures c.loop-at.invariant.spans).behind;
+  spans = (here c.args.text.now c.loop-at.at c.args.end c.loop-at-test.true c.token_at-at.result c.token_at-at.ensures c.loop-at.invariant.spans).behind;
   left = λ patterns s.
-      patterns_step c.args.text.now c.loop-at.at c.args.end c.loop-at-test.true c.token_at.result c.token_at.ensures c.loop-at.patterns c.push.new.self c.in_ok-pattern_at.field-0
-      c.in_ok-pattern_at.ensures c.in_ok-push.ensures.ok patterns (c.loop-at.invariant.left patterns s);
+      patterns_step c.args.text.now c.loop-at.at c.args.end c.loop-at-test.true c.token_at-at.result c.token_at-at.ensures c.loop-at.patterns c.push.new.self c.pattern_at.result
+      c.pattern_at.ensures c.in_ok-push.ensures.ok patterns (c.loop-at.invariant.left patterns s);
 }
 
 pub returns : goal.returns

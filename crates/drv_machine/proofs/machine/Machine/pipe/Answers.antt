@@ -3,9 +3,9 @@ use Rattle.drv_machine.proofs.machine.Machine.pipe.Goals as goal
 use Rattle.std.proofs.Common.{rules}
 
 pub returns-in_err-end_word-clause-does : goal.returns-in_err-end_word-clause-does
-returns-in_err-end_word-clause-does c F C =
-    let failed = pipe_failed F C c.args.self.now c.in_err-end_word.field-0.0 (c.in_err-end_word.ensures.does F C) in
+returns-in_err-end_word-clause-does g c F e =
+    let failed = pipe_failed F c.args.context.now c.args.self.now c.in_err-end_word.field-0.0 (c.in_err-end_word.ensures.does F e) in
     let handed = c.from_residual.ensures in search rules
 
 pub returns-clause-does : goal.returns-clause-does
-returns-clause-does c F C = pipe_put F C c.args.self.now c.end_word.new.self c.close_with_pipe.new.self (c.in_ok-end_word.ensures.does F C) c.close_with_pipe.ensures
+returns-clause-does g c F e = pipe_put F c.args.context.now c.args.self.now c.end_word.new.self c.close_with_pipe.new.self (c.in_ok-end_word.ensures.does F e) c.close_with_pipe.ensures

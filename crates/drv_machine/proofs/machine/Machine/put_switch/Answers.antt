@@ -1,20 +1,31 @@
-use Rattle.drv_machine.proofs.Cutter.{put_failed, put_last, put_then, whole_failed}
+use Rattle.drv_machine.proofs.Cutter.{put_failed, put_last, put_then, whole_failed, whole_last}
+use Rattle.drv_machine.proofs.EmitSteps.{switch_is}
 use Rattle.drv_machine.proofs.machine.Machine.put_switch.Goals as goal
-use Rattle.drv_machine.specs.Working.{Break, Put, word_of}
-use Rattle.std.proofs.Common.{◌++◌, [], ◌∷◌, map, rules, sym}
+use Rattle.drv_machine.specs.Context.{argument, names}
+use Rattle.drv_machine.specs.Running.{run}
+use Rattle.drv_machine.specs.Working.{Break, Put, puts, word_of}
+use Rattle.drv_match.specs.Matching.{name_at}
+use Rattle.drv_words.specs.Bytes.{hyphen}
+use Rattle.std.proofs.Common.{◌++◌, ◌∙◌, [], ◌∷◌, ap, map, refl, rules, sym}
 
 pub returns-in_err-put-clause-does : goal.returns-in_err-put-clause-does
-returns-in_err-put-clause-does c F C =
-    let failed = put_failed F C c.args.self.now (Put 45 ∷ []) (map Put c.args.name.now ++ Break ∷ word_of c.args.argument.now) c.in_err-put.field-0.0 (c.in_err-put.ensures.does F C) in
+returns-in_err-put-clause-does g c F e =
+    let C = c.args.context.now in
+    let failed = put_failed F C c.args.self.now (Put hyphen ∷ []) (map Put (name_at (names C) c.args.i) ++ Break ∷ word_of (argument C c.args.i)) c.in_err-put.field-0.0 (c.in_err-put.ensures.does F C) in
     let handed = c.from_residual.ensures in search rules
 
 pub returns-in_err-put-2-clause-does : goal.returns-in_err-put-2-clause-does
-returns-in_err-put-2-clause-does c F C =
-    let whole = put_then F C c.args.self.now c.put.new.self (Put 45 ∷ []) (map Put c.args.name.now ++ Break ∷ word_of c.args.argument.now) (c.in_ok-put.ensures.does F C) in
-    let failed = whole_failed F C c.in_err-put-2.field-0.0 (sym whole) (put_failed F C c.put.new.self (map Put c.args.name.now) (Break ∷ word_of c.args.argument.now) c.in_err-put-2.field-0.0 (c.in_err-put-2.ensures.does F C)) in
+returns-in_err-put-2-clause-does g c F e =
+    let C = c.args.context.now in
+    let is = switch_is F C c.name.result.now (argument C c.args.i) c.args.i (c.name.ensures ∙ ap (λ ns. name_at ns c.args.i) c.switches.ensures) refl in
+    let whole = put_then F C c.args.self.now c.put.new.self (Put hyphen ∷ []) (map Put c.name.result.now ++ Break ∷ word_of (argument C c.args.i)) (c.in_ok-put.ensures.does F C) in
+    let failed = whole_failed F C c.in_err-put-2.field-0.0 (sym whole ∙ ap (λ list. run F C c.args.self.now (puts list)) is) (put_failed F C c.put.new.self (map Put c.name.result.now) (Break ∷ word_of (argument C c.args.i)) c.in_err-put-2.field-0.0 (c.in_err-put-2.ensures.does F C)) in
     let handed = c.from_residual-in_err-put-2.ensures in search rules
 
 pub returns-clause-does : goal.returns-clause-does
-returns-clause-does c F C =
-    put_last F C c.args.self.now c.put.new.self c.put_argument.new.self (Put 45 ∷ []) (map Put c.args.name.now ++ Break ∷ word_of c.args.argument.now) c.put_argument.result (c.in_ok-put.ensures.does F C)
-    (put_last F C c.put.new.self c.put-2.new.self c.put_argument.new.self (map Put c.args.name.now) (Break ∷ word_of c.args.argument.now) c.put_argument.result (c.in_ok-put-2.ensures.does F C) (c.put_argument.ensures.does F C))
+returns-clause-does g c F e =
+    let C = c.args.context.now in
+    let is = switch_is F C c.name.result.now (argument C c.args.i) c.args.i (c.name.ensures ∙ ap (λ ns. name_at ns c.args.i) c.switches.ensures) refl in
+    whole_last F C c.put_argument.new.self c.put_argument.result (ap (λ list. run F C c.args.self.now (puts list)) is)
+    (put_last F C c.args.self.now c.put.new.self c.put_argument.new.self (Put hyphen ∷ []) (map Put c.name.result.now ++ Break ∷ word_of (argument C c.args.i)) c.put_argument.result (c.in_ok-put.ensures.does F C)
+    (put_last F C c.put.new.self c.put-2.new.self c.put_argument.new.self (map Put c.name.result.now) (Break ∷ word_of (argument C c.args.i)) c.put_argument.result (c.in_ok-put-2.ensures.does F C) (c.put_argument.ensures.does F e)))

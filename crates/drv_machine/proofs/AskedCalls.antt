@@ -1,0 +1,20 @@
+use Rattle.drv_machine.specs.Asked.{Asked}
+use Rattle.drv_machine.specs.declared.outside.Outside.{Outside}
+use Rattle.drv_system.proofs.Asking.{asks_extends, asks_nothing, asks_then, extends_then}
+use Rattle.drv_system.specs.Asking.{Extends}
+use Rattle.drv_system.specs.Facts.{Facts}
+use Rattle.drv_system.specs.declared.event.Event.{Event}
+use Rattle.std.proofs.Common.{◌∙◌, List, refl}
+
+-- Calls that only ask, one after another.
+
+module _ {S : Type 0} {events : S → List Event} where
+  pub asked_none : (o : Outside S) → Asked events o o
+  asked_none o = record { asks = asks_nothing (events o.sys.now) o.facts.now; same_sys = refl; same_facts = refl }
+
+  pub asked_further : {o p q : Outside S} → Asked events o p → Asked events p q → Asked events o q
+  asked_further a b = record { asks = asks_then a.asks b.asks; same_sys = b.same_sys ∙ a.same_sys; same_facts = b.same_facts ∙ a.same_facts }
+
+  -- what extends the table after a call extends the one before it
+  pub extends_before : {o p : Outside S} {F : Facts} → Asked events o p → Extends p.facts.now F → Extends o.facts.now F
+  extends_before a e = extends_then (asks_extends a.asks) e

@@ -1,0 +1,286 @@
+use Rattle.drv_machine.proofs.ItemKinds.{inner_step, item_by_kind}
+use Rattle.drv_machine.proofs.Laws.{run_then, then_same, then_then}
+use Rattle.drv_machine.proofs.Lying.{Reached, joined, lies_alone, lies_behind, lies_joined, nothing_left}
+use Rattle.drv_machine.proofs.Standing.{next_at, some_same}
+use Rattle.drv_machine.proofs.WorkSteps.{item_means}
+use Rattle.drv_machine.specs.Atoms.{choices_step, item_step, items_step, levels_left, matching}
+use Rattle.drv_machine.specs.ByKind.{Means, kind_step}
+use Rattle.drv_machine.specs.Context.{Context, argument, names}
+use Rattle.drv_machine.specs.Running.{State, run}
+use Rattle.drv_machine.specs.Standing.{Part, Stands}
+use Rattle.drv_machine.specs.Walking.{Around, Behind, Fits, Framed, HitFits, Left, Lies, Skips, Went, back_of, closing, each_from, ends, hit_step, hits_left, levels_in, onward, star_of, weight}
+use Rattle.drv_machine.specs.Working.{◌>>-◌, ◌>>◌, Answer, Break, Levels, Step, counted, most_open, puts, word_of}
+use Rattle.drv_machine.specs.declared.fault.MachineFault.TheVariants.{Memory, SpecTooDeep}
+use Rattle.drv_machine.specs.declared.fault.MachineFault.{MachineFault}
+use Rattle.drv_machine.specs.declared.walk.Each.{Each}
+use Rattle.drv_machine.specs.declared.walk.Frame.{Frame}
+use Rattle.drv_machine.specs.declared.walk.Opened.TheVariants.{Hit}
+use Rattle.drv_machine.specs.declared.walk.Walk.{Walk}
+use Rattle.drv_match.specs.Matching.{name_at}
+use Rattle.drv_syntax.specs.Labels.{choice_nodes, inner_nodes, label_at, label_of, labels_of, nodes_of}
+use Rattle.drv_syntax.specs.Parsed.{tree_of}
+use Rattle.drv_syntax.specs.Tokens.{kind_of, tokens_of}
+use Rattle.drv_syntax.specs.Tree as tree
+use Rattle.drv_syntax.specs.Tree.{Choices, Item, Items, Pattern, Span}
+use Rattle.drv_syntax.specs.declared.token.Token.{Token}
+use Rattle.drv_syntax.specs.declared.token.TokenKind.TheVariants as kinds
+use Rattle.drv_syntax.specs.declared.token.TokenKind.{TokenKind}
+use Rattle.drv_system.specs.Facts.{Facts}
+use Rattle.drv_system.specs.Gives.{GivesKnown}
+use Rattle.drv_system.specs.Known.{Is}
+use Rattle.std.proofs.Common.{◌≡◌, ◌⊎◌, ◌<◌, ◌≤◌, ◌+◌, ◌-◌, ◌++◌, ◌∙◌, ◌==◌, Bool, Err, List, [], ◌∷◌, Ok, Result, Some, ap, arith, drop, false, inl, inr, length, length-append, refl, slice_get, subst, suc, sym, true, ℕ}
+use Rattle.std.proofs.lemmas.Bool.Decides.{nat_tests}
+
+-- What is left of a walk, and what follows the open parts.
+
+-- a list with one more at its end
+abbrev head_or : {A : Type 0} → A → List A → A
+head_or x [] = x
+head_or x (y ∷ ys) = y
+
+abbrev tail_of : {A : Type 0} → List A → List A
+tail_of [] = []
+tail_of (x ∷ xs) = xs
+
+no_last : {A : Type 0} (xs : List A) (x : A) → [] ≡ xs ++ x ∷ [] → ⊥
+no_last [] x e = cc
+no_last (y ∷ ys) x e = cc
+
+last_same : {A : Type 0} (xs ys : List A) (x y : A) → xs ++ x ∷ [] ≡ ys ++ y ∷ [] → (xs ≡ ys) × (x ≡ y)
+last_same [] [] x y e = (refl, ap (head_or x) e)
+last_same [] (v ∷ vs) x y e = absurd (no_last vs y (ap tail_of e))
+last_same (z ∷ zs) [] x y e = absurd (no_last zs x (sym (ap tail_of e)))
+last_same (z ∷ zs) (v ∷ vs) x y e =
+    let r = last_same zs vs x y (ap tail_of e) in (ap (λ h. h ∷ zs) (ap (head_or z) e) ∙ ap (λ t. v ∷ t) r.0, r.1)
+
+-- whether as many parts are open as may be
+pub full_is : (full : Bool) (n : ℕ) → full ≡ (n == 64) → full ≡ true → n ≡ 64
+full_is full n e t = let f : (n == 64) ≡ true = sym e ∙ t in grind (arith, nat_tests)
+
+pub not_full : (full : Bool) (n : ℕ) → full ≡ (n == 64) → n ≤ 64 → full ≡ false → n < 64
+not_full full n e h t = let f : (n == 64) ≡ false = sym e ∙ t in grind (arith, nat_tests)
+
+-- how many parts are open
+pub framed_long : (text : List ℕ) (C : Context) (frames : List Frame) (arounds : List Around) → Framed text C frames arounds → length frames ≡ length arounds
+framed_long text C frames [] e = ap (λ fs. length fs) e
+framed_long text C frames (a ∷ others) (outer, e, fits, framed) =
+    let n : length outer ≡ length others = framed_long text C outer others framed in
+    let m : length frames ≡ length (outer ++ a.frame ∷ []) = ap (λ fs. length fs) e in
+    omega (arith, n, m, length-append outer (a.frame ∷ []))
+
+-- the innermost part is closed
+pub record Popped (text : List ℕ) (C : Context) (arounds : List Around) (frame : Frame) (frames : List Frame) : Type 0 where
+  pub around : Around
+  pub others : List Around
+  pub is : arounds ≡ around ∷ others
+  pub frame_is : around.frame ≡ frame
+  pub fits : Fits text C around
+  pub framed : Framed text C frames others
+
+pub popped : (text : List ℕ) (C : Context) (frames : List Frame) (arounds : List Around) (outer : List Frame) (frame : Frame) → Framed text C frames arounds → frames ≡ outer ++ frame ∷ [] → Popped text C arounds frame outer
+popped text C frames [] outer frame e s = absurd (no_last outer frame (sym e ∙ s))
+popped text C frames (a ∷ others) outer frame (inner, e, fits, framed) s =
+    let r = last_same inner outer a.frame frame (sym e ∙ s) in record {
+      around = a;
+      others = others;
+      is = refl;
+      frame_is = r.1;
+      fits = fits;
+      framed = subst (λ fs. Framed text C fs others) r.0 framed;
+    }
+
+pub none_open : (text : List ℕ) (C : Context) (frames : List Frame) (arounds : List Around) → Framed text C frames arounds → length frames ≡ 0 → arounds ≡ []
+none_open text C frames [] e h = refl
+none_open text C frames (a ∷ others) (outer, e, fits, framed) h =
+    let m : length frames ≡ length (outer ++ a.frame ∷ []) = ap (λ fs. length fs) e in
+    absurd (omega (arith, h, m, length-append outer (a.frame ∷ [])))
+
+-- the weight of one more frame
+pub weight_one : (size : ℕ) (frames : List Frame) (frame : Frame) → weight size (frames ++ frame ∷ []) ≡ weight size frames + hits_left size frame.opened
+weight_one size [] frame = omega arith
+weight_one size (f ∷ frames) frame = let e : weight size (frames ++ frame ∷ []) ≡ weight size frames + hits_left size frame.opened = weight_one size frames frame in omega (arith, e)
+
+module _ (F : Facts) (C : Context) where
+  -- three steps
+  three : (s : State) (a b d : Step (Unit {0})) (k : Unit {0} × State → Answer (Unit {0} × State)) → (run F C s ((a >> b) >> d) >>- k) ≡ (run F C s a >>- λ r. run F C r.1 (b >> d) >>- k)
+  three s a b d k =
+      ap (λ x. x >>- k) (run_then F C s (a >> b) (λ u. d) ∙ ap (λ x. x >>- λ r. run F C r.1 d) (run_then F C s a (λ u. b)) ∙ then_then (run F C s a) (λ r. run F C r.1 b) (λ r. run F C r.1 d))
+      ∙ then_then (run F C s a) (λ r. run F C r.1 b >>- λ q. run F C q.1 d) k
+      ∙ then_same (run F C s a) (λ r. (run F C r.1 b >>- λ q. run F C q.1 d) >>- k) (λ r. run F C r.1 (b >> d) >>- k) (λ r. ap (λ x. x >>- k) (sym (run_then F C r.1 b (λ u. d))))
+
+  -- items of two lists
+  joined_runs : (xs ys : Items) (levels : Levels) (star : List ℕ) (s : State)
+      → run F C s (items_step F C (joined xs ys) levels star) ≡ (run F C s (items_step F C xs levels star) >>- λ r. run F C r.1 (items_step F C ys levels star))
+  joined_runs tree.none ys levels star s = refl
+  joined_runs (tree.more span item xs) ys levels star s =
+      run_then F C s (counted >> item_step F C item levels star) (λ u. items_step F C (joined xs ys) levels star)
+      ∙ then_same (run F C s (counted >> item_step F C item levels star)) (λ r. run F C r.1 (items_step F C (joined xs ys) levels star))
+      (λ r. run F C r.1 (items_step F C xs levels star) >>- λ q. run F C q.1 (items_step F C ys levels star)) (λ r. joined_runs xs ys levels star r.1)
+      ∙ sym (then_then (run F C s (counted >> item_step F C item levels star)) (λ r. run F C r.1 (items_step F C xs levels star)) (λ q. run F C q.1 (items_step F C ys levels star)))
+      ∙ ap (λ x. x >>- λ q. run F C q.1 (items_step F C ys levels star)) (sym (run_then F C s (counted >> item_step F C item levels star) (λ u. items_step F C xs levels star)))
+
+  -- an item that was counted
+  item_next : (span : Span) (item : Item) (others : Items) (levels : Levels) (star : List ℕ) (s u : State) (k : Unit {0} × State → Answer (Unit {0} × State)) → run F C s counted ≡ Is (Ok (tt, u))
+      → (run F C s (items_step F C (tree.more span item others) levels star) >>- k) ≡ (run F C u (item_step F C item levels star) >>- λ r. run F C r.1 (items_step F C others levels star) >>- k)
+  item_next span item others levels star s u k e =
+      three s counted (item_step F C item levels star) (items_step F C others levels star) k
+      ∙ ap (λ x. x >>- λ r. run F C r.1 (item_step F C item levels star >> items_step F C others levels star) >>- k) e
+      ∙ ap (λ x. x >>- k) (run_then F C u (item_step F C item levels star) (λ v. items_step F C others levels star))
+      ∙ then_then (run F C u (item_step F C item levels star)) (λ r. run F C r.1 (items_step F C others levels star)) k
+
+  module _ (text : List ℕ) (w : Walk) (s : State) (given : Answer (Unit {0} × State)) where
+    -- the item that is reached, behind its count
+    pub behind_item : (left : Left F C text w s given) (r : Reached text w.at left.rest w.end) (u : State) → run F C s counted ≡ Is (Ok (tt, u)) → Behind F C text w r.next (λ levels star. item_step F C r.item levels star) u given
+    behind_item left r u e = record {
+      rest = r.others;
+      arounds = left.arounds;
+      lies = r.behind;
+      framed = left.framed;
+      same =
+          sym (item_next r.span r.item r.others (levels_in F C left.arounds) (star_of C w.star) s u (λ q. ends F C left.arounds q.1) e)
+          ∙ ap (λ xs. onward F C w.star xs left.arounds s) (sym r.is) ∙ left.same;
+    }
+
+    pub count_stops : (left : Left F C text w s given) → Reached text w.at left.rest w.end → (fault : MachineFault) → (fault ≡ Memory) ⊎ (run F C s counted ≡ Is (Err fault)) → (fault ≡ Memory) ⊎ (given ≡ Is (Err fault))
+    count_stops left r fault (inl memory) = inl memory
+    count_stops left r fault (inr e) =
+        inr (sym left.same ∙ ap (λ xs. onward F C w.star xs left.arounds s) r.is
+        ∙ three s counted (item_step F C r.item (levels_in F C left.arounds) (star_of C w.star)) (items_step F C r.others (levels_in F C left.arounds) (star_of C w.star)) (λ q. ends F C left.arounds q.1)
+        ∙ ap (λ x. x >>- λ q. run F C q.1 (item_step F C r.item (levels_in F C left.arounds) (star_of C w.star) >> items_step F C r.others (levels_in F C left.arounds) (star_of C w.star)) >>- λ p. ends F C left.arounds p.1) e)
+
+    -- nothing is left of the innermost part
+    pub part_ended : (left : Left F C text w s given) → w.end ≤ w.at → ends F C left.arounds s ≡ given
+    part_ended left h = ap (λ xs. onward F C w.star xs left.arounds s) (sym (nothing_left text w.at left.rest w.end h left.lies)) ∙ left.same
+
+    module _ (at : ℕ) (step : Levels → List ℕ → Step (Unit {0})) (b : Behind F C text w at step s given) where
+      -- a step that was worked, or refused
+      pub leaf : (result : Result (Unit {0}) MachineFault) (t : State) → GivesKnown Memory (λ u. (tt, t)) result (run F C s (step (levels_in F C b.arounds) (star_of C w.star)))
+          → Went F C text (record w { at = at }) t given result
+      leaf (Ok u) t e = record {
+        rest = b.rest;
+        arounds = b.arounds;
+        lies = b.lies;
+        framed = b.framed;
+        same = sym (ap (λ x. x >>- λ r. onward F C w.star b.rest b.arounds r.1) e) ∙ b.same;
+      }
+      leaf (Err fault) t (inl memory) = inl memory
+      leaf (Err fault) t (inr e) = inr (sym b.same ∙ ap (λ x. x >>- λ r. onward F C w.star b.rest b.arounds r.1) e)
+
+      -- another step from another place on
+      pub behind_as : (front : ℕ) → Skips text front at → (other : Levels → List ℕ → Step (Unit {0})) (t : State)
+          → ((run F C t (other (levels_in F C b.arounds) (star_of C w.star)) >>- λ r. onward F C w.star b.rest b.arounds r.1) ≡ given) → Behind F C text w front other t given
+      behind_as front skips other t e = record { rest = b.rest; arounds = b.arounds; lies = lies_behind text front at b.rest w.end skips b.lies; framed = b.framed; same = e }
+
+      pub same_step : (other : Levels → List ℕ → Step (Unit {0})) (t : State)
+          → run F C s (step (levels_in F C b.arounds) (star_of C w.star)) ≡ run F C t (other (levels_in F C b.arounds) (star_of C w.star)) → Behind F C text w at other t given
+      same_step other t e = record {
+        rest = b.rest;
+        arounds = b.arounds;
+        lies = b.lies;
+        framed = b.framed;
+        same = ap (λ x. x >>- λ r. onward F C w.star b.rest b.arounds r.1) (sym e) ∙ b.same;
+      }
+
+    -- items are reached
+    pub entered : (items : Items) (start at : ℕ) → Stands text start (nodes_of items) at → Behind F C text w at (λ levels star. items_step F C items levels star) s given → Left F C text (record w { at = start }) s given
+    entered items start at stands b = record {
+      rest = joined items b.rest;
+      arounds = b.arounds;
+      lies = lies_joined text items b.rest start at w.end stands b.lies;
+      framed = b.framed;
+      same =
+          ap (λ x. x >>- λ r. ends F C b.arounds r.1) (joined_runs items b.rest (levels_in F C b.arounds) (star_of C w.star) s)
+          ∙ then_then (run F C s (items_step F C items (levels_in F C b.arounds) (star_of C w.star))) (λ r. run F C r.1 (items_step F C b.rest (levels_in F C b.arounds) (star_of C w.star))) (λ r. ends F C b.arounds r.1)
+          ∙ b.same;
+    }
+
+    -- an X for a switch that is hit
+    module _ (each : Each) (switch size : ℕ) (p : Pattern) (items : Items) (fits : HitFits text C each switch p items) (long : size ≡ length (matching p).name)
+        (b : Behind F C text w each.end (λ levels star. hit_step F C p items levels switch >> each_from F C p items levels (switch + 1)) s given) where
+      levels_full : (n : ℕ) → n ≡ 64 → levels_left F C (most_open - n) ≡ []
+      levels_full n e = ap (λ k. levels_left F C (most_open - k)) e
+
+      pub too_deep : length w.frames.items ≡ 64 → given ≡ Is (Err SpecTooDeep)
+      too_deep h =
+          sym b.same
+          ∙ ap (λ levels. run F C s (hit_step F C p items levels switch >> each_from F C p items levels (switch + 1)) >>- λ r. onward F C w.star b.rest b.arounds r.1)
+          (levels_full (length b.arounds) (sym (framed_long text C w.frames.items b.arounds b.framed) ∙ h))
+
+      abbrev frame : Frame
+      frame = record { opened = Hit each switch; end = w.end; star = w.star }
+
+      abbrev around : Around
+      around = record { frame = record { opened = Hit each switch; end = w.end; star = w.star }; pattern = p; items = items; rest = b.rest }
+
+      one_level : (n : ℕ) → n < 64 → levels_left F C (most_open - n) ≡ ◌∷◌ (λ xs. items_step F C xs (levels_left F C (most_open - (n + 1))) []) (levels_left F C (most_open - (n + 1)))
+      one_level n h = by (most_open - n) (most_open - (n + 1)) (omega (arith, h))
+        where
+          by : (k m : ℕ) → k ≡ suc m → levels_left F C k ≡ ◌∷◌ (λ xs. items_step F C xs (levels_left F C m) []) (levels_left F C m)
+          by k m e = ap (levels_left F C) e
+
+      pub opened_left : length w.frames.items < 64 → (v : Walk) → v.at ≡ each.start → v.end ≡ each.end → v.star ≡ Some (record { switch = switch; size = size }) → v.frames.items ≡ w.frames.items ++ frame ∷ []
+          → Left F C text v s given
+      opened_left h v at_is end_is star_is frames_is =
+          let n = framed_long text C w.frames.items b.arounds b.framed in
+          let inside : Levels = levels_left F C (most_open - (length b.arounds + 1)) in
+          let k : Unit {0} × State → Answer (Unit {0} × State) = λ r. onward F C w.star b.rest b.arounds r.1 in
+          let work : Step (Unit {0}) = items_step F C items (levels_left F C (most_open - (length b.arounds + 1))) (drop (length (matching p).name) (name_at (names C) switch)) in
+          record {
+            rest = items;
+            arounds = around ∷ b.arounds;
+            lies = subst (λ (k : ℕ). Lies text k items v.end) (sym at_is) (subst (λ (k : ℕ). Lies text each.start items k) (sym end_is) (lies_alone text items each.start each.end fits.stands));
+            framed = (w.frames.items, frames_is, record { opened = fits; behind = b.lies }, b.framed);
+            same =
+                ap (λ star. onward F C star items (around ∷ b.arounds) s) star_is
+                ∙ deeper_is (length (around ∷ b.arounds)) (length b.arounds + 1) (omega arith)
+                ∙ ap (λ m. run F C s (items_step F C items (levels_left F C (most_open - (length b.arounds + 1))) (drop m (name_at (names C) switch))) >>- λ r. ends F C (around ∷ b.arounds) r.1) long
+                ∙ sym (three s work (puts (Break ∷ word_of (argument C switch))) (each_from F C p items (levels_in F C b.arounds) (switch + 1)) k)
+                ∙ sym (ap (λ levels. run F C s (hit_step F C p items levels switch >> each_from F C p items (levels_in F C b.arounds) (switch + 1)) >>- k) (one_level (length b.arounds) (omega (arith, n, h))))
+                ∙ b.same;
+          }
+        where
+          deeper_is : (m n : ℕ) → m ≡ n
+              → (run F C s (items_step F C items (levels_left F C (most_open - m)) (drop size (name_at (names C) switch))) >>- λ r. ends F C (around ∷ b.arounds) r.1)
+              ≡ (run F C s (items_step F C items (levels_left F C (most_open - n)) (drop size (name_at (names C) switch))) >>- λ r. ends F C (around ∷ b.arounds) r.1)
+          deeper_is m n e = ap (λ k. run F C s (items_step F C items (levels_left F C (most_open - k)) (drop size (name_at (names C) switch))) >>- λ r. ends F C (around ∷ b.arounds) r.1) e
+
+    -- what a part was opened for, behind its end
+    pub closes : (left : Left F C text w s given) → w.end ≤ w.at → (frame : Frame) (outer : List Frame) (o : Popped text C left.arounds frame outer) (v : Walk) → v.end ≡ frame.end → v.star ≡ frame.star → v.frames.items ≡ outer
+        → Behind F C text v (back_of frame.opened) (λ levels star. closing F C levels frame.opened o.around.pattern o.around.items) s given
+    closes left h frame outer o v end_is star_is frames_is =
+        let f = o.frame_is in record {
+          rest = o.around.rest;
+          arounds = o.others;
+          lies =
+              subst (λ (k : ℕ). Lies text (back_of frame.opened) o.around.rest k) (sym end_is)
+              (subst (λ (x : Frame). Lies text (back_of x.opened) o.around.rest x.end) f o.fits.behind);
+          framed = subst (λ fs. Framed text C fs o.others) (sym frames_is) o.framed;
+          same =
+              ap (λ star. run F C s (closing F C (levels_in F C o.others) frame.opened o.around.pattern o.around.items) >>- λ r. onward F C star o.around.rest o.others r.1) star_is
+              ∙ ap (λ (x : Frame). run F C s (closing F C (levels_in F C o.others) x.opened o.around.pattern o.around.items) >>- λ r. onward F C x.star o.around.rest o.others r.1) (sym f)
+              ∙ ap (λ list. ends F C list s) (sym o.is)
+              ∙ part_ended left h;
+        }
+
+-- the item at a place, as the code works it
+module _ (F : Facts) (C : Context) (text : List ℕ) (at next : ℕ) (levels : Levels) (star : List ℕ) (item : Item) (part : Part (tokens_of (tree_of text)) (labels_of (tree_of text)) at (kind_of item) (label_of item) next)
+    (within : Stands text (at + 1) (inner_nodes item) next) (token : Token) (there : slice_get (tokens_of (tree_of text)) at ≡ Some token) where
+  kind_there : token.kind ≡ kind_of item
+  kind_there = ap (λ (x : Token). x.kind) (some_same token part.token (sym there ∙ part.there)) ∙ part.kind_is
+
+  pub means_there : Means F C text token.kind (at + 1) token.next levels star (inner_step F C item levels star)
+  means_there =
+      subst (λ (k : TokenKind). Means F C text k (at + 1) token.next levels star (inner_step F C item levels star)) (sym kind_there)
+      (item_means F C text (at + 1) token.next levels star item (subst (λ (k : ℕ). Stands text (at + 1) (inner_nodes item) k) (sym (next_at text at token (kind_of item) (label_of item) next there part)) within))
+
+  pub step_there : kind_step F C token.kind (label_at (tree_of text) at) star (inner_step F C item levels star) ≡ item_step F C item levels star
+  step_there =
+      ap (λ k. kind_step F C k (label_at (tree_of text) at) star (inner_step F C item levels star)) kind_there
+      ∙ ap (λ l. kind_step F C (kind_of item) l star (inner_step F C item levels star)) part.label_is
+      ∙ sym (item_by_kind F C item levels star)
+
+  -- a brace with alternatives
+  pub choices_there : token.kind ≡ kinds.Choose → (choices : Choices) × Stands text (at + 1) (choice_nodes choices) token.next × (item_step F C item levels star ≡ choices_step F C choices levels star)
+  choices_there e =
+      let means = subst (λ (k : TokenKind). Means F C text k (at + 1) token.next levels star (inner_step F C item levels star)) e means_there in
+      (means.0, means.1, sym step_there ∙ ap (λ k. kind_step F C k (label_at (tree_of text) at) star (inner_step F C item levels star)) e ∙ means.2)

@@ -1,0 +1,22 @@
+use Rattle.drv_machine.proofs.turns.settle.Given as goal
+use Rattle.drv_machine.specs.Asked.{Asked}
+use Rattle.drv_machine.specs.Running.{State}
+use Rattle.drv_machine.specs.Walking.{AtItem, HasFrames, Lain, Left, weight}
+use Rattle.drv_machine.specs.Working.{Answer}
+use Rattle.drv_system.specs.Asking.{Extends}
+use Rattle.drv_system.specs.Facts.{Facts}
+use Rattle.std.proofs.Common.{length, ◌<◌, ◌≡◌}
+
+abbrev pub invariant-loop-walk : goal.invariant-loop-walk
+invariant-loop-walk g l = record {
+  asks : Asked g.S.System.events l.fn.outside l.outside;
+  lain : Lain l.text l.walk;
+  framed : HasFrames l.context l.text l.walk;
+  sized : length l.machine.world.hidden ≡ length l.context.switches;
+  uncounted : l.machine.world.items ≡ l.fn.machine.world.items;
+  reached : l.walk.at < l.walk.end → AtItem l.text l.walk;
+  left : (F : Facts) → Extends l.outside.facts.now F → (given : Answer (Unit {0} × State)) → Left F l.context l.text l.fn.walk l.fn.machine given → Left F l.context l.text l.walk l.machine given;
+}
+
+abbrev pub decreases-loop-walk : goal.decreases-loop-walk
+decreases-loop-walk g l = weight (length l.context.switches) l.walk.frames.items
