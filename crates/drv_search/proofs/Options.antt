@@ -1,0 +1,88 @@
+use Rattle.drv_search.specs.Search.{Adds, ends_with_slash, folders_under, is_dir, machine_folder, option_for, options_for, without_slash}
+use Rattle.drv_system.specs.Facts.{Facts, kind_of}
+use Rattle.drv_system.specs.Known.{◌>>=◌, Is, Known, Unasked, asked}
+use Rattle.drv_system.specs.declared.event.PathKind.{PathKind}
+use Rattle.std.proofs.Common.{◌≡◌, ◌<◌, ◌+◌, ◌∙◌, List, [], ◌∷◌, ◌++◌, None, Option, Some, ap, append_assoc, codes, drop, false, length, flat_map, refl, sym, true, ℕ}
+use Rattle.std.proofs.lemmas.List.{append-nil, drop_more}
+use Rattle.std.specs.Prelude.{get_or}
+
+-- Options for folders one after another.
+
+-- the options so far, and then others
+abbrev pub behind_options : List (List ℕ) → Known (List (List ℕ)) → Known (List (List ℕ))
+behind_options done others = others >>= λ options. Is (done ++ options)
+
+behind_append : (done more : List (List ℕ)) (others : Known (List (List ℕ))) → (behind_options done (behind_options more others)) ≡ behind_options (done ++ more) others
+behind_append done more Unasked = refl
+behind_append done more (Is options) = rw append_assoc refl
+
+options_by : (F : Facts) (folder : List ℕ) (folders others : List (List ℕ)) (known : Option PathKind)
+    → options_for F (folders ++ others) ≡ (options_for F folders >>= λ options. behind_options options (options_for F others))
+    → (asked known >>= λ kind. options_for F (folders ++ others) >>= λ options. Is (option_for folder kind ++ options))
+    ≡ ((asked known >>= λ kind. options_for F folders >>= λ options. Is (option_for folder kind ++ options)) >>= λ options. behind_options options (options_for F others))
+options_by F folder folders others None later = refl
+options_by F folder folders others (Some kind) later = rw later (by (options_for F folders) (options_for F others))
+  where
+    by : (first second : Known (List (List ℕ))) → ((first >>= λ options. behind_options options second) >>= λ options. Is (option_for folder kind ++ options))
+        ≡ ((first >>= λ options. Is (option_for folder kind ++ options)) >>= λ options. behind_options options second)
+    by Unasked second = refl
+    by (Is options) second = behind_append (option_for folder kind) options second
+
+behind_none : (others : Known (List (List ℕ))) → behind_options [] others ≡ others
+behind_none Unasked = refl
+behind_none (Is options) = refl
+
+pub options-append : (F : Facts) (folders others : List (List ℕ)) → options_for F (folders ++ others) ≡ (options_for F folders >>= λ options. behind_options options (options_for F others))
+options-append F [] others = sym (behind_none (options_for F others))
+options-append F (folder ∷ folders) others = options_by F folder folders others (kind_of F folder) (options-append F folders others)
+
+-- the options of some folders more
+pub options_more : (F : Facts) (done after more : List (List ℕ)) (folders others : List (List ℕ)) → options_for F folders ≡ Is more → after ≡ done ++ more
+    → behind_options after (options_for F others) ≡ behind_options done (options_for F (folders ++ others))
+options_more F done after more folders others is grown =
+    ap (λ before. behind_options before (options_for F others)) grown
+    ∙ sym (behind_append done more (options_for F others))
+    ∙ ap (behind_options done) (sym (options-append F folders others ∙ ap (λ known. known >>= λ options. behind_options options (options_for F others)) is))
+
+-- the folders under one prefix more
+pub prefix_options : (F : Facts) (done after : List (List ℕ)) (prefix : List ℕ) (others : List (List ℕ)) → Adds (options_for F (folders_under prefix)) done after
+    → behind_options after (options_for F (flat_map folders_under others)) ≡ behind_options done (options_for F (flat_map folders_under (prefix ∷ others)))
+prefix_options F done after prefix others (more, is, grown) = options_more F done after more (folders_under prefix) (flat_map folders_under others) is grown
+
+-- a folder that was asked for
+pub no_option : (F : Facts) (word folder : List ℕ) (kind : PathKind) (options : List (List ℕ)) → word ≡ folder → kind_of F word ≡ Some kind → is_dir kind ≡ false → Adds (options_for F (folder ∷ [])) options options
+no_option F word folder kind options is known bare = ([], ap (λ path. options_for F (path ∷ [])) (sym is) ∙ rw (known, bare) refl, sym (append-nil options))
+
+pub one_option : (F : Facts) (word folder option : List ℕ) (kind : PathKind) (options after : List (List ℕ)) → word ≡ folder → kind_of F word ≡ Some kind → is_dir kind ≡ true
+    → option ≡ codes "-L" ++ word → after ≡ options ++ option ∷ [] → Adds (options_for F (folder ∷ [])) options after
+one_option F word folder option kind options after is known folds named grown = (option ∷ [], ap (λ path. options_for F (path ∷ [])) (sym is) ∙ rw (known, folds, named) refl, grown)
+
+-- the folders under a prefix
+pub one_folder : (F : Facts) (prefix machine : List ℕ) (options after : List (List ℕ)) → ends_with_slash prefix ≡ false → machine ≡ prefix ++ machine_folder
+    → Adds (options_for F (without_slash machine ∷ [])) options after → Adds (options_for F (folders_under prefix)) options after
+one_folder F prefix machine options after bare is (more, first, grown) =
+    (more, rw bare (ap (λ path. options_for F (without_slash path ∷ [])) (sym is) ∙ first), grown)
+
+pub two_folders : (F : Facts) (prefix machine : List ℕ) (options mid after : List (List ℕ)) → ends_with_slash prefix ≡ true → machine ≡ prefix ++ machine_folder
+    → Adds (options_for F (without_slash machine ∷ [])) options mid → Adds (options_for F (without_slash prefix ∷ [])) mid after → Adds (options_for F (folders_under prefix)) options after
+two_folders F prefix machine options mid after ends is (more, first, grown) (others, second, grown') = (
+  more ++ others,
+  rw ends (ap (λ path. options_for F (without_slash path ∷ without_slash prefix ∷ [])) (sym is)
+      ∙ options-append F (without_slash machine ∷ []) (without_slash prefix ∷ [])
+      ∙ ap (λ known. known >>= λ options. behind_options options (options_for F (without_slash prefix ∷ []))) first ∙ ap (behind_options more) second),
+  grown' ∙ ap (λ os. os ++ others) grown ∙ append_assoc options more others,
+)
+
+-- one prefix more, by its bytes, and the end
+pub prefix_done : (F : Facts) (prefixes : List (List ℕ)) (i : ℕ) (prefix bytes : List ℕ) (done after : List (List ℕ)) (all : Known (List (List ℕ))) → i < length prefixes → prefix ≡ get_or prefixes i prefix → bytes ≡ prefix
+    → Adds (options_for F (folders_under bytes)) done after → behind_options done (options_for F (flat_map folders_under (drop i prefixes))) ≡ all
+    → behind_options after (options_for F (flat_map folders_under (drop (i + 1) prefixes))) ≡ all
+prefix_done F prefixes i prefix bytes done after all below here is (more, given, grown) so_far =
+    prefix_options F done after prefix (drop (i + 1) prefixes) (more, ap (λ p. options_for F (folders_under p)) (sym is) ∙ given, grown)
+    ∙ ap (λ ps. behind_options done (options_for F (flat_map folders_under ps))) (sym (drop_more prefixes i prefix below ∙ ap (λ p. p ∷ drop (i + 1) prefixes) (sym here)))
+    ∙ so_far
+
+pub all_options : (F : Facts) (prefixes options : List (List ℕ)) (i : ℕ) → drop i prefixes ≡ []
+    → behind_options options (options_for F (flat_map folders_under (drop i prefixes))) ≡ options_for F (flat_map folders_under prefixes)
+    → options_for F (flat_map folders_under prefixes) ≡ Is options
+all_options F prefixes options i none so_far = sym so_far ∙ ap (λ ps. behind_options options (options_for F (flat_map folders_under ps))) none ∙ ap Is (append-nil options)

@@ -1,0 +1,129 @@
+use Rattle.drv_words.specs.Bytes.{slash}
+use Rattle.drv_search.specs.declared.fault.SearchFault.TheVariants.{ScriptMissing}
+use Rattle.drv_search.specs.declared.fault.SearchFault.{SearchFault}
+use Rattle.drv_search.specs.declared.prefixes.Prefixes.{Prefixes}
+use Rattle.drv_system.specs.Facts.{Facts, kind_of}
+use Rattle.drv_system.specs.Known.{◌>>=◌, Is, Known, asked}
+use Rattle.drv_system.specs.declared.event.PathKind.TheVariants.{Dir, Missing, Other, Plain}
+use Rattle.drv_system.specs.declared.event.PathKind.{PathKind}
+use Rattle.std.specs.List.{ends_with, list_any}
+use Rattle.std.specs.Prelude.{◌≡◌, ◌-◌, ◌==◌, ◌∷◌, ◌++◌, ◌||◌, Bool, Err, List, [], None, Ok, Option, Result, Some, codes, false, flat_map, if◌then◌else◌, length, map, nat_eq, take, true, ℕ}
+
+-- Where programs and files are looked for (GCC manual, "Directory Options", -B and -L; the folders that are searched without
+-- being named are this project's profile).
+
+abbrev pub ends_with_slash : List ℕ → Bool
+ends_with_slash path = ends_with nat_eq path (slash ∷ [])
+
+-- the folder of the machine under a prefix
+abbrev pub machine_folder : List ℕ
+machine_folder = codes "generic-elf/13/"
+
+-- The prefixes of -B.
+
+-- a folder whose name lacks the slash at its end gets one
+abbrev pub as_prefix : List ℕ → PathKind → List ℕ
+as_prefix dir Dir = dir ++ slash ∷ []
+as_prefix dir Plain = dir
+as_prefix dir Other = dir
+as_prefix dir Missing = dir
+
+-- an argument that is empty or ends with a slash is a prefix as it stands
+abbrev pub is_prefix : List ℕ → Bool
+is_prefix dir = length dir == 0 || ends_with_slash dir
+
+abbrev pub prefix_of : Facts → List ℕ → Known (List ℕ)
+prefix_of F dir = if is_prefix dir then Is dir else (asked (kind_of F dir) >>= λ kind. Is (as_prefix dir kind))
+
+abbrev pub given_of : Facts → List (List ℕ) → Known (List (List ℕ))
+given_of F [] = Is []
+given_of F (dir ∷ dirs) = prefix_of F dir >>= λ prefix. given_of F dirs >>= λ prefixes. Is (prefix ∷ prefixes)
+
+-- The two lists of prefixes: those of -B, and the folders behind them.
+
+abbrev pub program_folders : List (List ℕ)
+program_folders = codes "/usr/lib/gcc/" ∷ codes "/usr/local/lib/gcc/" ∷ []
+
+abbrev pub library_folders : List (List ℕ)
+library_folders = codes "/usr/lib/gcc/" ∷ codes "/usr/local/lib/gcc/" ∷ codes "/lib/" ∷ codes "/usr/lib/" ∷ []
+
+abbrev pub prefixes_of : Facts → List (List ℕ) → Known Prefixes
+prefixes_of F dirs = given_of F dirs >>= λ given. Is (record { programs = given ++ program_folders; libraries = given ++ library_folders })
+
+-- Where a name is looked for, and what is found: the first plain file.
+
+abbrev pub candidates_under : List ℕ → List ℕ → List (List ℕ)
+candidates_under name prefix = (prefix ++ machine_folder ++ name) ∷ (prefix ++ name) ∷ []
+
+abbrev pub candidates : List (List ℕ) → List ℕ → List (List ℕ)
+candidates prefixes name = flat_map (candidates_under name) prefixes
+
+abbrev pub is_plain : PathKind → Bool
+is_plain Plain = true
+is_plain Dir = false
+is_plain Other = false
+is_plain Missing = false
+
+abbrev pub found : Facts → List (List ℕ) → Known (Option (List ℕ))
+found F [] = Is None
+found F (path ∷ paths) = asked (kind_of F path) >>= λ kind. if is_plain kind then Is (Some path) else found F paths
+
+-- a name that is empty or has a slash is looked for nowhere
+abbrev pub is_searched : List ℕ → Bool
+is_searched [] = false
+is_searched (b ∷ name) = if list_any (λ c. c == slash) (b ∷ name) then false else true
+
+-- what is found, or else the name
+abbrev pub or_name : List ℕ → Option (List ℕ) → List ℕ
+or_name name None = name
+or_name name (Some path) = path
+
+abbrev pub found_or_name : Facts → List (List ℕ) → List ℕ → Known (List ℕ)
+found_or_name F prefixes name = if is_searched name then (found F (candidates prefixes name) >>= λ hit. Is (or_name name hit)) else Is name
+
+abbrev pub program_found : Facts → Prefixes → List ℕ → Known (List ℕ)
+program_found F prefixes name = found_or_name F prefixes.programs name
+
+abbrev pub file_found : Facts → Prefixes → List ℕ → Known (List ℕ)
+file_found F prefixes name = found_or_name F prefixes.libraries name
+
+-- a linker script: one with a slash is itself, if it is a plain file
+abbrev pub script_places : Prefixes → List ℕ → List (List ℕ)
+script_places prefixes name = if list_any (λ c. c == slash) name then name ∷ [] else candidates prefixes.libraries name
+
+abbrev pub script_or_fault : List ℕ → Option (List ℕ) → Result (List ℕ) SearchFault
+script_or_fault name None = Err (ScriptMissing name)
+script_or_fault name (Some path) = Ok path
+
+abbrev pub script_found : Facts → Prefixes → List ℕ → Known (Result (List ℕ) SearchFault)
+script_found F prefixes name = found F (script_places prefixes name) >>= λ hit. Is (script_or_fault name hit)
+
+-- The folders of libraries, as options: without the slash at their end, but for the root.
+
+abbrev pub is_dir : PathKind → Bool
+is_dir Dir = true
+is_dir Plain = false
+is_dir Other = false
+is_dir Missing = false
+
+abbrev pub without_slash : List ℕ → List ℕ
+without_slash [] = []
+without_slash (b ∷ []) = b ∷ []
+without_slash (b ∷ c ∷ path) = take (length (b ∷ c ∷ path) - 1) (b ∷ c ∷ path)
+
+abbrev pub folders_under : List ℕ → List (List ℕ)
+folders_under prefix = without_slash (prefix ++ machine_folder) ∷ (if ends_with_slash prefix then without_slash prefix ∷ [] else [])
+
+abbrev pub option_for : List ℕ → PathKind → List (List ℕ)
+option_for folder kind = if is_dir kind then (codes "-L" ++ folder) ∷ [] else []
+
+abbrev pub options_for : Facts → List (List ℕ) → Known (List (List ℕ))
+options_for F [] = Is []
+options_for F (folder ∷ folders) = asked (kind_of F folder) >>= λ kind. options_for F folders >>= λ options. Is (option_for folder kind ++ options)
+
+abbrev pub folder_options : Facts → Prefixes → Known (List (List ℕ))
+folder_options F prefixes = options_for F (flat_map folders_under prefixes.libraries)
+
+-- a list that these options were added to
+abbrev pub Adds : Known (List (List ℕ)) → List (List ℕ) → List (List ℕ) → Type 0
+Adds more before after = (options : List (List ℕ)) × (more ≡ Is options) × (after ≡ before ++ options)

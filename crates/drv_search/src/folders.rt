@@ -1,0 +1,99 @@
+//! The folders of libraries.
+
+ghost use Rattle.drv_search.specs.Search.{Adds, folder_options, folders_under, is_dir, options_for, without_slash};
+ghost use Rattle.drv_system.specs.Asking.{Asks, Extends};
+ghost use Rattle.drv_system.specs.Facts.{Facts};
+ghost use Rattle.drv_system.specs.Known.{Is};
+ghost use Rattle.std.specs.Prelude.{◌≡◌, ◌∷◌, ◌++◌, [], IfOk, OnOk, codes};
+
+use crate::Prefixes;
+use crate::prefixes::{ends_with_slash, machine_folder_under};
+use drv_system::{FactTable, PathKind, System};
+use drv_words::{Listing, Word};
+use std::alloc::{AllocError, Global};
+
+/// A path without its last byte, but for the root.
+fn without_slash(path: &[u8]) -> &[u8]
+    ensures { result.now ≡ without_slash path.now }
+{
+    match path {
+        [] | [_] => path,
+        [front @ .., _] => front,
+    }
+}
+
+/// Whether a path is that of a folder.
+fn is_dir(kind: PathKind) -> bool
+    ensures { result ≡ is_dir kind }
+{
+    matches!(kind, PathKind::Dir)
+}
+
+/// The option for a folder.
+fn folder_option(alloc: Global, folder: &Word) -> Result<Word, AllocError>
+    ensures { IfOk result (λ option. option ≡ codes "-L" ++ folder.now) }
+{
+    let mut option = Word::from_bytes(alloc, b"-L")?;
+    option.extend_from_slice(folder.as_bytes())?;
+    Ok(option)
+}
+
+/// Adds the option for a path without the slash at its end, if it is that of a folder.
+fn push_option<S: System>(
+    alloc: Global,
+    options: &mut Listing<Word>,
+    path: &[u8],
+    sys: &mut S,
+    facts: &mut FactTable,
+) -> Result<(), AllocError>
+    ensures asks { Asks (S.events sys.old) (S.events sys.new) facts.old facts.new }
+    ensures option { (F : Facts) → Extends facts.new F → OnOk result (Adds (options_for F (without_slash path.now ∷ [])) options.old options.new) }
+{
+    let folder = Word::from_bytes(alloc, without_slash(path))?;
+    let kind = facts.kind(sys, &folder)?;
+    if !is_dir(kind) {
+        return Ok(());
+    }
+    options.push(folder_option(alloc, &folder)?)?;
+    Ok(())
+}
+
+/// Adds the options for the folders under a prefix.
+#[tactic(auto, using(crate::proofs::Asked::asks_further))]
+fn push_options<S: System>(
+    alloc: Global,
+    options: &mut Listing<Word>,
+    prefix: &[u8],
+    sys: &mut S,
+    facts: &mut FactTable,
+) -> Result<(), AllocError>
+    ensures asks { Asks (S.events sys.old) (S.events sys.new) facts.old facts.new }
+    ensures options { (F : Facts) → Extends facts.new F → OnOk result (Adds (options_for F (folders_under prefix.now)) options.old options.new) }
+{
+    let machine = machine_folder_under(alloc, prefix)?;
+    push_option(alloc, options, machine.as_bytes(), sys, facts)?;
+    if !ends_with_slash(prefix) {
+        return Ok(());
+    }
+    push_option(alloc, options, prefix, sys, facts)?;
+    Ok(())
+}
+
+/// The options `-L` for the folders of libraries: under each prefix the machine's folder, and the prefix itself where
+/// it ends with a slash. Want of memory is the only error.
+#[tactic(auto, using(crate::proofs::Asked::asks_further, crate::proofs::Options::all_options))]
+pub fn dir_options<S: System>(
+    alloc: Global,
+    prefixes: &Prefixes,
+    sys: &mut S,
+    facts: &mut FactTable,
+) -> Result<Listing<Word>, AllocError>
+    ensures asks { Asks (S.events sys.old) (S.events sys.new) facts.old facts.new }
+    ensures options { (F : Facts) → Extends facts.new F → IfOk result (λ options. folder_options F prefixes.now ≡ Is options) }
+{
+    let mut options = Listing::new(alloc);
+    for prefix in prefixes.libraries.as_slice() {
+        push_options(alloc, &mut options, prefix.as_bytes(), sys, facts)?;
+    }
+    Ok(options)
+}

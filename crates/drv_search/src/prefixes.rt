@@ -1,0 +1,173 @@
+//! The prefixes of a search: those of `-B`, and the folders behind them.
+
+ghost use Rattle.drv_search.specs.Search.{as_prefix, ends_with_slash, given_of, is_prefix, library_folders, machine_folder, prefix_of, prefixes_of, program_folders};
+ghost use Rattle.drv_system.specs.Asking.{Asks, Extends};
+ghost use Rattle.drv_system.specs.Facts.{Facts};
+ghost use Rattle.drv_system.specs.Known.{Is};
+ghost use Rattle.std.specs.Prelude.{◌≡◌, ◌++◌, IfOk, OnOk, map};
+
+use drv_system::{FactTable, PathKind, System};
+use drv_words::{Listing, Word};
+use std::alloc::{AllocError, Global};
+
+/// The folder of the machine under a prefix.
+const MACHINE_FOLDER: &[u8] = b"generic-elf/13/";
+
+/// Where programs are looked for behind the prefixes of `-B`.
+const PROGRAM_FOLDERS: [&[u8]; 2] = [b"/usr/lib/gcc/", b"/usr/local/lib/gcc/"];
+
+/// Where other files are looked for behind the prefixes of `-B`.
+const LIBRARY_FOLDERS: [&[u8]; 4] = [
+    b"/usr/lib/gcc/",
+    b"/usr/local/lib/gcc/",
+    b"/lib/",
+    b"/usr/lib/",
+];
+
+/// Where a name is looked for, in order.
+#[derive(Debug, Drop)]
+pub struct Prefixes {
+    /// The prefixes of programs.
+    pub programs: Listing<Word>,
+    /// The prefixes of libraries, spec files and linker scripts.
+    pub libraries: Listing<Word>,
+}
+
+/// Whether a path ends with a slash.
+pub(crate) fn ends_with_slash(path: &[u8]) -> bool
+    ensures { result ≡ ends_with_slash path.now }
+{
+    path.ends_with(b"/")
+}
+
+/// Whether an argument of `-B` is a prefix as it stands.
+fn is_prefix(dir: &[u8]) -> bool
+    ensures { result ≡ is_prefix dir.now }
+{
+    dir.is_empty() || ends_with_slash(dir)
+}
+
+/// A prefix of this kind: a folder's gets the slash that it lacks.
+fn as_prefix(dir: &Word, kind: PathKind) -> Result<Word, AllocError>
+    ensures { IfOk result (λ prefix. prefix ≡ as_prefix dir.now kind) }
+{
+    let mut prefix = dir.clone()?;
+    match kind {
+        PathKind::Dir => prefix.push(b'/')?,
+        PathKind::Plain | PathKind::Other | PathKind::Missing => {}
+    }
+    Ok(prefix)
+}
+
+/// The prefix that an argument of `-B` stands for.
+fn prefix_of<S: System>(dir: &Word, sys: &mut S, facts: &mut FactTable) -> Result<Word, AllocError>
+    ensures asks { Asks (S.events sys.old) (S.events sys.new) facts.old facts.new }
+    ensures prefix { (F : Facts) → Extends facts.new F → IfOk result (λ prefix. prefix_of F dir.now ≡ Is prefix) }
+{
+    if is_prefix(dir.as_bytes()) {
+        return dir.clone();
+    }
+    let kind = facts.kind(sys, dir)?;
+    as_prefix(dir, kind)
+}
+
+/// The prefixes that the arguments of `-B` stand for.
+#[tactic(auto, using(crate::proofs::Asked::asks_further))]
+fn given_prefixes<S: System>(
+    alloc: Global,
+    dirs: &[Word],
+    sys: &mut S,
+    facts: &mut FactTable,
+) -> Result<Listing<Word>, AllocError>
+    ensures asks { Asks (S.events sys.old) (S.events sys.new) facts.old facts.new }
+    ensures given { (F : Facts) → Extends facts.new F → IfOk result (λ given. given_of F dirs.now ≡ Is given) }
+{
+    let mut given = Listing::new(alloc);
+    for dir in dirs {
+        given.push(prefix_of(dir, sys, facts)?)?;
+    }
+    Ok(given)
+}
+
+/// Adds folders at the end.
+fn push_folders(
+    alloc: Global,
+    prefixes: &mut Listing<Word>,
+    folders: &[&[u8]],
+) -> Result<(), AllocError>
+    ensures { OnOk result (prefixes.new ≡ prefixes.old ++ map (λ folder. folder.now) folders.now) }
+{
+    for folder in folders {
+        prefixes.push(Word::from_bytes(alloc, folder)?)?;
+    }
+    Ok(())
+}
+
+/// These prefixes, and the folders behind them.
+fn with_folders(
+    alloc: Global,
+    given: &[Word],
+    folders: &[&[u8]],
+) -> Result<Listing<Word>, AllocError>
+    ensures { IfOk result (λ prefixes. prefixes ≡ given.now ++ map (λ folder. folder.now) folders.now) }
+{
+    let mut prefixes = Listing::new(alloc);
+    for prefix in given {
+        prefixes.push(prefix.clone()?)?;
+    }
+    push_folders(alloc, &mut prefixes, folders)?;
+    Ok(prefixes)
+}
+
+impl Prefixes {
+    /// Where names are looked for with these arguments of `-B`: one that is a folder gets the slash that it lacks. Want
+    /// of memory is the only error.
+    #[tactic(auto, using(crate::proofs::Candidates::prefixes_made))]
+    pub fn new<S: System>(
+        alloc: Global,
+        dirs: &[Word],
+        sys: &mut S,
+        facts: &mut FactTable,
+    ) -> Result<Prefixes, AllocError>
+        ensures asks { Asks (S.events sys.old) (S.events sys.new) facts.old facts.new }
+        ensures prefixes { (F : Facts) → Extends facts.new F → IfOk result (λ made. prefixes_of F dirs.now ≡ Is made) }
+    {
+        let given = given_prefixes(alloc, dirs, sys, facts)?;
+        let programs = with_folders(alloc, given.as_slice(), program_folders())?;
+        let libraries = with_folders(alloc, given.as_slice(), library_folders())?;
+        Ok(Prefixes {
+            programs,
+            libraries,
+        })
+    }
+}
+
+/// The folders that are searched for programs.
+fn program_folders() -> &'static [&'static [u8]]
+    ensures { map (λ folder. folder.now) result.now ≡ program_folders }
+{
+    &PROGRAM_FOLDERS
+}
+
+/// The folders that are searched for other files.
+fn library_folders() -> &'static [&'static [u8]]
+    ensures { map (λ folder. folder.now) result.now ≡ library_folders }
+{
+    &LIBRARY_FOLDERS
+}
+
+/// The folder of the machine.
+fn machine_folder() -> &'static [u8]
+    ensures { result.now ≡ machine_folder }
+{
+    MACHINE_FOLDER
+}
+
+/// The folder of the machine under a prefix.
+pub(crate) fn machine_folder_under(alloc: Global, prefix: &[u8]) -> Result<Word, AllocError>
+    ensures { IfOk result (λ folder. folder ≡ prefix.now ++ machine_folder) }
+{
+    let mut folder = Word::from_bytes(alloc, prefix)?;
+    folder.extend_from_slice(machine_folder())?;
+    Ok(folder)
+}

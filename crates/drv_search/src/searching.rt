@@ -1,0 +1,190 @@
+//! Programs, files and linker scripts looked for.
+
+ghost use Rattle.drv_search.specs.Search.{candidates, candidates_under, file_found, found, found_or_name, is_plain, is_searched, machine_folder, program_found, script_found};
+ghost use Rattle.drv_words.specs.Bytes.{slash};
+ghost use Rattle.drv_search.specs.declared.fault.SearchFault.TheVariants as fault;
+ghost use Rattle.drv_system.specs.Asking.{Asks, Extends};
+ghost use Rattle.drv_system.specs.Facts.{Facts};
+ghost use Rattle.drv_system.specs.Gives.{GivesKnown};
+ghost use Rattle.drv_system.specs.Known.{Is};
+ghost use Rattle.std.specs.List.{list_any};
+ghost use Rattle.std.specs.Prelude.{◌≡◌, ◌==◌, ◌∷◌, ◌++◌, [], IfOk};
+
+use crate::prefixes::machine_folder_under;
+use crate::{Prefixes, SearchFault};
+use drv_system::{FactTable, PathKind, System};
+use drv_words::Word;
+use std::alloc::{AllocError, Global};
+
+/// The path of a name in the machine's folder under a prefix.
+fn machine_path(alloc: Global, prefix: &[u8], name: &[u8]) -> Result<Word, AllocError>
+    ensures { IfOk result (λ path. path ≡ prefix.now ++ machine_folder ++ name.now) }
+{
+    let mut path = machine_folder_under(alloc, prefix)?;
+    path.extend_from_slice(name)?;
+    Ok(path)
+}
+
+/// The path of a name in a prefix itself.
+fn bare_path(alloc: Global, prefix: &[u8], name: &[u8]) -> Result<Word, AllocError>
+    ensures { IfOk result (λ path. path ≡ prefix.now ++ name.now) }
+{
+    let mut path = Word::from_bytes(alloc, prefix)?;
+    path.extend_from_slice(name)?;
+    Ok(path)
+}
+
+/// Whether a path is that of a plain file.
+fn is_plain(kind: PathKind) -> bool
+    ensures { result ≡ is_plain kind }
+{
+    matches!(kind, PathKind::Plain)
+}
+
+/// The path, if it is that of a plain file.
+fn plain_at<S: System>(
+    path: Word,
+    sys: &mut S,
+    facts: &mut FactTable,
+) -> Result<Option<Word>, AllocError>
+    ensures asks { Asks (S.events sys.old) (S.events sys.new) facts.old facts.new }
+    ensures hit { (F : Facts) → Extends facts.new F → IfOk result (λ hit. found F (path ∷ []) ≡ Is hit) }
+{
+    let kind = facts.kind(sys, &path)?;
+    Ok(if is_plain(kind) { Some(path) } else { None })
+}
+
+/// What is found under one prefix: in the machine's folder, or else in the prefix itself.
+#[tactic(auto, using(crate::proofs::Asked::asks_further))]
+fn found_under<S: System>(
+    alloc: Global,
+    prefix: &[u8],
+    name: &[u8],
+    sys: &mut S,
+    facts: &mut FactTable,
+) -> Result<Option<Word>, AllocError>
+    ensures asks { Asks (S.events sys.old) (S.events sys.new) facts.old facts.new }
+    ensures hit { (F : Facts) → Extends facts.new F → IfOk result (λ hit. found F (candidates_under name.now prefix.now) ≡ Is hit) }
+{
+    let path = machine_path(alloc, prefix, name)?;
+    if let Some(hit) = plain_at(path, sys, facts)? {
+        return Ok(Some(hit));
+    }
+    let path = bare_path(alloc, prefix, name)?;
+    plain_at(path, sys, facts)
+}
+
+/// What is found under prefixes. Behind the first hit nothing is asked.
+#[tactic(auto, using(crate::proofs::Asked::asks_further))]
+fn search<S: System>(
+    alloc: Global,
+    prefixes: &[Word],
+    name: &[u8],
+    sys: &mut S,
+    facts: &mut FactTable,
+) -> Result<Option<Word>, AllocError>
+    ensures asks { Asks (S.events sys.old) (S.events sys.new) facts.old facts.new }
+    ensures hit { (F : Facts) → Extends facts.new F → IfOk result (λ hit. found F (candidates prefixes.now name.now) ≡ Is hit) }
+{
+    for prefix in prefixes {
+        if let Some(hit) = found_under(alloc, prefix.as_bytes(), name, sys, facts)? {
+            return Ok(Some(hit));
+        }
+    }
+    Ok(None)
+}
+
+/// Whether a name has a slash.
+fn has_slash(name: &[u8]) -> bool
+    ensures { result ≡ list_any (λ b. b == slash) name.now }
+{
+    name.contains(&b'/')
+}
+
+/// Whether a name is looked for.
+fn is_searched(name: &[u8]) -> bool
+    ensures { result ≡ is_searched name.now }
+{
+    !name.is_empty() && !has_slash(name)
+}
+
+/// What is found, or else the name.
+fn found_or_name<S: System>(
+    alloc: Global,
+    prefixes: &[Word],
+    name: &Word,
+    sys: &mut S,
+    facts: &mut FactTable,
+) -> Result<Word, AllocError>
+    ensures asks { Asks (S.events sys.old) (S.events sys.new) facts.old facts.new }
+    ensures path { (F : Facts) → Extends facts.new F → IfOk result (λ path. found_or_name F prefixes.now name.now ≡ Is path) }
+{
+    if !is_searched(name.as_bytes()) {
+        return name.clone();
+    }
+    match search(alloc, prefixes, name.as_bytes(), sys, facts)? {
+        Some(path) => Ok(path),
+        None => name.clone(),
+    }
+}
+
+/// The program of that name: the first plain file among its places. A name that is empty, has a slash or isn't found
+/// is answered as it is (GCC manual, "Directory Options", -B). Want of memory is the only error.
+pub fn find_program<S: System>(
+    alloc: Global,
+    prefixes: &Prefixes,
+    name: &Word,
+    sys: &mut S,
+    facts: &mut FactTable,
+) -> Result<Word, AllocError>
+    ensures asks { Asks (S.events sys.old) (S.events sys.new) facts.old facts.new }
+    ensures path { (F : Facts) → Extends facts.new F → IfOk result (λ path. program_found F prefixes.now name.now ≡ Is path) }
+{
+    found_or_name(alloc, prefixes.programs.as_slice(), name, sys, facts)
+}
+
+/// The file of that name, of the linker or of specs: the first plain file among its places. A name that is empty, has
+/// a slash or isn't found is answered as it is. Want of memory is the only error.
+pub fn find_file<S: System>(
+    alloc: Global,
+    prefixes: &Prefixes,
+    name: &Word,
+    sys: &mut S,
+    facts: &mut FactTable,
+) -> Result<Word, AllocError>
+    ensures asks { Asks (S.events sys.old) (S.events sys.new) facts.old facts.new }
+    ensures path { (F : Facts) → Extends facts.new F → IfOk result (λ path. file_found F prefixes.now name.now ≡ Is path) }
+{
+    found_or_name(alloc, prefixes.libraries.as_slice(), name, sys, facts)
+}
+
+/// The linker script of that name: one with a slash if it is a plain file, any other where it is found.
+///
+/// # Errors
+/// `ScriptMissing` with the name, where there is none.
+pub fn find_script<S: System>(
+    alloc: Global,
+    prefixes: &Prefixes,
+    name: &Word,
+    sys: &mut S,
+    facts: &mut FactTable,
+) -> Result<Word, SearchFault>
+    ensures asks { Asks (S.events sys.old) (S.events sys.new) facts.old facts.new }
+    ensures path { (F : Facts) → Extends facts.new F → GivesKnown fault.Memory (λ path. path) result (script_found F prefixes.now name.now) }
+{
+    let hit = if has_slash(name.as_bytes()) {
+        plain_at(name.clone()?, sys, facts)?
+    } else {
+        search(
+            alloc,
+            prefixes.libraries.as_slice(),
+            name.as_bytes(),
+            sys,
+            facts,
+        )?
+    };
+    match hit {
+        Some(path) => Ok(path),
+        None => Err(SearchFault::ScriptMissing(name.clone()?)),
+    }
+}
