@@ -1,0 +1,5 @@
+mod Asked
+mod Giving
+mod Reading
+mod Rows
+mod Values

@@ -1,0 +1,10 @@
+use Rattle.drv_funcs.proofs.Values.{last_within}
+use Rattle.drv_funcs.proofs.comparing.value_of.Goals as goal
+use Rattle.drv_funcs.specs.Outcome.{last, starred}
+use Rattle.drv_match.specs.Matching.{hits}
+use Rattle.std.proofs.Common.{◌≡◌, Some, rules}
+
+pub name-requires : goal.name-requires
+name-requires c =
+    let at : last (hits c.args.switches.now c.args.hidden.now (starred c.args.prefix.now)) ≡ Some c.in-Some.place.now = search rules in
+    last_within c.args.switches.now c.args.hidden.now (starred c.args.prefix.now) c.in-Some.place.now at

@@ -1,0 +1,5 @@
+pub mod Comparing
+pub mod Functions
+pub mod Outcome
+pub mod Reading
+pub mod Versions

@@ -1,0 +1,143 @@
+use Rattle.drv_funcs.specs.Comparing.{holds, holds_of_none, operator_of, takes_two}
+use Rattle.drv_funcs.specs.Versions.{version}
+use Rattle.drv_funcs.specs.declared.fault.FuncsFault.{FuncsFault}
+use Rattle.drv_funcs.specs.declared.fault.FuncsFault.TheVariants.{BadOperator, BadVersion, NotInLink, VariableMissing, WrongCount}
+use Rattle.drv_funcs.specs.declared.function.Function.{Function}
+use Rattle.drv_funcs.specs.declared.function.Function.TheVariants.{Getenv, IfExists, IfExistsElse, IfExistsThenElse, RemoveOutfile, ReplaceOutfile, VersionCompare}
+use Rattle.drv_funcs.specs.declared.operator.Operator.{Operator}
+use Rattle.drv_match.specs.Matching.{hits, name_at}
+use Rattle.drv_match.specs.Pattern.{Pattern}
+use Rattle.drv_system.specs.Facts.{Facts, kind_of, variable_of}
+use Rattle.drv_system.specs.Known.{◌>>=◌, Is, Known, asked}
+use Rattle.drv_system.specs.declared.event.PathKind.{PathKind}
+use Rattle.drv_system.specs.declared.event.PathKind.TheVariants.{Missing}
+use Rattle.std.specs.Cmp.Lexicographic.{pointwise}
+use Rattle.std.specs.List.{filter, starts_with}
+use Rattle.std.specs.Prelude.{◌-◌, Bool, Err, List, [], ◌∷◌, ◌++◌, None, Ok, Option, Result, Some, codes, drop, false, if◌then◌else◌, length, map, nat_eq, not, option_map, slice_get, true, ℕ}
+
+-- What each function of spec texts gives: a word, or nothing, or a refusal (GCC manual, "Spec Files"; what it leaves open is
+-- this project's profile). One equation a function and number of arguments; any other number is refused.
+
+-- what a function gives that changes nothing
+abbrev pub Given : Type 0
+Given = Result (Option (List ℕ)) FuncsFault
+
+-- `getenv NAME STRING`: the value of the variable, then the string
+abbrev pub with_value : List ℕ → List ℕ → Option (List ℕ) → Given
+with_value name string None = Err (VariableMissing name)
+with_value name string (Some value) = Ok (Some (value ++ string))
+
+abbrev pub getenv : Facts → List (List ℕ) → Known Given
+getenv F (name ∷ string ∷ []) = asked (variable_of F name) >>= λ value. Is (with_value name string value)
+getenv F args = Is (Err (WrongCount Getenv))
+
+-- a path is there: it begins with a slash, and something has it
+abbrev pub is_missing : PathKind → Bool
+is_missing Missing = true
+is_missing kind = false
+
+abbrev pub exists : Facts → List ℕ → Known Bool
+exists F path = if starts_with nat_eq path (codes "/") then asked (kind_of F path) >>= (λ kind. Is (not (is_missing kind))) else Is false
+
+-- `if-exists PATH`
+abbrev pub if_exists : Facts → List (List ℕ) → Known Given
+if_exists F (path ∷ []) = exists F path >>= λ there. Is (Ok (if there then Some path else None))
+if_exists F args = Is (Err (WrongCount IfExists))
+
+-- `if-exists-else PATH OTHER`
+abbrev pub if_exists_else : Facts → List (List ℕ) → Known Given
+if_exists_else F (path ∷ other ∷ []) = exists F path >>= λ there. Is (Ok (Some (if there then path else other)))
+if_exists_else F args = Is (Err (WrongCount IfExistsElse))
+
+-- `if-exists-then-else PATH THEN` and `if-exists-then-else PATH THEN ELSE`
+abbrev pub if_exists_then_else : Facts → List (List ℕ) → Known Given
+if_exists_then_else F (path ∷ first ∷ []) = exists F path >>= λ there. Is (Ok (if there then Some first else None))
+if_exists_then_else F (path ∷ first ∷ second ∷ []) = exists F path >>= λ there. Is (Ok (Some (if there then first else second)))
+if_exists_then_else F args = Is (Err (WrongCount IfExistsThenElse))
+
+-- `replace-outfile OLD NEW`: the outputs, of which each that is the old word becomes the new one
+abbrev pub replaced : List (List ℕ) → List (List ℕ) → Result (List (List ℕ)) FuncsFault
+replaced (old ∷ new ∷ []) outputs = Ok (map (λ output. if pointwise nat_eq output old then new else output) outputs)
+replaced args outputs = Err (WrongCount ReplaceOutfile)
+
+-- `remove-outfile OLD`: the outputs without those that are this word
+abbrev pub removed : List (List ℕ) → List (List ℕ) → Result (List (List ℕ)) FuncsFault
+removed (old ∷ []) outputs = Ok (filter (λ output. not (pointwise nat_eq output old)) outputs)
+removed args outputs = Err (WrongCount RemoveOutfile)
+
+-- both are for the link alone, which is judged before the number of arguments
+abbrev pub in_link_alone : Bool → Function → Result (List (List ℕ)) FuncsFault → Result (List (List ℕ)) FuncsFault
+in_link_alone true function changed = changed
+in_link_alone false function changed = Err (NotInLink function)
+
+-- the last of a list
+abbrev pub last : List ℕ → Option ℕ
+last places = slice_get places (length places - 1)
+
+-- the pattern of what begins with these bytes
+abbrev pub starred : List ℕ → Pattern
+starred prefix = record { name = prefix; star = true }
+
+-- the rest of the last switch that the starred prefix hits
+abbrev pub value_of : List (List ℕ) → List Bool → List ℕ → Option (List ℕ)
+value_of names hidden prefix = option_map (λ place. drop (length prefix) (name_at names place)) (last (hits names hidden (starred prefix)))
+
+-- what comes of a word that is a version
+abbrev pub with_version : {Y : Type 0} → List ℕ → Option (List ℕ) → (List ℕ → Result Y FuncsFault) → Result Y FuncsFault
+with_version word None next = Err (BadVersion word)
+with_version word (Some numbers) next = next numbers
+
+-- a switch's value compared; with no switch the comparison alone decides
+abbrev pub of_value : Operator → List ℕ → List ℕ → Option (List ℕ) → Result Bool FuncsFault
+of_value operator one two None = Ok (holds_of_none operator)
+of_value operator one two (Some value) = with_version value (version value) (λ numbers. Ok (holds operator numbers one two))
+
+-- the versions are judged in the order of the arguments, and then the value
+abbrev pub judged : Operator → List ℕ → List ℕ → Option (List ℕ) → Result Bool FuncsFault
+judged operator first second value = with_version first (version first) (λ one. with_version second (version second) (λ two. of_value operator one two value))
+
+abbrev pub word_if : List ℕ → Result Bool FuncsFault → Given
+word_if word (Ok holds) = Ok (if holds then Some word else None)
+word_if word (Err fault) = Err fault
+
+-- the arguments behind the comparison: one version or two, the prefix of a switch, and the word that is given
+abbrev pub with_versions : List (List ℕ) → List Bool → Operator → Bool → List (List ℕ) → Given
+with_versions names hidden operator false (first ∷ prefix ∷ word ∷ []) = word_if word (judged operator first first (value_of names hidden prefix))
+with_versions names hidden operator true (first ∷ second ∷ prefix ∷ word ∷ []) = word_if word (judged operator first second (value_of names hidden prefix))
+with_versions names hidden operator two args = Err (WrongCount VersionCompare)
+
+abbrev pub by_operator : List (List ℕ) → List Bool → List ℕ → List (List ℕ) → Option Operator → Given
+by_operator names hidden word args None = Err (BadOperator word)
+by_operator names hidden word args (Some operator) = with_versions names hidden operator (takes_two operator) args
+
+-- `version-compare COMPARISON VERSION [VERSION] PREFIX WORD`
+abbrev pub version_compare : List (List ℕ) → List Bool → List (List ℕ) → Given
+version_compare names hidden [] = Err (WrongCount VersionCompare)
+version_compare names hidden (word ∷ args) = by_operator names hidden word args (operator_of word)
+
+-- What a call comes to: what the function gives, and the outputs after it.
+
+pub record Called : Type 0 where
+  pub given : Option (List ℕ)
+  pub outputs : List (List ℕ)
+
+-- the outputs stay
+abbrev pub unchanged : List (List ℕ) → Given → Result Called FuncsFault
+unchanged outputs (Ok word) = Ok (record { given = word; outputs = outputs })
+unchanged outputs (Err fault) = Err fault
+
+-- nothing is given
+abbrev pub changed : Result (List (List ℕ)) FuncsFault → Result Called FuncsFault
+changed (Ok outputs) = Ok (record { given = None; outputs = outputs })
+changed (Err fault) = Err fault
+
+-- the table of the functions: the facts, the names of the line's switches and which are hidden, whether the link's text is
+-- worked, the function, its arguments, and the outputs
+abbrev pub called : Facts → List (List ℕ) → List Bool → Bool → Function → List (List ℕ) → List (List ℕ) → Known (Result Called FuncsFault)
+called F names hidden in_link Getenv args outputs = getenv F args >>= λ given. Is (unchanged outputs given)
+called F names hidden in_link IfExists args outputs = if_exists F args >>= λ given. Is (unchanged outputs given)
+called F names hidden in_link IfExistsElse args outputs = if_exists_else F args >>= λ given. Is (unchanged outputs given)
+called F names hidden in_link IfExistsThenElse args outputs = if_exists_then_else F args >>= λ given. Is (unchanged outputs given)
+called F names hidden in_link ReplaceOutfile args outputs = Is (changed (in_link_alone in_link ReplaceOutfile (replaced args outputs)))
+called F names hidden in_link RemoveOutfile args outputs = Is (changed (in_link_alone in_link RemoveOutfile (removed args outputs)))
+called F names hidden in_link VersionCompare args outputs = Is (unchanged outputs (version_compare names hidden args))

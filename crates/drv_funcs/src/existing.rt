@@ -1,0 +1,117 @@
+//! The functions that ask for a variable or a path.
+
+ghost use Rattle.drv_funcs.specs.Outcome.{exists, getenv, if_exists, if_exists_else, if_exists_then_else, is_missing};
+ghost use Rattle.drv_system.specs.Asking.{Asks, Extends};
+ghost use Rattle.drv_system.specs.Facts.{Facts};
+ghost use Rattle.drv_system.specs.Gives.{GivesKnown};
+ghost use Rattle.drv_system.specs.Known.{Is};
+ghost use Rattle.std.specs.Prelude.{◌≡◌, IfOk};
+
+use crate::{FuncsFault, Function};
+use drv_system::{FactTable, PathKind, System};
+use drv_words::Word;
+use std::alloc::AllocError;
+
+/// The value of the variable that the first argument names, and the second argument behind it.
+pub fn getenv<S: System>(
+    args: &[Word],
+    sys: &mut S,
+    facts: &mut FactTable,
+) -> Result<Option<Word>, FuncsFault>
+    ensures asks { Asks (S.events sys.old) (S.events sys.new) facts.old facts.new }
+    ensures gives { (F : Facts) → Extends facts.new F → GivesKnown FuncsFault.Memory (λ word. word) result (getenv F args.now) }
+{
+    let [name, string] = args else {
+        return Err(FuncsFault::WrongCount(Function::Getenv));
+    };
+    facts.variable(sys, name)?;
+    match facts.variable_answer(name) {
+        Some(value) => {
+            let mut word = value.clone()?;
+            word.extend_from_slice(string.as_bytes())?;
+            Ok(Some(word))
+        }
+        None => Err(FuncsFault::VariableMissing(name.clone()?)),
+    }
+}
+
+/// The path, if it is there.
+pub fn if_exists<S: System>(
+    args: &[Word],
+    sys: &mut S,
+    facts: &mut FactTable,
+) -> Result<Option<Word>, FuncsFault>
+    ensures asks { Asks (S.events sys.old) (S.events sys.new) facts.old facts.new }
+    ensures gives { (F : Facts) → Extends facts.new F → GivesKnown FuncsFault.Memory (λ word. word) result (if_exists F args.now) }
+{
+    let [path] = args else {
+        return Err(FuncsFault::WrongCount(Function::IfExists));
+    };
+    if exists(path, sys, facts)? {
+        return Ok(Some(path.clone()?));
+    }
+    Ok(None)
+}
+
+/// The path, if it is there, or else the other word.
+pub fn if_exists_else<S: System>(
+    args: &[Word],
+    sys: &mut S,
+    facts: &mut FactTable,
+) -> Result<Option<Word>, FuncsFault>
+    ensures asks { Asks (S.events sys.old) (S.events sys.new) facts.old facts.new }
+    ensures gives { (F : Facts) → Extends facts.new F → GivesKnown FuncsFault.Memory (λ word. word) result (if_exists_else F args.now) }
+{
+    let [path, other] = args else {
+        return Err(FuncsFault::WrongCount(Function::IfExistsElse));
+    };
+    if exists(path, sys, facts)? {
+        return Ok(Some(path.clone()?));
+    }
+    Ok(Some(other.clone()?))
+}
+
+/// One word if the path is there, else another one, or nothing.
+pub fn if_exists_then_else<S: System>(
+    args: &[Word],
+    sys: &mut S,
+    facts: &mut FactTable,
+) -> Result<Option<Word>, FuncsFault>
+    ensures asks { Asks (S.events sys.old) (S.events sys.new) facts.old facts.new }
+    ensures gives { (F : Facts) → Extends facts.new F → GivesKnown FuncsFault.Memory (λ word. word) result (if_exists_then_else F args.now) }
+{
+    match args {
+        [path, first] => {
+            if exists(path, sys, facts)? {
+                return Ok(Some(first.clone()?));
+            }
+            Ok(None)
+        }
+        [path, first, second] => {
+            if exists(path, sys, facts)? {
+                return Ok(Some(first.clone()?));
+            }
+            Ok(Some(second.clone()?))
+        }
+        _ => Err(FuncsFault::WrongCount(Function::IfExistsThenElse)),
+    }
+}
+
+/// Whether a path begins with a slash and something has it.
+fn exists<S: System>(path: &Word, sys: &mut S, facts: &mut FactTable) -> Result<bool, AllocError>
+    ensures asks { Asks (S.events sys.old) (S.events sys.new) facts.old facts.new }
+    ensures tells { (F : Facts) → Extends facts.new F → IfOk result (λ there. exists F path.now ≡ Is there) }
+{
+    if !path.as_bytes().starts_with(b"/") {
+        return Ok(false);
+    }
+    let kind = facts.kind(sys, path)?;
+    Ok(!is_missing(kind))
+}
+
+/// Whether nothing has a path of this kind.
+fn is_missing(kind: PathKind) -> bool
+    ensures { result ≡ is_missing kind }
+{
+    matches!(kind, PathKind::Missing)
+}

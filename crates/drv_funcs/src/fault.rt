@@ -1,0 +1,51 @@
+//! Why a function of a spec text is refused.
+
+use crate::Function;
+use drv_words::Word;
+use std::alloc::{AllocError, AllocFailed};
+use thiserror::Error;
+
+/// Why a function of a spec text is refused, with what is at fault.
+#[derive(Debug, Drop, Error)]
+pub enum FuncsFault {
+    /// An allocation was refused.
+    #[error("out of memory")]
+    Memory,
+    /// The variable of this name is not set.
+    #[error("VariableMissing")]
+    VariableMissing(Word),
+    /// This function takes another number of arguments.
+    #[error("WrongCount")]
+    WrongCount(Function),
+    /// This word is no version.
+    #[error("BadVersion")]
+    BadVersion(Word),
+    /// This function is for the link alone.
+    #[error("NotInLink")]
+    NotInLink(Function),
+    /// This word names no comparison.
+    #[error("BadOperator")]
+    BadOperator(Word),
+}
+
+impl From<AllocError> for FuncsFault {
+    ghost use Rattle.drv_funcs.specs.declared.fault.FuncsFault.TheVariants.{Memory};
+    ghost use Rattle.std.specs.Prelude.{◌≡◌};
+
+    ghost from_gives = { λ _ fault. fault ≡ Memory };
+
+    fn from(_refused: AllocError) -> FuncsFault {
+        FuncsFault::Memory
+    }
+}
+
+impl<T: Drop> From<AllocFailed<T>> for FuncsFault {
+    ghost use Rattle.drv_funcs.specs.declared.fault.FuncsFault.TheVariants.{Memory};
+    ghost use Rattle.std.specs.Prelude.{◌≡◌};
+
+    ghost from_gives = { λ _ fault. fault ≡ Memory };
+
+    fn from(_refused: AllocFailed<T>) -> FuncsFault {
+        FuncsFault::Memory
+    }
+}

@@ -1,0 +1,61 @@
+//! The functions that change the outputs of a link.
+
+ghost use Rattle.drv_funcs.specs.Outcome.{in_link_alone, removed, replaced};
+ghost use Rattle.drv_funcs.specs.declared.function.Function.TheVariants.{RemoveOutfile, ReplaceOutfile};
+ghost use Rattle.drv_words.specs.Gives.{Gives};
+ghost use Rattle.std.specs.Prelude.{◌≡◌, OnErr};
+
+use crate::{FuncsFault, Function};
+use drv_words::{Listing, Word};
+use std::alloc::Global;
+
+/// Each output that is the old word becomes the new one, in the link alone. On an error they are as they were.
+pub fn replace_outfile(
+    alloc: Global,
+    args: &[Word],
+    in_link: bool,
+    outputs: &mut Listing<Word>,
+) -> Result<(), FuncsFault>
+    ensures gives { Gives FuncsFault.Memory (λ _. outputs.new) result (in_link_alone in_link ReplaceOutfile (replaced args.now outputs.old)) }
+    ensures err { OnErr result (outputs.new ≡ outputs.old) }
+{
+    if !in_link {
+        return Err(FuncsFault::NotInLink(Function::ReplaceOutfile));
+    }
+    let [old, new] = args else {
+        return Err(FuncsFault::WrongCount(Function::ReplaceOutfile));
+    };
+    let mut changed = Listing::new(alloc);
+    for output in outputs.as_slice() {
+        let word = if output == old { new } else { output };
+        changed.push(word.clone()?)?;
+    }
+    *outputs = changed;
+    Ok(())
+}
+
+/// Each output that is the word goes, in the link alone. On an error they are as they were.
+pub fn remove_outfile(
+    alloc: Global,
+    args: &[Word],
+    in_link: bool,
+    outputs: &mut Listing<Word>,
+) -> Result<(), FuncsFault>
+    ensures gives { Gives FuncsFault.Memory (λ _. outputs.new) result (in_link_alone in_link RemoveOutfile (removed args.now outputs.old)) }
+    ensures err { OnErr result (outputs.new ≡ outputs.old) }
+{
+    if !in_link {
+        return Err(FuncsFault::NotInLink(Function::RemoveOutfile));
+    }
+    let [old] = args else {
+        return Err(FuncsFault::WrongCount(Function::RemoveOutfile));
+    };
+    let mut changed = Listing::new(alloc);
+    for output in outputs.as_slice() {
+        if output != old {
+            changed.push(output.clone()?)?;
+        }
+    }
+    *outputs = changed;
+    Ok(())
+}

@@ -1,0 +1,52 @@
+//! Versions.
+
+ghost use Rattle.drv_funcs.specs.Reading.{read_on};
+ghost use Rattle.drv_funcs.specs.Versions.{compared, version};
+ghost use Rattle.std.specs.Prelude.{◌≡◌, [], option_map};
+
+use arrayvec::ArrayVec;
+use std::cmp::Ordering;
+
+/// How many parts a version may have.
+pub const MOST_PARTS: usize = 32;
+
+/// How many digits a part may have.
+const MOST_DIGITS: u32 = 9;
+
+/// The numbers of a version, or none for a text that isn't one. It takes no memory.
+#[tactic(auto, using(crate::proofs::Reading::read_version, crate::proofs::Reading::has_room, crate::proofs::Reading::one_more))]
+pub fn version_of(text: &[u8]) -> Option<ArrayVec<u32, MOST_PARTS>>
+    ensures { option_map (λ numbers. numbers.items) result ≡ version text.now }
+{
+    let mut numbers = ArrayVec::new();
+    let mut number: u32 = 0;
+    let mut digits: u32 = 0;
+    for byte in text {
+        if byte.is_ascii_digit() && digits < MOST_DIGITS {
+            number = number * 10 + (*byte - b'0') as u32;
+            digits += 1;
+        } else if *byte == b'.' && 0 < digits && numbers.len() < MOST_PARTS {
+            numbers.push(number);
+            number = 0;
+            digits = 0;
+        } else {
+            return None;
+        }
+    }
+    if 0 < digits && numbers.len() < MOST_PARTS {
+        numbers.push(number);
+        Some(numbers)
+    } else {
+        None
+    }
+}
+
+/// How two versions stand, part by part as numbers; a version that the other only goes on is earlier. It answers none
+/// where one of the texts is no version, and takes no memory.
+pub fn compare_versions(one: &[u8], other: &[u8]) -> Option<Ordering>
+    ensures { result ≡ compared (version one.now) (version other.now) }
+{
+    let one = version_of(one)?;
+    let other = version_of(other)?;
+    Some(one.as_slice().cmp(other.as_slice()))
+}
