@@ -1,0 +1,11 @@
+use Rattle.drv_core.proofs.needed.events_needed.Given as goal
+use Rattle.drv_core.specs.Needed.{fitting, job_events}
+use Rattle.std.proofs.Common.{◌≡◌, ◌+◌, Some, drop}
+use Rattle.std.specs.List.{sum_by}
+
+-- what is counted, and what the jobs that are left come to, is all
+abbrev pub invariant-loop-job : goal.invariant-loop-job
+invariant-loop-job l = record {
+  counted : l.total + sum_by job_events (drop l.job-index l.job-items) ≡ sum_by job_events l.job-items;
+  fits : fitting l.total ≡ Some l.total;
+}

@@ -1,0 +1,410 @@
+//! One source of a run: what is asked next for it, and where an answer leads.
+
+ghost use Rattle.drv_core.specs.Machine.{after, after_claim, after_refusal, after_removal, after_start, after_wait, asks, begin, claim_of, end_group, enter_claims, enter_group, enter_removals, enter_waits, remove_of, start_of, told_of, wait_note, wait_of};
+ghost use Rattle.drv_core.specs.Outcomes.{none};
+ghost use Rattle.drv_core.specs.Machine.{Starts};
+ghost use Rattle.drv_core.specs.Source.{HasRoom, stage_at};
+ghost use Rattle.drv_words.specs.declared.steps.Place.TheVariants as place;
+ghost use Rattle.drv_words.specs.declared.steps.Step.TheVariants as step;
+ghost use Rattle.drv_words.specs.Places.{group_at};
+ghost use Rattle.std.specs.Prelude.{◌≡◌, ◌||◌, ◌+◌, ◌<◌, Some, false, get_or, length, nat_lt, not};
+ghost use Rattle.std.specs.Vec.{vec_capacity};
+
+use drv_words::{
+    Answer, ClaimAnswer, Job, NotStarted, Note, Place, RemoveAnswer, StartAnswer, Step, WaitAnswer,
+};
+
+/// Where the work on a source stands.
+#[derive(Clone, Copy)]
+pub(crate) enum Point {
+    /// The temporary of this number is claimed next.
+    Claims(usize),
+    /// It was not claimed, and that is told.
+    ClaimReport(usize, ClaimAnswer),
+    /// The next command of this group is started.
+    Starts(usize),
+    /// It was not started, and that is told.
+    StartReport(usize, NotStarted),
+    /// The pipe that it would have read is closed.
+    Closing(usize, NotStarted, bool),
+    /// A child of the group is waited for; whether the group has a fault so far.
+    Waits(usize, usize, bool),
+    /// It ended otherwise than by itself, and that is told.
+    WaitReport(usize, usize, bool, WaitAnswer),
+    /// This file is removed after a failure.
+    Removals(usize),
+    /// It could not be removed, and that is told.
+    RemovalReport(usize),
+    /// Nothing is left to do.
+    Ended,
+}
+
+/// A source, or the link.
+#[derive(Drop)]
+pub(crate) struct Source {
+    pub(crate) point: Point,
+    /// Whether an earlier group started a command.
+    pub(crate) was: bool,
+    /// The children of the group, in the order of their starts.
+    pub(crate) children: Vec<u64>,
+}
+
+/// What a claim was answered.
+fn claim_of(answer: Answer) -> ClaimAnswer
+    ensures { result ≡ claim_of answer }
+{
+    match answer {
+        Answer::Claim(claimed) => claimed,
+        Answer::Start(_) => ClaimAnswer::Failed,
+        Answer::Closed => ClaimAnswer::Failed,
+        Answer::Wait(_) => ClaimAnswer::Failed,
+        Answer::Remove(_) => ClaimAnswer::Failed,
+        Answer::Reported(_) => ClaimAnswer::Failed,
+    }
+}
+
+/// What a start was answered.
+fn start_of(answer: Answer) -> StartAnswer
+    ensures { result ≡ start_of answer }
+{
+    match answer {
+        Answer::Claim(_) => StartAnswer::NotStarted(NotStarted::Other),
+        Answer::Start(started) => started,
+        Answer::Closed => StartAnswer::NotStarted(NotStarted::Other),
+        Answer::Wait(_) => StartAnswer::NotStarted(NotStarted::Other),
+        Answer::Remove(_) => StartAnswer::NotStarted(NotStarted::Other),
+        Answer::Reported(_) => StartAnswer::NotStarted(NotStarted::Other),
+    }
+}
+
+/// What a wait was answered.
+fn wait_of(answer: Answer) -> WaitAnswer
+    ensures { result ≡ wait_of answer }
+{
+    match answer {
+        Answer::Claim(_) => WaitAnswer::Lost,
+        Answer::Start(_) => WaitAnswer::Lost,
+        Answer::Closed => WaitAnswer::Lost,
+        Answer::Wait(ended) => ended,
+        Answer::Remove(_) => WaitAnswer::Lost,
+        Answer::Reported(_) => WaitAnswer::Lost,
+    }
+}
+
+/// What a removal was answered.
+fn remove_of(answer: Answer) -> RemoveAnswer
+    ensures { result ≡ remove_of answer }
+{
+    match answer {
+        Answer::Claim(_) => RemoveAnswer::Failed,
+        Answer::Start(_) => RemoveAnswer::Failed,
+        Answer::Closed => RemoveAnswer::Failed,
+        Answer::Wait(_) => RemoveAnswer::Failed,
+        Answer::Remove(removed) => removed,
+        Answer::Reported(_) => RemoveAnswer::Failed,
+    }
+}
+
+/// Whether a report was told.
+fn told_of(answer: Answer) -> bool
+    ensures { result ≡ told_of answer }
+{
+    match answer {
+        Answer::Claim(_) => false,
+        Answer::Start(_) => false,
+        Answer::Closed => false,
+        Answer::Wait(_) => false,
+        Answer::Remove(_) => false,
+        Answer::Reported(told) => told,
+    }
+}
+
+/// Whether a number stands behind `index` below `count`.
+fn is_followed(index: usize, count: usize) -> bool
+    ensures { result ≡ nat_lt (index + 1) count }
+{
+    count > 1 && index < count - 1
+}
+
+/// The number of commands of a group.
+fn group_len(job: &Job, group: usize) -> usize
+    ensures { result ≡ length (group_at job.now group) }
+{
+    match job.groups.as_slice().get(group) {
+        Some(commands) => commands.as_slice().len(),
+        None => 0,
+    }
+}
+
+/// What the user is told of a child that a signal ended, or that was lost.
+fn wait_note(job: usize, group: usize, index: usize, answer: WaitAnswer) -> Note
+    ensures { result ≡ wait_note job group index answer }
+{
+    let place = Place::Command { job, group, index };
+    match answer {
+        WaitAnswer::Exit(_) => Note::Lost(place),
+        WaitAnswer::Signal => Note::Signalled(place),
+        WaitAnswer::Lost => Note::Lost(place),
+    }
+}
+
+impl Source {
+    /// What is asked next for the source of this number; none once its story has ended.
+    pub(crate) fn asks(&self, number: usize, job: &Job) -> Option<Step>
+        ensures { result ≡ asks number job.now (stage_at self.now) }
+    {
+        match self.point {
+            Point::Claims(index) => Some(Step::Claim(Place::Temp { job: number, index })),
+            Point::ClaimReport(index, _) => Some(Step::Report(Note::NotClaimed(Place::Temp {
+                job: number,
+                index,
+            }))),
+            Point::Starts(group) => Some(self.start(number, job, group)),
+            Point::StartReport(group, _) => Some(Step::Report(Note::NotStarted(self.place(
+                number, group,
+            )))),
+            Point::Closing(_, _, _) => Some(Step::ClosePipe),
+            Point::Waits(group, index, _) => Some(self.wait(number, group, index)),
+            Point::WaitReport(group, index, _, answer) => Some(Step::Report(wait_note(
+                number, group, index, answer,
+            ))),
+            Point::Removals(index) => Some(Step::Remove(Place::OnFailure { job: number, index })),
+            Point::RemovalReport(index) => Some(Step::Report(Note::NotRemoved(Place::OnFailure {
+                job: number,
+                index,
+            }))),
+            Point::Ended => None,
+        }
+    }
+
+    /// The command that is started next.
+    fn place(&self, job: usize, group: usize) -> Place
+        ensures { result ≡ place.Command job group (length self.now.children.items) }
+    {
+        Place::Command {
+            job,
+            group,
+            index: self.children.as_slice().len(),
+        }
+    }
+
+    /// The start of the next command of a group.
+    fn start(&self, number: usize, job: &Job, group: usize) -> Step
+        ensures { Some result ≡ asks number job.now (Starts group self.now.was self.now.children.items) }
+    {
+        let index = self.children.as_slice().len();
+        Step::Start {
+            place: self.place(number, group),
+            from_pipe: index > 0,
+            to_pipe: is_followed(index, group_len(job, group)),
+        }
+    }
+
+    /// The wait for the child of this number.
+    fn wait(&self, job: usize, group: usize, index: usize) -> Step
+        ensures { result ≡ step.Wait (place.Command job group index) (get_or self.now.children.items index 0) }
+    {
+        let id = match self.children.as_slice().get(index) {
+            Some(id) => *id,
+            None => 0,
+        };
+        Step::Wait {
+            place: Place::Command { job, group, index },
+            id,
+        }
+    }
+
+    /// Goes on by the answer to what was asked.
+    pub(crate) fn take(&mut self, job: &Job, answer: Answer)
+        requires room { HasRoom (stage_at self.old) (vec_capacity self.old.children) }
+        ensures stage { stage_at self.new ≡ after job.now (stage_at self.old) answer }
+        ensures capacity { vec_capacity self.new.children ≡ vec_capacity self.old.children }
+    {
+        match self.point {
+            Point::Claims(index) => self.take_claim(job, index, claim_of(answer)),
+            Point::ClaimReport(_, _) => self.point = Point::Ended,
+            Point::Starts(group) => self.take_start(job, group, start_of(answer)),
+            Point::StartReport(group, why) => self.take_refusal(job, group, why, told_of(answer)),
+            Point::Closing(group, _, _) => self.enter_waits(job, group, 0, true),
+            Point::Waits(group, index, fault) => self.take_wait(
+                job,
+                group,
+                index,
+                fault,
+                wait_of(answer),
+            ),
+            Point::WaitReport(group, index, _, _) => self.pass_wait(job, group, index, true),
+            Point::Removals(index) => self.take_removal(job, index, remove_of(answer)),
+            Point::RemovalReport(index) => self.pass_removal(job, index),
+            Point::Ended => {}
+        }
+    }
+
+    /// A claim was answered.
+    fn take_claim(&mut self, job: &Job, index: usize, claimed: ClaimAnswer)
+        ensures stage { stage_at self.new ≡ after_claim job.now index claimed }
+        ensures capacity { vec_capacity self.new.children ≡ vec_capacity self.old.children }
+    {
+        match claimed {
+            ClaimAnswer::Claimed => {
+                if is_followed(index, job.temps.len()) {
+                    self.point = Point::Claims(index + 1);
+                } else {
+                    self.enter_group(job, 0, false);
+                }
+            }
+            ClaimAnswer::Taken => self.point = Point::ClaimReport(index, claimed),
+            ClaimAnswer::Failed => self.point = Point::ClaimReport(index, claimed),
+        }
+    }
+
+    /// A start was answered.
+    fn take_start(&mut self, job: &Job, group: usize, started: StartAnswer)
+        requires room { length self.old.children.items < vec_capacity self.old.children }
+        ensures stage { stage_at self.new ≡ after_start job.now group self.old.was self.old.children.items started }
+        ensures capacity { vec_capacity self.new.children ≡ vec_capacity self.old.children }
+    {
+        match started {
+            StartAnswer::Started(id) => {
+                let count = self.children.as_slice().len();
+                self.children.push_reserved(id);
+                if is_followed(count, group_len(job, group)) {
+                    self.point = Point::Starts(group);
+                } else {
+                    self.enter_waits(job, group, 0, false);
+                }
+            }
+            StartAnswer::NotStarted(why) => self.point = Point::StartReport(group, why),
+        }
+    }
+
+    /// A refused start was told.
+    fn take_refusal(&mut self, job: &Job, group: usize, why: NotStarted, told: bool)
+        ensures stage { stage_at self.new ≡ after_refusal job.now group self.old.was self.old.children.items why told }
+        ensures capacity { vec_capacity self.new.children ≡ vec_capacity self.old.children }
+    {
+        if self.children.as_slice().len() > 0 {
+            self.point = Point::Closing(group, why, told);
+        } else {
+            self.enter_waits(job, group, 0, true);
+        }
+    }
+
+    /// A wait was answered.
+    fn take_wait(&mut self, job: &Job, group: usize, index: usize, fault: bool, ended: WaitAnswer)
+        ensures stage { stage_at self.new ≡ after_wait job.now group self.old.was self.old.children.items index fault ended }
+        ensures capacity { vec_capacity self.new.children ≡ vec_capacity self.old.children }
+    {
+        match ended {
+            WaitAnswer::Exit(code) => self.pass_wait(job, group, index, fault || code != 0),
+            WaitAnswer::Signal => self.point = Point::WaitReport(group, index, fault, ended),
+            WaitAnswer::Lost => self.point = Point::WaitReport(group, index, fault, ended),
+        }
+    }
+
+    /// A removal was answered.
+    fn take_removal(&mut self, job: &Job, index: usize, removed: RemoveAnswer)
+        ensures stage { stage_at self.new ≡ after_removal job.now index removed }
+        ensures capacity { vec_capacity self.new.children ≡ vec_capacity self.old.children }
+    {
+        match removed {
+            RemoveAnswer::Removed => self.pass_removal(job, index),
+            RemoveAnswer::Missing => self.pass_removal(job, index),
+            RemoveAnswer::NotPlain => self.pass_removal(job, index),
+            RemoveAnswer::Failed => self.point = Point::RemovalReport(index),
+        }
+    }
+
+    /// Goes on behind a child that was waited for.
+    fn pass_wait(&mut self, job: &Job, group: usize, index: usize, fault: bool)
+        ensures stage { stage_at self.new ≡ enter_waits job.now group self.old.was self.old.children.items (index + 1) fault }
+        ensures capacity { vec_capacity self.new.children ≡ vec_capacity self.old.children }
+    {
+        if is_followed(index, self.children.as_slice().len()) {
+            self.point = Point::Waits(group, index + 1, fault);
+        } else {
+            self.end_group(job, group, fault);
+        }
+    }
+
+    /// Goes on behind a removal.
+    fn pass_removal(&mut self, job: &Job, index: usize)
+        ensures stage { stage_at self.new ≡ enter_removals job.now (index + 1) }
+        ensures capacity { vec_capacity self.new.children ≡ vec_capacity self.old.children }
+    {
+        if is_followed(index, job.on_failure.len()) {
+            self.point = Point::Removals(index + 1);
+        } else {
+            self.point = Point::Ended;
+        }
+    }
+
+    /// The children of a group are waited for, from this one on.
+    fn enter_waits(&mut self, job: &Job, group: usize, index: usize, fault: bool)
+        ensures stage { stage_at self.new ≡ enter_waits job.now group self.old.was self.old.children.items index fault }
+        ensures capacity { vec_capacity self.new.children ≡ vec_capacity self.old.children }
+    {
+        if index < self.children.as_slice().len() {
+            self.point = Point::Waits(group, index, fault);
+        } else {
+            self.end_group(job, group, fault);
+        }
+    }
+
+    /// Whether a child of the group was started.
+    fn has_child(&self) -> bool
+        ensures { result ≡ not (none self.now.children.items) }
+    {
+        match self.children.as_slice() {
+            [] => false,
+            [_, ..] => true,
+        }
+    }
+
+    /// A group has ended: the job goes on, or has failed.
+    fn end_group(&mut self, job: &Job, group: usize, fault: bool)
+        ensures stage { stage_at self.new ≡ end_group job.now group (self.old.was || not (none self.old.children.items)) fault }
+        ensures capacity { vec_capacity self.new.children ≡ vec_capacity self.old.children }
+    {
+        let started = self.was || self.has_child();
+        if fault {
+            if started && job.on_failure.len() > 0 {
+                self.point = Point::Removals(0);
+            } else {
+                self.point = Point::Ended;
+            }
+        } else if is_followed(group, job.groups.len()) {
+            self.enter_group(job, group + 1, started);
+        } else {
+            self.point = Point::Ended;
+        }
+    }
+
+    /// A group's first command is started next, if there is such a group.
+    fn enter_group(&mut self, job: &Job, group: usize, was: bool)
+        ensures stage { stage_at self.new ≡ enter_group job.now group was }
+        ensures capacity { vec_capacity self.new.children ≡ vec_capacity self.old.children }
+    {
+        self.was = was;
+        self.children.clear();
+        if group < job.groups.len() {
+            self.point = Point::Starts(group);
+        } else {
+            self.point = Point::Ended;
+        }
+    }
+
+    /// The work begins, where there is a group.
+    pub(crate) fn begin(&mut self, job: &Job)
+        ensures stage { stage_at self.new ≡ begin job.now }
+        ensures capacity { vec_capacity self.new.children ≡ vec_capacity self.old.children }
+    {
+        if job.groups.as_slice().is_empty() {
+            self.point = Point::Ended;
+        } else if job.temps.len() > 0 {
+            self.point = Point::Claims(0);
+        } else {
+            self.enter_group(job, 0, false);
+        }
+    }
+}
