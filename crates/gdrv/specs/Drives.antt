@@ -4,6 +4,7 @@ use Rattle.drv_args.specs.declared.fault.ArgsFault.TheVariants as args_fault
 use Rattle.drv_args.specs.declared.fault.ArgsFault.{ArgsFault}
 use Rattle.drv_args.specs.declared.line.Expanded.{Expanded}
 use Rattle.drv_args.specs.declared.line.Line.{Line}
+use Rattle.drv_machine.specs.declared.fault.MachineFault.TheVariants as machine_fault
 use Rattle.drv_plan.specs.Denoted.{denoted}
 use Rattle.drv_plan.specs.declared.fault.PlanFault.TheVariants as plan_fault
 use Rattle.drv_plan.specs.declared.fault.PlanFault.{PlanFault}
@@ -21,7 +22,7 @@ use Rattle.gdrv.specs.declared.ending.Ending.TheVariants.{Done, OutOfMemory, Ref
 use Rattle.gdrv.specs.declared.ending.Ending.{Ending}
 use Rattle.gdrv.specs.declared.ending.Refusal.TheVariants.{Args, Plan as NoPlan}
 use Rattle.gdrv.specs.declared.ending.Refusal.{Refusal}
-use Rattle.std.specs.Prelude.{◌≡◌, Err, List, [], ◌∷◌, ◌++◌, Ok, Result, ℕ, ⊤}
+use Rattle.std.specs.Prelude.{◌≡◌, Bool, Err, List, [], ◌∷◌, ◌++◌, Ok, Result, false, true, ℕ, ⊤}
 
 -- What a call of the driver comes to, over facts (GCC manual, "Overall Options"; that it always prints the plan and
 -- starts nothing is this project's profile until plans are run).
@@ -86,6 +87,18 @@ pub record Drove (journal journal' : List Event) (args : List (List ℕ)) (endin
   pub questions : AreNew no_facts asked
   pub journal_grows : journal' ≡ journal ++ asked ++ said
   pub ends : Ends (learn no_facts asked) args ending said
+
+-- whether a refusal holds want of memory, as a fault of any layer could
+abbrev pub holds_memory : Refusal → Bool
+holds_memory (Args args_fault.Memory) = true
+holds_memory (NoPlan plan_fault.Memory) = true
+holds_memory (NoPlan (plan_fault.Machine machine_fault.Memory)) = true
+holds_memory refusal = false
+
+-- want of memory is no refusal: an ending says it by its own name
+abbrev pub IsApart : Ending → Type 0
+IsApart (Refused refusal) = holds_memory refusal ≡ false
+IsApart ending = ⊤
 
 -- the exit status of an ending
 abbrev pub exit_status_of : Ending → ℕ

@@ -2,14 +2,24 @@ use Rattle.std.specs.Prelude.{◌+◌, ◌*◌, ◌-◌, ◌&&◌, Bool, List, [
 
 -- A number written in eight hexadecimal digits of either case (this project's profile).
 
+-- the bytes 0, A and a
+abbrev pub digit_zero : ℕ
+digit_zero = 48
+
+abbrev pub capital_a : ℕ
+capital_a = 65
+
+abbrev pub small_a : ℕ
+small_a = 97
+
 abbrev pub is_within : ℕ → ℕ → ℕ → Bool
 is_within low high b = nat_le low b && nat_le b high
 
 abbrev pub digit_of : ℕ → Option ℕ
 digit_of b =
-    if is_within 48 57 b then Some (b - 48)
-    else if is_within 65 70 b then Some (b - 55)
-    else if is_within 97 102 b then Some (b - 87)
+    if is_within digit_zero (digit_zero + 9) b then Some (b - digit_zero)
+    else if is_within capital_a (capital_a + 5) b then Some (b - capital_a + 10)
+    else if is_within small_a (small_a + 5) b then Some (b - small_a + 10)
     else None
 
 -- the number of a higher and a lower part, the higher one counted so many times

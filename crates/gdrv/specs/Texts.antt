@@ -6,7 +6,7 @@ use Rattle.drv_plan.specs.declared.fault.PlanFault.TheVariants as plan_fault
 use Rattle.drv_plan.specs.declared.fault.PlanFault.{PlanFault}
 use Rattle.gdrv.specs.declared.ending.Refusal.TheVariants.{Args, Plan}
 use Rattle.gdrv.specs.declared.ending.Refusal.{Refusal}
-use Rattle.std.specs.Prelude.{◌∷◌, ◌++◌, [], List, codes, ℕ}
+use Rattle.std.specs.Prelude.{◌++◌, List, codes, ℕ}
 
 -- What a refusal is told as (the wording is this project's profile).
 
@@ -35,7 +35,7 @@ machine_text machine_fault.NoInput = codes "no input file in this spec"
 machine_text machine_fault.NotInLink = codes "%o is for the link alone"
 machine_text machine_fault.StrayPipe = codes "stray pipe"
 machine_text machine_fault.PipeTooLong = codes "more than 16 commands in one pipe"
-machine_text machine_fault.NotYet = codes "a directive is not there yet"
+machine_text machine_fault.NotYet = codes "%@ is not there yet"
 
 abbrev pub plan_text : PlanFault → List ℕ
 plan_text plan_fault.Memory = codes "out of memory"
@@ -47,4 +47,4 @@ refusal_text (Plan fault) = plan_text fault
 
 -- the line on standard error: the program's name, the text and a newline
 abbrev pub refusal_line : Refusal → List ℕ
-refusal_line refusal = codes "gdrv: " ++ refusal_text refusal ++ 10 ∷ []
+refusal_line refusal = codes "gdrv: " ++ refusal_text refusal ++ codes "\n"

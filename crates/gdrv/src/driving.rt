@@ -1,6 +1,6 @@
 //! A call of the driver.
 
-ghost use Rattle.gdrv.specs.Drives.{Drove, SaysPlan};
+ghost use Rattle.gdrv.specs.Drives.{Drove, IsApart, SaysPlan};
 ghost use Rattle.std.specs.Prelude.{◌≡◌, IfOk, OnErr};
 
 use crate::ending::Ending;
@@ -28,7 +28,8 @@ fn say_plan<S: System>(alloc: Global, sys: &mut S, plan: &Plan) -> Result<u8, Al
 /// A call of the driver with these arguments, as if `-###` were among them: it says the plan and starts nothing
 /// (GCC manual, "Overall Options"). The seed is for temporary names, which no plan has yet.
 pub fn drive<S: System>(alloc: Global, sys: &mut S, args: &[Word], _seed: u32) -> Ending
-    ensures { Drove (S.events sys.old) (S.events sys.new) args.now result }
+    ensures drove { Drove (S.events sys.old) (S.events sys.new) args.now result }
+    ensures apart { IsApart result }
 {
     let mut facts = FactTable::new(alloc);
     match planned(alloc, args, sys, &mut facts) {
@@ -39,6 +40,3 @@ pub fn drive<S: System>(alloc: Global, sys: &mut S, args: &[Word], _seed: u32) -
         Err(ending) => ending,
     }
 }
-
-#[cfg(test)]
-mod tests;

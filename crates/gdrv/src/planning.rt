@@ -2,7 +2,8 @@
 
 ghost use Rattle.drv_system.specs.Asking.{Asks, Extends};
 ghost use Rattle.drv_system.specs.Facts.{Facts};
-ghost use Rattle.gdrv.specs.Drives.{Comes};
+ghost use Rattle.gdrv.specs.Drives.{Comes, IsApart};
+ghost use Rattle.std.specs.Prelude.{IfErr};
 
 use crate::ending::Ending;
 use drv_args::{expand, read};
@@ -24,6 +25,7 @@ pub fn planned<S: System>(
 ) -> Result<Plan, Ending>
     ensures asks { Asks (S.events sys.old) (S.events sys.new) facts.old facts.new }
     ensures comes { (F : Facts) → Extends facts.new F → Comes F args.now result }
+    ensures apart { IfErr result (λ ending. IsApart ending) }
 {
     let expanded = expand(alloc, args, sys, facts)?;
     let line = read(alloc, &expanded)?;

@@ -35,6 +35,3 @@ pub fn seed_of(text: &[u8]) -> Option<u32>
     let low = pair(*e, *f)? * 256 + pair(*g, *h)?;
     Some(high * 65536 + low)
 }
-
-#[cfg(test)]
-mod tests;

@@ -67,7 +67,7 @@ fn push_machine_text(line: &mut Word, fault: &MachineFault) -> Result<(), AllocE
         MachineFault::NotInLink => line.extend_from_slice(b"%o is for the link alone"),
         MachineFault::StrayPipe => line.extend_from_slice(b"stray pipe"),
         MachineFault::PipeTooLong => line.extend_from_slice(b"more than 16 commands in one pipe"),
-        MachineFault::NotYet => line.extend_from_slice(b"a directive is not there yet"),
+        MachineFault::NotYet => line.extend_from_slice(b"%@ is not there yet"),
     }
 }
 
@@ -93,6 +93,3 @@ pub fn fault_line(alloc: Global, refusal: &Refusal) -> Result<Word, AllocError>
     line.push(b'\n')?;
     Ok(line)
 }
-
-#[cfg(test)]
-mod tests;

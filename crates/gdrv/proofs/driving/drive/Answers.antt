@@ -1,5 +1,5 @@
 use Rattle.gdrv.proofs.Endings.{drove_before}
 use Rattle.gdrv.proofs.driving.drive.Goals as goal
 
-pub returns : goal.returns
-returns g c = drove_before c.args.args.now c.in-Err.ending c.new-facts.ensures c.planned.ensures.asks c.in-Err.ensures.comes
+pub returns-clause-drove : goal.returns-clause-drove
+returns-clause-drove g c = drove_before c.args.args.now c.in-Err.ending c.new-facts.ensures c.planned.ensures.asks c.in-Err.ensures.comes
