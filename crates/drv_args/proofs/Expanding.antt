@@ -9,8 +9,9 @@ use Rattle.drv_system.specs.Known.{◌>>=◌, Is, asked}
 use Rattle.drv_system.specs.declared.event.ReadAnswer.TheVariants.{Failed, Missing}
 use Rattle.drv_system.specs.declared.event.ReadAnswer.{ReadAnswer}
 use Rattle.drv_words.specs.Response.{Splits}
-use Rattle.std.proofs.Common.{◌≡◌, ◌⊎◌, Err, List, [], ◌∷◌, ◌++◌, IsErrAnd, Ok, Result, Some, reverse, refl, sym, subst, ap, ◌∙◌, append_assoc, inl, inr, ℕ, suc}
+use Rattle.std.proofs.Common.{◌≡◌, ◌⊎◌, ◌||◌, Bool, Err, List, None, Option, false, is_some, true, [], ◌∷◌, ◌++◌, IsErrAnd, Ok, Result, Some, reverse, refl, sym, subst, ap, ◌∙◌, append_assoc, inl, inr, ℕ, suc}
 use Rattle.std.proofs.Math.Seq.{append_snoc}
+use Rattle.std.specs.List.{list_any}
 use Rattle.std.proofs.lemmas.List.{append-nil, reverse-append, reverse-reverse}
 
 -- Words that are expanded in front of others.
@@ -143,3 +144,25 @@ end_goes F left stack out args empty goes =
     let P : List (List ℕ) → Type 0 = λ ws. Responds F left ws left [] in
     let Q : List (List ℕ) → Type 0 = λ o. Responds F 2000 args left o in
     subst Q (append-nil out) (goes.responds left [] (subst P (sym (ap reverse empty)) no_word))
+
+-- words of which none names a file
+
+by_none : (F : Facts) (word : List ℕ) (named : Option (List ℕ)) → file_named word ≡ named → is_some named ≡ false → replacement_of F word ≡ Is Itself
+by_none F word None e absent = ap (by_name F) e
+by_none F word (Some path) e absent = absurd cc
+
+first_none : (a b : Bool) → a || b ≡ false → a ≡ false
+first_none false b e = refl
+first_none true b e = e
+
+others_none : (a b : Bool) → a || b ≡ false → b ≡ false
+others_none false b e = e
+others_none true b e = absurd cc
+
+themselves : (F : Facts) (left : ℕ) (words : List (List ℕ)) → list_any (λ word. is_some (file_named word)) words ≡ false → Responds F left words left words
+themselves F left [] none = no_word
+themselves F left (word ∷ words) none =
+    itself (by_none F word (file_named word) refl (first_none (is_some (file_named word)) _ none)) (themselves F left words (others_none (is_some (file_named word)) _ none))
+
+pub none_expanded : (F : Facts) (args : List (List ℕ)) → list_any (λ word. is_some (file_named word)) args ≡ false → Expands F 2000 args (Ok (record { words = args; from_file = false }))
+none_expanded F args none = (2000, themselves F 2000 args none, refl)

@@ -4,7 +4,8 @@ ghost use Rattle.drv_args.specs.Expansion.{Expands, file_named};
 ghost use Rattle.drv_args.specs.Replacing.{IsReplaced};
 ghost use Rattle.drv_system.specs.Asking.{Asks, Extends};
 ghost use Rattle.drv_system.specs.Facts.{Facts};
-ghost use Rattle.std.specs.Prelude.{◌≡◌, ◌++◌, IfOk, List, OnOk, ℕ, reverse};
+ghost use Rattle.std.specs.List.{list_any};
+ghost use Rattle.std.specs.Prelude.{◌≡◌, ◌++◌, IfOk, List, OnOk, is_some, ℕ, reverse};
 
 use crate::{ArgsFault, Expanded};
 use drv_system::{FactTable, ReadAnswer, System};
@@ -57,34 +58,32 @@ fn push_reversed(stack: &mut Vec<Word>, words: Listing<Word>) -> Result<(), Allo
     Ok(())
 }
 
-/// Copies of words.
-fn copied(alloc: Global, words: &[Word]) -> Result<Listing<Word>, AllocError>
-    ensures { IfOk result (λ copies. copies ≡ words.now) }
+/// Whether a word names a file. It takes no memory.
+fn names_file(word: &Word) -> bool
+    ensures { result ≡ is_some (file_named word.now) }
 {
-    let mut copies = Listing::new(alloc);
-    for word in words {
-        copies.push(word.clone()?)?;
-    }
-    Ok(copies)
+    matches!(word.as_bytes(), [b'@', _, ..])
 }
 
-/// Replaces each argument `@PATH` by the words of that response file, expanded in turn (GCC manual, "Overall
-/// Options"). A file that is missing or can't be read leaves its argument as it is.
-///
-/// # Errors
-/// `ResponseTooLarge` for a file of more than 16,777,216 bytes, and `TooManyFiles` where more than 2,000 words
-/// would be replaced; the first of them in the order of the words counts.
+/// Whether a word among these names a file. It takes no memory.
+fn name_files(words: &[Word]) -> bool
+    ensures { result ≡ list_any (λ word. is_some (file_named word)) words.now }
+{
+    words.iter().any(names_file)
+}
+
+/// Replaces each argument that names a file.
 #[tactic(auto, using(crate::proofs::Asked::asks_further))]
-pub fn expand<S: System>(
+fn expand_all<S: System>(
     alloc: Global,
-    args: &[Word],
+    args: Listing<Word>,
     sys: &mut S,
     facts: &mut FactTable,
 ) -> Result<Expanded, ArgsFault>
     ensures asks { Asks (S.events sys.old) (S.events sys.new) facts.old facts.new }
-    ensures expands { (F : Facts) → Extends facts.new F → Expands F 2000 args.now result }
+    ensures expands { (F : Facts) → Extends facts.new F → Expands F 2000 args result }
 {
-    let mut stack = copied(alloc, args)?.into_vec();
+    let mut stack = args.into_vec();
     stack.reverse();
     let mut words = Listing::new(alloc);
     let mut left = MOST_FILES;
@@ -101,5 +100,29 @@ pub fn expand<S: System>(
     Ok(Expanded {
         words,
         from_file: left < MOST_FILES,
+    })
+}
+
+/// Replaces each argument `@PATH` by the words of that response file, expanded in turn (GCC manual, "Overall
+/// Options"). A file that is missing or can't be read leaves its argument as it is.
+///
+/// # Errors
+/// `ResponseTooLarge` for a file of more than 16,777,216 bytes, and `TooManyFiles` where more than 2,000 words
+/// would be replaced; the first of them in the order of the words counts.
+pub fn expand<S: System>(
+    alloc: Global,
+    args: Listing<Word>,
+    sys: &mut S,
+    facts: &mut FactTable,
+) -> Result<Expanded, ArgsFault>
+    ensures asks { Asks (S.events sys.old) (S.events sys.new) facts.old facts.new }
+    ensures expands { (F : Facts) → Extends facts.new F → Expands F 2000 args result }
+{
+    if name_files(args.as_slice()) {
+        return expand_all(alloc, args, sys, facts);
+    }
+    Ok(Expanded {
+        words: args,
+        from_file: false,
     })
 }

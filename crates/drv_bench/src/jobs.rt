@@ -102,7 +102,7 @@ fn switches(alloc: Global, count: usize, length: usize) -> Result<usize, AllocEr
     args.push(Word::from_bytes(alloc, b"a.c")?)?;
     args.push(Word::from_bytes(alloc, b"@f")?)?;
     let mut facts = FactTable::new(alloc);
-    let Ok(expanded) = expand(alloc, args.as_slice(), &mut sys, &mut facts) else {
+    let Ok(expanded) = expand(alloc, args, &mut sys, &mut facts) else {
         return Ok(0);
     };
     match read(alloc, &expanded) {
@@ -124,7 +124,7 @@ fn worked(alloc: Global, count: usize) -> Result<usize, AllocError> {
     let Ok(tree) = parse(alloc, letters(alloc, count)?.as_bytes()) else {
         return Ok(0);
     };
-    let context = Context::new(alloc, Listing::new(alloc), None)?;
+    let context = Context::new(alloc, &[], None)?;
     let mut sys = system(alloc, Listing::new(alloc));
     let mut facts = FactTable::new(alloc);
     match drv_machine::run(alloc, &tree, &context, &mut sys, &mut facts) {

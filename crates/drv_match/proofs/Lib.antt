@@ -3,4 +3,5 @@ mod ByName
 mod Cancelling
 mod Lasts
 mod Parts
+mod Rows
 mod Tallies

@@ -25,11 +25,13 @@ impl Names {
     pub fn of(alloc: Global, switches: &[Switch]) -> Result<Names, AllocError>
         ensures { IfOk result (λ made. made ≡ map (λ switch. switch.name) switches.now) }
     {
-        let mut names = Listing::new(alloc);
+        let mut names = Vec::with_capacity(alloc, switches.len())?;
         for switch in switches {
             names.push(switch.name.clone()?)?;
         }
-        Ok(Names { names })
+        Ok(Names {
+            names: Listing::from_vec(names),
+        })
     }
 
     /// The number of names.

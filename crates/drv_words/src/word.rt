@@ -8,17 +8,21 @@ ghost use Rattle.std.specs.Hash as fed;
 ghost use Rattle.std.specs.Ordering.{nat_cmp};
 ghost use Rattle.std.specs.Prelude.{◌≡◌, ◌∷◌, ◌++◌, [], IfOk, List, OnErr, OnOk, Some, length, nat_eq, refl, ℕ, ◌↔◌, IsTrue};
 
+use smallvec::SmallVec;
 use std::alloc::{AllocError, Global};
 use std::cmp::Ordering;
 use std::hash::{Hash, Hasher};
 use std::marker::Model;
 
+/// A word of at most so many bytes lies in the value itself, and takes no memory.
+const INLINE: usize = 24;
+
 /// A word of a command line, a path or a piece of text: any bytes, seen by contracts as their list.
 ///
 /// Words are ordered byte by byte.
-#[derive(Debug, Drop)]
+#[derive(Debug)]
 pub struct Word {
-    bytes: Vec<u8>,
+    bytes: SmallVec<u8, INLINE>,
 }
 
 impl Model for Word {
@@ -33,7 +37,7 @@ impl Word {
         ensures { result ≡ [] }
     {
         Word {
-            bytes: Vec::new(alloc),
+            bytes: SmallVec::new(alloc),
         }
     }
 
@@ -42,7 +46,7 @@ impl Word {
         ensures { IfOk result (λ word. word ≡ bytes.now) }
     {
         Ok(Word {
-            bytes: bytes.to_vec(alloc)?,
+            bytes: SmallVec::from_slice(alloc, bytes)?,
         })
     }
 
@@ -50,14 +54,9 @@ impl Word {
     pub fn from_vec(bytes: Vec<u8>) -> Word
         ensures { result ≡ bytes.items }
     {
-        Word { bytes }
-    }
-
-    /// The bytes of the word, which takes no memory.
-    pub fn into_vec(self) -> Vec<u8>
-        ensures { result.items ≡ self }
-    {
-        self.bytes
+        Word {
+            bytes: SmallVec::from_vec(bytes),
+        }
     }
 
     /// The bytes.
@@ -100,12 +99,18 @@ impl Word {
     }
 }
 
+impl Drop for Word {
+    fn drop(self) {
+        let Word { bytes: _bytes } = self;
+    }
+}
+
 impl Clone for Word {
     ghost is_clone = { λ word copy. copy ≡ word };
 
     fn clone(&self) -> Result<Word, AllocError> {
         Ok(Word {
-            bytes: self.bytes.clone()?,
+            bytes: SmallVec::from_slice(*self.bytes.allocator(), self.as_bytes())?,
         })
     }
 }

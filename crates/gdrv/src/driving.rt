@@ -6,7 +6,7 @@ ghost use Rattle.std.specs.Prelude.{◌≡◌, IfOk, OnErr};
 use crate::ending::Ending;
 use crate::planning::planned;
 use drv_system::{FactTable, System, TellAnswer};
-use drv_words::{Plan, Word, plan_lines, render};
+use drv_words::{Listing, Plan, Word, plan_lines, render};
 use std::alloc::{AllocError, Global};
 
 /// Says the text of a plan, if it has one, and answers the exit status: 0, or 1 where the text could not be said.
@@ -27,8 +27,8 @@ fn say_plan<S: System>(alloc: Global, sys: &mut S, plan: &Plan) -> Result<u8, Al
 
 /// A call of the driver with these arguments, as if `-###` were among them: it says the plan and starts nothing
 /// (GCC manual, "Overall Options"). The seed is for temporary names, which no plan has yet.
-pub fn drive<S: System>(alloc: Global, sys: &mut S, args: &[Word], _seed: u32) -> Ending
-    ensures drove { Drove (S.events sys.old) (S.events sys.new) args.now result }
+pub fn drive<S: System>(alloc: Global, sys: &mut S, args: Listing<Word>, _seed: u32) -> Ending
+    ensures drove { Drove (S.events sys.old) (S.events sys.new) args result }
     ensures apart { IsApart result }
 {
     let mut facts = FactTable::new(alloc);

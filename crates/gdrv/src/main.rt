@@ -48,6 +48,6 @@ fn main(rt: HostRuntime) -> ExitCode {
         return complain(&rt, OUT_OF_MEMORY);
     };
     let mut sys = HostSystem::new(own);
-    let ending = drive(rt.alloc(), &mut sys, args.as_slice(), clock_seed(&rt));
+    let ending = drive(rt.alloc(), &mut sys, args, clock_seed(&rt));
     finish(&rt, &ending)
 }

@@ -1,44 +1,9 @@
-use Rattle.drv_args.proofs.Expanding.{end_goes, expands_refused, itself_goes, large_refused, many_refused, text_goes}
-use Rattle.drv_system.proofs.Asking.{asks_extends, asks_then, extends_then}
-use Rattle.drv_args.specs.Replacing.{IsReplaced}
-use Rattle.std.proofs.Common.{◌≡◌, ◌-◌, List, length, Ok, Option, arith, inr, refl, subst, ℕ}
-use Rattle.std.proofs.lemmas.List.{nil_from_length}
+use Rattle.drv_args.proofs.Expanding.{none_expanded}
 use Rattle.drv_args.proofs.expansion.expand.Goals as goal
-
-pub returns-in_err-replacement-clause-expands : goal.returns-in_err-replacement-clause-expands
-returns-in_err-replacement-clause-expands g c F e =
-    let goes = c.loop-word.invariant.goes F (extends_then (asks_extends c.replacement.ensures.asks) e) in
-    expands_refused F c.args.args.now c.in_err-replacement.field-0.0 c.from_residual-in_err-replacement.result c.from_residual-in_err-replacement.ensures.1
-    (large_refused F c.loop-word.left c.loop-word.stack.items c.pop.new.self.items c.in-Some.word c.loop-word.words c.args.args.now c.in_err-replacement.field-0.0 c.in-Some.ensures.items (c.in_err-replacement.ensures.replaces F e) goes)
-
-pub loop-word-preserved-in_ok-push-in-None : goal.loop-word-preserved-in_ok-push-in-None
-loop-word-preserved-in_ok-push-in-None g c = record {
-  asks = asks_then c.loop-word.invariant.asks c.replacement.ensures.asks;
-  goes = λ F e.
-      let replaces = subst (λ (o : Option (List (List ℕ))). IsReplaced F c.in-Some.word (Ok o)) c.in-None.is (c.in_ok-replacement.ensures.replaces F e) in
-      itself_goes F c.loop-word.left c.loop-word.stack.items c.pop.new.self.items c.in-Some.word c.loop-word.words c.push.new.self c.args.args.now
-      c.in-Some.ensures.items c.in_ok-push-in-None.ensures.ok replaces (c.loop-word.invariant.goes F (extends_then (asks_extends c.replacement.ensures.asks) e));
-  bound = c.loop-word.invariant.bound;
-}
-
-pub returns-in-Some-2-clause-expands : goal.returns-in-Some-2-clause-expands
-returns-in-Some-2-clause-expands g c F e =
-    let replaces = subst (λ (o : Option (List (List ℕ))). IsReplaced F c.in-Some.word (Ok o)) c.in-Some-2.is (c.in_ok-replacement.ensures.replaces F e) in
-    inr (many_refused F c.loop-word.left c.loop-word.stack.items c.pop.new.self.items c.in-Some.word c.in-Some-2.field-0 c.loop-word.words c.args.args.now
-    c.in-Some.ensures.items c.if-left-eq0.true replaces (c.loop-word.invariant.goes F (extends_then (asks_extends c.replacement.ensures.asks) e)))
-
-pub loop-word-preserved : goal.loop-word-preserved
-loop-word-preserved g c = record {
-  asks = asks_then c.loop-word.invariant.asks c.replacement.ensures.asks;
-  goes = λ F e.
-      let replaces = subst (λ (o : Option (List (List ℕ))). IsReplaced F c.in-Some.word (Ok o)) c.in-Some-2.is (c.in_ok-replacement.ensures.replaces F e) in
-      text_goes F c.loop-word.left (c.loop-word.left - 1) c.loop-word.stack.items c.pop.new.self.items c.push_reversed.new.stack.items c.in-Some.word c.in-Some-2.field-0 c.loop-word.words c.args.args.now
-      c.in-Some.ensures.items (omega arith) c.in_ok-push_reversed-in-Some-2-2.ensures replaces (c.loop-word.invariant.goes F (extends_then (asks_extends c.replacement.ensures.asks) e));
-  bound = omega arith;
-}
+use Rattle.drv_args.specs.Expansion.{file_named}
+use Rattle.std.proofs.Common.{◌≡◌, ◌∙◌, ap, false, is_some, sym}
+use Rattle.std.specs.List.{list_any}
 
 pub returns-clause-expands : goal.returns-clause-expands
 returns-clause-expands g c F e =
-    let none : length c.loop-word.stack.items ≡ 0 = omega (arith, c.loop-word.stack.ok, c.in_default.ensures.cases.0) in
-    let empty = nil_from_length c.loop-word.stack.items none in
-    (c.loop-word.left, end_goes F c.loop-word.left c.loop-word.stack.items c.loop-word.words c.args.args.now empty (c.loop-word.invariant.goes F e), refl)
+    none_expanded F c.args.args (ap (list_any (λ word. is_some (file_named word))) (sym c.as_slice.ensures) ∙ sym c.name_files.ensures ∙ c.if-name_files.false)

@@ -4,11 +4,11 @@ use Rattle.gdrv.proofs.planning.planned.Goals as goal
 
 pub returns-in_err-expanded-clause-comes : goal.returns-in_err-expanded-clause-comes
 returns-in_err-expanded-clause-comes g c F e =
-    expansion_ends F c.args.args.now c.in_err-expanded.field-0.0 c.from_residual.result c.from_residual.ensures.1 (c.in_err-expanded.ensures.expands F e)
+    expansion_ends F c.args.args c.in_err-expanded.field-0.0 c.from_residual.result c.from_residual.ensures.1 (c.in_err-expanded.ensures.expands F e)
 
 pub returns-in_err-line-clause-comes : goal.returns-in_err-line-clause-comes
 returns-in_err-line-clause-comes g c F e =
-    reading_ends F c.args.args.now c.in_ok-expanded.expanded c.in_err-line.field-0.0 c.from_residual-in_err-line.result c.from_residual-in_err-line.ensures.1
+    reading_ends F c.args.args c.in_ok-expanded.expanded c.in_err-line.field-0.0 c.from_residual-in_err-line.result c.from_residual-in_err-line.ensures.1
     (c.in_ok-expanded.ensures.expands F e) c.in_err-line.ensures
 
 pub returns-in_err-plan-clause-asks : goal.returns-in_err-plan-clause-asks
@@ -16,7 +16,7 @@ returns-in_err-plan-clause-asks g c = asks_then c.expand.ensures.asks c.plan.ens
 
 pub returns-in_err-plan-clause-comes : goal.returns-in_err-plan-clause-comes
 returns-in_err-plan-clause-comes g c F e =
-    planning_ends F c.args.args.now c.in_ok-expanded.expanded c.in_ok-line.line c.in_err-plan.field-0.0 c.from_residual-in_err-plan.result c.from_residual-in_err-plan.ensures.1
+    planning_ends F c.args.args c.in_ok-expanded.expanded c.in_ok-line.line c.in_err-plan.field-0.0 c.from_residual-in_err-plan.result c.from_residual-in_err-plan.ensures.1
     (c.in_ok-expanded.ensures.expands F (extends_then (asks_extends c.plan.ensures.asks) e)) c.in_ok-line.ensures (c.in_err-plan.ensures.plans F e)
 
 pub returns-clause-asks : goal.returns-clause-asks

@@ -1,0 +1,114 @@
+use Rattle.drv_match.specs.Matching.{hidden_by, hits, is_live, is_named, name_at}
+use Rattle.drv_match.specs.Order.{IsBlock, IsOrder, by_name}
+use Rattle.drv_match.specs.Pattern.{Pattern}
+use Rattle.std.proofs.Common.{◌≡◌, Bool, List, [], ◌∷◌, arith, codes, false, length, refl, replicate, suc, true, zero, ℕ}
+use Rattle.std.specs.List.Sorted.{IsSorted}
+use Rattle.std.specs.List.{AllWithin}
+
+-- Worked lines, by computation.
+
+abbrev starred : List ℕ → Pattern
+starred name = record { name = name; star = true }
+
+abbrev named : List ℕ → Pattern
+named name = record { name = name; star = false }
+
+-- two names that a starred one names with others, and two levels
+abbrev line : List (List ℕ)
+line = codes "mcu=a" ∷ codes "O1" ∷ codes "mcu=b" ∷ codes "m" ∷ codes "O2" ∷ []
+
+abbrev shown : List Bool
+shown = replicate (length line) false
+
+with_m : hits line shown (starred (codes "m")) ≡ 0 ∷ 2 ∷ 3 ∷ []
+with_m = refl
+
+with_mcu : hits line shown (starred (codes "mcu=")) ≡ 0 ∷ 2 ∷ []
+with_mcu = refl
+
+-- one of them is hidden
+others_with_mcu : hits line (hidden_by (named (codes "mcu=a")) line shown) (starred (codes "mcu=")) ≡ 2 ∷ []
+others_with_mcu = refl
+
+-- a starred name of one byte hits the level that a later one cancels, its name alone doesn't
+with_level : hits line shown (starred (codes "O")) ≡ 1 ∷ 4 ∷ []
+with_level = refl
+
+cancelled_level : hits line shown (named (codes "O1")) ≡ []
+cancelled_level = refl
+
+all_places : hits line shown (starred []) ≡ 0 ∷ 1 ∷ 2 ∷ 3 ∷ 4 ∷ []
+all_places = refl
+
+-- the places by name
+abbrev places : List ℕ
+places = 1 ∷ 4 ∷ 3 ∷ 0 ∷ 2 ∷ []
+
+ascending : IsSorted (by_name line) places
+ascending zero d low high = refl
+ascending (suc zero) d low high = refl
+ascending (suc (suc zero)) d low high = refl
+ascending (suc (suc (suc zero))) d low high = refl
+ascending (suc (suc (suc (suc k)))) d low high = absurd (omega (arith, high))
+
+in_order : IsOrder line places
+in_order = record { places = record { moves = (3, 4) ∷ (2, 3) ∷ (1, 4) ∷ (0, 1) ∷ []; below = (omega arith, omega arith, (omega arith, omega arith, (omega arith, omega arith, (omega arith, omega arith, tt)))); is = refl }; sorted = ascending }
+
+-- those that the starred `m` names stand behind the levels, `m` itself first among them
+
+levels_before : AllWithin (λ i. is_named (starred (codes "m")) (name_at line i) ≡ false) places 0 2
+levels_before zero d low high = refl
+levels_before (suc zero) d low high = refl
+levels_before (suc (suc k)) d low high = absurd (omega (arith, high))
+
+all_named : AllWithin (λ i. is_named (starred (codes "m")) (name_at line i) ≡ true) places 2 5
+all_named zero d low high = absurd (omega (arith, low))
+all_named (suc zero) d low high = absurd (omega (arith, low))
+all_named (suc (suc zero)) d low high = refl
+all_named (suc (suc (suc zero))) d low high = refl
+all_named (suc (suc (suc (suc zero)))) d low high = refl
+all_named (suc (suc (suc (suc (suc k))))) d low high = absurd (omega (arith, high))
+
+starred_block : IsBlock line places (starred (codes "m")) 2 5
+starred_block = record { ascends = omega arith; within = omega arith; before = levels_before; named = all_named; behind = λ k d low high. absurd (omega (arith, low, high)) }
+
+levels_before_one : AllWithin (λ i. is_named (named (codes "m")) (name_at line i) ≡ false) places 0 2
+levels_before_one zero d low high = refl
+levels_before_one (suc zero) d low high = refl
+levels_before_one (suc (suc k)) d low high = absurd (omega (arith, high))
+
+one_named : AllWithin (λ i. is_named (named (codes "m")) (name_at line i) ≡ true) places 2 3
+one_named zero d low high = absurd (omega (arith, low))
+one_named (suc zero) d low high = absurd (omega (arith, low))
+one_named (suc (suc zero)) d low high = refl
+one_named (suc (suc (suc k))) d low high = absurd (omega (arith, high))
+
+longer_behind : AllWithin (λ i. is_named (named (codes "m")) (name_at line i) ≡ false) places 3 5
+longer_behind zero d low high = absurd (omega (arith, low))
+longer_behind (suc zero) d low high = absurd (omega (arith, low))
+longer_behind (suc (suc zero)) d low high = absurd (omega (arith, low))
+longer_behind (suc (suc (suc zero))) d low high = refl
+longer_behind (suc (suc (suc (suc zero)))) d low high = refl
+longer_behind (suc (suc (suc (suc (suc k))))) d low high = absurd (omega (arith, high))
+
+named_block : IsBlock line places (named (codes "m")) 2 3
+named_block = record { ascends = omega arith; within = omega arith; before = levels_before_one; named = one_named; behind = longer_behind }
+
+-- No switches: no pattern hits any.
+
+no_switch : (pattern : Pattern) → hits [] [] pattern ≡ []
+no_switch pattern = refl
+
+-- Negative forms: the later one of two that cancel each other is live, and both levels are hit by a starred letter.
+
+abbrev forms : List (List ℕ)
+forms = codes "fno-x" ∷ codes "fx" ∷ codes "O1" ∷ codes "O2" ∷ []
+
+cancelled_form : is_live forms 0 ≡ false
+cancelled_form = refl
+
+later_form : is_live forms 1 ≡ true
+later_form = refl
+
+both_levels : hits forms (replicate 4 false) (starred (codes "O")) ≡ 2 ∷ 3 ∷ []
+both_levels = refl
