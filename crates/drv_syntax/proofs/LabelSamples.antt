@@ -1,4 +1,4 @@
-use Rattle.drv_syntax.specs.Labels.{Label, labels_of, no_label}
+use Rattle.drv_syntax.specs.Labels.{Label, labels_of, no_label, part_label, star_label}
 use Rattle.drv_syntax.specs.Outcome.{Bad, Cut, Got, Out, read}
 use Rattle.drv_syntax.specs.declared.token.TestKind.TheVariants as asking
 use Rattle.drv_syntax.specs.declared.token.TestKind.{TestKind}
@@ -8,7 +8,7 @@ use Rattle.std.proofs.Common.{◌≡◌, ℕ, Bool, true, false, List, [], ◌�
 -- Texts with their labels: word, star, ! and what a test asks.
 
 abbrev label_with : List ℕ → Bool → Bool → TestKind → Label
-label_with word starred negated asks = record { word = word; starred = starred; negated = negated; asks = asks }
+label_with word starred negated asks = part_label word starred negated asks
 
 abbrev labels_in : Out → List Label
 labels_in (Got items) = labels_of items
@@ -37,3 +37,14 @@ labels_3 = refl
 labels_4 : labels_from (codes "%x{a\\}b}%<f*%(cc1)")
     ≡ (label_with (codes "a}b") false false asking.Switch) ∷ (label_with (codes "f") true false asking.Switch) ∷ (label_with (codes "cc1") false false asking.Switch) ∷ []
 labels_4 = refl
+
+-- an X with a %* of its own, one whose %* belongs to an inner X, and one whose %* stands in a test of inner braces
+labels_5 : labels_from (codes "%{a*:%*}%{a*:%{b*:%*}}")
+    ≡ no_label ∷ (star_label true) ∷ (label_with (codes "a") true false asking.Switch) ∷ no_label
+    ∷ no_label ∷ (star_label false) ∷ (label_with (codes "a") true false asking.Switch) ∷ no_label ∷ (star_label true) ∷ (label_with (codes "b") true false asking.Switch) ∷ no_label ∷ []
+labels_5 = refl
+
+labels_6 : labels_from (codes "%{a*:%{%:getenv(%*):y};:z}")
+    ≡ no_label ∷ (star_label true) ∷ (label_with (codes "a") true false asking.Switch) ∷ no_label ∷ (star_label false) ∷ (label_with (codes "getenv") false false asking.Result) ∷ no_label
+    ∷ (label_with (codes "y") false false asking.Switch) ∷ (star_label false) ∷ (label_with (codes "z") false false asking.Switch) ∷ []
+labels_6 = refl

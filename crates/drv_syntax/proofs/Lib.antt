@@ -3,6 +3,10 @@ mod FrontSamples
 mod LabelSamples
 mod Samples
 pub mod Covers
+pub mod CutDue
+pub mod CutRows
+pub mod CutTests
+pub mod Cuts
 pub mod Emits
 pub mod FrontLeads
 pub mod FrontsRead
@@ -11,6 +15,7 @@ pub mod MarkedWords
 pub mod Names
 pub mod Parts
 pub mod Patterns
+pub mod Refusals
 pub mod Rows
 pub mod RowsBraces
 pub mod RowsDue
@@ -26,6 +31,8 @@ pub mod WalkNames
 pub mod WalkNodes
 pub mod WalkReads
 pub mod WalkShows
+pub mod WalkStars
 pub mod WalkTests
+pub mod Unrefused
 pub mod Wanted
 pub mod Words

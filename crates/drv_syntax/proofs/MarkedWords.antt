@@ -1,11 +1,11 @@
-use Rattle.drv_syntax.specs.Labels.{Label, no_label}
+use Rattle.drv_syntax.specs.Labels.{Label, no_label, part_label, star_label}
 use Rattle.drv_syntax.specs.Reader.Marks.{Within, marked_label, marked_labels}
 use Rattle.drv_syntax.specs.declared.labels.Mark.{Mark}
 use Rattle.drv_syntax.specs.declared.token.TestKind.TheVariants as asking
 use Rattle.drv_syntax.specs.declared.token.TestKind.{TestKind}
-use Rattle.std.proofs.Common.{◌≡◌, ℕ, ◌-◌, ◌<◌, ◌≤◌, Bool, false, List, [], ◌∷◌, ◌++◌, length, take, drop, get_or, refl, subst, suc, sym, zero, ap, ◌∙◌, arith, append_assoc, length-append}
+use Rattle.std.proofs.Common.{◌≡◌, ℕ, ◌-◌, ◌<◌, ◌≤◌, Bool, false, List, [], ◌∷◌, ◌++◌, length, take, drop, get_or, set, refl, subst, suc, sym, zero, ap, ◌∙◌, arith, append_assoc, length-append}
 use Rattle.std.proofs.Math.Seq.{drop-append_seam, take-length}
-use Rattle.std.proofs.lemmas.List.{drop-append-le, length-drop, length-map, map-append, take-append-le, take-map}
+use Rattle.std.proofs.lemmas.List.{drop-append-le, length-drop, length-map, map-append, map-set, take-append-le, take-map}
 
 -- Labels whose words stand one behind another.
 
@@ -21,6 +21,11 @@ pub within_take : (n k : ℕ) (marks : List Mark) → Within n marks → Within 
 within_take n zero marks w = tt
 within_take n (suc k) [] w = tt
 within_take n (suc k) (x ∷ marks) w = (w.0, within_take n k marks w.1)
+
+pub within_set : (n k : ℕ) (marks : List Mark) (m : Mark) → Within n marks → m.start ≤ m.end → m.end ≤ n → Within n (set marks k m)
+within_set n k [] m w a b = tt
+within_set n zero (x ∷ marks) m w a b = ((a, b), w.1)
+within_set n (suc k) (x ∷ marks) m w a b = (w.0, within_set n k marks m w.1 a b)
 
 within_get : (n : ℕ) (marks : List Mark) (place : ℕ) (d : Mark) → Within n marks → place < length marks → ((get_or marks place d).start ≤ (get_or marks place d).end) × ((get_or marks place d).end ≤ n)
 within_get n [] place d w h = absurd (omega arith)
@@ -46,7 +51,7 @@ part_kept words more a b h k =
 pub labels_kept : (words more : List ℕ) (marks : List Mark) → Within (length words) marks → marked_labels (words ++ more) marks ≡ marked_labels words marks
 labels_kept words more [] w = refl
 labels_kept words more (m ∷ marks) w =
-    ap (λ word. record { word = word; starred = m.starred; negated = m.negated; asks = m.asks } ∷ marked_labels (words ++ more) marks) (part_kept words more m.start m.end w.0.0 w.0.1)
+    ap (λ word. record { word = word; starred = m.starred; negated = m.negated; asks = m.asks; holds_star = m.holds_star } ∷ marked_labels (words ++ more) marks) (part_kept words more m.start m.end w.0.0 w.0.1)
     ∙ ap (λ ls. marked_label words m ∷ ls) (labels_kept words more marks w.1)
 
 -- the word at the end of the words
@@ -63,22 +68,22 @@ last_part words more a b h k =
 -- one label more
 pub labels_push : (words more : List ℕ) (marks : List Mark) (start end : ℕ) (starred negated : Bool) (asks : TestKind) → Within (length words) marks
     → start ≡ length words → end ≡ length (words ++ more)
-    → marked_labels (words ++ more) (marks ++ record { start = start; end = end; starred = starred; negated = negated; asks = asks } ∷ [])
-    ≡ marked_labels words marks ++ record { word = more; starred = starred; negated = negated; asks = asks } ∷ []
+    → marked_labels (words ++ more) (marks ++ record { start = start; end = end; starred = starred; negated = negated; asks = asks; holds_star = false } ∷ [])
+    ≡ marked_labels words marks ++ part_label more starred negated asks ∷ []
 labels_push words more marks start end starred negated asks w h k =
-    map-append (λ m. marked_label (words ++ more) m) marks (record { start = start; end = end; starred = starred; negated = negated; asks = asks } ∷ [])
-    ∙ ap (λ ls. ls ++ record { word = take (end - start) (drop start (words ++ more)); starred = starred; negated = negated; asks = asks } ∷ []) (labels_kept words more marks w)
-    ∙ ap (λ word. marked_labels words marks ++ record { word = word; starred = starred; negated = negated; asks = asks } ∷ []) (last_part words more start end h k)
+    map-append (λ m. marked_label (words ++ more) m) marks (record { start = start; end = end; starred = starred; negated = negated; asks = asks; holds_star = false } ∷ [])
+    ∙ ap (λ ls. ls ++ part_label (take (end - start) (drop start (words ++ more))) starred negated asks ∷ []) (labels_kept words more marks w)
+    ∙ ap (λ word. marked_labels words marks ++ part_label word starred negated asks ∷ []) (last_part words more start end h k)
 
 -- the same, where the word comes in two parts
 pub labels_pushed : (words first second front word : List ℕ) (marks all : List Mark) (now : List Label) (start end : ℕ) (starred negated : Bool) (asks : TestKind)
     → now ≡ marked_labels words marks → Within (length words) marks → first ≡ words ++ front → second ≡ first ++ word → start ≡ length words → end ≡ length second
-    → all ≡ marks ++ record { start = start; end = end; starred = starred; negated = negated; asks = asks } ∷ []
-    → now ++ record { word = front ++ word; starred = starred; negated = negated; asks = asks } ∷ [] ≡ marked_labels second all
+    → all ≡ marks ++ record { start = start; end = end; starred = starred; negated = negated; asks = asks; holds_star = false } ∷ []
+    → now ++ part_label (front ++ word) starred negated asks ∷ [] ≡ marked_labels second all
 labels_pushed words first second front word marks all now start end starred negated asks e w f g h k a =
-    ap (λ ls. ls ++ record { word = front ++ word; starred = starred; negated = negated; asks = asks } ∷ []) e
+    ap (λ ls. ls ++ part_label (front ++ word) starred negated asks ∷ []) e
     ∙ sym (labels_push words (front ++ word) marks start end starred negated asks w h (k ∙ ap (λ ws. length ws) whole))
-    ∙ ap (λ ws. marked_labels ws (marks ++ record { start = start; end = end; starred = starred; negated = negated; asks = asks } ∷ [])) (sym whole)
+    ∙ ap (λ ws. marked_labels ws (marks ++ record { start = start; end = end; starred = starred; negated = negated; asks = asks; holds_star = false } ∷ [])) (sym whole)
     ∙ ap (λ ms. marked_labels second ms) (sym a)
   where
     whole : second ≡ words ++ (front ++ word)
@@ -86,27 +91,32 @@ labels_pushed words first second front word marks all now start end starred nega
 
 pub labels_marked : (words first second word : List ℕ) (mark : ℕ) (marks all : List Mark) (now : List Label) (start end : ℕ) (starred negated : Bool) (asks : TestKind)
     → now ≡ marked_labels words marks → Within (length words) marks → first ≡ words ++ mark ∷ [] → second ≡ first ++ word → start ≡ length words → end ≡ length second
-    → all ≡ marks ++ record { start = start; end = end; starred = starred; negated = negated; asks = asks } ∷ []
-    → now ++ record { word = mark ∷ word; starred = starred; negated = negated; asks = asks } ∷ [] ≡ marked_labels second all
+    → all ≡ marks ++ record { start = start; end = end; starred = starred; negated = negated; asks = asks; holds_star = false } ∷ []
+    → now ++ part_label (mark ∷ word) starred negated asks ∷ [] ≡ marked_labels second all
 labels_marked words first second word mark marks all now start end starred negated asks e w f g h k a =
     labels_pushed words first second (mark ∷ []) word marks all now start end starred negated asks e w f g h k a
 
 pub labels_added : (words second word : List ℕ) (marks all : List Mark) (now : List Label) (start end : ℕ) (starred negated : Bool) (asks : TestKind)
     → now ≡ marked_labels words marks → Within (length words) marks → second ≡ words ++ word → start ≡ length words → end ≡ length second
-    → all ≡ marks ++ record { start = start; end = end; starred = starred; negated = negated; asks = asks } ∷ []
-    → now ++ record { word = word; starred = starred; negated = negated; asks = asks } ∷ [] ≡ marked_labels second all
+    → all ≡ marks ++ record { start = start; end = end; starred = starred; negated = negated; asks = asks; holds_star = false } ∷ []
+    → now ++ part_label word starred negated asks ∷ [] ≡ marked_labels second all
 labels_added words second word marks all now start end starred negated asks e w f h k a =
-    ap (λ ls. ls ++ record { word = word; starred = starred; negated = negated; asks = asks } ∷ []) e
+    ap (λ ls. ls ++ part_label word starred negated asks ∷ []) e
     ∙ sym (labels_push words word marks start end starred negated asks w h (k ∙ ap (λ ws. length ws) f))
-    ∙ ap (λ ws. marked_labels ws (marks ++ record { start = start; end = end; starred = starred; negated = negated; asks = asks } ∷ [])) (sym f)
+    ∙ ap (λ ws. marked_labels ws (marks ++ record { start = start; end = end; starred = starred; negated = negated; asks = asks; holds_star = false } ∷ [])) (sym f)
     ∙ ap (λ ms. marked_labels second ms) (sym a)
 
 pub labels_none : (words : List ℕ) (marks all : List Mark) (now : List Label) → now ≡ marked_labels words marks
-    → all ≡ marks ++ record { start = 0; end = 0; starred = false; negated = false; asks = asking.Switch } ∷ [] → now ++ no_label ∷ [] ≡ marked_labels words all
+    → all ≡ marks ++ record { start = 0; end = 0; starred = false; negated = false; asks = asking.Switch; holds_star = false } ∷ [] → now ++ no_label ∷ [] ≡ marked_labels words all
 labels_none words marks all now e a =
     ap (λ ls. ls ++ no_label ∷ []) e
-    ∙ sym (map-append (λ m. marked_label words m) marks (record { start = 0; end = 0; starred = false; negated = false; asks = asking.Switch } ∷ []))
+    ∙ sym (map-append (λ m. marked_label words m) marks (record { start = 0; end = 0; starred = false; negated = false; asks = asking.Switch; holds_star = false } ∷ []))
     ∙ ap (λ ms. marked_labels words ms) (sym a)
 
 pub labels_take : (words : List ℕ) (n : ℕ) (marks : List Mark) → marked_labels words (take n marks) ≡ take n (marked_labels words marks)
 labels_take words n marks = sym (take-map (λ m. marked_label words m) n marks)
+
+-- the label of an alternative in the place of another
+pub labels_set : (words : List ℕ) (place : ℕ) (holds : Bool) (marks : List Mark)
+    → marked_labels words (set marks place (record { start = 0; end = 0; starred = false; negated = false; asks = asking.Switch; holds_star = holds })) ≡ set (marked_labels words marks) place (star_label holds)
+labels_set words place holds marks = map-set (λ m. marked_label words m) marks place (record { start = 0; end = 0; starred = false; negated = false; asks = asking.Switch; holds_star = holds })

@@ -3,6 +3,7 @@ use Rattle.drv_syntax.proofs.Leads.{differs, same}
 use Rattle.drv_syntax.proofs.Wanted.{After, Ended, IsChoiceRest, IsPatternRest, Outside, Wanted, WantsList, choice_last, choice_next, hide_rest, name_rest, option_rest, percent_rest, rest_starred, rest_unstarred, saying_rest, suffix_rest}
 use Rattle.drv_syntax.specs.Bytes.{SayKind, is_blank, is_name, is_of, is_option, is_plain, is_suffix, is_word, said}
 use Rattle.drv_syntax.specs.Contexts.{Context, bar_in, is_end, is_said, newline_in}
+use Rattle.drv_syntax.specs.Fronts.{whole_item}
 use Rattle.drv_syntax.specs.Outcome as o
 use Rattle.drv_syntax.specs.Outcome.{Here, Place, Turn, join, placed, turn, turn_item}
 use Rattle.drv_syntax.specs.Spelling as s
@@ -60,7 +61,8 @@ module _ (size : ℕ) (K : Outside) where
     items = more (span n e.m) item e.list.items;
     rest = e.list.rest;
     spelled = λ f. s.next_item a d e.fits (e.list.spelled f);
-    outside = subst (λ (x : Items). K here.context.kind x e.list.rest) (join_assoc here.done (more (span n e.m) item tree.none) e.list.items) e.list.outside;
+    front = λ f. whole_item d (e.list.front f);
+    outside = subst (λ (x : Items). K here.context x e.list.rest) (join_assoc here.done (more (span n e.m) item tree.none) e.list.items) e.list.outside;
   }
 
   pub ends_at : (here : Here) (at m : ℕ) (text : List ℕ) (item : Item) → At size m text → WantsList size K (placed here at m item) text → Ended size K here at item text
@@ -80,7 +82,7 @@ module _ (size : ℕ) (K : Outside) where
       (λ e g. rw (same b 92 e, g.2) (item_ended here n (92 ∷ g.0 ∷ g.1) g.1 (Escape g.0) (omega (arith, a, ap length g.2)) s.escape g.3)) (λ e1 h.
       when (After size K b text) (b == 37) _ _ h (λ e g. rw (same b 37 e) (percent_list here n text a g)) (λ e2 h.
       when (After size K b text) (is_end here.context.kind b) _ _ h
-      (λ e g. record { items = tree.none; rest = b ∷ text; spelled = λ f. s.no_item f; outside = rw (join_none here.done) (g refl here.context.kind e) }) (λ e3 h.
+      (λ e g. record { items = tree.none; rest = b ∷ text; spelled = λ f. s.no_item f; front = λ f. f; outside = rw (join_none here.done) (g refl here.context e) }) (λ e3 h.
       when (After size K b text) (is_blank b) _ _ h (λ e g. single here n b text Blank a (s.blank e) g) (λ e4 h.
       when (After size K b text) (b == 10) _ _ h (λ e g. rw (same b 10 e) (single here n 10 text (newline_in here.context.in_arguments) a s.newline g)) (λ e5 h.
       when (After size K b text) (b == 124) _ _ h (λ e g. rw (same b 124 e) (single here n 124 text (bar_in here.context.in_arguments) a s.pipe g)) (λ e6 h.

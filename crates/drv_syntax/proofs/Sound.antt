@@ -87,7 +87,7 @@ module _ (size : ℕ) (K : Outside) where
       ))
 
   -- each place
-  row : (p : Place) (n b : ℕ) (text : List ℕ) → At size n (b ∷ text) → After size K b text (turn p n b) → Wanted size K p (b ∷ text)
+  pub row : (p : Place) (n b : ℕ) (text : List ℕ) → At size n (b ∷ text) → After size K b text (turn p n b) → Wanted size K p (b ∷ text)
   row (o.AtItem here) n b text a g = item_row size K here n b text a g
   row (o.BehindBackslash here back) n b text a g = (b, text, refl, ends_at size K here back (n + 1) text (Escape b) (one_byte size n b text a) g)
   row (o.BehindPercent here at) n b text a g = percent_row here at n b text a g
@@ -128,7 +128,7 @@ module _ (size : ℕ) (out : Items) where
   Done = Around size [] out
 
   no_more : (here : Here) → here.done ≡ out → WantsList size Done here []
-  no_more here e = record { items = none; rest = []; spelled = λ f. s.no_item f; outside = (refl, join_none here.done ∙ e) }
+  no_more here e = record { items = none; rest = []; spelled = λ f. s.no_item f; front = λ f. f; outside = (refl, join_none here.done ∙ e) }
 
   finished : (p : Place) (n : ℕ) → At size n [] → finish p n ≡ Got out → Wanted size Done p []
   finished (o.AtItem here) n a e = no_more here (got _ _ e)
@@ -186,7 +186,7 @@ module _ (size : ℕ) (out : Items) (b : ℕ) (text : List ℕ)
   by_resumed : (w : Waiting) (ws : List Waiting) (p : Place) (n c : ℕ) (items : Items) → At size n (b ∷ text) → turn p n b ≡ Closes items c → (r : Resumed) → resume w items n c ≡ r
       → o.resumed r (λ q. run ws q (n + 1) text) n ≡ Got out → Wanted size (Around size (w ∷ ws) out) p (b ∷ text)
   by_resumed w ws p n c items a e (On q) f h =
-      row size (Around size (w ∷ ws) out) p n b text a (rw e (λ x kind y. (b, text, q, n, refl, y, a, subst (λ (z : ℕ). resume w items n z ≡ On q) x f, IH ws q (n + 1) (one_byte size n b text a) h)))
+      row size (Around size (w ∷ ws) out) p n b text a (rw e (λ x around y. (b, text, q, n, refl, y, a, subst (λ (z : ℕ). resume w items n z ≡ On q) x f, IH ws q (n + 1) (one_byte size n b text a) h)))
   by_resumed w ws p n c items a e (Not fault) f h = absurd cc
 
   by_turn : (ws : List Waiting) (p : Place) (n : ℕ) → At size n (b ∷ text) → (t : Turn) → turn p n b ≡ t → o.after t ws (λ w q. run w q (n + 1) text) n ≡ Got out

@@ -27,9 +27,9 @@ use Rattle.drv_syntax.specs.declared.token.TokenKind.TheVariants as kinds
 use Rattle.drv_syntax.proofs.WalkNodes.{Parts, all, all_open, opened}
 use Rattle.drv_syntax.proofs.WalkMeaning.{Fits, fits_fresh, fits_later, fits_patterns, fits_tests, head_place, is_bare, meant_choice, meant_head, shown}
 use Rattle.drv_syntax.proofs.WalkHeadRows.{choice_row, head_row}
-use Rattle.std.proofs.Common.{◌≡◌, ℕ, ◌+◌, Bool, true, false, List, [], ◌∷◌, ◌++◌, length, refl, sym, subst, if◌then◌else◌}
+use Rattle.std.proofs.Common.{◌≡◌, ℕ, ◌+◌, Bool, true, false, List, [], ◌∷◌, ◌++◌, length, refl, sym, ap, subst, if◌then◌else◌}
 use Rattle.std.specs.Prelude.{◌==◌, Option, None, Result, Ok}
-use Rattle.drv_syntax.proofs.WalkShows.{held, brace_level, choice_level, levels_of, the_head, the_part, hd, unpatterned, Held, held_fresh, held_patterns, held_later, held_tests, form_for, Waits, waits_x, waits_test, made, Shows, shows_list, shows_choice, shows_head, shows_result, Leads}
+use Rattle.drv_syntax.proofs.WalkShows.{held, brace_level, choice_level, levels_of, head_star, the_head, the_part, hd, unpatterned, Held, held_fresh, held_patterns, held_later, held_tests, form_for, Waits, waits_x, waits_test, made, Shows, shows_list, shows_choice, shows_head, shows_result, Leads}
 use Rattle.drv_syntax.proofs.WalkTests.{patterns_are, hw, ends_leads, joins_leads, tests_are, asks_good, bars_good, asks_leads, bars_leads}
 
 -- Bytes in braces, to the left of a colon.
@@ -37,7 +37,7 @@ use Rattle.drv_syntax.proofs.WalkTests.{patterns_are, hw, ends_leads, joins_lead
 -- a function in a test
 pub opens_on : (k : Context) {fs : List Frame} {ws : List o.Waiting} (before : Items) (kind : BraceKind) (at : ℕ) (choices : Choices) (tests : Tests) (patterns : List (Span × Pattern))
     (word : List ℕ) (start : ℕ) (negated : Bool) (parts : Parts)
-    → parts ≡ all (choice_level (hd ws k before kind at choices tests patterns) start ∷ brace_level ws (hd ws k before kind at choices tests patterns) ∷ levels_of ws) (test_nodes tests) → Waits fs ws
+    → parts ≡ all (head_star ws (hd ws k before kind at choices tests patterns)) (choice_level (hd ws k before kind at choices tests patterns) start ∷ brace_level ws (hd ws k before kind at choices tests patterns) ∷ levels_of ws) (test_nodes tests) → Waits fs ws
     → Shows (made (staged.List stages.Start) (s.arguments_context (s.deeper_context k))
     (frames.Test k (the_head ws before kind at) (the_part ws (hd ws k before kind at choices tests patterns) start) (record { token = length parts.tokens; start = start }) (unpatterned patterns) ∷ fs)
     (opened kinds.Test (w.called_label negated word) start parts) [] 0 0) (o.WaitsTest (hd ws k before kind at choices tests patterns) start negated word ∷ ws)
@@ -48,10 +48,10 @@ opens_on k {fs} {ws} before kind at choices tests patterns word start negated pa
     (opened kinds.Test (w.called_label negated word) start z) [] 0 0) (o.WaitsTest hh start negated word ∷ ws)
     (o.list_in (c.in_arguments (c.in_braces (shown k))))) (sym e)
     (subst (λ (z : Parts). Shows (made (staged.List stages.Start) (s.arguments_context (s.deeper_context k))
-    (frames.Test k (the_head ws before kind at) (the_part ws hh start) (record { token = length (all (choice_level hh start ∷ brace_level ws hh ∷ levels_of ws) (test_nodes tests)).tokens; start = start }) (unpatterned patterns) ∷ fs)
+    (frames.Test k (the_head ws before kind at) (the_part ws hh start) (record { token = length (all (head_star ws hh) (choice_level hh start ∷ brace_level ws hh ∷ levels_of ws) (test_nodes tests)).tokens; start = start }) (unpatterned patterns) ∷ fs)
     z [] 0 0) (o.WaitsTest hh start negated word ∷ ws)
     (o.list_in (c.in_arguments (c.in_braces (shown k)))))
-    (sym (all_open (choice_level hh start ∷ brace_level ws hh ∷ levels_of ws) (test_nodes tests) kinds.Test (w.called_label negated word) start))
+    (sym (all_open (head_star ws hh) (choice_level hh start ∷ brace_level ws hh ∷ levels_of ws) (test_nodes tests) kinds.Test (w.called_label negated word) start))
     (shows_list stages.Start (s.arguments_context (s.deeper_context k)) tree.none [] (waits_test k before kind at choices tests patterns start negated word h)))
   where
     hh : o.Head
@@ -67,7 +67,7 @@ opens_leads stage k {fs} {ws} before kind at choices tests patterns word kept tr
     _,
     (
       opens_on k before kind at tree.no_choice tree.no_test [] word start negated _
-          (all_open (brace_level ws (hd ws k before kind at tree.no_choice tree.no_test []) ∷ levels_of ws) (held (hd ws k before kind at tree.no_choice tree.no_test [])) kinds.Alternative no_label start) h,
+          (all_open (head_star ws (hd ws k before kind at tree.no_choice tree.no_test [])) (brace_level ws (hd ws k before kind at tree.no_choice tree.no_test []) ∷ levels_of ws) (held (hd ws k before kind at tree.no_choice tree.no_test [])) kinds.Alternative no_label start) h,
       λ again. refl,
     ),
   ),
@@ -78,7 +78,7 @@ opens_leads stage k {fs} {ws} before kind at choices tests patterns word kept tr
     _,
     (
       opens_on k before kind at tree.no_choice tree.no_test (q ∷ qs) word start negated _
-          (all_open (brace_level ws (hd ws k before kind at tree.no_choice tree.no_test (q ∷ qs)) ∷ levels_of ws) (held (hd ws k before kind at tree.no_choice tree.no_test (q ∷ qs))) kinds.Alternative no_label start) h,
+          (all_open (head_star ws (hd ws k before kind at tree.no_choice tree.no_test (q ∷ qs))) (brace_level ws (hd ws k before kind at tree.no_choice tree.no_test (q ∷ qs)) ∷ levels_of ws) (held (hd ws k before kind at tree.no_choice tree.no_test (q ∷ qs))) kinds.Alternative no_label start) h,
       λ again. refl,
     ),
   ),
@@ -89,7 +89,7 @@ opens_leads stage k {fs} {ws} before kind at choices tests patterns word kept tr
     _,
     (
       opens_on k before kind at (tree.choice q ts xs cs) tree.no_test [] word start negated _
-          (all_open (brace_level ws (hd ws k before kind at (tree.choice q ts xs cs) tree.no_test []) ∷ levels_of ws) (held (hd ws k before kind at (tree.choice q ts xs cs) tree.no_test [])) kinds.Alternative no_label start) h,
+          (all_open (head_star ws (hd ws k before kind at (tree.choice q ts xs cs) tree.no_test [])) (brace_level ws (hd ws k before kind at (tree.choice q ts xs cs) tree.no_test []) ∷ levels_of ws) (held (hd ws k before kind at (tree.choice q ts xs cs) tree.no_test [])) kinds.Alternative no_label start) h,
       λ again. refl,
     ),
   ),
@@ -155,9 +155,9 @@ choice_action_leads later choosing.Defaults k {fs} {ws} before kind at choices w
   (
     _,
     (
-      subst (λ (z : Parts). Shows (made (staged.List stages.Start) (s.x_context k owners.Mixed) (frames.X k (the_head ws before kind at) n (the_part ws hh n) false ∷ fs) z [] (n + 1) 0)
+      subst (λ (z : Parts). Shows (made (staged.List stages.Start) (s.x_context k owners.Mixed) (frames.X k (the_head ws before kind at) n (the_part ws hh n) false (head_star ws hh) ∷ fs) z [] (n + 1) 0)
           (o.WaitsX hh n ∷ ws) (o.list_in (c.in_x (c.in_braces (shown k)) tree.no_test)))
-          (sym (all_open (brace_level ws hh ∷ levels_of ws) (held hh) kinds.Alternative no_label n))
+          (sym (ap {A = Parts} {B = Parts} (λ z. record { tokens = z.tokens; labels = z.labels; holds = false }) (all_open (head_star ws hh) (brace_level ws hh ∷ levels_of ws) (held hh) kinds.Alternative no_label n)))
           (shows_list stages.Start (s.x_context k owners.Mixed) tree.none [] (waits_x k before kind at choices tree.no_test n h)),
       λ again. refl,
     ),

@@ -27,12 +27,14 @@ use Rattle.drv_syntax.specs.declared.reader.stages.Stage.TheVariants as staged
 use Rattle.drv_syntax.specs.declared.reader.stages.Stage.{Stage}
 use Rattle.drv_syntax.specs.declared.token.TokenKind.TheVariants as kinds
 use Rattle.drv_syntax.specs.declared.token.TokenKind.{TokenKind}
-use Rattle.drv_syntax.proofs.WalkNodes.{Parts, all, all_close, all_leaf, all_open, ended, opened, shortened, both_assoc, both_none, choices_join, items_join, last_join, tests_join, trailing, trailing_plain, trailing_white, trim_all, trimmed_plain, trimmed_white, white}
+use Rattle.drv_syntax.proofs.WalkNodes.{Parts, all, all_close, all_leaf, all_open, all_star, ended, starred, opened, shortened, both_assoc, both_none, choices_join, items_join, last_join, tests_join, trailing, trailing_plain, trailing_white, trim_all, trimmed_plain, trimmed_white, white}
 use Rattle.drv_syntax.proofs.WalkMeaning.{Fits, fits_fresh, fits_later, here, leaf_inner, leaf_kind_is, leaf_label_is, leaf_white, list_place, meant, meant_first, meant_turn, part_item, shown, shown_brace, with_item}
 use Rattle.drv_syntax.proofs.WalkListRows.{list_row}
+use Rattle.drv_syntax.proofs.WalkStars.{choice_star, choose_star, emit_star, item_star, label_star, leaf_star, test_star}
+use Rattle.drv_syntax.specs.Stars.{has_star, item_has_star, choices_have_star}
 use Rattle.std.proofs.Common.{◌≡◌, ℕ, ◌+◌, Bool, true, false, List, [], ◌∷◌, ◌++◌, length, refl, sym, ap, subst, ◌∙◌, if◌then◌else◌}
-use Rattle.std.specs.Prelude.{◌==◌, ◌&&◌, Option, None, Some, Ok, Err}
-use Rattle.drv_syntax.proofs.WalkShows.{opened_kind, held, prefix_of, begin_of, brace_level, choice_level, levels_of, list_parts, brace_parts, the_head, the_part, hd, tested, unpatterned, Waits, waits_none, waits_x, waits_call, waits_test, made, list_walk, Shows, shows_list, shows_choice, shows_result, Leads}
+use Rattle.std.specs.Prelude.{◌==◌, ◌&&◌, ◌||◌, Option, None, Some, Ok, Err}
+use Rattle.drv_syntax.proofs.WalkShows.{opened_kind, held, prefix_of, begin_of, brace_level, choice_level, levels_of, head_star, list_star, list_parts, brace_parts, the_head, the_part, hd, tested, unpatterned, Waits, waits_none, waits_x, waits_call, waits_test, made, list_walk, Shows, shows_list, shows_choice, shows_result, Leads}
 
 -- Bytes in a list of items.
 
@@ -40,15 +42,17 @@ use Rattle.drv_syntax.proofs.WalkShows.{opened_kind, held, prefix_of, begin_of, 
 abbrev pub placed_walk : Context → List Frame → Parts → ℕ → Walk
 placed_walk k fs parts end = made (staged.List stages.Start) k fs parts [] end 0
 
-pub item_parts_are : (ws : List o.Waiting) (before : Items) (start end : ℕ) (item : Item) (kind : TokenKind) (label : Label) (inner : Nodes) → kind_of item ≡ kind → label_of item ≡ label → inner_nodes item ≡ inner
-    → all (levels_of ws) (both (both (prefix_of ws) (nodes_of before)) (node kind label (span start end) inner no_node)) ≡ list_parts ws (with_item before start end item)
-item_parts_are ws before start end item kind label inner e d f =
-    ap (λ n. all (levels_of ws) n)
+pub item_parts_are : (ws : List o.Waiting) (before : Items) (start end : ℕ) (item : Item) (kind : TokenKind) (label : Label) (inner : Nodes) (own : Bool) → kind_of item ≡ kind → label_of item ≡ label
+    → inner_nodes item ≡ inner → own ≡ (item_has_star item || list_star ws before)
+    → all own (levels_of ws) (both (both (prefix_of ws) (nodes_of before)) (node kind label (span start end) inner no_node)) ≡ list_parts ws (with_item before start end item)
+item_parts_are ws before start end item kind label inner own e d f g =
+    ap (λ n. all own (levels_of ws) n)
     (both_assoc (prefix_of ws) (nodes_of before) (node kind label (span start end) inner no_node)
     ∙ ap (λ n. both (prefix_of ws) n)
     (ap (λ n. both (nodes_of before) n)
     (ap (λ z. node z label (span start end) inner no_node) (sym e) ∙ ap (λ z. node (kind_of item) z (span start end) inner no_node) (sym d) ∙ ap (λ z. node (kind_of item) (label_of item) (span start end) z no_node) (sym f))
     ∙ sym (items_join before (tree.more (span start end) item tree.none))))
+    ∙ ap (λ z. all z (levels_of ws) (both (prefix_of ws) (nodes_of (with_item before start end item)))) (g ∙ sym (item_star ws before start end item))
 
 pub plain_walk : (k : Context) (fs : List Frame) (ws : List o.Waiting) (before : Items) (start end : ℕ) (item : Item) → white item ≡ false
     → placed_walk k fs (list_parts ws (with_item before start end item)) end ≡ list_walk stages.Start k fs ws (with_item before start end item) []
@@ -60,12 +64,12 @@ plain_walk k fs ws before start end item e =
     parts = list_parts ws (with_item before start end item)
 
 -- behind an item that isn't white space
-pub shows_item : (k : Context) {fs : List Frame} {ws : List o.Waiting} (before : Items) (start end : ℕ) (item : Item) (kind : TokenKind) (label : Label) (inner : Nodes) → Waits fs ws
-    → kind_of item ≡ kind → label_of item ≡ label → inner_nodes item ≡ inner → white item ≡ false
-    → Shows (placed_walk k fs (all (levels_of ws) (both (both (prefix_of ws) (nodes_of before)) (node kind label (span start end) inner no_node))) end) ws (o.AtItem (o.placed (here k before) start end item))
-shows_item k {fs} {ws} before start end item kind label inner h e d f g =
+pub shows_item : (k : Context) {fs : List Frame} {ws : List o.Waiting} (before : Items) (start end : ℕ) (item : Item) (kind : TokenKind) (label : Label) (inner : Nodes) (own : Bool) → Waits fs ws
+    → kind_of item ≡ kind → label_of item ≡ label → inner_nodes item ≡ inner → own ≡ (item_has_star item || list_star ws before) → white item ≡ false
+    → Shows (placed_walk k fs (all own (levels_of ws) (both (both (prefix_of ws) (nodes_of before)) (node kind label (span start end) inner no_node))) end) ws (o.AtItem (o.placed (here k before) start end item))
+shows_item k {fs} {ws} before start end item kind label inner own h e d f i g =
     subst (λ (v : Walk). Shows v ws (o.AtItem (o.placed (here k before) start end item)))
-    (sym (ap (λ z. placed_walk k fs z end) (item_parts_are ws before start end item kind label inner e d f) ∙ plain_walk k fs ws before start end item g))
+    (sym (ap (λ z. placed_walk k fs z end) (item_parts_are ws before start end item kind label inner own e d f i) ∙ plain_walk k fs ws before start end item g))
     (shows_list stages.Start k (with_item before start end item) [] h)
 
 pub white_braced : (kind : BraceKind) (brace : Brace) → white (bytes.braced (shown_brace kind) brace) ≡ false
@@ -117,13 +121,16 @@ pub part_walk : (stage : ListStage) (k : Context) (fs : List Frame) (ws : List o
     → s.with_part p (list_walk stage k fs ws before word) ≡ list_walk stages.Start k fs ws (with_item before p.start p.end (part_item p word)) []
 part_walk stage k fs ws before word p =
     ap (λ z. made (staged.List stages.Start) k fs z [] kept trail)
-    (all_leaf (levels_of ws) (both (prefix_of ws) (nodes_of before)) (w.leaf_kind p.leaf) label p.start p.end
-    ∙ item_parts_are ws before p.start p.end item (w.leaf_kind p.leaf) label no_node (leaf_kind_is p.leaf v) (leaf_label_is p.leaf v) (leaf_inner p.leaf v))
+    (all_leaf own (levels_of ws) (both (prefix_of ws) (nodes_of before)) (w.leaf_kind p.leaf) label p.start p.end
+    ∙ item_parts_are ws before p.start p.end item (w.leaf_kind p.leaf) label no_node own (leaf_kind_is p.leaf v) (leaf_label_is p.leaf v) (leaf_inner p.leaf v) (ap (λ z. z || list_star ws before) (sym (leaf_star p.leaf v))))
     ∙ ap (λ z. made (staged.List stages.Start) k fs parts [] z trail) (part_kept before p.start p.end item (begin_of ws) (s.is_white p.leaf) (leaf_white p.leaf v))
     ∙ ap (λ z. made (staged.List stages.Start) k fs parts [] (last_place (trimmed (with_item before p.start p.end item)) (begin_of ws)) z) (part_trail before p.start p.end item (s.is_white p.leaf) (leaf_white p.leaf v))
   where
     v : List ℕ
     v = w.taken_word p.taken word
+
+    own : Bool
+    own = s.is_star p.leaf || list_star ws before
 
     label : Label
     label = w.leaf_label p.leaf (w.taken_word p.taken word)
@@ -161,15 +168,26 @@ result_unstarred r false name items = refl
 pub shows_test : (k : Context) {fs : List Frame} {ws : List o.Waiting} (before : Items) (kind : BraceKind) (at : ℕ) (choices : Choices) (tests : Tests) (patterns : List (Span × Pattern))
     (start end : ℕ) (negated : Bool) (name : List ℕ) (items : Items) → Waits fs ws
     → Shows (made (staged.Result (the_head ws before kind at) (the_part ws (hd ws k before kind at choices tests patterns) start) (unpatterned patterns)) k fs
-    (all (choice_level (hd ws k before kind at choices tests patterns) start ∷ brace_level ws (hd ws k before kind at choices tests patterns) ∷ levels_of ws)
+    (all (has_star items || head_star ws (hd ws k before kind at choices tests patterns)) (choice_level (hd ws k before kind at choices tests patterns) start ∷ brace_level ws (hd ws k before kind at choices tests patterns) ∷ levels_of ws)
     (both (test_nodes tests) (node kinds.Test (w.called_label negated name) (span start end) (nodes_of items) no_node))) [] 0 0) ws
     (o.BehindTest (hd ws k before kind at choices tests patterns) None (o.tested_by patterns (join_tests tests (tree.test (span start end) negated (tree.HasResult name items) tree.no_test))) false)
-shows_test k before kind at choices tree.no_test patterns start end negated name items h =
-    shows_result k before kind at choices tree.no_test patterns (span start end) negated (tree.HasResult name items) tree.no_test [] 0 0 (result_unstarred (span start end) negated name items) h
+shows_test k {fs} {ws} before kind at choices tree.no_test patterns start end negated name items h =
+    subst (λ (z : Bool). Shows (made (staged.Result (the_head ws before kind at) (the_part ws hh 0) (unpatterned patterns)) k fs (all z (choice_level hh 0 ∷ brace_level ws hh ∷ levels_of ws) (test_nodes t)) [] 0 0) ws
+    (o.BehindTest (hd ws k before kind at choices tree.no_test patterns) None (o.tested_by patterns t) false))
+    (test_star tree.no_test (span start end) negated (tree.HasResult name items) (choices_have_star choices || list_star ws before))
+    (shows_result k before kind at choices tree.no_test patterns (span start end) negated (tree.HasResult name items) tree.no_test [] 0 0 (result_unstarred (span start end) negated name items) h)
+  where
+    t : Tests
+    t = tree.test (span start end) negated (tree.HasResult name items) tree.no_test
+
+    hh : o.Head
+    hh = hd ws k before kind at choices (tree.test (span start end) negated (tree.HasResult name items) tree.no_test) patterns
 shows_test k {fs} {ws} before kind at choices (tree.test r signed asked ts) patterns start end negated name items h =
-    subst (λ (z : Nodes). Shows (made (staged.Result (the_head ws before kind at) (the_part ws hh 0) (unpatterned patterns)) k fs (all (choice_level hh 0 ∷ brace_level ws hh ∷ levels_of ws) z) [] 0 0) ws
+    subst (λ (z : Parts). Shows (made (staged.Result (the_head ws before kind at) (the_part ws hh 0) (unpatterned patterns)) k fs z [] 0 0) ws
     (o.BehindTest (hd ws k before kind at choices (tree.test r signed asked ts) patterns) None (o.tested_by patterns t) false))
-    (tests_join (tree.test r signed asked ts) (tree.test (span start end) negated (tree.HasResult name items) tree.no_test))
+    (ap (λ z. all (head_star ws hh) (choice_level hh 0 ∷ brace_level ws hh ∷ levels_of ws) z) (tests_join (tree.test r signed asked ts) (tree.test (span start end) negated (tree.HasResult name items) tree.no_test))
+    ∙ ap (λ z. all z (choice_level hh 0 ∷ brace_level ws hh ∷ levels_of ws) (both (test_nodes (tree.test r signed asked ts)) (test_nodes (tree.test (span start end) negated (tree.HasResult name items) tree.no_test))))
+    (test_star (tree.test r signed asked ts) (span start end) negated (tree.HasResult name items) (choices_have_star choices || list_star ws before)))
     (shows_result k before kind at choices (tree.test r signed asked ts) patterns r signed asked (join_tests ts (tree.test (span start end) negated (tree.HasResult name items) tree.no_test)) [] 0 0
     (starred_join (tree.test r signed asked ts) (tree.test (span start end) negated (tree.HasResult name items) tree.no_test)
     ∙ and_false (c.all_starred (tree.test r signed asked ts)) _ (result_unstarred (span start end) negated name items)) h)
@@ -185,15 +203,17 @@ fits_joined tree.no_choice r tests items = fits_later
 fits_joined (tree.choice q ts xs choices) r tests items = fits_later
 
 -- the end of an X: its alternative, and then the braces or a new alternative
-pub x_parts : (ws : List o.Waiting) (k : Context) (before : Items) (kind : BraceKind) (at : ℕ) (choices : Choices) (tests : Tests) (colon : ℕ) (items : Items)
-    → ended (length (brace_parts ws (hd ws k before kind at choices tests [])).tokens) kinds.Alternative (first_place tests colon) (last_place (trimmed items) (colon + 1))
-    (shortened (trailing items) (list_parts (o.WaitsX (hd ws k before kind at choices tests []) colon ∷ ws) items))
-    ≡ all (brace_level ws (hd ws k before kind at choices tests []) ∷ levels_of ws) (choice_nodes (o.with_choice (hd ws k before kind at choices tests []) colon items))
-x_parts ws k before kind at choices tests colon items =
-    ap (λ z. ended (length (brace_parts ws h).tokens) kinds.Alternative (first_place tests colon) (last_place (trimmed items) (colon + 1)) z)
-    (trim_all (choice_level h colon ∷ brace_level ws h ∷ levels_of ws) (test_nodes tests) items)
-    ∙ all_close (brace_level ws h ∷ levels_of ws) (held h) (both (test_nodes tests) (nodes_of (trimmed items))) kinds.Alternative kinds.Alternative no_label (first_place tests colon) (last_place (trimmed items) (colon + 1))
-    ∙ ap (λ z. all (brace_level ws h ∷ levels_of ws) z) (ap (λ z. both z last) (both_none (choice_nodes choices)) ∙ sym (choices_join choices (tree.alternative colon tests items tree.no_choice)))
+pub x_parts : (ws : List o.Waiting) (k : Context) (before : Items) (kind : BraceKind) (at : ℕ) (choices : Choices) (tests : Tests) (colon : ℕ) (items : Items) (around : Bool)
+    → starred (length (brace_parts ws (hd ws k before kind at choices tests [])).tokens) around
+    (ended (length (brace_parts ws (hd ws k before kind at choices tests [])).tokens) kinds.Alternative (first_place tests colon) (last_place (trimmed items) (colon + 1))
+    (shortened (trailing items) (list_parts (o.WaitsX (hd ws k before kind at choices tests []) colon ∷ ws) items)))
+    ≡ all around (brace_level ws (hd ws k before kind at choices tests []) ∷ levels_of ws) (choice_nodes (o.with_choice (hd ws k before kind at choices tests []) colon items))
+x_parts ws k before kind at choices tests colon items around =
+    ap (λ z. starred (length (brace_parts ws h).tokens) around (ended (length (brace_parts ws h).tokens) kinds.Alternative (first_place tests colon) (last_place (trimmed items) (colon + 1)) z))
+    (trim_all (has_star items || false) (choice_level h colon ∷ brace_level ws h ∷ levels_of ws) (test_nodes tests) items)
+    ∙ all_star (has_star items || false) around (brace_level ws h ∷ levels_of ws) (held h) (both (test_nodes tests) (nodes_of (trimmed items))) kinds.Alternative kinds.Alternative no_label (first_place tests colon) (last_place (trimmed items) (colon + 1))
+    ∙ ap (λ l. all around (brace_level ws h ∷ levels_of ws) (both (held h) (node kinds.Alternative l (span (first_place tests colon) (last_place (trimmed items) (colon + 1))) (both (test_nodes tests) (nodes_of (trimmed items))) no_node))) (label_star items)
+    ∙ ap (λ z. all around (brace_level ws h ∷ levels_of ws) z) (ap (λ z. both z last) (both_none (choice_nodes choices)) ∙ sym (choices_join choices (tree.alternative colon tests items tree.no_choice)))
   where
     h : o.Head
     h = hd ws k before kind at choices tests []
@@ -201,42 +221,45 @@ x_parts ws k before kind at choices tests colon items =
     last : Nodes
     last = choice_nodes (tree.alternative colon tests items tree.no_choice)
 
-pub shows_braces : (k : Context) {fs : List Frame} {ws : List o.Waiting} (before : Items) (kind : BraceKind) (at end : ℕ) (choices : Choices) → Waits fs ws
+pub shows_braces : (k : Context) {fs : List Frame} {ws : List o.Waiting} (before : Items) (kind : BraceKind) (at end : ℕ) (choices : Choices) (own : Bool) → own ≡ (choices_have_star choices || list_star ws before) → Waits fs ws
     → Shows (placed_walk k fs
-    (ended (length (list_parts ws before).tokens) (s.brace_token kind false) at end (all (brace_level ws (hd ws k before kind at tree.no_choice tree.no_test []) ∷ levels_of ws) (choice_nodes choices))) end) ws
+    (ended (length (list_parts ws before).tokens) (s.brace_token kind false) at end (all own (brace_level ws (hd ws k before kind at tree.no_choice tree.no_test []) ∷ levels_of ws) (choice_nodes choices))) end) ws
     (o.AtItem (o.placed (here k before) at end (bytes.braced (shown_brace kind) (tree.Choose choices))))
-shows_braces k {fs} {ws} before kind at end choices h =
+shows_braces k {fs} {ws} before kind at end choices own e h =
     subst (λ (z : Parts). Shows (placed_walk k fs z end) ws (o.AtItem (o.placed (here k before) at end (bytes.braced (shown_brace kind) (tree.Choose choices)))))
-    (sym (all_close (levels_of ws) (both (prefix_of ws) (nodes_of before)) (choice_nodes choices) (opened_kind (shown_brace kind)) (s.brace_token kind false) no_label at end))
-    (shows_item k before at end (bytes.braced (shown_brace kind) (tree.Choose choices)) (s.brace_token kind false) no_label (choice_nodes choices) h (kind_choose kind choices) (label_braced kind (tree.Choose choices)) (inner_choose kind choices) (white_braced kind (tree.Choose choices)))
+    (sym (all_close own (levels_of ws) (both (prefix_of ws) (nodes_of before)) (choice_nodes choices) (opened_kind (shown_brace kind)) (s.brace_token kind false) no_label at end))
+    (shows_item k before at end (bytes.braced (shown_brace kind) (tree.Choose choices)) (s.brace_token kind false) no_label (choice_nodes choices) own h (kind_choose kind choices) (label_braced kind (tree.Choose choices)) (inner_choose kind choices) (e ∙ ap (λ z. z || list_star ws before) (sym (choose_star kind choices))) (white_braced kind (tree.Choose choices)))
 
 pub shows_emit : (k : Context) {fs : List Frame} {ws : List o.Waiting} (before : Items) (kind : BraceKind) (at end : ℕ) (patterns : List (Span × Pattern)) → Waits fs ws
     → Shows (placed_walk k fs
-    (ended (length (list_parts ws before).tokens) (s.brace_token kind true) at end (all (brace_level ws (hd ws k before kind at tree.no_choice tree.no_test []) ∷ levels_of ws) (pattern_nodes patterns))) end) ws
+    (ended (length (list_parts ws before).tokens) (s.brace_token kind true) at end (all (list_star ws before) (brace_level ws (hd ws k before kind at tree.no_choice tree.no_test []) ∷ levels_of ws) (pattern_nodes patterns))) end) ws
     (o.AtItem (o.placed (here k before) at end (bytes.braced (shown_brace kind) (tree.Emit patterns))))
 shows_emit k {fs} {ws} before kind at end patterns h =
     subst (λ (z : Parts). Shows (placed_walk k fs z end) ws (o.AtItem (o.placed (here k before) at end (bytes.braced (shown_brace kind) (tree.Emit patterns)))))
-    (sym (all_close (levels_of ws) (both (prefix_of ws) (nodes_of before)) (pattern_nodes patterns) (opened_kind (shown_brace kind)) (s.brace_token kind true) no_label at end))
-    (shows_item k before at end (bytes.braced (shown_brace kind) (tree.Emit patterns)) (s.brace_token kind true) no_label (pattern_nodes patterns) h (kind_emit kind patterns) (label_braced kind (tree.Emit patterns)) (inner_emit kind patterns) (white_braced kind (tree.Emit patterns)))
+    (sym (all_close (list_star ws before) (levels_of ws) (both (prefix_of ws) (nodes_of before)) (pattern_nodes patterns) (opened_kind (shown_brace kind)) (s.brace_token kind true) no_label at end))
+    (shows_item k before at end (bytes.braced (shown_brace kind) (tree.Emit patterns)) (s.brace_token kind true) no_label (pattern_nodes patterns) (list_star ws before) h (kind_emit kind patterns) (label_braced kind (tree.Emit patterns)) (inner_emit kind patterns) (ap (λ z. z || list_star ws before) (sym (emit_star kind patterns))) (white_braced kind (tree.Emit patterns)))
 
 pub shows_next : (k : Context) {fs : List Frame} {ws : List o.Waiting} (before : Items) (kind : BraceKind) (at : ℕ) (choices : Choices) (tests : Tests) (colon : ℕ) (items : Items) → Waits fs ws
-    → Shows (made (staged.Choice (the_head ws before kind at) true) k fs (all (brace_level ws (hd ws k before kind at choices tests []) ∷ levels_of ws) (choice_nodes (o.with_choice (hd ws k before kind at choices tests []) colon items))) [] 0 0) ws
+    → Shows (made (staged.Choice (the_head ws before kind at) true) k fs (all (head_star ws (hd ws k before kind at choices tests [])) (brace_level ws (hd ws k before kind at choices tests []) ∷ levels_of ws) (choice_nodes (o.with_choice (hd ws k before kind at choices tests []) colon items))) [] 0 0) ws
     (o.ChoiceStart (o.next_head (hd ws k before kind at choices tests []) colon items))
 shows_next k {fs} {ws} before kind at choices tests colon items h =
-    subst (λ (z : Nodes). Shows (made (staged.Choice (the_head ws before kind at) true) k fs (all (brace_level ws (hd ws k before kind at choices tests []) ∷ levels_of ws) z) [] 0 0) ws
+    subst (λ (z : Parts). Shows (made (staged.Choice (the_head ws before kind at) true) k fs z [] 0 0) ws
     (o.ChoiceStart (o.next_head (hd ws k before kind at choices tests []) colon items)))
+    (ap (λ z. all (choices_have_star (o.with_choice (hd ws k before kind at choices tests []) colon items) || list_star ws before) (brace_level ws (hd ws k before kind at choices tests []) ∷ levels_of ws) z)
     (both_none (choice_nodes (o.with_choice (hd ws k before kind at choices tests []) colon items)))
+    ∙ ap (λ z. all z (brace_level ws (hd ws k before kind at choices tests []) ∷ levels_of ws) (choice_nodes (o.with_choice (hd ws k before kind at choices tests []) colon items)))
+    (choice_star choices tests colon items (list_star ws before)))
     (shows_choice true k before kind at (o.with_choice (hd ws k before kind at choices tests []) colon items) [] 0 0 (fits_joined choices _ tests (trimmed items)) h)
 
 pub x_leads : (k : Context) {fs : List Frame} {ws : List o.Waiting} (before : Items) (kind : BraceKind) (at : ℕ) (choices : Choices) (tests : Tests) (colon : ℕ) (items : Items) (n b : ℕ) (word : List ℕ) (k' : Context) (stage : Stage) → Waits fs ws
     → Leads (s.close_x k (the_head ws before kind at) (tested tests) n b
-    (made stage k' fs (all (brace_level ws (hd ws k before kind at choices tests []) ∷ levels_of ws) (choice_nodes (o.with_choice (hd ws k before kind at choices tests []) colon items))) word (last_place (trimmed items) (colon + 1)) (trailing items)))
+    (made stage k' fs (all (head_star ws (hd ws k before kind at choices tests [])) (brace_level ws (hd ws k before kind at choices tests []) ∷ levels_of ws) (choice_nodes (o.with_choice (hd ws k before kind at choices tests []) colon items))) word (last_place (trimmed items) (colon + 1)) (trailing items)))
     (λ again. resumed (o.resume_x (hd ws k before kind at choices tests []) colon tests items n b) (again ws) n)
 x_leads k {fs} {ws} before kind at choices tree.no_test colon items n b word k' stage h = by (b == 125)
   where
-    by : (t : Bool) → Leads (if t then Ok (s.close_braces (the_head ws before kind at) false (n + 1) k (made stage k' fs (all (brace_level ws (hd ws k before kind at choices tree.no_test []) ∷ levels_of ws) (choice_nodes (o.with_choice (hd ws k before kind at choices tree.no_test []) colon items))) word (last_place (trimmed items) (colon + 1)) (trailing items))) else Err (EmptyTest at))
+    by : (t : Bool) → Leads (if t then Ok (s.close_braces (the_head ws before kind at) false (n + 1) k (made stage k' fs (all (head_star ws (hd ws k before kind at choices tree.no_test [])) (brace_level ws (hd ws k before kind at choices tree.no_test []) ∷ levels_of ws) (choice_nodes (o.with_choice (hd ws k before kind at choices tree.no_test []) colon items))) word (last_place (trimmed items) (colon + 1)) (trailing items))) else Err (EmptyTest at))
         (λ again. resumed (if t then o.On (o.AtItem (o.chosen_item (hd ws k before kind at choices tree.no_test []) (n + 1) (o.with_choice (hd ws k before kind at choices tree.no_test []) colon items))) else o.Not (EmptyTest at)) (again ws) n)
-    by true = (ws, (_, (shows_braces k before kind at (n + 1) (o.with_choice (hd ws k before kind at choices tree.no_test []) colon items) h, λ again. refl)))
+    by true = (ws, (_, (shows_braces k before kind at (n + 1) (o.with_choice (hd ws k before kind at choices tree.no_test []) colon items) _ (sym (choice_star choices tree.no_test colon items (list_star ws before))) h, λ again. refl)))
     by false = λ again. refl
 x_leads k {fs} {ws} before kind at choices (tree.test r signed asked ts) colon items n b word k' stage h = by (b == 125)
   where
@@ -244,11 +267,21 @@ x_leads k {fs} {ws} before kind at choices (tree.test r signed asked ts) colon i
     hh = hd ws k before kind at choices (tree.test r signed asked ts) []
 
     v : Walk
-    v = made stage k' fs (all (brace_level ws (hd ws k before kind at choices (tree.test r signed asked ts) []) ∷ levels_of ws) (choice_nodes (o.with_choice (hd ws k before kind at choices (tree.test r signed asked ts) []) colon items))) word (last_place (trimmed items) (colon + 1)) (trailing items)
+    v = made stage k' fs (all (head_star ws (hd ws k before kind at choices (tree.test r signed asked ts) [])) (brace_level ws (hd ws k before kind at choices (tree.test r signed asked ts) []) ∷ levels_of ws) (choice_nodes (o.with_choice (hd ws k before kind at choices (tree.test r signed asked ts) []) colon items))) word (last_place (trimmed items) (colon + 1)) (trailing items)
 
     by : (t : Bool) → Leads (if t then Ok (s.close_braces (the_head ws before kind at) false (n + 1) k v) else Ok (s.at_stage (staged.Choice (the_head ws before kind at) true) (s.behind_item k 0 v)))
         (λ again. resumed (o.On (if t then o.AtItem (o.chosen_item hh (n + 1) (o.with_choice hh colon items)) else o.ChoiceStart (o.next_head hh colon items))) (again ws) n)
-    by true = (ws, (_, (shows_braces k before kind at (n + 1) (o.with_choice (hd ws k before kind at choices (tree.test r signed asked ts) []) colon items) h, λ again. refl)))
+    by true = (
+      ws,
+      (
+        _,
+        (
+          shows_braces k before kind at (n + 1) (o.with_choice (hd ws k before kind at choices (tree.test r signed asked ts) []) colon items) _
+              (sym (choice_star choices (tree.test r signed asked ts) colon items (list_star ws before))) h,
+          λ again. refl,
+        ),
+      ),
+    )
     by false = (ws, (_, (shows_next k before kind at choices (tree.test r signed asked ts) colon items h, λ again. refl)))
 
 pub close_leads : (stage : ListStage) (k : Context) {fs : List Frame} {ws : List o.Waiting} (items : Items) (word : List ℕ) (n b : ℕ) → Waits fs ws
@@ -260,8 +293,8 @@ close_leads stage k' items word n b (waits_call {fs = fs} {ws = ws} k before at 
     _,
     (
       subst (λ (z : Parts). Shows (placed_walk k fs z (n + 1)) ws (o.AtItem (o.placed (here k before) at (n + 1) (tree.Function name items))))
-          (sym (all_close (levels_of ws) (both (prefix_of ws) (nodes_of before)) (nodes_of items) kinds.Function kinds.Function (word_label name) at (n + 1)))
-          (shows_item k before at (n + 1) (tree.Function name items) kinds.Function (word_label name) (nodes_of items) h refl refl refl refl),
+          (sym (all_close (has_star items || list_star ws before) (levels_of ws) (both (prefix_of ws) (nodes_of before)) (nodes_of items) kinds.Function kinds.Function (word_label name) at (n + 1)))
+          (shows_item k before at (n + 1) (tree.Function name items) kinds.Function (word_label name) (nodes_of items) (has_star items || list_star ws before) h refl refl refl refl refl),
       λ again. refl,
     ),
   ),
@@ -273,7 +306,7 @@ close_leads stage k' items word n b (waits_test {fs = fs} {ws = ws} k before kin
     (
       subst (λ (z : Parts). Shows (made (staged.Result (the_head ws before kind at) (the_part ws hh start) (unpatterned patterns)) k fs z [] 0 0) ws
           (o.BehindTest hh None (o.tested_by patterns (join_tests tests (tree.test (span start (n + 1)) negated (tree.HasResult name items) tree.no_test))) false))
-          (sym (all_close (choice_level hh start ∷ brace_level ws hh ∷ levels_of ws) (test_nodes tests) (nodes_of items) kinds.Test kinds.Test (w.called_label negated name) start (n + 1)))
+          (sym (all_close (has_star items || head_star ws hh) (choice_level hh start ∷ brace_level ws hh ∷ levels_of ws) (test_nodes tests) (nodes_of items) kinds.Test kinds.Test (w.called_label negated name) start (n + 1)))
           (shows_test k before kind at choices tests patterns start (n + 1) negated name items h),
       λ again. refl,
     ),
@@ -285,7 +318,7 @@ close_leads stage k' items word n b (waits_test {fs = fs} {ws = ws} k before kin
 close_leads stage k' items word n b (waits_x {fs = fs} {ws = ws} k before kind at choices tests colon h) =
     subst (λ (z : Parts). Leads (s.close_x k (the_head ws before kind at) (tested tests) n b (made (staged.List stage) k' fs z word (last_place (trimmed items) (colon + 1)) (trailing items)))
     (λ again. resumed (o.resume_x (hd ws k before kind at choices tests []) colon tests items n b) (again ws) n))
-    (sym (x_parts ws k before kind at choices tests colon items))
+    (sym (x_parts ws k before kind at choices tests colon items (head_star ws (hd ws k before kind at choices tests []))))
     (x_leads k before kind at choices tests colon items n b word k' (staged.List stage) h)
 
 -- a byte in a list of items
@@ -314,7 +347,7 @@ action_leads (acts.OpensBraces start kind) stage k {fs} {ws} before word n b h =
     (
       subst (λ (z : Parts). Shows (made (staged.Choice (the_head ws before kind start) false) k fs z [] (last_place (trimmed before) (begin_of ws)) (trailing before)) ws
           (o.ChoiceStart (hd ws k before kind start tree.no_choice tree.no_test [])))
-          (sym (ap (λ z. opened z no_label start (list_parts ws before)) (brace_opened kind) ∙ all_open (levels_of ws) (both (prefix_of ws) (nodes_of before)) (opened_kind (shown_brace kind)) no_label start))
+          (sym (ap (λ z. opened z no_label start (list_parts ws before)) (brace_opened kind) ∙ all_open (list_star ws before) (levels_of ws) (both (prefix_of ws) (nodes_of before)) (opened_kind (shown_brace kind)) no_label start))
           (shows_choice false k before kind start tree.no_choice [] (last_place (trimmed before) (begin_of ws)) (trailing before) fits_fresh h),
       λ again. refl,
     ),
@@ -327,7 +360,7 @@ action_leads (acts.OpensCall start) stage k {fs} {ws} before word n b h = (
     (
       subst (λ (z : Parts). Shows (made (staged.List stages.Start) (s.arguments_context k) (frames.Call k (record { token = length (list_parts ws before).tokens; start = start }) ∷ fs) z [] 0 0) ws'
           (o.list_in (c.in_arguments (shown k))))
-          (sym (all_open (levels_of ws) (both (prefix_of ws) (nodes_of before)) kinds.Function (word_label word) start))
+          (sym (all_open (list_star ws before) (levels_of ws) (both (prefix_of ws) (nodes_of before)) kinds.Function (word_label word) start))
           (shows_list stages.Start (s.arguments_context k) tree.none [] (waits_call k before start word h)),
       λ again. refl,
     ),

@@ -1,4 +1,4 @@
-use Rattle.drv_syntax.specs.Labels.{Label, Nodes, asked_nodes, both, brace_nodes, choice_nodes, inner_nodes, label_of, labels, labels_of, no_label, no_node, node, nodes_of, pattern_label, pattern_nodes, test_label, test_nodes}
+use Rattle.drv_syntax.specs.Labels.{Label, Nodes, alternative_label, asked_nodes, both, brace_nodes, choice_nodes, inner_nodes, label_of, labels, labels_of, no_node, node, nodes_of, pattern_label, pattern_nodes, star_label, test_label, test_nodes}
 use Rattle.drv_syntax.specs.Outcome.{join, join_tests, join_choices}
 use Rattle.drv_syntax.specs.Spelling.{span}
 use Rattle.drv_syntax.specs.Tokens.{asked_tokens, brace_tokens, choice_tokens, inner_tokens, item_tokens, kind_of, pattern_tokens, test_tokens, token, tokens_of}
@@ -128,27 +128,32 @@ pub record Level : Type 0 where
 pub record Parts : Type 0 where
   pub tokens : List Token
   pub labels : List Label
+  pub holds : Bool  -- the innermost X has a %* of its own so far
 
 abbrev pub opened : TokenKind → Label → ℕ → Parts → Parts
-opened kind label start z = record { tokens = z.tokens ++ open_token kind start ∷ []; labels = z.labels ++ label ∷ [] }
+opened kind label start z = record { tokens = z.tokens ++ open_token kind start ∷ []; labels = z.labels ++ label ∷ []; holds = z.holds }
 
 abbrev pub leafed : TokenKind → Label → ℕ → ℕ → Parts → Parts
 leafed kind label start end z =
-    record { tokens = z.tokens ++ record { kind = kind; start = start; end = end; next = length z.tokens + 1 } ∷ []; labels = z.labels ++ label ∷ [] }
+    record { tokens = z.tokens ++ record { kind = kind; start = start; end = end; next = length z.tokens + 1 } ∷ []; labels = z.labels ++ label ∷ []; holds = z.holds }
 
 -- the part at this place ends
 abbrev pub ended : ℕ → TokenKind → ℕ → ℕ → Parts → Parts
-ended place kind start end z = record { tokens = set z.tokens place (record { kind = kind; start = start; end = end; next = length z.tokens }); labels = z.labels }
+ended place kind start end z = record { tokens = set z.tokens place (record { kind = kind; start = start; end = end; next = length z.tokens }); labels = z.labels; holds = z.holds }
 
 -- the last ones cut off, so many
 abbrev pub shortened : ℕ → Parts → Parts
-shortened k z = record { tokens = take (length z.tokens - k) z.tokens; labels = take (length z.labels - k) z.labels }
+shortened k z = record { tokens = take (length z.tokens - k) z.tokens; labels = take (length z.labels - k) z.labels; holds = z.holds }
 
-abbrev parts : List Token → List Label → Parts
-parts tokens names = record { tokens = tokens; labels = names }
+-- the label of an alternative that ends at this place, and what the X around it has
+abbrev pub starred : ℕ → Bool → Parts → Parts
+starred place around z = record { tokens = z.tokens; labels = set z.labels place (star_label z.holds); holds = around }
 
-same_parts : {ts us : List Token} {xs ys : List Label} → ts ≡ us → xs ≡ ys → parts ts xs ≡ parts us ys
-same_parts {ts} {us} {xs} {ys} e f = ap (λ z. parts z xs) e ∙ ap (λ z. parts us z) f
+abbrev parts : Bool → List Token → List Label → Parts
+parts own tokens names = record { tokens = tokens; labels = names; holds = own }
+
+same_parts : {own : Bool} {ts us : List Token} {xs ys : List Label} → ts ≡ us → xs ≡ ys → parts own ts xs ≡ parts own us ys
+same_parts {own} {ts} {us} {xs} {ys} e f = ap (λ z. parts own z xs) e ∙ ap (λ z. parts own us z) f
 
 abbrev base : List Level → List Token
 base [] = []
@@ -165,8 +170,8 @@ abbrev all_labels : List Level → Nodes → List Label
 all_labels levels nodes = label_base levels ++ labels nodes
 
 -- the tokens and labels of the open parts, innermost first, and of what the innermost holds
-abbrev pub all : List Level → Nodes → Parts
-all levels nodes = record { tokens = all_tokens levels nodes; labels = all_labels levels nodes }
+abbrev pub all : Bool → List Level → Nodes → Parts
+all own levels nodes = record { tokens = all_tokens levels nodes; labels = all_labels levels nodes; holds = own }
 
 labels_both : (xs ys : Nodes) → labels (both xs ys) ≡ labels xs ++ labels ys
 labels_both no_node ys = refl
@@ -190,13 +195,13 @@ tokens_leaf levels nodes kind label start end = joined (base levels) (flat (leng
         let k : length (a ++ b) + 1 ≡ length a + length b + 1 + 0 = omega (arith, length-append a b) in
         rw k (append_assoc a b _)
 
-pub all_leaf : (levels : List Level) (nodes : Nodes) (kind : TokenKind) (label : Label) (start end : ℕ)
-    → leafed kind label start end (all levels nodes) ≡ all levels (both nodes (node kind label (span start end) no_node no_node))
-all_leaf levels nodes kind label start end = same_parts (tokens_leaf levels nodes kind label start end) (labels_last levels nodes kind label (span start end) no_node)
+pub all_leaf : (own : Bool) (levels : List Level) (nodes : Nodes) (kind : TokenKind) (label : Label) (start end : ℕ)
+    → leafed kind label start end (all own levels nodes) ≡ all own levels (both nodes (node kind label (span start end) no_node no_node))
+all_leaf own levels nodes kind label start end = same_parts (tokens_leaf levels nodes kind label start end) (labels_last levels nodes kind label (span start end) no_node)
 
-pub all_open : (levels : List Level) (nodes : Nodes) (kind : TokenKind) (label : Label) (start : ℕ)
-    → opened kind label start (all levels nodes) ≡ all (record { before = nodes; kind = kind; label = label; start = start } ∷ levels) no_node
-all_open levels nodes kind label start = same_parts (sym (append-nil _)) (sym (append-nil _))
+pub all_open : (own : Bool) (levels : List Level) (nodes : Nodes) (kind : TokenKind) (label : Label) (start : ℕ)
+    → opened kind label start (all own levels nodes) ≡ all own (record { before = nodes; kind = kind; label = label; start = start } ∷ levels) no_node
+all_open own levels nodes kind label start = same_parts (sym (append-nil _)) (sym (append-nil _))
 
 closing : (a b : List Token) (o : Token) (kind : TokenKind) (start end : ℕ) (f : ℕ → List Token)
     → (a ++ b) ++ record { kind = kind; start = start; end = end; next = length (((a ++ b) ++ o ∷ []) ++ f (length ((a ++ b) ++ o ∷ []))) } ∷ f (length ((a ++ b) ++ o ∷ []))
@@ -229,12 +234,42 @@ tokens_close levels before inner opened kind label start end =
         closing (base levels) (flat (length (base levels)) before) o kind start end (λ n. flat n inner)
         ∙ ap (λ zs. base levels ++ zs) (sym (flat_both (length (base levels)) before (node kind label (span start end) inner no_node)))
 
-pub all_close : (levels : List Level) (before inner : Nodes) (first kind : TokenKind) (label : Label) (start end : ℕ)
-    → ended (length (all levels before).tokens) kind start end (all (record { before = before; kind = first; label = label; start = start } ∷ levels) inner)
-    ≡ all levels (both before (node kind label (span start end) inner no_node))
-all_close levels before inner first kind label start end =
+pub all_close : (own : Bool) (levels : List Level) (before inner : Nodes) (first kind : TokenKind) (label : Label) (start end : ℕ)
+    → ended (length (all own levels before).tokens) kind start end (all own (record { before = before; kind = first; label = label; start = start } ∷ levels) inner)
+    ≡ all own levels (both before (node kind label (span start end) inner no_node))
+all_close own levels before inner first kind label start end =
     same_parts (tokens_close levels before inner first kind label start end)
     (append_assoc (all_labels levels before) (label ∷ []) (labels inner) ∙ labels_last levels before kind label (span start end) inner)
+
+base_many : (levels : List Level) → length (label_base levels) ≡ length (base levels)
+base_many [] = refl
+base_many (l ∷ levels) =
+    counted (label_base levels) (labels l.before) (l.label ∷ []) (base levels) (flat (length (base levels)) l.before) (open_token l.kind l.start ∷ []) (base_many levels) (as_many (length (base levels)) l.before) refl
+  where
+    counted : (a b c : List Label) (d e f : List Token) → length a ≡ length d → length b ≡ length e → length c ≡ length f → length ((a ++ b) ++ c) ≡ length ((d ++ e) ++ f)
+    counted a b c d e f g h k = omega (arith, length-append (a ++ b) c, length-append a b, length-append (d ++ e) f, length-append d e)
+
+all_many : (levels : List Level) (nodes : Nodes) → length (all_tokens levels nodes) ≡ length (all_labels levels nodes)
+all_many levels nodes = counted (label_base levels) (labels nodes) (base levels) (flat (length (base levels)) nodes) (base_many levels) (as_many (length (base levels)) nodes)
+  where
+    counted : (a b : List Label) (d e : List Token) → length a ≡ length d → length b ≡ length e → length (d ++ e) ≡ length (a ++ b)
+    counted a b d e g h = omega (arith, length-append a b, length-append d e)
+
+labels_close : (levels : List Level) (before inner : Nodes) (first kind : TokenKind) (label last : Label) (start end : ℕ)
+    → set (all_labels (record { before = before; kind = first; label = label; start = start } ∷ levels) inner) (length (all_tokens levels before)) last
+    ≡ all_labels levels (both before (node kind last (span start end) inner no_node))
+labels_close levels before inner first kind label last start end =
+    ap (λ n. set ((all_labels levels before ++ label ∷ []) ++ labels inner) n last) (all_many levels before)
+    ∙ ap (λ ls. set ls (length (all_labels levels before)) last) (append_assoc (all_labels levels before) (label ∷ []) (labels inner))
+    ∙ set-append_seam (all_labels levels before) label (labels inner) last
+    ∙ labels_last levels before kind last (span start end) inner
+
+-- the same for an alternative, whose label is given at its end
+pub all_star : (own around : Bool) (levels : List Level) (before inner : Nodes) (first kind : TokenKind) (label : Label) (start end : ℕ)
+    → starred (length (all own levels before).tokens) around (ended (length (all own levels before).tokens) kind start end (all own (record { before = before; kind = first; label = label; start = start } ∷ levels) inner))
+    ≡ all around levels (both before (node kind (star_label own) (span start end) inner no_node))
+all_star own around levels before inner first kind label start end =
+    same_parts (tokens_close levels before inner first kind (star_label own) start end) (labels_close levels before inner first kind label (star_label own) start end)
 
 -- white space at the end of items
 abbrev pub white : Item → Bool
@@ -242,7 +277,7 @@ white tree.Blank = true
 white tree.Newline = true
 white _ = false
 
-abbrev kept_white : Span → Item → Items → Items
+abbrev pub kept_white : Span → Item → Items → Items
 kept_white s item tree.none = tree.none
 kept_white s item (tree.more r other items) = tree.more s item (tree.more r other items)
 
@@ -483,9 +518,9 @@ trim_labels levels prefix items =
         ap (λ zs. label_base levels ++ zs) (labels_both prefix (nodes_of items) ∙ ap (λ zs. labels prefix ++ zs) h.is ∙ sym (append_assoc (labels prefix) _ h.tail))
         ∙ sym (append_assoc (label_base levels) _ h.tail)
 
-pub trim_all : (levels : List Level) (prefix : Nodes) (items : Items)
-    → shortened (trailing items) (all levels (both prefix (nodes_of items))) ≡ all levels (both prefix (nodes_of (trimmed items)))
-trim_all levels prefix items = same_parts (trim_tokens levels prefix items) (trim_labels levels prefix items)
+pub trim_all : (own : Bool) (levels : List Level) (prefix : Nodes) (items : Items)
+    → shortened (trailing items) (all own levels (both prefix (nodes_of items))) ≡ all own levels (both prefix (nodes_of (trimmed items)))
+trim_all own levels prefix items = same_parts (trim_tokens levels prefix items) (trim_labels levels prefix items)
 
 pub both_assoc : (xs ys zs : Nodes) → both (both xs ys) zs ≡ both xs (both ys zs)
 both_assoc no_node ys zs = refl
@@ -505,7 +540,7 @@ tests_join (tree.test s negated asked xs) ys = ap (λ n. node kinds.Test (test_l
 
 pub choices_join : (xs ys : Choices) → choice_nodes (join_choices xs ys) ≡ both (choice_nodes xs) (choice_nodes ys)
 choices_join tree.no_choice ys = refl
-choices_join (tree.choice s tests items xs) ys = ap (λ n. node kinds.Alternative no_label s (both (test_nodes tests) (nodes_of items)) n) (choices_join xs ys)
+choices_join (tree.choice s tests items xs) ys = ap (λ n. node kinds.Alternative (alternative_label items) s (both (test_nodes tests) (nodes_of items)) n) (choices_join xs ys)
 
 pub patterns_join : (xs ys : List (Span × Pattern)) → pattern_nodes (xs ++ ys) ≡ both (pattern_nodes xs) (pattern_nodes ys)
 patterns_join [] ys = refl

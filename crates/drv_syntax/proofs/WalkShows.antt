@@ -3,6 +3,7 @@ use Rattle.drv_syntax.specs.Contexts as c
 use Rattle.drv_syntax.specs.Labels.{Nodes, both, choice_nodes, no_label, no_node, nodes_of, pattern_nodes, test_nodes, word_label}
 use Rattle.drv_syntax.specs.Outcome as o
 use Rattle.drv_syntax.specs.Outcome.{Here, Out, Place, Turn, after, closed, join, join_choices, join_tests, judged, parsed, read, resumed, run, turn}
+use Rattle.drv_syntax.specs.Stars.{choices_have_star, has_star, tests_have_star}
 use Rattle.drv_syntax.specs.Tree as tree
 use Rattle.drv_syntax.specs.Tree.{Asked, Brace, Choices, Item, Items, Pattern, Span, Tests, first_place, last_place, trimmed}
 use Rattle.drv_syntax.specs.Reader.Turns as w
@@ -26,7 +27,7 @@ use Rattle.drv_syntax.specs.declared.token.TokenKind.{TokenKind}
 use Rattle.drv_syntax.proofs.WalkNodes.{Level, Parts, all, trailing}
 use Rattle.drv_syntax.proofs.WalkMeaning.{Fits, head_place, headed, here, list_place}
 use Rattle.std.proofs.Common.{◌≡◌, ℕ, ◌+◌, Bool, true, false, List, [], ◌∷◌, length}
-use Rattle.std.specs.Prelude.{None, Result, Ok, Err}
+use Rattle.std.specs.Prelude.{◌||◌, None, Result, Ok, Err}
 
 -- Each state of the code stands for a place of the table and for directives that wait, and each byte leads to the next.
 
@@ -64,15 +65,28 @@ levels_of (o.WaitsCall before at name ∷ ws) = record { before = both (prefix_o
 levels_of (o.WaitsTest h start negated name ∷ ws) =
     record { before = test_nodes h.tests; kind = kinds.Test; label = w.called_label negated name; start = start } ∷ choice_level h start ∷ brace_level ws h ∷ levels_of ws
 
+-- the innermost X has a %* of its own so far
+abbrev pub around : List o.Waiting → Bool
+around [] = false
+around (o.WaitsX h colon ∷ ws) = false
+around (o.WaitsCall before at name ∷ ws) = has_star before.done || around ws
+around (o.WaitsTest h start negated name ∷ ws) = tests_have_star h.tests || (choices_have_star h.choices || (has_star h.here.done || around ws))
+
+abbrev pub list_star : List o.Waiting → Items → Bool
+list_star ws before = has_star before || around ws
+
+abbrev pub head_star : List o.Waiting → o.Head → Bool
+head_star ws h = tests_have_star h.tests || (choices_have_star h.choices || list_star ws h.here.done)
+
 abbrev pub list_parts : List o.Waiting → Items → Parts
-list_parts ws before = all (levels_of ws) (both (prefix_of ws) (nodes_of before))
+list_parts ws before = all (list_star ws before) (levels_of ws) (both (prefix_of ws) (nodes_of before))
 
 abbrev pub brace_parts : List o.Waiting → o.Head → Parts
-brace_parts ws h = all (brace_level ws h ∷ levels_of ws) (held h)
+brace_parts ws h = all (head_star ws h) (brace_level ws h ∷ levels_of ws) (held h)
 
 abbrev pub test_parts : List o.Waiting → o.Head → Tests → Parts
 test_parts ws h tree.no_test = brace_parts ws h
-test_parts ws h (tree.test r negated asked tests) = all (choice_level h 0 ∷ brace_level ws h ∷ levels_of ws) (test_nodes (tree.test r negated asked tests))
+test_parts ws h (tree.test r negated asked tests) = all (head_star ws h) (choice_level h 0 ∷ brace_level ws h ∷ levels_of ws) (test_nodes (tree.test r negated asked tests))
 
 abbrev pub head_parts : List o.Waiting → o.Head → Parts
 head_parts ws h = test_parts ws h h.tests
@@ -116,17 +130,17 @@ form_for ws h = form_in ws h h.tests
 pub data Waits : List Frame → List o.Waiting → Type 0 where
   waits_none : Waits [] []
   waits_x : {fs : List Frame} {ws : List o.Waiting} (k : Context) (before : Items) (kind : BraceKind) (at : ℕ) (choices : Choices) (tests : Tests) (colon : ℕ) → Waits fs ws
-      → Waits (frames.X k (the_head ws before kind at) colon (the_part ws (hd ws k before kind at choices tests []) colon) (tested tests) ∷ fs) (o.WaitsX (hd ws k before kind at choices tests []) colon ∷ ws)
+      → Waits (frames.X k (the_head ws before kind at) colon (the_part ws (hd ws k before kind at choices tests []) colon) (tested tests) (head_star ws (hd ws k before kind at choices tests [])) ∷ fs) (o.WaitsX (hd ws k before kind at choices tests []) colon ∷ ws)
   waits_call : {fs : List Frame} {ws : List o.Waiting} (k : Context) (before : Items) (at : ℕ) (name : List ℕ) → Waits fs ws
       → Waits (frames.Call k (record { token = length (list_parts ws before).tokens; start = at }) ∷ fs) (o.WaitsCall (here k before) at name ∷ ws)
   waits_test : {fs : List Frame} {ws : List o.Waiting} (k : Context) (before : Items) (kind : BraceKind) (at : ℕ) (choices : Choices) (tests : Tests) (patterns : List (Span × Pattern))
       (start : ℕ) (negated : Bool) (name : List ℕ) → Waits fs ws
       → Waits (frames.Test k (the_head ws before kind at) (the_part ws (hd ws k before kind at choices tests patterns) start)
-      (record { token = length (all (choice_level (hd ws k before kind at choices tests patterns) start ∷ brace_level ws (hd ws k before kind at choices tests patterns) ∷ levels_of ws) (test_nodes tests)).tokens; start = start }) (unpatterned patterns) ∷ fs)
+      (record { token = length (all (head_star ws (hd ws k before kind at choices tests patterns)) (choice_level (hd ws k before kind at choices tests patterns) start ∷ brace_level ws (hd ws k before kind at choices tests patterns) ∷ levels_of ws) (test_nodes tests)).tokens; start = start }) (unpatterned patterns) ∷ fs)
       (o.WaitsTest (hd ws k before kind at choices tests patterns) start negated name ∷ ws)
 
 abbrev pub made : Stage → Context → List Frame → Parts → List ℕ → ℕ → ℕ → Walk
-made stage k fs parts word kept trail = record { stage = stage; context = k; waiting = fs; tokens = parts.tokens; labels = parts.labels; word = word; kept = kept; trailing = trail }
+made stage k fs parts word kept trail = record { stage = stage; context = k; waiting = fs; tokens = parts.tokens; labels = parts.labels; word = word; kept = kept; trailing = trail; holds_star = parts.holds }
 
 abbrev pub list_walk : ListStage → Context → List Frame → List o.Waiting → Items → List ℕ → Walk
 list_walk stage k fs ws before word = made (staged.List stage) k fs (list_parts ws before) word (last_place (trimmed before) (begin_of ws)) (trailing before)

@@ -1,5 +1,5 @@
 use Rattle.drv_syntax.specs.Contexts as c
-use Rattle.drv_syntax.specs.Labels.{Label, Nodes, both, no_label, no_node, node, pattern_label, pattern_nodes, test_nodes}
+use Rattle.drv_syntax.specs.Labels.{Label, Nodes, both, no_label, no_node, node, part_label, pattern_label, pattern_nodes, test_nodes}
 use Rattle.drv_syntax.specs.Outcome as o
 use Rattle.drv_syntax.specs.Outcome.{Here, Out, Place, Turn, after, closed, join, join_choices, join_tests, judged, parsed, read, resumed, run, turn}
 use Rattle.drv_syntax.specs.Spelling.{span}
@@ -28,9 +28,11 @@ use Rattle.drv_syntax.specs.declared.token.TokenKind.TheVariants as kinds
 use Rattle.drv_syntax.proofs.WalkNodes.{Parts, all, all_leaf, all_open, ended, leafed, both_none, patterns_join, tests_join}
 use Rattle.drv_syntax.proofs.WalkMeaning.{is_bare, patterns_of, shown, shown_owner, tests_of}
 use Rattle.std.proofs.Common.{◌≡◌, ℕ, ◌+◌, ◌-◌, Bool, true, false, List, [], ◌∷◌, ◌++◌, length, refl, sym, ap, subst, ◌∙◌, if◌then◌else◌}
-use Rattle.std.specs.Prelude.{◌==◌, ◌&&◌, not, None, Some, Result, Ok, Err}
-use Rattle.drv_syntax.proofs.WalkShows.{held, brace_level, choice_level, levels_of, list_parts, brace_parts, head_parts, the_head, the_part, hd, Held, held_fresh, held_patterns, held_later, held_tests, form_for, Waits, waits_x, made, Shows, shows_list, shows_head, Leads}
+use Rattle.std.specs.Prelude.{◌==◌, ◌&&◌, ◌||◌, not, None, Some, Result, Ok, Err}
+use Rattle.drv_syntax.proofs.WalkShows.{held, brace_level, choice_level, levels_of, head_star, list_star, list_parts, brace_parts, head_parts, the_head, the_part, hd, Held, held_fresh, held_patterns, held_later, held_tests, form_for, Waits, waits_x, made, Shows, shows_list, shows_head, Leads}
 use Rattle.drv_syntax.proofs.WalkLists.{placed_walk, starred_join, shows_emit}
+use Rattle.drv_syntax.proofs.WalkStars.{marked_star, test_star}
+use Rattle.drv_syntax.specs.Stars.{asked_has_star, choices_have_star, tests_have_star}
 
 -- Patterns and tests of braces, each with the byte behind it.
 
@@ -74,8 +76,8 @@ pub pattern_parts : (ws : List o.Waiting) (k : Context) (before : Items) (kind :
     ≡ brace_parts ws (hd ws k before kind at tree.no_choice tree.no_test (patterns ++ (span start end, p) ∷ []))
 pattern_parts ws k before kind at patterns start end p label e =
     ap (λ z. leafed kinds.Pattern z start end (brace_parts ws h)) e
-    ∙ all_leaf (brace_level ws h ∷ levels_of ws) (pattern_nodes patterns) kinds.Pattern (pattern_label p) start end
-    ∙ ap (λ z. all (brace_level ws h ∷ levels_of ws) z) (sym (patterns_join patterns ((span start end, p) ∷ [])))
+    ∙ all_leaf (list_star ws before) (brace_level ws h ∷ levels_of ws) (pattern_nodes patterns) kinds.Pattern (pattern_label p) start end
+    ∙ ap (λ z. all (list_star ws before) (brace_level ws h ∷ levels_of ws) z) (sym (patterns_join patterns ((span start end, p) ∷ [])))
   where
     h : o.Head
     h = hd ws k before kind at tree.no_choice tree.no_test patterns
@@ -174,11 +176,11 @@ tests_are h (behinds.StarredMark start end negated mark) word = refl
 tests_are h (behinds.Bare start end negated mark) word = refl
 
 pub marked_nodes : (r : Span) (mark : ℕ) (word : List ℕ) (negated : Bool)
-    → test_nodes (tree.test r negated (o.marked mark word) tree.no_test) ≡ node kinds.Test (record { word = word; starred = false; negated = negated; asks = w.mark_asks mark }) r no_node no_node
+    → test_nodes (tree.test r negated (o.marked mark word) tree.no_test) ≡ node kinds.Test (part_label word false negated (w.mark_asks mark)) r no_node no_node
 marked_nodes r mark word negated = by (mark == 46)
   where
     by : (t : Bool) → test_nodes (tree.test r negated (if t then tree.HasSuffix word else tree.HasLanguage word) tree.no_test)
-        ≡ node kinds.Test (record { word = word; starred = false; negated = negated; asks = if t then asking.Suffix else asking.Language }) r no_node no_node
+        ≡ node kinds.Test (part_label word false negated (if t then asking.Suffix else asking.Language)) r no_node no_node
     by true = refl
     by false = refl
 
@@ -204,15 +206,26 @@ by_stars (behinds.Marked start end negated mark) word = marked_stars (span start
 by_stars (behinds.StarredMark start end negated mark) word = marked_stars (span start end) mark word negated
 by_stars (behinds.Bare start end negated mark) word = marked_stars (span start end) mark word negated
 
+asked_star : (behind : Behind) (word : List ℕ) → asked_has_star (asked_by behind word) ≡ false
+asked_star (behinds.Switch start end negated starred) word = refl
+asked_star (behinds.Marked start end negated mark) word = marked_star mark word
+asked_star (behinds.StarredMark start end negated mark) word = marked_star mark word
+asked_star (behinds.Bare start end negated mark) word = marked_star mark word
+
+by_star : (tests : Tests) (behind : Behind) (word : List ℕ) (others : Bool) → (tests_have_star (join_tests tests (test_by behind word)) || others) ≡ (tests_have_star tests || others)
+by_star tests behind word others =
+    test_star tests (span (s.first_of behind) (s.last_of behind)) (s.negates behind) (asked_by behind word) others ∙ ap (λ z. z || (tests_have_star tests || others)) (asked_star behind word)
+
 pub with_test_is : (stage : Stage) (k : Context) (fs : List Frame) (ws : List o.Waiting) (before : Items) (kind : BraceKind) (at : ℕ) (choices : Choices) (word : List ℕ) (kept trail : ℕ) (behind : Behind)
     → s.with_label (w.behind_test behind word) (s.with_leaf kinds.Test (s.first_of behind) (s.last_of behind) (s.open_alternative (s.first_of behind) (hw stage k fs ws before kind at choices tree.no_test [] word kept trail)))
     ≡ hw stage k fs ws before kind at choices (test_by behind word) [] word kept trail
 with_test_is stage k fs ws before kind at choices word kept trail behind =
     ap (λ z. made stage k fs (leafed kinds.Test (w.behind_test behind word) (s.first_of behind) (s.last_of behind) z) word kept trail)
-    (all_open (brace_level ws h ∷ levels_of ws) (held h) kinds.Alternative no_label (s.first_of behind))
+    (all_open (head_star ws h) (brace_level ws h ∷ levels_of ws) (held h) kinds.Alternative no_label (s.first_of behind))
     ∙ ap (λ z. made stage k fs z word kept trail)
-    (all_leaf (choice_level t 0 ∷ brace_level ws h ∷ levels_of ws) no_node kinds.Test (w.behind_test behind word) (s.first_of behind) (s.last_of behind)
-    ∙ ap (λ z. all (choice_level t 0 ∷ brace_level ws h ∷ levels_of ws) z) (sym (by_nodes behind word)))
+    (all_leaf (head_star ws h) (choice_level t 0 ∷ brace_level ws h ∷ levels_of ws) no_node kinds.Test (w.behind_test behind word) (s.first_of behind) (s.last_of behind)
+    ∙ ap (λ z. all (head_star ws h) (choice_level t 0 ∷ brace_level ws h ∷ levels_of ws) z) (sym (by_nodes behind word))
+    ∙ ap (λ z. all z (choice_level t 0 ∷ brace_level ws h ∷ levels_of ws) (test_nodes (test_by behind word))) (sym (by_star tree.no_test behind word (choices_have_star choices || list_star ws before))))
   where
     h : o.Head
     h = hd ws k before kind at choices tree.no_test []
@@ -226,9 +239,11 @@ pub more_test_is : (stage : Stage) (k : Context) (fs : List Frame) (ws : List o.
     ≡ hw stage k fs ws before kind at choices (tree.test r negated asked (join_tests others (test_by behind word))) [] word kept trail
 more_test_is stage k fs ws before kind at choices r negated asked others word kept trail behind =
     ap (λ z. made stage k fs z word kept trail)
-    (all_leaf (choice_level h 0 ∷ brace_level ws h ∷ levels_of ws) (test_nodes (tree.test r negated asked others)) kinds.Test (w.behind_test behind word) (s.first_of behind) (s.last_of behind)
-    ∙ ap (λ z. all (choice_level h 0 ∷ brace_level ws h ∷ levels_of ws) z)
-    (ap (λ z. both (test_nodes (tree.test r negated asked others)) z) (sym (by_nodes behind word)) ∙ sym (tests_join (tree.test r negated asked others) (test_by behind word))))
+    (all_leaf (head_star ws h) (choice_level h 0 ∷ brace_level ws h ∷ levels_of ws) (test_nodes (tree.test r negated asked others)) kinds.Test (w.behind_test behind word) (s.first_of behind) (s.last_of behind)
+    ∙ ap (λ z. all (head_star ws h) (choice_level h 0 ∷ brace_level ws h ∷ levels_of ws) z)
+    (ap (λ z. both (test_nodes (tree.test r negated asked others)) z) (sym (by_nodes behind word)) ∙ sym (tests_join (tree.test r negated asked others) (test_by behind word)))
+    ∙ ap (λ z. all z (choice_level h 0 ∷ brace_level ws h ∷ levels_of ws) (test_nodes (join_tests (tree.test r negated asked others) (test_by behind word))))
+    (sym (by_star (tree.test r negated asked others) behind word (choices_have_star choices || list_star ws before))))
   where
     h : o.Head
     h = hd ws k before kind at choices (tree.test r negated asked others) []
@@ -246,8 +261,8 @@ asks_on stage k {fs} {ws} before kind at choices r negated asked others word kep
     subst (λ (u : Bool). Shows (s.ask (the_head ws before kind at) (the_part ws hh 0) true u n (hw stage k fs ws before kind at choices (tree.test r negated asked others) [] word kept trail)) (o.WaitsX hh n ∷ ws) (o.list_in (c.in_x (c.in_braces (shown k)) (tree.test r negated asked others)))) e
     (subst (λ (u : c.Owner). Shows (s.ask (the_head ws before kind at) (the_part ws hh 0) true stars n (hw stage k fs ws before kind at choices (tree.test r negated asked others) [] word kept trail)) (o.WaitsX hh n ∷ ws)
     (o.list_in (record { kind = c.InX; in_arguments = k.in_arguments; owner = u; levels = k.levels - 1 }))) (shown_if stars)
-    (subst (λ (z : Nodes). Shows (made (staged.List stages.Start) (s.x_context k (if stars then owners.Starred else owners.Mixed)) (frames.X k (the_head ws before kind at) n (the_part ws hh 0) true ∷ fs)
-    (all (choice_level hh 0 ∷ brace_level ws hh ∷ levels_of ws) z) [] (n + 1) 0) (o.WaitsX hh n ∷ ws) (o.list_in (shown (s.x_context k (if stars then owners.Starred else owners.Mixed)))))
+    (subst (λ (z : Nodes). Shows (made (staged.List stages.Start) (s.x_context k (if stars then owners.Starred else owners.Mixed)) (frames.X k (the_head ws before kind at) n (the_part ws hh 0) true (head_star ws hh) ∷ fs)
+    (all false (choice_level hh 0 ∷ brace_level ws hh ∷ levels_of ws) z) [] (n + 1) 0) (o.WaitsX hh n ∷ ws) (o.list_in (shown (s.x_context k (if stars then owners.Starred else owners.Mixed)))))
     (both_none (test_nodes (tree.test r negated asked others)))
     (shows_list stages.Start (s.x_context k (if stars then owners.Starred else owners.Mixed)) tree.none [] (waits_x k before kind at choices (tree.test r negated asked others) n h))))
   where

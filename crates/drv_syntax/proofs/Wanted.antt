@@ -1,6 +1,7 @@
 use Rattle.drv_syntax.proofs.Parts.{HasChoice}
 use Rattle.drv_syntax.specs.Bytes.{SayKind, braced, form_of, is_allowed, is_function, is_name, is_option, is_suffix, is_word, said}
-use Rattle.drv_syntax.specs.Contexts.{Context, Kind, in_arguments, in_braces, in_x, is_end, is_said}
+use Rattle.drv_syntax.specs.Contexts.{Context, in_arguments, in_braces, in_x, is_end, is_said}
+use Rattle.drv_syntax.specs.Fronts.{AreFrontItems}
 use Rattle.drv_syntax.specs.Outcome as o
 use Rattle.drv_syntax.specs.Outcome.{Head, Here, On, Place, Turn, Waiting, emitted, join, join_choices, join_tests, placed, resume, tested}
 use Rattle.drv_syntax.specs.Spelling.{AreItems, AreLater, ArePatterns, AreSpaces, AreTests, At, EndsList, EndsSaying, IsAsked, IsDirective, IsPattern, IsQuoted, IsRun, IsSuffix, Stops}
@@ -13,7 +14,7 @@ use Rattle.std.specs.Prelude.{◌==◌, None, Option, Some}
 
 -- what a list with these items so far, and with so much of the text left, means to what stands around it
 abbrev pub Outside : Type 1
-Outside = Kind → Items → List ℕ → Type 0
+Outside = Context → Items → List ℕ → Type 0
 
 -- behind a front of a word
 pub data IsPatternRest (word : List ℕ) : List ℕ → Pattern → List ℕ → Type 0 where
@@ -42,7 +43,8 @@ pub record WantsList (size : ℕ) (K : Outside) (here : Here) (text : List ℕ) 
   pub items : Items
   pub rest : List ℕ
   pub spelled : EndsList here.context.kind rest → AreItems size here.context text items rest
-  pub outside : K here.context.kind (join here.done items) rest
+  pub front : AreFrontItems size here.context rest → AreFrontItems size here.context text
+  pub outside : K here.context (join here.done items) rest
 
 -- an item from this place on, up to the rest
 pub record Ended (size : ℕ) (K : Outside) (here : Here) (at : ℕ) (item : Item) (rest : List ℕ) : Type 0 where
@@ -186,16 +188,16 @@ module _ (size : ℕ) (K : Outside) where
 
 -- around a list for whose end a directive waits
 abbrev pub Inside : ℕ → Outside → Waiting → Outside
-Inside size K w kind all end = (b : ℕ) × (rest : List ℕ) × (q : Place) × (k : ℕ) × (end ≡ b ∷ rest) × (is_end kind b ≡ true) × At size k end × (resume w all k b ≡ On q) × Wanted size K q rest
+Inside size K w c all end = (b : ℕ) × (rest : List ℕ) × (q : Place) × (k : ℕ) × (end ≡ b ∷ rest) × (is_end c.kind b ≡ true) × At size k end × (resume w all k b ≡ On q) × Wanted size K q rest
 
 -- around the lists for whose ends these directives wait, innermost first; the whole text has this tree
 abbrev pub Around : ℕ → List Waiting → Items → Outside
-Around size [] out kind all rest = (rest ≡ []) × (all ≡ out)
-Around size (w ∷ ws) out kind all rest = Inside size (Around size ws out) w kind all rest
+Around size [] out c all rest = (rest ≡ []) × (all ≡ out)
+Around size (w ∷ ws) out c all rest = Inside size (Around size ws out) w c all rest
 
 -- what is wanted behind a byte that does this
 abbrev pub After : ℕ → Outside → ℕ → List ℕ → Turn → Type 0
 After size K b text (o.Goes q) = Wanted size K q text
 After size K b text (o.Opens q w) = Wanted size (Inside size K w) q text
-After size K b text (o.Closes items c) = c ≡ b → (kind : Kind) → is_end kind b ≡ true → K kind items (b ∷ text)
+After size K b text (o.Closes items c) = c ≡ b → (around : Context) → is_end around.kind b ≡ true → K around items (b ∷ text)
 After size K b text (o.Refused fault) = ⊥

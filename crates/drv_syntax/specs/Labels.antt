@@ -1,3 +1,4 @@
+use Rattle.drv_syntax.specs.Stars.{has_star}
 use Rattle.drv_syntax.specs.Tokens.{kind_of}
 use Rattle.drv_syntax.specs.Tree as tree
 use Rattle.drv_syntax.specs.Tree.{Asked, Brace, Choices, Item, Items, Pattern, Span, Tests}
@@ -14,24 +15,36 @@ pub record Label : Type 0 where
   pub starred : Bool  -- a star stands behind the word
   pub negated : Bool  -- a ! stands before it
   pub asks : TestKind  -- what a test asks
+  pub holds_star : Bool  -- the X of an alternative has a %* of its own
+
+-- of any part but an alternative
+abbrev pub part_label : List ℕ → Bool → Bool → TestKind → Label
+part_label word starred negated asks = record { word = word; starred = starred; negated = negated; asks = asks; holds_star = false }
 
 -- of a part that names a word alone
 abbrev pub word_label : List ℕ → Label
-word_label word = record { word = word; starred = false; negated = false; asks = asking.Switch }
+word_label word = part_label word false false asking.Switch
 
 -- of a part that names nothing
 abbrev pub no_label : Label
 no_label = word_label []
 
+-- of an alternative
+abbrev pub star_label : Bool → Label
+star_label holds = record { word = []; starred = false; negated = false; asks = asking.Switch; holds_star = holds }
+
+abbrev pub alternative_label : Items → Label
+alternative_label items = star_label (has_star items)
+
 abbrev pub pattern_label : Pattern → Label
-pattern_label (tree.pattern word starred) = record { word = word; starred = starred; negated = false; asks = asking.Switch }
+pattern_label (tree.pattern word starred) = part_label word starred false asking.Switch
 
 -- with a ! or without
 abbrev pub test_label : Bool → Asked → Label
-test_label negated (tree.HasSwitch (tree.pattern word starred)) = record { word = word; starred = starred; negated = negated; asks = asking.Switch }
-test_label negated (tree.HasSuffix word) = record { word = word; starred = false; negated = negated; asks = asking.Suffix }
-test_label negated (tree.HasLanguage word) = record { word = word; starred = false; negated = negated; asks = asking.Language }
-test_label negated (tree.HasResult name arguments) = record { word = name; starred = false; negated = negated; asks = asking.Result }
+test_label negated (tree.HasSwitch (tree.pattern word starred)) = part_label word starred negated asking.Switch
+test_label negated (tree.HasSuffix word) = part_label word false negated asking.Suffix
+test_label negated (tree.HasLanguage word) = part_label word false negated asking.Language
+test_label negated (tree.HasResult name arguments) = part_label name false negated asking.Result
 
 abbrev pub label_of : Item → Label
 label_of (tree.Plain b) = word_label (b ∷ [])
@@ -77,7 +90,7 @@ abbrev mutual
 
   pub choice_nodes : Choices → Nodes
   choice_nodes tree.no_choice = no_node
-  choice_nodes (tree.choice s tests items choices) = node kinds.Alternative no_label s (both (test_nodes tests) (nodes_of items)) (choice_nodes choices)
+  choice_nodes (tree.choice s tests items choices) = node kinds.Alternative (alternative_label items) s (both (test_nodes tests) (nodes_of items)) (choice_nodes choices)
 
   pub test_nodes : Tests → Nodes
   test_nodes tree.no_test = no_node

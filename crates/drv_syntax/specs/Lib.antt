@@ -6,5 +6,6 @@ pub mod Outcome
 pub mod Parsed
 pub mod Reader
 pub mod Spelling
+pub mod Stars
 pub mod Tokens
 pub mod Tree

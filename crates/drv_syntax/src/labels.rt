@@ -1,7 +1,7 @@
 //! What the parts of a text name.
 
-ghost use Rattle.drv_syntax.specs.Labels.{no_label, word_label};
-ghost use Rattle.std.specs.Prelude.{◌≡◌, ◌<◌, ◌++◌, ◌∷◌, [], false, get_or, length, Ok, take};
+ghost use Rattle.drv_syntax.specs.Labels.{no_label, part_label, star_label, word_label};
+ghost use Rattle.std.specs.Prelude.{◌≡◌, ◌<◌, ◌++◌, ◌∷◌, [], false, get_or, length, Ok, slice_set, take};
 ghost use Rattle.drv_words.specs.Gives.{Gives};
 
 use crate::fault::SyntaxFault;
@@ -22,6 +22,8 @@ pub struct Mark {
     pub negated: bool,
     /// What the test asks.
     pub asks: TestKind,
+    /// The X of the alternative has a `%*` of its own.
+    pub holds_star: bool,
 }
 
 /// The labels of the parts of a text, in the order of their tokens.
@@ -64,7 +66,7 @@ impl Labels {
         asks: TestKind,
     ) -> Result<(), SyntaxFault>
         ensures { Gives SyntaxFault.Memory (λ _. self.new) result (Ok (self.old
-            ++ record { word = word.now; starred = starred; negated = negated; asks = asks } ∷ [])) }
+            ++ part_label word.now starred negated asks ∷ [])) }
     {
         let start = self.words.len();
         self.words.extend_from_slice(word)?;
@@ -79,6 +81,7 @@ impl Labels {
             starred,
             negated,
             asks,
+            holds_star: false,
         })?;
         Ok(())
     }
@@ -87,7 +90,7 @@ impl Labels {
     #[tactic(auto, using(crate::proofs::MarkedWords::within_more, crate::proofs::MarkedWords::within_push, crate::proofs::MarkedWords::labels_marked))]
     pub fn push_marked(&mut self, mark: u8, word: &[u8], starred: bool) -> Result<(), SyntaxFault>
         ensures { Gives SyntaxFault.Memory (λ _. self.new) result (Ok (self.old
-            ++ record { word = mark ∷ word.now; starred = starred; negated = false; asks = TestKind.Switch } ∷ [])) }
+            ++ part_label (mark ∷ word.now) starred false TestKind.Switch ∷ [])) }
     {
         let start = self.words.len();
         self.words.push(mark)?;
@@ -102,6 +105,7 @@ impl Labels {
             starred,
             negated: false,
             asks: TestKind::Switch,
+            holds_star: false,
         })?;
         Ok(())
     }
@@ -123,6 +127,7 @@ impl Labels {
             starred: false,
             negated: false,
             asks: TestKind::Switch,
+            holds_star: false,
         })?;
         Ok(())
     }
@@ -138,8 +143,26 @@ impl Labels {
             starred: false,
             negated: false,
             asks: TestKind::Switch,
+            holds_star: false,
         })?;
         Ok(())
+    }
+
+    /// The one at this place becomes that of an alternative, whose X has a `%*` of its own or has none.
+    #[tactic(auto, using(crate::proofs::MarkedWords::within_set, crate::proofs::MarkedWords::labels_set))]
+    pub fn hold(&mut self, place: usize, holds_star: bool)
+        ensures { self.new ≡ slice_set self.old place (star_label holds_star) }
+    {
+        if place < self.marks.len() {
+            self.marks[place] = Mark {
+                start: 0,
+                end: 0,
+                starred: false,
+                negated: false,
+                asks: TestKind::Switch,
+                holds_star,
+            };
+        }
     }
 
     /// Only the first ones, so many.
@@ -188,5 +211,13 @@ impl Labels {
         ensures { result ≡ (get_or self.now place no_label).asks }
     {
         self.marks[place].asks
+    }
+
+    /// Whether the X of its alternative has a `%*` of its own.
+    pub fn holds_star(&self, place: usize) -> bool
+        requires { place < length self.now }
+        ensures { result ≡ (get_or self.now place no_label).holds_star }
+    {
+        self.marks[place].holds_star
     }
 }

@@ -1,18 +1,28 @@
 //! Laws of the grammar. The functions do nothing: each is its contract.
 
 ghost use Rattle.drv_syntax.specs.Fronts.{Front};
-ghost use Rattle.drv_syntax.specs.Outcome.{Bad, Got, Unrefused, read};
+ghost use Rattle.drv_syntax.specs.Outcome.{Bad, Cut, Got, Unrefused, read};
 ghost use Rattle.drv_syntax.specs.Spelling.{Spells};
 ghost use Rattle.drv_syntax.specs.Tree.{Items};
 ghost use Rattle.drv_syntax.specs.declared.fault.SyntaxFault.{SyntaxFault};
 ghost use Rattle.std.specs.Prelude.{◌≡◌, ◌<◌, ◌≤◌, ◌+◌, ◌++◌, List, length, take, ℕ};
 
-/// A refused text is refused at the end of its shortest prefix that is refused: with that byte it is refused there whatever
-/// follows, and no text that begins so is a front.
+/// A refused text is refused at the end of its shortest prefix that is no front: each prefix before it is a front, with that
+/// byte it is refused there whatever follows, and no text that begins so is a front.
 pub fn shortest_prefix()
     ensures { (text : List ℕ) (k : ℕ) (fault : SyntaxFault) → read text ≡ Bad k fault
-        → (k < length text) × ((j : ℕ) → j ≤ k → Unrefused (take j text)) × ((rest : List ℕ) → read (take (k + 1) text ++ rest) ≡ Bad k fault)
-        × ((rest : List ℕ) → Front (take (k + 1) text ++ rest) → ⊥) }
+        → (k < length text) × ((j : ℕ) → j ≤ k → Front (take j text)) × ((rest : List ℕ) → Front (take (k + 1) text ++ rest) → ⊥)
+        × ((rest : List ℕ) → read (take (k + 1) text ++ rest) ≡ Bad k fault) }
+{}
+
+/// A text that has a front, which with the next byte is none, is refused at that byte.
+pub fn refused_behind_front()
+    ensures { (text : List ℕ) (k : ℕ) → k < length text → Front (take k text) → (Front (take (k + 1) text) → ⊥) → (fault : SyntaxFault) × (read text ≡ Bad k fault) }
+{}
+
+/// A front that has no tree is cut short.
+pub fn cut_front()
+    ensures { (text : List ℕ) → Front text → ((items : Items) → Spells text items → ⊥) → (at : ℕ) × (read text ≡ Cut at) }
 {}
 
 /// A text has one tree at most.
@@ -33,4 +43,9 @@ pub fn read_is_spelled()
 /// A front of a spec text is never refused.
 pub fn front_is_unrefused()
     ensures { (text : List ℕ) → Front text → Unrefused text }
+{}
+
+/// A text that gives a tree, or is cut short, is a front.
+pub fn unrefused_is_front()
+    ensures { (text : List ℕ) → Unrefused text → Front text }
 {}

@@ -89,6 +89,14 @@ impl SpecTree {
     {
         self.labels().asks(place)
     }
+
+    /// Whether the X of the alternative at this place has a `%*` of its own, one that stands outside the Xs of inner braces.
+    pub fn holds_star(&self, place: usize) -> bool
+        requires { place < length (tokens_of (tree_of self.now)) }
+        ensures { result ≡ (label_at (tree_of self.now) place).holds_star }
+    {
+        self.labels().holds_star(place)
+    }
 }
 
 /// The tree of a text, or its first fault.

@@ -5,7 +5,7 @@ use Rattle.std.specs.Prelude.{◌-◌, ◌≤◌, List, [], ◌∷◌, drop, map
 -- Labels whose words stand one behind another (this project's profile). For the clauses of the code alone.
 
 abbrev pub marked_label : List ℕ → Mark → Label
-marked_label words m = record { word = take (m.end - m.start) (drop m.start words); starred = m.starred; negated = m.negated; asks = m.asks }
+marked_label words m = record { word = take (m.end - m.start) (drop m.start words); starred = m.starred; negated = m.negated; asks = m.asks; holds_star = m.holds_star }
 
 abbrev pub marked_labels : List ℕ → List Mark → List Label
 marked_labels words marks = map (λ m. marked_label words m) marks

@@ -8,7 +8,7 @@ use Rattle.std.specs.Prelude.{◌+◌, ◌≤◌, length, reverse, List, Result,
 -- The state of the code, as its clauses see it.
 
 abbrev pub state : code.Walk → Walk
-state w = record { stage = w.stage; context = w.context; waiting = reverse w.waiting.items; tokens = w.tokens.items; labels = w.labels; word = w.word.items; kept = w.kept; trailing = w.trailing }
+state w = record { stage = w.stage; context = w.context; waiting = reverse w.waiting.items; tokens = w.tokens.items; labels = w.labels; word = w.word.items; kept = w.kept; trailing = w.trailing; holds_star = w.holds_star }
 
 -- a step adds few tokens
 abbrev pub Fits : code.Walk → code.Walk → Type 0

@@ -1,6 +1,6 @@
 use Rattle.drv_words.specs.Bytes as ascii
 use Rattle.drv_syntax.specs.Bytes.{is_space}
-use Rattle.drv_syntax.specs.Labels.{Label, no_label, word_label}
+use Rattle.drv_syntax.specs.Labels.{Label, no_label, star_label, word_label}
 use Rattle.drv_syntax.specs.Reader.Turns.{behind_pattern, behind_test, called_label, chooses, choice_action, emits, head_action, leaf_kind, leaf_label, list_turn, taken_word}
 use Rattle.drv_syntax.specs.declared.fault.SyntaxFault.TheVariants.{BadDirective, EmptyTest, Unclosed}
 use Rattle.drv_syntax.specs.declared.fault.SyntaxFault.{SyntaxFault}
@@ -38,7 +38,7 @@ use Rattle.drv_syntax.specs.declared.reader.actions.Taken.{Taken}
 use Rattle.drv_syntax.specs.declared.token.Token.{Token}
 use Rattle.drv_syntax.specs.declared.token.TokenKind.TheVariants as kinds
 use Rattle.drv_syntax.specs.declared.token.TokenKind.{TokenKind}
-use Rattle.std.specs.Prelude.{◌+◌, ◌-◌, ◌==◌, Bool, false, true, if◌then◌else◌, ◌&&◌, List, [], ◌∷◌, ◌++◌, length, take, slice_set, Option, None, Some, Result, Err, Ok, ℕ}
+use Rattle.std.specs.Prelude.{◌+◌, ◌-◌, ◌==◌, Bool, false, true, if◌then◌else◌, ◌&&◌, ◌||◌, List, [], ◌∷◌, ◌++◌, length, take, slice_set, Option, None, Some, Result, Err, Ok, ℕ}
 
 -- The state of the code that reads a text, and what each byte makes of it (this project's profile). For the clauses of
 -- the code alone.
@@ -52,6 +52,7 @@ pub record Walk : Type 0 where
   pub word : List ℕ  -- what has been read of a word
   pub kept : ℕ  -- where the innermost list ends without its trailing white space
   pub trailing : ℕ  -- how many bytes of white space it ends in
+  pub holds_star : Bool  -- the innermost X has a %* of its own so far
 
 abbrev pub open_token : TokenKind → ℕ → Token
 open_token kind start = record { kind = kind; start = start; end = start; next = 0 }
@@ -78,6 +79,10 @@ is_white leaves.Blank = true
 is_white leaves.Newline = true
 is_white _ = false
 
+abbrev pub is_star : Leaf → Bool
+is_star leaves.Star = true
+is_star _ = false
+
 -- an item without parts inside it
 abbrev pub with_part : Part → Walk → Walk
 with_part p w =
@@ -90,6 +95,7 @@ with_part p w =
       word = [];
       kept = if is_white p.leaf then w.kept else p.end;
       trailing = if is_white p.leaf then w.trailing + 1 else 0;
+      holds_star = is_star p.leaf || w.holds_star;
     }
 
 abbrev pub at_stage : Stage → Walk → Walk
@@ -100,7 +106,7 @@ with_word word w = record w { word = word }
 
 -- behind an item that ends at this place, in a list with this context
 abbrev pub behind_item : Context → ℕ → Walk → Walk
-behind_item c end w = record { stage = at.List stages.Start; context = c; waiting = w.waiting; tokens = w.tokens; labels = w.labels; word = []; kept = end; trailing = 0 }
+behind_item c end w = record { stage = at.List stages.Start; context = c; waiting = w.waiting; tokens = w.tokens; labels = w.labels; word = []; kept = end; trailing = 0; holds_star = w.holds_star }
 
 abbrev pub deeper_context : Context → Context
 deeper_context c = record { kind = c.kind; in_arguments = c.in_arguments; owner = c.owner; levels = c.levels - 1 }
@@ -120,7 +126,7 @@ brace_token braces.IntoArgumentsFile emitted = kinds.ArgumentsFile
 -- a list opens, in which a directive waits
 abbrev pub enter : Frame → Context → ℕ → Walk → Walk
 enter frame c kept w =
-    record { stage = at.List stages.Start; context = c; waiting = frame ∷ w.waiting; tokens = w.tokens; labels = w.labels; word = []; kept = kept; trailing = 0 }
+    record { stage = at.List stages.Start; context = c; waiting = frame ∷ w.waiting; tokens = w.tokens; labels = w.labels; word = []; kept = kept; trailing = 0; holds_star = w.holds_star }
 
 abbrev pub open_braces : ℕ → BraceKind → Walk → Walk
 open_braces start kind w =
@@ -210,9 +216,12 @@ with_test form behind w =
 abbrev pub close_braces : Head → Bool → ℕ → Context → Walk → Walk
 close_braces head emitted end c w = behind_item c end (close_token (brace_token head.kind emitted) head.part end w)
 
+abbrev pub with_star : Bool → Walk → Walk
+with_star holds w = record w { holds_star = holds }
+
 abbrev pub ask : Head → Open → Bool → Bool → ℕ → Walk → Walk
 ask head part tested starred colon w =
-    enter (frames.X w.context head colon part tested) (x_context w.context (if starred then owners.Starred else owners.Mixed)) (colon + 1) w
+    with_star false (enter (frames.X w.context head colon part tested w.holds_star) (x_context w.context (if starred then owners.Starred else owners.Mixed)) (colon + 1) w)
 
 abbrev pub act_ends : Head → Form → Behind → ℕ → Walk → Result Walk SyntaxFault
 act_ends head form behind n w =
@@ -251,6 +260,11 @@ act_head head form (heads.Refused fault) n b w = Err fault
 abbrev pub trim : Walk → Walk
 trim w = record w { tokens = take (length w.tokens - w.trailing) w.tokens; labels = take (length w.labels - w.trailing) w.labels }
 
+-- an alternative whose X ends without the white space at its end; whether the X around it has a %* of its own so far
+abbrev pub close_alternative : Open → Bool → Walk → Walk
+close_alternative part around w =
+    record (close_token kinds.Alternative part w.kept (trim w)) { labels = slice_set (trim w).labels part.token (star_label w.holds_star); holds_star = around }
+
 abbrev pub close_x : Context → Head → Bool → ℕ → ℕ → Walk → Result Walk SyntaxFault
 close_x c head tested n b w =
     if b == ascii.closing_brace then Ok (close_braces head false (n + 1) c w)
@@ -261,7 +275,7 @@ abbrev pub with_waiting : List Frame → Walk → Walk
 with_waiting waiting w = record w { waiting = waiting }
 
 abbrev pub close_frame : Frame → ℕ → ℕ → Walk → Result Walk SyntaxFault
-close_frame (frames.X c head colon part tested) n b w = close_x c head tested n b (close_token kinds.Alternative part w.kept (trim w))
+close_frame (frames.X c head colon part tested around) n b w = close_x c head tested n b (close_alternative part around w)
 close_frame (frames.Call c part) n b w = Ok (behind_item c (n + 1) (close_token kinds.Function part (n + 1) w))
 close_frame (frames.Test c head alternative part chosen) n b w =
     Ok (at_stage (at.Result head alternative chosen) (behind_item c 0 (close_token kinds.Test part (n + 1) w)))
@@ -318,7 +332,7 @@ abbrev pub step : Walk → ℕ → ℕ → Result Walk SyntaxFault
 step w n b = step_at w.stage n b w
 
 abbrev pub place_of : Frame → ℕ
-place_of (frames.X c head colon part tested) = head.part.start
+place_of (frames.X c head colon part tested around) = head.part.start
 place_of (frames.Call c part) = part.start
 place_of (frames.Test c head alternative part chosen) = head.part.start
 
@@ -373,6 +387,7 @@ started =
       word = [];
       kept = 0;
       trailing = 0;
+      holds_star = false;
     }
 
 abbrev pub then_walk : Result Walk SyntaxFault → (Walk → Result Walk SyntaxFault) → Result Walk SyntaxFault

@@ -1,6 +1,6 @@
 use Rattle.drv_words.specs.Bytes as ascii
 use Rattle.drv_syntax.specs.Bytes.{found, is_blank, is_function, is_function_front, is_mark, is_name, is_of, is_space, is_suffix, is_word, on}
-use Rattle.drv_syntax.specs.Labels.{Label, no_label, pattern_label, word_label}
+use Rattle.drv_syntax.specs.Labels.{Label, no_label, part_label, pattern_label, word_label}
 use Rattle.drv_syntax.specs.Tree.{pattern}
 use Rattle.drv_syntax.specs.declared.fault.SyntaxFault.TheVariants.{BadDirective, EmptyTest, MixedStar, StarOutside, TooNested, UnknownFunction}
 use Rattle.drv_syntax.specs.declared.reader.stages.Behind.TheVariants as behinds
@@ -118,14 +118,14 @@ abbrev pub mark_asks : ℕ → TestKind
 mark_asks mark = if mark == ascii.period then asking.Suffix else asking.Language
 
 abbrev pub behind_test : Behind → List ℕ → Label
-behind_test (behinds.Switch start end negated starred) word = record { word = word; starred = starred; negated = negated; asks = asking.Switch }
-behind_test (behinds.Marked start end negated mark) word = record { word = word; starred = false; negated = negated; asks = mark_asks mark }
-behind_test (behinds.StarredMark start end negated mark) word = record { word = word; starred = false; negated = negated; asks = mark_asks mark }
-behind_test (behinds.Bare start end negated mark) word = record { word = word; starred = false; negated = negated; asks = mark_asks mark }
+behind_test (behinds.Switch start end negated starred) word = part_label word starred negated asking.Switch
+behind_test (behinds.Marked start end negated mark) word = part_label word false negated (mark_asks mark)
+behind_test (behinds.StarredMark start end negated mark) word = part_label word false negated (mark_asks mark)
+behind_test (behinds.Bare start end negated mark) word = part_label word false negated (mark_asks mark)
 
 -- the label of a test of a function
 abbrev pub called_label : Bool → List ℕ → Label
-called_label negated name = record { word = name; starred = false; negated = negated; asks = asking.Result }
+called_label negated name = part_label name false negated asking.Result
 
 abbrev pub part : Leaf → Taken → ℕ → ℕ → Part
 part leaf taken start end = record { leaf = leaf; taken = taken; start = start; end = end }

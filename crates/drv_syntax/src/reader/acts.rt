@@ -194,6 +194,19 @@ fn trim(w: &mut Walk)
     w.labels.truncate(left);
 }
 
+/// An alternative ends, where the X around it has a `%*` of its own so far or has none.
+fn close_alternative(part: Open, around: bool, w: &mut Walk)
+    requires { length w.old.tokens.items < 2 ^ 32 }
+    ensures does { state w.new ≡ steps.close_alternative part around (state w.old) }
+    ensures size { length w.new.tokens.items ≤ length w.old.tokens.items }
+    ensures trail { w.new.trailing ≡ w.old.trailing }
+{
+    trim(w);
+    close_token(TokenKind::Alternative, part, w.kept, w);
+    w.labels.hold(part.token as usize, w.holds_star);
+    w.holds_star = around;
+}
+
 fn close_x(
     c: Context,
     head: Head,
@@ -231,10 +244,10 @@ fn close_frame(frame: Frame, n: u32, b: u8, w: &mut Walk) -> Result<(), SyntaxFa
             head,
             alternative: part,
             tested,
+            around,
             ..
         } => {
-            trim(w);
-            close_token(TokenKind::Alternative, part, w.kept, w);
+            close_alternative(part, around, w);
             close_x(c, head, tested, n, b, w)
         }
         Frame::Call { context: c, part } => {

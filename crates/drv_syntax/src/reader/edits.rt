@@ -85,6 +85,15 @@ fn is_white(leaf: Leaf) -> bool
     }
 }
 
+fn is_star(leaf: Leaf) -> bool
+    ensures { result ≡ steps.is_star leaf }
+{
+    match leaf {
+        Leaf::Star => true,
+        _ => false,
+    }
+}
+
 /// An item without parts inside it.
 pub fn with_part(p: Part, w: &mut Walk) -> Result<(), SyntaxFault>
     requires room { length w.old.tokens.items + 1 < 2 ^ 32 }
@@ -97,6 +106,7 @@ pub fn with_part(p: Part, w: &mut Walk) -> Result<(), SyntaxFault>
     name_leaf(p.leaf, taken_word(p.taken, &w.word), &mut w.labels)?;
     w.stage = Stage::List(ListStage::Start);
     w.word.clear();
+    w.holds_star = is_star(p.leaf) || w.holds_star;
     if is_white(p.leaf) {
         w.trailing += 1;
     } else {
@@ -450,9 +460,12 @@ pub fn ask(
             colon,
             alternative: part,
             tested,
+            around: w.holds_star,
         },
         x_context(w.context, owner),
         colon + 1,
         w,
-    )
+    )?;
+    w.holds_star = false;
+    Ok(())
 }

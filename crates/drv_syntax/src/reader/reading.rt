@@ -100,7 +100,7 @@ fn finish(n: u32, w: &mut Walk) -> Result<(), SyntaxFault>
 fn started(alloc: Global, size: usize) -> Result<Walk, SyntaxFault>
     ensures { Gives SyntaxFault.Memory state result (Ok steps.started) }
 {
-    let count = if size < 32 { size } else { 32 };
+    let count = if size < 128 { size } else { 128 };
     Ok(Walk {
         stage: Stage::List(ListStage::Start),
         context: Context {
@@ -115,6 +115,7 @@ fn started(alloc: Global, size: usize) -> Result<Walk, SyntaxFault>
         word: Vec::with_capacity(alloc, 16)?,
         kept: 0,
         trailing: 0,
+        holds_star: false,
     })
 }
 

@@ -282,13 +282,15 @@ pub enum Stage {
 /// A directive that waits for the end of a list in it, and the context of the list that it stands in.
 #[derive(Clone, Copy)]
 pub enum Frame {
-    /// An X: the braces, the place of the colon, the alternative, and whether it has tests.
+    /// An X: the braces, the place of the colon, the alternative, whether it has tests, and whether the X around has a `%*`
+    /// of its own so far.
     X {
         context: Context,
         head: Head,
         colon: u32,
         alternative: Open,
         tested: bool,
+        around: bool,
     },
     /// A function.
     Call {

@@ -211,6 +211,78 @@ fn begin_word(head: Head, later: bool, n: u32, b: u8, w: &mut Walk) -> Result<()
     Ok(())
 }
 
+/// A `!` where an alternative begins.
+#[tactic(auto, using(crate::proofs::WalkNames::begun_negated))]
+fn begin_negated(head: Head, later: bool, n: u32, w: &mut Walk)
+    ensures does { steps.act_choice head later (turns.choice_action later w.old.context.levels head.part.start n ascii.exclamation_mark) n ascii.exclamation_mark (state w.old) ≡ Ok (state w.new) }
+    ensures fits { Fits w.old w.new }
+{
+    w.stage = Stage::Braces {
+        head,
+        form: form_at(later),
+        stage: HeadStage::TestNegated { start: n },
+    };
+}
+
+/// The first byte of a word behind a `!`.
+#[tactic(auto, using(crate::proofs::WalkNames::negated_word))]
+fn begin_negated_word(
+    head: Head,
+    form: Form,
+    start: u32,
+    n: u32,
+    b: u8,
+    w: &mut Walk,
+) -> Result<(), SyntaxFault>
+    requires byte { (b == ascii.backslash) ≡ false }
+    requires word { bytes.is_word b ≡ true }
+    requires unmarked { bytes.is_mark b ≡ false }
+    ensures does { Gives SyntaxFault.Memory (λ _. state w.new) result (steps.act_head head form (turns.head_action (HeadStage.TestNegated start) w.old.context.levels head.part.start form w.old.word.items n b) n b (state w.old)) }
+    ensures fits { OnOk result (Fits w.old w.new) }
+{
+    w.stage = Stage::Braces {
+        head,
+        form,
+        stage: HeadStage::TestWord {
+            start,
+            negated: true,
+        },
+    };
+    w.word.clear();
+    w.word.push(b)?;
+    Ok(())
+}
+
+/// In the name of a text whose `%` has this place.
+fn step_name(at: u32, n: u32, b: u8, w: &mut Walk) -> Result<(), SyntaxFault>
+    requires room { length w.old.tokens.items < 2 ^ 31 }
+    requires place { n < 2 ^ 31 }
+    requires trail { w.old.trailing < 2 ^ 31 }
+    requires here { w.old.stage ≡ Stage.List (ListStage.NameText at) }
+    ensures does { Gives SyntaxFault.Memory (λ _. state w.new) result (steps.act_list (turns.name_action at w.old.word.items n b) n b (state w.old)) }
+    ensures fits { OnOk result (Fits w.old w.new) }
+{
+    if is_name(b) {
+        if w.word.len() + 1 <= 255 {
+            add_byte(b, w)
+        } else {
+            Err(SyntaxFault::BadDirective(at as usize))
+        }
+    } else if b == b')' && w.word.len() != 0 {
+        with_part(
+            Part {
+                leaf: Leaf::NamedText,
+                taken: Taken::Word,
+                start: at,
+                end: n + 1,
+            },
+            w,
+        )
+    } else {
+        Err(SyntaxFault::BadDirective(at as usize))
+    }
+}
+
 /// What the byte at this place makes of the state, at any stage.
 #[inline(never)]
 fn step_any(n: u32, b: u8, w: &mut Walk) -> Result<(), SyntaxFault>
@@ -260,9 +332,7 @@ pub fn step(n: u32, b: u8, w: &mut Walk) -> Result<(), SyntaxFault>
     match w.stage {
         Stage::List(ListStage::Start) => step_start(n, b, w),
         Stage::List(ListStage::Percent { at }) => step_percent(at, n, b, w),
-        Stage::List(ListStage::NameText { .. }) if is_name(b) && w.word.len() + 1 <= 255 => {
-            add_byte(b, w)
-        }
+        Stage::List(ListStage::NameText { at }) => step_name(at, n, b, w),
         Stage::Braces {
             head,
             form,
@@ -273,6 +343,17 @@ pub fn step(n: u32, b: u8, w: &mut Walk) -> Result<(), SyntaxFault>
             form,
             stage: HeadStage::BehindTest(behind),
         } => step_behind(head, form, behind, n, b, w),
+        Stage::Braces {
+            head,
+            form,
+            stage: HeadStage::TestNegated { start },
+        } if b != b'\\' && is_word(b) && !is_mark(b) => begin_negated_word(
+            head, form, start, n, b, w,
+        ),
+        Stage::Choice { head, later } if b == b'!' => {
+            begin_negated(head, later, n, w);
+            Ok(())
+        }
         Stage::Choice { head, later } if b != b'\\' && is_word(b) && !is_mark(b) => begin_word(
             head, later, n, b, w,
         ),

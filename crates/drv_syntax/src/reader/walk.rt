@@ -23,4 +23,6 @@ pub struct Walk {
     pub kept: u32,
     /// How many bytes of white space it ends in.
     pub trailing: u32,
+    /// The innermost X has a `%*` of its own so far.
+    pub holds_star: bool,
 }

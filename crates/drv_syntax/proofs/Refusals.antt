@@ -1,0 +1,76 @@
+use Rattle.drv_syntax.proofs.FrontsRead.{front_is_read, no_front}
+use Rattle.drv_syntax.proofs.Shortest.{not_bad, shortest}
+use Rattle.drv_syntax.proofs.Sound.{read_is_spelled}
+use Rattle.drv_syntax.proofs.Unrefused.{unrefused_is_front}
+use Rattle.drv_syntax.specs.Fronts.{Front}
+use Rattle.drv_syntax.specs.Outcome.{Bad, Cut, Got, Out, read}
+use Rattle.drv_syntax.specs.Spelling.{Spells}
+use Rattle.drv_syntax.specs.Tree.{Items}
+use Rattle.drv_syntax.specs.declared.fault.SyntaxFault.{SyntaxFault}
+use Rattle.std.proofs.Common.{◌≡◌, ◌∙◌, ◌+◌, ◌++◌, ◌<◌, ◌≤◌, ◌⊎◌, List, [], ◌∷◌, ap, arith, drop, inl, inr, length, refl, subst, suc, sym, take, zero, ℕ}
+use Rattle.std.proofs.lemmas.List.{length-take-le, take-append-drop}
+
+-- A refusal, its place and a cut text by the fronts alone.
+
+take_within : (j k : ℕ) (xs : List ℕ) → j ≤ k → take j (take k xs) ≡ take j xs
+take_within zero k xs h = refl
+take_within (suc j) zero xs h = absurd (omega arith)
+take_within (suc j) (suc k) [] h = refl
+take_within (suc j) (suc k) (x ∷ xs) h = ap (λ (ys : List ℕ). x ∷ ys) (take_within j k xs (omega arith))
+
+-- what is taken is what is taken less, and what follows that
+taken_on : (j k : ℕ) (xs : List ℕ) → j ≤ k → take k xs ≡ take j xs ++ drop j (take k xs)
+taken_on j k xs h = sym (take-append-drop j (take k xs)) ∙ ap (λ (ys : List ℕ). ys ++ drop j (take k xs)) (take_within j k xs h)
+
+less_or_same : (j k : ℕ) → j < k + 1 → (j < k) ⊎ (j ≡ k)
+less_or_same zero zero h = inr refl
+less_or_same zero (suc k) h = inl (omega arith)
+less_or_same (suc j) zero h = absurd (omega arith)
+less_or_same (suc j) (suc k) h = by (less_or_same j k (omega arith))
+  where
+    by : (j < k) ⊎ (j ≡ k) → (suc j < suc k) ⊎ (suc j ≡ suc k)
+    by (inl x) = inl (omega arith)
+    by (inr x) = inr (ap suc x)
+
+-- each prefix before the byte of the refusal is a front, and no text that begins with that byte's prefix
+pub refused_fronts : (text : List ℕ) (k : ℕ) (fault : SyntaxFault) → read text ≡ Bad k fault
+    → (k < length text) × ((j : ℕ) → j ≤ k → Front (take j text)) × ((rest : List ℕ) → Front (take (k + 1) text ++ rest) → ⊥) × ((rest : List ℕ) → read (take (k + 1) text ++ rest) ≡ Bad k fault)
+refused_fronts text k fault h =
+    ((shortest text k fault h).0, λ j l. unrefused_is_front (take j text) ((shortest text k fault h).1 j l), no_front text k fault h, (shortest text k fault h).2)
+
+-- a text is refused at the byte behind its longest front
+pub refused_behind : (text : List ℕ) (k : ℕ) → k < length text → Front (take k text) → (Front (take (k + 1) text) → ⊥) → (fault : SyntaxFault) × (read text ≡ Bad k fault)
+refused_behind text k h f g = by (read (take (k + 1) text)) refl
+  where
+    at_place : (j : ℕ) (fault : SyntaxFault) → read (take (k + 1) text) ≡ Bad j fault → j ≡ k → (fault : SyntaxFault) × (read text ≡ Bad k fault)
+    at_place j fault e i =
+        let d : take (j + 1) (take (k + 1) text) ≡ take (k + 1) text = ap (λ (n : ℕ). take (n + 1) (take (k + 1) text)) i ∙ take_within (k + 1) (k + 1) text (omega arith) in
+        let r : read (take (k + 1) text ++ drop (k + 1) text) ≡ Bad j fault = subst (λ (ys : List ℕ). read (ys ++ drop (k + 1) text) ≡ Bad j fault) d ((shortest (take (k + 1) text) j fault e).2 (drop (k + 1) text)) in
+        (fault, subst (λ (n : ℕ). read text ≡ Bad n fault) i (subst (λ (ys : List ℕ). read ys ≡ Bad j fault) (take-append-drop (k + 1) text) r))
+
+    before : (j : ℕ) (fault : SyntaxFault) → read (take (k + 1) text) ≡ Bad j fault → j < k → (fault : SyntaxFault) × (read text ≡ Bad k fault)
+    before j fault e i =
+        let d : take k text ≡ take (j + 1) (take (k + 1) text) ++ drop (j + 1) (take k text)
+        = taken_on (j + 1) k text (omega arith) ∙ ap (λ (ys : List ℕ). ys ++ drop (j + 1) (take k text)) (sym (take_within (j + 1) (k + 1) text (omega arith))) in
+        absurd (no_front (take (k + 1) text) j fault e (drop (j + 1) (take k text)) (subst Front d f))
+
+    decide : (j : ℕ) (fault : SyntaxFault) → read (take (k + 1) text) ≡ Bad j fault → j < k + 1 → (fault : SyntaxFault) × (read text ≡ Bad k fault)
+    decide j fault e m = either (less_or_same j k m)
+      where
+        either : (j < k) ⊎ (j ≡ k) → (fault : SyntaxFault) × (read text ≡ Bad k fault)
+        either (inl x) = before j fault e x
+        either (inr x) = at_place j fault e x
+
+    by : (r : Out) → read (take (k + 1) text) ≡ r → (fault : SyntaxFault) × (read text ≡ Bad k fault)
+    by (Got items) e = absurd (g (unrefused_is_front (take (k + 1) text) (inl (items, e))))
+    by (Cut at) e = absurd (g (unrefused_is_front (take (k + 1) text) (inr (at, e))))
+    by (Bad j fault) e = decide j fault e (omega (arith, (shortest (take (k + 1) text) j fault e).0, length-take-le (k + 1) text (omega (arith, h))))
+
+-- a front that has no tree is cut short
+pub cut_front : (text : List ℕ) → Front text → ((items : Items) → Spells text items → ⊥) → (at : ℕ) × (read text ≡ Cut at)
+cut_front text f g = by (read text) refl
+  where
+    by : (r : Out) → read text ≡ r → (at : ℕ) × (read text ≡ Cut at)
+    by (Got items) e = absurd (g items (read_is_spelled text items e))
+    by (Cut at) e = (at, e)
+    by (Bad k fault) e = not_bad (read text) k fault (front_is_read text f) e
