@@ -1,19 +1,20 @@
-use Rattle.drv_machine.proofs.ItemKinds.{item_no_test, stars_are, tests_first}
+use Rattle.drv_machine.proofs.ItemKinds.{item_no_test, tests_first}
 use Rattle.drv_machine.proofs.Standing.{next_at, stand_grows}
 use Rattle.drv_machine.proofs.Steps.{then_err, then_ok}
-use Rattle.drv_machine.specs.Atoms.{choices_step, each_hit, first_true, has_star, items_step, matching, places, worked}
+use Rattle.drv_machine.specs.Atoms.{choices_step, each_hit, first_true, items_step, matching, places, worked}
 use Rattle.drv_machine.specs.ByKind.{TrueTest, asks_switch, labelled}
 use Rattle.drv_machine.specs.Context.{Context, names}
-use Rattle.drv_machine.specs.Running.{State, run}
-use Rattle.drv_machine.specs.Standing.{Part, Stands, behind_tests, stars, tests_in}
+use Rattle.drv_machine.specs.Running.{Machine, run}
+use Rattle.drv_machine.specs.Standing.{Part, Stands, behind_tests, tests_in}
 use Rattle.drv_machine.specs.Walking.{each_from, hit_step}
 use Rattle.drv_machine.specs.Working.{◌>>=◌, ◌>>◌, Answer, Levels, Step, look, nothing}
 use Rattle.drv_machine.specs.declared.fault.MachineFault.TheVariants.{Memory}
 use Rattle.drv_machine.specs.declared.fault.MachineFault.{MachineFault}
 use Rattle.drv_match.specs.Matching.{is_hit}
 use Rattle.drv_match.specs.Pattern as switches
-use Rattle.drv_syntax.specs.Labels.{Nodes, both, choice_nodes, label_at, labels_of, no_label, nodes_of, test_label, test_nodes}
+use Rattle.drv_syntax.specs.Labels.{Label, Nodes, alternative_label, both, choice_nodes, label_at, labels_of, nodes_of, test_label, test_nodes}
 use Rattle.drv_syntax.specs.Parsed.{tree_of}
+use Rattle.drv_syntax.specs.Stars.{has_star}
 use Rattle.drv_syntax.specs.Tokens.{tokens_of}
 use Rattle.drv_syntax.specs.Tree as tree
 use Rattle.drv_syntax.specs.Tree.{Asked, Choices, Items, Pattern, Span, Tests}
@@ -27,7 +28,7 @@ use Rattle.std.specs.List.{range_with_len}
 -- Alternatives, one after another.
 
 -- the alternatives that are left at a place, and the state that was there and that is
-pub record ChoicesLeft (F : Facts) (C : Context) (text : List ℕ) (s t : State) (at end : ℕ) (choices : Choices) (levels : Levels) (star : List ℕ) : Type 0 where
+pub record ChoicesLeft (F : Facts) (C : Context) (text : List ℕ) (s t : Machine) (at end : ℕ) (choices : Choices) (levels : Levels) (star : List ℕ) : Type 0 where
   pub rest : Choices
   pub stands : Stands text at (choice_nodes rest) end
   pub same : run F C t (choices_step F C rest levels star) ≡ run F C s (choices_step F C choices levels star)
@@ -39,7 +40,7 @@ pub record FrontChoice (text : List ℕ) (at : ℕ) (choices : Choices) (end : �
   pub others : Choices
   pub is : choices ≡ tree.choice span tests items others
   pub next : ℕ
-  pub part : Part (tokens_of (tree_of text)) (labels_of (tree_of text)) at kinds.Alternative no_label next
+  pub part : Part (tokens_of (tree_of text)) (labels_of (tree_of text)) at kinds.Alternative (alternative_label items) next
   pub within : Stands text (at + 1) (both (test_nodes tests) (nodes_of items)) next
   pub behind : Stands text next (choice_nodes others) end
 
@@ -81,7 +82,7 @@ tested : (F : Facts) (C : Context) (text : List ℕ) (at end : ℕ) (span : Span
 tested F C text at end span tree.no_test items others levels star some s = absurd (some (sym s))
 tested F C text at end span (tree.test place negated asked tests) items others levels star some s = refl
 
-module _ (F : Facts) (C : Context) (text : List ℕ) (s t : State) (at end : ℕ) (h : at < end) (choices : Choices) (levels : Levels) (star : List ℕ) (left : ChoicesLeft F C text s t at end choices levels star) where
+module _ (F : Facts) (C : Context) (text : List ℕ) (s t : Machine) (at end : ℕ) (h : at < end) (choices : Choices) (levels : Levels) (star : List ℕ) (left : ChoicesLeft F C text s t at end choices levels star) where
   from_rest : (f : FrontChoice text at left.rest end) → run F C s (choices_step F C choices levels star) ≡ run F C t (choices_step F C (tree.choice f.span f.tests f.items f.others) levels star)
   from_rest f = sym left.same ∙ ap (λ xs. run F C t (choices_step F C xs levels star)) f.is
 
@@ -90,12 +91,12 @@ module _ (F : Facts) (C : Context) (text : List ℕ) (s t : State) (at end : ℕ
     pub others_there : (choices : Choices) × Stands text token.next (choice_nodes choices) end
     others_there =
         let f = front_choice text at left.rest end h left.stands in
-        (f.others, subst (λ (k : ℕ). Stands text k (choice_nodes f.others) end) (sym (next_at text at token kinds.Alternative no_label f.next there f.part)) f.behind)
+        (f.others, subst (λ (k : ℕ). Stands text k (choice_nodes f.others) end) (sym (next_at text at token kinds.Alternative (alternative_label f.items) f.next there f.part)) f.behind)
 
     module _ (middle : ℕ) (first : (nodes : Nodes) → Stands text (at + 1) nodes token.next → Stands text (at + 1) (tests_in nodes) middle)
         (behind_first : (nodes : Nodes) → Stands text (at + 1) nodes token.next → Stands text middle (behind_tests nodes) token.next) where
       inside : (f : FrontChoice text at left.rest end) → Stands text (at + 1) (both (test_nodes f.tests) (nodes_of f.items)) token.next
-      inside f = subst (λ (k : ℕ). Stands text (at + 1) (both (test_nodes f.tests) (nodes_of f.items)) k) (sym (next_at text at token kinds.Alternative no_label f.next there f.part)) f.within
+      inside f = subst (λ (k : ℕ). Stands text (at + 1) (both (test_nodes f.tests) (nodes_of f.items)) k) (sym (next_at text at token kinds.Alternative (alternative_label f.items) f.next there f.part)) f.within
 
       tests_there : (f : FrontChoice text at left.rest end) → Stands text (at + 1) (test_nodes f.tests) middle
       tests_there f = subst (λ (xs : Nodes). Stands text (at + 1) xs middle) (tests_first f.tests f.items) (first (both (test_nodes f.tests) (nodes_of f.items)) (inside f))
@@ -107,7 +108,7 @@ module _ (F : Facts) (C : Context) (text : List ℕ) (s t : State) (at end : ℕ
       default_is : (f : FrontChoice text at left.rest end) → middle ≡ at + 1 → run F C s (choices_step F C choices levels star) ≡ run F C t (items_step F C f.items levels star)
       default_is f e = from_rest f ∙ ap (λ ts. run F C t (choices_step F C (tree.choice f.span ts f.items f.others) levels star)) (no_tests text (at + 1) middle f.tests e (tests_there f))
 
-      pub as_default : (P : Answer (Unit {0} × State) → Type 0) → middle ≡ at + 1 → ((items : Items) → Stands text middle (nodes_of items) token.next → P (run F C t (items_step F C items levels star))) → P (run F C s (choices_step F C choices levels star))
+      pub as_default : (P : Answer (Unit {0} × Machine) → Type 0) → middle ≡ at + 1 → ((items : Items) → Stands text middle (nodes_of items) token.next → P (run F C t (items_step F C items levels star))) → P (run F C s (choices_step F C choices levels star))
       as_default P e working = let f = front_choice text at left.rest end h left.stands in subst P (sym (default_is f e)) (working f.items (items_there f))
 
       module _ (some : middle ≡ at + 1 → ⊥) where
@@ -125,25 +126,25 @@ module _ (F : Facts) (C : Context) (text : List ℕ) (s t : State) (at end : ℕ
             by (inl memory) = inl memory
             by (inr e) = inr (with_tests f ∙ then_err F C t (first_true F C f.tests levels star) (by_found F C f.items f.others levels star) fault e)
 
-        pub none_true : (u : State) → ((tests : Tests) → Stands text (at + 1) (test_nodes tests) middle → run F C t (first_true F C tests levels star) ≡ Is (Ok (None, u))) → ChoicesLeft F C text s u token.next end choices levels star
+        pub none_true : (u : Machine) → ((tests : Tests) → Stands text (at + 1) (test_nodes tests) middle → run F C t (first_true F C tests levels star) ≡ Is (Ok (None, u))) → ChoicesLeft F C text s u token.next end choices levels star
         none_true u none =
             let f = front_choice text at left.rest end h left.stands in record {
               rest = f.others;
-              stands = subst (λ (k : ℕ). Stands text k (choice_nodes f.others) end) (sym (next_at text at token kinds.Alternative no_label f.next there f.part)) f.behind;
+              stands = subst (λ (k : ℕ). Stands text k (choice_nodes f.others) end) (sym (next_at text at token kinds.Alternative (alternative_label f.items) f.next there f.part)) f.behind;
               same = sym (with_tests f ∙ then_ok F C t (first_true F C f.tests levels star) (by_found F C f.items f.others levels star) None u (none f.tests (tests_there f)));
             }
 
-        pub one_true : (u : State) (test : ℕ) (P : Answer (Unit {0} × State) → Type 0) → ((tests : Tests) → Stands text (at + 1) (test_nodes tests) middle → TrueTest F C text t u test (first_true F C tests levels star))
-            → ((negated : Bool) (asked : Asked) (items : Items) (others : Step (Unit {0})) → label_at (tree_of text) test ≡ test_label negated asked → Stands text middle (nodes_of items) token.next
+        pub one_true : (u : Machine) (test : ℕ) (P : Answer (Unit {0} × Machine) → Type 0) → ((tests : Tests) → Stands text (at + 1) (test_nodes tests) middle → TrueTest F C text t u test (first_true F C tests levels star))
+            → ((negated : Bool) (asked : Asked) (items : Items) (others : Step (Unit {0})) → (label_at (tree_of text) at).holds_star ≡ has_star items → label_at (tree_of text) test ≡ test_label negated asked → Stands text middle (nodes_of items) token.next
             → P (run F C u (worked F C (Some asked) (has_star items) (λ rest inside. items_step F C items inside rest) levels star others)))
             → P (run F C s (choices_step F C choices levels star))
         one_true u test P found working =
             let f = front_choice text at left.rest end h left.stands in
             let g = found f.tests (tests_there f) in
             subst P (sym (with_tests f ∙ then_ok F C t (first_true F C f.tests levels star) (by_found F C f.items f.others levels star) (Some g.asked) u g.gives))
-            (working g.negated g.asked f.items (choices_step F C f.others levels star) g.label_is (items_there f))
+            (working g.negated g.asked f.items (choices_step F C f.others levels star) (ap (λ (l : Label). l.holds_star) f.part.label_is) g.label_is (items_there f))
 
-pub choices_end : (F : Facts) (C : Context) (text : List ℕ) (s t : State) (at end : ℕ) → end ≤ at → (choices : Choices) (levels : Levels) (star : List ℕ) → ChoicesLeft F C text s t at end choices levels star
+pub choices_end : (F : Facts) (C : Context) (text : List ℕ) (s t : Machine) (at end : ℕ) → end ≤ at → (choices : Choices) (levels : Levels) (star : List ℕ) → ChoicesLeft F C text s t at end choices levels star
     → run F C s (choices_step F C choices levels star) ≡ Is (Ok (tt, t))
 choices_end F C text s t at end h choices levels star left = sym left.same ∙ ap (λ xs. run F C t (choices_step F C xs levels star)) (no_choices_left text at left.rest end h left.stands)
 
@@ -169,12 +170,10 @@ each_is F C negated (tree.HasSuffix word) own X levels star others e = absurd cc
 each_is F C negated (tree.HasLanguage word) own X levels star others e = absurd cc
 each_is F C negated (tree.HasResult name items) own X levels star others e = absurd cc
 
-module _ (F : Facts) (C : Context) (text : List ℕ) (s : State) (test middle end : ℕ) (negated : Bool) (asked : Asked) (items : Items) (levels : Levels) (star : List ℕ) (others : Step (Unit {0}))
-    (label : label_at (tree_of text) test ≡ test_label negated asked) (stands : Stands text middle (nodes_of items) end) (b c : Bool)
-    (is : (nodes : Nodes) → Stands text middle nodes end → b ≡ (asks_switch (label_at (tree_of text) test) && stars nodes)) (e : b ≡ c) where
+module _ (F : Facts) (C : Context) (text : List ℕ) (s : Machine) (test middle end : ℕ) (negated : Bool) (asked : Asked) (items : Items) (levels : Levels) (star : List ℕ) (others : Step (Unit {0}))
+    (label : label_at (tree_of text) test ≡ test_label negated asked) (own : Bool) (owns : own ≡ has_star items) (b c : Bool) (is : b ≡ (asks_switch (label_at (tree_of text) test) && own)) (e : b ≡ c) where
   own_is : asks_switch (test_label negated asked) && has_star items ≡ c
-  own_is =
-      ap (λ o. asks_switch (test_label negated asked) && o) (stars_are items) ∙ ap (λ l. asks_switch l && stars (nodes_of items)) (sym label) ∙ sym (is (nodes_of items) stands) ∙ e
+  own_is = ap (λ o. asks_switch (test_label negated asked) && o) (sym owns) ∙ ap (λ l. asks_switch l && own) (sym label) ∙ sym is ∙ e
 
   pub work_once : c ≡ false → worked F C (Some asked) (has_star items) (λ rest inside. items_step F C items inside rest) levels star others ≡ items_step F C items levels star
   work_once f = once_is F C negated asked (has_star items) (λ rest inside. items_step F C items inside rest) levels star others (own_is ∙ f)
@@ -197,7 +196,7 @@ module _ (F : Facts) (C : Context) (p : Pattern) (items : Items) where
   abbrev one : Levels → ℕ → Bool → Step (Unit {0})
   one levels i hit = if hit then hit_step F C p items levels i else nothing
 
-  module _ (levels : Levels) (s : State) (i : ℕ) (h : i < length C.switches) (hit : Bool) (e : hit ≡ is_hit (names C) s.world.hidden (matching p) i) where
+  module _ (levels : Levels) (s : Machine) (i : ℕ) (h : i < length C.switches) (hit : Bool) (e : hit ≡ is_hit (names C) s.world.hidden (matching p) i) where
     at_switch : run F C s (each_from F C p items levels i) ≡ run F C s (one levels i hit >> each_from F C p items levels (i + 1))
     at_switch =
         ap (run F C s) (each_step levels i h)
@@ -210,7 +209,7 @@ module _ (F : Facts) (C : Context) (p : Pattern) (items : Items) where
     pub at_hit : hit ≡ true → run F C s (each_from F C p items levels i) ≡ run F C s (hit_step F C p items levels i >> each_from F C p items levels (i + 1))
     at_hit f = at_switch ∙ ap (λ b. run F C s (one levels i b >> each_from F C p items levels (i + 1))) f
 
-  pub each_end : (levels : Levels) (s : State) (i : ℕ) → length C.switches ≤ i → run F C s (each_from F C p items levels i) ≡ Is (Ok (tt, s))
+  pub each_end : (levels : Levels) (s : Machine) (i : ℕ) → length C.switches ≤ i → run F C s (each_from F C p items levels i) ≡ Is (Ok (tt, s))
   each_end levels s i h = by (length C.switches - i) (omega (arith, h))
     where
       by : (n : ℕ) → n ≡ 0 → run F C s (each levels (range_with_len i n)) ≡ Is (Ok (tt, s))

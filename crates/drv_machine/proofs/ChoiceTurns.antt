@@ -1,10 +1,10 @@
 use Rattle.drv_machine.proofs.ChoiceSteps.{ChoicesLeft, as_default, choices_end, each_all, one_true, others_there, tests_fail, work_for_each, work_once}
 use Rattle.drv_machine.proofs.Onward.{behind_as, entered, leaf, same_step}
-use Rattle.drv_machine.specs.Atoms.{choices_step, first_true, has_star, items_step, matching, worked}
+use Rattle.drv_machine.specs.Atoms.{choices_step, first_true, items_step, matching, worked}
 use Rattle.drv_machine.specs.ByKind.{TrueTest, asks_switch, labelled}
 use Rattle.drv_machine.specs.Context.{Context}
-use Rattle.drv_machine.specs.Running.{State, run}
-use Rattle.drv_machine.specs.Standing.{Stands, behind_tests, stars, tests_in}
+use Rattle.drv_machine.specs.Running.{Machine, run}
+use Rattle.drv_machine.specs.Standing.{Stands, behind_tests, tests_in}
 use Rattle.drv_machine.specs.Walking.{Behind, Left, Skips, each_from, levels_in, onward, star_of}
 use Rattle.drv_machine.specs.Working.{◌>>-◌, Answer, Levels, Step}
 use Rattle.drv_machine.specs.declared.fault.MachineFault.TheVariants.{Memory}
@@ -12,6 +12,7 @@ use Rattle.drv_machine.specs.declared.fault.MachineFault.{MachineFault}
 use Rattle.drv_machine.specs.declared.walk.Walk.{Walk}
 use Rattle.drv_syntax.specs.Labels.{Nodes, label_at, nodes_of, test_label, test_nodes}
 use Rattle.drv_syntax.specs.Parsed.{tree_of}
+use Rattle.drv_syntax.specs.Stars.{has_star}
 use Rattle.drv_syntax.specs.Tokens.{tokens_of}
 use Rattle.drv_syntax.specs.Tree.{Asked, Choices, Items, Pattern, Tests}
 use Rattle.drv_syntax.specs.declared.token.Token.{Token}
@@ -21,7 +22,7 @@ use Rattle.std.proofs.Common.{◌≡◌, ◌⊎◌, ◌&&◌, ◌<◌, ◌≤◌
 
 -- What the walk does at alternatives.
 
-module _ (F : Facts) (C : Context) (text : List ℕ) (w : Walk) (s t : State) (at end : ℕ) (choices : Choices) (given : Answer (Unit {0} × State)) (b : Behind F C text w end (λ levels star. choices_step F C choices levels star) s given)
+module _ (F : Facts) (C : Context) (text : List ℕ) (w : Walk) (s t : Machine) (at end : ℕ) (choices : Choices) (given : Answer (Unit {0} × Machine)) (b : Behind F C text w end (λ levels star. choices_step F C choices levels star) s given)
     (left : (levels : Levels) (star : List ℕ) → ChoicesLeft F C text s t at end choices levels star) where
   -- none is left
   pub none_chosen : end ≤ at → Left F C text (record w { at = end }) t given
@@ -38,7 +39,7 @@ module _ (F : Facts) (C : Context) (text : List ℕ) (w : Walk) (s t : State) (a
     pub default_chosen : middle ≡ at + 1 → Left F C text (record w { at = middle }) t given
     default_chosen e =
         as_default F C text s t at end h choices (levels_in F C b.arounds) (star_of C w.star) (left (levels_in F C b.arounds) (star_of C w.star)) token there middle first behind_first
-        (λ a. (◌>>-◌ {Y = Unit {0} × State} a (λ r. onward F C w.star b.rest b.arounds r.1) ≡ given) → Left F C text (record w { at = middle }) t given) e
+        (λ a. (◌>>-◌ {Y = Unit {0} × Machine} a (λ r. onward F C w.star b.rest b.arounds r.1) ≡ given) → Left F C text (record w { at = middle }) t given) e
         (λ items stands same.
         entered F C text w t given items middle token.next stands
         (behind_as F C text w s given end (λ levels star. choices_step F C choices levels star) b token.next skips (λ levels star. items_step F C items levels star) t same))
@@ -53,34 +54,34 @@ module _ (F : Facts) (C : Context) (text : List ℕ) (w : Walk) (s t : State) (a
           (tests_fail F C text s t at end h choices (levels_in F C b.arounds) (star_of C w.star) (left (levels_in F C b.arounds) (star_of C w.star)) token there middle first behind_first some fault
           (λ tests stands. stopped tests (levels_in F C b.arounds) (star_of C w.star) stands))
 
-      pub one_chosen : (u : State) (test : ℕ) (P : Type 0)
+      pub one_chosen : (u : Machine) (test : ℕ) (P : Type 0)
           → ((tests : Tests) (levels : Levels) (star : List ℕ) → Stands text (at + 1) (test_nodes tests) middle → TrueTest F C text t u test (first_true F C tests levels star))
-          → ((negated : Bool) (asked : Asked) (items : Items) (others : Step (Unit {0})) → label_at (tree_of text) test ≡ test_label negated asked → Stands text middle (nodes_of items) token.next
+          → ((negated : Bool) (asked : Asked) (items : Items) (others : Step (Unit {0})) → (label_at (tree_of text) at).holds_star ≡ has_star items → label_at (tree_of text) test ≡ test_label negated asked → Stands text middle (nodes_of items) token.next
           → Behind F C text w token.next (λ levels star. worked F C (Some asked) (has_star items) (λ rest inside. items_step F C items inside rest) levels star others) u given → P) → P
       one_chosen u test P found chosen =
           one_true F C text s t at end h choices (levels_in F C b.arounds) (star_of C w.star) (left (levels_in F C b.arounds) (star_of C w.star)) token there middle first behind_first some u test
-          (λ a. (◌>>-◌ {Y = Unit {0} × State} a (λ r. onward F C w.star b.rest b.arounds r.1) ≡ given) → P)
+          (λ a. (◌>>-◌ {Y = Unit {0} × Machine} a (λ r. onward F C w.star b.rest b.arounds r.1) ≡ given) → P)
           (λ tests stands. found tests (levels_in F C b.arounds) (star_of C w.star) stands)
-          (λ negated asked items others label stands same.
-          chosen negated asked items others label stands
+          (λ negated asked items others owns label stands same.
+          chosen negated asked items others owns label stands
           (behind_as F C text w s given end (λ levels star. choices_step F C choices levels star) b token.next skips
           (λ levels star. worked F C (Some asked) (has_star items) (λ rest inside. items_step F C items inside rest) levels star others) u same))
           b.same
 
 -- an X whose test is true: once, or for each hit
-module _ (F : Facts) (C : Context) (text : List ℕ) (w : Walk) (s : State) (test start end : ℕ) (negated : Bool) (asked : Asked) (items : Items) (others : Step (Unit {0})) (given : Answer (Unit {0} × State))
+module _ (F : Facts) (C : Context) (text : List ℕ) (w : Walk) (s : Machine) (test start end : ℕ) (negated : Bool) (asked : Asked) (items : Items) (others : Step (Unit {0})) (given : Answer (Unit {0} × Machine))
     (label : label_at (tree_of text) test ≡ test_label negated asked) (stands : Stands text start (nodes_of items) end)
-    (b : Behind F C text w end (λ levels star. worked F C (Some asked) (has_star items) (λ rest inside. items_step F C items inside rest) levels star others) s given) (own : Bool)
-    (is : (nodes : Nodes) → Stands text start nodes end → own ≡ (asks_switch (label_at (tree_of text) test) && stars nodes)) where
-  pub once_entered : own ≡ false → Left F C text (record w { at = start }) s given
+    (b : Behind F C text w end (λ levels star. worked F C (Some asked) (has_star items) (λ rest inside. items_step F C items inside rest) levels star others) s given) (own : Bool) (owns : own ≡ has_star items) (each : Bool)
+    (is : each ≡ (asks_switch (label_at (tree_of text) test) && own)) where
+  pub once_entered : each ≡ false → Left F C text (record w { at = start }) s given
   once_entered e =
       entered F C text w s given items start end stands
       (same_step F C text w s given end (λ levels star. worked F C (Some asked) (has_star items) (λ rest inside. items_step F C items inside rest) levels star others) b (λ levels star. items_step F C items levels star) s
-      (ap (run F C s) (work_once F C text s test start end negated asked items (levels_in F C b.arounds) (star_of C w.star) others label stands own false is e refl)))
+      (ap (run F C s) (work_once F C text s test start end negated asked items (levels_in F C b.arounds) (star_of C w.star) others label own owns each false is e refl)))
 
-  pub each_entered : own ≡ true → (P : Type 0) → ((p : Pattern) → labelled (label_at (tree_of text) test) ≡ matching p → Behind F C text w end (λ levels star. each_from F C p items levels 0) s given → P) → P
+  pub each_entered : each ≡ true → (P : Type 0) → ((p : Pattern) → labelled (label_at (tree_of text) test) ≡ matching p → Behind F C text w end (λ levels star. each_from F C p items levels 0) s given → P) → P
   each_entered e P enter =
-      let each = work_for_each F C text s test start end negated asked items (levels_in F C b.arounds) (star_of C w.star) others label stands own true is e refl in
-      enter each.pattern (ap labelled label ∙ each.labelled_as)
-      (same_step F C text w s given end (λ levels star. worked F C (Some asked) (has_star items) (λ rest inside. items_step F C items inside rest) levels star others) b (λ levels star. each_from F C each.pattern items levels 0) s
-      (ap (run F C s) (each.is ∙ each_all F C each.pattern items (levels_in F C b.arounds))))
+      let works = work_for_each F C text s test start end negated asked items (levels_in F C b.arounds) (star_of C w.star) others label own owns each true is e refl in
+      enter works.pattern (ap labelled label ∙ works.labelled_as)
+      (same_step F C text w s given end (λ levels star. worked F C (Some asked) (has_star items) (λ rest inside. items_step F C items inside rest) levels star others) b (λ levels star. each_from F C works.pattern items levels 0) s
+      (ap (run F C s) (works.is ∙ each_all F C works.pattern items (levels_in F C b.arounds))))

@@ -3,16 +3,16 @@ use Rattle.drv_args.specs.declared.line.Switch.{Switch}
 use Rattle.drv_machine.specs.Atoms.{start}
 use Rattle.drv_machine.specs.Context.{Context, names}
 use Rattle.drv_machine.specs.Cutting.{Cut, all_taken, in_word, nothing_cut, pipe_done, taken, touched}
-use Rattle.drv_machine.specs.Running.{State, begun, run}
+use Rattle.drv_machine.specs.Running.{Machine, begun, run}
 use Rattle.drv_machine.specs.Working.{◌>>-◌, Answer, Atom, Break, Open, Piped, Put, bytes, puts, word_of}
 use Rattle.drv_machine.specs.declared.fault.MachineFault.{MachineFault}
 use Rattle.drv_machine.specs.declared.fault.MachineFault.TheVariants.{Memory}
 use Rattle.drv_system.specs.Facts.{Facts}
 use Rattle.drv_system.specs.Gives.{GivesKnown}
 use Rattle.drv_system.specs.Known.{Is, Unasked}
-use Rattle.std.proofs.Common.{◌≡◌, ◌∙◌, ◌⊎◌, ◌++◌, ◌||◌, List, [], ◌∷◌, Bool, Option, Result, Ok, Err, ap, append_assoc, append-nil, false, inl, inr, length, map, refl, subst, sym, true, ℕ}
+use Rattle.std.proofs.Common.{◌≡◌, ◌∙◌, ◌⊎◌, ◌++◌, ◌||◌, List, [], ◌∷◌, Bool, Option, Result, Ok, Err, ap, arith, append_assoc, append-nil, false, inl, inr, length, map, refl, subst, sym, true, ℕ}
 use Rattle.std.specs.Option.{unwrap_or}
-use Rattle.std.specs.Prelude.{◌==◌, None, Some, replicate}
+use Rattle.std.specs.Prelude.{◌==◌, None, Some, get_or, replicate}
 
 -- Atoms that are put one list after another, as the code puts them.
 
@@ -20,6 +20,12 @@ or_again : (a b : Bool) → ((a || b) || b) ≡ (a || b)
 or_again true b = refl
 or_again false true = refl
 or_again false false = refl
+
+-- bytes of which there is one
+pub one_byte : (bs : List ℕ) → length bs ≡ 1 → bs ≡ get_or bs 0 0 ∷ []
+one_byte [] long = absurd (omega (arith, long))
+one_byte (x ∷ []) long = refl
+one_byte (x ∷ y ∷ bs) long = absurd (omega (arith, long))
 
 -- a word of two parts
 in_word_twice : (c : Cut) (xs ys : List ℕ) → in_word (in_word c xs) ys ≡ in_word c (xs ++ ys)
@@ -33,45 +39,45 @@ module _ (F : Facts) (C : Context) where
   bytes_taken c b [] = refl
   bytes_taken c b (d ∷ ds) = bytes_taken (in_word c (b ∷ [])) d ds ∙ ap (λ e. Is (Ok e)) (in_word_twice c (b ∷ []) (d ∷ ds))
 
-  pub bytes_put : (s : State) (bs word : List ℕ) → false ≡ (length bs == 0) → word ≡ unwrap_or s.cut.word [] ++ bs
+  pub bytes_put : (s : Machine) (bs word : List ℕ) → false ≡ (length bs == 0) → word ≡ unwrap_or s.cut.word [] ++ bs
       → run F C s (bytes bs) ≡ Is (Ok (tt, record s { cut = record (touched s.cut) { word = Some word } }))
   bytes_put s [] word some is = absurd cc
   bytes_put s (b ∷ bs) word some is = ap (λ a. a >>- ended) (bytes_taken s.cut b bs) ∙ ap (λ w. ended (record (touched s.cut) { word = Some w })) (sym is)
     where
-      ended : Cut → Answer (Unit {0} × State)
+      ended : Cut → Answer (Unit {0} × Machine)
       ended d = Is (Ok (tt, record { cut = d; world = s.world }))
 
   -- what is put first, and then what is put behind it
-  pub puts_then : (s : State) (xs ys : List Atom) → run F C s (puts (xs ++ ys)) ≡ (run F C s (puts xs) >>- λ r. run F C r.1 (puts ys))
+  pub puts_then : (s : Machine) (xs ys : List Atom) → run F C s (puts (xs ++ ys)) ≡ (run F C s (puts xs) >>- λ r. run F C r.1 (puts ys))
   puts_then s xs ys = run_then F C s (puts xs) (λ u. puts ys)
 
-  pub put_then : (s t : State) (xs ys : List Atom) → run F C s (puts xs) ≡ Is (Ok (tt, t)) → run F C s (puts (xs ++ ys)) ≡ run F C t (puts ys)
+  pub put_then : (s t : Machine) (xs ys : List Atom) → run F C s (puts xs) ≡ Is (Ok (tt, t)) → run F C s (puts (xs ++ ys)) ≡ run F C t (puts ys)
   put_then s t xs ys went = puts_then s xs ys ∙ ap (λ a. a >>- λ r. run F C r.1 (puts ys)) went
 
-  pub put_failed : (s : State) (xs ys : List Atom) (fault : MachineFault) → (fault ≡ Memory) ⊎ (run F C s (puts xs) ≡ Is (Err fault))
+  pub put_failed : (s : Machine) (xs ys : List Atom) (fault : MachineFault) → (fault ≡ Memory) ⊎ (run F C s (puts xs) ≡ Is (Err fault))
       → (fault ≡ Memory) ⊎ (run F C s (puts (xs ++ ys)) ≡ Is (Err fault))
   put_failed s xs ys fault (inl memory) = inl memory
   put_failed s xs ys fault (inr stopped) = inr (puts_then s xs ys ∙ ap (λ a. a >>- λ r. run F C r.1 (puts ys)) stopped)
 
-  pub put_last : (s t u : State) (xs ys : List Atom) (result : Result (Unit {0}) MachineFault) → run F C s (puts xs) ≡ Is (Ok (tt, t))
+  pub put_last : (s t u : Machine) (xs ys : List Atom) (result : Result (Unit {0}) MachineFault) → run F C s (puts xs) ≡ Is (Ok (tt, t))
       → GivesKnown Memory (λ v. (tt, u)) result (run F C t (puts ys)) → GivesKnown Memory (λ v. (tt, u)) result (run F C s (puts (xs ++ ys)))
   put_last s t u xs ys result went last = subst (λ given. GivesKnown Memory (λ v. (tt, u)) result given) (sym (put_then s t xs ys went)) last
 
   -- what is put in part is put as a whole
-  pub whole_failed : {given whole : Answer (Unit {0} × State)} (fault : MachineFault) → given ≡ whole → (fault ≡ Memory) ⊎ (given ≡ Is (Err fault)) → (fault ≡ Memory) ⊎ (whole ≡ Is (Err fault))
+  pub whole_failed : {given whole : Answer (Unit {0} × Machine)} (fault : MachineFault) → given ≡ whole → (fault ≡ Memory) ⊎ (given ≡ Is (Err fault)) → (fault ≡ Memory) ⊎ (whole ≡ Is (Err fault))
   whole_failed fault same (inl memory) = inl memory
   whole_failed fault same (inr stopped) = inr (sym same ∙ stopped)
 
-  pub whole_last : {given whole : Answer (Unit {0} × State)} (u : State) (result : Result (Unit {0}) MachineFault) → given ≡ whole
+  pub whole_last : {given whole : Answer (Unit {0} × Machine)} (u : Machine) (result : Result (Unit {0}) MachineFault) → given ≡ whole
       → GivesKnown Memory (λ v. (tt, u)) result given → GivesKnown Memory (λ v. (tt, u)) result whole
   whole_last u result same last = subst (λ g. GivesKnown Memory (λ v. (tt, u)) result g) same last
 
   -- a word that is an argument
-  pub argument_none : (s t : State) (argument : Option (List ℕ)) → argument ≡ None → run F C s (puts (Break ∷ [])) ≡ Is (Ok (tt, t))
+  pub argument_none : (s t : Machine) (argument : Option (List ℕ)) → argument ≡ None → run F C s (puts (Break ∷ [])) ≡ Is (Ok (tt, t))
       → run F C s (puts (Break ∷ word_of argument)) ≡ Is (Ok (tt, t))
   argument_none s t argument is went = ap (λ o. run F C s (puts (Break ∷ word_of o))) is ∙ went
 
-  pub argument_open : (s t u : State) (argument : Option (List ℕ)) (word : List ℕ) → argument ≡ Some word → run F C s (puts (Break ∷ [])) ≡ Is (Ok (tt, t))
+  pub argument_open : (s t u : Machine) (argument : Option (List ℕ)) (word : List ℕ) → argument ≡ Some word → run F C s (puts (Break ∷ [])) ≡ Is (Ok (tt, t))
       → run F C t (puts (Open ∷ [])) ≡ Is (Ok (tt, u)) → run F C u (puts (map Put word ++ Break ∷ [])) ≡ run F C s (puts (Break ∷ word_of argument))
   argument_open s t u argument word is went opened =
       sym (ap (λ o. run F C s (puts (Break ∷ word_of o))) is
@@ -80,13 +86,13 @@ module _ (F : Facts) (C : Context) where
       ∙ put_then t u (Open ∷ []) (map Put word ++ Break ∷ []) opened)
 
   -- a word ends, and then its command with a pipe
-  abbrev with_pipe : Unit {0} × State → Answer (Unit {0} × State)
+  abbrev with_pipe : Unit {0} × Machine → Answer (Unit {0} × Machine)
   with_pipe r = Is (Ok (tt, record r.1 { cut = pipe_done r.1.cut }))
 
-  piped_then : (s : State) → run F C s (puts (Piped ∷ [])) ≡ (run F C s (puts (Break ∷ [])) >>- with_pipe)
+  piped_then : (s : Machine) → run F C s (puts (Piped ∷ [])) ≡ (run F C s (puts (Break ∷ [])) >>- with_pipe)
   piped_then s = by (taken F C s.cut Break)
     where
-      ended : Cut → Answer (Unit {0} × State)
+      ended : Cut → Answer (Unit {0} × Machine)
       ended d = Is (Ok (tt, record { cut = d; world = s.world }))
 
       by : (a : Answer Cut) → (((a >>- λ d. Is (Ok (pipe_done d))) >>- λ d. Is (Ok d)) >>- λ d. ended d) ≡ (((a >>- λ d. Is (Ok d)) >>- λ d. ended d) >>- with_pipe)
@@ -94,13 +100,13 @@ module _ (F : Facts) (C : Context) where
       by (Is (Err fault)) = refl
       by Unasked = refl
 
-  pub pipe_put : (s t u : State) → run F C s (puts (Break ∷ [])) ≡ Is (Ok (tt, t)) → u ≡ record t { cut = pipe_done t.cut } → run F C s (puts (Piped ∷ [])) ≡ Is (Ok (tt, u))
+  pub pipe_put : (s t u : Machine) → run F C s (puts (Break ∷ [])) ≡ Is (Ok (tt, t)) → u ≡ record t { cut = pipe_done t.cut } → run F C s (puts (Piped ∷ [])) ≡ Is (Ok (tt, u))
   pipe_put s t u went is = piped_then s ∙ ap (λ a. a >>- with_pipe) went ∙ ap ended (sym is)
     where
-      ended : State → Answer (Unit {0} × State)
+      ended : Machine → Answer (Unit {0} × Machine)
       ended v = Is (Ok (tt, v))
 
-  pub pipe_failed : (s : State) (fault : MachineFault) → (fault ≡ Memory) ⊎ (run F C s (puts (Break ∷ [])) ≡ Is (Err fault))
+  pub pipe_failed : (s : Machine) (fault : MachineFault) → (fault ≡ Memory) ⊎ (run F C s (puts (Break ∷ [])) ≡ Is (Err fault))
       → (fault ≡ Memory) ⊎ (run F C s (puts (Piped ∷ [])) ≡ Is (Err fault))
   pipe_failed s fault (inl memory) = inl memory
   pipe_failed s fault (inr stopped) = inr (piped_then s ∙ ap (λ a. a >>- with_pipe) stopped)

@@ -6,7 +6,7 @@ use Rattle.drv_machine.specs.Atoms.{emitted, matching, places, switch_atoms}
 use Rattle.drv_machine.specs.ByKind.{emitted_from, is_one, labelled}
 use Rattle.drv_machine.specs.Context.{Context, argument, names}
 use Rattle.drv_machine.specs.Cutting.{Cut, all_taken}
-use Rattle.drv_machine.specs.Running.{State, run}
+use Rattle.drv_machine.specs.Running.{Machine, run}
 use Rattle.drv_machine.specs.Standing.{Part, Stands}
 use Rattle.drv_machine.specs.Working.{◌>>-◌, Answer, Atom, Break, Put, World, puts, word_of}
 use Rattle.drv_machine.specs.declared.fault.MachineFault.TheVariants.{Memory}
@@ -108,7 +108,7 @@ patterns_end text at end h done patterns left =
     sym (append-nil done) ∙ ap (λ qs. done ++ map (λ q. matching q.1) qs) (sym (no_patterns_left text at left.rest end h left.stands)) ∙ left.same
 
 -- the switches that are left, one by one
-module _ (F : Facts) (C : Context) (s t : State) (patterns : List switches.Pattern) (hidden : List Bool) (i : ℕ) (h : i < length C.switches) where
+module _ (F : Facts) (C : Context) (s t : Machine) (patterns : List switches.Pattern) (hidden : List Bool) (i : ℕ) (h : i < length C.switches) where
   pub emit_one : is_one F C patterns hidden i ≡ true → run F C s (puts (switch_atoms F C i)) ≡ Is (Ok (tt, t))
       → run F C s (puts (emitted_from F C patterns hidden i)) ≡ run F C t (puts (emitted_from F C patterns hidden (i + 1)))
   emit_one e went = ap (λ list. run F C s (puts list)) (emitted_one F C patterns hidden i h e) ∙ put_then F C s t (switch_atoms F C i) (emitted_from F C patterns hidden (i + 1)) went
@@ -124,13 +124,13 @@ module _ (F : Facts) (C : Context) (s t : State) (patterns : List switches.Patte
   emit_none e = ap (λ list. run F C s (puts list)) (emitted_none F C patterns hidden i h e)
 
 -- what is put leaves the world as it was
-pub put_world : (F : Facts) (C : Context) (s t : State) (atoms : List Atom) → run F C s (puts atoms) ≡ Is (Ok (tt, t)) → t.world ≡ s.world
+pub put_world : (F : Facts) (C : Context) (s t : Machine) (atoms : List Atom) → run F C s (puts atoms) ≡ Is (Ok (tt, t)) → t.world ≡ s.world
 put_world F C s t atoms e = by (all_taken F C s.cut atoms) e
   where
-    by : (a : Answer Cut) → ◌>>-◌ {Y = Unit {0} × State} a (λ d. Is (Ok (tt, record { cut = d; world = s.world }))) ≡ Is (Ok (tt, t)) → t.world ≡ s.world
+    by : (a : Answer Cut) → ◌>>-◌ {Y = Unit {0} × Machine} a (λ d. Is (Ok (tt, record { cut = d; world = s.world }))) ≡ Is (Ok (tt, t)) → t.world ≡ s.world
     by (Is (Ok d)) e = ap world_in (sym e)
       where
-        world_in : Answer (Unit {0} × State) → World
+        world_in : Answer (Unit {0} × Machine) → World
         world_in (Is (Ok r)) = r.1.world
         world_in (Is (Err fault)) = s.world
         world_in Unasked = s.world

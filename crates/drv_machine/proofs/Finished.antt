@@ -1,6 +1,6 @@
 use Rattle.drv_machine.specs.Context.{Context}
 use Rattle.drv_machine.specs.Cutting.{Cut, Line}
-use Rattle.drv_machine.specs.Machine.{alone, command_of}
+use Rattle.drv_machine.specs.Held.{alone, command_of}
 use Rattle.drv_machine.specs.Outcome.{command, ends_piped, finished, groups, job, most_piped}
 use Rattle.drv_machine.specs.Working.{World}
 use Rattle.drv_system.specs.Facts.{Facts}

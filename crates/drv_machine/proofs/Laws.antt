@@ -2,7 +2,7 @@ use Rattle.drv_machine.specs.Atoms.{atoms, whole_text}
 use Rattle.drv_machine.specs.Context.{Context}
 use Rattle.drv_machine.specs.Cutting.{Cut, all_taken, nothing_cut, taken}
 use Rattle.drv_machine.specs.Outcome.{cut, finished, outcome}
-use Rattle.drv_machine.specs.Running.{State, begun, done, run}
+use Rattle.drv_machine.specs.Running.{Machine, begun, done, run}
 use Rattle.drv_machine.specs.Working.{◌>>-◌, ◌>>=◌, Answer, Atom, Goes, Refuses, Step, Waits, Work, behind, follow}
 use Rattle.drv_syntax.specs.Tree.{Items}
 use Rattle.drv_system.specs.Facts.{Facts}
@@ -45,7 +45,7 @@ module _ (F : Facts) (C : Context) where
   done-follow c (Waits xs) f = sym (then_then (all_taken F C c xs) (λ d. Unasked) (λ r. run F C r.1 (f r.0)))
 
   -- one part and then another
-  pub run_then : {X Y : Type 0} (s : State) (a : Step X) (f : X → Step Y) → run F C s (a >>= f) ≡ (run F C s a >>- λ r. run F C r.1 (f r.0))
+  pub run_then : {X Y : Type 0} (s : Machine) (a : Step X) (f : X → Step Y) → run F C s (a >>= f) ≡ (run F C s a >>- λ r. run F C r.1 (f r.0))
   run_then s a f = done-follow s.cut (a s.world) f
 
   cut_done : (work : Work Unit) → cut F C work ≡ (done F C nothing_cut work >>- λ r. finished F C r.1.world r.1.cut)

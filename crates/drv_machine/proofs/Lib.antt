@@ -13,6 +13,7 @@ pub mod Parts
 pub mod Rows
 pub mod Standing
 pub mod Steps
+pub mod Tables
 pub mod TrueTests
 pub mod TurnSteps
 pub mod WorkSteps

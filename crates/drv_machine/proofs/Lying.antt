@@ -2,7 +2,7 @@ use Rattle.drv_machine.proofs.ItemKinds.{item_no_alternative}
 use Rattle.drv_machine.proofs.Standing.{next_at, some_same, stand_grows}
 use Rattle.drv_machine.specs.Standing.{Part, Stands}
 use Rattle.drv_machine.specs.Walking.{Lies, Skips}
-use Rattle.drv_syntax.specs.Labels.{choice_nodes, inner_nodes, label_of, labels_of, no_label, nodes_of}
+use Rattle.drv_syntax.specs.Labels.{Label, alternative_label, choice_nodes, inner_nodes, label_of, labels_of, nodes_of}
 use Rattle.drv_syntax.specs.Parsed.{tree_of}
 use Rattle.drv_syntax.specs.Tokens.{kind_of, tokens_of}
 use Rattle.drv_syntax.specs.Tree as tree
@@ -99,18 +99,18 @@ module _ (text : List ℕ) (at : ℕ) (token : Token) (there : slice_get (tokens
       let same = some_same part.token token (sym part.there ∙ ap (slice_get (tokens_of (tree_of text))) (sym e) ∙ there) in
       item_no_alternative item (sym part.kind_is ∙ ap (λ (t : Token). t.kind) same ∙ alternative)
 
-  past : (choices : Choices) (next end : ℕ) → Part (tokens_of (tree_of text)) (labels_of (tree_of text)) at kinds.Alternative no_label next → Stands text next (choice_nodes choices) end → Skips text token.next end
-  past choices next end part behind = (choices, subst (λ (k : ℕ). Stands text k (choice_nodes choices) end) (sym (next_at text at token kinds.Alternative no_label next there part)) behind)
+  past : (label : Label) (choices : Choices) (next end : ℕ) → Part (tokens_of (tree_of text)) (labels_of (tree_of text)) at kinds.Alternative label next → Stands text next (choice_nodes choices) end → Skips text token.next end
+  past label choices next end part behind = (choices, subst (λ (k : ℕ). Stands text k (choice_nodes choices) end) (sym (next_at text at token kinds.Alternative label next there part)) behind)
 
   pub lies_past : (rest : Items) (end : ℕ) → at < end → Lies text at rest end → Lies text token.next rest end
   lies_past tree.none end h (tree.no_choice, e) = absurd (omega (arith, h, e))
-  lies_past tree.none end h (tree.choice span tests items others, (next, part, within, behind)) = past others next end part behind
+  lies_past tree.none end h (tree.choice span tests items others, (next, part, within, behind)) = past (alternative_label items) others next end part behind
   lies_past (tree.more span item items) end h (start, next, (tree.no_choice, e), part, within, behind) = absurd (no_item item next start e part)
-  lies_past (tree.more span item items) end h (start, next, (tree.choice s tests xs others, (n, part, within, behind)), p, w, b) = (start, next, past others n start part behind, p, w, b)
+  lies_past (tree.more span item items) end h (start, next, (tree.choice s tests xs others, (n, part, within, behind)), p, w, b) = (start, next, past (alternative_label xs) others n start part behind, p, w, b)
 
   pub past_later : (rest : Items) (end : ℕ) → at < end → Lies text at rest end → at < token.next
   past_later tree.none end h (tree.no_choice, e) = absurd (omega (arith, h, e))
-  past_later tree.none end h (tree.choice span tests items others, (next, part, within, behind)) = omega (arith, part.later, next_at text at token kinds.Alternative no_label next there part)
+  past_later tree.none end h (tree.choice span tests items others, (next, part, within, behind)) = omega (arith, part.later, next_at text at token kinds.Alternative (alternative_label items) next there part)
   past_later (tree.more span item items) end h (start, next, (tree.no_choice, e), part, within, behind) = absurd (no_item item next start e part)
   past_later (tree.more span item items) end h (start, next, (tree.choice s tests xs others, (n, part, within, behind)), p, w, b) =
-      omega (arith, part.later, next_at text at token kinds.Alternative no_label n there part)
+      omega (arith, part.later, next_at text at token kinds.Alternative (alternative_label xs) n there part)

@@ -6,7 +6,7 @@ use Rattle.drv_machine.proofs.WorkSteps.{item_means}
 use Rattle.drv_machine.specs.Atoms.{choices_step, item_step, items_step, levels_left, matching}
 use Rattle.drv_machine.specs.ByKind.{Means, kind_step}
 use Rattle.drv_machine.specs.Context.{Context, argument, names}
-use Rattle.drv_machine.specs.Running.{State, run}
+use Rattle.drv_machine.specs.Running.{Machine, run}
 use Rattle.drv_machine.specs.Standing.{Part, Stands}
 use Rattle.drv_machine.specs.Walking.{Around, Behind, Fits, Framed, HitFits, Left, Lies, Skips, Went, back_of, closing, each_from, ends, hit_step, hits_left, levels_in, onward, star_of, weight}
 use Rattle.drv_machine.specs.Working.{◌>>-◌, ◌>>◌, Answer, Break, Levels, Step, counted, most_open, puts, word_of}
@@ -54,12 +54,6 @@ last_same (z ∷ zs) (v ∷ vs) x y e =
     let r = last_same zs vs x y (ap tail_of e) in (ap (λ h. h ∷ zs) (ap (head_or z) e) ∙ ap (λ t. v ∷ t) r.0, r.1)
 
 -- whether as many parts are open as may be
-pub full_is : (full : Bool) (n : ℕ) → full ≡ (n == 64) → full ≡ true → n ≡ 64
-full_is full n e t = let f : (n == 64) ≡ true = sym e ∙ t in grind (arith, nat_tests)
-
-pub not_full : (full : Bool) (n : ℕ) → full ≡ (n == 64) → n ≤ 64 → full ≡ false → n < 64
-not_full full n e h t = let f : (n == 64) ≡ false = sym e ∙ t in grind (arith, nat_tests)
-
 -- how many parts are open
 pub framed_long : (text : List ℕ) (C : Context) (frames : List Frame) (arounds : List Around) → Framed text C frames arounds → length frames ≡ length arounds
 framed_long text C frames [] e = ap (λ fs. length fs) e
@@ -102,14 +96,14 @@ weight_one size (f ∷ frames) frame = let e : weight size (frames ++ frame ∷ 
 
 module _ (F : Facts) (C : Context) where
   -- three steps
-  three : (s : State) (a b d : Step (Unit {0})) (k : Unit {0} × State → Answer (Unit {0} × State)) → (run F C s ((a >> b) >> d) >>- k) ≡ (run F C s a >>- λ r. run F C r.1 (b >> d) >>- k)
+  three : (s : Machine) (a b d : Step (Unit {0})) (k : Unit {0} × Machine → Answer (Unit {0} × Machine)) → (run F C s ((a >> b) >> d) >>- k) ≡ (run F C s a >>- λ r. run F C r.1 (b >> d) >>- k)
   three s a b d k =
       ap (λ x. x >>- k) (run_then F C s (a >> b) (λ u. d) ∙ ap (λ x. x >>- λ r. run F C r.1 d) (run_then F C s a (λ u. b)) ∙ then_then (run F C s a) (λ r. run F C r.1 b) (λ r. run F C r.1 d))
       ∙ then_then (run F C s a) (λ r. run F C r.1 b >>- λ q. run F C q.1 d) k
       ∙ then_same (run F C s a) (λ r. (run F C r.1 b >>- λ q. run F C q.1 d) >>- k) (λ r. run F C r.1 (b >> d) >>- k) (λ r. ap (λ x. x >>- k) (sym (run_then F C r.1 b (λ u. d))))
 
   -- items of two lists
-  joined_runs : (xs ys : Items) (levels : Levels) (star : List ℕ) (s : State)
+  joined_runs : (xs ys : Items) (levels : Levels) (star : List ℕ) (s : Machine)
       → run F C s (items_step F C (joined xs ys) levels star) ≡ (run F C s (items_step F C xs levels star) >>- λ r. run F C r.1 (items_step F C ys levels star))
   joined_runs tree.none ys levels star s = refl
   joined_runs (tree.more span item xs) ys levels star s =
@@ -120,7 +114,7 @@ module _ (F : Facts) (C : Context) where
       ∙ ap (λ x. x >>- λ q. run F C q.1 (items_step F C ys levels star)) (sym (run_then F C s (counted >> item_step F C item levels star) (λ u. items_step F C xs levels star)))
 
   -- an item that was counted
-  item_next : (span : Span) (item : Item) (others : Items) (levels : Levels) (star : List ℕ) (s u : State) (k : Unit {0} × State → Answer (Unit {0} × State)) → run F C s counted ≡ Is (Ok (tt, u))
+  item_next : (span : Span) (item : Item) (others : Items) (levels : Levels) (star : List ℕ) (s u : Machine) (k : Unit {0} × Machine → Answer (Unit {0} × Machine)) → run F C s counted ≡ Is (Ok (tt, u))
       → (run F C s (items_step F C (tree.more span item others) levels star) >>- k) ≡ (run F C u (item_step F C item levels star) >>- λ r. run F C r.1 (items_step F C others levels star) >>- k)
   item_next span item others levels star s u k e =
       three s counted (item_step F C item levels star) (items_step F C others levels star) k
@@ -128,9 +122,9 @@ module _ (F : Facts) (C : Context) where
       ∙ ap (λ x. x >>- k) (run_then F C u (item_step F C item levels star) (λ v. items_step F C others levels star))
       ∙ then_then (run F C u (item_step F C item levels star)) (λ r. run F C r.1 (items_step F C others levels star)) k
 
-  module _ (text : List ℕ) (w : Walk) (s : State) (given : Answer (Unit {0} × State)) where
+  module _ (text : List ℕ) (w : Walk) (s : Machine) (given : Answer (Unit {0} × Machine)) where
     -- the item that is reached, behind its count
-    pub behind_item : (left : Left F C text w s given) (r : Reached text w.at left.rest w.end) (u : State) → run F C s counted ≡ Is (Ok (tt, u)) → Behind F C text w r.next (λ levels star. item_step F C r.item levels star) u given
+    pub behind_item : (left : Left F C text w s given) (r : Reached text w.at left.rest w.end) (u : Machine) → run F C s counted ≡ Is (Ok (tt, u)) → Behind F C text w r.next (λ levels star. item_step F C r.item levels star) u given
     behind_item left r u e = record {
       rest = r.others;
       arounds = left.arounds;
@@ -154,7 +148,7 @@ module _ (F : Facts) (C : Context) where
 
     module _ (at : ℕ) (step : Levels → List ℕ → Step (Unit {0})) (b : Behind F C text w at step s given) where
       -- a step that was worked, or refused
-      pub leaf : (result : Result (Unit {0}) MachineFault) (t : State) → GivesKnown Memory (λ u. (tt, t)) result (run F C s (step (levels_in F C b.arounds) (star_of C w.star)))
+      pub leaf : (result : Result (Unit {0}) MachineFault) (t : Machine) → GivesKnown Memory (λ u. (tt, t)) result (run F C s (step (levels_in F C b.arounds) (star_of C w.star)))
           → Went F C text (record w { at = at }) t given result
       leaf (Ok u) t e = record {
         rest = b.rest;
@@ -167,11 +161,11 @@ module _ (F : Facts) (C : Context) where
       leaf (Err fault) t (inr e) = inr (sym b.same ∙ ap (λ x. x >>- λ r. onward F C w.star b.rest b.arounds r.1) e)
 
       -- another step from another place on
-      pub behind_as : (front : ℕ) → Skips text front at → (other : Levels → List ℕ → Step (Unit {0})) (t : State)
+      pub behind_as : (front : ℕ) → Skips text front at → (other : Levels → List ℕ → Step (Unit {0})) (t : Machine)
           → ((run F C t (other (levels_in F C b.arounds) (star_of C w.star)) >>- λ r. onward F C w.star b.rest b.arounds r.1) ≡ given) → Behind F C text w front other t given
       behind_as front skips other t e = record { rest = b.rest; arounds = b.arounds; lies = lies_behind text front at b.rest w.end skips b.lies; framed = b.framed; same = e }
 
-      pub same_step : (other : Levels → List ℕ → Step (Unit {0})) (t : State)
+      pub same_step : (other : Levels → List ℕ → Step (Unit {0})) (t : Machine)
           → run F C s (step (levels_in F C b.arounds) (star_of C w.star)) ≡ run F C t (other (levels_in F C b.arounds) (star_of C w.star)) → Behind F C text w at other t given
       same_step other t e = record {
         rest = b.rest;
@@ -200,11 +194,15 @@ module _ (F : Facts) (C : Context) where
       levels_full : (n : ℕ) → n ≡ 64 → levels_left F C (most_open - n) ≡ []
       levels_full n e = ap (λ k. levels_left F C (most_open - k)) e
 
-      pub too_deep : length w.frames.items ≡ 64 → given ≡ Is (Err SpecTooDeep)
+      too_deep : length w.frames ≡ 64 → given ≡ Is (Err SpecTooDeep)
       too_deep h =
           sym b.same
           ∙ ap (λ levels. run F C s (hit_step F C p items levels switch >> each_from F C p items levels (switch + 1)) >>- λ r. onward F C w.star b.rest b.arounds r.1)
-          (levels_full (length b.arounds) (sym (framed_long text C w.frames.items b.arounds b.framed) ∙ h))
+          (levels_full (length b.arounds) (sym (framed_long text C w.frames b.arounds b.framed) ∙ h))
+
+      pub push_refused : (fault : MachineFault) → (fault ≡ Memory) ⊎ ((fault ≡ SpecTooDeep) × (length w.frames ≡ 64)) → (fault ≡ Memory) ⊎ (given ≡ Is (Err fault))
+      push_refused fault (inl memory) = inl memory
+      push_refused fault (inr full) = inr (too_deep full.1 ∙ ap (λ f. Is (Err f)) (sym full.0))
 
       abbrev frame : Frame
       frame = record { opened = Hit each switch; end = w.end; star = w.star }
@@ -218,18 +216,18 @@ module _ (F : Facts) (C : Context) where
           by : (k m : ℕ) → k ≡ suc m → levels_left F C k ≡ ◌∷◌ (λ xs. items_step F C xs (levels_left F C m) []) (levels_left F C m)
           by k m e = ap (levels_left F C) e
 
-      pub opened_left : length w.frames.items < 64 → (v : Walk) → v.at ≡ each.start → v.end ≡ each.end → v.star ≡ Some (record { switch = switch; size = size }) → v.frames.items ≡ w.frames.items ++ frame ∷ []
+      pub opened_left : length w.frames < 64 → (v : Walk) → v.at ≡ each.start → v.end ≡ each.end → v.star ≡ Some (record { switch = switch; size = size }) → v.frames ≡ w.frames ++ frame ∷ []
           → Left F C text v s given
       opened_left h v at_is end_is star_is frames_is =
-          let n = framed_long text C w.frames.items b.arounds b.framed in
+          let n = framed_long text C w.frames b.arounds b.framed in
           let inside : Levels = levels_left F C (most_open - (length b.arounds + 1)) in
-          let k : Unit {0} × State → Answer (Unit {0} × State) = λ r. onward F C w.star b.rest b.arounds r.1 in
+          let k : Unit {0} × Machine → Answer (Unit {0} × Machine) = λ r. onward F C w.star b.rest b.arounds r.1 in
           let work : Step (Unit {0}) = items_step F C items (levels_left F C (most_open - (length b.arounds + 1))) (drop (length (matching p).name) (name_at (names C) switch)) in
           record {
             rest = items;
             arounds = around ∷ b.arounds;
             lies = subst (λ (k : ℕ). Lies text k items v.end) (sym at_is) (subst (λ (k : ℕ). Lies text each.start items k) (sym end_is) (lies_alone text items each.start each.end fits.stands));
-            framed = (w.frames.items, frames_is, record { opened = fits; behind = b.lies }, b.framed);
+            framed = (w.frames, frames_is, record { opened = fits; behind = b.lies }, b.framed);
             same =
                 ap (λ star. onward F C star items (around ∷ b.arounds) s) star_is
                 ∙ deeper_is (length (around ∷ b.arounds)) (length b.arounds + 1) (omega arith)
@@ -245,7 +243,7 @@ module _ (F : Facts) (C : Context) where
           deeper_is m n e = ap (λ k. run F C s (items_step F C items (levels_left F C (most_open - k)) (drop size (name_at (names C) switch))) >>- λ r. ends F C (around ∷ b.arounds) r.1) e
 
     -- what a part was opened for, behind its end
-    pub closes : (left : Left F C text w s given) → w.end ≤ w.at → (frame : Frame) (outer : List Frame) (o : Popped text C left.arounds frame outer) (v : Walk) → v.end ≡ frame.end → v.star ≡ frame.star → v.frames.items ≡ outer
+    pub closes : (left : Left F C text w s given) → w.end ≤ w.at → (frame : Frame) (outer : List Frame) (o : Popped text C left.arounds frame outer) (v : Walk) → v.end ≡ frame.end → v.star ≡ frame.star → v.frames ≡ outer
         → Behind F C text v (back_of frame.opened) (λ levels star. closing F C levels frame.opened o.around.pattern o.around.items) s given
     closes left h frame outer o v end_is star_is frames_is =
         let f = o.frame_is in record {

@@ -1,4 +1,4 @@
-use Rattle.drv_machine.specs.Standing.{Part, Spans, Stand, Stands, behind_tests, is_test, starred, stars, test_stars, tests_in}
+use Rattle.drv_machine.specs.Standing.{Part, Spans, Stand, Stands, behind_tests, is_test, tests_in}
 use Rattle.drv_syntax.proofs.WalkNodes.{flat, items_flat}
 use Rattle.drv_syntax.specs.Labels.{Label, Nodes, both, labels, labels_of, no_label, no_node, node, nodes_of}
 use Rattle.drv_syntax.specs.Parsed.{tree_of}
@@ -120,12 +120,6 @@ front text at (node kind label span inner others) end h (next, part, within, beh
   behind = behind;
 }
 
--- Looking for a %*: none stood before the place that is reached.
-pub record Seen (text : List ℕ) (at : ℕ) (nodes : Nodes) (end : ℕ) : Type 0 where
-  pub rest : Nodes
-  pub stands : Stands text at rest end
-  pub same : stars nodes ≡ stars rest
-
 pub some_same : {X : Type 0} (a b : X) → Some a ≡ Some b → a ≡ b
 some_same {X = X} a b e = ap (λ (o : Option X). unwrap_or o a) e
 
@@ -179,24 +173,6 @@ module _ (text : List ℕ) (at end : ℕ) (h : at < end) (token : Token) (e : sl
               (f.is ∙ sym (ap (λ b. if b then behind_tests f.others else node f.kind f.label f.span f.inner f.others) test) ∙ sym (ap behind_tests f.is) ∙ p.same) p.stands,
         )
 
-  module _ (nodes : Nodes) where
-    pub seen_step : (s : Seen text at nodes end) → ((inner : Nodes) → Stands text (at + 1) inner token.next → starred token.kind (stars inner) (test_stars inner) ≡ false) → Seen text token.next nodes end
-    seen_step s none =
-        let f = front text at s.rest end h s.stands in
-        let n = next_there s.rest f in
-        let no : starred token.kind (stars f.inner) (test_stars f.inner) ≡ false = none f.inner (subst (λ (k : ℕ). Stands text (at + 1) f.inner k) (sym n) f.within) in record {
-          rest = f.others;
-          stands = subst (λ (k : ℕ). Stands text k f.others end) (sym n) f.behind;
-          same = s.same ∙ ap stars f.is ∙ ap (λ k. starred k (stars f.inner) (test_stars f.inner) || stars f.others) (sym (kind_there s.rest f)) ∙ ap (λ b. b || stars f.others) no;
-        }
-
-    pub seen_found : (s : Seen text at nodes end) → ((inner : Nodes) → Stands text (at + 1) inner token.next → starred token.kind (stars inner) (test_stars inner) ≡ true) → true ≡ stars nodes
-    seen_found s some =
-        let f = front text at s.rest end h s.stands in
-        let n = next_there s.rest f in
-        let yes : starred token.kind (stars f.inner) (test_stars f.inner) ≡ true = some f.inner (subst (λ (k : ℕ). Stands text (at + 1) f.inner k) (sym n) f.within) in
-        sym (s.same ∙ ap stars f.is ∙ ap (λ k. starred k (stars f.inner) (test_stars f.inner) || stars f.others) (sym (kind_there s.rest f)) ∙ ap (λ b. b || stars f.others) yes)
-
 -- at the end nothing is left
 pub none_left : (text : List ℕ) (at end : ℕ) (nodes : Nodes) → end ≤ at → Stands text at nodes end → nodes ≡ no_node
 none_left text at end no_node h s = refl
@@ -205,11 +181,6 @@ none_left text at end (node kind label span inner others) h (next, part, within,
 pub not_test : (kind : TokenKind) → (kind ≡ kinds.Test → ⊥) → is_test kind ≡ false
 not_test kinds.Test h = absurd (h refl)
 not_test _ h = refl
-
-pub starred_inside : (kind : TokenKind) (a b : Bool) → (kind ≡ kinds.Star → ⊥) → (kind ≡ kinds.Alternative → ⊥) → starred kind a b ≡ a
-starred_inside kinds.Star a b h g = absurd (h refl)
-starred_inside kinds.Alternative a b h g = absurd (g refl)
-starred_inside _ a b h g = refl
 
 pub front_in : (text : List ℕ) (at end : ℕ) → at < end → Spans text at end → at < length (tokens_of (tree_of text))
 front_in text at end h s = let f = front text at s.nodes end h s.stands in slice_get_within (tokens_of (tree_of text)) at f.part.token f.part.there
@@ -223,9 +194,6 @@ passed_end text start at nodes end h p =
       p.joins at (subst (λ (xs : Nodes). Stands text at xs at) (sym (ap tests_in none)) refl),
       subst (λ (xs : Nodes). Stands text at xs end) (sym (ap behind_tests none) ∙ p.same) (at_end text at end p.rest h p.stands),
     )
-
-pub seen_end : (text : List ℕ) (at : ℕ) (nodes : Nodes) (end : ℕ) → end ≤ at → Seen text at nodes end → false ≡ stars nodes
-seen_end text at nodes end h s = sym (s.same ∙ ap stars (none_left text at end s.rest h s.stands))
 
 -- the part at a place ends where its token says
 pub next_at : (text : List ℕ) (at : ℕ) (token : Token) (kind : TokenKind) (label : Label) (next : ℕ) → slice_get (tokens_of (tree_of text)) at ≡ Some token

@@ -1,6 +1,6 @@
 use Rattle.drv_machine.proofs.Laws.{run_then}
 use Rattle.drv_machine.specs.Context.{Context}
-use Rattle.drv_machine.specs.Running.{State, run}
+use Rattle.drv_machine.specs.Running.{Machine, run}
 use Rattle.drv_machine.specs.Working.{◌>>-◌, ◌>>=◌, Answer, Step}
 use Rattle.drv_machine.specs.declared.fault.MachineFault.TheVariants.{Memory}
 use Rattle.drv_machine.specs.declared.fault.MachineFault.{MachineFault}
@@ -11,12 +11,12 @@ use Rattle.std.proofs.Common.{◌≡◌, ◌⊎◌, ◌∙◌, Bool, Err, Ok, Re
 
 -- One part of a text after another, where the first has been worked.
 
-module _ {X Y : Type 0} (F : Facts) (C : Context) (s : State) (a : Step X) (f : X → Step Y) where
-  pub then_ok : (x : X) (t : State) → run F C s a ≡ Is (Ok (x, t)) → run F C s (a >>= f) ≡ run F C t (f x)
-  then_ok x t e = run_then F C s a f ∙ ap (λ (g : Answer (X × State)). g >>- λ r. run F C r.1 (f r.0)) e
+module _ {X Y : Type 0} (F : Facts) (C : Context) (s : Machine) (a : Step X) (f : X → Step Y) where
+  pub then_ok : (x : X) (t : Machine) → run F C s a ≡ Is (Ok (x, t)) → run F C s (a >>= f) ≡ run F C t (f x)
+  then_ok x t e = run_then F C s a f ∙ ap (λ (g : Answer (X × Machine)). g >>- λ r. run F C r.1 (f r.0)) e
 
   pub then_err : (fault : MachineFault) → run F C s a ≡ Is (Err fault) → run F C s (a >>= f) ≡ Is (Err fault)
-  then_err fault e = run_then F C s a f ∙ ap (λ (g : Answer (X × State)). g >>- λ r. run F C r.1 (f r.0)) e
+  then_err fault e = run_then F C s a f ∙ ap (λ (g : Answer (X × Machine)). g >>- λ r. run F C r.1 (f r.0)) e
 
   -- a refusal of the first, or want of memory
   pub then_fails : (fault : MachineFault) → (fault ≡ Memory) ⊎ (run F C s a ≡ Is (Err fault)) → (fault ≡ Memory) ⊎ (run F C s (a >>= f) ≡ Is (Err fault))
@@ -24,7 +24,7 @@ module _ {X Y : Type 0} (F : Facts) (C : Context) (s : State) (a : Step X) (f : 
   then_fails fault (inr e) = inr (then_err fault e)
 
 -- a look at the world
-pub looked : {X Y : Type 0} (F : Facts) (C : Context) (s : State) (f : State → X) (g : X → Step Y) (h : Step X) → run F C s h ≡ Is (Ok (f s, s)) → run F C s (h >>= g) ≡ run F C s (g (f s))
+pub looked : {X Y : Type 0} (F : Facts) (C : Context) (s : Machine) (f : Machine → X) (g : X → Step Y) (h : Step X) → run F C s h ≡ Is (Ok (f s, s)) → run F C s (h >>= g) ≡ run F C s (g (f s))
 looked F C s f g h e = then_ok F C s h g (f s) s e
 
 -- the same by another name
@@ -40,5 +40,5 @@ pub not_false : (b : Bool) → not b ≡ false → b ≡ true
 not_false true e = refl
 not_false false e = absurd cc
 
-pub gives_as : (new : State) (result : Result (Unit {0}) MachineFault) (given whole : Answer (Unit {0} × State)) → given ≡ whole → GivesKnown Memory (λ u. (tt, new)) result given → GivesKnown Memory (λ u. (tt, new)) result whole
+pub gives_as : (new : Machine) (result : Result (Unit {0}) MachineFault) (given whole : Answer (Unit {0} × Machine)) → given ≡ whole → GivesKnown Memory (λ u. (tt, new)) result given → GivesKnown Memory (λ u. (tt, new)) result whole
 gives_as new result given whole e g = subst (λ x. GivesKnown Memory (λ u. (tt, new)) result x) e g

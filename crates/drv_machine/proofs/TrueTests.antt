@@ -3,7 +3,7 @@ use Rattle.drv_machine.proofs.Steps.{then_err, then_ok}
 use Rattle.drv_machine.specs.Atoms.{first_true, truth, turned}
 use Rattle.drv_machine.specs.ByKind.{TrueTest, asked_step}
 use Rattle.drv_machine.specs.Context.{Context}
-use Rattle.drv_machine.specs.Running.{State, run}
+use Rattle.drv_machine.specs.Running.{Machine, run}
 use Rattle.drv_machine.specs.Standing.{Part, Stands}
 use Rattle.drv_machine.specs.Working.{Answer, Levels, Step, give}
 use Rattle.drv_machine.specs.declared.fault.MachineFault.TheVariants.{Memory}
@@ -29,7 +29,7 @@ asked_is F C negated (tree.HasLanguage word) levels star = refl
 asked_is F C negated (tree.HasResult name items) levels star = refl
 
 -- the tests that are left at a place, and the state that was there and that is
-pub record TestsLeft (F : Facts) (C : Context) (text : List ℕ) (s t : State) (at end : ℕ) (tests : Tests) (levels : Levels) (star : List ℕ) : Type 0 where
+pub record TestsLeft (F : Facts) (C : Context) (text : List ℕ) (s t : Machine) (at end : ℕ) (tests : Tests) (levels : Levels) (star : List ℕ) : Type 0 where
   pub rest : Tests
   pub stands : Stands text at (test_nodes rest) end
   pub same : run F C t (first_true F C rest levels star) ≡ run F C s (first_true F C tests levels star)
@@ -61,7 +61,7 @@ pub no_tests_left : (text : List ℕ) (at : ℕ) (tests : Tests) (end : ℕ) →
 no_tests_left text at tree.no_test end h s = refl
 no_tests_left text at (tree.test span negated asked others) end h (next, part, within, behind) = absurd (omega (arith, h, part.later, stand_grows _ _ next (test_nodes others) end behind))
 
-module _ (F : Facts) (C : Context) (s u : State) (span : Span) (negated : Bool) (asked : Asked) (others : Tests) (levels : Levels) (star : List ℕ) where
+module _ (F : Facts) (C : Context) (s u : Machine) (span : Span) (negated : Bool) (asked : Asked) (others : Tests) (levels : Levels) (star : List ℕ) where
   abbrev judged : Bool → Step (Option Asked)
   judged holds = if turned negated holds then give (Some asked) else first_true F C others levels star
 
@@ -91,18 +91,18 @@ negated_is negated (tree.HasSuffix word) = refl
 negated_is negated (tree.HasLanguage word) = refl
 negated_is negated (tree.HasResult name items) = refl
 
-module _ (F : Facts) (C : Context) (text : List ℕ) (s v : State) (at end : ℕ) (h : at < end) (tests : Tests) (levels : Levels) (star : List ℕ) (left : TestsLeft F C text s v at end tests levels star) where
+module _ (F : Facts) (C : Context) (text : List ℕ) (s v : Machine) (at end : ℕ) (h : at < end) (tests : Tests) (levels : Levels) (star : List ℕ) (left : TestsLeft F C text s v at end tests levels star) where
   turned_at : (f : FrontTest text at left.rest end) (holds negated b : Bool) → negated ≡ (label_at (tree_of text) at).negated → not (beq holds negated) ≡ b → turned f.negated holds ≡ b
   turned_at f holds negated b n e =
       ap (λ m. turned m holds) (sym (negated_is f.negated f.asked) ∙ ap (λ (l : Label). l.negated) (sym f.part.label_is) ∙ sym n) ∙ turned_is holds negated ∙ e
 
-  asks_at : (f : FrontTest text at left.rest end) (given : Answer (Bool × State)) → run F C v (asked_step C (label_at (tree_of text) at)) ≡ given → run F C v (asked_step C (test_label f.negated f.asked)) ≡ given
+  asks_at : (f : FrontTest text at left.rest end) (given : Answer (Bool × Machine)) → run F C v (asked_step C (label_at (tree_of text) at)) ≡ given → run F C v (asked_step C (test_label f.negated f.asked)) ≡ given
   asks_at f given e = ap (λ l. run F C v (asked_step C l)) (sym f.part.label_is) ∙ e
 
   from_rest : (f : FrontTest text at left.rest end) → run F C s (first_true F C tests levels star) ≡ run F C v (first_true F C (tree.test f.span f.negated f.asked f.others) levels star)
   from_rest f = sym left.same ∙ ap (λ ts. run F C v (first_true F C ts levels star)) f.is
 
-  pub found_true : (u : State) (holds negated : Bool) → negated ≡ (label_at (tree_of text) at).negated → run F C v (asked_step C (label_at (tree_of text) at)) ≡ Is (Ok (holds, u))
+  pub found_true : (u : Machine) (holds negated : Bool) → negated ≡ (label_at (tree_of text) at).negated → run F C v (asked_step C (label_at (tree_of text) at)) ≡ Is (Ok (holds, u))
       → not (beq holds negated) ≡ true → TrueTest F C text s u at (first_true F C tests levels star)
   found_true u holds negated n e t =
       let f = front_test text at left.rest end h left.stands in record {
@@ -112,7 +112,7 @@ module _ (F : Facts) (C : Context) (text : List ℕ) (s v : State) (at end : ℕ
         gives = from_rest f ∙ test_is_true F C v u f.span f.negated f.asked f.others levels star holds (asks_at f (Is (Ok (holds, u))) e) (turned_at f holds negated true n t);
       }
 
-  pub found_false : (u : State) (holds negated : Bool) → negated ≡ (label_at (tree_of text) at).negated → run F C v (asked_step C (label_at (tree_of text) at)) ≡ Is (Ok (holds, u))
+  pub found_false : (u : Machine) (holds negated : Bool) → negated ≡ (label_at (tree_of text) at).negated → run F C v (asked_step C (label_at (tree_of text) at)) ≡ Is (Ok (holds, u))
       → not (beq holds negated) ≡ false → (token : Token) → slice_get (tokens_of (tree_of text)) at ≡ Some token → TestsLeft F C text s u token.next end tests levels star
   found_false u holds negated n e t token there =
       let f = front_test text at left.rest end h left.stands in record {

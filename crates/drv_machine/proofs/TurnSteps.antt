@@ -5,7 +5,7 @@ use Rattle.drv_machine.proofs.Standing.{next_at, some_same}
 use Rattle.drv_machine.specs.Atoms.{choices_step, item_step, items_step, levels_left}
 use Rattle.drv_machine.specs.ByKind.{Means, kind_step}
 use Rattle.drv_machine.specs.Context.{Context}
-use Rattle.drv_machine.specs.Running.{State, run}
+use Rattle.drv_machine.specs.Running.{Machine, run}
 use Rattle.drv_machine.specs.Standing.{Spans, Stands}
 use Rattle.drv_machine.specs.Walking.{AtItem, Behind, HasFrames, Lain, Left, Lies, OpenedFits, Went, back_of, closing, ends, levels_in, onward, star_of}
 use Rattle.drv_machine.specs.Working.{◌>>-◌, Answer, Levels, Step, counted, most_open}
@@ -29,7 +29,7 @@ use Rattle.std.specs.Prelude.{◌↔◌, IsSome}
 -- A turn, and what stands around it.
 
 -- the walk has gone on in the innermost part
-pub left_at : (F : Facts) (C : Context) (text : List ℕ) (w : Walk) (at : ℕ) (s : State) (given : Answer (Unit {0} × State)) → ((rest : Items) → Lies text w.at rest w.end → Lies text at rest w.end) → Left F C text w s given
+pub left_at : (F : Facts) (C : Context) (text : List ℕ) (w : Walk) (at : ℕ) (s : Machine) (given : Answer (Unit {0} × Machine)) → ((rest : Items) → Lies text w.at rest w.end → Lies text at rest w.end) → Left F C text w s given
     → Left F C text (record w { at = at }) s given
 left_at F C text w at s given lies left = record { rest = left.rest; arounds = left.arounds; lies = lies left.rest left.lies; framed = left.framed; same = left.same }
 
@@ -49,21 +49,21 @@ module _ (text : List ℕ) (w : Walk) (item : AtItem text w) (token : Token) (th
       let r = reached text w.at lain.rest w.end item.before_end item.no_alternative lain.lies in
       record { nodes = inner_nodes r.item; stands = subst (λ (k : ℕ). Stands text (w.at + 1) (inner_nodes r.item) k) (sym (next_at text w.at token (kind_of r.item) (label_of r.item) r.next there r.part)) r.within }
 
-  module _ (F : Facts) (C : Context) (s : State) (given : Answer (Unit {0} × State)) (left : Left F C text w s given) where
+  module _ (F : Facts) (C : Context) (s : Machine) (given : Answer (Unit {0} × Machine)) (left : Left F C text w s given) where
     pub front : Reached text w.at left.rest w.end
     front = reached text w.at left.rest w.end item.before_end item.no_alternative left.lies
 
     pub turn_uncounted : (fault : MachineFault) → (fault ≡ Memory) ⊎ (run F C s counted ≡ Is (Err fault)) → (fault ≡ Memory) ⊎ (given ≡ Is (Err fault))
     turn_uncounted fault stopped = count_stops F C text w s given left front fault stopped
 
-    module _ (u : State) (e : run F C s counted ≡ Is (Ok (tt, u))) where
+    module _ (u : Machine) (e : run F C s counted ≡ Is (Ok (tt, u))) where
       pub counted_item : Behind F C text w token.next (λ levels star. item_step F C front.item levels star) u given
       counted_item =
           subst (λ (k : ℕ). Behind F C text w k (λ levels star. item_step F C front.item levels star) u given) (sym (next_at text w.at token (kind_of front.item) (label_of front.item) front.next there front.part))
           (behind_item F C text w s given left front u e)
 
       -- an item that opens no part
-      pub turn_item : (result : Result (Unit {0}) MachineFault) (t : State)
+      pub turn_item : (result : Result (Unit {0}) MachineFault) (t : Machine)
           → ((levels : Levels) (inner : Step (Unit {0})) → Means F C text token.kind (w.at + 1) token.next levels (star_of C w.star) inner
           → GivesKnown Memory (λ x. (tt, t)) result (run F C u (kind_step F C token.kind (label_at (tree_of text) w.at) (star_of C w.star) inner)))
           → Went F C text (record w { at = token.next }) t given result
@@ -84,10 +84,10 @@ module _ (text : List ℕ) (w : Walk) (item : AtItem text w) (token : Token) (th
           (same_step F C text w u given token.next (λ levels star. item_step F C front.item levels star) counted_item (λ levels star. choices_step F C ch.0 levels star) u (ap (run F C u) ch.2))
 
 -- an open part has ended
-module _ (text : List ℕ) (w : Walk) (h : w.end ≤ w.at) (frame : Frame) (outer : List Frame) (popped_is : w.frames.items ≡ outer ++ frame ∷ []) where
-  module _ (F : Facts) (C : Context) (s : State) (given : Answer (Unit {0} × State)) (left : Left F C text w s given) where
+module _ (text : List ℕ) (w : Walk) (h : w.end ≤ w.at) (frame : Frame) (outer : List Frame) (popped_is : w.frames ≡ outer ++ frame ∷ []) where
+  module _ (F : Facts) (C : Context) (s : Machine) (given : Answer (Unit {0} × Machine)) (left : Left F C text w s given) where
     inner : Popped text C left.arounds frame outer
-    inner = popped text C w.frames.items left.arounds outer frame left.framed popped_is
+    inner = popped text C w.frames left.arounds outer frame left.framed popped_is
 
     abbrev opened_fits : OpenedFits text C frame.opened inner.around.pattern inner.around.items
     opened_fits = subst (λ (x : Frame). OpenedFits text C x.opened inner.around.pattern inner.around.items) inner.frame_is inner.fits.opened
@@ -95,37 +95,37 @@ module _ (text : List ℕ) (w : Walk) (h : w.end ≤ w.at) (frame : Frame) (oute
     pub can_close : (p : Pattern) × (items : Items) × OpenedFits text C frame.opened p items
     can_close = (inner.around.pattern, inner.around.items, opened_fits)
 
-    pub closed : (v : Walk) → v.end ≡ frame.end → v.star ≡ frame.star → v.frames.items ≡ outer → (P : Type 0)
+    pub closed : (v : Walk) → v.end ≡ frame.end → v.star ≡ frame.star → v.frames ≡ outer → (P : Type 0)
         → ((p : Pattern) (items : Items) → OpenedFits text C frame.opened p items → Behind F C text v (back_of frame.opened) (λ levels star. closing F C levels frame.opened p items) s given → P) → P
     closed v e f g P behind =
         behind inner.around.pattern inner.around.items opened_fits (closes F C text w s given left h frame outer inner v e f g)
 
 -- the walk is at its end
-pub walk_ended : (F : Facts) (C : Context) (text : List ℕ) (w : Walk) (s : State) (given : Answer (Unit {0} × State)) → w.end ≤ w.at → length w.frames.items ≡ 0 → Left F C text w s given → given ≡ Is (Ok (tt, s))
+pub walk_ended : (F : Facts) (C : Context) (text : List ℕ) (w : Walk) (s : Machine) (given : Answer (Unit {0} × Machine)) → w.end ≤ w.at → length w.frames ≡ 0 → Left F C text w s given → given ≡ Is (Ok (tt, s))
 walk_ended F C text w s given h n left =
-    sym (part_ended F C text w s given left h) ∙ ap (λ list. ends F C list s) (none_open text C w.frames.items left.arounds left.framed n)
+    sym (part_ended F C text w s given left h) ∙ ap (λ list. ends F C list s) (none_open text C w.frames left.arounds left.framed n)
 
 -- items and open parts that lie in a text are what is left of something
-module _ (F : Facts) (C : Context) (text : List ℕ) (w : Walk) (s : State) where
-  abbrev pub given_of : Lain text w → HasFrames C text w → Answer (Unit {0} × State)
+module _ (F : Facts) (C : Context) (text : List ℕ) (w : Walk) (s : Machine) where
+  abbrev pub given_of : Lain text w → HasFrames C text w → Answer (Unit {0} × Machine)
   given_of lain framed = onward F C w.star lain.rest framed.arounds s
 
   pub as_left : (lain : Lain text w) (framed : HasFrames C text w) → Left F C text w s (given_of lain framed)
   as_left lain framed = record { rest = lain.rest; arounds = framed.arounds; lies = lain.lies; framed = framed.framed; same = refl }
 
-  pub lain_of : (given : Answer (Unit {0} × State)) → Left F C text w s given → Lain text w
+  pub lain_of : (given : Answer (Unit {0} × Machine)) → Left F C text w s given → Lain text w
   lain_of given left = record { rest = left.rest; lies = left.lies }
 
-  pub framed_of : (given : Answer (Unit {0} × State)) → Left F C text w s given → HasFrames C text w
+  pub framed_of : (given : Answer (Unit {0} × Machine)) → Left F C text w s given → HasFrames C text w
   framed_of given left = record { arounds = left.arounds; framed = left.framed }
 
-  nothing_behind : (a : Answer (Unit {0} × State)) → (a >>- λ r. Is (Ok (tt, r.1))) ≡ a
+  nothing_behind : (a : Answer (Unit {0} × Machine)) → (a >>- λ r. Is (Ok (tt, r.1))) ≡ a
   nothing_behind (Is (Ok r)) = refl
   nothing_behind (Is (Err fault)) = refl
   nothing_behind Unasked = refl
 
   -- a walk over a whole text
-  pub started : (items : Items) (end : ℕ) → Stands text 0 (nodes_of items) end → w.at ≡ 0 → w.end ≡ end → w.star ≡ None → w.frames.items ≡ []
+  pub started : (items : Items) (end : ℕ) → Stands text 0 (nodes_of items) end → w.at ≡ 0 → w.end ≡ end → w.star ≡ None → w.frames ≡ []
       → Left F C text w s (run F C s (items_step F C items (levels_left F C most_open) []))
   started items end stands at_is end_is star_is frames_is = record {
     rest = items;

@@ -1,7 +1,7 @@
 use Rattle.drv_machine.proofs.ItemKinds.{inner_step}
 use Rattle.drv_machine.specs.ByKind.{Means, kind_step}
 use Rattle.drv_machine.specs.Context.{Context}
-use Rattle.drv_machine.specs.Running.{State, run}
+use Rattle.drv_machine.specs.Running.{Machine, run}
 use Rattle.drv_machine.specs.Standing.{Stands}
 use Rattle.drv_machine.specs.Working.{Levels, Step}
 use Rattle.drv_syntax.specs.Labels.{inner_nodes, label_at}
@@ -52,6 +52,6 @@ item_means F C text at end levels star tree.Star s = tt
 item_means F C text at end levels star (tree.FailureFile brace) s = tt
 item_means F C text at end levels star (tree.ArgumentsFile brace) s = tt
 
-pub by_kind : (F : Facts) (C : Context) (s : State) (kind k : TokenKind) (text : List ℕ) (at : ℕ) (star : List ℕ) (inner : Step (Unit {0})) → kind ≡ k
+pub by_kind : (F : Facts) (C : Context) (s : Machine) (kind k : TokenKind) (text : List ℕ) (at : ℕ) (star : List ℕ) (inner : Step (Unit {0})) → kind ≡ k
     → run F C s (kind_step F C k (label_at (tree_of text) at) star inner) ≡ run F C s (kind_step F C kind (label_at (tree_of text) at) star inner)
 by_kind F C s kind k text at star inner e = ap (λ x. run F C s (kind_step F C x (label_at (tree_of text) at) star inner)) (sym e)

@@ -1,11 +1,11 @@
-use Rattle.drv_machine.specs.Context.{Context, argument, names}
+use Rattle.drv_machine.specs.Context.{Context, Source, argument, names}
 use Rattle.drv_machine.specs.Cutting.{all_taken, argument_words, nothing_cut}
 use Rattle.drv_machine.specs.Names.{base, is_word, language_of, stem, suffix_of}
 use Rattle.drv_machine.specs.Working.{◌>>-◌, ◌>>=◌, ◌>>◌, Atom, Break, End, Goes, Levels, Piped, Put, Refuses, Step, Waits, Work, World, bytes, change, counted, give, look, most_open, needs, nothing, opened, puts, refuse, word_of}
-use Rattle.drv_machine.specs.declared.context.Source.{Source}
 use Rattle.drv_machine.specs.declared.fault.MachineFault.TheVariants.{NoInput, NotYet}
 use Rattle.drv_match.specs.Matching.{hidden_by, hits, is_hit, name_at}
 use Rattle.drv_match.specs.Pattern as switches
+use Rattle.drv_syntax.specs.Stars.{has_star}
 use Rattle.drv_syntax.specs.Tree.{AddOption, ArgumentsFile, Asked, AssemblerOptions, BaseName, BaseStem, Blank, Brace, Braces, BuiltinText, Choices, Choose, Directories, Emit, Escape, FailureFile, FoundFile, FoundScript, Function, HasLanguage, HasResult, HasSuffix, HasSwitch, Hide, InputName, Item, Items, LinkerOptions, NamedText, Newline, NoOutput, Notice, ObjectSuffix, Output, Outputs, Pattern, Percent, Pipe, Plain, PreprocessorOptions, Removed, Span, Star, TempName, Tests, UserError, choice, more, no_choice, no_test, none, pattern, test}
 use Rattle.drv_system.specs.Facts.{Facts}
 use Rattle.drv_system.specs.Known.{Is, Unasked}
@@ -15,36 +15,6 @@ use Rattle.std.specs.Prelude.{Err, ◌||◌, Bool, List, [], ◌∷◌, ◌++◌
 
 -- What each item of a text means: one row for each directive (GCC manual, "Spec Files"; what it leaves open is this
 -- project's profile).
-
--- a %* that belongs to the X that these items are: it stands in it outside the Xs of inner braces
-abbrev mutual
-  pub has_star : Items → Bool
-  has_star none = false
-  has_star (more span item items) = item_has_star item || has_star items
-
-  pub item_has_star : Item → Bool
-  item_has_star Star = true
-  item_has_star (Function name arguments) = has_star arguments
-  item_has_star (Braces brace) = brace_has_star brace
-  item_has_star (FailureFile brace) = brace_has_star brace
-  item_has_star (ArgumentsFile brace) = brace_has_star brace
-  item_has_star _ = false
-
-  pub brace_has_star : Brace → Bool
-  brace_has_star (Emit patterns) = false
-  brace_has_star (Choose choices) = choices_have_star choices
-
-  pub choices_have_star : Choices → Bool
-  choices_have_star no_choice = false
-  choices_have_star (choice span tests items choices) = tests_have_star tests || choices_have_star choices
-
-  pub tests_have_star : Tests → Bool
-  tests_have_star no_test = false
-  tests_have_star (test span negated asked tests) = asked_has_star asked || tests_have_star tests
-
-  pub asked_has_star : Asked → Bool
-  asked_has_star (HasResult name arguments) = has_star arguments
-  asked_has_star _ = false
 
 -- a pattern of a text, for the switches of a line
 abbrev pub matching : Pattern → switches.Pattern

@@ -1,7 +1,7 @@
 use Rattle.drv_machine.specs.Atoms.{choices_step, emitted, input_name, switch_atoms}
 use Rattle.drv_machine.specs.Context.{Context, names}
 use Rattle.drv_machine.specs.Names.{base, is_word, language_of, stem, suffix_of}
-use Rattle.drv_machine.specs.Running.{State, run}
+use Rattle.drv_machine.specs.Running.{Machine, run}
 use Rattle.drv_machine.specs.Standing.{Stands}
 use Rattle.drv_machine.specs.Working.{◌>>=◌, Atom, Break, End, Levels, Piped, Step, bytes, change, give, look, puts, refuse}
 use Rattle.drv_machine.specs.declared.fault.MachineFault.TheVariants.{Memory, NotYet}
@@ -65,14 +65,14 @@ Means F C text kinds.Choose at end levels star inner = (choices : Choices) × St
 Means F C text _ at end levels star inner = ⊤
 
 -- a test that is true, at a place, and the state behind it
-pub record TrueTest (F : Facts) (C : Context) (text : List ℕ) (s t : State) (at : ℕ) (step : Step (Option Asked)) : Type 0 where
+pub record TrueTest (F : Facts) (C : Context) (text : List ℕ) (s t : Machine) (at : ℕ) (step : Step (Option Asked)) : Type 0 where
   pub negated : Bool
   pub asked : Asked
   pub label_is : label_at (tree_of text) at ≡ test_label negated asked
   pub gives : run F C s step ≡ Is (Ok (Some asked, t))
 
 -- what was found of tests
-abbrev pub Found : Facts → Context → List ℕ → State → State → Result (Option ℕ) MachineFault → Step (Option Asked) → Type 0
+abbrev pub Found : Facts → Context → List ℕ → Machine → Machine → Result (Option ℕ) MachineFault → Step (Option Asked) → Type 0
 Found F C text s t (Ok None) step = run F C s step ≡ Is (Ok (None, t))
 Found F C text s t (Ok (Some at)) step = TrueTest F C text s t at step
 Found F C text s t (Err fault) step = (fault ≡ Memory) ⊎ (run F C s step ≡ Is (Err fault))

@@ -1,8 +1,13 @@
 use Rattle.drv_args.specs.declared.line.Switch.{Switch}
-use Rattle.drv_machine.specs.declared.context.Source.{Source}
 use Rattle.std.specs.Prelude.{List, Option, None, get_or, map, ℕ}
 
 -- What a text is worked for (this project's profile).
+
+-- an input: its place among the line's inputs, its name, and the name of its language if it has one
+pub record Source : Type 0 where
+  pub place : ℕ
+  pub name : List ℕ
+  pub language : Option (List ℕ)
 
 -- the switches of the line, and the input that the text is worked for; none for the link
 pub record Context : Type 0 where

@@ -3,7 +3,7 @@ pub mod Atoms
 pub mod ByKind
 pub mod Context
 pub mod Cutting
-pub mod Machine
+pub mod Held
 pub mod Names
 pub mod Outcome
 pub mod Running

@@ -1,4 +1,4 @@
-use Rattle.drv_machine.specs.declared.context.Source.{Source}
+use Rattle.drv_machine.specs.Context.{Source}
 use Rattle.drv_words.specs.Bytes.{period, slash}
 use Rattle.std.specs.Cmp.Lexicographic.{pointwise}
 use Rattle.std.specs.Prelude.{◌==◌, Bool, List, [], ◌∷◌, Option, None, Some, false, if◌then◌else◌, nat_eq, ℕ}

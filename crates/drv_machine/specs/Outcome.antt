@@ -1,8 +1,7 @@
 use Rattle.drv_machine.specs.Atoms.{atoms}
-use Rattle.drv_machine.specs.Context.{Context}
+use Rattle.drv_machine.specs.Context.{Context, Source}
 use Rattle.drv_machine.specs.Cutting.{Cut, Line, all_taken, nothing_cut}
 use Rattle.drv_machine.specs.Working.{◌>>-◌, Answer, Goes, Refuses, Waits, Work, World}
-use Rattle.drv_machine.specs.declared.context.Source.{Source}
 use Rattle.drv_machine.specs.declared.fault.MachineFault.TheVariants.{PipeTooLong, StrayPipe}
 use Rattle.drv_machine.specs.declared.outcome.Outcome.{Outcome}
 use Rattle.drv_syntax.specs.Tree.{Items}

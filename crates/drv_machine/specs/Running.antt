@@ -10,19 +10,19 @@ use Rattle.std.specs.Prelude.{Err, Ok}
 -- profile).
 
 -- what has been cut, and the world
-pub record State : Type 0 where
+pub record Machine : Type 0 where
   pub cut : Cut
   pub world : World
 
 module _ (F : Facts) (C : Context) where
-  abbrev pub done : {X : Type 0} → Cut → Work X → Answer (X × State)
+  abbrev pub done : {X : Type 0} → Cut → Work X → Answer (X × Machine)
   done c (Goes atoms x w) = all_taken F C c atoms >>- λ d. Is (Ok (x, record { cut = d; world = w }))
   done c (Refuses atoms fault) = all_taken F C c atoms >>- λ d. Is (Err fault)
   done c (Waits atoms) = all_taken F C c atoms >>- λ d. Unasked
 
-  abbrev pub run : {X : Type 0} → State → Step X → Answer (X × State)
+  abbrev pub run : {X : Type 0} → Machine → Step X → Answer (X × Machine)
   run s step = done s.cut (step s.world)
 
   -- before the first item
-  abbrev pub begun : State
+  abbrev pub begun : Machine
   begun = record { cut = nothing_cut; world = start F C }

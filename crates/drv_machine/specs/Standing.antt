@@ -4,7 +4,7 @@ use Rattle.drv_syntax.specs.Tokens.{tokens_of}
 use Rattle.drv_syntax.specs.declared.token.Token.{Token}
 use Rattle.drv_syntax.specs.declared.token.TokenKind.TheVariants as kinds
 use Rattle.drv_syntax.specs.declared.token.TokenKind.{TokenKind}
-use Rattle.std.specs.Prelude.{◌≡◌, ◌<◌, ◌+◌, ◌||◌, Bool, List, Some, false, get_or, if◌then◌else◌, slice_get, true, ℕ}
+use Rattle.std.specs.Prelude.{◌≡◌, ◌<◌, ◌+◌, Bool, List, Some, false, get_or, if◌then◌else◌, slice_get, true, ℕ}
 
 -- Where the parts of a tree stand in its flat list (this project's profile). For the clauses of the code alone.
 
@@ -44,18 +44,3 @@ tests_in (node kind label span inner others) = if is_test kind then node kind la
 abbrev pub behind_tests : Nodes → Nodes
 behind_tests no_node = no_node
 behind_tests (node kind label span inner others) = if is_test kind then behind_tests others else node kind label span inner others
-
--- a %* that belongs to the X that these parts are: in an alternative only the tests can hold one
-abbrev pub starred : TokenKind → Bool → Bool → Bool
-starred kinds.Star inside in_tests = true
-starred kinds.Alternative inside in_tests = in_tests
-starred _ inside in_tests = inside
-
-abbrev mutual
-  pub stars : Nodes → Bool
-  stars no_node = false
-  stars (node kind label span inner others) = starred kind (stars inner) (test_stars inner) || stars others
-
-  pub test_stars : Nodes → Bool
-  test_stars no_node = false
-  test_stars (node kind label span inner others) = if is_test kind then stars inner || test_stars others else false

@@ -1,7 +1,7 @@
 use Rattle.drv_machine.specs.Atoms.{each_hit, items_step, levels_left, matching}
 use Rattle.drv_machine.specs.ByKind.{labelled}
 use Rattle.drv_machine.specs.Context.{Context, argument, names}
-use Rattle.drv_machine.specs.Running.{State, run}
+use Rattle.drv_machine.specs.Running.{Machine, run}
 use Rattle.drv_machine.specs.Standing.{Part, Stands}
 use Rattle.drv_machine.specs.Working.{◌>>-◌, ◌>>◌, Answer, Break, Levels, Step, most_open, nothing, opened, puts, word_of}
 use Rattle.drv_machine.specs.declared.fault.MachineFault.TheVariants.{Memory}
@@ -99,7 +99,7 @@ module _ (F : Facts) (C : Context) where
   from_hit p items levels i = hit_step p items levels i >> each_from p items levels (i + 1)
 
   -- the next switch that is hit from a place on
-  abbrev pub NextHit : State → Pattern → Items → Levels → ℕ → Option ℕ → Type 0
+  abbrev pub NextHit : Machine → Pattern → Items → Levels → ℕ → Option ℕ → Type 0
   NextHit s p items levels from None = run F C s (each_from p items levels from) ≡ Is (Ok (tt, s))
   NextHit s p items levels from (Some i) = run F C s (each_from p items levels from) ≡ run F C s (from_hit p items levels i)
 
@@ -113,39 +113,39 @@ module _ (F : Facts) (C : Context) where
   closing levels (Text back) p items = nothing
 
   -- what follows the innermost open part
-  abbrev pub ends : List Around → State → Answer (Unit {0} × State)
+  abbrev pub ends : List Around → Machine → Answer (Unit {0} × Machine)
   ends [] s = Is (Ok (tt, s))
   ends (a ∷ others) s =
       run F C s (closing (levels_in others) a.frame.opened a.pattern a.items) >>- λ r.
       run F C r.1 (items_step F C a.rest (levels_in others) (star_of C a.frame.star)) >>- λ q. ends others q.1
 
   -- what is left of the innermost part, and what follows it
-  abbrev pub onward : Option Rest → Items → List Around → State → Answer (Unit {0} × State)
+  abbrev pub onward : Option Rest → Items → List Around → Machine → Answer (Unit {0} × Machine)
   onward star rest arounds s = run F C s (items_step F C rest (levels_in arounds) (star_of C star)) >>- λ r. ends arounds r.1
 
   -- what is left of a walk gives this
-  pub record Left (text : List ℕ) (w : Walk) (s : State) (given : Answer (Unit {0} × State)) : Type 0 where
+  pub record Left (text : List ℕ) (w : Walk) (s : Machine) (given : Answer (Unit {0} × Machine)) : Type 0 where
     pub rest : Items
     pub arounds : List Around
     pub lies : Lies text w.at rest w.end
-    pub framed : Framed text C w.frames.items arounds
+    pub framed : Framed text C w.frames arounds
     pub same : onward w.star rest arounds s ≡ given
 
   -- a step, and then what is left from a place on, give this
-  pub record Behind (text : List ℕ) (w : Walk) (at : ℕ) (step : Levels → List ℕ → Step (Unit {0})) (s : State) (given : Answer (Unit {0} × State)) : Type 0 where
+  pub record Behind (text : List ℕ) (w : Walk) (at : ℕ) (step : Levels → List ℕ → Step (Unit {0})) (s : Machine) (given : Answer (Unit {0} × Machine)) : Type 0 where
     pub rest : Items
     pub arounds : List Around
     pub lies : Lies text at rest w.end
-    pub framed : Framed text C w.frames.items arounds
+    pub framed : Framed text C w.frames arounds
     pub same : (run F C s (step (levels_in arounds) (star_of C w.star)) >>- λ r. onward w.star rest arounds r.1) ≡ given
 
   -- a part of the walk went well, or gave its refusal
-  abbrev pub Went : List ℕ → Walk → State → Answer (Unit {0} × State) → Result (Unit {0}) MachineFault → Type 0
+  abbrev pub Went : List ℕ → Walk → Machine → Answer (Unit {0} × Machine) → Result (Unit {0}) MachineFault → Type 0
   Went text w s given (Ok u) = Left text w s given
   Went text w s given (Err fault) = (fault ≡ Memory) ⊎ (given ≡ Is (Err fault))
 
   -- open parts were closed: an item is left, or the walk is at its end
-  abbrev pub Settled : List ℕ → Walk → State → Answer (Unit {0} × State) → Result Bool MachineFault → Type 0
+  abbrev pub Settled : List ℕ → Walk → Machine → Answer (Unit {0} × Machine) → Result Bool MachineFault → Type 0
   Settled text w s given (Ok true) = Left text w s given
   Settled text w s given (Ok false) = given ≡ Is (Ok (tt, s))
   Settled text w s given (Err fault) = (fault ≡ Memory) ⊎ (given ≡ Is (Err fault))
@@ -162,4 +162,4 @@ pub record Lain (text : List ℕ) (w : Walk) : Type 0 where
 
 pub record HasFrames (C : Context) (text : List ℕ) (w : Walk) : Type 0 where
   pub arounds : List Around
-  pub framed : Framed text C w.frames.items arounds
+  pub framed : Framed text C w.frames arounds

@@ -27,7 +27,7 @@ use drv_system::System;
 #[tactic(auto, using(crate::proofs::AskedCalls::asked_none))]
 fn truth<S: System>(
     text: &SpecTree,
-    context: &Context,
+    context: &Context<'_>,
     at: usize,
     machine: &mut Machine,
     outside: &mut Outside<'_, S>,
@@ -54,7 +54,7 @@ fn truth<S: System>(
 #[tactic(auto, using(crate::proofs::AskedCalls::asked_further))]
 pub(crate) fn first_true<S: System>(
     text: &SpecTree,
-    context: &Context,
+    context: &Context<'_>,
     start: usize,
     end: usize,
     machine: &mut Machine,

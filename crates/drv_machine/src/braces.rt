@@ -1,14 +1,15 @@
 //! Braces with alternatives.
 
 ghost use Rattle.drv_machine.specs.Asked.{Asked};
-ghost use Rattle.drv_machine.specs.Atoms.{choices_step, has_star, items_step, worked};
+ghost use Rattle.drv_machine.specs.Atoms.{choices_step, items_step, worked};
 ghost use Rattle.drv_machine.specs.ByKind.{asks_switch};
-ghost use Rattle.drv_machine.specs.Running.{State};
-ghost use Rattle.drv_machine.specs.Standing.{Spans, Stands, stars};
+ghost use Rattle.drv_machine.specs.Running as running;
+ghost use Rattle.drv_machine.specs.Standing.{Spans, Stands};
 ghost use Rattle.drv_machine.specs.Walking.{Behind, Went};
 ghost use Rattle.drv_machine.specs.Working.{Answer, Step};
-ghost use Rattle.drv_syntax.specs.Labels.{Nodes, choice_nodes, label_at, nodes_of, test_label};
+ghost use Rattle.drv_syntax.specs.Labels.{choice_nodes, label_at, nodes_of, test_label};
 ghost use Rattle.drv_syntax.specs.Parsed.{tree_of};
+ghost use Rattle.drv_syntax.specs.Stars.{has_star};
 ghost use Rattle.drv_syntax.specs.Tokens.{tokens_of};
 ghost use Rattle.drv_syntax.specs.Tree as tree;
 ghost use Rattle.drv_system.specs.Asking.{Extends};
@@ -19,39 +20,38 @@ use crate::asking::first_true;
 use crate::hits::enter_next;
 use crate::machine::Machine;
 use crate::outside::Outside;
-use crate::places::{has_own_star, tests_end, token_at};
+use crate::places::{tests_end, token_at};
 use crate::walk::{Each, Walk};
 use crate::{Context, MachineFault};
 use drv_syntax::{SpecTree, TestKind};
 use drv_system::System;
 
-/// Whether an X is worked for each hit: the test at a place asks for a switch, and X, whose items stand from one place
-/// up to another, has a `%*` of its own.
-fn is_for_each(text: &SpecTree, test: usize, start: usize, end: usize) -> bool
-    requires in_list { test < length (tokens_of (tree_of text.now)) }
-    requires spans { Spans text.now start end }
-    ensures { (nodes : Nodes) → Stands text.now start nodes end → result ≡ (asks_switch (label_at (tree_of text.now) test) && stars nodes) }
+/// Whether an X is worked for each hit: the test at a place asks for a switch, and X has a `%*` of its own.
+fn is_for_each(text: &SpecTree, test: usize, own: bool) -> bool
+    requires { test < length (tokens_of (tree_of text.now)) }
+    ensures { result ≡ (asks_switch (label_at (tree_of text.now) test) && own) }
 {
     match text.asks(test) {
-        TestKind::Switch => has_own_star(text, start, end),
+        TestKind::Switch => own,
         TestKind::Suffix | TestKind::Language | TestKind::Result => false,
     }
 }
 
-/// An X by the test at a place, which is true: it is opened for each hit where X has a `%*` of its own, else reached.
+/// An X by the test at a place, which is true: it is opened for each hit where X has a `%*` of its own, as is said, else
+/// reached.
 fn enter_alternative(
     text: &SpecTree,
-    context: &Context,
+    context: &Context<'_>,
     each: Each,
+    own: bool,
     walk: &mut Walk,
     machine: &Machine,
 ) -> Result<(), MachineFault>
     requires in_list { each.test < length (tokens_of (tree_of text.now)) }
-    requires spans { Spans text.now each.start each.end }
     requires sized { length machine.now.world.hidden ≡ length context.now.switches }
-    ensures { (F : Facts) (negated : Bool) (asked : tree.Asked) (items : tree.Items) (others : Step (Unit {0})) (given : Answer (Unit {0} × State)) → label_at (tree_of text.now) each.test ≡ test_label negated asked → Stands text.now each.start (nodes_of items) each.end → Behind F context.now text.now walk.old each.end (λ levels star. worked F context.now (Some asked) (has_star items) (λ rest inside. items_step F context.now items inside rest) levels star others) machine.now given → Went F context.now text.now walk.new machine.now given result }
+    ensures { (F : Facts) (negated : Bool) (asked : tree.Asked) (items : tree.Items) (others : Step (Unit {0})) (given : Answer (Unit {0} × running.Machine)) → own ≡ has_star items → label_at (tree_of text.now) each.test ≡ test_label negated asked → Stands text.now each.start (nodes_of items) each.end → Behind F context.now text.now walk.old each.end (λ levels star. worked F context.now (Some asked) (has_star items) (λ rest inside. items_step F context.now items inside rest) levels star others) machine.now given → Went F context.now text.now walk.new machine.now given result }
 {
-    if is_for_each(text, each.test, each.start, each.end) {
+    if is_for_each(text, each.test, own) {
         return enter_next(text, context, each, 0, walk, machine);
     }
     walk.at = each.start;
@@ -63,7 +63,7 @@ fn enter_alternative(
 #[tactic(auto, using(crate::proofs::AskedCalls::asked_further))]
 pub(crate) fn choose<S: System>(
     text: &SpecTree,
-    context: &Context,
+    context: &Context<'_>,
     start: usize,
     end: usize,
     walk: &mut Walk,
@@ -73,7 +73,7 @@ pub(crate) fn choose<S: System>(
     requires spans { Spans text.now start end }
     requires sized { length machine.old.world.hidden ≡ length context.now.switches }
     ensures asks { Asked S.events outside.old outside.new }
-    ensures does { (F : Facts) → Extends outside.new.facts.now F → (choices : tree.Choices) (given : Answer (Unit {0} × State)) → Stands text.now start (choice_nodes choices) end → Behind F context.now text.now walk.old end (λ levels star. choices_step F context.now choices levels star) machine.old given → Went F context.now text.now walk.new machine.new given result }
+    ensures does { (F : Facts) → Extends outside.new.facts.now F → (choices : tree.Choices) (given : Answer (Unit {0} × running.Machine)) → Stands text.now start (choice_nodes choices) end → Behind F context.now text.now walk.old end (λ levels star. choices_step F context.now choices levels star) machine.old given → Went F context.now text.now walk.new machine.new given result }
     ensures sized { length machine.new.world.hidden ≡ length machine.old.world.hidden }
     ensures uncounted { OnOk result (machine.new.world.items ≡ machine.old.world.items) }
 {
@@ -91,7 +91,7 @@ pub(crate) fn choose<S: System>(
                 start: items,
                 end: next,
             };
-            return enter_alternative(text, context, each, walk, machine);
+            return enter_alternative(text, context, each, text.holds_star(at), walk, machine);
         }
         at = next;
     }

@@ -46,7 +46,7 @@ fn patterns_in<'a>(
 }
 
 /// Whether one of the patterns hits the switch at a place.
-fn is_any_hit(context: &Context, hidden: &Hidden, patterns: &[Pattern<'_>], i: usize) -> bool
+fn is_any_hit(context: &Context<'_>, hidden: &Hidden, patterns: &[Pattern<'_>], i: usize) -> bool
     requires in_range { i < length context.now.switches }
     requires sized { length hidden.now ≡ length context.now.switches }
     ensures { result ≡ list_any (λ pattern. is_hit (names context.now) hidden.now pattern i) patterns.now }
@@ -62,7 +62,7 @@ fn is_any_hit(context: &Context, hidden: &Hidden, patterns: &[Pattern<'_>], i: u
 /// Puts each switch that one of the patterns hits.
 #[tactic(auto, using(crate::proofs::AskedCalls::asked_further))]
 fn put_hits<S: System>(
-    context: &Context,
+    context: &Context<'_>,
     patterns: &[Pattern<'_>],
     machine: &mut Machine,
     outside: &mut Outside<'_, S>,
@@ -86,7 +86,7 @@ fn put_hits<S: System>(
 #[tactic(auto, using(crate::proofs::AskedCalls::asked_none))]
 pub(crate) fn emit<S: System>(
     text: &SpecTree,
-    context: &Context,
+    context: &Context<'_>,
     start: usize,
     end: usize,
     machine: &mut Machine,

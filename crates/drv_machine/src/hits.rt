@@ -4,7 +4,7 @@ ghost use Rattle.drv_machine.specs.Asked.{Asked};
 ghost use Rattle.drv_machine.specs.Atoms.{matching};
 ghost use Rattle.drv_machine.specs.Context as specs;
 ghost use Rattle.drv_machine.specs.ByKind.{labelled};
-ghost use Rattle.drv_machine.specs.Running.{State};
+ghost use Rattle.drv_machine.specs.Running as running;
 ghost use Rattle.drv_machine.specs.Standing.{Stands};
 ghost use Rattle.drv_machine.specs.Walking.{Behind, HitFits, NextHit, Went, closing, each_from, from_hit, weight};
 ghost use Rattle.drv_machine.specs.Working.{Answer, Levels};
@@ -28,7 +28,7 @@ use drv_system::System;
 
 /// The next switch from a place on that a pattern hits, if one does.
 fn next_hit(
-    context: &Context,
+    context: &Context<'_>,
     pattern: &Pattern<'_>,
     from: usize,
     machine: &Machine,
@@ -47,17 +47,14 @@ fn next_hit(
 
 /// An X is opened for the hit at a place of the line.
 fn open_hit(each: Each, switch: usize, size: usize, walk: &mut Walk) -> Result<(), MachineFault>
-    ensures does { (F : Facts) (C : specs.Context) (text : List ℕ) (p : tree.Pattern) (items : tree.Items) (s : State) (given : Answer (Unit {0} × State)) → HitFits text C each switch p items → size ≡ length (matching p).name → Behind F C text walk.old each.end (λ levels star. from_hit F C p items levels switch) s given → Went F C text walk.new s given result }
-    ensures lighter { (n : ℕ) → OnOk result (weight n walk.new.frames.items ≤ weight n walk.old.frames.items + (n - switch)) }
+    ensures does { (F : Facts) (C : specs.Context) (text : List ℕ) (p : tree.Pattern) (items : tree.Items) (s : running.Machine) (given : Answer (Unit {0} × running.Machine)) → HitFits text C each switch p items → size ≡ length (matching p).name → Behind F C text walk.old each.end (λ levels star. from_hit F C p items levels switch) s given → Went F C text walk.new s given result }
+    ensures lighter { (n : ℕ) → OnOk result (weight n walk.new.frames ≤ weight n walk.old.frames + (n - switch)) }
 {
-    if walk.frames.is_full() {
-        return Err(MachineFault::SpecTooDeep);
-    }
     walk.frames.push(Frame {
         opened: Opened::Hit(each, switch),
         end: walk.end,
         star: walk.star,
-    });
+    })?;
     walk.at = each.start;
     walk.end = each.end;
     walk.star = Some(Rest { switch, size });
@@ -67,7 +64,7 @@ fn open_hit(each: Each, switch: usize, size: usize, walk: &mut Walk) -> Result<(
 /// An X for each hit from a switch on: it is opened for the next one, or the walk goes on behind it.
 pub(crate) fn enter_next(
     text: &SpecTree,
-    context: &Context,
+    context: &Context<'_>,
     each: Each,
     from: usize,
     walk: &mut Walk,
@@ -75,8 +72,8 @@ pub(crate) fn enter_next(
 ) -> Result<(), MachineFault>
     requires in_list { each.test < length (tokens_of (tree_of text.now)) }
     requires sized { length machine.now.world.hidden ≡ length context.now.switches }
-    ensures does { (F : Facts) (p : tree.Pattern) (items : tree.Items) (given : Answer (Unit {0} × State)) → labelled (label_at (tree_of text.now) each.test) ≡ matching p → Stands text.now each.start (nodes_of items) each.end → Behind F context.now text.now walk.old each.end (λ levels star. each_from F context.now p items levels from) machine.now given → Went F context.now text.now walk.new machine.now given result }
-    ensures lighter { OnOk result (weight (length context.now.switches) walk.new.frames.items ≤ weight (length context.now.switches) walk.old.frames.items + (length context.now.switches - from)) }
+    ensures does { (F : Facts) (p : tree.Pattern) (items : tree.Items) (given : Answer (Unit {0} × running.Machine)) → labelled (label_at (tree_of text.now) each.test) ≡ matching p → Stands text.now each.start (nodes_of items) each.end → Behind F context.now text.now walk.old each.end (λ levels star. each_from F context.now p items levels from) machine.now given → Went F context.now text.now walk.new machine.now given result }
+    ensures lighter { OnOk result (weight (length context.now.switches) walk.new.frames ≤ weight (length context.now.switches) walk.old.frames + (length context.now.switches - from)) }
 {
     let pattern = pattern_at(text, each.test);
     match next_hit(context, &pattern, from, machine) {
@@ -92,7 +89,7 @@ pub(crate) fn enter_next(
 #[tactic(auto, using(crate::proofs::AskedCalls::asked_further))]
 pub(crate) fn close_hit<S: System>(
     text: &SpecTree,
-    context: &Context,
+    context: &Context<'_>,
     each: Each,
     switch: usize,
     walk: &mut Walk,
@@ -103,8 +100,8 @@ pub(crate) fn close_hit<S: System>(
     requires in_line { switch < length context.now.switches }
     requires sized { length machine.old.world.hidden ≡ length context.now.switches }
     ensures asks { Asked S.events outside.old outside.new }
-    ensures does { (F : Facts) → Extends outside.new.facts.now F → (p : tree.Pattern) (items : tree.Items) (given : Answer (Unit {0} × State)) → HitFits text.now context.now each switch p items → Behind F context.now text.now walk.old each.end (λ levels star. closing F context.now levels (opened.Hit each switch) p items) machine.old given → Went F context.now text.now walk.new machine.new given result }
-    ensures lighter { OnOk result (weight (length context.now.switches) walk.new.frames.items < weight (length context.now.switches) walk.old.frames.items + (length context.now.switches - switch)) }
+    ensures does { (F : Facts) → Extends outside.new.facts.now F → (p : tree.Pattern) (items : tree.Items) (given : Answer (Unit {0} × running.Machine)) → HitFits text.now context.now each switch p items → Behind F context.now text.now walk.old each.end (λ levels star. closing F context.now levels (opened.Hit each switch) p items) machine.old given → Went F context.now text.now walk.new machine.new given result }
+    ensures lighter { OnOk result (weight (length context.now.switches) walk.new.frames < weight (length context.now.switches) walk.old.frames + (length context.now.switches - switch)) }
     ensures sized { length machine.new.world.hidden ≡ length machine.old.world.hidden }
     ensures uncounted { OnOk result (machine.new.world.items ≡ machine.old.world.items) }
 {

@@ -3,7 +3,8 @@
 ghost use Rattle.drv_machine.specs.Asked.{Asked};
 ghost use Rattle.drv_machine.specs.Atoms.{input_name};
 ghost use Rattle.drv_machine.specs.ByKind.{Means, hide_step, kind_step};
-ghost use Rattle.drv_machine.specs.Running.{State, run};
+ghost use Rattle.drv_machine.specs.Running as running;
+ghost use Rattle.drv_machine.specs.Running.{run};
 ghost use Rattle.drv_machine.specs.Standing.{Spans};
 ghost use Rattle.drv_machine.specs.Walking.{star_of};
 ghost use Rattle.drv_machine.specs.Working.{Levels, Step};
@@ -28,17 +29,17 @@ use drv_syntax::{SpecTree, Token, TokenKind};
 use drv_system::System;
 
 /// The name of the input; the link has none.
-fn input_name(context: &Context) -> Result<&[u8], MachineFault>
-    ensures { (F : Facts) (s : State) → GivesKnown MachineFault.Memory (λ name. (name.now, s)) result (run F context.now s (input_name F context.now)) }
+fn input_name<'a>(context: &'a Context<'_>) -> Result<&'a [u8], MachineFault>
+    ensures { (F : Facts) (s : running.Machine) → GivesKnown MachineFault.Memory (λ name. (name.now, s)) result (run F context.now s (input_name F context.now)) }
 {
     match context.input() {
-        Some(source) => Ok(source.name.as_bytes()),
+        Some(source) => Ok(source.name),
         None => Err(MachineFault::NoInput),
     }
 }
 
 /// Hides the switches that the pattern at a place names.
-fn hide(text: &SpecTree, context: &Context, at: usize, machine: &mut Machine)
+fn hide(text: &SpecTree, context: &Context<'_>, at: usize, machine: &mut Machine)
     requires in_list { at < length (tokens_of (tree_of text.now)) }
     requires sized { length machine.old.world.hidden ≡ length context.now.switches }
     ensures does { (F : Facts) → run F context.now machine.old (hide_step context.now (label_at (tree_of text.now) at)) ≡ Is (Ok (tt, machine.new)) }
@@ -52,7 +53,7 @@ fn hide(text: &SpecTree, context: &Context, at: usize, machine: &mut Machine)
 #[tactic(auto, using(crate::proofs::AskedCalls::asked_none))]
 pub(crate) fn work_item<S: System>(
     text: &SpecTree,
-    context: &Context,
+    context: &Context<'_>,
     at: usize,
     token: Token,
     star: Option<Rest>,
@@ -70,7 +71,7 @@ pub(crate) fn work_item<S: System>(
 {
     let next = token.next as usize;
     match token.kind {
-        TokenKind::Plain | TokenKind::Escape => machine.put(text.word(at)),
+        TokenKind::Plain | TokenKind::Escape => machine.put_item(text.word(at)),
         TokenKind::Blank => machine.end_word(context, outside),
         TokenKind::Newline => machine.end_line(context, outside),
         TokenKind::Pipe => machine.pipe(context, outside),

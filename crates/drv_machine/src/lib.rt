@@ -13,6 +13,7 @@ mod names;
 mod outcome;
 mod outside;
 mod places;
+mod stack;
 mod turns;
 mod walk;
 mod whole;

@@ -33,15 +33,15 @@ const MOST_ITEMS: usize = 1_000_000;
 
 /// A command as it was cut: its words, and whether it ends with a pipe.
 #[derive(Drop)]
-pub(crate) struct CutLine {
+pub(crate) struct Line {
     pub(crate) words: Listing<Word>,
     pub(crate) piped: bool,
 }
 
-impl Model for CutLine {
-    ghost use Rattle.drv_machine.specs.Cutting.{Line};
+impl Model for Line {
+    ghost use Rattle.drv_machine.specs.Cutting as cutting;
 
-    ghost Value = { Line };
+    ghost Value = { cutting.Line };
 
     ghost view = { λ l. record { words = l.words; piped = l.piped } };
 }
@@ -59,7 +59,7 @@ pub(crate) struct Machine {
     line: Listing<Word>,
     /// Whether a pipe stands behind them.
     is_piped: bool,
-    lines: Listing<CutLine>,
+    lines: Listing<Line>,
     /// Whether a pipe stood where none may.
     is_stray: bool,
     hidden: Hidden,
@@ -69,12 +69,12 @@ pub(crate) struct Machine {
 
 impl Model for Machine {
     ghost use Rattle.drv_machine.specs.Cutting.{no_marks};
-    ghost use Rattle.drv_machine.specs.Machine.{open_word};
-    ghost use Rattle.drv_machine.specs.Running.{State};
+    ghost use Rattle.drv_machine.specs.Held.{open_word};
+    ghost use Rattle.drv_machine.specs.Running as running;
     ghost use Rattle.std.specs.Option.{unwrap_or};
     ghost use Rattle.std.specs.Prelude.{◌≡◌, [], None, false};
 
-    ghost Value = { State };
+    ghost Value = { running.Machine };
 
     ghost invariant = { λ m. unwrap_or (open_word m.is_open m.word.items) [] ≡ m.word.items };
 
@@ -128,10 +128,34 @@ impl Machine {
         Ok(())
     }
 
+    /// A byte goes into the open word, or opens one.
+    fn put_byte(&mut self, byte: u8) -> Result<(), MachineFault>
+        ensures does { (F : Facts) (C : specs.Context) → GivesKnown MachineFault.Memory (λ u. (tt, self.new)) result (run F C self.old (step.bytes (byte ∷ []))) }
+        ensures sized { length self.new.world.hidden ≡ length self.old.world.hidden }
+        ensures uncounted { OnOk result (self.new.world.items ≡ self.old.world.items) }
+    {
+        self.word.push(byte)?;
+        self.is_open = true;
+        self.is_stray |= self.is_piped;
+        Ok(())
+    }
+
+    /// The bytes of an item go into the open word, or open one: mostly one byte, which has a shorter path.
+    pub(crate) fn put_item(&mut self, bytes: &[u8]) -> Result<(), MachineFault>
+        ensures does { (F : Facts) (C : specs.Context) → GivesKnown MachineFault.Memory (λ u. (tt, self.new)) result (run F C self.old (step.bytes bytes.now)) }
+        ensures sized { length self.new.world.hidden ≡ length self.old.world.hidden }
+        ensures uncounted { OnOk result (self.new.world.items ≡ self.old.world.items) }
+    {
+        if bytes.len() == 1 {
+            return self.put_byte(bytes[0]);
+        }
+        self.put(bytes)
+    }
+
     /// The open word, if there is one, ends.
     pub(crate) fn end_word<S: System>(
         &mut self,
-        context: &Context,
+        context: &Context<'_>,
         outside: &mut Outside<'_, S>,
     ) -> Result<(), MachineFault>
         ensures asks { Asked S.events outside.old outside.new }
@@ -168,7 +192,7 @@ impl Machine {
         }
         let words = mem::replace(&mut self.line, Listing::new(self.alloc));
         let piped = mem::replace(&mut self.is_piped, false);
-        self.lines.push(CutLine { words, piped })?;
+        self.lines.push(Line { words, piped })?;
         Ok(())
     }
 
@@ -184,7 +208,7 @@ impl Machine {
     #[tactic(auto, using(crate::proofs::AskedCalls::asked_further))]
     pub(crate) fn end_line<S: System>(
         &mut self,
-        context: &Context,
+        context: &Context<'_>,
         outside: &mut Outside<'_, S>,
     ) -> Result<(), MachineFault>
         ensures asks { Asked S.events outside.old outside.new }
@@ -200,7 +224,7 @@ impl Machine {
     #[tactic(auto, using(crate::proofs::AskedCalls::asked_further))]
     pub(crate) fn pipe<S: System>(
         &mut self,
-        context: &Context,
+        context: &Context<'_>,
         outside: &mut Outside<'_, S>,
     ) -> Result<(), MachineFault>
         ensures asks { Asked S.events outside.old outside.new }
@@ -217,7 +241,7 @@ impl Machine {
     #[tactic(auto, using(crate::proofs::AskedCalls::asked_further))]
     pub(crate) fn put_argument<S: System>(
         &mut self,
-        context: &Context,
+        context: &Context<'_>,
         i: usize,
         outside: &mut Outside<'_, S>,
     ) -> Result<(), MachineFault>
@@ -241,7 +265,7 @@ impl Machine {
     #[tactic(auto, using(crate::proofs::AskedCalls::asked_further))]
     pub(crate) fn put_switch<S: System>(
         &mut self,
-        context: &Context,
+        context: &Context<'_>,
         i: usize,
         outside: &mut Outside<'_, S>,
     ) -> Result<(), MachineFault>

@@ -53,27 +53,27 @@ pub(crate) fn stem(name: &[u8]) -> &[u8]
 }
 
 /// Whether an input's suffix is this word. The link has no suffix.
-pub(crate) fn has_suffix(input: &Option<Source>, word: &[u8]) -> bool
+pub(crate) fn has_suffix(input: &Option<Source<'_>>, word: &[u8]) -> bool
     ensures { result ≡ is_word word.now (suffix_of input.now) }
 {
     let Some(source) = input else {
         return false;
     };
-    match suffixed(source.name.as_bytes()) {
+    match suffixed(source.name) {
         Some((_, suffix)) => word == suffix,
         None => false,
     }
 }
 
 /// Whether an input's language has this name. The link has no language.
-pub(crate) fn has_language(input: &Option<Source>, word: &[u8]) -> bool
+pub(crate) fn has_language(input: &Option<Source<'_>>, word: &[u8]) -> bool
     ensures { result ≡ is_word word.now (language_of input.now) }
 {
     let Some(source) = input else {
         return false;
     };
-    match &source.language {
-        Some(language) => word == language.as_bytes(),
+    match source.language {
+        Some(language) => word == language,
         None => false,
     }
 }

@@ -1,7 +1,7 @@
 //! Parts of a text by their places in its flat list.
 
 ghost use Rattle.drv_machine.specs.ByKind.{labelled};
-ghost use Rattle.drv_machine.specs.Standing.{Spans, Stands, behind_tests, stars, tests_in};
+ghost use Rattle.drv_machine.specs.Standing.{Spans, Stands, behind_tests, tests_in};
 ghost use Rattle.drv_syntax.specs.Labels.{Nodes, label_at};
 ghost use Rattle.drv_syntax.specs.Parsed.{tree_of};
 ghost use Rattle.drv_syntax.specs.Tokens.{tokens_of};
@@ -44,26 +44,4 @@ pub fn tests_end(tree: &SpecTree, start: usize, end: usize) -> usize
         }
     }
     at
-}
-
-/// Whether an X that is these parts has a `%*` of its own.
-pub fn has_own_star(tree: &SpecTree, start: usize, end: usize) -> bool
-    requires { Spans tree.now start end }
-    ensures { (nodes : Nodes) → Stands tree.now start nodes end → result ≡ stars nodes }
-{
-    let mut at = start;
-    while at < end {
-        let token = token_at(tree, at);
-        let next = token.next as usize;
-        let found = match token.kind {
-            TokenKind::Star => true,
-            TokenKind::Alternative => has_own_star(tree, at + 1, tests_end(tree, at + 1, next)),
-            _ => has_own_star(tree, at + 1, next),
-        };
-        if found {
-            return true;
-        }
-        at = next;
-    }
-    false
 }

@@ -2,7 +2,8 @@
 
 ghost use Rattle.drv_machine.specs.Asked.{Asked};
 ghost use Rattle.drv_machine.specs.Atoms.{items_step, levels_left};
-ghost use Rattle.drv_machine.specs.Running.{State, run};
+ghost use Rattle.drv_machine.specs.Running as running;
+ghost use Rattle.drv_machine.specs.Running.{run};
 ghost use Rattle.drv_machine.specs.Walking.{AtItem, Behind, HasFrames, Lain, Left, OpenedFits, Settled, Went, back_of, closing, hits_left, weight};
 ghost use Rattle.drv_machine.specs.Working.{Answer, most_open};
 ghost use Rattle.drv_syntax.specs.Parsed.{tree_of};
@@ -27,7 +28,7 @@ use drv_system::System;
 #[tactic(auto, using(crate::proofs::AskedCalls::asked_none))]
 fn close<S: System>(
     text: &SpecTree,
-    context: &Context,
+    context: &Context<'_>,
     frame: Frame,
     walk: &mut Walk,
     machine: &mut Machine,
@@ -36,8 +37,8 @@ fn close<S: System>(
     requires fits { (p : tree.Pattern) × (items : tree.Items) × OpenedFits text.now context.now frame.opened p items }
     requires sized { length machine.old.world.hidden ≡ length context.now.switches }
     ensures asks { Asked S.events outside.old outside.new }
-    ensures does { (F : Facts) → Extends outside.new.facts.now F → (p : tree.Pattern) (items : tree.Items) (given : Answer (Unit {0} × State)) → OpenedFits text.now context.now frame.opened p items → Behind F context.now text.now (record walk.old { end = frame.end; star = frame.star }) (back_of frame.opened) (λ levels star. closing F context.now levels frame.opened p items) machine.old given → Went F context.now text.now walk.new machine.new given result }
-    ensures lighter { OnOk result (weight (length context.now.switches) walk.new.frames.items < weight (length context.now.switches) walk.old.frames.items + hits_left (length context.now.switches) frame.opened) }
+    ensures does { (F : Facts) → Extends outside.new.facts.now F → (p : tree.Pattern) (items : tree.Items) (given : Answer (Unit {0} × running.Machine)) → OpenedFits text.now context.now frame.opened p items → Behind F context.now text.now (record walk.old { end = frame.end; star = frame.star }) (back_of frame.opened) (λ levels star. closing F context.now levels frame.opened p items) machine.old given → Went F context.now text.now walk.new machine.new given result }
+    ensures lighter { OnOk result (weight (length context.now.switches) walk.new.frames < weight (length context.now.switches) walk.old.frames + hits_left (length context.now.switches) frame.opened) }
     ensures sized { length machine.new.world.hidden ≡ length machine.old.world.hidden }
     ensures uncounted { OnOk result (machine.new.world.items ≡ machine.old.world.items) }
 {
@@ -58,7 +59,7 @@ fn close<S: System>(
 #[tactic(auto, using(crate::proofs::AskedCalls::asked_further))]
 fn settle<S: System>(
     text: &SpecTree,
-    context: &Context,
+    context: &Context<'_>,
     walk: &mut Walk,
     machine: &mut Machine,
     outside: &mut Outside<'_, S>,
@@ -67,7 +68,7 @@ fn settle<S: System>(
     requires framed { HasFrames context.now text.now walk.old }
     requires sized { length machine.old.world.hidden ≡ length context.now.switches }
     ensures asks { Asked S.events outside.old outside.new }
-    ensures does { (F : Facts) → Extends outside.new.facts.now F → (given : Answer (Unit {0} × State)) → Left F context.now text.now walk.old machine.old given → Settled F context.now text.now walk.new machine.new given result }
+    ensures does { (F : Facts) → Extends outside.new.facts.now F → (given : Answer (Unit {0} × running.Machine)) → Left F context.now text.now walk.old machine.old given → Settled F context.now text.now walk.new machine.new given result }
     ensures reached { IfOk result (λ more. IsTrue more → AtItem text.now walk.new) }
     ensures sized { length machine.new.world.hidden ≡ length machine.old.world.hidden }
     ensures uncounted { OnOk result (machine.new.world.items ≡ machine.old.world.items) }
@@ -87,7 +88,7 @@ fn settle<S: System>(
 #[tactic(auto, using(crate::proofs::AskedCalls::asked_none))]
 fn turn<S: System>(
     text: &SpecTree,
-    context: &Context,
+    context: &Context<'_>,
     walk: &mut Walk,
     machine: &mut Machine,
     outside: &mut Outside<'_, S>,
@@ -96,7 +97,7 @@ fn turn<S: System>(
     requires at_item { AtItem text.now walk.old }
     requires sized { length machine.old.world.hidden ≡ length context.now.switches }
     ensures asks { Asked S.events outside.old outside.new }
-    ensures does { (F : Facts) → Extends outside.new.facts.now F → (given : Answer (Unit {0} × State)) → Left F context.now text.now walk.old machine.old given → Went F context.now text.now walk.new machine.new given result }
+    ensures does { (F : Facts) → Extends outside.new.facts.now F → (given : Answer (Unit {0} × running.Machine)) → Left F context.now text.now walk.old machine.old given → Went F context.now text.now walk.new machine.new given result }
     ensures sized { length machine.new.world.hidden ≡ length machine.old.world.hidden }
     ensures counts { OnOk result (machine.new.world.items ≡ machine.old.world.items + 1) }
     ensures below { OnOk result (machine.old.world.items < 1000000) }
@@ -118,7 +119,7 @@ fn turn<S: System>(
 #[tactic(auto, using(crate::proofs::AskedCalls::asked_further))]
 pub(crate) fn work_text<S: System>(
     text: &SpecTree,
-    context: &Context,
+    context: &Context<'_>,
     machine: &mut Machine,
     outside: &mut Outside<'_, S>,
 ) -> Result<(), MachineFault>
@@ -126,7 +127,7 @@ pub(crate) fn work_text<S: System>(
     ensures asks { Asked S.events outside.old outside.new }
     ensures does { (F : Facts) → Extends outside.new.facts.now F → GivesKnown MachineFault.Memory (λ u. (tt, machine.new)) result (run F context.now machine.old (items_step F context.now (tree_of text.now) (levels_left F context.now most_open) [])) }
 {
-    let mut walk = Walk::new(text.tokens().len());
+    let mut walk = Walk::new(machine.alloc(), text.tokens().len());
     while settle(text, context, &mut walk, machine, outside)? {
         turn(text, context, &mut walk, machine, outside)?;
     }

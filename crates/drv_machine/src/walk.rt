@@ -1,7 +1,7 @@
 //! A walk over a text: the place that is reached, and the parts that are open around it.
 
 ghost use Rattle.drv_machine.specs.Context as specs;
-ghost use Rattle.drv_machine.specs.Running.{State};
+ghost use Rattle.drv_machine.specs.Running as running;
 ghost use Rattle.drv_machine.specs.Walking.{AtItem, Lain, Left, star_of};
 ghost use Rattle.drv_machine.specs.Working.{Answer};
 ghost use Rattle.drv_syntax.specs.Parsed.{tree_of};
@@ -11,8 +11,9 @@ ghost use Rattle.std.specs.Prelude.{◌≡◌, ◌<◌, [], None, drop, length};
 
 use crate::Context;
 use crate::places::token_at;
-use arrayvec::ArrayVec;
+use crate::stack::Stack;
 use drv_syntax::{SpecTree, TokenKind};
+use std::alloc::Global;
 
 /// What `%*` stands for: the name of a switch, but for its first bytes.
 #[derive(Clone, Copy, Debug, Default)]
@@ -58,29 +59,29 @@ pub(crate) struct Walk {
     pub(crate) at: usize,
     pub(crate) end: usize,
     pub(crate) star: Option<Rest>,
-    pub(crate) frames: ArrayVec<Frame, 64>,
+    pub(crate) frames: Stack,
 }
 
 impl Walk {
     /// A walk over a whole text of so many parts.
-    pub(crate) fn new(end: usize) -> Walk
+    pub(crate) fn new(alloc: Global, end: usize) -> Walk
         ensures at { result.at ≡ 0 }
         ensures end { result.end ≡ end }
         ensures star { result.star ≡ None }
-        ensures frames { result.frames.items ≡ [] }
+        ensures frames { result.frames ≡ [] }
     {
         Walk {
             at: 0,
             end,
             star: None,
-            frames: ArrayVec::new(),
+            frames: Stack::new(alloc),
         }
     }
 
     /// Passes over other alternatives than the one that was worked.
     pub(crate) fn skip(&mut self, text: &SpecTree)
         requires { Lain text.now self.old }
-        ensures does { (F : Facts) (C : specs.Context) (s : State) (given : Answer (Unit {0} × State)) → Left F C text.now self.old s given → Left F C text.now self.new s given }
+        ensures does { (F : Facts) (C : specs.Context) (s : running.Machine) (given : Answer (Unit {0} × running.Machine)) → Left F C text.now self.old s given → Left F C text.now self.new s given }
         ensures reached { self.new.at < self.new.end → AtItem text.now self.new }
         ensures same { self.new ≡ record self.old { at = self.new.at } }
     {
@@ -106,7 +107,7 @@ fn behind(bytes: &[u8], size: usize) -> &[u8]
 }
 
 /// What `%*` stands for.
-pub(crate) fn star_of(context: &Context, star: Option<Rest>) -> &[u8]
+pub(crate) fn star_of<'a>(context: &'a Context<'_>, star: Option<Rest>) -> &'a [u8]
     ensures { result.now ≡ star_of context.now star }
 {
     match star {

@@ -22,7 +22,7 @@ use std::alloc::Global;
 fn cut<S: System>(
     alloc: Global,
     text: &SpecTree,
-    context: &Context,
+    context: &Context<'_>,
     outside: &mut Outside<'_, S>,
 ) -> Result<Machine, MachineFault>
     ensures asks { Asked S.events outside.old outside.new }
@@ -39,7 +39,7 @@ fn cut<S: System>(
 fn worked<S: System>(
     alloc: Global,
     text: &SpecTree,
-    context: &Context,
+    context: &Context<'_>,
     outside: &mut Outside<'_, S>,
 ) -> Result<Outcome, MachineFault>
     ensures asks { Asked S.events outside.old outside.new }
@@ -56,7 +56,7 @@ fn worked<S: System>(
 pub fn run<S: System>(
     alloc: Global,
     tree: &SpecTree,
-    context: &Context,
+    context: &Context<'_>,
     sys: &mut S,
     facts: &mut FactTable,
 ) -> Result<Outcome, MachineFault>

@@ -1,10 +1,9 @@
 use Rattle.drv_args.specs.declared.line.Input.TheVariants.{File, Library, LinkWord}
 use Rattle.drv_args.specs.declared.line.Input.{Input}
 use Rattle.drv_args.specs.declared.line.Switch.{Switch}
-use Rattle.drv_machine.specs.Context.{Context}
+use Rattle.drv_machine.specs.Context.{Context, Source}
 use Rattle.drv_machine.specs.Outcome.{outcome}
 use Rattle.drv_machine.specs.Working.{◌>>-◌, Answer}
-use Rattle.drv_machine.specs.declared.context.Source.{Source}
 use Rattle.drv_machine.specs.declared.fault.MachineFault.TheVariants as machine
 use Rattle.drv_machine.specs.declared.fault.MachineFault.{MachineFault}
 use Rattle.drv_machine.specs.declared.outcome.Outcome.{Outcome}

@@ -1,7 +1,6 @@
 //! The plan of a line: a job for each of its files.
 #![tactic(auto)]
 
-mod copying;
 mod fault;
 mod planning;
 

@@ -7,16 +7,16 @@ ghost use Rattle.drv_system.specs.Facts.{Facts};
 ghost use Rattle.drv_system.specs.Gives.{GivesKnown};
 ghost use Rattle.drv_words.specs.Gives.{Gives};
 ghost use Rattle.std.specs.List.{list_any};
-ghost use Rattle.std.specs.Prelude.{◌≡◌, ◌≢◌, IfErr, IfOk, Ok};
+ghost use Rattle.std.specs.Option.{option_map};
+ghost use Rattle.std.specs.Prelude.{◌≡◌, ◌≢◌, IfErr, Ok};
 
 use crate::PlanFault;
-use crate::copying::{copied_switches, copied_word};
 use drv_args::{Input, Line};
 use drv_machine::{Context, MachineFault, Source, run};
 use drv_syntax::{SpecTree, SyntaxFault, parse};
 use drv_system::{FactTable, System};
 use drv_words::{Job, Listing, Plan, Word};
-use std::alloc::{AllocError, Global};
+use std::alloc::Global;
 
 /// The text that each file is worked with.
 pub const FIRST_TEXT: &str = "%{S:rectool cc1 %{std=c99} %i -o %b.s}";
@@ -48,24 +48,34 @@ fn has_file(inputs: &[Input]) -> bool
         .any(|input| matches!(input, Input::File { .. }))
 }
 
-/// The file that has this place among the inputs of a line.
-fn source_of(place: usize, name: &Word, language: &Option<Word>) -> Result<Source, AllocError>
-    ensures { IfOk result (λ source. source ≡ record { place = place; name = name.now; language = language.now }) }
+/// The bytes of a word, if there is one.
+fn bytes_of(word: &Option<Word>) -> Option<&[u8]>
+    ensures { option_map (λ bytes. bytes.now) result ≡ word.now }
 {
-    Ok(Source {
+    match word {
+        Some(word) => Some(word.as_bytes()),
+        None => None,
+    }
+}
+
+/// The file that has this place among the inputs of a line.
+fn source_of<'a>(place: usize, name: &'a Word, language: &'a Option<Word>) -> Source<'a>
+    ensures { result ≡ record { place = place; name = name.now; language = language.now } }
+{
+    Source {
         place,
-        name: name.clone()?,
-        language: copied_word(language)?,
-    })
+        name: name.as_bytes(),
+        language: bytes_of(language),
+    }
 }
 
 /// The jobs of the files among the inputs of a line, worked in this context.
 #[tactic(auto, using(crate::proofs::Asked::asks_further))]
-fn jobs_in<S: System>(
+fn jobs_in<'a, S: System>(
     alloc: Global,
-    inputs: &[Input],
+    inputs: &'a [Input],
     tree: &SpecTree,
-    context: &mut Context,
+    context: &mut Context<'a>,
     sys: &mut S,
     facts: &mut FactTable,
 ) -> Result<Listing<Job>, MachineFault>
@@ -78,13 +88,13 @@ fn jobs_in<S: System>(
         let Input::File { name, lang } = input else {
             continue;
         };
-        context.set_input(Some(source_of(place, name, lang)?));
+        context.set_input(Some(source_of(place, name, lang)));
         jobs.push(run(alloc, tree, context, sys, facts)?.job)?;
     }
     Ok(jobs)
 }
 
-/// The jobs of the files of a line. The text is read once, and the switches are copied once, if there is a file.
+/// The jobs of the files of a line. The text is read once, if there is a file; the line is lent.
 #[tactic(auto, using(crate::proofs::Asked::asks_further))]
 fn jobs_of<S: System>(
     alloc: Global,
@@ -100,8 +110,7 @@ fn jobs_of<S: System>(
         return Ok(Listing::new(alloc));
     }
     let tree = first_tree(alloc)?;
-    let switches = copied_switches(alloc, line.switches.as_slice())?;
-    let mut context = Context::new(alloc, switches, None)?;
+    let mut context = Context::new(alloc, line.switches.as_slice(), None)?;
     jobs_in(alloc, inputs, &tree, &mut context, sys, facts)
 }
 

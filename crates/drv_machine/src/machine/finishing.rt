@@ -1,14 +1,14 @@
 //! What stands behind the whole text: pipes judged, and the commands as a job.
 
 ghost use Rattle.drv_machine.specs.Asked.{Asked};
-ghost use Rattle.drv_machine.specs.Machine.{alone, command_of};
+ghost use Rattle.drv_machine.specs.Held.{alone, command_of};
 ghost use Rattle.drv_machine.specs.Outcome.{ends_piped, finished};
 ghost use Rattle.drv_system.specs.Asking.{Extends};
 ghost use Rattle.drv_system.specs.Facts.{Facts};
 ghost use Rattle.drv_system.specs.Gives.{GivesKnown};
 ghost use Rattle.std.specs.Prelude.{◌≡◌, ◌||◌, ◌∷◌, [], IfOk, map};
 
-use super::{CutLine, Machine};
+use super::{Line, Machine};
 use crate::outside::Outside;
 use crate::{Context, MachineFault, Outcome};
 use drv_system::System;
@@ -22,7 +22,7 @@ use std::alloc::{AllocError, Global};
 #[tactic(auto, using(crate::proofs::AskedCalls::asked_none))]
 pub(crate) fn into_outcome<S: System>(
     machine: Machine,
-    context: &Context,
+    context: &Context<'_>,
     outside: &mut Outside<'_, S>,
 ) -> Result<Outcome, MachineFault>
     ensures asks { Asked S.events outside.old outside.new }
@@ -52,7 +52,7 @@ fn has_stray_pipe(machine: &Machine) -> bool
 }
 
 /// Whether the last command ends with a pipe.
-fn ends_piped(lines: &[CutLine]) -> bool
+fn ends_piped(lines: &[Line]) -> bool
     ensures { result ≡ ends_piped lines.now }
 {
     match lines {
@@ -62,7 +62,7 @@ fn ends_piped(lines: &[CutLine]) -> bool
 }
 
 /// Each command in a group of its own.
-fn groups_of(alloc: Global, lines: Listing<CutLine>) -> Result<Listing<Group>, AllocError>
+fn groups_of(alloc: Global, lines: Listing<Line>) -> Result<Listing<Group>, AllocError>
     ensures { IfOk result (λ groups. groups ≡ map alone lines) }
 {
     let mut groups = Listing::new(alloc);

@@ -3,11 +3,12 @@ use Rattle.drv_machine.proofs.ChoiceSteps.{none_true}
 use Rattle.drv_machine.proofs.ChoiceTurns.{default_chosen, none_chosen, one_chosen, tests_refused}
 use Rattle.drv_machine.proofs.Standing.{front_in, here}
 use Rattle.drv_machine.proofs.braces.choose.Goals as goal
-use Rattle.drv_machine.specs.Atoms.{first_true, has_star, items_step, worked}
+use Rattle.drv_machine.specs.Atoms.{first_true, items_step, worked}
 use Rattle.drv_machine.specs.ByKind.{Found}
-use Rattle.drv_machine.specs.Standing.{behind_tests, tests_in}
+use Rattle.drv_machine.specs.Standing.{tests_in}
 use Rattle.drv_machine.specs.Walking.{Behind, Left, Went}
 use Rattle.drv_machine.specs.declared.walk.Walk.{Walk}
+use Rattle.drv_syntax.specs.Stars.{has_star}
 use Rattle.std.proofs.Common.{Ok, Option, Some, arith, rules, subst, sym, ℕ, ◌∙◌}
 
 pub token_at-next-requires : goal.token_at-next-requires
@@ -38,10 +39,8 @@ returns-in_err-test-clause-does g c F e choices given s b =
     let f = c.from_residual.ensures in
     search rules
 
-pub enter_alternative-requires-clause-spans : goal.enter_alternative-requires-clause-spans
-enter_alternative-requires-clause-spans g c =
-    let h = here c.args.text.now c.loop-at.at c.args.end c.loop-at-test.true c.token_at-next.result c.token_at-next.ensures c.loop-at.invariant.spans in
-    record { nodes = behind_tests h.within.nodes; stands = c.tests_end-items.ensures.rest h.within.nodes h.within.stands }
+pub holds_star-requires : goal.holds_star-requires
+holds_star-requires g c = front_in c.args.text.now c.loop-at.at c.args.end c.loop-at-test.true c.loop-at.invariant.spans
 
 pub returns-in-Some-clause-does : goal.returns-in-Some-clause-does
 returns-in-Some-clause-does g c F e choices given s b =
@@ -53,8 +52,8 @@ returns-in-Some-clause-does g c F e choices given s b =
     (λ tests levels star stands.
     subst (λ (found : Option ℕ). Found F c.args.context.now c.args.text.now c.loop-at.machine c.first_true.new.machine (Ok found) (first_true F c.args.context.now tests levels star)) c.in-Some.is
     (c.in_ok-test.ensures.does F e tests levels star stands))
-    (λ negated asked items others label stands behind.
-    c.enter_alternative.ensures F negated asked items others given label stands
+    (λ negated asked items others owns label stands behind.
+    c.enter_alternative.ensures F negated asked items others given (c.holds_star.ensures ∙ owns) label stands
     (subst (λ (v : Walk). Behind F c.args.context.now c.args.text.now v c.token_at-next.result.next (λ levels star. worked F c.args.context.now (Some asked) (has_star items) (λ rest inside. items_step F c.args.context.now items inside rest) levels star others) c.first_true.new.machine given)
     (sym c.loop-at.invariant.walk) behind))
 

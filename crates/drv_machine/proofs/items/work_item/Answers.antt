@@ -45,8 +45,8 @@ overflow_add-at g c = let later = stand_grows _ _ (c.args.at + 1) c.requires.spa
 
 pub returns-in-Percent-clause-does : goal.returns-in-Percent-clause-does
 returns-in-Percent-clause-does g c F e levels inner means =
-    gives_as c.put-in-Percent.new.self c.put-in-Percent.result _ _
-    (by_kind F c.args.context.now c.args.machine.now c.args.token.kind kinds.Percent c.args.text.now c.args.at (star_of c.args.context.now c.args.star) inner c.in-Percent.is) (c.put-in-Percent.ensures.does F c.args.context.now)
+    gives_as c.put.new.self c.put.result _ _
+    (by_kind F c.args.context.now c.args.machine.now c.args.token.kind kinds.Percent c.args.text.now c.args.at (star_of c.args.context.now c.args.star) inner c.in-Percent.is) (c.put.ensures.does F c.args.context.now)
 
 pub returns-in_ok-input_name-in-InputName-clause-does : goal.returns-in_ok-input_name-in-InputName-clause-does
 returns-in_ok-input_name-in-InputName-clause-does g c F e levels inner means =

@@ -30,21 +30,21 @@ loop-walk-init g c =
 
 pub returns-in_default-clause-does : goal.returns-in_default-clause-does
 returns-in_default-clause-does g c F e given left =
-    walk_ended F c.args.context.now c.args.text.now c.loop-walk.walk c.loop-walk.machine given c.loop-walk-test.true (none_popped c.pop.result (length c.loop-walk.walk.frames.items) c.pop.ensures.variant c.in_default.is)
+    walk_ended F c.args.context.now c.args.text.now c.loop-walk.walk c.loop-walk.machine given c.loop-walk-test.true (none_popped c.pop.result (length c.loop-walk.walk.frames) c.pop.ensures.variant c.in_default.is)
     (c.loop-walk.invariant.left F e given left)
 
 pub close-requires-clause-fits : goal.close-requires-clause-fits
 close-requires-clause-fits g c =
-    can_close c.args.text.now c.loop-walk.walk c.loop-walk-test.true c.in-Some.frame c.pop.new.self.items
-    (c.pop.ensures.items ∙ ap (λ (o : Option Frame). c.pop.new.self.items ++ option_to_list o) c.in-Some.is)
+    can_close c.args.text.now c.loop-walk.walk c.loop-walk-test.true c.in-Some.frame c.pop.new.self
+    (c.pop.ensures.items ∙ ap (λ (o : Option Frame). c.pop.new.self ++ option_to_list o) c.in-Some.is)
     no_facts c.args.context.now c.loop-walk.machine (given_of no_facts c.args.context.now c.args.text.now c.loop-walk.walk c.loop-walk.machine c.loop-walk.invariant.lain c.loop-walk.invariant.framed)
     (as_left no_facts c.args.context.now c.args.text.now c.loop-walk.walk c.loop-walk.machine c.loop-walk.invariant.lain c.loop-walk.invariant.framed)
 
 pub returns-in_err-close-clause-does : goal.returns-in_err-close-clause-does
 returns-in_err-close-clause-does g c F e given left =
     let failed =
-    closed c.args.text.now c.loop-walk.walk c.loop-walk-test.true c.in-Some.frame c.pop.new.self.items
-    (c.pop.ensures.items ∙ ap (λ (o : Option Frame). c.pop.new.self.items ++ option_to_list o) c.in-Some.is)
+    closed c.args.text.now c.loop-walk.walk c.loop-walk-test.true c.in-Some.frame c.pop.new.self
+    (c.pop.ensures.items ∙ ap (λ (o : Option Frame). c.pop.new.self ++ option_to_list o) c.in-Some.is)
     F c.args.context.now c.loop-walk.machine given (c.loop-walk.invariant.left F (extends_before c.close.ensures.asks e) given left)
     (record c.loop-walk.walk { end = c.in-Some.frame.end; star = c.in-Some.frame.star; frames = c.pop.new.self }) refl refl refl
     ((c.in_err-close.field-0.0 ≡ Memory) ⊎ (given ≡ Is (Err c.in_err-close.field-0.0)))
@@ -55,8 +55,8 @@ returns-in_err-close-clause-does g c F e given left =
 pub skip-requires-in-loop-walk : goal.skip-requires-in-loop-walk
 skip-requires-in-loop-walk g c =
     let left =
-    closed c.args.text.now c.loop-walk.walk c.loop-walk-test.true c.in-Some.frame c.pop.new.self.items
-    (c.pop.ensures.items ∙ ap (λ (o : Option Frame). c.pop.new.self.items ++ option_to_list o) c.in-Some.is)
+    closed c.args.text.now c.loop-walk.walk c.loop-walk-test.true c.in-Some.frame c.pop.new.self
+    (c.pop.ensures.items ∙ ap (λ (o : Option Frame). c.pop.new.self ++ option_to_list o) c.in-Some.is)
     c.close.new.outside.facts.now c.args.context.now c.loop-walk.machine (given_of c.close.new.outside.facts.now c.args.context.now c.args.text.now c.loop-walk.walk c.loop-walk.machine c.loop-walk.invariant.lain c.loop-walk.invariant.framed)
     (as_left c.close.new.outside.facts.now c.args.context.now c.args.text.now c.loop-walk.walk c.loop-walk.machine c.loop-walk.invariant.lain c.loop-walk.invariant.framed)
     (record c.loop-walk.walk { end = c.in-Some.frame.end; star = c.in-Some.frame.star; frames = c.pop.new.self }) refl refl refl
@@ -67,16 +67,16 @@ skip-requires-in-loop-walk g c =
 
 pub loop-walk-smaller : goal.loop-walk-smaller
 loop-walk-smaller g c =
-    let eq = ap (weight (length c.args.context.now.switches)) (c.pop.ensures.items ∙ ap (λ (o : Option Frame). c.pop.new.self.items ++ option_to_list o) c.in-Some.is) in
-    let same = ap (λ (v : Walk). weight (length c.args.context.now.switches) v.frames.items) c.skip-in-loop-walk.ensures.same in
-    omega (arith, eq, weight_one (length c.args.context.now.switches) c.pop.new.self.items c.in-Some.frame, c.in_ok-close.ensures.lighter, same)
+    let eq = ap (weight (length c.args.context.now.switches)) (c.pop.ensures.items ∙ ap (λ (o : Option Frame). c.pop.new.self ++ option_to_list o) c.in-Some.is) in
+    let same = ap (λ (v : Walk). weight (length c.args.context.now.switches) v.frames) c.skip-in-loop-walk.ensures.same in
+    omega (arith, eq, weight_one (length c.args.context.now.switches) c.pop.new.self c.in-Some.frame, c.in_ok-close.ensures.lighter, same)
 
 pub loop-walk-preserved : goal.loop-walk-preserved
 loop-walk-preserved g c =
     let after =
     c.skip-in-loop-walk.ensures.does c.close.new.outside.facts.now c.args.context.now c.close.new.machine (given_of c.close.new.outside.facts.now c.args.context.now c.args.text.now c.loop-walk.walk c.loop-walk.machine c.loop-walk.invariant.lain c.loop-walk.invariant.framed)
-    (closed c.args.text.now c.loop-walk.walk c.loop-walk-test.true c.in-Some.frame c.pop.new.self.items
-    (c.pop.ensures.items ∙ ap (λ (o : Option Frame). c.pop.new.self.items ++ option_to_list o) c.in-Some.is)
+    (closed c.args.text.now c.loop-walk.walk c.loop-walk-test.true c.in-Some.frame c.pop.new.self
+    (c.pop.ensures.items ∙ ap (λ (o : Option Frame). c.pop.new.self ++ option_to_list o) c.in-Some.is)
     c.close.new.outside.facts.now c.args.context.now c.loop-walk.machine (given_of c.close.new.outside.facts.now c.args.context.now c.args.text.now c.loop-walk.walk c.loop-walk.machine c.loop-walk.invariant.lain c.loop-walk.invariant.framed)
     (as_left c.close.new.outside.facts.now c.args.context.now c.args.text.now c.loop-walk.walk c.loop-walk.machine c.loop-walk.invariant.lain c.loop-walk.invariant.framed)
     (record c.loop-walk.walk { end = c.in-Some.frame.end; star = c.in-Some.frame.star; frames = c.pop.new.self }) refl refl refl
@@ -91,8 +91,8 @@ loop-walk-preserved g c =
       reached = c.skip-in-loop-walk.ensures.reached;
       left = λ F e given left.
           c.skip-in-loop-walk.ensures.does F c.args.context.now c.close.new.machine given
-          (closed c.args.text.now c.loop-walk.walk c.loop-walk-test.true c.in-Some.frame c.pop.new.self.items
-          (c.pop.ensures.items ∙ ap (λ (o : Option Frame). c.pop.new.self.items ++ option_to_list o) c.in-Some.is)
+          (closed c.args.text.now c.loop-walk.walk c.loop-walk-test.true c.in-Some.frame c.pop.new.self
+          (c.pop.ensures.items ∙ ap (λ (o : Option Frame). c.pop.new.self ++ option_to_list o) c.in-Some.is)
           F c.args.context.now c.loop-walk.machine given (c.loop-walk.invariant.left F (extends_before c.close.ensures.asks e) given left)
           (record c.loop-walk.walk { end = c.in-Some.frame.end; star = c.in-Some.frame.star; frames = c.pop.new.self }) refl refl refl
           (Left F c.args.context.now c.args.text.now c.close.new.walk c.close.new.machine given)

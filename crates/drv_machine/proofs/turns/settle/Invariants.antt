@@ -1,6 +1,6 @@
 use Rattle.drv_machine.proofs.turns.settle.Given as goal
 use Rattle.drv_machine.specs.Asked.{Asked}
-use Rattle.drv_machine.specs.Running.{State}
+use Rattle.drv_machine.specs.Running.{Machine}
 use Rattle.drv_machine.specs.Walking.{AtItem, HasFrames, Lain, Left, weight}
 use Rattle.drv_machine.specs.Working.{Answer}
 use Rattle.drv_system.specs.Asking.{Extends}
@@ -15,8 +15,8 @@ invariant-loop-walk g l = record {
   sized : length l.machine.world.hidden ≡ length l.context.switches;
   uncounted : l.machine.world.items ≡ l.fn.machine.world.items;
   reached : l.walk.at < l.walk.end → AtItem l.text l.walk;
-  left : (F : Facts) → Extends l.outside.facts.now F → (given : Answer (Unit {0} × State)) → Left F l.context l.text l.fn.walk l.fn.machine given → Left F l.context l.text l.walk l.machine given;
+  left : (F : Facts) → Extends l.outside.facts.now F → (given : Answer (Unit {0} × Machine)) → Left F l.context l.text l.fn.walk l.fn.machine given → Left F l.context l.text l.walk l.machine given;
 }
 
 abbrev pub decreases-loop-walk : goal.decreases-loop-walk
-decreases-loop-walk g l = weight (length l.context.switches) l.walk.frames.items
+decreases-loop-walk g l = weight (length l.context.switches) l.walk.frames

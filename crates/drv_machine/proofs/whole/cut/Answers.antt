@@ -2,7 +2,7 @@ use Rattle.drv_machine.proofs.AskedCalls.{extends_before}
 use Rattle.drv_machine.proofs.Steps.{fails_as, then_fails, then_ok}
 use Rattle.drv_machine.proofs.whole.cut.Goals as goal
 use Rattle.drv_machine.specs.Atoms.{items_step, levels_left, whole_text}
-use Rattle.drv_machine.specs.Running.{State, begun, run}
+use Rattle.drv_machine.specs.Running.{Machine, begun, run}
 use Rattle.drv_machine.specs.Working.{Break, End, most_open, puts}
 use Rattle.drv_syntax.specs.Parsed.{tree_of}
 use Rattle.drv_system.specs.Facts.{no_facts}
@@ -11,7 +11,7 @@ use Rattle.std.proofs.lemmas.List.{length-map}
 
 pub work_text-requires : goal.work_text-requires
 work_text-requires g c =
-    ap (λ (s : State). length s.world.hidden) (c.in_ok-machine.ensures no_facts c.args.context.now (sym c.switches.ensures)) ∙ length-map c.args.context.now.switches (λ s. false)
+    ap (λ (s : Machine). length s.world.hidden) (c.in_ok-machine.ensures no_facts c.args.context.now (sym c.switches.ensures)) ∙ length-map c.args.context.now.switches (λ s. false)
 
 pub returns-in_err-work_text-clause-does : goal.returns-in_err-work_text-clause-does
 returns-in_err-work_text-clause-does g c F e =

@@ -2,7 +2,7 @@ use Rattle.drv_machine.proofs.AskedCalls.{extends_before}
 use Rattle.drv_machine.proofs.Laws.{outcome_runs}
 use Rattle.drv_machine.proofs.whole.worked.Goals as goal
 use Rattle.drv_machine.specs.Outcome.{finished}
-use Rattle.drv_machine.specs.Running.{State}
+use Rattle.drv_machine.specs.Running.{Machine}
 use Rattle.drv_machine.specs.Working.{◌>>-◌, Answer}
 use Rattle.drv_machine.specs.declared.fault.MachineFault.TheVariants.{Memory}
 use Rattle.drv_syntax.specs.Parsed.{tree_of}
@@ -13,5 +13,5 @@ pub returns-clause-does : goal.returns-clause-does
 returns-clause-does g c F e =
     subst (λ given. GivesKnown Memory (λ o. o) c.into_outcome.result given)
     (sym (outcome_runs F c.args.context.now (tree_of c.args.text.now)
-    ∙ ap (λ (a : Answer (Unit {0} × State)). a >>- λ r. finished F c.args.context.now r.1.world r.1.cut) (c.in_ok-machine.ensures.does F (extends_before c.into_outcome.ensures.asks e))))
+    ∙ ap (λ (a : Answer (Unit {0} × Machine)). a >>- λ r. finished F c.args.context.now r.1.world r.1.cut) (c.in_ok-machine.ensures.does F (extends_before c.into_outcome.ensures.asks e))))
     (c.into_outcome.ensures.does F e)

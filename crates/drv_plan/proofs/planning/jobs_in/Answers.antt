@@ -8,9 +8,9 @@ use Rattle.std.proofs.Common.{◌∙◌, ap}
 
 pub returns-in_err-run-clause-works : goal.returns-in_err-run-clause-works
 returns-in_err-run-clause-works g c F e =
-    refusal_given c.in_err-run.field-0.0 c.from_residual-in_err-run.result (jobs F c.args.context.now.switches 0 c.args.inputs.now) c.from_residual-in_err-run.ensures.1
+    refusal_given c.in_err-run.field-0.0 c.from_residual.result (jobs F c.args.context.now.switches 0 c.args.inputs.now) c.from_residual.ensures.1
     (refused_next F c.set_input.new.self (tree_of c.args.tree.now) c.args.context.now.switches c.args.inputs.now c.loop-place.place c.index-inputs-place.result c.in-File.name c.in-File.lang c.loop-place.jobs c.in_err-run.field-0.0
-    (ap tree_of c.requires) c.loop-place-test.true c.index-inputs-place.is c.in-File.is (source_set c.set_input.new.self c.loop-place.context c.in_ok-source_of.field-0 c.args.context.now.switches c.loop-place.place c.in-File.name c.in-File.lang c.set_input.ensures c.in_ok-source_of.ensures c.loop-place.invariant.switches) (c.in_err-run.ensures.works F e) (c.loop-place.invariant.rest F (extends_then (asks_extends c.run.ensures.asks) e)))
+    (ap tree_of c.requires) c.loop-place-test.true c.index-inputs-place.is c.in-File.is (source_set c.set_input.new.self c.loop-place.context c.source_of.result c.args.context.now.switches c.loop-place.place c.in-File.name c.in-File.lang c.set_input.ensures c.source_of.ensures c.loop-place.invariant.switches) (c.in_err-run.ensures.works F e) (c.loop-place.invariant.rest F (extends_then (asks_extends c.run.ensures.asks) e)))
 
 pub loop-place-preserved : goal.loop-place-preserved
 loop-place-preserved g c = record {
@@ -18,5 +18,5 @@ loop-place-preserved g c = record {
   switches = ap (λ (C : Context). C.switches) c.set_input.ensures ∙ c.loop-place.invariant.switches;
   rest = λ F e.
       job_next F c.set_input.new.self (tree_of c.args.tree.now) c.args.context.now.switches c.args.inputs.now c.loop-place.place c.index-inputs-place.result c.in-File.name c.in-File.lang c.loop-place.jobs c.push.new.self c.in_ok-run.field-0
-      (ap tree_of c.requires) c.loop-place-test.true c.index-inputs-place.is c.in-File.is (source_set c.set_input.new.self c.loop-place.context c.in_ok-source_of.field-0 c.args.context.now.switches c.loop-place.place c.in-File.name c.in-File.lang c.set_input.ensures c.in_ok-source_of.ensures c.loop-place.invariant.switches) (c.in_ok-run.ensures.works F e) c.in_ok-push.ensures.ok (c.loop-place.invariant.rest F (extends_then (asks_extends c.run.ensures.asks) e));
+      (ap tree_of c.requires) c.loop-place-test.true c.index-inputs-place.is c.in-File.is (source_set c.set_input.new.self c.loop-place.context c.source_of.result c.args.context.now.switches c.loop-place.place c.in-File.name c.in-File.lang c.set_input.ensures c.source_of.ensures c.loop-place.invariant.switches) (c.in_ok-run.ensures.works F e) c.in_ok-push.ensures.ok (c.loop-place.invariant.rest F (extends_then (asks_extends c.run.ensures.asks) e));
 }

@@ -1,0 +1,445 @@
+use Rattle.drv_args.specs.declared.line.Switch.{Switch}
+use Rattle.drv_machine.specs.Context.{Context}
+use Rattle.drv_machine.specs.Outcome.{outcome}
+use Rattle.drv_machine.specs.Working.{◌>>-◌, Answer}
+use Rattle.drv_machine.specs.declared.fault.MachineFault.TheVariants.{NoInput, NotYet, StrayPipe}
+use Rattle.drv_machine.specs.declared.outcome.Outcome.{Outcome}
+use Rattle.drv_syntax.specs.Outcome.{parsed}
+use Rattle.drv_syntax.specs.Tree.{Items}
+use Rattle.drv_syntax.specs.declared.fault.SyntaxFault.{SyntaxFault}
+use Rattle.drv_system.specs.Facts.{Facts}
+use Rattle.drv_system.specs.Known.{Is, Unasked}
+use Rattle.drv_words.specs.declared.plan.Command.{Command}
+use Rattle.std.proofs.Common.{◌≡◌, Option, List, [], ◌∷◌, codes, map, refl, ℕ}
+use Rattle.std.specs.Prelude.{Err, None, Ok, Result, Some}
+
+-- Worked texts, by computation: tables of what tests ask, what is put of switches, how commands are cut, what is not
+-- there yet, and what texts cost. The expected words were worked out by hand from the manual and the profile.
+
+-- a switch of its own, and one with an argument
+abbrev alone : List ℕ → Switch
+alone name = record { name = name; arg = None }
+
+abbrev with : List ℕ → List ℕ → Switch
+with name arg = record { name = name; arg = Some arg }
+
+-- a line of switches, with the first of its inputs, or for the link
+abbrev on : List Switch → List ℕ → Context
+on switches name = record { switches = switches; input = Some (record { place = 0; name = name; language = None }) }
+
+abbrev in_language : List ℕ → List ℕ → Context
+in_language language name = record { switches = []; input = Some (record { place = 0; name = name; language = Some language }) }
+
+abbrev linking : List Switch → Context
+linking switches = record { switches = switches; input = None }
+
+-- the words of each command, group after group
+abbrev group_words : List Command → List (List ℕ)
+group_words [] = []
+group_words (c ∷ commands) = c.program ∷ c.words
+
+module _ (F : Facts) where
+  abbrev worked : Context → List ℕ → Answer Outcome
+  worked C text = by (parsed text)
+    where
+      by : Result Items SyntaxFault → Answer Outcome
+      by (Ok items) = outcome F C items
+      by (Err fault) = Unasked  -- no text of these
+
+  abbrev words_of : Context → List ℕ → Answer (List (List (List ℕ)))
+  words_of C text = worked C text >>- λ o. Is (Ok (map group_words o.job.groups))
+
+  abbrev cost_of : Context → List ℕ → Answer ℕ
+  cost_of C text = worked C text >>- λ o. Is (Ok o.cost)
+
+  -- what tests ask
+  tests_1 : words_of (on [] (codes "fred.c")) (codes "%{.c:-foo} %{!.c:-bar} %{.c|d:-baz} %{!.c|d:-boggle}") ≡ Is (Ok ((codes "-foo" ∷ codes "-baz" ∷ []) ∷ []))
+  tests_1 = refl
+
+  tests_2 : words_of (on [] (codes "jim.d")) (codes "%{.c:-foo} %{!.c:-bar} %{.c|d:-baz} %{!.c|d:-boggle}") ≡ Is (Ok ((codes "-bar" ∷ codes "-boggle" ∷ []) ∷ []))
+  tests_2 = refl
+
+  tests_3 : words_of (on (alone (codes "d") ∷ []) (codes "fred.c")) (codes "%{.c:-foo} %{!.c:-bar} %{.c|d:-baz} %{!.c|d:-boggle}") ≡ Is (Ok ((codes "-foo" ∷ codes "-baz" ∷ codes "-boggle" ∷ []) ∷ []))
+  tests_3 = refl
+
+  tests_4 : words_of (on (alone (codes "d") ∷ []) (codes "jim.d")) (codes "%{.c:-foo} %{!.c:-bar} %{.c|d:-baz} %{!.c|d:-boggle}") ≡ Is (Ok ((codes "-bar" ∷ codes "-baz" ∷ codes "-boggle" ∷ []) ∷ []))
+  tests_4 = refl
+
+  tests_5 : words_of (on (alone (codes "fno-x") ∷ alone (codes "fx") ∷ alone (codes "O1") ∷ alone (codes "O2") ∷ []) (codes "a.c")) (codes "%{fno-x:A} %{fx:B} %{O*} %{f*} %{O1:C}") ≡ Is (Ok ((codes "B" ∷ codes "-O1" ∷ codes "-O2" ∷ codes "-fno-x" ∷ codes "-fx" ∷ []) ∷ []))
+  tests_5 = refl
+
+  tests_6 : words_of (linking (alone (codes "c") ∷ [])) (codes "%{c:A;d:B;:C}") ≡ Is (Ok ((codes "A" ∷ []) ∷ []))
+  tests_6 = refl
+
+  tests_7 : words_of (linking (alone (codes "d") ∷ [])) (codes "%{c:A;d:B;:C}") ≡ Is (Ok ((codes "B" ∷ []) ∷ []))
+  tests_7 = refl
+
+  tests_8 : words_of (linking (alone (codes "d") ∷ alone (codes "c") ∷ [])) (codes "%{c:A;d:B;:C}") ≡ Is (Ok ((codes "A" ∷ []) ∷ []))
+  tests_8 = refl
+
+  tests_9 : words_of (linking []) (codes "%{c:A;d:B;:C}") ≡ Is (Ok ((codes "C" ∷ []) ∷ []))
+  tests_9 = refl
+
+  tests_10 : words_of (linking (alone (codes "c") ∷ [])) (codes "%{!c:A;:B}") ≡ Is (Ok ((codes "B" ∷ []) ∷ []))
+  tests_10 = refl
+
+  tests_11 : words_of (linking []) (codes "%{!c:A;:B}") ≡ Is (Ok ((codes "A" ∷ []) ∷ []))
+  tests_11 = refl
+
+  tests_12 : words_of (linking []) (codes "%{c:A;d:B}") ≡ Is (Ok [])
+  tests_12 = refl
+
+  tests_13 : words_of (linking (alone (codes "a") ∷ [])) (codes "%{a|b:A}") ≡ Is (Ok ((codes "A" ∷ []) ∷ []))
+  tests_13 = refl
+
+  tests_14 : words_of (linking (alone (codes "b") ∷ [])) (codes "%{a|b:A}") ≡ Is (Ok ((codes "A" ∷ []) ∷ []))
+  tests_14 = refl
+
+  tests_15 : words_of (linking []) (codes "%{a|b:A}") ≡ Is (Ok [])
+  tests_15 = refl
+
+  tests_16 : words_of (linking (alone (codes "a") ∷ [])) (codes "%{!a|b:A}") ≡ Is (Ok [])
+  tests_16 = refl
+
+  tests_17 : words_of (linking (alone (codes "a") ∷ alone (codes "b") ∷ [])) (codes "%{!a|b:A}") ≡ Is (Ok ((codes "A" ∷ []) ∷ []))
+  tests_17 = refl
+
+  tests_18 : words_of (linking (alone (codes "b") ∷ [])) (codes "%{a:A;b:B;b:C;:D}%{a:A;:D}") ≡ Is (Ok ((codes "BD" ∷ []) ∷ []))
+  tests_18 = refl
+
+  tests_19 : words_of (linking (alone (codes "a") ∷ [])) (codes "%{a:x\\;y;b:z;:w}") ≡ Is (Ok ((codes "x;y" ∷ []) ∷ []))
+  tests_19 = refl
+
+  tests_20 : words_of (linking (alone (codes "b") ∷ [])) (codes "%{a:x\\;y;b:z;:w}") ≡ Is (Ok ((codes "z" ∷ []) ∷ []))
+  tests_20 = refl
+
+  tests_21 : words_of (linking []) (codes "%{a:x\\;y;b:z;:w}") ≡ Is (Ok ((codes "w" ∷ []) ∷ []))
+  tests_21 = refl
+
+  tests_22 : words_of (in_language (codes "c") (codes "x.h")) (codes "%{,c:C;,c++:D;:E}") ≡ Is (Ok ((codes "C" ∷ []) ∷ []))
+  tests_22 = refl
+
+  tests_23 : words_of (in_language (codes "c++") (codes "x.h")) (codes "%{,c:C;,c++:D;:E}") ≡ Is (Ok ((codes "D" ∷ []) ∷ []))
+  tests_23 = refl
+
+  tests_24 : words_of (on [] (codes "x.c")) (codes "%{,c:C;,c++:D;:E}") ≡ Is (Ok ((codes "E" ∷ []) ∷ []))
+  tests_24 = refl
+
+  tests_25 : words_of (linking []) (codes "%{,c:C;,c++:D;:E}") ≡ Is (Ok ((codes "E" ∷ []) ∷ []))
+  tests_25 = refl
+
+  tests_26 : words_of (linking []) (codes "%{.c:A} %{!.c:B} %{,c:C} %{!,c:D}") ≡ Is (Ok ((codes "B" ∷ codes "D" ∷ []) ∷ []))
+  tests_26 = refl
+
+  tests_27 : words_of (on [] (codes "d/.c")) (codes "%b %{.c:S}") ≡ Is (Ok ((codes ".c" ∷ []) ∷ []))
+  tests_27 = refl
+
+  tests_28 : words_of (on (alone (codes "S") ∷ []) (codes "x/y.c")) (codes "%{S:rectool cc1 %{std=c99} %i -o %b.s}") ≡ Is (Ok ((codes "rectool" ∷ codes "cc1" ∷ codes "x/y.c" ∷ codes "-o" ∷ codes "y.s" ∷ []) ∷ []))
+  tests_28 = refl
+
+  tests_29 : words_of (on (alone (codes "S") ∷ alone (codes "std=c99") ∷ []) (codes "a.c")) (codes "%{S:rectool cc1 %{std=c99} %i -o %b.s}") ≡ Is (Ok ((codes "rectool" ∷ codes "cc1" ∷ codes "-std=c99" ∷ codes "a.c" ∷ codes "-o" ∷ codes "a.s" ∷ []) ∷ []))
+  tests_29 = refl
+
+  tests_30 : words_of (on (alone (codes "std=c99") ∷ []) (codes "a.c")) (codes "%{S:rectool cc1 %{std=c99} %i -o %b.s}") ≡ Is (Ok [])
+  tests_30 = refl
+
+  tests_31 : words_of (linking (alone (codes "m") ∷ [])) (codes "%{a:%{m:x}} %{m:%{!a:y}}") ≡ Is (Ok ((codes "y" ∷ []) ∷ []))
+  tests_31 = refl
+
+  -- what is put of switches, and where they are hidden
+  switches_1 : words_of (on (alone (codes "mcu=newchip") ∷ []) (codes "a.c")) (codes "%{mcu=*:--script=%*/memory.ld}") ≡ Is (Ok ((codes "--script=newchip/memory.ld" ∷ []) ∷ []))
+  switches_1 = refl
+
+  switches_2 : words_of (on (alone (codes "mcu=a") ∷ alone (codes "mcu=b") ∷ []) (codes "a.c")) (codes "%{mcu=*:--script=%*/memory.ld}") ≡ Is (Ok ((codes "--script=a/memory.ld" ∷ codes "--script=b/memory.ld" ∷ []) ∷ []))
+  switches_2 = refl
+
+  switches_3 : words_of (on (alone (codes "m") ∷ []) (codes "a.c")) (codes "%{mcu=*:--script=%*/memory.ld}") ≡ Is (Ok [])
+  switches_3 = refl
+
+  switches_4 : words_of (linking (alone (codes "a") ∷ [])) (codes "%{a} %<a %{a} %{!a:Q}") ≡ Is (Ok ((codes "-a" ∷ codes "Q" ∷ []) ∷ []))
+  switches_4 = refl
+
+  switches_5 : words_of (linking (alone (codes "ma") ∷ alone (codes "mb") ∷ [])) (codes "%{m*:%<mb %*}") ≡ Is (Ok ((codes "a" ∷ []) ∷ []))
+  switches_5 = refl
+
+  switches_6 : words_of (linking (alone (codes "ma") ∷ alone (codes "n") ∷ [])) (codes "%>m* %{m*} %{ma} %{*}") ≡ Is (Ok ((codes "-n" ∷ []) ∷ []))
+  switches_6 = refl
+
+  switches_7 : words_of (linking (alone (codes "ma") ∷ alone (codes "mb") ∷ [])) (codes "%{m*:%>m* %*}") ≡ Is (Ok ((codes "a" ∷ []) ∷ []))
+  switches_7 = refl
+
+  switches_8 : words_of (linking (alone (codes "ma") ∷ alone (codes "mb") ∷ [])) (codes "%{m*:y}") ≡ Is (Ok ((codes "y" ∷ []) ∷ []))
+  switches_8 = refl
+
+  switches_9 : words_of (linking (alone (codes "a1") ∷ alone (codes "a2") ∷ alone (codes "b3") ∷ [])) (codes "%{a*:<%{b*:%*}>}") ≡ Is (Ok ((codes "<3" ∷ codes ">" ∷ []) ∷ []))
+  switches_9 = refl
+
+  switches_10 : words_of (linking (alone (codes "a1") ∷ alone (codes "a2") ∷ alone (codes "b3") ∷ [])) (codes "%{a*:%*%{b*:%*}}") ≡ Is (Ok ((codes "13" ∷ codes "23" ∷ []) ∷ []))
+  switches_10 = refl
+
+  switches_11 : words_of (linking (with (codes "I") (codes "x") ∷ [])) (codes "%{I*:-J%*}") ≡ Is (Ok ((codes "-J" ∷ codes "x" ∷ []) ∷ []))
+  switches_11 = refl
+
+  switches_12 : words_of (linking (with (codes "I") (codes "x") ∷ [])) (codes "%{I*}") ≡ Is (Ok ((codes "-I" ∷ codes "x" ∷ []) ∷ []))
+  switches_12 = refl
+
+  switches_13 : words_of (linking (with (codes "I") (codes "x") ∷ [])) (codes "%{I:-J}") ≡ Is (Ok ((codes "-J" ∷ []) ∷ []))
+  switches_13 = refl
+
+  switches_14 : words_of (linking (with (codes "I") [] ∷ [])) (codes "%{I*}") ≡ Is (Ok ((codes "-I" ∷ [] ∷ []) ∷ []))
+  switches_14 = refl
+
+  switches_15 : words_of (linking (with (codes "I") (codes "x y") ∷ [])) (codes "x%{I*}y %{I*:-J%*}") ≡ Is (Ok ((codes "x-I" ∷ codes "x y" ∷ codes "y" ∷ codes "-J" ∷ codes "x y" ∷ []) ∷ []))
+  switches_15 = refl
+
+  switches_16 : words_of (linking (alone (codes "Da") ∷ alone (codes "Ub") ∷ alone (codes "Dc") ∷ [])) (codes "%{D*&U*}") ≡ Is (Ok ((codes "-Da" ∷ codes "-Ub" ∷ codes "-Dc" ∷ []) ∷ []))
+  switches_16 = refl
+
+  switches_17 : words_of (linking (with (codes "D") (codes "M") ∷ alone (codes "Ub") ∷ [])) (codes "c%{D*&U*}") ≡ Is (Ok ((codes "c-D" ∷ codes "M" ∷ codes "-Ub" ∷ []) ∷ []))
+  switches_17 = refl
+
+  switches_18 : words_of (linking (alone (codes "a") ∷ alone (codes "b") ∷ [])) (codes "c %{b} %{a}") ≡ Is (Ok ((codes "c" ∷ codes "-b" ∷ codes "-a" ∷ []) ∷ []))
+  switches_18 = refl
+
+  -- names of the input, words, and commands
+  commands_1 : words_of (on [] (codes "d.x/a.b.c")) (codes "%i %b %B %b%O %%") ≡ Is (Ok ((codes "d.x/a.b.c" ∷ codes "a.b" ∷ codes "a.b.c" ∷ codes "a.b.o" ∷ codes "%" ∷ []) ∷ []))
+  commands_1 = refl
+
+  commands_2 : words_of (on [] (codes "d.x/a")) (codes "%i %b %B") ≡ Is (Ok ((codes "d.x/a" ∷ codes "a" ∷ codes "a" ∷ []) ∷ []))
+  commands_2 = refl
+
+  commands_3 : words_of (on [] (codes "a.")) (codes "%i %b %B") ≡ Is (Ok ((codes "a." ∷ codes "a" ∷ codes "a." ∷ []) ∷ []))
+  commands_3 = refl
+
+  commands_4 : words_of (on [] (codes "a b.c")) (codes "c%i") ≡ Is (Ok ((codes "ca b.c" ∷ []) ∷ []))
+  commands_4 = refl
+
+  commands_5 : words_of (linking []) (codes "%i") ≡ Is (Err NoInput)
+  commands_5 = refl
+
+  commands_6 : words_of (linking []) (codes "ld %b") ≡ Is (Err NoInput)
+  commands_6 = refl
+
+  commands_7 : words_of (linking []) (codes "%B") ≡ Is (Err NoInput)
+  commands_7 = refl
+
+  commands_8 : words_of (linking (alone (codes "a") ∷ [])) (codes "%{a:x;:%i}") ≡ Is (Ok ((codes "x" ∷ []) ∷ []))
+  commands_8 = refl
+
+  commands_9 : words_of (linking []) (codes "c %O") ≡ Is (Ok ((codes "c" ∷ codes ".o" ∷ []) ∷ []))
+  commands_9 = refl
+
+  commands_10 : words_of (linking []) ([]) ≡ Is (Ok [])
+  commands_10 = refl
+
+  commands_11 : words_of (linking []) (codes " \t\n \n") ≡ Is (Ok [])
+  commands_11 = refl
+
+  commands_12 : words_of (linking []) (codes "c") ≡ Is (Ok ((codes "c" ∷ []) ∷ []))
+  commands_12 = refl
+
+  commands_13 : words_of (linking []) (codes " c\t d ") ≡ Is (Ok ((codes "c" ∷ codes "d" ∷ []) ∷ []))
+  commands_13 = refl
+
+  commands_14 : words_of (linking []) (codes "a\\ b c\n\nd e\n") ≡ Is (Ok ((codes "a b" ∷ codes "c" ∷ []) ∷ (codes "d" ∷ codes "e" ∷ []) ∷ []))
+  commands_14 = refl
+
+  commands_15 : words_of (linking []) (codes "\\%i \\\\ \\| \\;") ≡ Is (Ok ((codes "%i" ∷ codes "\\" ∷ codes "|" ∷ codes ";" ∷ []) ∷ []))
+  commands_15 = refl
+
+  commands_16 : words_of (linking []) (codes "c%{a}d") ≡ Is (Ok ((codes "cd" ∷ []) ∷ []))
+  commands_16 = refl
+
+  commands_17 : words_of (linking []) (codes "c %{a} d") ≡ Is (Ok ((codes "c" ∷ codes "d" ∷ []) ∷ []))
+  commands_17 = refl
+
+  commands_18 : words_of (linking []) (codes "c;}{(&!,.*:") ≡ Is (Ok ((codes "c;}{(&!,.*:" ∷ []) ∷ []))
+  commands_18 = refl
+
+  commands_19 : words_of (linking []) (codes "c |\n d") ≡ Is (Ok ((codes "c" ∷ []) ∷ (codes "d" ∷ []) ∷ []))
+  commands_19 = refl
+
+  commands_20 : words_of (linking []) (codes "c|\nd|\n\ne f") ≡ Is (Ok ((codes "c" ∷ []) ∷ (codes "d" ∷ []) ∷ (codes "e" ∷ codes "f" ∷ []) ∷ []))
+  commands_20 = refl
+
+  commands_21 : words_of (linking []) (codes "c\nd |\n e") ≡ Is (Ok ((codes "c" ∷ []) ∷ (codes "d" ∷ []) ∷ (codes "e" ∷ []) ∷ []))
+  commands_21 = refl
+
+  commands_22 : words_of (linking []) (codes "c |%{a}\nd") ≡ Is (Ok ((codes "c" ∷ []) ∷ (codes "d" ∷ []) ∷ []))
+  commands_22 = refl
+
+  commands_23 : words_of (linking (alone (codes "a") ∷ [])) (codes "c |%{a}\nd") ≡ Is (Err StrayPipe)
+  commands_23 = refl
+
+  commands_24 : words_of (linking []) (codes "c |") ≡ Is (Err StrayPipe)
+  commands_24 = refl
+
+  commands_25 : words_of (linking []) (codes "c |\n\n") ≡ Is (Err StrayPipe)
+  commands_25 = refl
+
+  commands_26 : words_of (linking []) (codes "| c") ≡ Is (Err StrayPipe)
+  commands_26 = refl
+
+  commands_27 : words_of (linking []) (codes "|") ≡ Is (Err StrayPipe)
+  commands_27 = refl
+
+  commands_28 : words_of (linking []) (codes "c | d") ≡ Is (Err StrayPipe)
+  commands_28 = refl
+
+  commands_29 : words_of (linking []) (codes "c ||\nd") ≡ Is (Err StrayPipe)
+  commands_29 = refl
+
+  commands_30 : words_of (linking []) (codes "%{a}|\nd") ≡ Is (Err StrayPipe)
+  commands_30 = refl
+
+  commands_31 : words_of (linking []) (codes "| c %g") ≡ Is (Err NotYet)
+  commands_31 = refl
+
+  commands_32 : words_of (linking []) (codes "c | d %i") ≡ Is (Err NoInput)
+  commands_32 = refl
+
+  commands_33 : words_of (linking []) (codes "c\n %i %g") ≡ Is (Err NoInput)
+  commands_33 = refl
+
+  -- directives that have no meaning yet
+  not_yet_1 : words_of (on (alone (codes "ma") ∷ []) (codes "a.c")) (codes "%g.s") ≡ Is (Err NotYet)
+  not_yet_1 = refl
+
+  not_yet_2 : words_of (on (alone (codes "ma") ∷ []) (codes "a.c")) (codes "%u.s") ≡ Is (Err NotYet)
+  not_yet_2 = refl
+
+  not_yet_3 : words_of (on (alone (codes "ma") ∷ []) (codes "a.c")) (codes "%U") ≡ Is (Err NotYet)
+  not_yet_3 = refl
+
+  not_yet_4 : words_of (on (alone (codes "ma") ∷ []) (codes "a.c")) (codes "%|.s") ≡ Is (Err NotYet)
+  not_yet_4 = refl
+
+  not_yet_5 : words_of (on (alone (codes "ma") ∷ []) (codes "a.c")) (codes "%m.s") ≡ Is (Err NotYet)
+  not_yet_5 = refl
+
+  not_yet_6 : words_of (on (alone (codes "ma") ∷ []) (codes "a.c")) (codes "%d") ≡ Is (Err NotYet)
+  not_yet_6 = refl
+
+  not_yet_7 : words_of (on (alone (codes "ma") ∷ []) (codes "a.c")) (codes "%w") ≡ Is (Err NotYet)
+  not_yet_7 = refl
+
+  not_yet_8 : words_of (on (alone (codes "ma") ∷ []) (codes "a.c")) (codes "%V") ≡ Is (Err NotYet)
+  not_yet_8 = refl
+
+  not_yet_9 : words_of (on (alone (codes "ma") ∷ []) (codes "a.c")) (codes "%s") ≡ Is (Err NotYet)
+  not_yet_9 = refl
+
+  not_yet_10 : words_of (on (alone (codes "ma") ∷ []) (codes "a.c")) (codes "%T") ≡ Is (Err NotYet)
+  not_yet_10 = refl
+
+  not_yet_11 : words_of (on (alone (codes "ma") ∷ []) (codes "a.c")) (codes "%D") ≡ Is (Err NotYet)
+  not_yet_11 = refl
+
+  not_yet_12 : words_of (on (alone (codes "ma") ∷ []) (codes "a.c")) (codes "%o") ≡ Is (Err NotYet)
+  not_yet_12 = refl
+
+  not_yet_13 : words_of (on (alone (codes "ma") ∷ []) (codes "a.c")) (codes "%x{-q}") ≡ Is (Err NotYet)
+  not_yet_13 = refl
+
+  not_yet_14 : words_of (on (alone (codes "ma") ∷ []) (codes "a.c")) (codes "%X") ≡ Is (Err NotYet)
+  not_yet_14 = refl
+
+  not_yet_15 : words_of (on (alone (codes "ma") ∷ []) (codes "a.c")) (codes "%Y") ≡ Is (Err NotYet)
+  not_yet_15 = refl
+
+  not_yet_16 : words_of (on (alone (codes "ma") ∷ []) (codes "a.c")) (codes "%Z") ≡ Is (Err NotYet)
+  not_yet_16 = refl
+
+  not_yet_17 : words_of (on (alone (codes "ma") ∷ []) (codes "a.c")) (codes "%eno good") ≡ Is (Err NotYet)
+  not_yet_17 = refl
+
+  not_yet_18 : words_of (on (alone (codes "ma") ∷ []) (codes "a.c")) (codes "%nhi") ≡ Is (Err NotYet)
+  not_yet_18 = refl
+
+  not_yet_19 : words_of (on (alone (codes "ma") ∷ []) (codes "a.c")) (codes "%(cc1)") ≡ Is (Err NotYet)
+  not_yet_19 = refl
+
+  not_yet_20 : words_of (on (alone (codes "ma") ∷ []) (codes "a.c")) (codes "%a") ≡ Is (Err NotYet)
+  not_yet_20 = refl
+
+  not_yet_21 : words_of (on (alone (codes "ma") ∷ []) (codes "a.c")) (codes "%A") ≡ Is (Err NotYet)
+  not_yet_21 = refl
+
+  not_yet_22 : words_of (on (alone (codes "ma") ∷ []) (codes "a.c")) (codes "%l") ≡ Is (Err NotYet)
+  not_yet_22 = refl
+
+  not_yet_23 : words_of (on (alone (codes "ma") ∷ []) (codes "a.c")) (codes "%L") ≡ Is (Err NotYet)
+  not_yet_23 = refl
+
+  not_yet_24 : words_of (on (alone (codes "ma") ∷ []) (codes "a.c")) (codes "%G") ≡ Is (Err NotYet)
+  not_yet_24 = refl
+
+  not_yet_25 : words_of (on (alone (codes "ma") ∷ []) (codes "a.c")) (codes "%S") ≡ Is (Err NotYet)
+  not_yet_25 = refl
+
+  not_yet_26 : words_of (on (alone (codes "ma") ∷ []) (codes "a.c")) (codes "%E") ≡ Is (Err NotYet)
+  not_yet_26 = refl
+
+  not_yet_27 : words_of (on (alone (codes "ma") ∷ []) (codes "a.c")) (codes "%C") ≡ Is (Err NotYet)
+  not_yet_27 = refl
+
+  not_yet_28 : words_of (on (alone (codes "ma") ∷ []) (codes "a.c")) (codes "%1") ≡ Is (Err NotYet)
+  not_yet_28 = refl
+
+  not_yet_29 : words_of (on (alone (codes "ma") ∷ []) (codes "a.c")) (codes "%2") ≡ Is (Err NotYet)
+  not_yet_29 = refl
+
+  not_yet_30 : words_of (on (alone (codes "ma") ∷ []) (codes "a.c")) (codes "%:getenv(H)") ≡ Is (Err NotYet)
+  not_yet_30 = refl
+
+  not_yet_31 : words_of (on (alone (codes "ma") ∷ []) (codes "a.c")) (codes "%{%:getenv(H):x}") ≡ Is (Err NotYet)
+  not_yet_31 = refl
+
+  not_yet_32 : words_of (on (alone (codes "ma") ∷ []) (codes "a.c")) (codes "%{!%:getenv(H):x}") ≡ Is (Err NotYet)
+  not_yet_32 = refl
+
+  not_yet_33 : words_of (on (alone (codes "ma") ∷ []) (codes "a.c")) (codes "%W{a:x}") ≡ Is (Err NotYet)
+  not_yet_33 = refl
+
+  not_yet_34 : words_of (on (alone (codes "ma") ∷ []) (codes "a.c")) (codes "%@{a:x}") ≡ Is (Err NotYet)
+  not_yet_34 = refl
+
+  not_yet_35 : words_of (on (alone (codes "ma") ∷ []) (codes "a.c")) (codes "%{m*:%{%:getenv(H %*):y}}") ≡ Is (Err NotYet)
+  not_yet_35 = refl
+
+  not_yet_36 : words_of (on (alone (codes "ma") ∷ []) (codes "a.c")) (codes "%{m*:c %* %g}") ≡ Is (Err NotYet)
+  not_yet_36 = refl
+
+  not_yet_37 : words_of (on (alone (codes "ma") ∷ []) (codes "a.c")) (codes "c | %d") ≡ Is (Err NotYet)
+  not_yet_37 = refl
+
+  -- what texts cost
+  cost_1 : cost_of (on [] (codes "a.c")) ([]) ≡ Is (Ok 0)
+  cost_1 = refl
+
+  cost_2 : cost_of (on [] (codes "a.c")) (codes "c |\n d") ≡ Is (Ok 6)
+  cost_2 = refl
+
+  cost_3 : cost_of (on (alone (codes "a") ∷ []) (codes "a.c")) (codes "%{a:xy}") ≡ Is (Ok 3)
+  cost_3 = refl
+
+  cost_4 : cost_of (on [] (codes "a.c")) (codes "%{a:xy}") ≡ Is (Ok 1)
+  cost_4 = refl
+
+  cost_5 : cost_of (on (alone (codes "a") ∷ []) (codes "a.c")) (codes "%{a}") ≡ Is (Ok 1)
+  cost_5 = refl
+
+  cost_6 : cost_of (on (alone (codes "b") ∷ []) (codes "a.c")) (codes "%{a:xyz;b:y;:z}") ≡ Is (Ok 2)
+  cost_6 = refl
+
+  cost_7 : cost_of (on (alone (codes "ma") ∷ alone (codes "mb") ∷ []) (codes "a.c")) (codes "%{m*:%*x}") ≡ Is (Ok 5)
+  cost_7 = refl
+
+  cost_8 : cost_of (on (alone (codes "ma") ∷ alone (codes "mb") ∷ []) (codes "a.c")) (codes "%{m*:%<mb%*x}") ≡ Is (Ok 4)
+  cost_8 = refl
+
+  cost_9 : cost_of (on (alone (codes "ma") ∷ alone (codes "mb") ∷ []) (codes "a.c")) (codes "%{m*:xx}") ≡ Is (Ok 3)
+  cost_9 = refl
+
+  cost_10 : cost_of (on (alone (codes "ma") ∷ alone (codes "mb") ∷ []) (codes "a.c")) (codes "%{m*:x%* } %{q:yyy}") ≡ Is (Ok 7)
+  cost_10 = refl

@@ -1,0 +1,80 @@
+//! The open parts of a walk.
+
+ghost use Rattle.drv_machine.specs.Working.{most_open};
+ghost use Rattle.std.specs.Prelude.{◌≡◌, ◌⊎◌, ◌↔◌, ◌<◌, ◌∷◌, ◌++◌, [], IfErr, IsFalse, IsSome, IsTrue, OnOk, length, option_to_list};
+
+use crate::MachineFault;
+use crate::walk::Frame;
+use arrayvec::ArrayVec;
+use std::alloc::Global;
+use std::marker::Model;
+
+/// The open parts, the innermost last: at most 64. Their table is made when the first is opened, so that a text without
+/// open parts pays nothing for it.
+#[derive(Drop)]
+pub(crate) struct Stack {
+    alloc: Global,
+    table: Option<Box<ArrayVec<Frame, 64>>>,
+}
+
+impl Model for Stack {
+    ghost use Rattle.drv_machine.specs.declared.walk.Frame.{Frame};
+    ghost use Rattle.std.specs.Option.{option_map, unwrap_or};
+    ghost use Rattle.std.specs.Prelude.{List, []};
+
+    ghost Value = { List Frame };
+
+    ghost view = { λ s. unwrap_or (option_map (λ table. table.value.items) s.table) [] };
+}
+
+impl Stack {
+    /// No part is open.
+    pub(crate) fn new(alloc: Global) -> Stack
+        ensures { result ≡ [] }
+    {
+        Stack { alloc, table: None }
+    }
+
+    /// Whether no more part can be opened.
+    fn is_full(&self) -> bool
+        ensures full { IsTrue result → length self.now ≡ most_open }
+        ensures room { IsFalse result → length self.now < most_open }
+    {
+        match &self.table {
+            Some(table) => table.is_full(),
+            None => false,
+        }
+    }
+
+    /// One more part is open.
+    ///
+    /// # Errors
+    /// `SpecTooDeep` where 64 are open.
+    pub(crate) fn push(&mut self, frame: Frame) -> Result<(), MachineFault>
+        ensures ok { OnOk result (self.new ≡ self.old ++ frame ∷ []) }
+        ensures room { OnOk result (length self.old < most_open) }
+        ensures err { IfErr result (λ fault. (fault ≡ MachineFault.Memory) ⊎ ((fault ≡ MachineFault.SpecTooDeep) × (length self.old ≡ most_open))) }
+    {
+        if self.is_full() {
+            return Err(MachineFault::SpecTooDeep);
+        }
+        let mut table = match self.table.take() {
+            Some(table) => table,
+            None => Box::new(self.alloc, ArrayVec::new())?,
+        };
+        table.push(frame);
+        self.table = Some(table);
+        Ok(())
+    }
+
+    /// The innermost part, which is open no more, if one was.
+    pub(crate) fn pop(&mut self) -> Option<Frame>
+        ensures items { self.old ≡ self.new ++ option_to_list result }
+        ensures variant { IsSome result ↔ (0 < length self.old) }
+    {
+        let mut table = self.table.take()?;
+        let frame = table.pop();
+        self.table = Some(table);
+        frame
+    }
+}
