@@ -2,7 +2,7 @@ use Rattle.drv_system.proofs.AnswerMaps.{keeps_answers}
 use Rattle.drv_system.specs.Asking.{Asks, AreNew, AreQuestions, Extends, IsNew, IsQuestion}
 use Rattle.drv_system.specs.Facts.{Facts, kind_of, learn, learnt, read_of, variable_of}
 use Rattle.drv_system.specs.declared.event.Event.{Event}
-use Rattle.drv_system.specs.declared.event.Event.TheVariants.{Read, Kind, Variable, Say, Put}
+use Rattle.drv_system.specs.declared.event.Event.TheVariants.{Read, Kind, Variable, Say, Put, Run}
 use Rattle.drv_system.specs.declared.event.PathKind.{PathKind}
 use Rattle.drv_system.specs.declared.event.ReadAnswer.{ReadAnswer}
 use Rattle.std.proofs.Common.{append_assoc, refl, ap, rules, subst, sym, ◌∙◌}
@@ -39,6 +39,7 @@ learnt_extends F (Variable name value) = record {
 }
 learnt_extends F (Say text answer) = extends_refl F
 learnt_extends F (Put text answer) = extends_refl F
+learnt_extends F (Run e) = extends_refl F
 
 pub learn_extends : (F : Facts) (events : List Event) → Extends F (learn F events)
 learn_extends F [] = extends_refl F
@@ -100,6 +101,7 @@ is_question F (Kind path kind) new = tt
 is_question F (Variable name value) new = tt
 is_question F (Say text answer) new = absurd new
 is_question F (Put text answer) new = absurd new
+is_question F (Run e) new = absurd new
 
 pub are_questions : (F : Facts) (events : List Event) → AreNew F events → AreQuestions events
 are_questions F [] new = tt

@@ -1,7 +1,7 @@
 use Rattle.drv_system.proofs.AnswerMaps.{answer_to-with_answer, or_none}
 use Rattle.drv_system.specs.Facts.{Facts, first_kind, first_read, first_variable, kind_of, learn, learnt, read_of, variable_of}
 use Rattle.drv_system.specs.declared.event.Event.{Event}
-use Rattle.drv_system.specs.declared.event.Event.TheVariants.{Read, Kind, Variable, Say, Put}
+use Rattle.drv_system.specs.declared.event.Event.TheVariants.{Read, Kind, Variable, Say, Put, Run}
 use Rattle.std.proofs.Common.{ap, refl, ◌∙◌}
 use Rattle.std.specs.Option.{option_or}
 use Rattle.std.specs.Prelude.{◌≡◌, Bool, List, [], ◌∷◌, None, Option, Some, false, if◌then◌else◌, true, ℕ}
@@ -24,6 +24,7 @@ reads_first F (Kind other kind ∷ events) path = reads_first (learnt F (Kind ot
 reads_first F (Variable other value ∷ events) path = reads_first (learnt F (Variable other value)) events path
 reads_first F (Say text answer ∷ events) path = reads_first F events path
 reads_first F (Put text answer ∷ events) path = reads_first F events path
+reads_first F (Run e ∷ events) path = reads_first F events path
 
 pub kinds_first : (F : Facts) (events : List Event) (path : List ℕ) → kind_of (learn F events) path ≡ option_or (kind_of F path) (first_kind path events)
 kinds_first F [] path = or_none (kind_of F path)
@@ -33,6 +34,7 @@ kinds_first F (Read other answer ∷ events) path = kinds_first (learnt F (Read 
 kinds_first F (Variable other value ∷ events) path = kinds_first (learnt F (Variable other value)) events path
 kinds_first F (Say text answer ∷ events) path = kinds_first F events path
 kinds_first F (Put text answer ∷ events) path = kinds_first F events path
+kinds_first F (Run e ∷ events) path = kinds_first F events path
 
 pub variables_first : (F : Facts) (events : List Event) (name : List ℕ) → variable_of (learn F events) name ≡ option_or (variable_of F name) (first_variable name events)
 variables_first F [] name = or_none (variable_of F name)
@@ -42,3 +44,4 @@ variables_first F (Read other answer ∷ events) name = variables_first (learnt 
 variables_first F (Kind other kind ∷ events) name = variables_first (learnt F (Kind other kind)) events name
 variables_first F (Say text answer ∷ events) name = variables_first F events name
 variables_first F (Put text answer ∷ events) name = variables_first F events name
+variables_first F (Run e ∷ events) name = variables_first F events name

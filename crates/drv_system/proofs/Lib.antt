@@ -2,4 +2,8 @@ pub mod AnswerMaps
 pub mod Asking
 pub mod Consulting
 pub mod FirstAnswers
+pub mod Holding
+mod Named
+pub mod Running
+pub mod Scripted
 pub mod WholeFiles

@@ -1,11 +1,10 @@
-use Rattle.drv_system.specs.Limit.{is_too_large}
 use Rattle.drv_system.specs.Reading.{ReadsAs}
 use Rattle.drv_system.specs.declared.event.ReadAnswer.TheVariants.{Read, TooLarge}
-use Rattle.std.proofs.Common.{refl, ap, sym, ◌∙◌, arith}
+use Rattle.std.proofs.Common.{ap, sym, ◌∙◌, arith}
 use Rattle.std.proofs.lemmas.Bool.Decides.{nat_tests}
 use Rattle.std.proofs.lemmas.List.{append-nil, length-append}
 use Rattle.std.specs.Io.KnownBytes.{Consumes, IsAtEnd}
-use Rattle.std.specs.Prelude.{◌≡◌, ◌<◌, ◌≤◌, ◌+◌, List, [], ◌++◌, None, Option, Some, length, nat_lt, true, ℕ}
+use Rattle.std.specs.Prelude.{◌≡◌, ◌<◌, ◌+◌, List, [], ◌++◌, None, Option, Some, length, nat_lt, true, ℕ}
 
 -- What was read of a file, in all.
 

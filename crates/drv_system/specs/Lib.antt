@@ -1,8 +1,11 @@
 pub mod Asking
 pub mod Facts
 pub mod Gives
+pub mod Holding
 pub mod Host
 pub mod Known
 pub mod Limit
+pub mod Named
 pub mod Reading
+pub mod Running
 pub mod Script

@@ -7,10 +7,19 @@ use Rattle.drv_system.specs.declared.event.ReadAnswer.TheVariants as read
 use Rattle.drv_system.specs.declared.event.TellAnswer.{TellAnswer}
 use Rattle.drv_system.specs.declared.event.TellAnswer.TheVariants as tell
 use Rattle.drv_words.specs.declared.answers.Answer.{Answer}
+use Rattle.drv_words.specs.declared.answers.Answer.TheVariants as answer
+use Rattle.drv_words.specs.declared.answers.ClaimAnswer.{ClaimAnswer}
+use Rattle.drv_words.specs.declared.answers.ClaimAnswer.TheVariants as claim
+use Rattle.drv_words.specs.declared.answers.RemoveAnswer.{RemoveAnswer}
+use Rattle.drv_words.specs.declared.answers.RemoveAnswer.TheVariants as remove
+use Rattle.drv_words.specs.declared.answers.StartAnswer.{StartAnswer}
+use Rattle.drv_words.specs.declared.answers.StartAnswer.TheVariants as start
+use Rattle.drv_words.specs.declared.answers.WaitAnswer.{WaitAnswer}
+use Rattle.drv_words.specs.declared.answers.WaitAnswer.TheVariants as wait
 use Rattle.std.specs.Cmp.Lexicographic.{pointwise}
 use Rattle.std.specs.List.{list_any}
 use Rattle.std.specs.Map.{lookup}
-use Rattle.std.specs.Prelude.{Bool, List, None, Option, Some, if◌then◌else◌, is_some, nat_eq, ℕ}
+use Rattle.std.specs.Prelude.{Bool, List, None, Option, Some, drop, if◌then◌else◌, is_some, nat_eq, slice_get, unwrap_or, ℕ, ◌+◌}
 
 -- A system that answers from lists (this project's profile).
 
@@ -23,10 +32,16 @@ pub record Script : Type 0 where
   pub answers : List Answer
   pub mute : Bool
 
--- a script, and what was asked of it
+-- a script, what was asked of it and made, how many children were started, and the room for more events
 pub record Scripted : Type 0 where
   pub script : Script
   pub journal : List Event
+  pub children : ℕ
+  pub spare_events : ℕ
+
+-- a script has room for this many children, and starts none in truth
+abbrev pub script_children : ℕ
+script_children = 18446744073709551615
 
 -- what the first file of that path, if there is one, reads as
 abbrev pub read_as : Option (Option (List ℕ)) → ReadAnswer
@@ -46,3 +61,51 @@ scripted_variable script name = lookup (pointwise nat_eq name) script.variables
 
 abbrev pub scripted_telling : Script → TellAnswer
 scripted_telling script = if script.mute then tell.Failed else tell.Told
+
+-- The steps of a run: an answer in front that is one of the call's kind is taken, and any other one stays and blocks those behind it.
+
+-- the answer of that kind in front, if there is one
+abbrev pub claim_in : Option Answer → Option ClaimAnswer
+claim_in (Some (answer.Claim x)) = Some x
+claim_in other = None
+
+abbrev pub start_in : Option Answer → Option StartAnswer
+start_in (Some (answer.Start x)) = Some x
+start_in other = None
+
+abbrev pub wait_in : Option Answer → Option WaitAnswer
+wait_in (Some (answer.Wait x)) = Some x
+wait_in other = None
+
+abbrev pub removal_in : Option Answer → Option RemoveAnswer
+removal_in (Some (answer.Remove x)) = Some x
+removal_in other = None
+
+abbrev pub front : Script → Option Answer
+front script = slice_get script.answers 0
+
+-- the script behind a call: an answer that was taken is gone
+abbrev pub behind : {X : Type 0} → Option X → Script → Script
+behind taken script = if is_some taken then record script { answers = drop 1 script.answers } else script
+
+abbrev pub scripted_claim : Script → ClaimAnswer
+scripted_claim script = unwrap_or (claim_in (front script)) claim.Claimed
+
+-- a child that is started takes the next number, from 0
+abbrev pub start_numbered : ℕ → Option StartAnswer → StartAnswer
+start_numbered id (Some (start.NotStarted why)) = start.NotStarted why
+start_numbered id other = start.Started id
+
+abbrev pub scripted_start : ℕ → Script → StartAnswer
+scripted_start id script = start_numbered id (start_in (front script))
+
+abbrev pub scripted_wait : Script → WaitAnswer
+scripted_wait script = unwrap_or (wait_in (front script)) (wait.Exit 0)
+
+abbrev pub scripted_removal : Script → RemoveAnswer
+scripted_removal script = unwrap_or (removal_in (front script)) remove.Removed
+
+-- how many children there are behind a start
+abbrev pub children_behind : ℕ → StartAnswer → ℕ
+children_behind n (start.Started id) = n + 1
+children_behind n (start.NotStarted why) = n

@@ -1,8 +1,9 @@
 //! What was asked or said, with the answer.
 
+ghost use Rattle.drv_system.specs.Running.{is_told};
 ghost use Rattle.std.specs.Prelude.{◌≡◌};
 
-use drv_words::Word;
+use drv_words::{RunEvent, Word};
 use std::alloc::AllocError;
 
 /// The most bytes that a file may have and still be read: 16 MiB.
@@ -56,7 +57,16 @@ pub enum TellAnswer {
     Failed,
 }
 
-/// One call of the outside: its argument, then its answer.
+impl TellAnswer {
+    /// Whether it was written.
+    pub fn is_told(self) -> bool
+        ensures { result ≡ is_told self }
+    {
+        matches!(self, TellAnswer::Told)
+    }
+}
+
+/// One call of the outside: its argument, then its answer. A step of a run has a fixed size.
 #[derive(Debug, Drop, PartialEq)]
 pub enum Event {
     /// The bytes of the file at a path were asked for.
@@ -69,4 +79,6 @@ pub enum Event {
     Say(Word, TellAnswer),
     /// A text was put on standard output.
     Put(Word, TellAnswer),
+    /// A step of a run was made.
+    Run(RunEvent),
 }

@@ -4,30 +4,51 @@ ghost use Rattle.drv_system.specs.declared.event.TellAnswer.TheVariants as tell;
 ghost use Rattle.std.specs.Io.KnownBytes.{Appends};
 ghost use Rattle.std.specs.Prelude.{◌≡◌, ◌∷◌, ◌++◌, [], IfOk, OnErr};
 
+use crate::files::{make_file, remove_file};
+use crate::places::{command_at, name_at, temp_at};
+use crate::processes::{reason_of, spawn, wait_for};
 use crate::reading::read_path;
+use crate::reports::report_line;
 use crate::{Event, PathKind, ReadAnswer, System, TellAnswer};
-use drv_words::Word;
+use drv_words::{
+    Answer, ClaimAnswer, NotStarted, Note, Place, Plan, RemoveAnswer, RunEvent, StartAnswer, Step,
+    WaitAnswer, Word,
+};
 use std::alloc::AllocError;
 use std::env::{self, VarError};
-use std::io::{self, ErrorKind, Write};
+use std::io::{self, ErrorKind, PipeReader, Write};
 use std::marker::Model;
+use std::process::Child;
 use std::{fs, str};
 
-/// The files, the environment and the standard streams of this process.
+/// The files, the environment, the standard streams and the children of this process.
 ///
-/// A path or a name that is no text, or has a zero byte, is answered as one that nothing has.
+/// A path or a name that is no text, or has a zero byte, is answered as one that nothing has; a file of such a name can't be claimed,
+/// and a command with such a word is not started.
 #[derive(Drop)]
 pub struct HostSystem {
     rt: HostRuntime,
     journal: Vec<Event>,
+    /// The children that were started, each until it is waited for. A child's number is its place.
+    children: Vec<Option<Child>>,
+    /// The end of the pipe that is pending.
+    pending: Option<PipeReader>,
 }
 
 impl Model for HostSystem {
+    ghost use Rattle.drv_system.specs.Holding.{Holds};
     ghost use Rattle.drv_system.specs.Host.{Host};
+    ghost use Rattle.std.specs.Prelude.{◌-◌, is_some, vec_capacity, vec_len};
 
     ghost Value = { Host };
 
-    ghost view = { λ s. record { journal = s.journal.items } };
+    ghost view = { λ s. record {
+      journal = s.journal.items;
+      spare_events = vec_capacity s.journal - vec_len s.journal;
+      spare_children = vec_capacity s.children - vec_len s.children;
+    } };
+
+    ghost invariant = { λ s. Holds (vec_len s.children) (is_some s.pending) s.journal.items };
 }
 
 impl HostSystem {
@@ -36,21 +57,32 @@ impl HostSystem {
         ensures { result.journal ≡ [] }
     {
         let journal = Vec::new(rt.alloc());
-        HostSystem { rt, journal }
+        let children = Vec::new(rt.alloc());
+        HostSystem {
+            rt,
+            journal,
+            children,
+            pending: None,
+        }
     }
 }
 
 impl System for HostSystem {
     ghost events = { λ s. s.journal };
 
+    ghost spare_events = { λ s. s.spare_events };
+
+    ghost spare_children = { λ s. s.spare_children };
+
     fn journal(&self) -> &[Event] {
         self.journal.as_slice()
     }
 
+    #[tactic(auto, using(crate::proofs::Holding::holds_beside, crate::proofs::Holding::holds_same))]
     /// Reads the file. A folder cannot be read, and a path through a plain file leads nowhere.
     fn read_file(&mut self, path: &Word) -> Result<ReadAnswer, AllocError> {
         let question = path.clone()?;
-        let answer = match as_text(path) {
+        let answer = match as_text(path.as_bytes()) {
             Some(path) => read_path(&self.rt, self.rt.alloc(), path)?,
             None => ReadAnswer::Missing,
         };
@@ -58,9 +90,10 @@ impl System for HostSystem {
         Ok(answer)
     }
 
+    #[tactic(auto, using(crate::proofs::Holding::holds_beside, crate::proofs::Holding::holds_same))]
     fn kind(&mut self, path: &Word) -> Result<PathKind, AllocError> {
         let question = path.clone()?;
-        let kind = match as_text(path) {
+        let kind = match as_text(path.as_bytes()) {
             Some(path) => kind_at(&self.rt, path)?,
             None => PathKind::Missing,
         };
@@ -68,9 +101,10 @@ impl System for HostSystem {
         Ok(kind)
     }
 
+    #[tactic(auto, using(crate::proofs::Holding::holds_beside, crate::proofs::Holding::holds_same))]
     fn variable(&mut self, name: &Word) -> Result<Option<Word>, AllocError> {
         let question = name.clone()?;
-        let value = match as_text(name) {
+        let value = match as_text(name.as_bytes()) {
             Some(name) => value_of(&self.rt, name)?,
             None => None,
         };
@@ -79,6 +113,7 @@ impl System for HostSystem {
         Ok(value)
     }
 
+    #[tactic(auto, using(crate::proofs::Holding::holds_beside, crate::proofs::Holding::holds_same))]
     fn say(&mut self, text: &Word) -> Result<TellAnswer, AllocError> {
         let said = text.clone()?;
         self.journal.reserve(1)?;
@@ -88,6 +123,7 @@ impl System for HostSystem {
         Ok(answer)
     }
 
+    #[tactic(auto, using(crate::proofs::Holding::holds_beside, crate::proofs::Holding::holds_same))]
     fn put(&mut self, text: &Word) -> Result<TellAnswer, AllocError> {
         let put = text.clone()?;
         self.journal.reserve(1)?;
@@ -96,11 +132,122 @@ impl System for HostSystem {
         self.journal.push_reserved(Event::Put(put, answer));
         Ok(answer)
     }
+
+    #[tactic(auto, using(crate::proofs::Holding::holds_same))]
+    fn reserve_events(&mut self, count: usize) -> Result<(), AllocError> {
+        self.journal.reserve(count)?;
+        self.children.reserve(count)
+    }
+
+    #[tactic(auto, using(crate::proofs::Holding::holds_step))]
+    fn claim(&mut self, plan: &Plan, place: Place) -> ClaimAnswer {
+        let answer = match temp_at(plan, place) {
+            Some(temp) => match as_text(temp.path.as_bytes()) {
+                Some(path) => make_file(&self.rt, path, temp.contents.as_bytes()),
+                None => ClaimAnswer::Failed,
+            },
+            None => ClaimAnswer::Failed,
+        };
+        self.journal.push_reserved(Event::Run(RunEvent {
+            step: Step::Claim(place),
+            answer: Answer::Claim(answer),
+        }));
+        answer
+    }
+
+    #[tactic(auto, using(crate::proofs::Holding::holds_behind, crate::proofs::Holding::holds_step, crate::proofs::Holding::holds_is_new))]
+    /// Starts a program that is looked for along PATH where its name has no slash. A file that is neither a program nor begins
+    /// with `#!` is not started. A child has this process's standard streams but for the pipes, and no other open file.
+    fn start(&mut self, plan: &Plan, place: Place, from_pipe: bool, to_pipe: bool) -> StartAnswer {
+        let step = Step::Start {
+            place,
+            from_pipe,
+            to_pipe,
+        };
+        let Some(command) = command_at(plan, place) else {
+            let answer = StartAnswer::NotStarted(NotStarted::Other);
+            self.journal.push_reserved(Event::Run(RunEvent {
+                step,
+                answer: Answer::Start(answer),
+            }));
+            return answer;
+        };
+        match spawn(&self.rt, self.rt.alloc(), command, &self.pending, to_pipe) {
+            Ok((child, next)) => {
+                let answer = StartAnswer::Started(self.children.len() as u64);
+                self.children.push_reserved(Some(child));
+                self.pending = next;
+                self.journal.push_reserved(Event::Run(RunEvent {
+                    step,
+                    answer: Answer::Start(answer),
+                }));
+                answer
+            }
+            Err(e) => {
+                let answer = StartAnswer::NotStarted(reason_of(&e));
+                self.journal.push_reserved(Event::Run(RunEvent {
+                    step,
+                    answer: Answer::Start(answer),
+                }));
+                answer
+            }
+        }
+    }
+
+    #[tactic(auto, using(crate::proofs::Holding::holds_step))]
+    fn close_pipe(&mut self) {
+        self.pending = None;
+        self.journal.push_reserved(Event::Run(RunEvent {
+            step: Step::ClosePipe,
+            answer: Answer::Closed,
+        }));
+    }
+
+    #[tactic(auto, using(crate::proofs::Holding::holds_step))]
+    fn wait(&mut self, place: Place, id: u64) -> WaitAnswer {
+        let answer = wait_for(&mut self.children, id);
+        self.journal.push_reserved(Event::Run(RunEvent {
+            step: Step::Wait { place, id },
+            answer: Answer::Wait(answer),
+        }));
+        answer
+    }
+
+    #[tactic(auto, using(crate::proofs::Holding::holds_step))]
+    fn remove(&mut self, plan: &Plan, place: Place) -> RemoveAnswer {
+        let answer = match name_at(plan, place) {
+            Some(path) => match as_text(path.as_bytes()) {
+                Some(path) => remove_file(&self.rt, path),
+                None => RemoveAnswer::Missing,
+            },
+            None => RemoveAnswer::Failed,
+        };
+        self.journal.push_reserved(Event::Run(RunEvent {
+            step: Step::Remove(place),
+            answer: Answer::Remove(answer),
+        }));
+        answer
+    }
+
+    #[tactic(auto, using(crate::proofs::Holding::holds_step))]
+    fn report(&mut self, plan: &Plan, note: Note) -> TellAnswer {
+        let answer = match report_line(self.rt.alloc(), plan, note) {
+            Ok(line) => {
+                let stream = self.rt.stderr();
+                tell(&mut io::writer(&stream), &line)
+            }
+            Err(_) => TellAnswer::Failed,
+        };
+        self.journal.push_reserved(Event::Run(RunEvent {
+            step: Step::Report(note),
+            answer: Answer::Reported(answer.is_told()),
+        }));
+        answer
+    }
 }
 
 /// The text of a word that can be a path or a name: it is text, and has no zero byte.
-fn as_text(word: &Word) -> Option<&str> {
-    let bytes = word.as_bytes();
+pub(crate) fn as_text(bytes: &[u8]) -> Option<&str> {
     if bytes.contains(&0) {
         return None;
     }

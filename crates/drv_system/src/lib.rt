@@ -1,16 +1,21 @@
-//! The outside of a compiler driver: files, variables and streams, what was asked of them, and what is known from it.
+//! The outside of a compiler driver: files, variables, streams and children, what was asked and made of them, and what is known from it.
 #![tactic(auto)]
 
 mod answer_map;
 mod event;
 mod facts;
+mod files;
 mod host;
+mod places;
+mod processes;
 mod reading;
+mod reports;
 mod script;
 mod system;
 
 pub use event::{Event, MOST_BYTES, PathKind, ReadAnswer, TellAnswer};
 pub use facts::{FactTable, first_answers_law};
 pub use host::HostSystem;
+pub use reading::read_to_end;
 pub use script::ScriptSystem;
 pub use system::System;

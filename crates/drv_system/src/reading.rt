@@ -28,6 +28,13 @@ pub fn read_path<R: Files>(rt: &R, alloc: Global, path: &str) -> Result<ReadAnsw
     }
 }
 
+/// Reads what is open to its end.
+pub fn read_to_end<F: Read + Drop>(alloc: Global, file: F) -> Result<ReadAnswer, AllocError>
+    ensures { IfOk result IsWithinLimit }
+{
+    Source::new(file).read_whole(alloc)
+}
+
 /// Whether an error says that nothing has the path, one that leads through a plain file included.
 pub(crate) fn is_absent(error: &Error) -> bool {
     matches!(error.kind(), ErrorKind::NotFound | ErrorKind::NotADirectory)

@@ -1,36 +1,59 @@
 //! A system that answers from lists.
 
 ghost use Rattle.drv_system.specs.Limit.{IsWithinLimit};
-ghost use Rattle.drv_system.specs.Script.{read_as, scripted_kind, scripted_read, scripted_telling, scripted_variable};
+ghost use Rattle.drv_system.specs.Running.{is_told, made, run_of};
+ghost use Rattle.drv_system.specs.Script.{behind, children_behind, claim_in, front, read_as, removal_in, script_children, scripted_claim, scripted_kind, scripted_read, scripted_removal, scripted_start, scripted_telling, scripted_variable, scripted_wait, start_in, start_numbered, wait_in};
 ghost use Rattle.drv_system.specs.declared.event.Event.TheVariants as event;
 ghost use Rattle.drv_system.specs.declared.event.TellAnswer.TheVariants as tell;
+ghost use Rattle.drv_words.specs.Stepping.{fits_start};
+ghost use Rattle.drv_words.specs.declared.answers.Answer.TheVariants as answer;
+ghost use Rattle.drv_words.specs.declared.steps.Step.TheVariants as step;
 ghost use Rattle.std.specs.Cmp.Lexicographic.{pointwise};
 ghost use Rattle.std.specs.Map.{lookup};
 ghost use Rattle.std.specs.Option.{option_copied};
-ghost use Rattle.std.specs.Prelude.{◌≡◌, ◌∷◌, ◌++◌, [], IfOk, OnErr, false, if◌then◌else◌, nat_eq, true};
+ghost use Rattle.std.specs.Prelude.{◌≡◌, ◌+◌, ◌<◌, ◌≤◌, ◌∷◌, ◌++◌, [], IfOk, OnErr, OnOk, drop, false, if◌then◌else◌, is_some, nat_eq, slice_get, true};
 
 use crate::{Event, MOST_BYTES, PathKind, ReadAnswer, System, TellAnswer};
-use drv_words::{Answer, Listing, Word};
+use drv_words::{
+    Answer, ClaimAnswer, Listing, Note, Place, Plan, RemoveAnswer, RunEvent, StartAnswer, Step,
+    WaitAnswer, Word,
+};
 use std::alloc::{AllocError, Global};
 use std::marker::Model;
 
 /// A system that answers from lists, for tests and trials: a path or name is looked for in its list, and the first counts.
+///
+/// A step of a run takes the next answer of its list, if that is one of the step's kind. Any other answer stays, and blocks those
+/// behind it; the step is then answered Claimed, Started, Exit(0) or Removed. Children are numbered from 0, whatever the list says.
 #[derive(Drop)]
 pub struct ScriptSystem {
     files: Listing<(Word, Option<Word>)>,
     dirs: Listing<Word>,
     variables: Listing<(Word, Word)>,
     answers: Listing<Answer>,
+    /// How many of the answers were taken.
+    taken: usize,
+    /// How many children were started.
+    children: u64,
     mute: bool,
     journal: Vec<Event>,
 }
 
 impl Model for ScriptSystem {
+    ghost use Rattle.drv_system.specs.Holding.{Numbered};
     ghost use Rattle.drv_system.specs.Script.{Scripted};
+    ghost use Rattle.std.specs.Prelude.{◌-◌, drop, vec_capacity, vec_len};
 
     ghost Value = { Scripted };
 
-    ghost view = { λ s. record { script = record { files = s.files; dirs = s.dirs; variables = s.variables; answers = s.answers; mute = s.mute }; journal = s.journal.items } };
+    ghost view = { λ s. record {
+      script = record { files = s.files; dirs = s.dirs; variables = s.variables; answers = drop s.taken s.answers; mute = s.mute };
+      journal = s.journal.items;
+      children = s.children;
+      spare_events = vec_capacity s.journal - vec_len s.journal;
+    } };
+
+    ghost invariant = { λ s. Numbered s.children s.journal.items };
 }
 
 impl ScriptSystem {
@@ -44,19 +67,23 @@ impl ScriptSystem {
         variables: Listing<(Word, Word)>,
         answers: Listing<Answer>,
     ) -> ScriptSystem
-        ensures { result ≡ record { script = record { files = files; dirs = dirs; variables = variables; answers = answers; mute = false }; journal = [] } }
+        ensures script { result.script ≡ record { files = files; dirs = dirs; variables = variables; answers = answers; mute = false } }
+        ensures journal { result.journal ≡ [] }
+        ensures children { result.children ≡ 0 }
     {
         ScriptSystem {
             files,
             dirs,
             variables,
             answers,
+            taken: 0,
+            children: 0,
             mute: false,
             journal: Vec::new(alloc),
         }
     }
 
-    /// From here on nothing can be told: `say` and `put` fail.
+    /// From here on nothing can be told: `say`, `put` and `report` fail.
     pub fn mute(&mut self)
         ensures { self.new ≡ record self.old { script = record self.old.script { mute = true } } }
     {
@@ -65,7 +92,13 @@ impl ScriptSystem {
 }
 
 impl System for ScriptSystem {
+    ghost use Rattle.drv_system.specs.Script.{script_children};
+
     ghost events = { λ s. s.journal };
+
+    ghost spare_events = { λ s. s.spare_events };
+
+    ghost spare_children = { λ s. script_children };
 
     fn journal(&self) -> &[Event]
         ensures { result.now ≡ self.now.journal }
@@ -74,12 +107,14 @@ impl System for ScriptSystem {
     }
 
     /// The bytes of the file, where it is listed with some.
+    #[tactic(auto, using(crate::proofs::Holding::numbered_beside, crate::proofs::Holding::numbered_same))]
     fn read_file(&mut self, path: &Word) -> Result<ReadAnswer, AllocError>
         ensures event { IfOk result (λ answer. self.new.journal ≡ self.old.journal ++ event.Read path.now answer ∷ []) }
         ensures within { IfOk result IsWithinLimit }
         ensures memory { OnErr result (self.new.journal ≡ self.old.journal) }
         ensures answer { IfOk result (λ answer. answer ≡ scripted_read self.old.script path.now) }
         ensures script { self.new.script ≡ self.old.script }
+        ensures started { self.new.children ≡ self.old.children }
     {
         let answer = read_listed(find(self.files.as_slice(), path))?;
         let event = Event::Read(path.clone()?, answer.clone()?);
@@ -88,11 +123,13 @@ impl System for ScriptSystem {
     }
 
     /// Plain for a file of the list, Dir for a folder.
+    #[tactic(auto, using(crate::proofs::Holding::numbered_beside, crate::proofs::Holding::numbered_same))]
     fn kind(&mut self, path: &Word) -> Result<PathKind, AllocError>
         ensures event { IfOk result (λ kind. self.new.journal ≡ self.old.journal ++ event.Kind path.now kind ∷ []) }
         ensures memory { OnErr result (self.new.journal ≡ self.old.journal) }
         ensures answer { IfOk result (λ kind. kind ≡ scripted_kind self.old.script path.now) }
         ensures script { self.new.script ≡ self.old.script }
+        ensures started { self.new.children ≡ self.old.children }
     {
         let kind = if find(self.files.as_slice(), path).is_some() {
             PathKind::Plain
@@ -106,11 +143,13 @@ impl System for ScriptSystem {
     }
 
     /// The value of the variable, where it is listed.
+    #[tactic(auto, using(crate::proofs::Holding::numbered_beside, crate::proofs::Holding::numbered_same))]
     fn variable(&mut self, name: &Word) -> Result<Option<Word>, AllocError>
         ensures event { IfOk result (λ value. self.new.journal ≡ self.old.journal ++ event.Variable name.now value ∷ []) }
         ensures memory { OnErr result (self.new.journal ≡ self.old.journal) }
         ensures answer { IfOk result (λ value. value ≡ scripted_variable self.old.script name.now) }
         ensures script { self.new.script ≡ self.old.script }
+        ensures started { self.new.children ≡ self.old.children }
     {
         let value = copied(find(self.variables.as_slice(), name))?;
         let event = Event::Variable(name.clone()?, copied(value.as_ref())?);
@@ -119,11 +158,13 @@ impl System for ScriptSystem {
     }
 
     /// Told, until `mute` was called.
+    #[tactic(auto, using(crate::proofs::Holding::numbered_beside, crate::proofs::Holding::numbered_same))]
     fn say(&mut self, text: &Word) -> Result<TellAnswer, AllocError>
         ensures event { IfOk result (λ answer. self.new.journal ≡ self.old.journal ++ event.Say text.now answer ∷ []) }
         ensures memory { OnErr result (self.new.journal ≡ self.old.journal) }
         ensures answer { IfOk result (λ answer. answer ≡ scripted_telling self.old.script) }
         ensures script { self.new.script ≡ self.old.script }
+        ensures started { self.new.children ≡ self.old.children }
     {
         let answer = telling(self.mute);
         self.journal.push(Event::Say(text.clone()?, answer))?;
@@ -131,15 +172,229 @@ impl System for ScriptSystem {
     }
 
     /// Told, until `mute` was called.
+    #[tactic(auto, using(crate::proofs::Holding::numbered_beside, crate::proofs::Holding::numbered_same))]
     fn put(&mut self, text: &Word) -> Result<TellAnswer, AllocError>
         ensures event { IfOk result (λ answer. self.new.journal ≡ self.old.journal ++ event.Put text.now answer ∷ []) }
         ensures memory { OnErr result (self.new.journal ≡ self.old.journal) }
         ensures answer { IfOk result (λ answer. answer ≡ scripted_telling self.old.script) }
         ensures script { self.new.script ≡ self.old.script }
+        ensures started { self.new.children ≡ self.old.children }
     {
         let answer = telling(self.mute);
         self.journal.push(Event::Put(text.clone()?, answer))?;
         Ok(answer)
+    }
+
+    #[tactic(auto, using(crate::proofs::Holding::numbered_same))]
+    fn reserve_events(&mut self, count: usize) -> Result<(), AllocError>
+        ensures room { OnOk result (count ≤ self.new.spare_events) }
+        ensures children { OnOk result (count ≤ script_children) }
+        ensures unchanged { self.new.journal ≡ self.old.journal }
+        ensures script { self.new.script ≡ self.old.script }
+        ensures started { self.new.children ≡ self.old.children }
+    {
+        self.journal.reserve(count)
+    }
+
+    #[tactic(auto, using(crate::proofs::Holding::numbered_step))]
+    fn claim(&mut self, plan: &Plan, place: Place) -> ClaimAnswer
+        requires room { 0 < self.old.spare_events }
+        ensures event { self.new.journal ≡ self.old.journal ++ made (step.Claim place) (answer.Claim result) ∷ [] }
+        ensures room { self.old.spare_events ≤ self.new.spare_events + 1 }
+        ensures answer { result ≡ scripted_claim self.old.script }
+        ensures script { self.new.script ≡ behind (claim_in (front self.old.script)) self.old.script }
+        ensures started { self.new.children ≡ self.old.children }
+    {
+        let _asked = plan;
+        let taken = claim_of(front_of(self.answers.as_slice(), self.taken));
+        take(self.answers.as_slice(), &mut self.taken, taken.is_some());
+        let answer = taken.unwrap_or(ClaimAnswer::Claimed);
+        self.journal.push_reserved(Event::Run(RunEvent {
+            step: Step::Claim(place),
+            answer: Answer::Claim(answer),
+        }));
+        answer
+    }
+
+    #[tactic(auto, using(crate::proofs::Holding::numbered_start, crate::proofs::Holding::script_is_new))]
+    fn start(&mut self, plan: &Plan, place: Place, from_pipe: bool, to_pipe: bool) -> StartAnswer
+        requires room { 0 < self.old.spare_events }
+        ensures event { self.new.journal ≡ self.old.journal ++ made (step.Start place from_pipe to_pipe) (answer.Start result) ∷ [] }
+        ensures fresh { fits_start (run_of self.old.journal) result ≡ true }
+        ensures room { self.old.spare_events ≤ self.new.spare_events + 1 }
+        ensures answer { result ≡ scripted_start self.old.children self.old.script }
+        ensures script { self.new.script ≡ behind (start_in (front self.old.script)) self.old.script }
+        ensures started { self.new.children ≡ children_behind self.old.children result }
+    {
+        let _asked = plan;
+        let taken = start_of(front_of(self.answers.as_slice(), self.taken));
+        take(self.answers.as_slice(), &mut self.taken, taken.is_some());
+        let answer = numbered(self.children, taken);
+        self.children = count_with(self.children, answer);
+        self.journal.push_reserved(Event::Run(RunEvent {
+            step: Step::Start {
+                place,
+                from_pipe,
+                to_pipe,
+            },
+            answer: Answer::Start(answer),
+        }));
+        answer
+    }
+
+    #[tactic(auto, using(crate::proofs::Holding::numbered_step))]
+    fn close_pipe(&mut self)
+        requires room { 0 < self.old.spare_events }
+        ensures event { self.new.journal ≡ self.old.journal ++ made step.ClosePipe answer.Closed ∷ [] }
+        ensures room { self.old.spare_events ≤ self.new.spare_events + 1 }
+        ensures script { self.new.script ≡ self.old.script }
+        ensures started { self.new.children ≡ self.old.children }
+    {
+        self.journal.push_reserved(Event::Run(RunEvent {
+            step: Step::ClosePipe,
+            answer: Answer::Closed,
+        }));
+    }
+
+    #[tactic(auto, using(crate::proofs::Holding::numbered_step))]
+    fn wait(&mut self, place: Place, id: u64) -> WaitAnswer
+        requires room { 0 < self.old.spare_events }
+        ensures event { self.new.journal ≡ self.old.journal ++ made (step.Wait place id) (answer.Wait result) ∷ [] }
+        ensures room { self.old.spare_events ≤ self.new.spare_events + 1 }
+        ensures answer { result ≡ scripted_wait self.old.script }
+        ensures script { self.new.script ≡ behind (wait_in (front self.old.script)) self.old.script }
+        ensures started { self.new.children ≡ self.old.children }
+    {
+        let taken = wait_of(front_of(self.answers.as_slice(), self.taken));
+        take(self.answers.as_slice(), &mut self.taken, taken.is_some());
+        let answer = taken.unwrap_or(WaitAnswer::Exit(0));
+        self.journal.push_reserved(Event::Run(RunEvent {
+            step: Step::Wait { place, id },
+            answer: Answer::Wait(answer),
+        }));
+        answer
+    }
+
+    #[tactic(auto, using(crate::proofs::Holding::numbered_step))]
+    fn remove(&mut self, plan: &Plan, place: Place) -> RemoveAnswer
+        requires room { 0 < self.old.spare_events }
+        ensures event { self.new.journal ≡ self.old.journal ++ made (step.Remove place) (answer.Remove result) ∷ [] }
+        ensures room { self.old.spare_events ≤ self.new.spare_events + 1 }
+        ensures answer { result ≡ scripted_removal self.old.script }
+        ensures script { self.new.script ≡ behind (removal_in (front self.old.script)) self.old.script }
+        ensures started { self.new.children ≡ self.old.children }
+    {
+        let _asked = plan;
+        let taken = removal_of(front_of(self.answers.as_slice(), self.taken));
+        take(self.answers.as_slice(), &mut self.taken, taken.is_some());
+        let answer = taken.unwrap_or(RemoveAnswer::Removed);
+        self.journal.push_reserved(Event::Run(RunEvent {
+            step: Step::Remove(place),
+            answer: Answer::Remove(answer),
+        }));
+        answer
+    }
+
+    /// Told, until `mute` was called.
+    #[tactic(auto, using(crate::proofs::Holding::numbered_step))]
+    fn report(&mut self, plan: &Plan, note: Note) -> TellAnswer
+        requires room { 0 < self.old.spare_events }
+        ensures event { self.new.journal ≡ self.old.journal ++ made (step.Report note) (answer.Reported (is_told result)) ∷ [] }
+        ensures room { self.old.spare_events ≤ self.new.spare_events + 1 }
+        ensures answer { result ≡ scripted_telling self.old.script }
+        ensures script { self.new.script ≡ self.old.script }
+        ensures started { self.new.children ≡ self.old.children }
+    {
+        let _asked = plan;
+        let answer = telling(self.mute);
+        self.journal.push_reserved(Event::Run(RunEvent {
+            step: Step::Report(note),
+            answer: Answer::Reported(answer.is_told()),
+        }));
+        answer
+    }
+}
+
+/// The answer in front of those that are left.
+#[tactic(auto, using(crate::proofs::Scripted::front_is))]
+fn front_of(answers: &[Answer], taken: usize) -> Option<Answer>
+    ensures { result ≡ slice_get (drop taken answers.now) 0 }
+{
+    answers.get(taken).copied()
+}
+
+/// Takes the answer in front, if it is used.
+#[tactic(auto, using(crate::proofs::Scripted::one_less, crate::proofs::Scripted::none_less))]
+fn take(answers: &[Answer], taken: &mut usize, is_used: bool)
+    ensures { drop taken.new answers.now ≡ (if is_used then drop 1 (drop taken.old answers.now) else drop taken.old answers.now) }
+{
+    if !is_used {
+        return;
+    }
+    if answers.len() <= *taken {
+        return;
+    }
+    *taken += 1;
+}
+
+/// The answer to a claim, if it is one.
+fn claim_of(front: Option<Answer>) -> Option<ClaimAnswer>
+    ensures { result ≡ claim_in front }
+{
+    match front {
+        Some(Answer::Claim(answer)) => Some(answer),
+        _ => None,
+    }
+}
+
+/// The answer to a start, if it is one.
+fn start_of(front: Option<Answer>) -> Option<StartAnswer>
+    ensures { result ≡ start_in front }
+{
+    match front {
+        Some(Answer::Start(answer)) => Some(answer),
+        _ => None,
+    }
+}
+
+/// The answer to a wait, if it is one.
+fn wait_of(front: Option<Answer>) -> Option<WaitAnswer>
+    ensures { result ≡ wait_in front }
+{
+    match front {
+        Some(Answer::Wait(answer)) => Some(answer),
+        _ => None,
+    }
+}
+
+/// The answer to a removal, if it is one.
+fn removal_of(front: Option<Answer>) -> Option<RemoveAnswer>
+    ensures { result ≡ removal_in front }
+{
+    match front {
+        Some(Answer::Remove(answer)) => Some(answer),
+        _ => None,
+    }
+}
+
+/// How many children there are behind a start.
+fn count_with(children: u64, answer: StartAnswer) -> u64
+    requires { children < 18446744073709551615 }
+    ensures { result ≡ children_behind children answer }
+{
+    match answer {
+        StartAnswer::Started(_) => children + 1,
+        StartAnswer::NotStarted(_) => children,
+    }
+}
+
+/// What a start is answered: a child takes the next number.
+fn numbered(id: u64, taken: Option<StartAnswer>) -> StartAnswer
+    ensures { result ≡ start_numbered id taken }
+{
+    match taken {
+        Some(StartAnswer::NotStarted(why)) => StartAnswer::NotStarted(why),
+        _ => StartAnswer::Started(id),
     }
 }
 

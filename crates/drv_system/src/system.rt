@@ -1,21 +1,32 @@
 //! The outside as a trait.
 
 ghost use Rattle.drv_system.specs.Limit.{IsWithinLimit};
+ghost use Rattle.drv_system.specs.Running.{is_child_open, is_told, made, run_of};
 ghost use Rattle.drv_system.specs.declared.event.Event.TheVariants as event;
-ghost use Rattle.std.specs.Prelude.{◌≡◌, ◌∷◌, ◌++◌, [], IfOk, List, OnErr};
+ghost use Rattle.drv_words.specs.Places.{is_command, is_file, is_note, is_temp};
+ghost use Rattle.drv_words.specs.Stepping.{fits_start, pipe_pending};
+ghost use Rattle.drv_words.specs.declared.answers.Answer.TheVariants as answer;
+ghost use Rattle.drv_words.specs.declared.steps.Step.TheVariants as step;
+ghost use Rattle.std.specs.Prelude.{◌≡◌, ◌+◌, ◌<◌, ◌≤◌, ◌∷◌, ◌++◌, [], IfOk, List, OnErr, OnOk, true, ℕ};
 
 use crate::{Event, PathKind, ReadAnswer, TellAnswer};
-use drv_words::Word;
+use drv_words::{ClaimAnswer, Note, Place, Plan, RemoveAnswer, StartAnswer, WaitAnswer, Word};
 use std::alloc::AllocError;
 
-/// What a driver may ask of the outside, and say to it.
+/// What a driver may ask of the outside, say to it, and have done there.
 ///
 /// Each call adds one event to the journal, which holds the call's argument and its answer. A call that answers `AllocError`
-/// adds none, and has said nothing.
+/// adds none, and has said nothing. The steps of a run (`claim`, `start`, `close_pipe`, `wait`, `remove`, `report`) never answer
+/// want of memory: they need room that `reserve_events` made, and a system that lacks memory for more answers that the step failed.
 pub trait System {
     ghost use Rattle.drv_system.specs.declared.event.Event.{Event};
 
     ghost events: { Self → List Event };
+
+    // how many more events, and how many more children, there is room for
+    ghost spare_events: { Self → ℕ };
+
+    ghost spare_children: { Self → ℕ };
 
     /// The events so far, the first one first.
     fn journal(&self) -> &[Event]
@@ -46,4 +57,64 @@ pub trait System {
     fn put(&mut self, text: &Word) -> Result<TellAnswer, AllocError>
         ensures event { IfOk result (λ answer. events self.new ≡ events self.old ++ event.Put text.now answer ∷ []) }
         ensures memory { OnErr result (events self.new ≡ events self.old) };
+
+    /// Makes room for so many more events, and as many more children.
+    fn reserve_events(&mut self, count: usize) -> Result<(), AllocError>
+        ensures room { OnOk result (count ≤ spare_events self.new) }
+        ensures children { OnOk result (count ≤ spare_children self.new) }
+        ensures unchanged { events self.new ≡ events self.old };
+
+    /// Makes a new file for a temporary of the plan, and writes its contents. Nothing that has the name already is touched, and a
+    /// file that could not be written whole is taken away again.
+    fn claim(&mut self, plan: &Plan, place: Place) -> ClaimAnswer
+        requires place { is_temp plan.now place ≡ true }
+        requires room { 0 < spare_events self.old }
+        ensures event { events self.new ≡ events self.old ++ made (step.Claim place) (answer.Claim result) ∷ [] }
+        ensures room { spare_events self.old ≤ spare_events self.new + 1 }
+        ensures children { spare_children self.old ≤ spare_children self.new };
+
+    /// Starts a command of the plan. It reads the pipe that is pending, or this process's standard input, and writes a new pipe,
+    /// which is then the pending one, or this process's standard output. The number of a child is new in the journal. Behind a
+    /// start that failed the pipe that was pending still is.
+    fn start(&mut self, plan: &Plan, place: Place, from_pipe: bool, to_pipe: bool) -> StartAnswer
+        requires place { is_command plan.now place ≡ true }
+        requires pipe { from_pipe ≡ pipe_pending (run_of (events self.old)) }
+        requires room { 0 < spare_events self.old }
+        requires children { 0 < spare_children self.old }
+        ensures event { events self.new ≡ events self.old ++ made (step.Start place from_pipe to_pipe) (answer.Start result) ∷ [] }
+        ensures fresh { fits_start (run_of (events self.old)) result ≡ true }
+        ensures room { spare_events self.old ≤ spare_events self.new + 1 }
+        ensures children { spare_children self.old ≤ spare_children self.new + 1 };
+
+    /// Closes the pipe that is pending.
+    fn close_pipe(&mut self)
+        requires pipe { pipe_pending (run_of (events self.old)) ≡ true }
+        requires room { 0 < spare_events self.old }
+        ensures event { events self.new ≡ events self.old ++ made step.ClosePipe answer.Closed ∷ [] }
+        ensures room { spare_events self.old ≤ spare_events self.new + 1 }
+        ensures children { spare_children self.old ≤ spare_children self.new };
+
+    /// Waits until the child of this number ends, which was started at this place.
+    fn wait(&mut self, place: Place, id: u64) -> WaitAnswer
+        requires open { is_child_open place id (events self.old) ≡ true }
+        requires room { 0 < spare_events self.old }
+        ensures event { events self.new ≡ events self.old ++ made (step.Wait place id) (answer.Wait result) ∷ [] }
+        ensures room { spare_events self.old ≤ spare_events self.new + 1 }
+        ensures children { spare_children self.old ≤ spare_children self.new };
+
+    /// Removes a file of the plan. Links are not followed, and what is no plain file stays.
+    fn remove(&mut self, plan: &Plan, place: Place) -> RemoveAnswer
+        requires place { is_file plan.now place ≡ true }
+        requires room { 0 < spare_events self.old }
+        ensures event { events self.new ≡ events self.old ++ made (step.Remove place) (answer.Remove result) ∷ [] }
+        ensures room { spare_events self.old ≤ spare_events self.new + 1 }
+        ensures children { spare_children self.old ≤ spare_children self.new };
+
+    /// Tells the user on standard error of a step that failed.
+    fn report(&mut self, plan: &Plan, note: Note) -> TellAnswer
+        requires note { is_note plan.now note ≡ true }
+        requires room { 0 < spare_events self.old }
+        ensures event { events self.new ≡ events self.old ++ made (step.Report note) (answer.Reported (is_told result)) ∷ [] }
+        ensures room { spare_events self.old ≤ spare_events self.new + 1 }
+        ensures children { spare_children self.old ≤ spare_children self.new };
 }

@@ -1,0 +1,166 @@
+use Rattle.drv_system.specs.Holding.{AreBelow, Holds, IsBelow, Numbered}
+use Rattle.drv_system.specs.Running.{made, run_of}
+use Rattle.drv_system.specs.Script.{children_behind, start_numbered}
+use Rattle.drv_system.proofs.Running.{pending-append, run_of-append}
+use Rattle.drv_system.specs.declared.event.Event.{Event}
+use Rattle.drv_words.specs.Stepping.{fits_start, is_child, pending_with, pipe_pending}
+use Rattle.drv_words.specs.declared.answers.Answer.{Answer}
+use Rattle.drv_words.specs.declared.answers.Answer.TheVariants as answer
+use Rattle.drv_words.specs.declared.answers.StartAnswer.{StartAnswer}
+use Rattle.drv_words.specs.declared.answers.StartAnswer.TheVariants as start
+use Rattle.drv_words.specs.declared.steps.RunEvent.{RunEvent}
+use Rattle.drv_words.specs.declared.steps.Step.{Step}
+use Rattle.std.proofs.Common.{refl, ap, sym, ◌∙◌, arith, subst}
+use Rattle.std.proofs.lemmas.Bool.Decides.{nat_tests}
+use Rattle.std.proofs.lemmas.List.{append-nil, length-append}
+use Rattle.std.specs.List.{list_any}
+use Rattle.std.specs.Prelude.{◌≡◌, ◌<◌, ◌≤◌, ◌+◌, Bool, List, [], ◌∷◌, ◌++◌, None, Option, Some, false, length, nat_eq, true, ℕ}
+
+-- What a system keeps beside its journal, behind one more event; the number of the next child is new.
+
+below_answer : (n m : ℕ) (a : Answer) → n ≤ m → IsBelow n a → IsBelow m a
+below_answer n m (answer.Start (start.Started id)) le below = omega (arith, le, below)
+below_answer n m (answer.Start (start.NotStarted why)) le below = tt
+below_answer n m (answer.Claim x) le below = tt
+below_answer n m answer.Closed le below = tt
+below_answer n m (answer.Wait x) le below = tt
+below_answer n m (answer.Remove x) le below = tt
+below_answer n m (answer.Reported told) le below = tt
+
+below_more : (n m : ℕ) (events : List RunEvent) (e : RunEvent) → n ≤ m → AreBelow n events → IsBelow m e.answer → AreBelow m (events ++ e ∷ [])
+below_more n m [] e le below last = (last, tt)
+below_more n m (f ∷ events) e le below last = (below_answer n m f.answer le below.0, below_more n m events e le below.1 last)
+
+-- the run behind one more event
+beside : (events events' : List Event) (event : Event) → events' ≡ events ++ event ∷ [] → run_of (event ∷ []) ≡ [] → run_of events' ≡ run_of events
+beside events events' event is none =
+    ap run_of is ∙ run_of-append events (event ∷ []) ∙ ap (λ rest. run_of events ++ rest) none ∙ append-nil (run_of events)
+
+behind : (events events' : List Event) (step : Step) (a : Answer) → events' ≡ events ++ made step a ∷ [] → run_of events' ≡ run_of events ++ record { step = step; answer = a } ∷ []
+behind events events' step a is = ap run_of is ∙ run_of-append events (made step a ∷ [])
+
+one_more : (n m : ℕ) (events events' : List Event) (event : Event) → events' ≡ events ++ event ∷ [] → n ≤ length events → m ≤ n + 1 → m ≤ length events'
+one_more n m events events' event is few le =
+    let size : length events' ≡ length events + 1 = ap length is ∙ length-append events (event ∷ []) in omega (arith, size, few, le)
+
+no_more : (n : ℕ) → n ≤ n + 1
+no_more n = omega arith
+
+-- without an event
+pub numbered_same : {n m : ℕ} {events events' : List Event} → Numbered n events → events' ≡ events → m ≡ n → Numbered m events'
+numbered_same {n} {m} {events} {events'} numbered is same = rw (is, same) numbered
+
+pub holds_same : {n m : ℕ} {p q : Bool} {events events' : List Event} → Holds n p events → events' ≡ events → m ≡ n → q ≡ p → Holds m q events'
+holds_same {n} {m} {p} {q} {events} {events'} holds is same_n same_p = rw (is, same_n, same_p) holds
+
+-- a question or a text that was said starts no child
+pub numbered_beside : {n m : ℕ} {events events' : List Event} (event : Event) → Numbered n events → events' ≡ events ++ event ∷ [] → run_of (event ∷ []) ≡ []
+    → m ≡ n → Numbered m events'
+numbered_beside {n} {m} {events} {events'} event numbered is none same = rw same (record {
+  below = subst (λ run. AreBelow n run) (sym (beside events events' event is none)) numbered.below;
+  few = one_more n n events events' event is numbered.few (no_more n);
+})
+
+pub holds_beside : {n m : ℕ} {p q : Bool} {events events' : List Event} (event : Event) → Holds n p events → events' ≡ events ++ event ∷ [] → run_of (event ∷ []) ≡ []
+    → m ≡ n → q ≡ p → Holds m q events'
+holds_beside {events = events} {events' = events'} event holds is none same_n same_p = record {
+  numbered = numbered_beside event holds.numbered is none same_n;
+  pipe = same_p ∙ holds.pipe ∙ ap pipe_pending (sym (beside events events' event is none));
+}
+
+-- a step may start one
+pub numbered_behind : {n m : ℕ} {events events' : List Event} (step : Step) (a : Answer) → Numbered n events → events' ≡ events ++ made step a ∷ []
+    → n ≤ m → m ≤ n + 1 → IsBelow m a → Numbered m events'
+numbered_behind {n} {m} {events} {events'} step a numbered is le ge last = record {
+  below = subst (λ run. AreBelow m run) (sym (behind events events' step a is))
+      (below_more n m (run_of events) (record { step = step; answer = a }) le numbered.below last);
+  few = one_more n m events events' (made step a) is numbered.few ge;
+}
+
+pub holds_behind : {n m : ℕ} {p q : Bool} {events events' : List Event} (step : Step) (a : Answer) → Holds n p events → events' ≡ events ++ made step a ∷ []
+    → n ≤ m → m ≤ n + 1 → IsBelow m a → q ≡ pending_with p step a → Holds m q events'
+holds_behind {events = events} {events' = events'} step a holds is le ge last pipe = record {
+  numbered = numbered_behind step a holds.numbered is le ge last;
+  pipe = pipe ∙ ap (λ pending. pending_with pending step a) holds.pipe
+      ∙ sym (pending-append (run_of events) (record { step = step; answer = a })) ∙ ap pipe_pending (sym (behind events events' step a is));
+}
+
+-- a child that was started takes the next number
+next_number : (n m l : ℕ) → m ≡ n + 1 → l ≡ n → (n ≤ m) × (m ≤ n + 1) × (l < m)
+next_number n m l more same = (omega (arith, more), omega (arith, more), omega (arith, more, same))
+
+pub holds_started : {n m l : ℕ} {p q : Bool} {events events' : List Event} (step : Step) → Holds n p events
+    → events' ≡ events ++ made step (answer.Start (start.Started l)) ∷ [] → m ≡ n + 1 → l ≡ n
+    → q ≡ pending_with p step (answer.Start (start.Started l)) → Holds m q events'
+holds_started {n = n} {m = m} {l = l} step holds is more same pipe =
+    let numbers = next_number n m l more same in holds_behind step (answer.Start (start.Started l)) holds is numbers.0 numbers.1 numbers.2 pipe
+
+-- the same, where the number of children stays
+pub numbered_step : {n m : ℕ} {events events' : List Event} (step : Step) (a : Answer) → Numbered n events → events' ≡ events ++ made step a ∷ []
+    → m ≡ n → IsBelow n a → Numbered m events'
+numbered_step {n} {m} {events} {events'} step a numbered is same last = rw same (numbered_behind {n = n} {m = n} {events = events} {events' = events'} step a numbered is (le_itself n) (no_more n) last)
+  where
+    le_itself : (n : ℕ) → n ≤ n
+    le_itself n = omega arith
+
+pub holds_step : {n m : ℕ} {p q : Bool} {events events' : List Event} (step : Step) (a : Answer) → Holds n p events → events' ≡ events ++ made step a ∷ []
+    → m ≡ n → IsBelow n a → q ≡ pending_with p step a → Holds m q events'
+holds_step {events = events} {events' = events'} step a holds is same last pipe = record {
+  numbered = numbered_step step a holds.numbered is same last;
+  pipe = pipe ∙ ap (λ pending. pending_with pending step a) holds.pipe
+      ∙ sym (pending-append (run_of events) (record { step = step; answer = a })) ∙ ap pipe_pending (sym (behind events events' step a is));
+}
+
+-- the next number
+other_number : (n : ℕ) (a : Answer) → IsBelow n a → is_child n a ≡ false
+other_number n (answer.Start (start.Started id)) below = differs n id below
+  where
+    differs : (n id : ℕ) → id < n → nat_eq n id ≡ false
+    differs n id below = grind (arith, nat_tests)
+other_number n (answer.Start (start.NotStarted why)) below = refl
+other_number n (answer.Claim x) below = refl
+other_number n answer.Closed below = refl
+other_number n (answer.Wait x) below = refl
+other_number n (answer.Remove x) below = refl
+other_number n (answer.Reported told) below = refl
+
+none_has : (n : ℕ) (events : List RunEvent) → AreBelow n events → list_any (λ (e : RunEvent). is_child n e.answer) events ≡ false
+none_has n [] below = refl
+none_has n (e ∷ events) below = rw (other_number n e.answer below.0) (none_has n events below.1)
+
+pub new_number : {n : ℕ} {events : List Event} {x : StartAnswer} → Numbered n events → x ≡ start.Started n → fits_start (run_of events) x ≡ true
+new_number {n} {events} {x} numbered is = rw (is, none_has n (run_of events) numbered.below) refl
+
+pub holds_is_new : {n : ℕ} {p : Bool} {events : List Event} {x : StartAnswer} → Holds n p events → x ≡ start.Started n → fits_start (run_of events) x ≡ true
+holds_is_new holds is = new_number holds.numbered is
+
+-- a script's children
+started_below : (n : ℕ) (taken : Option StartAnswer) → IsBelow (children_behind n (start_numbered n taken)) (answer.Start (start_numbered n taken))
+started_below n None = lt_next n
+  where
+    lt_next : (n : ℕ) → n < n + 1
+    lt_next n = omega arith
+started_below n (Some (start.Started id)) = lt_next n
+  where
+    lt_next : (n : ℕ) → n < n + 1
+    lt_next n = omega arith
+started_below n (Some (start.NotStarted why)) = tt
+
+children_grow : (n : ℕ) (x : StartAnswer) → (n ≤ children_behind n x) × (children_behind n x ≤ n + 1)
+children_grow n (start.Started id) = (omega arith, omega arith)
+children_grow n (start.NotStarted why) = (omega arith, omega arith)
+
+pub numbered_start : {n m : ℕ} {events events' : List Event} {x : StartAnswer} (step : Step) (taken : Option StartAnswer) → Numbered n events
+    → events' ≡ events ++ made step (answer.Start x) ∷ [] → x ≡ start_numbered n taken → m ≡ children_behind n x → Numbered m events'
+numbered_start {n} {m} {events} {events'} {x} step taken numbered is numbers count =
+    rw count (numbered_behind {n = n} {m = children_behind n x} {events = events} {events' = events'} step (answer.Start x) numbered is (children_grow n x).0 (children_grow n x).1
+    (subst (λ y. IsBelow (children_behind n y) (answer.Start y)) (sym numbers) (started_below n taken)))
+
+pub script_is_new : {n : ℕ} {events : List Event} {x : StartAnswer} (taken : Option StartAnswer) → Numbered n events → x ≡ start_numbered n taken
+    → fits_start (run_of events) x ≡ true
+script_is_new {n} {events} {x} taken numbered is = ap (λ y. fits_start (run_of events) y) is ∙ by taken
+  where
+    by : (taken : Option StartAnswer) → fits_start (run_of events) (start_numbered n taken) ≡ true
+    by None = rw (none_has n (run_of events) numbered.below) refl
+    by (Some (start.Started id)) = rw (none_has n (run_of events) numbered.below) refl
+    by (Some (start.NotStarted why)) = refl

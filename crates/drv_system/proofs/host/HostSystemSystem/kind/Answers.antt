@@ -1,0 +1,6 @@
+use Rattle.drv_system.proofs.Holding.{holds_beside}
+use Rattle.std.proofs.Common.{refl}
+use Rattle.drv_system.proofs.host.HostSystemSystem.kind.Goals as goal
+
+pub invariant_of-self-2 : goal.invariant_of-self-2
+invariant_of-self-2 c = holds_beside _ c.self.invariant c.in_ok-push.ensures.items refl refl refl

@@ -1,0 +1,16 @@
+use Rattle.drv_system.proofs.Holding.{holds_is_new, holds_started, holds_step}
+use Rattle.drv_words.specs.declared.answers.StartAnswer.TheVariants as start
+use Rattle.std.proofs.Common.{ap, refl}
+use Rattle.drv_system.proofs.host.HostSystemSystem.start.Goals as goal
+
+pub invariant_of-self : goal.invariant_of-self
+invariant_of-self c = holds_step _ _ c.self.invariant c.push_reserved.ensures.items refl tt refl
+
+pub invariant_of-self-in-Ok : goal.invariant_of-self-in-Ok
+invariant_of-self-in-Ok c = holds_started _ c.self.invariant c.push_reserved-in-Ok-2.ensures.items c.push_reserved-in-Ok.ensures.len c.len.ensures c.in-Ok.ensures
+
+pub invariant_of-self-in-Err : goal.invariant_of-self-in-Err
+invariant_of-self-in-Err c = holds_step _ _ c.self.invariant c.push_reserved-in-Err.ensures.items refl tt refl
+
+pub returns-in-Ok-clause-fresh : goal.returns-in-Ok-clause-fresh
+returns-in-Ok-clause-fresh c = rw (← c.self.view_is) (holds_is_new c.self.invariant (ap start.Started c.len.ensures))

@@ -1,0 +1,83 @@
+//! Children of this process, and the pipes between them.
+
+ghost use Rattle.std.specs.Option.{IfSome};
+ghost use Rattle.std.specs.Prelude.{◌≡◌, IfOk, is_some, vec_capacity, vec_len};
+
+use crate::host::as_text;
+use drv_words::{Command, NotStarted, WaitAnswer};
+use std::alloc::Global;
+use std::io::{self, Error, ErrorKind, PipeReader};
+use std::process::{self, Child};
+
+/// Starts a command. It reads the end that is given, or else this process's standard input, and writes a new pipe, whose other end
+/// is given back, or else this process's standard output.
+pub fn spawn(
+    rt: &HostRuntime,
+    alloc: Global,
+    command: &Command,
+    pending: &Option<PipeReader>,
+    to_pipe: bool,
+) -> io::Result<(Child, Option<PipeReader>)>
+    ensures { IfOk result (λ started. is_some started.1 ≡ to_pipe) }
+{
+    let mut child = process::Command::new(alloc, text(command.program.as_bytes())?)?;
+    for word in command.words.as_slice() {
+        child.arg(text(word.as_bytes())?)?;
+    }
+    if let Some(reader) = pending {
+        child.stdin(reader.try_clone()?);
+    }
+    if to_pipe {
+        let (reader, writer) = io::pipe(rt)?;
+        child.stdout(writer);
+        Ok((child.spawn(rt)?, Some(reader)))
+    } else {
+        Ok((child.spawn(rt)?, None))
+    }
+}
+
+/// The text of a word, or the error that it is none.
+fn text(word: &[u8]) -> io::Result<&str> {
+    as_text(word).ok_or(Error::from(ErrorKind::InvalidInput))
+}
+
+/// Why a program was not started.
+pub fn reason_of(error: &Error) -> NotStarted {
+    match error.kind() {
+        ErrorKind::NotFound | ErrorKind::NotADirectory => NotStarted::NotFound,
+        ErrorKind::PermissionDenied => NotStarted::Denied,
+        ErrorKind::OutOfMemory => NotStarted::NoMemory,
+        _ => NotStarted::Other,
+    }
+}
+
+/// Waits for the child of this number, whose place is empty then.
+pub fn wait_for(children: &mut Vec<Option<Child>>, id: u64) -> WaitAnswer
+    ensures len { vec_len children.new ≡ vec_len children.old }
+    ensures room { vec_capacity children.new ≡ vec_capacity children.old }
+{
+    let Ok(index) = usize::try_from(id) else {
+        return WaitAnswer::Lost;
+    };
+    let Some(place) = children.get_mut(index) else {
+        return WaitAnswer::Lost;
+    };
+    match place.take() {
+        Some(child) => ending_of(child),
+        None => WaitAnswer::Lost,
+    }
+}
+
+/// How a child ended, once it has.
+fn ending_of(mut child: Child) -> WaitAnswer {
+    let Ok(status) = child.wait() else {
+        return WaitAnswer::Lost;
+    };
+    match status.code() {
+        Some(code) => match u8::try_from(code) {
+            Ok(code) => WaitAnswer::Exit(code),
+            Err(_) => WaitAnswer::Lost,
+        },
+        None => WaitAnswer::Signal,
+    }
+}
