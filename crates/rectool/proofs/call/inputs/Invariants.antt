@@ -1,0 +1,7 @@
+use Rattle.rectool.proofs.call.inputs.Given as goal
+use Rattle.rectool.specs.Call.{input_of, inputs_of, with_option_before}
+use Rattle.std.proofs.Common.{◌≡◌, ◌++◌, drop}
+use Rattle.std.specs.List.{filter_map}
+
+abbrev pub invariant-loop-word : goal.invariant-loop-word
+invariant-loop-word l = l.inputs ++ filter_map input_of (with_option_before l.is_behind (drop l.word-index l.word-items)) ≡ inputs_of l.fn.words

@@ -1,0 +1,73 @@
+use Rattle.std.specs.Char.{is_ascii_digit}
+use Rattle.std.specs.Cmp.Lexicographic.{pointwise}
+use Rattle.std.specs.List.{filter_map, fold, last_or, list_all, starts_with, zip}
+use Rattle.std.specs.Option.{option_or, unwrap_or}
+use Rattle.std.specs.Prelude.{◌&&◌, ◌||◌, ◌*◌, ◌+◌, ◌-◌, Bool, List, [], ◌∷◌, None, Option, Some, codes, drop, false, if◌then◌else◌, length, map, nat_eq, nat_le, slice_get, take, ℕ}
+use Rattle.std.specs.Str.{byte}
+
+-- What the words of a call ask for (this project's profile). The first word is the role, which is neither an option nor an
+-- input. Places count, not a reading in order: what stands directly behind an `-o` is an output, whatever it is.
+
+abbrev pub same : List ℕ → List ℕ → Bool
+same = pointwise nat_eq
+
+abbrev pub operands : List (List ℕ) → List (List ℕ)
+operands words = drop 1 words
+
+abbrev pub is_output_option : List ℕ → Bool
+is_output_option word = same word (codes "-o")
+
+-- what stands directly behind the last `-o`, if there is one: a word, or nothing where the words end with it
+abbrev pub behind_output : List (List ℕ) → Option (Option (List ℕ))
+behind_output [] = None
+behind_output (word ∷ words) = option_or (behind_output words) (if is_output_option word then Some (slice_get words 0) else None)
+
+-- the file that the record goes to; none stands for standard output, as `-` does
+abbrev pub file_named : Option (Option (List ℕ)) → Option (List ℕ)
+file_named (Some (Some path)) = if same path (codes "-") then None else Some path
+file_named (Some None) = None
+file_named None = None
+
+abbrev pub output_file : List (List ℕ) → Option (List ℕ)
+output_file words = file_named (behind_output (operands words))
+
+-- a word is an input unless it begins with `-` or stands directly behind an `-o`
+abbrev pub begins_as_option : List ℕ → Bool
+begins_as_option word = starts_with nat_eq word (codes "-")
+
+abbrev pub input_of : Bool × List ℕ → Option (List ℕ)
+input_of (is_behind, word) = if is_behind || begins_as_option word then None else Some word
+
+-- each word, with whether an `-o` stands directly before it
+abbrev pub with_option_before : Bool → List (List ℕ) → List (Bool × List ℕ)
+with_option_before first words = zip (first ∷ map is_output_option words) words
+
+abbrev pub inputs_of : List (List ℕ) → List (List ℕ)
+inputs_of words = filter_map input_of (with_option_before false (operands words))
+
+-- the number that decimal digits write, behind a number
+abbrev pub number_behind : ℕ → List ℕ → ℕ
+number_behind n digits = fold (λ n digit. n * 10 + (digit - byte "0")) n digits
+
+abbrev pub code_behind : ℕ → List ℕ → Option ℕ
+code_behind n digits = if list_all is_ascii_digit digits && nat_le (number_behind n digits) 255 then Some (number_behind n digits) else None
+
+-- the exit status that digits name: there are some, and their number is at most 255
+abbrev pub code_of : List ℕ → Option ℕ
+code_of [] = None
+code_of (digit ∷ digits) = code_behind 0 (digit ∷ digits)
+
+abbrev pub code_option : List ℕ
+code_option = codes "-frec-exit="
+
+-- the one that a word asks for
+abbrev pub code_asked : List ℕ → Option ℕ
+code_asked word = if same (take (length code_option) word) code_option then code_of (drop (length code_option) word) else None
+
+-- the one that the last such word asks for, or else 0
+abbrev pub exit_status : List (List ℕ) → ℕ
+exit_status words = unwrap_or (last_or None (filter_map code_asked (operands words))) 0
+
+-- For the code alone: a number with one more digit behind it.
+abbrev pub with_digit : ℕ → ℕ → Option ℕ
+with_digit n digit = if is_ascii_digit digit && nat_le (n * 10 + (digit - byte "0")) 255 then Some (n * 10 + (digit - byte "0")) else None

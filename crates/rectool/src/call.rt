@@ -1,0 +1,109 @@
+//! What the words of a call ask for. The first of them is the role, and neither an option nor an input.
+
+ghost use Rattle.rectool.specs.Call.{code_asked, code_of, exit_status, inputs_of, is_output_option, operands, output_file, with_digit};
+ghost use Rattle.std.specs.Option.{option_copied};
+ghost use Rattle.std.specs.Prelude.{◌≡◌, IfOk};
+
+use drv_words::{Listing, Word};
+use std::alloc::{AllocError, Global};
+
+/// The option that the status follows, in decimal.
+const CODE_OPTION: &[u8] = b"-frec-exit=";
+
+/// The words behind the role.
+fn operands(words: &[Word]) -> &[Word]
+    ensures { result.now ≡ operands words.now }
+{
+    match words {
+        [] => words,
+        [_, operands @ ..] => operands,
+    }
+}
+
+/// Whether a word is the option before the output.
+fn is_output_option(word: &Word) -> bool
+    ensures { result ≡ is_output_option word.now }
+{
+    word.as_bytes() == b"-o".as_slice()
+}
+
+/// The file behind the last `-o`; none for standard output, which `-`, or nothing behind it, stands for too.
+#[tactic(auto, using(crate::proofs::Calls::none_named, crate::proofs::Calls::later_counts, crate::proofs::Calls::nothing_here))]
+pub fn output_file(words: &[Word]) -> Option<&Word>
+    ensures { option_copied result ≡ output_file words.now }
+{
+    let operands = operands(words);
+    let mut behind = None;
+    for (index, word) in operands.iter().enumerate() {
+        if is_output_option(word) {
+            behind = operands.get(index + 1);
+        }
+    }
+    match behind {
+        Some(path) if path.as_bytes() != b"-".as_slice() => Some(path),
+        _ => None,
+    }
+}
+
+/// The inputs of a call: each word that doesn't begin with `-` and doesn't stand directly behind an `-o`.
+pub fn inputs(alloc: Global, words: &[Word]) -> Result<Listing<Word>, AllocError>
+    ensures { IfOk result (λ inputs. inputs ≡ inputs_of words.now) }
+{
+    let mut inputs = Listing::new(alloc);
+    let mut is_behind = false;
+    for word in operands(words) {
+        if !is_behind && !word.as_bytes().starts_with(b"-") {
+            inputs.push(word.clone()?)?;
+        }
+        is_behind = is_output_option(word);
+    }
+    Ok(inputs)
+}
+
+/// A number with one more digit behind it, if it is a digit and that number is at most 255.
+fn with_digit(number: u8, digit: u8) -> Option<u8>
+    ensures { result ≡ with_digit number digit }
+{
+    if !digit.is_ascii_digit() {
+        return None;
+    }
+    let more = number as u16 * 10 + (digit - b'0') as u16;
+    u8::try_from(more).ok()
+}
+
+/// The status that digits name, if they are digits alone and it is at most 255.
+#[tactic(auto, using(crate::proofs::Calls::one_more))]
+fn code_of(digits: &[u8]) -> Option<u8>
+    ensures { result ≡ code_of digits.now }
+{
+    if digits.is_empty() {
+        return None;
+    }
+    let mut code = 0;
+    for digit in digits {
+        code = with_digit(code, *digit)?;
+    }
+    Some(code)
+}
+
+/// The status that a word asks for: `-frec-exit=N` asks for N.
+fn code_asked(word: &Word) -> Option<u8>
+    ensures { result ≡ code_asked word.now }
+{
+    let digits = word.as_bytes().strip_prefix(CODE_OPTION)?;
+    code_of(digits)
+}
+
+/// The status that the last word asks for that asks for one, or else 0.
+#[tactic(auto, using(crate::proofs::Calls::last_behind))]
+pub fn exit_status(words: &[Word]) -> u8
+    ensures { result ≡ exit_status words.now }
+{
+    let mut status = 0;
+    for word in operands(words) {
+        if let Some(code) = code_asked(word) {
+            status = code;
+        }
+    }
+    status
+}

@@ -1,0 +1,61 @@
+//! A tool that stands in for a compiler's tools: it records how it was called and what it was given to read.
+#![tactic(auto)]
+
+mod call;
+mod record;
+
+use crate::call::{exit_status, output_file};
+use crate::record::recorded;
+use drv_words::{Listing, Word};
+use std::alloc::AllocError;
+use std::io::{self, Write};
+use std::process::ExitCode;
+use std::{env, fs, str};
+
+/// The arguments as words, without the program's name; none where one is no text.
+fn arguments(rt: &HostRuntime) -> Result<Option<Listing<Word>>, AllocError> {
+    let mut words = Listing::new(rt.alloc());
+    let Ok(arguments) = env::args(rt) else {
+        return Ok(None);
+    };
+    for argument in arguments.skip(1) {
+        words.push(Word::from_vec(argument.into_bytes()))?;
+    }
+    Ok(Some(words))
+}
+
+/// Writes the record to the file of the call, or to standard output, and answers whether all of it was written.
+fn write_record(rt: &HostRuntime, words: &[Word], record: &Word) -> bool {
+    match output_file(words) {
+        Some(path) => match str::from_utf8(path.as_bytes()) {
+            Ok(path) => fs::write(rt, path, record.as_bytes()).is_ok(),
+            Err(_) => false,
+        },
+        None => {
+            let stream = rt.stdout();
+            io::writer(&stream).write_all(record.as_bytes()).is_ok()
+        }
+    }
+}
+
+/// Records the call, and answers the status that it asks for; none where nothing could be recorded.
+fn run(rt: &HostRuntime) -> Result<Option<u8>, AllocError> {
+    let Some(words) = arguments(rt)? else {
+        return Ok(None);
+    };
+    let Some(record) = recorded(rt, words.as_slice())? else {
+        return Ok(None);
+    };
+    if write_record(rt, words.as_slice(), &record) {
+        Ok(Some(exit_status(words.as_slice())))
+    } else {
+        Ok(None)
+    }
+}
+
+fn main(rt: HostRuntime) -> ExitCode {
+    match run(&rt) {
+        Ok(Some(status)) => ExitCode::from(status),
+        _ => ExitCode::from(1u8),
+    }
+}
