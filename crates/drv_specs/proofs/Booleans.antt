@@ -1,0 +1,26 @@
+use Rattle.std.proofs.Common.{◌≡◌, ◌∙◌, ◌==◌, ◌&&◌, Bool, ap, eqb-true, false, not, refl, sym, true, ℕ}
+
+-- Tests that hold together.
+
+pub and_first : (a b : Bool) → (a && b) ≡ true → a ≡ true
+and_first true b both = refl
+and_first false b both = both
+
+pub and_second : (a b : Bool) → (a && b) ≡ true → b ≡ true
+and_second true b both = both
+and_second false b both = absurd cc
+
+pub not_true : (a : Bool) → not a ≡ true → a ≡ false
+not_true true is = absurd cc
+not_true false is = refl
+
+pub not_false : (a : Bool) → a ≡ false → not a ≡ true
+not_false a is = ap not is
+
+-- a byte that passes a test is none that doesn't
+pub differs : (test : ℕ → Bool) (b n : ℕ) → test n ≡ false → test b ≡ true → (b == n) ≡ false
+differs test b n fails passes = by (b == n) refl
+  where
+    by : (same : Bool) → (b == n) ≡ same → (b == n) ≡ false
+    by false same = same
+    by true same = let impossible : true ≡ false = sym passes ∙ ap test (eqb-true b n same) ∙ fails in absurd cc

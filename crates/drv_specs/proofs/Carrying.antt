@@ -1,0 +1,199 @@
+use Rattle.drv_search.specs.declared.prefixes.Prefixes.{Prefixes}
+use Rattle.drv_specs.specs.Directives.{directives_of}
+use Rattle.drv_specs.specs.Loading.{Carried, Including, all_carried, change, changed, file_loaded, file_text, including, set_in, text_read, then_by, worked}
+use Rattle.drv_specs.specs.Sets.{Set}
+use Rattle.drv_specs.specs.declared.directive.Directive.TheVariants.{Bad, Include, Pair, Rename, Text}
+use Rattle.drv_specs.specs.declared.directive.Directive.{Directive}
+use Rattle.drv_specs.specs.declared.fault.SpecsFault.TheVariants.{BadLine, IncludeTooDeep, Memory, TooManyIncludes}
+use Rattle.drv_specs.specs.declared.fault.SpecsFault.{SpecsFault}
+use Rattle.drv_search.specs.Search.{file_found}
+use Rattle.drv_system.specs.Asking.{Extends}
+use Rattle.drv_system.specs.Facts.{Facts, read_of}
+use Rattle.drv_system.specs.Gives.{GivesKnown}
+use Rattle.drv_system.specs.Known.{◌>>=◌, Is, Known, asked}
+use Rattle.drv_system.specs.declared.event.ReadAnswer.{ReadAnswer}
+use Rattle.drv_words.specs.Gives.{Gives}
+use Rattle.std.proofs.Common.{◌≡◌, ◌⊎◌, ◌∙◌, Bool, IsErrAnd, List, [], ◌∷◌, ◌++◌, Err, Ok, Result, Some, ap, false, inl, inr, refl, reverse, subst, suc, sym, zero, ℕ}
+use Rattle.std.proofs.lemmas.List.{reverse-append}
+
+-- Directives carried out one after another.
+
+-- the next directive of those that are left, back to front
+pub next_is : (left rest : List Directive) (directive : Directive) → left ≡ rest ++ directive ∷ [] → reverse left ≡ directive ∷ reverse rest
+next_is left rest directive is = ap reverse is ∙ reverse-append rest (directive ∷ [])
+
+-- a directive that reads no file
+abbrev pub ReadsNoFile : Directive → Type 0
+ReadsNoFile (Text name body) = Unit {0}
+ReadsNoFile (Pair key body) = Unit {0}
+ReadsNoFile (Rename old new) = Unit {0}
+ReadsNoFile (Include pass name) = ⊥
+ReadsNoFile (Bad n) = Unit {0}
+
+abbrev pub state : Set → ℕ → Carried
+state set files = record { set = set; files = files }
+
+pub change_more : (inc : Including) (set set' : Set) (files : ℕ) (directive : Directive) (rest : List Directive) → ReadsNoFile directive → change set directive ≡ Ok set'
+    → all_carried inc (state set files) (directive ∷ rest) ≡ all_carried inc (state set' files) rest
+change_more inc set set' files (Text name body) rest none is = ap (λ r. then_by (changed files r) (λ c'. all_carried inc c' rest)) is
+change_more inc set set' files (Pair key body) rest none is = ap (λ r. then_by (changed files r) (λ c'. all_carried inc c' rest)) is
+change_more inc set set' files (Rename old new) rest none is = ap (λ r. then_by (changed files r) (λ c'. all_carried inc c' rest)) is
+change_more inc set set' files (Include pass name) rest none is = absurd none
+change_more inc set set' files (Bad n) rest none is = absurd cc
+
+pub change_refused : (inc : Including) (set : Set) (files : ℕ) (directive : Directive) (rest : List Directive) (fault : SpecsFault) → ReadsNoFile directive → change set directive ≡ Err fault
+    → all_carried inc (state set files) (directive ∷ rest) ≡ Is (Err fault)
+change_refused inc set files (Text name body) rest fault none is = ap (λ r. then_by (changed files r) (λ c'. all_carried inc c' rest)) is
+change_refused inc set files (Pair key body) rest fault none is = ap (λ r. then_by (changed files r) (λ c'. all_carried inc c' rest)) is
+change_refused inc set files (Rename old new) rest fault none is = ap (λ r. then_by (changed files r) (λ c'. all_carried inc c' rest)) is
+change_refused inc set files (Include pass name) rest fault none is = absurd none
+change_refused inc set files (Bad n) rest fault none is = let same : BadLine n ≡ fault = cc in ap (λ f. Is (Err f)) same
+
+module _ (F : Facts) (prefixes : Prefixes) (set : Set) (pass : Bool) (name : List ℕ) (rest : List Directive) where
+  pub include_deep : (files : ℕ) → all_carried (including F prefixes zero) (state set files) (Include pass name ∷ rest) ≡ Is (Err IncludeTooDeep)
+  unfolding including
+  include_deep files = refl
+
+  pub include_many : (levels : ℕ) → all_carried (including F prefixes (suc levels)) (state set zero) (Include pass name ∷ rest) ≡ Is (Err TooManyIncludes)
+  unfolding including
+  include_many levels = refl
+
+  pub include_is : (levels files : ℕ) → all_carried (including F prefixes (suc levels)) (state set (suc files)) (Include pass name ∷ rest)
+      ≡ then_by (then_by (file_text F prefixes pass name) (λ text. all_carried (including F prefixes levels) (state set files) (directives_of text))) (λ c'. all_carried (including F prefixes (suc levels)) c' rest)
+  unfolding including
+  include_is levels files = refl
+
+  pub include_unread : (levels files : ℕ) (fault : SpecsFault) → file_text F prefixes pass name ≡ Is (Err fault)
+      → all_carried (including F prefixes (suc levels)) (state set (suc files)) (Include pass name ∷ rest) ≡ Is (Err fault)
+  include_unread levels files fault is =
+      include_is levels files
+      ∙ ap (λ known. then_by (then_by known (λ text. all_carried (including F prefixes levels) (state set files) (directives_of text))) (λ c'. all_carried (including F prefixes (suc levels)) c' rest)) is
+
+  pub include_worked : (levels files : ℕ) (text : List ℕ) (given : Known (Result Carried SpecsFault)) → file_text F prefixes pass name ≡ Is (Ok text)
+      → all_carried (including F prefixes levels) (state set files) (directives_of text) ≡ given
+      → all_carried (including F prefixes (suc levels)) (state set (suc files)) (Include pass name ∷ rest) ≡ then_by given (λ c'. all_carried (including F prefixes (suc levels)) c' rest)
+  include_worked levels files text given is worked =
+      include_is levels files
+      ∙ ap (λ known. then_by (then_by known (λ text. all_carried (including F prefixes levels) (state set files) (directives_of text))) (λ c'. all_carried (including F prefixes (suc levels)) c' rest)) is
+      ∙ ap (λ known. then_by known (λ c'. all_carried (including F prefixes (suc levels)) c' rest)) worked
+
+-- the text of a file that was asked for
+pub text_given : (F G : Facts) (prefixes : Prefixes) (pass : Bool) (name path : List ℕ) (answer : ReadAnswer) (result : Result (List ℕ) SpecsFault)
+    → file_found F prefixes name ≡ Is path → Extends G F → read_of G path ≡ Some answer → Gives Memory (λ text. text) result (text_read pass path answer)
+    → GivesKnown Memory (λ text. text) result (file_text F prefixes pass name)
+text_given F G prefixes pass name path answer result found e known given = by result given
+  where
+    is : file_text F prefixes pass name ≡ Is (text_read pass path answer)
+    is = ap (λ known. known >>= λ p. asked (read_of F p) >>= λ a. Is (text_read pass p a)) found ∙ ap (λ a. asked a >>= λ a'. Is (text_read pass path a')) (e.reads path answer known)
+
+    by : (r : Result (List ℕ) SpecsFault) → Gives Memory (λ text. text) r (text_read pass path answer) → GivesKnown Memory (λ text. text) r (file_text F prefixes pass name)
+    by (Ok text) is' = is ∙ ap Is is'
+    by (Err fault) (inl memory) = inl memory
+    by (Err fault) (inr is') = inr (is ∙ ap Is is')
+
+-- a refusal that is handed on
+pub refusal_given : {X Y : Type 0} (fault : SpecsFault) (result : Result X SpecsFault) (view : X → Y) (defined : Known (Result Y SpecsFault))
+    → IsErrAnd result (λ e. e ≡ fault) → (fault ≡ Memory) ⊎ (defined ≡ Is (Err fault)) → GivesKnown Memory view result defined
+refusal_given fault (Ok x) view defined is refused = absurd is
+refusal_given fault (Err e) view defined is (inl memory) = inl (is ∙ memory)
+refusal_given fault (Err e) view defined is (inr refused) = inr (refused ∙ ap (λ f. Is (Err f)) (sym is))
+
+reads_no_file : (directive : Directive) → ((pass : Bool) (file : List ℕ) → directive ≡ Include pass file → ⊥) → ReadsNoFile directive
+reads_no_file (Text name body) not = tt
+reads_no_file (Pair key body) not = tt
+reads_no_file (Rename old new) not = tt
+reads_no_file (Include pass file) not = not pass file refl
+reads_no_file (Bad n) not = tt
+
+-- the next directive, where what is left comes to the whole
+module _ (F : Facts) (prefixes : Prefixes) (set : Set) (files levels : ℕ) (left rest : List Directive) (directive : Directive) (whole : Known (Result Carried SpecsFault))
+    (popped : left ≡ rest ++ directive ∷ []) (so_far : all_carried (including F prefixes levels) (state set files) (reverse left) ≡ whole) where
+  at_next : whole ≡ all_carried (including F prefixes levels) (state set files) (directive ∷ reverse rest)
+  at_next = sym so_far ∙ ap (all_carried (including F prefixes levels) (state set files)) (next_is left rest directive popped)
+
+  pub changed_more : (set' : Set) → ((pass : Bool) (file : List ℕ) → directive ≡ Include pass file → ⊥) → change set directive ≡ Ok set'
+      → all_carried (including F prefixes levels) (state set' files) (reverse rest) ≡ whole
+  changed_more set' not is = sym (at_next ∙ change_more (including F prefixes levels) set set' files directive (reverse rest) (reads_no_file directive not) is)
+
+  pub changed_refused : (fault : SpecsFault) → ((pass : Bool) (file : List ℕ) → directive ≡ Include pass file → ⊥) → (fault ≡ Memory) ⊎ (change set directive ≡ Err fault)
+      → (fault ≡ Memory) ⊎ (whole ≡ Is (Err fault))
+  changed_refused fault not (inl memory) = inl memory
+  changed_refused fault not (inr is) = inr (at_next ∙ change_refused (including F prefixes levels) set files directive (reverse rest) fault (reads_no_file directive not) is)
+
+-- a file that is included
+module _ (F : Facts) (prefixes : Prefixes) (set : Set) (files levels : ℕ) (left rest : List Directive) (directive : Directive) (pass : Bool) (name : List ℕ) (whole : Known (Result Carried SpecsFault))
+    (popped : left ≡ rest ++ directive ∷ []) (is : directive ≡ Include pass name) (so_far : all_carried (including F prefixes levels) (state set files) (reverse left) ≡ whole) where
+  at_include : whole ≡ all_carried (including F prefixes levels) (state set files) (Include pass name ∷ reverse rest)
+  at_include = sym so_far ∙ ap (all_carried (including F prefixes levels) (state set files)) (next_is left rest directive popped ∙ ap (λ d. d ∷ reverse rest) is)
+
+  pub deep_refused : levels ≡ 0 → whole ≡ Is (Err IncludeTooDeep)
+  deep_refused none = at_include ∙ ap (λ n. all_carried (including F prefixes n) (state set files) (Include pass name ∷ reverse rest)) none ∙ include_deep F prefixes set pass name (reverse rest) files
+
+  pub many_refused : (fewer : ℕ) → levels ≡ suc fewer → files ≡ 0 → whole ≡ Is (Err TooManyIncludes)
+  many_refused fewer some none =
+      at_include ∙ ap (λ n. all_carried (including F prefixes n) (state set files) (Include pass name ∷ reverse rest)) some
+      ∙ ap (λ n. all_carried (including F prefixes (suc fewer)) (state set n) (Include pass name ∷ reverse rest)) none ∙ include_many F prefixes set pass name (reverse rest) fewer
+
+  at_file : (fewer : ℕ) (others : ℕ) → levels ≡ suc fewer → files ≡ suc others
+      → whole ≡ all_carried (including F prefixes (suc fewer)) (state set (suc others)) (Include pass name ∷ reverse rest)
+  at_file fewer others some some' =
+      at_include ∙ ap (λ n. all_carried (including F prefixes n) (state set files) (Include pass name ∷ reverse rest)) some
+      ∙ ap (λ n. all_carried (including F prefixes (suc fewer)) (state set n) (Include pass name ∷ reverse rest)) some'
+
+  pub unread_refused : (fewer others : ℕ) → levels ≡ suc fewer → files ≡ suc others → (fault : SpecsFault)
+      → (fault ≡ Memory) ⊎ (file_text F prefixes pass name ≡ Is (Err fault)) → (fault ≡ Memory) ⊎ (whole ≡ Is (Err fault))
+  unread_refused fewer others some some' fault (inl memory) = inl memory
+  unread_refused fewer others some some' fault (inr unread) = inr (at_file fewer others some some' ∙ include_unread F prefixes set pass name (reverse rest) fewer others fault unread)
+
+  at_worked : (fewer others : ℕ) → levels ≡ suc fewer → files ≡ suc others → (text bytes : List ℕ) (given : Known (Result Carried SpecsFault))
+      → file_text F prefixes pass name ≡ Is (Ok text) → bytes ≡ text → all_carried (including F prefixes fewer) (state set others) (directives_of bytes) ≡ given
+      → whole ≡ then_by given (λ c'. all_carried (including F prefixes levels) c' (reverse rest))
+  at_worked fewer others some some' text bytes given read same worked =
+      at_file fewer others some some'
+      ∙ include_worked F prefixes set pass name (reverse rest) fewer others text given read (ap (λ t. all_carried (including F prefixes fewer) (state set others) (directives_of t)) (sym same) ∙ worked)
+      ∙ ap (λ n. then_by given (λ c'. all_carried (including F prefixes n) c' (reverse rest))) (sym some)
+
+  pub worked_refused : (fewer others : ℕ) → levels ≡ suc fewer → files ≡ suc others → (text bytes : List ℕ) (fault : SpecsFault)
+      → file_text F prefixes pass name ≡ Is (Ok text) → bytes ≡ text → (fault ≡ Memory) ⊎ (all_carried (including F prefixes fewer) (state set others) (directives_of bytes) ≡ Is (Err fault))
+      → (fault ≡ Memory) ⊎ (whole ≡ Is (Err fault))
+  worked_refused fewer others some some' text bytes fault read same (inl memory) = inl memory
+  worked_refused fewer others some some' text bytes fault read same (inr worked) = inr (at_worked fewer others some some' text bytes (Is (Err fault)) read same worked)
+
+  pub worked_more : (fewer others : ℕ) → levels ≡ suc fewer → files ≡ suc others → (text bytes : List ℕ) (c' : Carried)
+      → file_text F prefixes pass name ≡ Is (Ok text) → bytes ≡ text → all_carried (including F prefixes fewer) (state set others) (directives_of bytes) ≡ Is (Ok c')
+      → all_carried (including F prefixes levels) c' (reverse rest) ≡ whole
+  worked_more fewer others some some' text bytes c' read same worked = sym (at_worked fewer others some some' text bytes (Is (Ok c')) read same worked)
+
+-- a text worked on a draft that is the set
+module _ (F : Facts) (prefixes : Prefixes) (draft set : Set) (same : draft ≡ set) (files : ℕ) (text : List ℕ) where
+  worked_as : (given : Known (Result Carried SpecsFault)) → all_carried (including F prefixes 15) (state draft files) (directives_of text) ≡ given → worked F prefixes set files text ≡ then_by given set_in
+  worked_as given is = ap (λ s. then_by (all_carried (including F prefixes 15) (state s files) (directives_of text)) set_in) (sym same) ∙ ap (λ known. then_by known set_in) is
+
+  pub worked_given : (c : Carried) → all_carried (including F prefixes 15) (state draft files) (directives_of text) ≡ Is (Ok c) → worked F prefixes set files text ≡ Is (Ok c.set)
+  worked_given c is = worked_as (Is (Ok c)) is
+
+  pub worked_fails : (fault : SpecsFault) → (fault ≡ Memory) ⊎ (all_carried (including F prefixes 15) (state draft files) (directives_of text) ≡ Is (Err fault))
+      → (fault ≡ Memory) ⊎ (worked F prefixes set files text ≡ Is (Err fault))
+  worked_fails fault (inl memory) = inl memory
+  worked_fails fault (inr is) = inr (worked_as (Is (Err fault)) is)
+
+-- a file, by its text
+module _ (F : Facts) (prefixes : Prefixes) (set : Set) (name : List ℕ) where
+  file_is : file_loaded F prefixes set name
+      ≡ then_by (then_by (file_text F prefixes false name) (λ text. all_carried (including F prefixes 15) (state set 1999) (directives_of text))) set_in
+  unfolding file_loaded including
+  file_is = refl
+
+  pub file_read : (text bytes : List ℕ) → file_text F prefixes false name ≡ Is (Ok text) → bytes ≡ text → worked F prefixes set 1999 bytes ≡ file_loaded F prefixes set name
+  file_read text bytes read same =
+      ap (worked F prefixes set 1999) same
+      ∙ sym (file_is ∙ ap (λ known. then_by (then_by known (λ t. all_carried (including F prefixes 15) (state set 1999) (directives_of t))) set_in) read)
+
+  pub file_unread : (fault : SpecsFault) → (fault ≡ Memory) ⊎ (file_text F prefixes false name ≡ Is (Err fault)) → (fault ≡ Memory) ⊎ (file_loaded F prefixes set name ≡ Is (Err fault))
+  file_unread fault (inl memory) = inl memory
+  file_unread fault (inr unread) =
+      inr (file_is ∙ ap (λ known. then_by (then_by known (λ t. all_carried (including F prefixes 15) (state set 1999) (directives_of t))) set_in) unread)
+
+-- a result that answers what is the same
+pub given_alike : {X Y : Type 0} (view : X → Y) (result : Result X SpecsFault) (a b : Known (Result Y SpecsFault)) → a ≡ b → GivesKnown Memory view result a → GivesKnown Memory view result b
+given_alike view result a b same given = subst (GivesKnown Memory view result) same given

@@ -1,0 +1,97 @@
+use Rattle.drv_search.specs.declared.prefixes.Prefixes.{Prefixes}
+use Rattle.drv_specs.proofs.Booleans.{and_first, and_second, not_true}
+use Rattle.drv_specs.proofs.Dumps.{dump_read, pair_directive, text_directive}
+use Rattle.drv_specs.proofs.SettledTexts.{body_ends}
+use Rattle.drv_specs.specs.Blanks.{has_byte}
+use Rattle.drv_specs.specs.Dumping.{Plain, appends, dumped}
+use Rattle.drv_specs.specs.Kept.{Each, IsNamed, IsPair, Kept, is_text}
+use Rattle.drv_specs.specs.Loading.{Carried, Including, all_carried, changed, including, loaded, most_files, set_in, then_by}
+use Rattle.drv_specs.specs.Sets.{Set, by_tree, ends_with_backslash, has_tree, is_no_text, no_specs, put, with_body, with_named, with_pair, with_pair_body, with_pair_text, with_text}
+use Rattle.drv_specs.specs.declared.directive.Directive.{Directive}
+use Rattle.drv_syntax.specs.Outcome.{parsed}
+use Rattle.drv_syntax.specs.Tree.{Items}
+use Rattle.drv_syntax.specs.declared.fault.SyntaxFault.{SyntaxFault}
+use Rattle.drv_system.specs.Facts.{Facts}
+use Rattle.drv_system.specs.Known.{Is}
+use Rattle.indexmap.proofs.MapLemmas.{absent_before, absent_from_lookup, insert_entry-absent}
+use Rattle.indexmap.specs.IndexMap.{insert_entry}
+use Rattle.std.proofs.Common.{◌≡◌, ◌∙◌, ◌||◌, Bool, Err, List, [], ◌∷◌, ◌++◌, Ok, Result, ap, append_assoc, false, if◌then◌else◌, is_ok, map, nat_eq, not, refl, subst, sym, true, ℕ}
+use Rattle.std.proofs.lemmas.List.{append-nil}
+use Rattle.std.specs.Cmp.Lexicographic.{nat_list_eq_equiv, pointwise}
+use Rattle.std.specs.List.{IsDistinct, list_all}
+use Rattle.std.specs.Map.{keys_of}
+
+-- A set's dump loaded.
+
+abbrev set_of : List (List ℕ × List ℕ) → List (List ℕ × List ℕ) → Set
+set_of named pairs = record { named = named; pairs = pairs }
+
+abbrev state : Set → ℕ → Carried
+state set files = record { set = set; files = files }
+
+-- an entry whose name no earlier one has goes last
+insert_last : (done rest : List (List ℕ × List ℕ)) (name text : List ℕ) → IsDistinct (pointwise nat_eq) (keys_of (done ++ (name, text) ∷ rest))
+    → insert_entry (pointwise nat_eq) done name text ≡ done ++ (name, text) ∷ []
+insert_last done rest name text distinct =
+    insert_entry-absent (pointwise nat_eq) name text done (absent_from_lookup (pointwise nat_eq name) done (absent_before nat_list_eq_equiv done rest (name, text) distinct))
+
+tree_there : {X : Type 0} (name : List ℕ) (x : X) (given : Result Items SyntaxFault) → is_ok given ≡ true → by_tree name x given ≡ Ok x
+tree_there name x (Ok tree) is = refl
+tree_there name x (Err fault) is = absurd cc
+
+body_put : (set : Set) (name text : List ℕ) → is_text text ≡ true → not (appends text) ≡ true → with_body set name text ≡ put set name text
+body_put set name [] body plain = absurd cc
+body_put set name (b ∷ []) body plain = refl
+body_put set name (b ∷ c ∷ text) body plain = rw (not_true _ plain) refl
+
+text_ends : (text : List ℕ) → is_text text ≡ true → ends_with_backslash text ≡ false
+text_ends [] body = absurd cc
+text_ends (b ∷ text) body = body_ends b text false false body
+
+text_taken : (set : Set) (entry : List ℕ × List ℕ) → IsNamed entry → not (appends entry.1) ≡ true → with_text set entry.0 entry.1 ≡ Ok (with_named set entry.0 entry.1)
+text_taken set entry kept plain =
+    rw kept.name (rw (text_ends entry.1 kept.text) (body_put set entry.0 entry.1 kept.text plain ∙ tree_there entry.0 (with_named set entry.0 entry.1) (parsed entry.1) kept.tree))
+
+named_loaded : (inc : Including) (files : ℕ) (directives : List Directive) (done named : List (List ℕ × List ℕ)) → Each IsNamed named → list_all (λ entry. not (appends entry.1)) named ≡ true
+    → IsDistinct (pointwise nat_eq) (keys_of (done ++ named))
+    → all_carried inc (state (set_of done []) files) (map text_directive named ++ directives) ≡ all_carried inc (state (set_of (done ++ named) []) files) directives
+named_loaded inc files directives done [] kept plain distinct = ap (λ es. all_carried inc (state (set_of es []) files) directives) (sym (append-nil done))
+named_loaded inc files directives done (entry ∷ named) kept plain distinct =
+    let whole = append_assoc done (entry ∷ []) named in
+    ap (λ r. then_by (changed files r) (λ c. all_carried inc c (map text_directive named ++ directives)))
+    (text_taken (set_of done []) entry kept.0 (and_first (not (appends entry.1)) _ plain) ∙ ap (λ es. Ok (set_of es [])) (insert_last done named entry.0 entry.1 distinct))
+    ∙ named_loaded inc files directives (done ++ entry ∷ []) named kept.1 (and_second (not (appends entry.1)) _ plain)
+    (subst (λ es. IsDistinct (pointwise nat_eq) (keys_of es)) (sym whole) distinct)
+    ∙ ap (λ es. all_carried inc (state (set_of es []) files) directives) whole
+
+pair_worked : (set : Set) (key text : List ℕ) (no_text : Bool) → is_no_text text ≡ no_text → (no_text || has_tree text) ≡ true
+    → (if no_text then Ok (with_pair set key text) else by_tree key (with_pair set key text) (parsed text)) ≡ Ok (with_pair set key text)
+pair_worked set key text true is tree = refl
+pair_worked set key text false is tree = tree_there key (with_pair set key text) (parsed text) tree
+
+pair_ends : (text : List ℕ) → (not (has_byte text) || is_text text) ≡ true → ends_with_backslash text ≡ false
+pair_ends [] body = refl
+pair_ends (b ∷ text) body = text_ends (b ∷ text) body
+
+pair_taken : (set : Set) (pair : List ℕ × List ℕ) → IsPair pair → with_pair_body set pair.0 pair.1 ≡ Ok (with_pair set pair.0 pair.1)
+pair_taken set pair kept =
+    rw kept.key (
+    ap (with_pair_text set pair.0) kept.whole
+    ∙ rw (pair_ends pair.1 kept.text) (rw kept.no_alias (pair_worked set pair.0 pair.1 (is_no_text pair.1) refl kept.tree))
+    )
+
+pairs_loaded : (inc : Including) (files : ℕ) (named done pairs : List (List ℕ × List ℕ)) → Each IsPair pairs
+    → all_carried inc (state (set_of named done) files) (map pair_directive pairs) ≡ Is (Ok (state (set_of named (done ++ pairs)) files))
+pairs_loaded inc files named done [] kept = ap (λ es. Is (Ok (state (set_of named es) files))) (sym (append-nil done))
+pairs_loaded inc files named done (pair ∷ pairs) kept =
+    ap (λ r. then_by (changed files r) (λ c. all_carried inc c (map pair_directive pairs))) (pair_taken (set_of named done) pair kept.0)
+    ∙ pairs_loaded inc files named (done ++ pair ∷ []) pairs kept.1
+    ∙ ap (λ es. Is (Ok (state (set_of named es) files))) (append_assoc done (pair ∷ []) pairs)
+
+pub dump_loaded : (F : Facts) (prefixes : Prefixes) (set : Set) → Kept set → Plain set → loaded F prefixes no_specs (dumped set) ≡ Is (Ok set)
+unfolding loaded
+dump_loaded F prefixes set kept plain =
+    ap (λ ds. then_by (all_carried (including F prefixes 15) (state no_specs most_files) ds) set_in) (dump_read set kept)
+    ∙ ap (λ known. then_by known set_in)
+    (named_loaded (including F prefixes 15) most_files (map pair_directive set.pairs) [] set.named kept.named plain kept.distinct
+    ∙ pairs_loaded (including F prefixes 15) most_files set.named [] set.pairs kept.pairs)

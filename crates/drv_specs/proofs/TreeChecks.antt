@@ -1,0 +1,13 @@
+use Rattle.drv_specs.specs.Sets.{Set, by_tree}
+use Rattle.drv_specs.specs.declared.fault.SpecsFault.TheVariants.{Syntax}
+use Rattle.drv_syntax.specs.Tree.{Items}
+use Rattle.drv_syntax.specs.declared.fault.SyntaxFault.{SyntaxFault}
+use Rattle.std.proofs.Common.{◌≡◌, Err, List, Ok, Result, ap, ℕ}
+
+-- What a text comes to, by what its parse answered.
+
+pub tree_given : (name : List ℕ) (set : Set) (tree : Items) (given : Result Items SyntaxFault) → given ≡ Ok tree → by_tree name set given ≡ Ok set
+tree_given name set tree given is = ap (by_tree name set) is
+
+pub tree_refused : (name : List ℕ) (set : Set) (fault : SyntaxFault) (given : Result Items SyntaxFault) → given ≡ Err fault → by_tree name set given ≡ Err (Syntax name fault)
+tree_refused name set fault given is = ap (by_tree name set) is

@@ -1,0 +1,6 @@
+use Rattle.drv_specs.specs.Tables.{all_added, shown}
+use Rattle.std.proofs.Common.{◌≡◌, drop, map}
+use Rattle.drv_specs.proofs.builtin_specs.add_rows.Given as goal
+
+abbrev pub invariant-loop-row : goal.invariant-loop-row
+invariant-loop-row l = all_added l.entries (map shown (drop l.row-index l.rows)) ≡ all_added l.fn.entries (map shown l.rows)

@@ -1,0 +1,7 @@
+use Rattle.drv_specs.proofs.builtin_specs.pair_rows.Goals as goal
+use Rattle.drv_specs.specs.Builtin.{builtin_pairs}
+use Rattle.std.proofs.Common.{refl}
+
+pub returns : goal.returns
+unfolding builtin_pairs
+returns c = refl

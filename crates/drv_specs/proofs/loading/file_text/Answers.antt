@@ -1,0 +1,8 @@
+use Rattle.drv_specs.proofs.Carrying.{text_given}
+use Rattle.drv_specs.proofs.loading.file_text.Goals as goal
+use Rattle.drv_system.proofs.Asking.{asks_extends, extends_then}
+
+pub returns-clause-text : goal.returns-clause-text
+returns-clause-text g c F e =
+    text_given F c.read.new.self c.args.prefixes.now c.args.pass_missing c.args.name.now c.in_ok-path.path c.read_answer-answer.result.now c.text_read.result
+    (c.in_ok-path.ensures.path F (extends_then (asks_extends c.read.ensures.asks) e)) e c.read_answer-answer.ensures c.text_read.ensures

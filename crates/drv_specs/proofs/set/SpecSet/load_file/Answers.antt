@@ -1,0 +1,15 @@
+use Rattle.drv_specs.proofs.Carrying.{file_read, file_unread, given_alike, refusal_given}
+use Rattle.drv_specs.proofs.set.SpecSet.load_file.Goals as goal
+use Rattle.drv_specs.specs.Loading.{file_loaded, worked}
+use Rattle.drv_system.proofs.Asking.{asks_extends, extends_then}
+
+pub returns-in_err-text-clause-loads : goal.returns-in_err-text-clause-loads
+returns-in_err-text-clause-loads g c F e =
+    refusal_given c.in_err-text.field-0.0 c.from_residual.result _ (file_loaded F c.args.prefixes.now c.args.self.now c.args.name.now) c.from_residual.ensures.1
+    (file_unread F c.args.prefixes.now c.args.self.now c.args.name.now c.in_err-text.field-0.0 (c.in_err-text.ensures.text F e))
+
+pub returns-clause-loads : goal.returns-clause-loads
+returns-clause-loads g c F e =
+    given_alike _ c.work.result (worked F c.args.prefixes.now c.args.self.now 1999 c.as_bytes.result.now) (file_loaded F c.args.prefixes.now c.args.self.now c.args.name.now)
+    (file_read F c.args.prefixes.now c.args.self.now c.args.name.now c.in_ok-text.text c.as_bytes.result.now (c.in_ok-text.ensures.text F (extends_then (asks_extends c.work.ensures.asks) e)) c.as_bytes.ensures)
+    (c.work.ensures.works F e)

@@ -1,0 +1,98 @@
+use Rattle.drv_specs.specs.Blanks.{has_byte, is_blank}
+use Rattle.drv_words.specs.Bytes.{colon, greater_than, number_sign, less_than, newline, percent, asterisk}
+use Rattle.drv_specs.specs.Lines.{is_empty_line, lines_of, settled, trimmed, without_front, words_of}
+use Rattle.drv_specs.specs.declared.directive.Directive.TheVariants.{Bad, Include, Pair, Rename, Text}
+use Rattle.drv_specs.specs.declared.directive.Directive.{Directive}
+use Rattle.drv_specs.specs.declared.directive.Start.TheVariants.{Alone, Passed, WithBody}
+use Rattle.drv_specs.specs.declared.directive.Start.{Start}
+use Rattle.std.specs.Cmp.Lexicographic.{pointwise}
+use Rattle.std.specs.List.{ends_with, join_with_byte, position}
+use Rattle.std.specs.Prelude.{◌+◌, ◌-◌, ◌==◌, ◌&&◌, Bool, List, [], ◌∷◌, ◌++◌, None, Option, Some, codes, drop, false, filter, if◌then◌else◌, length, nat_eq, take, true, ℕ}
+
+-- The directives of a spec file's text, one after another; a line that is none is `Bad` with its number (GCC manual, "Spec
+-- Files"; this project's profile).
+
+-- %include: the file stands between a < and the last >, and is all that stands there
+abbrev pub included : ℕ → Bool → List ℕ → Directive
+included n pass [] = Bad n
+included n pass (b ∷ text) = if b == less_than && ends_with nat_eq text (greater_than ∷ []) then Include pass (take (length text - 1) text) else Bad n
+
+-- %rename: two names
+abbrev pub renamed : ℕ → List (List ℕ) → Directive
+renamed n [] = Bad n
+renamed n (old ∷ []) = Bad n
+renamed n (old ∷ new ∷ []) = Rename old new
+renamed n (old ∷ new ∷ word ∷ words) = Bad n
+
+-- a line that begins with %, by its first word
+abbrev pub by_keyword : ℕ → List ℕ → List (List ℕ) → Directive
+by_keyword n line [] = Bad n
+by_keyword n line (word ∷ words) =
+    if pointwise nat_eq word (codes "%rename") then renamed n words
+    else if pointwise nat_eq word (codes "%include") then included n false (trimmed (drop (length word) line))
+    else if pointwise nat_eq word (codes "%include_noerr") then included n true (trimmed (drop (length word) line))
+    else Bad n
+
+-- a body: what stands behind the colon, if anything does, and the lines up to the next one that is empty
+abbrev pub first_line : List ℕ → List (List ℕ)
+first_line rest = filter has_byte (without_front is_blank rest ∷ [])
+
+abbrev pub body_lines : List (List ℕ) → List (List ℕ)
+body_lines [] = []
+body_lines (line ∷ lines) = if is_empty_line line then [] else line ∷ body_lines lines
+
+abbrev pub body_of : List ℕ → List (List ℕ) → List ℕ
+body_of rest lines = join_with_byte newline (first_line rest ++ body_lines lines)
+
+-- a line with a colon, by what stands before it
+abbrev pub by_key : List ℕ → List ℕ → Directive
+by_key [] body = Pair [] body
+by_key (b ∷ key) body = if b == asterisk then Text key body else Pair (b ∷ key) body
+
+abbrev pub is_colon : ℕ → Bool
+is_colon b = b == colon
+
+abbrev pub by_colon : ℕ → List ℕ → List (List ℕ) → Option ℕ → Directive
+by_colon n line lines None = Bad n
+by_colon n line lines (Some at) = by_key (take at line) (body_of (drop (at + 1) line) lines)
+
+-- what a line does that is not empty and stands in no body, without the blanks at its front; behind it come these lines
+abbrev pub start_of : ℕ → List ℕ → List (List ℕ) → Start
+start_of n [] lines = Passed
+start_of n (b ∷ line) lines =
+    if b == number_sign then Passed
+    else if b == percent then Alone (by_keyword n (b ∷ line) (words_of (b ∷ line)))
+    else WithBody (by_colon n (b ∷ line) lines (position is_colon (b ∷ line)))
+
+-- where a line stands: it is empty, in a body, or begins something
+abbrev pub start_at : Bool → Bool → ℕ → List ℕ → List (List ℕ) → Start
+start_at true inside n line lines = Passed
+start_at false true n line lines = Passed
+start_at false false n line lines = start_of n (without_front is_blank line) lines
+
+abbrev pub directive_in : Start → List Directive
+directive_in Passed = []
+directive_in (Alone directive) = directive ∷ []
+directive_in (WithBody directive) = directive ∷ []
+
+abbrev pub opens_body : Start → Bool
+opens_body Passed = false
+opens_body (Alone directive) = false
+opens_body (WithBody directive) = true
+
+-- whether the next line stands in a body
+abbrev pub is_inside : Bool → Bool → Start → Bool
+is_inside true inside start = false
+is_inside false true start = true
+is_inside false false start = opens_body start
+
+-- the directives of lines, the first of which has this number and stands in a body or not
+abbrev pub read_lines : Bool → ℕ → List (List ℕ) → List Directive
+read_lines inside n [] = []
+read_lines inside n (line ∷ lines) =
+    let start = start_at (is_empty_line line) inside n line lines in
+    directive_in start ++ read_lines (is_inside (is_empty_line line) inside start) (n + 1) lines
+
+-- the directives of a text
+abbrev pub directives_of : List ℕ → List Directive
+directives_of text = read_lines false 1 (lines_of (settled text))

@@ -1,0 +1,10 @@
+pub mod Blanks
+pub mod Builtin
+pub mod Directives
+pub mod Dumping
+pub mod Kept
+pub mod Keyed
+pub mod Lines
+pub mod Loading
+pub mod Sets
+pub mod Tables

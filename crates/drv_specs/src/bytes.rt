@@ -1,0 +1,129 @@
+//! Bytes of spec files, and what stands around a text.
+
+ghost use Rattle.drv_specs.specs.Blanks.{has_byte, is_blank, is_white};
+ghost use Rattle.drv_specs.specs.Lines.{is_empty_line, trimmed, without_end, without_front};
+ghost use Rattle.std.specs.Prelude.{◌≡◌, ◌-◌, drop, length, take};
+
+/// Whether a byte is a space or a tab.
+pub(crate) fn is_blank(byte: u8) -> bool
+    ensures { result ≡ is_blank byte }
+{
+    byte == b' ' || byte == b'\t'
+}
+
+/// Whether a byte is a blank or a newline.
+pub(crate) fn is_white(byte: u8) -> bool
+    ensures { result ≡ is_white byte }
+{
+    is_blank(byte) || byte == b'\n'
+}
+
+/// Whether a text has any byte.
+pub(crate) fn has_byte(text: &[u8]) -> bool
+    ensures { result ≡ has_byte text.now }
+{
+    !matches!(text, [])
+}
+
+/// Whether a line is empty or has blanks alone.
+pub(crate) fn is_empty_line(line: &[u8]) -> bool
+    ensures { result ≡ is_empty_line line.now }
+{
+    line.iter().all(|byte| is_blank(*byte))
+}
+
+/// A text without its last byte.
+pub(crate) fn without_last(text: &[u8]) -> &[u8]
+    ensures { result.now ≡ take (length text.now - 1) text.now }
+{
+    match text {
+        [] => text,
+        [front @ .., _] => front,
+    }
+}
+
+/// A text without the blanks at its front.
+pub(crate) fn without_blanks(text: &[u8]) -> &[u8]
+    ensures { result.now ≡ without_front is_blank text.now }
+{
+    let mut text = text;
+    while let [byte, rest @ ..] = text {
+        if !is_blank(*byte) {
+            return text;
+        }
+        text = rest;
+    }
+    text
+}
+
+/// A text without the white space at its front.
+pub(crate) fn without_white(text: &[u8]) -> &[u8]
+    ensures { result.now ≡ without_front is_white text.now }
+{
+    let mut text = text;
+    while let [byte, rest @ ..] = text {
+        if !is_white(*byte) {
+            return text;
+        }
+        text = rest;
+    }
+    text
+}
+
+/// A text without its first byte.
+pub(crate) fn without_first(text: &[u8]) -> &[u8]
+    ensures { result.now ≡ drop 1 text.now }
+{
+    match text {
+        [] => text,
+        [_, rest @ ..] => rest,
+    }
+}
+
+/// A text behind so many bytes.
+pub(crate) fn behind(text: &[u8], count: usize) -> &[u8]
+    ensures { result.now ≡ drop count text.now }
+{
+    if count <= text.len() {
+        &text[count..]
+    } else {
+        &[]
+    }
+}
+
+/// A text without the blanks at its end.
+#[tactic(auto, using(crate::proofs::Trimming::end_goes, crate::proofs::Trimming::end_stays, crate::proofs::Trimming::end_empty))]
+fn without_end_blanks(text: &[u8]) -> &[u8]
+    ensures { result.now ≡ without_end is_blank text.now }
+{
+    let mut end = text.len();
+    while end > 0 {
+        if !is_blank(text[end - 1]) {
+            return &text[..end];
+        }
+        end -= 1;
+    }
+    &[]
+}
+
+/// A text without the white space at its end.
+#[tactic(auto, using(crate::proofs::Trimming::end_goes, crate::proofs::Trimming::end_stays, crate::proofs::Trimming::end_empty))]
+pub(crate) fn without_end_white(text: &[u8]) -> &[u8]
+    ensures { result.now ≡ without_end is_white text.now }
+{
+    let mut end = text.len();
+    while end > 0 {
+        if !is_white(text[end - 1]) {
+            return &text[..end];
+        }
+        end -= 1;
+    }
+    &[]
+}
+
+/// A text without the blanks around it.
+pub(crate) fn trimmed(text: &[u8]) -> &[u8]
+    ensures { result.now ≡ trimmed text.now }
+{
+    without_end_blanks(without_blanks(text))
+}

@@ -1,0 +1,261 @@
+//! What a directive does to a set.
+
+ghost use Rattle.drv_specs.specs.Loading.{change};
+ghost use Rattle.drv_specs.specs.Sets.{append, begins_with_at, by_tree, is_alias, is_key, is_key_byte, is_key_text, is_name, is_name_byte, is_no_text, is_not_installed, is_sized, pair_text, put, Set, with_body, with_name, with_pair_body, with_pair_text, with_text};
+ghost use Rattle.drv_specs.specs.Blanks.{is_white};
+ghost use Rattle.drv_specs.specs.declared.fault.SpecsFault.TheVariants as fault;
+ghost use Rattle.drv_syntax.specs.Outcome.{parsed};
+ghost use Rattle.drv_words.specs.Gives.{Gives};
+ghost use Rattle.std.specs.List.{list_all};
+ghost use Rattle.std.specs.Prelude.{◌≡◌, IfOk};
+
+use crate::SpecsFault;
+use crate::bytes::{has_byte, is_blank, is_white, without_end_white, without_first};
+use crate::directive::Directive;
+use crate::entries::Entries;
+use crate::settling::ends_with_backslash;
+use crate::text::Text;
+use drv_syntax::{SyntaxFault, parse};
+use drv_words::Word;
+use std::alloc::{AllocError, Global};
+
+/// Whether a byte may stand in a name.
+fn is_name_byte(byte: u8) -> bool
+    ensures { result ≡ is_name_byte byte }
+{
+    byte.is_ascii_alphanumeric() || byte == b'_' || byte == b'.' || byte == b'+' || byte == b'-'
+}
+
+/// Whether a text is as long as a name may be.
+fn is_sized(name: &[u8]) -> bool
+    ensures { result ≡ is_sized name.now }
+{
+    has_byte(name) && name.len() <= 255
+}
+
+/// Whether all bytes may stand in a name.
+fn has_name_bytes(name: &[u8]) -> bool
+    ensures { result ≡ list_all is_name_byte name.now }
+{
+    name.iter().all(|byte| is_name_byte(*byte))
+}
+
+/// Whether a text is a name.
+fn is_name(name: &[u8]) -> bool
+    ensures { result ≡ is_name name.now }
+{
+    is_sized(name) && has_name_bytes(name)
+}
+
+/// Whether a byte may stand in a key.
+fn is_key_byte(byte: u8) -> bool
+    ensures { result ≡ is_key_byte byte }
+{
+    33 <= byte && byte <= 126 && byte != b':'
+}
+
+/// Whether a text begins with `@`.
+fn begins_with_at(text: &[u8]) -> bool
+    ensures { result ≡ begins_with_at text.now }
+{
+    matches!(text, [b'@', ..])
+}
+
+/// Whether all bytes may stand in a key.
+fn has_key_bytes(key: &[u8]) -> bool
+    ensures { result ≡ list_all is_key_byte key.now }
+{
+    key.iter().all(|byte| is_key_byte(*byte))
+}
+
+/// Whether a text of any length is a key.
+fn is_key_text(key: &[u8]) -> bool
+    ensures { result ≡ is_key_text key.now }
+{
+    if begins_with_at(key) {
+        return is_name(without_first(key));
+    }
+    has_byte(key) && has_key_bytes(key)
+}
+
+/// Whether a text is a key.
+fn is_key(key: &[u8]) -> bool
+    ensures { result ≡ is_key key.now }
+{
+    key.len() <= 255 && is_key_text(key)
+}
+
+/// Whether a pair's text says that a language isn't installed.
+fn is_not_installed(text: &[u8]) -> bool
+    ensures { result ≡ is_not_installed text.now }
+{
+    matches!(text, [b'#', ..])
+}
+
+/// Whether a pair's text is an alias.
+fn is_alias(text: &[u8]) -> bool
+    ensures { result ≡ is_alias text.now }
+{
+    match text {
+        [b'@', name @ ..] => is_name(name),
+        _ => false,
+    }
+}
+
+/// Whether a pair's text is none that is worked.
+fn is_no_text(text: &[u8]) -> bool
+    ensures { result ≡ is_no_text text.now }
+{
+    is_not_installed(text) || is_alias(text)
+}
+
+/// Whether a text is white space alone.
+fn is_all_white(text: &[u8]) -> bool
+    ensures { result ≡ list_all is_white text.now }
+{
+    text.iter().all(|byte| is_white(*byte))
+}
+
+/// The text of a pair's body.
+fn pair_text(alloc: Global, body: Word) -> Result<Word, AllocError>
+    ensures { IfOk result (λ text. text ≡ pair_text body) }
+{
+    let text = without_end_white(body.as_bytes());
+    if is_no_text(text) {
+        return Word::from_bytes(alloc, text);
+    }
+    Ok(body)
+}
+
+/// The tree of a text, which is refused if it has none.
+#[tactic(auto, using(crate::proofs::TreeChecks::tree_given, crate::proofs::TreeChecks::tree_refused))]
+fn parsed_text(alloc: Global, name: &Word, text: &[u8]) -> Result<Text, SpecsFault>
+    ensures tree { (set : Set) → Gives fault.Memory (λ _. set) result (by_tree name.now set (parsed text.now)) }
+    ensures text { IfOk result (λ parsed. parsed ≡ text.now) }
+{
+    match parse(alloc, text) {
+        Ok(tree) => Ok(Text::new(alloc, tree)?),
+        Err(SyntaxFault::Memory) => Err(SpecsFault::Memory),
+        Err(fault) => Err(SpecsFault::Syntax {
+            name: name.clone()?,
+            fault,
+        }),
+    }
+}
+
+impl Entries {
+    /// Puts a text that has a tree.
+    pub(crate) fn put(&mut self, name: Word, text: &[u8]) -> Result<(), SpecsFault>
+        ensures { Gives fault.Memory (λ _. self.new) result (put self.old name text.now) }
+    {
+        let text = parsed_text(self.alloc(), &name, text)?;
+        self.insert(name.as_bytes(), text)?;
+        Ok(())
+    }
+
+    /// Adds to a text.
+    fn append(&mut self, name: Word, addition: &[u8]) -> Result<(), SpecsFault>
+        ensures { Gives fault.Memory (λ _. self.new) result (append self.old name addition.now) }
+    {
+        if is_all_white(addition) {
+            return Ok(());
+        }
+        let text = self.appended(name.as_bytes(), addition)?;
+        self.put(name, text.as_bytes())
+    }
+
+    /// Does what a body says to a name.
+    fn put_body(&mut self, name: Word, body: Word) -> Result<(), SpecsFault>
+        ensures { Gives fault.Memory (λ _. self.new) result (with_body self.old name body) }
+    {
+        match body.as_bytes() {
+            [] => {
+                self.remove(name.as_bytes());
+                Ok(())
+            }
+            [b'+', blank, ..] if is_blank(*blank) => {
+                self.append(name, without_first(body.as_bytes()))
+            }
+            text => self.put(name, text),
+        }
+    }
+
+    /// Carries out a name with its body.
+    fn put_text(&mut self, name: Word, body: Word) -> Result<(), SpecsFault>
+        ensures { Gives fault.Memory (λ _. self.new) result (with_text self.old name body) }
+    {
+        if !is_name(name.as_bytes()) {
+            return Err(SpecsFault::BadName(name));
+        }
+        if ends_with_backslash(body.as_bytes()) {
+            return Err(SpecsFault::TrailingBackslash(name));
+        }
+        self.put_body(name, body)
+    }
+
+    /// Adds a pair of this text.
+    pub(crate) fn add_pair_text(&mut self, key: Word, text: Word) -> Result<(), SpecsFault>
+        ensures { Gives fault.Memory (λ _. self.new) result (with_pair_text self.old key text) }
+    {
+        if ends_with_backslash(text.as_bytes()) {
+            return Err(SpecsFault::TrailingBackslash(key));
+        }
+        if begins_with_at(key.as_bytes()) && begins_with_at(text.as_bytes()) {
+            return Err(SpecsFault::AliasOfAlias(key));
+        }
+        if is_no_text(text.as_bytes()) {
+            self.push_pair(key, text, None)?;
+            return Ok(());
+        }
+        let tree = parsed_text(self.alloc(), &key, text.as_bytes())?;
+        self.push_pair(key, text, Some(tree))?;
+        Ok(())
+    }
+
+    /// Carries out a key with its body.
+    fn add_pair(&mut self, key: Word, body: Word) -> Result<(), SpecsFault>
+        ensures { Gives fault.Memory (λ _. self.new) result (with_pair_body self.old key body) }
+    {
+        if !is_key(key.as_bytes()) {
+            return Err(SpecsFault::BadName(key));
+        }
+        let text = pair_text(self.alloc(), body)?;
+        self.add_pair_text(key, text)
+    }
+
+    /// Carries out a `%rename`.
+    fn give_name(&mut self, old: Word, new: Word) -> Result<(), SpecsFault>
+        ensures { Gives fault.Memory (λ _. self.new) result (with_name self.old old new) }
+    {
+        if !is_name(old.as_bytes()) {
+            return Err(SpecsFault::BadName(old));
+        }
+        if !is_name(new.as_bytes()) {
+            return Err(SpecsFault::BadName(new));
+        }
+        if !self.has(old.as_bytes()) {
+            return Err(SpecsFault::RenameMissing(old));
+        }
+        if old == new {
+            return Ok(());
+        }
+        if self.has(new.as_bytes()) {
+            return Err(SpecsFault::RenameTaken(new));
+        }
+        self.rename(old.as_bytes(), new.as_bytes())?;
+        Ok(())
+    }
+
+    /// Carries out a directive that reads no file.
+    pub(crate) fn change(&mut self, directive: Directive) -> Result<(), SpecsFault>
+        ensures { Gives fault.Memory (λ _. self.new) result (change self.old directive) }
+    {
+        match directive {
+            Directive::Text { name, body } => self.put_text(name, body),
+            Directive::Pair { key, body } => self.add_pair(key, body),
+            Directive::Rename { old, new } => self.give_name(old, new),
+            Directive::Include { .. } => Ok(()),
+            Directive::Bad(n) => Err(SpecsFault::BadLine(n)),
+        }
+    }
+}

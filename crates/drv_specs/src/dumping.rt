@@ -1,0 +1,63 @@
+//! The text of a set.
+
+ghost use Rattle.drv_specs.specs.Dumping.{dumped, entry_text, named_text};
+ghost use Rattle.drv_specs.specs.Keyed.{entries_of};
+ghost use Rattle.std.specs.Prelude.{◌≡◌, ◌++◌, IfOk, OnOk, flat_map};
+
+use crate::SpecSet;
+use crate::text::Text;
+use drv_words::Word;
+use indexmap::IndexMap;
+use std::alloc::AllocError;
+
+/// Adds an entry: its key, a colon, and its text on lines of its own.
+fn push_entry(dump: &mut Word, key: &[u8], text: &[u8]) -> Result<(), AllocError>
+    ensures { OnOk result (dump.new ≡ dump.old ++ entry_text (key.now, text.now)) }
+{
+    dump.extend_from_slice(key)?;
+    dump.extend_from_slice(b":\n")?;
+    dump.extend_from_slice(text)?;
+    dump.extend_from_slice(b"\n\n")?;
+    Ok(())
+}
+
+/// Adds a named text.
+fn push_named(dump: &mut Word, name: &[u8], text: &[u8]) -> Result<(), AllocError>
+    ensures { OnOk result (dump.new ≡ dump.old ++ named_text (name.now, text.now)) }
+{
+    dump.push(b'*')?;
+    push_entry(dump, name, text)
+}
+
+/// Adds the named texts.
+fn push_texts(dump: &mut Word, named: &IndexMap<Vec<u8>, Text>) -> Result<(), AllocError>
+    ensures { OnOk result (dump.new ≡ dump.old ++ flat_map named_text (entries_of named.now.entries)) }
+{
+    for (name, text) in named.iter() {
+        push_named(dump, name.as_slice(), text.tree().text())?;
+    }
+    Ok(())
+}
+
+/// Adds pairs.
+fn push_pairs(dump: &mut Word, pairs: &[(Word, Word)]) -> Result<(), AllocError>
+    ensures { OnOk result (dump.new ≡ dump.old ++ flat_map entry_text pairs.now) }
+{
+    for (key, text) in pairs {
+        push_entry(dump, key.as_bytes(), text.as_bytes())?;
+    }
+    Ok(())
+}
+
+impl SpecSet {
+    /// The text of the set: its named texts and then its pairs, each with its name and a colon on a line before it and
+    /// an empty line behind it (GCC manual, "-dumpspecs"). Want of memory is the only error.
+    pub fn dump(&self) -> Result<Word, AllocError>
+        ensures { IfOk result (λ text. text ≡ dumped self.now) }
+    {
+        let mut dump = Word::empty(self.entries.alloc());
+        push_texts(&mut dump, self.entries.named())?;
+        push_pairs(&mut dump, self.pairs())?;
+        Ok(dump)
+    }
+}

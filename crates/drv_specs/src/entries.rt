@@ -1,0 +1,204 @@
+//! Named texts and suffix pairs, as the directives of a file change them.
+
+ghost use Rattle.drv_specs.specs.Keyed.{entries_of};
+ghost use Rattle.drv_specs.specs.Sets.{appended_text, deleted, no_specs, text_of, with_named, with_pair, worked_text};
+ghost use Rattle.std.specs.Cmp.Lexicographic.{pointwise};
+ghost use Rattle.std.specs.Map.{set_key};
+ghost use Rattle.std.specs.Option.{option_map};
+ghost use Rattle.std.specs.Prelude.{◌≡◌, ◌++◌, IfOk, None, OnOk, is_some, nat_eq, option_and_then, slice_get};
+
+use crate::bytes::without_white;
+use crate::text::Text;
+use drv_words::{Listing, Word};
+use indexmap::IndexMap;
+use std::alloc::{AllocError, Global};
+use std::marker::Model;
+
+/// Named texts in order, and suffix pairs in order with the tree of each text that is worked. Contracts see the two lists.
+#[derive(Drop)]
+pub(crate) struct Entries {
+    alloc: Global,
+    named: IndexMap<Vec<u8>, Text>,
+    pairs: Listing<(Word, Word)>,
+    trees: Vec<Option<Text>>,
+}
+
+impl Model for Entries {
+    ghost use Rattle.drv_specs.specs.Keyed.{entries_of};
+    ghost use Rattle.drv_specs.specs.Sets.{Set, worked_text};
+    ghost use Rattle.std.specs.Prelude.{◌≡◌, map};
+
+    ghost Value = { Set };
+
+    ghost view = { λ e. record { named = entries_of e.named.entries; pairs = e.pairs } };
+
+    ghost invariant = { λ e. e.trees.items ≡ map worked_text e.pairs };
+}
+
+/// A text and another behind it.
+fn joined(alloc: Global, front: &[u8], back: &[u8]) -> Result<Word, AllocError>
+    ensures { IfOk result (λ text. text ≡ front.now ++ back.now) }
+{
+    let mut text = Word::from_bytes(alloc, front)?;
+    text.extend_from_slice(back)?;
+    Ok(text)
+}
+
+/// Copies of pairs.
+fn copied_pairs(alloc: Global, pairs: &[(Word, Word)]) -> Result<Listing<(Word, Word)>, AllocError>
+    ensures { IfOk result (λ copies. copies ≡ pairs.now) }
+{
+    let mut copies = Listing::new(alloc);
+    for (key, text) in pairs {
+        copies.push((key.clone()?, text.clone()?))?;
+    }
+    Ok(copies)
+}
+
+/// A copy of a text, if there is one.
+fn copied_text(text: &Option<Text>) -> Result<Option<Text>, AllocError>
+    ensures { IfOk result (λ copy. copy ≡ text.now) }
+{
+    match text {
+        Some(text) => Ok(Some(text.clone()?)),
+        None => Ok(None),
+    }
+}
+
+/// Copies of texts.
+fn copied_texts(alloc: Global, texts: &[Option<Text>]) -> Result<Vec<Option<Text>>, AllocError>
+    ensures { IfOk result (λ copies. copies.items ≡ texts.now) }
+{
+    let mut copies = Vec::new(alloc);
+    for text in texts {
+        copies.push(copied_text(text)?)?;
+    }
+    Ok(copies)
+}
+
+impl Entries {
+    /// None, which takes no memory.
+    pub(crate) fn empty(alloc: Global) -> Entries
+        ensures { result ≡ no_specs }
+    {
+        Entries {
+            alloc,
+            named: IndexMap::new(alloc),
+            pairs: Listing::new(alloc),
+            trees: Vec::new(alloc),
+        }
+    }
+
+    /// The allocator.
+    pub(crate) fn alloc(&self) -> Global {
+        self.alloc
+    }
+
+    /// The named texts.
+    pub(crate) fn named(&self) -> &IndexMap<Vec<u8>, Text>
+        ensures { entries_of result.now.entries ≡ self.now.named }
+    {
+        &self.named
+    }
+
+    /// The suffix pairs.
+    pub(crate) fn pairs(&self) -> &[(Word, Word)]
+        ensures { result.now ≡ self.now.pairs }
+    {
+        self.pairs.as_slice()
+    }
+
+    /// The text of a name.
+    pub(crate) fn text(&self, name: &[u8]) -> Option<&Text>
+        ensures { option_map (λ text. text.now) result ≡ text_of self.now name.now }
+    {
+        self.named.get(name)
+    }
+
+    /// Whether a text has this name.
+    pub(crate) fn has(&self, name: &[u8]) -> bool
+        ensures { result ≡ is_some (text_of self.now name.now) }
+    {
+        self.named.contains_key(name)
+    }
+
+    /// The text of the pair at a place, where it is one that is worked.
+    pub(crate) fn pair_text(&self, place: usize) -> Option<&Text>
+        ensures { option_map (λ text. text.now) result ≡ option_and_then worked_text (slice_get self.now.pairs place) }
+    {
+        match self.trees.get(place) {
+            Some(Some(text)) => Some(text),
+            _ => None,
+        }
+    }
+
+    /// The text that comes of adding to the text of a name.
+    pub(crate) fn appended(&self, name: &[u8], addition: &[u8]) -> Result<Word, AllocError>
+        ensures { IfOk result (λ text. text ≡ appended_text (text_of self.now name.now) addition.now) }
+    {
+        match self.text(name) {
+            Some(text) => joined(self.alloc, text.tree().text(), addition),
+            None => joined(self.alloc, b" ", without_white(addition)),
+        }
+    }
+
+    /// Puts a text under a name: a name that is there keeps its place, a new one goes last.
+    pub(crate) fn insert(&mut self, name: &[u8], text: Text) -> Result<(), AllocError>
+        ensures { OnOk result (self.new ≡ with_named self.old name.now text) }
+    {
+        let key = name.to_vec(self.alloc)?;
+        self.named.insert(key, text)?;
+        Ok(())
+    }
+
+    /// Takes a name away, if it is there.
+    pub(crate) fn remove(&mut self, name: &[u8])
+        ensures { self.new ≡ deleted self.old name.now }
+    {
+        self.named.shift_remove(name);
+    }
+
+    /// Adds a pair at the end, with its text where that is one that is worked.
+    pub(crate) fn push_pair(
+        &mut self,
+        key: Word,
+        text: Word,
+        tree: Option<Text>,
+    ) -> Result<(), AllocError>
+        requires { tree ≡ worked_text (key, text) }
+        ensures { OnOk result (self.new ≡ with_pair self.old key text) }
+    {
+        self.trees.reserve(1)?;
+        self.pairs.push((key, text))?;
+        self.trees.push(tree)?;
+        Ok(())
+    }
+
+    /// A copy, which shares the trees.
+    #[tactic(auto, using(crate::proofs::Keys::entries_copied))]
+    pub(crate) fn copied(&self) -> Result<Entries, AllocError>
+        ensures { IfOk result (λ copy. copy ≡ self.now) }
+    {
+        Ok(Entries {
+            alloc: self.alloc,
+            named: self.named.clone()?,
+            pairs: copied_pairs(self.alloc, self.pairs.as_slice())?,
+            trees: copied_texts(self.alloc, self.trees.as_slice())?,
+        })
+    }
+
+    /// Gives a text a new name, in its place: under the new name it goes last, and from there to the place of the old one.
+    pub(crate) fn rename(&mut self, old: &[u8], new: &[u8]) -> Result<(), AllocError>
+        requires { text_of self.old new.now ≡ None }
+        ensures { OnOk result (self.new ≡ record self.old { named = set_key (pointwise nat_eq old.now) self.old.named new.now }) }
+    {
+        let Some(text) = self.named.get(old) else {
+            return Ok(());
+        };
+        let text = text.clone()?;
+        let key = new.to_vec(self.alloc)?;
+        self.named.insert(key, text)?;
+        self.named.swap_remove(old);
+        Ok(())
+    }
+}

@@ -1,0 +1,22 @@
+//! Spec files: named texts and suffix pairs, loaded and dumped.
+#![tactic(auto)]
+
+mod builtin_specs;
+mod bytes;
+mod changing;
+mod directive;
+mod dumping;
+mod entries;
+mod fault;
+mod laws;
+mod line;
+mod loading;
+mod reading;
+mod set;
+mod settling;
+mod text;
+
+pub use builtin_specs::builtin;
+pub use fault::SpecsFault;
+pub use laws::dump_reloads;
+pub use set::SpecSet;

@@ -1,0 +1,170 @@
+//! Spec files loaded.
+
+ghost use Rattle.drv_specs.specs.Directives.{directives_of};
+ghost use Rattle.drv_specs.specs.Loading.{all_carried, file_loaded, file_text, including, loaded, text_read, worked};
+ghost use Rattle.drv_specs.specs.declared.fault.SpecsFault.TheVariants as fault;
+ghost use Rattle.drv_system.specs.Asking.{Asks, Extends};
+ghost use Rattle.drv_system.specs.Facts.{Facts};
+ghost use Rattle.drv_system.specs.Gives.{GivesKnown};
+ghost use Rattle.drv_words.specs.Gives.{Gives};
+ghost use Rattle.std.specs.Prelude.{◌≡◌, OnErr};
+
+use crate::directive::Directive;
+use crate::entries::Entries;
+use crate::reading::directives;
+use crate::{SpecSet, SpecsFault};
+use drv_search::{Prefixes, find_file};
+use drv_system::{FactTable, ReadAnswer, System};
+use drv_words::Word;
+use std::alloc::Global;
+
+/// How many files may be read in one call.
+const MOST_FILES: usize = 2000;
+
+/// How deep files may stand in one another.
+const MOST_LEVELS: usize = 16;
+
+/// The text that an answer gives.
+fn text_read(
+    alloc: Global,
+    pass_missing: bool,
+    path: Word,
+    answer: &ReadAnswer,
+) -> Result<Word, SpecsFault>
+    ensures { Gives fault.Memory (λ text. text) result (text_read pass_missing path answer.now) }
+{
+    match answer {
+        ReadAnswer::Read(text) => Ok(text.clone()?),
+        ReadAnswer::Missing if pass_missing => Ok(Word::empty(alloc)),
+        ReadAnswer::Missing => Err(SpecsFault::NoSuchFile(path)),
+        ReadAnswer::Failed | ReadAnswer::TooLarge => Err(SpecsFault::Unreadable(path)),
+    }
+}
+
+/// The text that a spec file gives.
+#[tactic(auto, using(crate::proofs::Asked::asks_further))]
+fn file_text<S: System>(
+    alloc: Global,
+    pass_missing: bool,
+    name: &Word,
+    prefixes: &Prefixes,
+    sys: &mut S,
+    facts: &mut FactTable,
+) -> Result<Word, SpecsFault>
+    ensures asks { Asks (S.events sys.old) (S.events sys.new) facts.old facts.new }
+    ensures text { (F : Facts) → Extends facts.new F → GivesKnown fault.Memory (λ text. text) result (file_text F prefixes.now pass_missing name.now) }
+{
+    let path = find_file(alloc, prefixes, name, sys, facts)?;
+    facts.read(sys, &path)?;
+    let answer = facts.read_answer(&path);
+    text_read(alloc, pass_missing, path, answer)
+}
+
+/// Carries out the directives of a text, in which so many more files may stand in one another.
+#[tactic(auto, using(crate::proofs::Asked::asks_further))]
+fn carry_out<S: System>(
+    entries: &mut Entries,
+    files: &mut usize,
+    levels: usize,
+    text: &[u8],
+    prefixes: &Prefixes,
+    sys: &mut S,
+    facts: &mut FactTable,
+) -> Result<(), SpecsFault>
+    ensures asks { Asks (S.events sys.old) (S.events sys.new) facts.old facts.new }
+    ensures carried { (F : Facts) → Extends facts.new F → GivesKnown fault.Memory (λ _. record { set = entries.new; files = files.new }) result (all_carried (including F prefixes.now levels) (record { set = entries.old; files = files.old }) (directives_of text.now)) }
+{
+    let mut left = directives(entries.alloc(), text)?.into_vec();
+    left.reverse();
+    while let Some(directive) = left.pop() {
+        match directive {
+            Directive::Include { pass_missing, file } => {
+                if levels == 0 {
+                    return Err(SpecsFault::IncludeTooDeep);
+                }
+                if *files == 0 {
+                    return Err(SpecsFault::TooManyIncludes);
+                }
+                *files -= 1;
+                let text = file_text(entries.alloc(), pass_missing, &file, prefixes, sys, facts)?;
+                carry_out(
+                    entries,
+                    files,
+                    levels - 1,
+                    text.as_bytes(),
+                    prefixes,
+                    sys,
+                    facts,
+                )?;
+            }
+            other => entries.change(other)?,
+        }
+    }
+    Ok(())
+}
+
+impl SpecSet {
+    /// Carries out the directives of a text, in which so many more files may be read, on a copy that then takes the place of
+    /// the set.
+    #[tactic(auto, using(crate::proofs::Asked::asks_further))]
+    fn work<S: System>(
+        &mut self,
+        files: usize,
+        text: &[u8],
+        prefixes: &Prefixes,
+        sys: &mut S,
+        facts: &mut FactTable,
+    ) -> Result<(), SpecsFault>
+        ensures asks { Asks (S.events sys.old) (S.events sys.new) facts.old facts.new }
+        ensures works { (F : Facts) → Extends facts.new F → GivesKnown fault.Memory (λ _. self.new) result (worked F prefixes.now self.old files text.now) }
+        ensures kept { OnErr result (self.new ≡ self.old) }
+    {
+        let mut draft = self.entries.copied()?;
+        let mut files = files;
+        let levels = MOST_LEVELS - 1;
+        carry_out(&mut draft, &mut files, levels, text, prefixes, sys, facts)?;
+        self.entries = draft;
+        Ok(())
+    }
+
+    /// Carries out the directives of a text (GCC manual, "Spec Files"). After an error the set is as it was.
+    ///
+    /// # Errors
+    /// The first refusal in the order of the lines, those of included files in their places: `BadLine`, `BadName`,
+    /// `TrailingBackslash`, `AliasOfAlias`, `RenameMissing`, `RenameTaken`, `Syntax`, `IncludeTooDeep`,
+    /// `TooManyIncludes`, `NoSuchFile` and `Unreadable`.
+    #[tactic(auto, unfolding(crate::specs::Loading::loaded))]
+    pub fn load<S: System>(
+        &mut self,
+        text: &[u8],
+        prefixes: &Prefixes,
+        sys: &mut S,
+        facts: &mut FactTable,
+    ) -> Result<(), SpecsFault>
+        ensures asks { Asks (S.events sys.old) (S.events sys.new) facts.old facts.new }
+        ensures loads { (F : Facts) → Extends facts.new F → GivesKnown fault.Memory (λ _. self.new) result (loaded F prefixes.now self.old text.now) }
+        ensures kept { OnErr result (self.new ≡ self.old) }
+    {
+        self.work(MOST_FILES, text, prefixes, sys, facts)
+    }
+
+    /// Carries out the directives of the file of this name, found as libraries are. After an error the set is as it was.
+    ///
+    /// # Errors
+    /// Those of `load`. The file counts as one that is read, and is the first of those that stand in one another.
+    #[tactic(auto, using(crate::proofs::Asked::asks_further))]
+    pub fn load_file<S: System>(
+        &mut self,
+        name: &Word,
+        prefixes: &Prefixes,
+        sys: &mut S,
+        facts: &mut FactTable,
+    ) -> Result<(), SpecsFault>
+        ensures asks { Asks (S.events sys.old) (S.events sys.new) facts.old facts.new }
+        ensures loads { (F : Facts) → Extends facts.new F → GivesKnown fault.Memory (λ _. self.new) result (file_loaded F prefixes.now self.old name.now) }
+        ensures kept { OnErr result (self.new ≡ self.old) }
+    {
+        let text = file_text(self.entries.alloc(), false, name, prefixes, sys, facts)?;
+        self.work(MOST_FILES - 1, text.as_bytes(), prefixes, sys, facts)
+    }
+}

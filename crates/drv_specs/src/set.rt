@@ -1,0 +1,74 @@
+//! Spec sets: named texts and suffix pairs.
+
+ghost use Rattle.drv_specs.specs.Sets.{no_specs, text_of, worked_text};
+ghost use Rattle.std.specs.Option.{option_map};
+ghost use Rattle.std.specs.Prelude.{◌≡◌, option_and_then, slice_get};
+
+use crate::entries::Entries;
+use drv_syntax::SpecTree;
+use drv_words::Word;
+use std::alloc::Global;
+use std::marker::Model;
+
+/// Named texts in order and suffix pairs in order, each text that is worked with its tree. Contracts see the two lists.
+#[derive(Drop)]
+pub struct SpecSet {
+    pub(crate) entries: Entries,
+}
+
+impl Model for SpecSet {
+    ghost use Rattle.drv_specs.specs.Sets.{Set};
+
+    ghost Value = { Set };
+
+    ghost view = { λ s. s.entries };
+}
+
+impl SpecSet {
+    /// The set without texts and pairs, which takes no memory.
+    pub fn empty(alloc: Global) -> SpecSet
+        ensures { result ≡ no_specs }
+    {
+        SpecSet {
+            entries: Entries::empty(alloc),
+        }
+    }
+
+    /// The text of a name. It takes no memory.
+    pub fn text(&self, name: &[u8]) -> Option<&[u8]>
+        ensures { option_map (λ text. text.now) result ≡ text_of self.now name.now }
+    {
+        match self.entries.text(name) {
+            Some(text) => Some(text.tree().text()),
+            None => None,
+        }
+    }
+
+    /// The text of a name, with its tree. It takes no memory.
+    pub fn tree(&self, name: &[u8]) -> Option<&SpecTree>
+        ensures { option_map (λ tree. tree.now) result ≡ text_of self.now name.now }
+    {
+        match self.entries.text(name) {
+            Some(text) => Some(text.tree()),
+            None => None,
+        }
+    }
+
+    /// The suffix pairs: a suffix, or `@` and a language, and a text. It takes no memory.
+    pub fn pairs(&self) -> &[(Word, Word)]
+        ensures { result.now ≡ self.now.pairs }
+    {
+        self.entries.pairs()
+    }
+
+    /// The text of the pair at a place, with its tree, unless it is an alias or says that a language isn't installed. It
+    /// takes no memory.
+    pub fn pair_tree(&self, place: usize) -> Option<&SpecTree>
+        ensures { option_map (λ tree. tree.now) result ≡ option_and_then worked_text (slice_get self.now.pairs place) }
+    {
+        match self.entries.pair_text(place) {
+            Some(text) => Some(text.tree()),
+            None => None,
+        }
+    }
+}

@@ -1,0 +1,41 @@
+//! A spec file's text without carriage returns and continued lines.
+
+ghost use Rattle.drv_words.specs.Bytes.{backslash};
+ghost use Rattle.drv_specs.specs.Lines.{joined_onto, settled};
+ghost use Rattle.std.specs.List.{ends_with};
+ghost use Rattle.std.specs.Prelude.{◌≡◌, ◌∷◌, [], IfOk, OnOk, nat_eq};
+
+use std::alloc::{AllocError, Global};
+
+/// Whether a text ends with a backslash.
+pub(crate) fn ends_with_backslash(text: &[u8]) -> bool
+    ensures { result ≡ ends_with nat_eq text.now (backslash ∷ []) }
+{
+    text.ends_with(b"\\")
+}
+
+/// Puts a byte behind a text.
+fn join_onto(text: &mut Vec<u8>, byte: u8) -> Result<(), AllocError>
+    ensures { OnOk result (text.new.items ≡ joined_onto text.old.items byte) }
+{
+    if byte == b'\n' && ends_with_backslash(text.as_slice()) {
+        text.pop();
+        return Ok(());
+    }
+    text.push(byte)?;
+    Ok(())
+}
+
+/// What is left of a spec file's text.
+pub(crate) fn settled(alloc: Global, text: &[u8]) -> Result<Vec<u8>, AllocError>
+    ensures { IfOk result (λ left. left.items ≡ settled text.now) }
+{
+    let mut left = Vec::new(alloc);
+    for &byte in text {
+        if byte == b'\r' {
+            continue;
+        }
+        join_onto(&mut left, byte)?;
+    }
+    Ok(left)
+}
