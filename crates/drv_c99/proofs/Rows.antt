@@ -1,0 +1,70 @@
+use Rattle.drv_c99.specs.Front.{front_of}
+use Rattle.drv_c99.specs.declared.fault.C99Fault.TheVariants.{BadLevel, MissingArgument, NoOperand, UnknownOption}
+use Rattle.drv_c99.specs.declared.fault.C99Fault.{C99Fault}
+use Rattle.drv_words.specs.Bytes.{space}
+use Rattle.std.proofs.Common.{◌≡◌, ◌==◌, List, [], ◌∷◌, codes, refl, ℕ}
+use Rattle.std.specs.List.{slice_split}
+use Rattle.std.specs.Prelude.{Err, Ok, Result}
+
+-- Worked lines of c99, by computation.
+
+-- in a text of words each blank stands between two
+abbrev words : List ℕ → List (List ℕ)
+words text = slice_split (λ b. b == space) text
+
+abbrev front : List ℕ → Result (List (List ℕ)) C99Fault
+front text = front_of (words text)
+
+abbrev gives : List ℕ → Result (List (List ℕ)) C99Fault
+gives text = Ok (words text)
+
+all_kinds : front (codes "-U A -D A=1 x.c -l m -o p -###") ≡ gives (codes "-std=c99 -D A=1 -U A x.c -lm -o p -###")
+all_kinds = refl
+
+behind_the_end : front (codes "-- -l m -q.c") ≡ gives (codes "-std=c99 -lm ./-q.c")
+behind_the_end = refl
+
+joined : front (codes "-U A x.c -DA -LB") ≡ gives (codes "-std=c99 -D A -U A x.c -L B")
+joined = refl
+
+hyphens_behind_the_end : front (codes "-c -- - -### -- -") ≡ gives (codes "-std=c99 -c ./- ./-### ./-- ./-")
+hyphens_behind_the_end = refl
+
+standard_input : front (codes "-E -g -s -") ≡ gives (codes "-std=c99 -E -g -s -")
+standard_input = refl
+
+levels : front (codes "-O0 -O 1 -I d x.c") ≡ gives (codes "-std=c99 -O0 -O1 -I d x.c")
+levels = refl
+
+library_alone : front (codes "-lm") ≡ gives (codes "-std=c99 -lm")
+library_alone = refl
+
+empty_argument : front_of (codes "-o" ∷ [] ∷ codes "x.c" ∷ []) ≡ Ok (codes "-std=c99" ∷ codes "-o" ∷ [] ∷ codes "x.c" ∷ [])
+empty_argument = refl
+
+grouped_letters : front (codes "-cO x.c") ≡ Err (UnknownOption (codes "-cO"))
+grouped_letters = refl
+
+jobs : front (codes "--jobs=2 x.c") ≡ Err (UnknownOption (codes "--jobs=2"))
+jobs = refl
+
+level_two : front (codes "-O 2 x.c") ≡ Err (BadLevel (codes "2"))
+level_two = refl
+
+level_joined : front (codes "-O2 x.c") ≡ Err (BadLevel (codes "2"))
+level_joined = refl
+
+no_operand : front (codes "-c") ≡ Err NoOperand
+no_operand = refl
+
+no_word : front_of [] ≡ Err NoOperand
+no_word = refl
+
+no_macro : front (codes "-D") ≡ Err (MissingArgument (codes "-D"))
+no_macro = refl
+
+no_library : front_of (codes "-l" ∷ [] ∷ codes "x.c" ∷ []) ≡ Err (MissingArgument (codes "-l"))
+no_library = refl
+
+first_fault : front (codes "-q -O 2 -o") ≡ Err (UnknownOption (codes "-q"))
+first_fault = refl

@@ -1,0 +1,130 @@
+use Rattle.drv_c99.specs.Building.{finished, front_with, noted, with_items}
+use Rattle.drv_c99.specs.Front.{Ends, Flag, Item, Joined, Names, Operand, Passed, Start, Unknown, Wants, and_items, at_last, at_word, given, items_of, name_of, start_of}
+use Rattle.drv_c99.specs.declared.building.Front.{Front}
+use Rattle.drv_c99.specs.declared.fault.C99Fault.TheVariants.{Memory}
+use Rattle.drv_c99.specs.declared.fault.C99Fault.{C99Fault}
+use Rattle.drv_c99.specs.declared.option.Taking.{Taking}
+use Rattle.drv_words.specs.Gives.{Gives}
+use Rattle.std.specs.Prelude.{IsErrAnd}
+use Rattle.std.proofs.Common.{◌≡◌, ◌⊎◌, ◌≤◌, ◌-◌, Bool, inl, inr, List, arith, drop, get_or, length, take, [], ◌∷◌, ◌++◌, Err, Ok, Result, ap, append_assoc, false, refl, sym, true, ◌∙◌, ℕ}
+use Rattle.std.proofs.Math.Bool.{or_assoc, or-false}
+use Rattle.std.proofs.lemmas.List.{append-nil, take_all}
+
+-- A line of c99, word by word.
+
+-- What the first word comes to, by how it begins.
+
+flag_first : (ended : Bool) (w : List ℕ) (words : List (List ℕ)) → start_of ended w ≡ Flag → items_of ended (w ∷ words) ≡ and_items (Ok (Passed (w ∷ []))) (items_of ended words)
+flag_first ended w [] starts = ap (λ s. at_last s w) starts
+flag_first ended w (n ∷ words) starts = ap (λ s. at_word s w n (items_of ended (n ∷ words)) (items_of ended words) (items_of true (n ∷ words))) starts
+
+names_first : (ended : Bool) (prefix w : List ℕ) (words : List (List ℕ)) → start_of ended w ≡ Names prefix → items_of ended (w ∷ words) ≡ and_items (Ok (Operand (prefix ++ w))) (items_of ended words)
+names_first ended prefix w [] starts = ap (λ s. at_last s w) starts
+names_first ended prefix w (n ∷ words) starts = ap (λ s. at_word s w n (items_of ended (n ∷ words)) (items_of ended words) (items_of true (n ∷ words))) starts
+
+joined_first : (ended : Bool) (option : Taking) (argument w : List ℕ) (words : List (List ℕ)) → start_of ended w ≡ Joined option argument → items_of ended (w ∷ words) ≡ and_items (given option argument) (items_of ended words)
+joined_first ended option argument w [] starts = ap (λ s. at_last s w) starts
+joined_first ended option argument w (n ∷ words) starts = ap (λ s. at_word s w n (items_of ended (n ∷ words)) (items_of ended words) (items_of true (n ∷ words))) starts
+
+wants_first : (ended : Bool) (option : Taking) (w n : List ℕ) (words : List (List ℕ)) → start_of ended w ≡ Wants option → items_of ended (w ∷ n ∷ words) ≡ and_items (given option n) (items_of ended words)
+wants_first ended option w n words starts = ap (λ s. at_word s w n (items_of ended (n ∷ words)) (items_of ended words) (items_of true (n ∷ words))) starts
+
+ends_first : (ended : Bool) (w : List ℕ) (words : List (List ℕ)) → start_of ended w ≡ Ends → items_of ended (w ∷ words) ≡ items_of true words
+ends_first ended w [] starts = ap (λ s. at_last s w) starts
+ends_first ended w (n ∷ words) starts = ap (λ s. at_word s w n (items_of ended (n ∷ words)) (items_of ended words) (items_of true (n ∷ words))) starts
+
+-- An item noted first is what all items hold first.
+
+note_items : (f : Front) (i : Item) (items : List Item) → with_items (with_items f (i ∷ [])) items ≡ with_items f (i ∷ items)
+note_items f i items = simp (append_assoc, or_assoc, append-nil, or-false) (cc)
+
+note_rest : (f f' : Front) (r : Result Item C99Fault) (rest : Result (List Item) C99Fault) → noted f r ≡ Ok f' → front_with f' rest ≡ front_with f (and_items r rest)
+note_rest f f' (Ok i) (Ok items) is =
+    let same : f' ≡ with_items f (i ∷ []) = cc in
+    ap (λ g. front_with g (Ok items)) same ∙ ap finished (note_items f i items)
+note_rest f f' (Ok i) (Err fault) is = refl
+note_rest f f' (Err fault) rest is = absurd cc
+
+behind_first : (word : List ℕ) (words : List (List ℕ)) → take (length (word ∷ words) - 1) words ≡ words
+behind_first word words = take_all (length (word ∷ words) - 1) words (omega arith)
+
+-- The next word, by how it begins.
+
+next_is : (w : List ℕ) (words : List (List ℕ)) (ended : Bool) (f f' : Front) (r : Result Item C99Fault) (whole : Result (List (List ℕ)) C99Fault)
+    → items_of ended (w ∷ words) ≡ and_items r (items_of ended words) → noted f r ≡ Ok f' → front_with f (items_of ended (w ∷ words)) ≡ whole
+    → front_with f' (items_of ended (take (length (w ∷ words) - 1) words)) ≡ whole
+next_is w words ended f f' r whole first added so_far =
+    ap (λ l. front_with f' (items_of ended l)) (behind_first w words) ∙ note_rest f f' r (items_of ended words) added ∙ ap (front_with f) (sym first) ∙ so_far
+
+pub flag_next : (left : List (List ℕ)) (word bytes : List ℕ) (ended : Bool) (f f' : Front) (whole : Result (List (List ℕ)) C99Fault)
+    → 1 ≤ length left → word ≡ get_or left 0 word → bytes ≡ word → Flag ≡ start_of ended bytes → noted f (Ok (Passed (bytes ∷ []))) ≡ Ok f'
+    → front_with f (items_of ended left) ≡ whole → front_with f' (items_of ended (take (length left - 1) (drop 1 left))) ≡ whole
+flag_next [] word bytes ended f f' whole some first same starts added so_far = absurd (omega arith)
+flag_next (w ∷ words) word bytes ended f f' whole some first same starts added so_far =
+    let is = same ∙ first in
+    next_is w words ended f f' (Ok (Passed (w ∷ []))) whole (flag_first ended w words (ap (start_of ended) (sym is) ∙ sym starts)) (ap (λ b. noted f (Ok (Passed (b ∷ [])))) (sym is) ∙ added) so_far
+
+pub operand_next : (left : List (List ℕ)) (word bytes prefix : List ℕ) (ended : Bool) (f f' : Front) (whole : Result (List (List ℕ)) C99Fault)
+    → 1 ≤ length left → word ≡ get_or left 0 word → bytes ≡ word → Names prefix ≡ start_of ended bytes → noted f (Ok (Operand (prefix ++ bytes))) ≡ Ok f'
+    → front_with f (items_of ended left) ≡ whole → front_with f' (items_of ended (take (length left - 1) (drop 1 left))) ≡ whole
+operand_next [] word bytes prefix ended f f' whole some first same starts added so_far = absurd (omega arith)
+operand_next (w ∷ words) word bytes prefix ended f f' whole some first same starts added so_far =
+    let is = same ∙ first in
+    next_is w words ended f f' (Ok (Operand (prefix ++ w))) whole (names_first ended prefix w words (ap (start_of ended) (sym is) ∙ sym starts)) (ap (λ b. noted f (Ok (Operand (prefix ++ b)))) (sym is) ∙ added) so_far
+
+pub joined_next : (left : List (List ℕ)) (word bytes argument : List ℕ) (option : Taking) (ended : Bool) (f f' : Front) (whole : Result (List (List ℕ)) C99Fault)
+    → 1 ≤ length left → word ≡ get_or left 0 word → bytes ≡ word → Joined option argument ≡ start_of ended bytes → noted f (given option argument) ≡ Ok f'
+    → front_with f (items_of ended left) ≡ whole → front_with f' (items_of ended (take (length left - 1) (drop 1 left))) ≡ whole
+joined_next [] word bytes argument option ended f f' whole some first same starts added so_far = absurd (omega arith)
+joined_next (w ∷ words) word bytes argument option ended f f' whole some first same starts added so_far =
+    next_is w words ended f f' (given option argument) whole (joined_first ended option argument w words (ap (start_of ended) (sym (same ∙ first)) ∙ sym starts)) added so_far
+
+refused_rest : (f : Front) (r : Result Item C99Fault) (fault : C99Fault) (rest : Result (List Item) C99Fault) → noted f r ≡ Err fault → front_with f (and_items r rest) ≡ Err fault
+refused_rest f (Err e) fault rest is =
+    let same : e ≡ fault = cc in
+    ap Err same
+refused_rest f (Ok i) fault rest is = absurd cc
+
+joined_refused : (left : List (List ℕ)) (word bytes argument : List ℕ) (option : Taking) (ended : Bool) (f : Front) (fault : C99Fault) (whole : Result (List (List ℕ)) C99Fault)
+    → 1 ≤ length left → word ≡ get_or left 0 word → bytes ≡ word → Joined option argument ≡ start_of ended bytes → noted f (given option argument) ≡ Err fault
+    → front_with f (items_of ended left) ≡ whole → whole ≡ Err fault
+joined_refused [] word bytes argument option ended f fault whole some first same starts refused so_far = absurd (omega arith)
+joined_refused (w ∷ words) word bytes argument option ended f fault whole some first same starts refused so_far =
+    sym so_far ∙ ap (front_with f) (joined_first ended option argument w words (ap (start_of ended) (sym (same ∙ first)) ∙ sym starts)) ∙ refused_rest f (given option argument) fault (items_of ended words) refused
+
+pub ends_next : (left : List (List ℕ)) (word bytes : List ℕ) (ended : Bool) (f : Front) (whole : Result (List (List ℕ)) C99Fault)
+    → 1 ≤ length left → word ≡ get_or left 0 word → bytes ≡ word → Ends ≡ start_of ended bytes
+    → front_with f (items_of ended left) ≡ whole → front_with f (items_of true (take (length left - 1) (drop 1 left))) ≡ whole
+ends_next [] word bytes ended f whole some first same starts so_far = absurd (omega arith)
+ends_next (w ∷ words) word bytes ended f whole some first same starts so_far =
+    ap (λ l. front_with f (items_of true l)) (behind_first w words) ∙ ap (front_with f) (sym (ends_first ended w words (ap (start_of ended) (sym (same ∙ first)) ∙ sym starts))) ∙ so_far
+
+-- An option that wants the next word.
+
+pub wants_next : (left : List (List ℕ)) (word bytes next next_bytes : List ℕ) (option : Taking) (ended : Bool) (f f' : Front) (whole : Result (List (List ℕ)) C99Fault)
+    → 1 ≤ length left → word ≡ get_or left 0 word → bytes ≡ word → Wants option ≡ start_of ended bytes
+    → 1 ≤ length (take (length left - 1) (drop 1 left)) → next ≡ get_or (take (length left - 1) (drop 1 left)) 0 next → next_bytes ≡ next → noted f (given option next_bytes) ≡ Ok f'
+    → front_with f (items_of ended left) ≡ whole
+    → front_with f' (items_of ended (take (length (take (length left - 1) (drop 1 left)) - 1) (drop 1 (take (length left - 1) (drop 1 left))))) ≡ whole
+wants_next [] word bytes next next_bytes option ended f f' whole some first same starts more second alike added so_far = absurd (omega arith)
+wants_next (w ∷ []) word bytes next next_bytes option ended f f' whole some first same starts more second alike added so_far = absurd (omega arith)
+wants_next (w ∷ n ∷ words) word bytes next next_bytes option ended f f' whole some first same starts more second alike added so_far =
+    let behind = behind_first w (n ∷ words) in
+    let is_next : next_bytes ≡ n = alike ∙ second ∙ ap (λ l. get_or l 0 next) behind in
+    ap (λ l. front_with f' (items_of ended l)) (ap (λ l. take (length l - 1) (drop 1 l)) behind ∙ behind_first n words)
+    ∙ note_rest f f' (given option n) (items_of ended words) (ap (λ b. noted f (given option b)) (sym is_next) ∙ added)
+    ∙ ap (front_with f) (sym (wants_first ended option w n words (ap (start_of ended) (sym (same ∙ first)) ∙ sym starts)))
+    ∙ so_far
+
+refusal_given : (fault : C99Fault) (result : Result (List (List ℕ)) C99Fault) (whole : Result (List (List ℕ)) C99Fault)
+    → IsErrAnd result (λ e. e ≡ fault) → (fault ≡ Memory) ⊎ (whole ≡ Err fault) → Gives Memory (λ words. words) result whole
+refusal_given fault (Ok words) whole is refused = absurd is
+refusal_given fault (Err e) whole is (inl memory) = inl (is ∙ memory)
+refusal_given fault (Err e) whole is (inr refused) = inr (refused ∙ ap Err (sym is))
+
+pub joined_gives : (left : List (List ℕ)) (word bytes argument : List ℕ) (option : Taking) (ended : Bool) (f : Front) (fault : C99Fault) (result whole : Result (List (List ℕ)) C99Fault)
+    → 1 ≤ length left → word ≡ get_or left 0 word → bytes ≡ word → Joined option argument ≡ start_of ended bytes → (fault ≡ Memory) ⊎ (noted f (given option argument) ≡ Err fault)
+    → IsErrAnd result (λ e. e ≡ fault) → front_with f (items_of ended left) ≡ whole → Gives Memory (λ words. words) result whole
+joined_gives left word bytes argument option ended f fault result whole some first same starts (inl memory) is so_far = refusal_given fault result whole is (inl memory)
+joined_gives left word bytes argument option ended f fault result whole some first same starts (inr refused) is so_far =
+    refusal_given fault result whole is (inr (joined_refused left word bytes argument option ended f fault whole some first same starts refused so_far))

@@ -1,0 +1,134 @@
+//! A front that is built item by item.
+
+ghost use Rattle.drv_c99.specs.Building.{begun, finished, noted, with_items};
+ghost use Rattle.drv_c99.specs.Front.{Operand, Passed, given, name_of};
+ghost use Rattle.drv_c99.specs.declared.fault.C99Fault.TheVariants as fault;
+ghost use Rattle.drv_words.specs.Gives.{Gives};
+ghost use Rattle.std.specs.Prelude.{◌≡◌, ◌⊎◌, ◌∷◌, ◌++◌, [], OnOk};
+
+use crate::C99Fault;
+use crate::option::{Taking, name};
+use drv_words::{Listing, Word};
+use std::alloc::{AllocError, Global};
+
+/// The words that the driver gets, in three lists, and whether one of them is an operand.
+#[derive(Drop)]
+pub(crate) struct Front {
+    pub(crate) defined: Listing<Word>,
+    pub(crate) undefined: Listing<Word>,
+    pub(crate) others: Listing<Word>,
+    pub(crate) has_operand: bool,
+}
+
+/// Adds an option and its argument as two words.
+fn add_pair(
+    alloc: Global,
+    words: &mut Listing<Word>,
+    option: &[u8],
+    argument: &[u8],
+) -> Result<(), AllocError>
+    ensures { OnOk result (words.new ≡ words.old ++ option.now ∷ argument.now ∷ []) }
+{
+    words.push(Word::from_bytes(alloc, option)?)?;
+    words.push(Word::from_bytes(alloc, argument)?)?;
+    Ok(())
+}
+
+/// Adds two texts as one word.
+fn add_word(
+    alloc: Global,
+    words: &mut Listing<Word>,
+    prefix: &[u8],
+    rest: &[u8],
+) -> Result<(), AllocError>
+    ensures { OnOk result (words.new ≡ words.old ++ (prefix.now ++ rest.now) ∷ []) }
+{
+    let mut word = Word::from_bytes(alloc, prefix)?;
+    word.extend_from_slice(rest)?;
+    words.push(word)?;
+    Ok(())
+}
+
+impl Front {
+    /// One with no item.
+    pub(crate) fn new(alloc: Global) -> Front
+        ensures { result ≡ begun }
+    {
+        Front {
+            defined: Listing::new(alloc),
+            undefined: Listing::new(alloc),
+            others: Listing::new(alloc),
+            has_operand: false,
+        }
+    }
+
+    /// Adds an option that takes no argument.
+    pub(crate) fn add_flag(&mut self, alloc: Global, word: &[u8]) -> Result<(), AllocError>
+        ensures { OnOk result (self.new ≡ with_items self.old (Passed (word.now ∷ []) ∷ [])) }
+    {
+        add_word(alloc, &mut self.others, b"", word)
+    }
+
+    /// Adds an operand.
+    pub(crate) fn add_operand(
+        &mut self,
+        alloc: Global,
+        prefix: &[u8],
+        word: &[u8],
+    ) -> Result<(), AllocError>
+        ensures { OnOk result (self.new ≡ with_items self.old (Operand (prefix.now ++ word.now) ∷ [])) }
+    {
+        self.has_operand = true;
+        add_word(alloc, &mut self.others, prefix, word)
+    }
+
+    /// Adds an option and its argument.
+    pub(crate) fn add_option(
+        &mut self,
+        alloc: Global,
+        option: Taking,
+        argument: &[u8],
+    ) -> Result<(), C99Fault>
+        ensures { Gives fault.Memory (λ u. self.new) result (noted self.old (given option argument.now)) }
+    {
+        match option {
+            Taking::Define => add_pair(alloc, &mut self.defined, b"-D", argument)?,
+            Taking::Undefine => add_pair(alloc, &mut self.undefined, b"-U", argument)?,
+            Taking::IncludeFolder => add_pair(alloc, &mut self.others, b"-I", argument)?,
+            Taking::LibraryFolder => add_pair(alloc, &mut self.others, b"-L", argument)?,
+            Taking::Output => add_pair(alloc, &mut self.others, b"-o", argument)?,
+            Taking::Level => match argument {
+                b"0" | b"1" => add_word(alloc, &mut self.others, b"-O", argument)?,
+                _ => return Err(C99Fault::BadLevel(Word::from_bytes(alloc, argument)?)),
+            },
+            Taking::Library if argument.is_empty() => return Err(missing_argument(alloc, option)),
+            Taking::Library => self.add_operand(alloc, b"-l", argument)?,
+        }
+        Ok(())
+    }
+
+    /// All its words.
+    pub(crate) fn finish(self, alloc: Global) -> Result<Listing<Word>, C99Fault>
+        ensures { Gives fault.Memory (λ words. words) result (finished self) }
+    {
+        if !self.has_operand {
+            return Err(C99Fault::NoOperand);
+        }
+        let mut words = Vec::new(alloc);
+        words.push(Word::from_bytes(alloc, b"-std=c99")?)?;
+        words.append(&mut self.defined.into_vec())?;
+        words.append(&mut self.undefined.into_vec())?;
+        words.append(&mut self.others.into_vec())?;
+        Ok(Listing::from_vec(words))
+    }
+}
+
+/// The refusal of an option that has no argument.
+pub(crate) fn missing_argument(alloc: Global, option: Taking) -> C99Fault
+    ensures { (result ≡ fault.Memory) ⊎ (result ≡ fault.MissingArgument (name_of option)) }
+{
+    match Word::from_bytes(alloc, name(option)) {
+        Ok(word) => C99Fault::MissingArgument(word),
+        Err(_) => C99Fault::Memory,
+    }
+}

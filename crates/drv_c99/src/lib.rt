@@ -1,0 +1,10 @@
+//! The words of POSIX's `c99` as words of the driver.
+#![tactic(auto)]
+
+mod building;
+mod fault;
+mod option;
+mod translating;
+
+pub use fault::C99Fault;
+pub use translating::front;

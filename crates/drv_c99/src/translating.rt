@@ -1,0 +1,45 @@
+//! A line of `c99` turned into a line of the driver.
+
+ghost use Rattle.drv_c99.specs.Front.{front_of};
+ghost use Rattle.drv_c99.specs.declared.fault.C99Fault.TheVariants as fault;
+ghost use Rattle.drv_words.specs.Gives.{Gives};
+
+use crate::C99Fault;
+use crate::building::{Front, missing_argument};
+use crate::option::{Start, start_of};
+use drv_words::{Listing, Word};
+use std::alloc::Global;
+
+/// The words of the driver for a line of `c99`: `-std=c99`, what `-D` defines, what `-U` undefines, and all else in its
+/// order (POSIX, c99). An argument is a word of its own, but for those of `-O` and `-l`; behind `--` an operand that begins
+/// with a hyphen gets `./` in front.
+///
+/// # Errors
+/// At the first offending word `UnknownOption` with the word, `MissingArgument` with the option, or `BadLevel` with the
+/// argument of `-O`; then `NoOperand`.
+pub fn front(alloc: Global, args: &[Word]) -> Result<Listing<Word>, C99Fault>
+    ensures { Gives fault.Memory (λ words. words) result (front_of args.now) }
+{
+    let mut front = Front::new(alloc);
+    let mut ended = false;
+    let mut left = args;
+    while let [word, behind @ ..] = left {
+        left = behind;
+        let bytes = word.as_bytes();
+        match start_of(ended, bytes) {
+            Start::Flag => front.add_flag(alloc, bytes)?,
+            Start::Operand { prefix } => front.add_operand(alloc, prefix, bytes)?,
+            Start::Joined { option, argument } => front.add_option(alloc, option, argument)?,
+            Start::Wants { option } => {
+                let [argument, others @ ..] = behind else {
+                    return Err(missing_argument(alloc, option));
+                };
+                front.add_option(alloc, option, argument.as_bytes())?;
+                left = others;
+            }
+            Start::Ends => ended = true,
+            Start::Unknown => return Err(C99Fault::UnknownOption(word.clone()?)),
+        }
+    }
+    front.finish(alloc)
+}
