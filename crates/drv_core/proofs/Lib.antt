@@ -3,8 +3,13 @@ pub mod Blocks
 pub mod Bound
 pub mod Conditions
 pub mod Fair
+pub mod Files
 pub mod Finish
+pub mod Fleets
+pub mod Flights
 pub mod Follows
+pub mod Going
+pub mod Listed
 pub mod Needs
 pub mod OneByOne
 pub mod Open
@@ -15,5 +20,6 @@ pub mod Rows
 pub mod Standing
 pub mod Status
 pub mod Steps
+pub mod Sure
 pub mod Tells
 pub mod Whole

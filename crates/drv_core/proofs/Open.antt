@@ -1,8 +1,7 @@
 use Rattle.drv_core.proofs.Conditions.{OpenAt, Sized}
 use Rattle.drv_core.proofs.Order.{is_less, is_not_less}
-use Rattle.drv_core.proofs.Standing.{left}
 use Rattle.drv_core.proofs.Steps.{Valid, asked}
-use Rattle.drv_core.specs.Machine.{ClaimReport, Claims, Closing, Ended, RemovalReport, Removals, Stage, StartReport, Starts, WaitReport, Waits, after, asks, end_group, enter_claims, enter_group, enter_removals, enter_waits, is_kind, wait_note}
+use Rattle.drv_core.specs.Machine.{ClaimReport, Claims, Closing, Ended, RemovalReport, Removals, Stage, StartReport, Starts, WaitReport, Waits, after, asks, end_group, enter_claims, enter_group, enter_removals, enter_waits, is_kind, left, wait_note}
 use Rattle.drv_core.specs.Outcomes.{none}
 use Rattle.drv_core.specs.Story.{event, removal_failed}
 use Rattle.drv_words.specs.Places.{group_at}
@@ -151,7 +150,7 @@ opens_group k job g was E w = by (nat_lt g (length job.groups))
     by true = (w, no_child k g E)
     by false = tt
 
-opens_claims : (k : ℕ) (job : Job) (i : ℕ) (E : List RunEvent) → Later k 0 0 E → Opens k (enter_claims job i) E
+pub opens_claims : (k : ℕ) (job : Job) (i : ℕ) (E : List RunEvent) → Later k 0 0 E → Opens k (enter_claims job i) E
 opens_claims k job i E w = by (nat_lt i (length job.temps))
   where
     by : (t : Bool) → Opens k (if t then Claims i else enter_group job 0 false) E
@@ -320,7 +319,7 @@ sized_group job g was = by (nat_lt g (length job.groups))
     by true = tt
     by false = tt
 
-sized_claims : (job : Job) (i : ℕ) → Sized job (enter_claims job i)
+pub sized_claims : (job : Job) (i : ℕ) → Sized job (enter_claims job i)
 sized_claims job i = by (nat_lt i (length job.temps))
   where
     by : (t : Bool) → Sized job (if t then Claims i else enter_group job 0 false)

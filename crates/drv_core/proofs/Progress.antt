@@ -93,7 +93,7 @@ not_true true e = absurd cc
 not_true false e = refl
 
 -- a source that has begun may go on, where its next block is no wait, or all that can are in flight
-begun_goes : (n N : ℕ) (begun left flying waits : ℕ → Bool) (k : ℕ) → Between n N begun left flying waits → k < n → begun k ≡ true → (waits k ≡ true → count n flying ≡ min N (count n left)) → MayCome n N begun left flying k (waits k)
+pub begun_goes : (n N : ℕ) (begun left flying waits : ℕ → Bool) (k : ℕ) → Between n N begun left flying waits → k < n → begun k ≡ true → (waits k ≡ true → count n flying ≡ min N (count n left)) → MayCome n N begun left flying k (waits k)
 begun_goes n N begun left flying waits k b lt is all = record {
   is_source = less k n lt;
   in_order = count_none k (λ j. not (begun j) && left j) (λ j below. b.in_order j k below is);

@@ -1,8 +1,8 @@
 use Rattle.drv_core.proofs.Blocks.{OneBlock, Stepped, by_itself, ends, out_removals, out_waits, started_some, step_claim, step_claim_report, step_closed, step_refused, step_remove, step_remove_report, step_start, step_wait, step_wait_report}
 use Rattle.drv_core.proofs.Finish.{Finished, Keeps, finish, keeps_more}
 use Rattle.drv_core.proofs.Order.{is_less, same}
-use Rattle.drv_core.proofs.Standing.{SourcesRun, left, pending, put, sources_run, waits_next}
-use Rattle.drv_core.specs.Machine.{ClaimReport, Claims, Closing, Ended, RemovalReport, Removals, Stage, StartReport, Starts, WaitReport, Waits, after, asks, base, begin, end_group, enter_claims, enter_group, enter_removals, enter_waits, inside, is_kind, open_of, refused_so_far, starts_so_far, wait_note}
+use Rattle.drv_core.proofs.Standing.{SourcesRun, pending, put, sources_run, waits_next}
+use Rattle.drv_core.specs.Machine.{ClaimReport, Claims, Closing, Ended, RemovalReport, Removals, Stage, StartReport, Starts, WaitReport, Waits, after, asks, base, begin, end_group, enter_claims, enter_group, enter_removals, enter_waits, inside, is_kind, left, open_of, refused_so_far, starts_so_far, wait_note}
 use Rattle.drv_core.specs.Outcomes.{is_claimed, none}
 use Rattle.drv_core.specs.Story.{Block, event, report, start_event}
 use Rattle.drv_core.specs.Windowed.{MayCome, SourceBlock, blocks_of, events_of, has, in_flight, of}
@@ -243,7 +243,7 @@ open_out k job (Removals i) e = refl
 open_out k job (RemovalReport i) e = absurd cc
 open_out k job Ended e = refl
 
-events_append : (xs ys : List SourceBlock) → events_of (blocks_of (xs ++ ys)) ≡ events_of (blocks_of xs) ++ events_of (blocks_of ys)
+pub events_append : (xs ys : List SourceBlock) → events_of (blocks_of (xs ++ ys)) ≡ events_of (blocks_of xs) ++ events_of (blocks_of ys)
 events_append [] ys = refl
 events_append (x ∷ xs) ys = ap (λ l. x.block ++ l) (events_append xs ys) ∙ sym (append_assoc x.block (events_of (blocks_of xs)) (events_of (blocks_of ys)))
 
@@ -262,11 +262,11 @@ pub record Running (jobs : List Job) (N : ℕ) (st : ℕ → Stage) (cur : ℕ) 
   pub valid : (j : ℕ) → Valid (get_or jobs j no_job) (st j)
   pub may : inside (st cur) ≡ true → MayGo jobs N (bases st) blocks cur
 
-put_here : (st : ℕ → Stage) (k : ℕ) (m : Stage) → put st k m k ≡ m
+pub put_here : (st : ℕ → Stage) (k : ℕ) (m : Stage) → put st k m k ≡ m
 put_here st k m = ap (λ (t : Bool). if t then m else st k) (nat_eq_equiv.refl k)
 
 -- the block that is open goes on
-goes_inside : (jobs : List Job) (N : ℕ) (st : ℕ → Stage) (k : ℕ) (E : List RunEvent) (m : Stage) (ev : RunEvent) → (r : Running jobs N st k E) → MayGo jobs N (bases st) r.blocks k → Valid (get_or jobs k no_job) m
+abbrev pub goes_inside : (jobs : List Job) (N : ℕ) (st : ℕ → Stage) (k : ℕ) (E : List RunEvent) (m : Stage) (ev : RunEvent) → (r : Running jobs N st k E) → MayGo jobs N (bases st) r.blocks k → Valid (get_or jobs k no_job) m
     → base m ≡ base (st k) → open_of k (get_or jobs k no_job) m ≡ open_of k (get_or jobs k no_job) (st k) ++ ev ∷ [] → Running jobs N (put st k m) k (E ++ ev ∷ [])
 goes_inside jobs N st k E m ev r may valid same_base more = record {
   blocks = r.blocks;
@@ -290,7 +290,7 @@ goes_inside jobs N st k E m ev r may valid same_base more = record {
     is_valid j false e = r.valid j
 
 -- the block ends
-goes_out : (jobs : List Job) (N : ℕ) (st : ℕ → Stage) (k : ℕ) (E : List RunEvent) (m : Stage) (ev : RunEvent) → (r : Running jobs N st k E) → MayGo jobs N (bases st) r.blocks k → Valid (get_or jobs k no_job) m → left (st k) ≡ true
+abbrev pub goes_out : (jobs : List Job) (N : ℕ) (st : ℕ → Stage) (k : ℕ) (E : List RunEvent) (m : Stage) (ev : RunEvent) → (r : Running jobs N st k E) → MayGo jobs N (bases st) r.blocks k → Valid (get_or jobs k no_job) m → left (st k) ≡ true
     → inside m ≡ false → OneBlock k (get_or jobs k no_job) (base (st k)) (open_of k (get_or jobs k no_job) (st k) ++ ev ∷ []) m → Running jobs N (put st k m) k (E ++ ev ∷ [])
 goes_out jobs N st k E m ev r may valid more out one = record {
   blocks = r.blocks ++ new ∷ [];
@@ -338,7 +338,7 @@ goes_on jobs N st k E a filled r may more fit = by (inside (after job (st k) a))
     by false e s = goes_out jobs N st k E (after (get_or jobs k no_job) (st k) a) (event (asked (asks k (get_or jobs k no_job) (st k))) a) r may valid more e s
 
 -- between blocks any source may be the one that is worked
-pub turns : (jobs : List Job) (N : ℕ) (st : ℕ → Stage) (cur k : ℕ) (E : List RunEvent) → Running jobs N st cur E → inside (st cur) ≡ false → Running jobs N st k E
+abbrev pub turns : (jobs : List Job) (N : ℕ) (st : ℕ → Stage) (cur k : ℕ) (E : List RunEvent) → Running jobs N st cur E → inside (st cur) ≡ false → Running jobs N st k E
 turns jobs N st cur k E r out = record {
   blocks = r.blocks;
   keep = r.keep;

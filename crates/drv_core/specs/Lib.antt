@@ -1,3 +1,7 @@
+pub mod Fleet
+pub mod FleetView
+pub mod LeftoverView
+pub mod Leftovers
 pub mod Machine
 pub mod Needed
 pub mod Outcomes

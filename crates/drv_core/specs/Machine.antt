@@ -144,6 +144,32 @@ asks k job (Removals i) = Some (step.Remove (place.OnFailure k i))
 asks k job (RemovalReport i) = Some (step.Report (note.NotRemoved (place.OnFailure k i)))
 asks k job Ended = None
 
+-- whether there is more to do
+abbrev pub left : Stage → Bool
+left (Claims i) = true
+left (ClaimReport i x) = true
+left (Starts g was ids) = true
+left (StartReport g was ids why) = true
+left (Closing g was ids why told) = true
+left (Waits g was ids i fault) = true
+left (WaitReport g was ids i fault x) = true
+left (Removals i) = true
+left (RemovalReport i) = true
+left Ended = false
+
+-- the next block is a wait for a child
+abbrev pub awaits : Stage → Bool
+awaits (Claims i) = false
+awaits (ClaimReport i x) = false
+awaits (Starts g was ids) = false
+awaits (StartReport g was ids why) = false
+awaits (Closing g was ids why told) = false
+awaits (Waits g was ids i fault) = nat_lt i (length ids)
+awaits (WaitReport g was ids i fault x) = false
+awaits (Removals i) = false
+awaits (RemovalReport i) = false
+awaits Ended = false
+
 -- inside a block
 abbrev pub inside : Stage → Bool
 inside (Claims i) = false

@@ -19,7 +19,7 @@ stage_of (point.RemovalReport i) was ids = RemovalReport i
 stage_of point.Ended was ids = Ended
 
 abbrev pub stage_at : Source → Stage
-stage_at s = stage_of s.point s.was s.children.items
+stage_at s = stage_of s.point s.started_before s.children.items
 
 -- a start is followed by a place for its child
 abbrev pub HasRoom : Stage → ℕ → Type 0

@@ -1,7 +1,9 @@
 //! The run of a plan, as pure steps: what is asked next, and what the answers come to.
 #![tactic(auto)]
 
+mod flight;
 mod law;
+mod leftovers;
 mod needed;
 mod source;
 

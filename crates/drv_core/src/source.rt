@@ -1,18 +1,21 @@
 //! One source of a run: what is asked next for it, and where an answer leads.
 
 ghost use Rattle.drv_core.specs.Machine.{after, after_claim, after_refusal, after_removal, after_start, after_wait, asks, begin, claim_of, end_group, enter_claims, enter_group, enter_removals, enter_waits, remove_of, start_of, told_of, wait_note, wait_of};
-ghost use Rattle.drv_core.specs.Outcomes.{none};
-ghost use Rattle.drv_core.specs.Machine.{Starts};
+ghost use Rattle.drv_core.specs.Fleet.{fresh};
+ghost use Rattle.drv_core.specs.FleetView.{worker_of};
+ghost use Rattle.drv_core.specs.Outcomes.{greatest, none};
+ghost use Rattle.drv_core.specs.Machine.{Starts, awaits, inside, left};
 ghost use Rattle.drv_core.specs.Source.{HasRoom, stage_at};
 ghost use Rattle.drv_words.specs.declared.steps.Place.TheVariants as place;
 ghost use Rattle.drv_words.specs.declared.steps.Step.TheVariants as step;
 ghost use Rattle.drv_words.specs.Places.{group_at};
-ghost use Rattle.std.specs.Prelude.{◌≡◌, ◌||◌, ◌+◌, ◌<◌, Some, false, get_or, length, nat_lt, not};
+ghost use Rattle.std.specs.Prelude.{◌≡◌, ◌||◌, ◌+◌, ◌<◌, IfOk, Some, false, get_or, length, nat_lt, not};
 ghost use Rattle.std.specs.Vec.{vec_capacity};
 
 use drv_words::{
     Answer, ClaimAnswer, Job, NotStarted, Note, Place, RemoveAnswer, StartAnswer, Step, WaitAnswer,
 };
+use std::alloc::{AllocError, Global};
 
 /// Where the work on a source stands.
 #[derive(Clone, Copy)]
@@ -44,7 +47,7 @@ pub(crate) enum Point {
 pub(crate) struct Source {
     pub(crate) point: Point,
     /// Whether an earlier group started a command.
-    pub(crate) was: bool,
+    pub(crate) started_before: bool,
     /// The children of the group, in the order of their starts.
     pub(crate) children: Vec<u64>,
 }
@@ -136,6 +139,17 @@ fn group_len(job: &Job, group: usize) -> usize
     }
 }
 
+/// The most commands of a group.
+fn widest(job: &Job) -> usize
+    ensures { result ≡ greatest (λ group. length group) job.now.groups }
+{
+    let mut most = 0;
+    for group in job.groups.as_slice() {
+        most = group.as_slice().len().max(most);
+    }
+    most
+}
+
 /// What the user is told of a child that a signal ended, or that was lost.
 fn wait_note(job: usize, group: usize, index: usize, answer: WaitAnswer) -> Note
     ensures { result ≡ wait_note job group index answer }
@@ -190,7 +204,7 @@ impl Source {
 
     /// The start of the next command of a group.
     fn start(&self, number: usize, job: &Job, group: usize) -> Step
-        ensures { Some result ≡ asks number job.now (Starts group self.now.was self.now.children.items) }
+        ensures { Some result ≡ asks number job.now (Starts group self.now.started_before self.now.children.items) }
     {
         let index = self.children.as_slice().len();
         Step::Start {
@@ -261,7 +275,7 @@ impl Source {
     /// A start was answered.
     fn take_start(&mut self, job: &Job, group: usize, started: StartAnswer)
         requires room { length self.old.children.items < vec_capacity self.old.children }
-        ensures stage { stage_at self.new ≡ after_start job.now group self.old.was self.old.children.items started }
+        ensures stage { stage_at self.new ≡ after_start job.now group self.old.started_before self.old.children.items started }
         ensures capacity { vec_capacity self.new.children ≡ vec_capacity self.old.children }
     {
         match started {
@@ -280,7 +294,7 @@ impl Source {
 
     /// A refused start was told.
     fn take_refusal(&mut self, job: &Job, group: usize, why: NotStarted, told: bool)
-        ensures stage { stage_at self.new ≡ after_refusal job.now group self.old.was self.old.children.items why told }
+        ensures stage { stage_at self.new ≡ after_refusal job.now group self.old.started_before self.old.children.items why told }
         ensures capacity { vec_capacity self.new.children ≡ vec_capacity self.old.children }
     {
         if self.children.as_slice().len() > 0 {
@@ -292,7 +306,7 @@ impl Source {
 
     /// A wait was answered.
     fn take_wait(&mut self, job: &Job, group: usize, index: usize, fault: bool, ended: WaitAnswer)
-        ensures stage { stage_at self.new ≡ after_wait job.now group self.old.was self.old.children.items index fault ended }
+        ensures stage { stage_at self.new ≡ after_wait job.now group self.old.started_before self.old.children.items index fault ended }
         ensures capacity { vec_capacity self.new.children ≡ vec_capacity self.old.children }
     {
         match ended {
@@ -317,7 +331,7 @@ impl Source {
 
     /// Goes on behind a child that was waited for.
     fn pass_wait(&mut self, job: &Job, group: usize, index: usize, fault: bool)
-        ensures stage { stage_at self.new ≡ enter_waits job.now group self.old.was self.old.children.items (index + 1) fault }
+        ensures stage { stage_at self.new ≡ enter_waits job.now group self.old.started_before self.old.children.items (index + 1) fault }
         ensures capacity { vec_capacity self.new.children ≡ vec_capacity self.old.children }
     {
         if is_followed(index, self.children.as_slice().len()) {
@@ -341,7 +355,7 @@ impl Source {
 
     /// The children of a group are waited for, from this one on.
     fn enter_waits(&mut self, job: &Job, group: usize, index: usize, fault: bool)
-        ensures stage { stage_at self.new ≡ enter_waits job.now group self.old.was self.old.children.items index fault }
+        ensures stage { stage_at self.new ≡ enter_waits job.now group self.old.started_before self.old.children.items index fault }
         ensures capacity { vec_capacity self.new.children ≡ vec_capacity self.old.children }
     {
         if index < self.children.as_slice().len() {
@@ -363,10 +377,10 @@ impl Source {
 
     /// A group has ended: the job goes on, or has failed.
     fn end_group(&mut self, job: &Job, group: usize, fault: bool)
-        ensures stage { stage_at self.new ≡ end_group job.now group (self.old.was || not (none self.old.children.items)) fault }
+        ensures stage { stage_at self.new ≡ end_group job.now group (self.old.started_before || not (none self.old.children.items)) fault }
         ensures capacity { vec_capacity self.new.children ≡ vec_capacity self.old.children }
     {
-        let started = self.was || self.has_child();
+        let started = self.started_before || self.has_child();
         if fault {
             if started && job.on_failure.len() > 0 {
                 self.point = Point::Removals(0);
@@ -381,16 +395,83 @@ impl Source {
     }
 
     /// A group's first command is started next, if there is such a group.
-    fn enter_group(&mut self, job: &Job, group: usize, was: bool)
-        ensures stage { stage_at self.new ≡ enter_group job.now group was }
+    fn enter_group(&mut self, job: &Job, group: usize, started_before: bool)
+        ensures stage { stage_at self.new ≡ enter_group job.now group started_before }
         ensures capacity { vec_capacity self.new.children ≡ vec_capacity self.old.children }
     {
-        self.was = was;
+        self.started_before = started_before;
         self.children.clear();
         if group < job.groups.len() {
             self.point = Point::Starts(group);
         } else {
             self.point = Point::Ended;
+        }
+    }
+
+    /// Nothing has begun, and there is room for the children of each group. Want of memory is the only error.
+    pub(crate) fn new(alloc: Global, job: &Job) -> Result<Source, AllocError>
+        ensures { IfOk result (λ made. worker_of made ≡ fresh job.now) }
+    {
+        let mut source = Source {
+            point: Point::Ended,
+            started_before: false,
+            children: Vec::with_capacity(alloc, widest(job))?,
+        };
+        source.begin(job);
+        Ok(source)
+    }
+
+    /// Whether there is more to do.
+    pub(crate) fn is_left(&self) -> bool
+        ensures { result ≡ left (stage_at self.now) }
+    {
+        match self.point {
+            Point::Claims(_) => true,
+            Point::ClaimReport(_, _) => true,
+            Point::Starts(_) => true,
+            Point::StartReport(_, _) => true,
+            Point::Closing(_, _, _) => true,
+            Point::Waits(_, _, _) => true,
+            Point::WaitReport(_, _, _, _) => true,
+            Point::Removals(_) => true,
+            Point::RemovalReport(_) => true,
+            Point::Ended => false,
+        }
+    }
+
+    /// Whether the next block is a wait for a child.
+    pub(crate) fn awaits(&self) -> bool
+        ensures { result ≡ awaits (stage_at self.now) }
+    {
+        match self.point {
+            Point::Claims(_) => false,
+            Point::ClaimReport(_, _) => false,
+            Point::Starts(_) => false,
+            Point::StartReport(_, _) => false,
+            Point::Closing(_, _, _) => false,
+            Point::Waits(_, index, _) => index < self.children.as_slice().len(),
+            Point::WaitReport(_, _, _, _) => false,
+            Point::Removals(_) => false,
+            Point::RemovalReport(_) => false,
+            Point::Ended => false,
+        }
+    }
+
+    /// Whether a block is begun and not ended.
+    pub(crate) fn is_inside(&self) -> bool
+        ensures { result ≡ inside (stage_at self.now) }
+    {
+        match self.point {
+            Point::Claims(_) => false,
+            Point::ClaimReport(_, _) => true,
+            Point::Starts(_) => self.has_child(),
+            Point::StartReport(_, _) => true,
+            Point::Closing(_, _, _) => true,
+            Point::Waits(_, _, _) => false,
+            Point::WaitReport(_, _, _, _) => true,
+            Point::Removals(_) => false,
+            Point::RemovalReport(_) => true,
+            Point::Ended => false,
         }
     }
 

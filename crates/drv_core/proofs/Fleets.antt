@@ -1,0 +1,34 @@
+use Rattle.drv_core.specs.Fleet.{Fleet, idle, settled, stage_in, turned}
+use Rattle.drv_core.specs.FleetView.{worker_of}
+use Rattle.drv_core.specs.Machine.{after, inside}
+use Rattle.drv_core.specs.Source.{stage_at}
+use Rattle.drv_core.specs.declared.source.Source.{Source}
+use Rattle.drv_words.specs.declared.answers.Answer.{Answer}
+use Rattle.drv_words.specs.declared.plan.Job.{Job}
+use Rattle.std.proofs.Common.{◌≡◌, ◌<◌, ◌∙◌, Bool, false, true, List, ap, get_or, if◌then◌else◌, length, map, refl, sym, ℕ}
+use Rattle.std.proofs.lemmas.List.{get_or-map, map-set}
+use Rattle.std.specs.Prelude.{slice_set}
+use Rattle.std.specs.Vec.{vec_capacity}
+
+-- What the code of all sources comes to.
+
+-- one source goes on
+pub worked_is : (xs : List Source) (k : ℕ) (s t : Source) (job : Job) (a : Answer) → k < length xs → s ≡ get_or xs k s → stage_at t ≡ after job (stage_at s) a → vec_capacity t.children ≡ vec_capacity s.children
+    → map worker_of (slice_set xs k t) ≡ slice_set (map worker_of xs) k (record { stage = after job (get_or (map worker_of xs) k idle).stage a; room = (get_or (map worker_of xs) k idle).room })
+worked_is xs k s t job a lt is stage room =
+    let at : get_or (map worker_of xs) k idle ≡ worker_of s = get_or-map worker_of xs k s idle lt ∙ ap worker_of (sym is) in
+    map-set worker_of xs k t ∙ ap (λ w. slice_set (map worker_of xs) k w) (rw (at, stage, room) refl)
+
+pub stays : (jobs : List Job) (f g : Fleet) → g ≡ f → true ≡ inside (stage_in g g.current) → g ≡ settled jobs f
+stays jobs f g e i = by (inside (stage_in f f.current)) (i ∙ ap (λ x. inside (stage_in x x.current)) e)
+  where
+    by : (t : Bool) → true ≡ t → g ≡ (if t then f else turned jobs f)
+    by true u = e
+    by false u = absurd cc
+
+pub turns_on : (jobs : List Job) (f g h : Fleet) → g ≡ f → false ≡ inside (stage_in g g.current) → h ≡ turned jobs g → h ≡ settled jobs f
+turns_on jobs f g h e i t = by (inside (stage_in f f.current)) (i ∙ ap (λ x. inside (stage_in x x.current)) e)
+  where
+    by : (u : Bool) → false ≡ u → h ≡ (if u then f else turned jobs f)
+    by true u = absurd cc
+    by false u = t ∙ ap (λ x. turned jobs x) e

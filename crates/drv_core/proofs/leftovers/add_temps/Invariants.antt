@@ -1,0 +1,8 @@
+use Rattle.drv_core.proofs.leftovers.add_temps.Given as goal
+use Rattle.drv_core.specs.LeftoverView.{places_of}
+use Rattle.drv_core.specs.Leftovers.{place_in, temp_files}
+use Rattle.std.proofs.Common.{◌≡◌, ◌++◌, drop, map}
+
+-- those that were added and those that are left are all
+abbrev pub invariant-loop-index : goal.invariant-loop-index
+invariant-loop-index l = places_of l.files.items ++ map place_in (temp_files l.number l.index (drop l.index l.temp-items)) ≡ places_of l.fn.files.items ++ map place_in (temp_files l.number 0 l.temp-items)

@@ -1,0 +1,103 @@
+use Rattle.drv_core.specs.Machine.{Ended, Stage, after, asks, awaits, begin, inside, left}
+use Rattle.drv_core.specs.Outcomes.{greatest, none}
+use Rattle.drv_words.specs.Places.{no_job}
+use Rattle.drv_words.specs.declared.answers.Answer.{Answer}
+use Rattle.drv_words.specs.declared.plan.Job.{Job}
+use Rattle.drv_words.specs.declared.steps.Step.{Step}
+use Rattle.std.specs.List.{filter}
+use Rattle.std.specs.Prelude.{◌||◌, ◌+◌, ◌-◌, Bool, List, [], ◌∷◌, ◌++◌, Option, drop, get_or, if◌then◌else◌, length, map, min, nat_eq, not, slice_set, ℕ}
+
+-- All sources, step by step. Private clauses alone cite it: what a run comes to is said by the stories.
+
+-- where the work on one source stands, and for how many children there is room
+pub record Worker : Type 0 where
+  pub stage : Stage
+  pub room : ℕ
+
+abbrev pub idle : Worker
+idle = record { stage = Ended; room = 0 }
+
+abbrev pub fresh : Job → Worker
+fresh job = record { stage = begin job; room = greatest (λ group. length group) job.groups }
+
+-- begun: the sources that have begun and not ended, and for how many there is room; next: the first that hasn't begun and has
+-- something to do, or their number; unended: how many have not ended; current: the one that is worked
+pub record Fleet : Type 0 where
+  pub workers : List Worker
+  pub begun : List ℕ
+  pub room : ℕ
+  pub next : ℕ
+  pub unended : ℕ
+  pub current : ℕ
+  pub window : ℕ
+
+abbrev pub worker_in : Fleet → ℕ → Worker
+worker_in f k = get_or f.workers k idle
+
+abbrev pub stage_in : Fleet → ℕ → Stage
+stage_in f k = (worker_in f k).stage
+
+-- how many have a child in flight; whether these are all that can have one
+abbrev pub flying : Fleet → ℕ
+flying f = length (filter (λ k. awaits (stage_in f k)) f.begun)
+
+abbrev pub all_fly : Fleet → Bool
+all_fly f = nat_eq (flying f) (min f.window f.unended)
+
+-- a source that has begun may go on
+abbrev pub may_go : Bool → Fleet → ℕ → Bool
+may_go all f k = all || not (awaits (stage_in f k))
+
+-- the first that may: of those that have begun, or else the next that begins
+abbrev pub picked : Fleet → ℕ
+picked f = get_or (filter (may_go (all_fly f) f) f.begun) 0 f.next
+
+abbrev pub first_busy : ℕ → List Job → ℕ
+first_busy k [] = k
+first_busy k (job ∷ jobs) = if none job.groups then first_busy (k + 1) jobs else k
+
+abbrev pub busy : Job → Bool
+busy job = not (none job.groups)
+
+abbrev pub fresh_fleet : List Job → ℕ → Fleet
+fresh_fleet jobs window = record {
+  workers = map fresh jobs;
+  begun = [];
+  room = window + 1;
+  next = first_busy 0 jobs;
+  unended = length (filter busy jobs);
+  current = first_busy 0 jobs;
+  window = window;
+}
+
+abbrev pub asked_of : List Job → Fleet → Option Step
+asked_of jobs f = asks f.current (get_or jobs f.current no_job) (stage_in f f.current)
+
+-- the current source goes on by an answer
+abbrev pub worked : Job → Fleet → Answer → Fleet
+worked job f a = record f {
+  workers = slice_set f.workers f.current (record { stage = after job (stage_in f f.current) a; room = (worker_in f f.current).room });
+}
+
+-- behind its block: it has begun, if it is the next that begins
+abbrev pub opened : List Job → Fleet → Fleet
+opened jobs f = if nat_eq f.current f.next then record f { begun = f.begun ++ f.current ∷ []; next = first_busy (f.current + 1) (drop (f.current + 1) jobs) } else f
+
+abbrev pub ended : Fleet → Fleet
+ended f = record f { begun = filter (λ k. not (nat_eq k f.current)) f.begun; unended = f.unended - 1 }
+
+-- and it is under way no more, if it has ended
+abbrev pub closed : Fleet → Fleet
+closed f = if left (stage_in f f.current) then f else ended f
+
+abbrev pub chosen : Fleet → Fleet
+chosen f = record f { current = picked f }
+
+abbrev pub turned : List Job → Fleet → Fleet
+turned jobs f = chosen (closed (opened jobs f))
+
+abbrev pub settled : List Job → Fleet → Fleet
+settled jobs f = if inside (stage_in f f.current) then f else turned jobs f
+
+abbrev pub taken : List Job → Fleet → Answer → Fleet
+taken jobs f a = settled jobs (worked (get_or jobs f.current no_job) f a)

@@ -1,0 +1,22 @@
+use Rattle.drv_core.specs.Fleet.{Fleet, Worker}
+use Rattle.drv_core.specs.Source.{stage_at}
+use Rattle.drv_core.specs.declared.flight.Flight.{Flight}
+use Rattle.drv_core.specs.declared.source.Source.{Source}
+use Rattle.std.specs.Prelude.{map}
+use Rattle.std.specs.Vec.{vec_capacity}
+
+-- All sources, as the code has them. Private clauses alone cite it.
+
+abbrev pub worker_of : Source → Worker
+worker_of s = record { stage = stage_at s; room = vec_capacity s.children }
+
+abbrev pub fleet_of : Flight → Fleet
+fleet_of f = record {
+  workers = map worker_of f.sources.items;
+  begun = f.begun.items;
+  room = vec_capacity f.begun;
+  next = f.next;
+  unended = f.unended;
+  current = f.current;
+  window = f.window;
+}

@@ -1,0 +1,220 @@
+//! The sources of a run, of which some are under way, and the one of them that is worked.
+
+ghost use Rattle.drv_core.specs.Fleet.{asked_of, busy, closed, ended, first_busy, flying, fresh, fresh_fleet, opened, picked, stage_in, taken, turned, worked, worker_in};
+ghost use Rattle.drv_core.specs.FleetView.{fleet_of, worker_of};
+ghost use Rattle.drv_core.specs.Machine.{awaits, inside, left};
+ghost use Rattle.drv_core.specs.Source.{HasRoom};
+ghost use Rattle.std.specs.Prelude.{◌≡◌, ◌+◌, ◌<◌, ◌≤◌, IfOk, drop, get_or, length, map};
+ghost use Rattle.drv_words.specs.Places.{no_job};
+ghost use Rattle.std.specs.List.{filter};
+ghost use Rattle.std.specs.Vec.{vec_capacity};
+
+use crate::source::Source;
+use drv_words::{Answer, Job, Step};
+use std::alloc::{AllocError, Global};
+
+/// The sources of a run, of which some are under way, and the one of them that is worked.
+#[derive(Drop)]
+pub(crate) struct Flight {
+    pub(crate) sources: Vec<Source>,
+    /// Those that have begun and not ended, in their order.
+    pub(crate) begun: Vec<usize>,
+    /// The first that has not begun and has something to do, or the number of sources.
+    pub(crate) next: usize,
+    /// How many have not ended.
+    pub(crate) unended: usize,
+    /// The one that is worked.
+    pub(crate) current: usize,
+    /// How many may be under way at once.
+    pub(crate) window: usize,
+}
+
+/// The first job from this number on that has something to do, or a number that no job has.
+fn first_busy(jobs: &[Job], from: usize) -> usize
+    ensures { result ≡ first_busy from (drop from jobs.now) }
+{
+    let mut number = from;
+    while number < jobs.len() && jobs[number].groups.as_slice().is_empty() {
+        number += 1;
+    }
+    number
+}
+
+/// How many jobs have something to do.
+fn count_busy(jobs: &[Job]) -> usize
+    ensures { result ≡ length (filter busy jobs.now) }
+{
+    let mut count = 0;
+    for job in jobs {
+        if !job.groups.as_slice().is_empty() {
+            count += 1;
+        }
+    }
+    count
+}
+
+/// A source for each job. Want of memory is the only error.
+fn sources_of(alloc: Global, jobs: &[Job]) -> Result<Vec<Source>, AllocError>
+    ensures { IfOk result (λ made. map worker_of made.items ≡ map fresh jobs.now) }
+{
+    let mut sources = Vec::with_capacity(alloc, jobs.len())?;
+    for job in jobs {
+        let source = Source::new(alloc, job)?;
+        sources.push(source)?;
+    }
+    Ok(sources)
+}
+
+impl Flight {
+    /// Nothing has begun. Want of memory is the only error.
+    pub(crate) fn new(alloc: Global, jobs: &[Job], window: usize) -> Result<Flight, AllocError>
+        requires { window ≤ 64 }
+        ensures { IfOk result (λ made. fleet_of made ≡ fresh_fleet jobs.now window) }
+    {
+        let sources = sources_of(alloc, jobs)?;
+        let begun = Vec::with_capacity(alloc, window + 1)?;
+        let next = first_busy(jobs, 0);
+        Ok(Flight {
+            sources,
+            begun,
+            next,
+            unended: count_busy(jobs),
+            current: next,
+            window,
+        })
+    }
+
+    /// What is asked next for the source that is worked; none once all have ended.
+    pub(crate) fn asks(&self, jobs: &[Job]) -> Option<Step>
+        requires jobs { self.now.current < length jobs.now }
+        requires sources { self.now.current < length self.now.sources.items }
+        ensures { result ≡ asked_of jobs.now (fleet_of self.now) }
+    {
+        self.sources[self.current].asks(self.current, &jobs[self.current])
+    }
+
+    /// Goes on by the answer to what was asked.
+    pub(crate) fn take(&mut self, jobs: &[Job], answer: Answer)
+        requires jobs { self.old.current < length jobs.now }
+        requires sources { self.old.current < length self.old.sources.items }
+        requires children { HasRoom (stage_in (fleet_of self.old) self.old.current) (worker_in (fleet_of self.old) self.old.current).room }
+        requires room { length self.old.begun.items < vec_capacity self.old.begun }
+        ensures { fleet_of self.new ≡ taken jobs.now (fleet_of self.old) answer }
+    {
+        self.work(jobs, answer);
+        if self.is_inside() {
+            return;
+        }
+        self.turn(jobs);
+    }
+
+    /// The source that is worked goes on by the answer.
+    fn work(&mut self, jobs: &[Job], answer: Answer)
+        requires jobs { self.old.current < length jobs.now }
+        requires sources { self.old.current < length self.old.sources.items }
+        requires children { HasRoom (stage_in (fleet_of self.old) self.old.current) (worker_in (fleet_of self.old) self.old.current).room }
+        ensures fleet { fleet_of self.new ≡ worked (get_or jobs.now self.old.current no_job) (fleet_of self.old) answer }
+        ensures current { self.new.current ≡ self.old.current }
+        ensures begun { self.new.begun.items ≡ self.old.begun.items }
+        ensures capacity { vec_capacity self.new.begun ≡ vec_capacity self.old.begun }
+    {
+        self.sources[self.current].take(&jobs[self.current], answer);
+    }
+
+    /// Whether the source that is worked is inside a block.
+    fn is_inside(&self) -> bool
+        ensures { result ≡ inside (stage_in (fleet_of self.now) self.now.current) }
+    {
+        match self.sources.as_slice().get(self.current) {
+            Some(source) => source.is_inside(),
+            None => false,
+        }
+    }
+
+    /// Whether the source that is worked has more to do.
+    fn is_left(&self) -> bool
+        ensures { result ≡ left (stage_in (fleet_of self.now) self.now.current) }
+    {
+        match self.sources.as_slice().get(self.current) {
+            Some(source) => source.is_left(),
+            None => false,
+        }
+    }
+
+    /// A block of the source that is worked has ended: one goes on that may.
+    fn turn(&mut self, jobs: &[Job])
+        requires jobs { self.old.current < length jobs.now }
+        requires room { length self.old.begun.items < vec_capacity self.old.begun }
+        ensures { fleet_of self.new ≡ turned jobs.now (fleet_of self.old) }
+    {
+        self.open(jobs);
+        self.close();
+        self.current = self.picked();
+    }
+
+    /// Behind its first block a source has begun.
+    fn open(&mut self, jobs: &[Job])
+        requires jobs { self.old.current < length jobs.now }
+        requires room { length self.old.begun.items < vec_capacity self.old.begun }
+        ensures { fleet_of self.new ≡ opened jobs.now (fleet_of self.old) }
+    {
+        if self.current == self.next {
+            self.begun.push_reserved(self.current);
+            self.next = first_busy(jobs, self.current + 1);
+        }
+    }
+
+    /// Behind its last block it has ended.
+    fn close(&mut self)
+        ensures { fleet_of self.new ≡ closed (fleet_of self.old) }
+    {
+        if !self.is_left() {
+            self.end();
+        }
+    }
+
+    /// The source that is worked has ended.
+    fn end(&mut self)
+        ensures { fleet_of self.new ≡ ended (fleet_of self.old) }
+    {
+        let number = self.current;
+        self.begun.retain(|other| *other != number);
+        self.unended = self.unended.saturating_sub(1);
+    }
+
+    /// Whether the next block of a source is a wait.
+    fn awaits(&self, number: usize) -> bool
+        ensures { result ≡ awaits (stage_in (fleet_of self.now) number) }
+    {
+        match self.sources.as_slice().get(number) {
+            Some(source) => source.awaits(),
+            None => false,
+        }
+    }
+
+    /// How many sources have a child in flight.
+    fn flying(&self) -> usize
+        ensures { result ≡ flying (fleet_of self.now) }
+    {
+        let mut count = 0;
+        for number in self.begun.as_slice() {
+            if self.awaits(*number) {
+                count += 1;
+            }
+        }
+        count
+    }
+
+    /// The first source that may go on: of those that have begun, or else the next that begins.
+    fn picked(&self) -> usize
+        ensures { result ≡ picked (fleet_of self.now) }
+    {
+        let all_fly = self.flying() == self.window.min(self.unended);
+        for number in self.begun.as_slice() {
+            if all_fly || !self.awaits(*number) {
+                return *number;
+            }
+        }
+        self.next
+    }
+}
