@@ -1,0 +1,32 @@
+//! The calls that can be made.
+
+use crate::c99::fronted;
+use crate::functions::called;
+use crate::searching::searched;
+use drv_system::System;
+use drv_words::Word;
+use std::alloc::{AllocError, Global};
+
+/// What a call answers: `c99 WORD..`, or one of a search or a function.
+pub fn answered<S: System>(alloc: Global, sys: &mut S, call: &[Word]) -> Result<Word, AllocError> {
+    if let [kind, line @ ..] = call
+        && kind.as_bytes() == b"c99".as_slice()
+    {
+        return fronted(alloc, line);
+    }
+    if let Some(text) = searched(alloc, sys, call)? {
+        return Ok(text);
+    }
+    match called(alloc, sys, call)? {
+        Some(text) => Ok(text),
+        None => Word::from_bytes(alloc, b"no such call"),
+    }
+}
+
+/// The text of an answer as a line, and behind it a line with the number of questions.
+pub fn asked(mut text: Word, questions: usize) -> Result<Word, AllocError> {
+    text.extend_from_slice(b"\n")?;
+    text.extend_from_slice(itoa::Buffer::new().format(questions).as_bytes())?;
+    text.extend_from_slice(b" asked\n")?;
+    Ok(text)
+}
