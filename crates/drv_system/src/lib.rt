@@ -2,6 +2,7 @@
 #![tactic(auto)]
 
 mod answer_map;
+mod command_line;
 mod event;
 mod facts;
 mod files;
@@ -13,6 +14,7 @@ mod reports;
 mod script;
 mod system;
 
+pub use command_line::arguments;
 pub use event::{Event, MOST_BYTES, PathKind, ReadAnswer, TellAnswer};
 pub use facts::{FactTable, first_answers_law};
 pub use host::HostSystem;

@@ -6,23 +6,12 @@ mod record;
 
 use crate::call::{exit_status, output_file};
 use crate::record::recorded;
-use drv_words::{Listing, Word};
+use drv_system::arguments;
+use drv_words::Word;
 use std::alloc::AllocError;
 use std::io::{self, Write};
 use std::process::ExitCode;
-use std::{env, fs, str};
-
-/// The arguments as words, without the program's name; none where one is no text.
-fn arguments(rt: &HostRuntime) -> Result<Option<Listing<Word>>, AllocError> {
-    let mut words = Listing::new(rt.alloc());
-    let Ok(arguments) = env::args(rt) else {
-        return Ok(None);
-    };
-    for argument in arguments.skip(1) {
-        words.push(Word::from_vec(argument.into_bytes()))?;
-    }
-    Ok(Some(words))
-}
+use std::{fs, str};
 
 /// Writes the record to the file of the call, or to standard output, and answers whether all of it was written.
 fn write_record(rt: &HostRuntime, words: &[Word], record: &Word) -> bool {
@@ -40,7 +29,7 @@ fn write_record(rt: &HostRuntime, words: &[Word], record: &Word) -> bool {
 
 /// Records the call, and answers the status that it asks for; none where nothing could be recorded.
 fn run(rt: &HostRuntime) -> Result<Option<u8>, AllocError> {
-    let Some(words) = arguments(rt)? else {
+    let Ok(words) = arguments(rt) else {
         return Ok(None);
     };
     let Some(record) = recorded(rt, words.as_slice())? else {
