@@ -1,6 +1,7 @@
 mod CountSamples
 mod FrontSamples
 mod LabelSamples
+mod RefusalSamples
 mod Samples
 pub mod Covers
 pub mod CutDue
@@ -16,6 +17,9 @@ pub mod Names
 pub mod Parts
 pub mod Patterns
 pub mod Refusals
+pub mod RefusalsRead
+pub mod RefusalKinds
+pub mod RefusedAt
 pub mod Rows
 pub mod RowsBraces
 pub mod RowsDue
@@ -35,4 +39,5 @@ pub mod WalkStars
 pub mod WalkTests
 pub mod Unrefused
 pub mod Wanted
+pub mod WholeItems
 pub mod Words

@@ -7,7 +7,7 @@ use Rattle.drv_syntax.specs.Outcome.{Bad, Cut, Got, Out, read}
 use Rattle.drv_syntax.specs.Spelling.{Spells}
 use Rattle.drv_syntax.specs.Tree.{Items}
 use Rattle.drv_syntax.specs.declared.fault.SyntaxFault.{SyntaxFault}
-use Rattle.std.proofs.Common.{◌≡◌, ◌∙◌, ◌+◌, ◌++◌, ◌<◌, ◌≤◌, ◌⊎◌, List, [], ◌∷◌, ap, arith, drop, inl, inr, length, refl, subst, suc, sym, take, zero, ℕ}
+use Rattle.std.proofs.Common.{◌≡◌, ◌∙◌, ◌+◌, ◌++◌, ◌<◌, ◌≤◌, ◌⊎◌, List, [], ◌∷◌, ap, append_assoc, arith, drop, inl, inr, length, refl, subst, suc, sym, take, zero, ℕ}
 use Rattle.std.proofs.lemmas.List.{length-take-le, take-append-drop}
 
 -- A refusal, its place and a cut text by the fronts alone.
@@ -65,6 +65,18 @@ refused_behind text k h f g = by (read (take (k + 1) text)) refl
     by (Got items) e = absurd (g (unrefused_is_front (take (k + 1) text) (inl (items, e))))
     by (Cut at) e = absurd (g (unrefused_is_front (take (k + 1) text) (inr (at, e))))
     by (Bad j fault) e = decide j fault e (omega (arith, (shortest (take (k + 1) text) j fault e).0, length-take-le (k + 1) text (omega (arith, h))))
+
+-- what a front begins with is a front
+pub front_prefix : (text rest : List ℕ) → Front (text ++ rest) → Front text
+front_prefix text rest f = by (read text) refl
+  where
+    by : (r : Out) → read text ≡ r → Front text
+    by (Got items) e = unrefused_is_front text (inl (items, e))
+    by (Cut at) e = unrefused_is_front text (inr (at, e))
+    by (Bad k fault) e =
+        let d : text ++ rest ≡ take (k + 1) text ++ (drop (k + 1) text ++ rest)
+        = ap (λ (ys : List ℕ). ys ++ rest) (sym (take-append-drop (k + 1) text)) ∙ append_assoc (take (k + 1) text) (drop (k + 1) text) rest in
+        absurd (no_front text k fault e (drop (k + 1) text ++ rest) (subst Front d f))
 
 -- a front that has no tree is cut short
 pub cut_front : (text : List ℕ) → Front text → ((items : Items) → Spells text items → ⊥) → (at : ℕ) × (read text ≡ Cut at)

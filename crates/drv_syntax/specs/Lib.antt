@@ -5,6 +5,7 @@ pub mod Labels
 pub mod Outcome
 pub mod Parsed
 pub mod Reader
+pub mod Refusals
 pub mod Spelling
 pub mod Stars
 pub mod Tokens

@@ -2,10 +2,12 @@
 
 ghost use Rattle.drv_syntax.specs.Fronts.{Front};
 ghost use Rattle.drv_syntax.specs.Outcome.{Bad, Cut, Got, Unrefused, read};
+ghost use Rattle.drv_syntax.specs.Refusals.{IsBadDirective, IsEmptyTest, IsMixedStar, IsStarOutside, IsTooNested, IsUnknownFunction};
 ghost use Rattle.drv_syntax.specs.Spelling.{Spells};
 ghost use Rattle.drv_syntax.specs.Tree.{Items};
 ghost use Rattle.drv_syntax.specs.declared.fault.SyntaxFault.{SyntaxFault};
-ghost use Rattle.std.specs.Prelude.{◌≡◌, ◌<◌, ◌≤◌, ◌+◌, ◌++◌, List, length, take, ℕ};
+ghost use Rattle.drv_syntax.specs.declared.fault.SyntaxFault.TheVariants.{BadDirective, EmptyTest, MixedStar, StarOutside, TooNested, UnknownFunction};
+ghost use Rattle.std.specs.Prelude.{◌≡◌, ◌<◌, ◌≤◌, ◌+◌, ◌-◌, ◌++◌, List, length, take, ℕ};
 
 /// A refused text is refused at the end of its shortest prefix that is no front: each prefix before it is a front, with that
 /// byte it is refused there whatever follows, and no text that begins so is a front.
@@ -18,6 +20,11 @@ pub fn shortest_prefix()
 /// A text that has a front, which with the next byte is none, is refused at that byte.
 pub fn refused_behind_front()
     ensures { (text : List ℕ) (k : ℕ) → k < length text → Front (take k text) → (Front (take (k + 1) text) → ⊥) → (fault : SyntaxFault) × (read text ≡ Bad k fault) }
+{}
+
+/// What a front begins with is a front.
+pub fn front_prefix()
+    ensures { (text rest : List ℕ) → Front (text ++ rest) → Front text }
 {}
 
 /// A front that has no tree is cut short.
@@ -48,4 +55,15 @@ pub fn front_is_unrefused()
 /// A text that gives a tree, or is cut short, is a front.
 pub fn unrefused_is_front()
     ensures { (text : List ℕ) → Unrefused text → Front text }
+{}
+
+/// A text that ends in the byte that no longer fits is refused at that byte, whatever follows, by the fault of its case.
+/// The places are those of the directives concerned.
+pub fn refusal_kinds()
+    ensures star_outside { (text rest : List ℕ) (n : ℕ) → IsStarOutside text n → read (text ++ rest) ≡ Bad (length text - 1) (StarOutside n) }
+    ensures mixed_star { (text rest : List ℕ) (n : ℕ) → IsMixedStar text n → read (text ++ rest) ≡ Bad (length text - 1) (MixedStar n) }
+    ensures too_nested { (text rest : List ℕ) (n : ℕ) → IsTooNested text n → read (text ++ rest) ≡ Bad (length text - 1) (TooNested n) }
+    ensures unknown_function { (text rest : List ℕ) (n : ℕ) → IsUnknownFunction text n → read (text ++ rest) ≡ Bad (length text - 1) (UnknownFunction n) }
+    ensures empty_test { (text rest : List ℕ) (n : ℕ) → IsEmptyTest text n → read (text ++ rest) ≡ Bad (length text - 1) (EmptyTest n) }
+    ensures bad_directive { (text rest : List ℕ) (n : ℕ) → IsBadDirective text n → read (text ++ rest) ≡ Bad (length text - 1) (BadDirective n) }
 {}

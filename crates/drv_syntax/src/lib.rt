@@ -10,8 +10,8 @@ mod tree;
 
 pub use fault::SyntaxFault;
 pub use laws::{
-    cut_front, front_is_unrefused, one_tree, read_is_spelled, refused_behind_front,
-    shortest_prefix, spelled_is_read, unrefused_is_front,
+    cut_front, front_is_unrefused, front_prefix, one_tree, read_is_spelled, refusal_kinds,
+    refused_behind_front, shortest_prefix, spelled_is_read, unrefused_is_front,
 };
 pub use token::{TempKind, TestKind, Token, TokenKind};
 pub use tree::{SpecTree, parse};

@@ -10,6 +10,7 @@ mod naming;
 mod reading;
 mod stages;
 mod steps;
+mod turns;
 mod walk;
 
 pub use reading::read_parts;

@@ -1,9 +1,11 @@
 use Rattle.drv_syntax.specs.Labels.{Label}
-use Rattle.drv_syntax.specs.Reader.Steps.{Walk}
+use Rattle.drv_syntax.specs.Reader.Steps.{Walk, open_braces, walk}
+use Rattle.drv_syntax.specs.declared.fault.SyntaxFault.TheVariants.{Memory}
 use Rattle.drv_syntax.specs.declared.fault.SyntaxFault.{SyntaxFault}
 use Rattle.drv_syntax.specs.declared.token.Token.{Token}
+use Rattle.drv_syntax.specs.declared.reader.stages.BraceKind.{BraceKind}
 use Rattle.drv_syntax.specs.declared.reader.walk.Walk as code
-use Rattle.std.specs.Prelude.{◌+◌, ◌≤◌, length, reverse, List, Result, Err, Ok}
+use Rattle.std.specs.Prelude.{◌≡◌, ◌⊎◌, ◌+◌, ◌≤◌, drop, length, reverse, List, ◌∷◌, Result, Err, Ok, ℕ}
 
 -- The state of the code, as its clauses see it.
 
@@ -18,3 +20,13 @@ Fits old new = (length new.tokens.items ≤ length old.tokens.items + 3) × (new
 abbrev pub parts_in : Result Walk SyntaxFault → Result (List Token × List Label) SyntaxFault
 parts_in (Ok w) = Ok (w.tokens, w.labels)
 parts_in (Err fault) = Err fault
+
+-- a turn takes the byte b at the place n and so many of those behind it: what is left comes to the same, or to this fault
+abbrev pub Turns : ℕ → ℕ → List ℕ → Walk → Walk → Result ℕ SyntaxFault → Type 0
+Turns n b behind old new (Ok taken) = (taken ≤ length behind) × (walk old n (b ∷ behind) ≡ walk new (n + 1 + taken) (drop taken behind))
+Turns n b behind old new (Err fault) = (fault ≡ Memory) ⊎ (walk old n (b ∷ behind) ≡ Err fault)
+
+-- the same of the inside of braces that open, which begins at the place n; it is never refused here
+abbrev pub Opens : ℕ → List ℕ → ℕ → BraceKind → Walk → Walk → Result ℕ SyntaxFault → Type 0
+Opens n inside start kind old new (Ok taken) = (taken ≤ length inside) × (walk (open_braces start kind old) n inside ≡ walk new (n + taken) (drop taken inside))
+Opens n inside start kind old new (Err fault) = fault ≡ Memory

@@ -10,7 +10,7 @@ use crate::labels::Labels;
 use crate::reader::actions::{Leaf, Part, Taken};
 use crate::reader::edits::with_part;
 use crate::reader::stages::{Context, Frame, ListKind, ListStage, Stage, StarOwner};
-use crate::reader::steps::step;
+use crate::reader::turns::turn;
 use crate::reader::walk::Walk;
 use crate::token::Token;
 use std::alloc::Global;
@@ -112,7 +112,7 @@ fn started(alloc: Global, size: usize) -> Result<Walk, SyntaxFault>
         waiting: Vec::new(alloc),
         tokens: Vec::with_capacity(alloc, count)?,
         labels: Labels::with_capacity(alloc, count)?,
-        word: Vec::with_capacity(alloc, 16)?,
+        word: Vec::new(alloc),
         kept: 0,
         trailing: 0,
         holds_star: false,
@@ -125,8 +125,12 @@ pub fn read_parts(alloc: Global, text: &[u8]) -> Result<(Vec<Token>, Labels), Sy
     ensures { Gives SyntaxFault.Memory (λ v. (v.0.items, v.1)) result (parts_in (steps.walk steps.started 0 text.now)) }
 {
     let mut w = started(alloc, text.len())?;
-    for (n, b) in text.iter().enumerate() {
-        step(n as u32, *b, &mut w)?;
+    let mut n = 0;
+    let mut left = text;
+    while let [b, behind @ ..] = left {
+        let taken = turn(n, *b, behind, &mut w)?;
+        left = &behind[taken..];
+        n += 1 + taken as u32;
     }
     finish(text.len() as u32, &mut w)?;
     Ok((w.tokens, w.labels))

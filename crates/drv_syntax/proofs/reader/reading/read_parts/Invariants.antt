@@ -1,12 +1,16 @@
-use Rattle.std.proofs.Common.{◌≡◌, ◌≤◌, ◌*◌, length, drop}
+use Rattle.std.proofs.Common.{◌≡◌, ◌≤◌, ◌+◌, ◌*◌, length}
 use Rattle.drv_syntax.specs.Reader.Steps as steps
 use Rattle.drv_syntax.specs.Reader.States.{state}
 use Rattle.drv_syntax.proofs.reader.reading.read_parts.Given as goal
 
-abbrev pub invariant-loop-n : goal.invariant-loop-n
-invariant-loop-n l =
+abbrev pub invariant-loop-left : goal.invariant-loop-left
+invariant-loop-left l =
     record {
-      same : steps.walk (state l.w) l.n (drop l.n l.text) ≡ steps.walk steps.started 0 l.text;
+      same : steps.walk (state l.w) l.n l.left ≡ steps.walk steps.started 0 l.text;
+      place : l.n + length l.left ≡ length l.text;
       room : length l.w.tokens.items ≤ 4 * l.n;
       trail : l.w.trailing ≤ 4 * l.n;
     }
+
+abbrev pub decreases-loop-left : goal.decreases-loop-left
+decreases-loop-left l = length l.left
