@@ -24,3 +24,7 @@ appends (b ∷ c ∷ text) = b == plus && is_blank c
 -- no named text is one that would append
 abbrev pub Plain : Set → Type 0
 Plain set = list_all (λ entry. not (appends entry.1)) set.named ≡ true
+
+-- a set with its pairs once more behind them
+abbrev pub doubled : Set → Set
+doubled set = record set { pairs = set.pairs ++ set.pairs }

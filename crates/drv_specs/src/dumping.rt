@@ -1,10 +1,16 @@
 //! The text of a set.
 
-ghost use Rattle.drv_specs.specs.Dumping.{dumped, entry_text, named_text};
+ghost use Rattle.drv_search.specs.declared.prefixes.Prefixes.{Prefixes};
+ghost use Rattle.drv_specs.specs.Dumping.{Plain, dumped, entry_text, named_text};
 ghost use Rattle.drv_specs.specs.Keyed.{entries_of};
-ghost use Rattle.std.specs.Prelude.{◌≡◌, ◌++◌, IfOk, OnOk, flat_map};
+ghost use Rattle.drv_specs.specs.Loading.{loaded};
+ghost use Rattle.drv_specs.specs.Sets.{no_specs};
+ghost use Rattle.drv_system.specs.Facts.{Facts};
+ghost use Rattle.drv_system.specs.Known.{Is};
+ghost use Rattle.std.specs.Prelude.{◌≡◌, ◌++◌, IfOk, Ok, OnOk, flat_map};
 
 use crate::SpecSet;
+use crate::entries::Entries;
 use crate::text::Text;
 use drv_words::Word;
 use indexmap::IndexMap;
@@ -49,15 +55,24 @@ fn push_pairs(dump: &mut Word, pairs: &[(Word, Word)]) -> Result<(), AllocError>
     Ok(())
 }
 
+/// The text of entries.
+fn dump_of(entries: &Entries) -> Result<Word, AllocError>
+    ensures { IfOk result (λ text. text ≡ dumped entries.now) }
+{
+    let mut dump = Word::empty(entries.alloc());
+    push_texts(&mut dump, entries.named())?;
+    push_pairs(&mut dump, entries.pairs())?;
+    Ok(dump)
+}
+
 impl SpecSet {
     /// The text of the set: its named texts and then its pairs, each with its name and a colon on a line before it and
-    /// an empty line behind it (GCC manual, "-dumpspecs"). Want of memory is the only error.
+    /// an empty line behind it (GCC manual, "-dumpspecs"). Loaded into the empty set it gives this set again, unless a
+    /// named text begins with `+` and a blank. Want of memory is the only error.
     pub fn dump(&self) -> Result<Word, AllocError>
-        ensures { IfOk result (λ text. text ≡ dumped self.now) }
+        ensures text { IfOk result (λ text. text ≡ dumped self.now) }
+        ensures reloads { Plain self.now → (F : Facts) (prefixes : Prefixes) → IfOk result (λ text. loaded F prefixes no_specs text ≡ Is (Ok self.now)) }
     {
-        let mut dump = Word::empty(self.entries.alloc());
-        push_texts(&mut dump, self.entries.named())?;
-        push_pairs(&mut dump, self.pairs())?;
-        Ok(dump)
+        dump_of(&self.entries)
     }
 }

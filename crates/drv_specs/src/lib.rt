@@ -18,5 +18,5 @@ mod text;
 
 pub use builtin_specs::builtin;
 pub use fault::SpecsFault;
-pub use laws::dump_reloads;
+pub use laws::{dump_reloads, loading_keeps};
 pub use set::SpecSet;

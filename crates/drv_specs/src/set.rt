@@ -11,21 +11,30 @@ use std::alloc::Global;
 use std::marker::Model;
 
 /// Named texts in order and suffix pairs in order, each text that is worked with its tree. Contracts see the two lists.
-#[derive(Drop)]
 pub struct SpecSet {
     pub(crate) entries: Entries,
 }
 
+impl Drop for SpecSet {
+    fn drop(self) {
+        let SpecSet { entries: _entries } = self;
+    }
+}
+
 impl Model for SpecSet {
+    ghost use Rattle.drv_specs.specs.Kept.{Kept};
     ghost use Rattle.drv_specs.specs.Sets.{Set};
 
     ghost Value = { Set };
 
     ghost view = { λ s. s.entries };
+
+    ghost invariant = { λ s. Kept s.entries };
 }
 
 impl SpecSet {
     /// The set without texts and pairs, which takes no memory.
+    #[tactic(auto, using(crate::proofs::BuiltinKept::kept_empty))]
     pub fn empty(alloc: Global) -> SpecSet
         ensures { result ≡ no_specs }
     {

@@ -1,0 +1,47 @@
+use Rattle.drv_search.specs.declared.prefixes.Prefixes.{Prefixes}
+use Rattle.drv_specs.proofs.Keeping.{loaded_keeps}
+use Rattle.drv_specs.proofs.SettledTexts.{is_settled, settled_same}
+use Rattle.drv_specs.specs.Builtin.{builtin_named, builtin_pairs, builtin_specs}
+use Rattle.drv_specs.specs.Directives.{read_lines}
+use Rattle.drv_specs.specs.Dumping.{dumped}
+use Rattle.drv_specs.specs.Kept.{Kept}
+use Rattle.drv_specs.specs.Lines.{lines_of}
+use Rattle.drv_specs.specs.Loading.{all_carried, including, loaded, most_files, set_in, then_by}
+use Rattle.drv_specs.specs.Sets.{Set, no_specs}
+use Rattle.drv_specs.specs.declared.fault.SpecsFault.{SpecsFault}
+use Rattle.drv_system.specs.Facts.{no_facts}
+use Rattle.drv_system.specs.Known.{Is}
+use Rattle.std.proofs.Common.{◌≡◌, ◌∙◌, [], Ok, Result, ap, false, refl, subst, sym, true}
+use Rattle.std.specs.List.{IsDistinct}
+
+-- The sets that are there before any file is loaded keep what every set keeps.
+
+empty_kept : Kept no_specs
+unfolding IsDistinct
+empty_kept = record { named = tt; pairs = tt; distinct = tt }
+
+abbrev nowhere : Prefixes
+nowhere = record { programs = []; libraries = [] }
+
+dump_settled : is_settled false (dumped builtin_specs) ≡ true
+unfolding builtin_named builtin_pairs
+dump_settled = refl
+
+dump_carried : all_carried (including no_facts nowhere 15) (record { set = no_specs; files = most_files }) (read_lines false 1 (lines_of (dumped builtin_specs))) ≡ Is (Ok (record { set = builtin_specs; files = most_files }))
+unfolding builtin_named builtin_pairs
+dump_carried = refl
+
+dump_loads : loaded no_facts nowhere no_specs (dumped builtin_specs) ≡ Is (Ok builtin_specs)
+unfolding loaded
+dump_loads =
+    ap (λ text. then_by (all_carried (including no_facts nowhere 15) (record { set = no_specs; files = most_files }) (read_lines false 1 (lines_of text))) set_in) (settled_same (dumped builtin_specs) dump_settled)
+    ∙ ap (λ known. then_by known set_in) dump_carried
+
+builtin_kept : Kept builtin_specs
+builtin_kept = loaded_keeps no_facts nowhere no_specs builtin_specs (dumped builtin_specs) empty_kept dump_loads
+
+pub kept_empty : (set : Set) → set ≡ no_specs → Kept set
+kept_empty set is = subst Kept (sym is) empty_kept
+
+pub kept_builtin : (set : Set) (given : Result Set SpecsFault) → Ok builtin_specs ≡ given → given ≡ Ok set → Kept set
+kept_builtin set given is same = let inside : builtin_specs ≡ set = cc in subst Kept inside builtin_kept

@@ -1,0 +1,77 @@
+use Rattle.drv_search.specs.declared.prefixes.Prefixes.{Prefixes}
+use Rattle.drv_specs.proofs.Changes.{name_keeps, pair_keeps, text_keeps}
+use Rattle.drv_specs.proofs.GoodBodies.{IsGood, directives_good}
+use Rattle.drv_specs.specs.Directives.{directives_of}
+use Rattle.drv_specs.specs.Kept.{Each, Kept}
+use Rattle.drv_specs.specs.Loading.{Carried, Including, all_carried, carried, changed, file_carried, file_loaded, file_text, including, loaded, most_files, set_in, then_by}
+use Rattle.drv_specs.specs.Sets.{Set, with_name, with_pair_body, with_text}
+use Rattle.drv_specs.specs.declared.directive.Directive.TheVariants.{Bad, Include, Pair, Rename, Text}
+use Rattle.drv_specs.specs.declared.directive.Directive.{Directive}
+use Rattle.drv_specs.specs.declared.fault.SpecsFault.{SpecsFault}
+use Rattle.drv_system.specs.Facts.{Facts}
+use Rattle.drv_system.specs.Known.{Is, Known, Unasked}
+use Rattle.std.proofs.Common.{◌≡◌, Bool, Err, List, [], ◌∷◌, Ok, Result, false, refl, subst, suc, sym, zero, ℕ}
+
+-- Loading keeps what every set keeps.
+
+abbrev pub Keeps : Including → Type 0
+Keeps inc = (c : Carried) (pass : Bool) (name : List ℕ) (c' : Carried) → inc c pass name ≡ Is (Ok c') → Kept c.set → Kept c'.set
+
+changed_keeps : (set : Set) (files : ℕ) (given : Result Set SpecsFault) (c' : Carried) → changed files given ≡ Is (Ok c') → ((set' : Set) → given ≡ Ok set' → Kept set') → Kept c'.set
+changed_keeps set files (Ok set') c' is kept = let same : set' ≡ c'.set = cc in subst Kept same (kept set' refl)
+changed_keeps set files (Err fault) c' is kept = absurd cc
+
+carried_keeps : (inc : Including) → Keeps inc → (c : Carried) (directive : Directive) (c' : Carried) → IsGood directive → carried inc c directive ≡ Is (Ok c') → Kept c.set → Kept c'.set
+carried_keeps inc keeps c (Text name body) c' good is kept = changed_keeps c.set c.files (with_text c.set name body) c' is (λ set' is'. text_keeps c.set name body set' good is' kept)
+carried_keeps inc keeps c (Pair key body) c' good is kept = changed_keeps c.set c.files (with_pair_body c.set key body) c' is (λ set' is'. pair_keeps c.set key body set' good.0 good.1 is' kept)
+carried_keeps inc keeps c (Rename old new) c' good is kept = changed_keeps c.set c.files (with_name c.set old new) c' is (λ set' is'. name_keeps c.set old new set' is' kept)
+carried_keeps inc keeps c (Include pass name) c' good is kept = keeps c pass name c' is kept
+carried_keeps inc keeps c (Bad n) c' good is kept = absurd cc
+
+all_keep : (inc : Including) → Keeps inc → (directives : List Directive) (c c' : Carried) → Each IsGood directives → all_carried inc c directives ≡ Is (Ok c') → Kept c.set → Kept c'.set
+all_keep inc keeps [] c c' good is kept = let same : c ≡ c' = cc in subst (λ (d : Carried). Kept d.set) same kept
+all_keep inc keeps (directive ∷ directives) c c' good is kept = by (carried inc c directive) refl is (λ d. all_keep inc keeps directives d c' good.1)
+  where
+    by : (given : Known (Result Carried SpecsFault)) → carried inc c directive ≡ given → then_by given (λ d. all_carried inc d directives) ≡ Is (Ok c')
+        → ((d : Carried) → all_carried inc d directives ≡ Is (Ok c') → Kept d.set → Kept c'.set) → Kept c'.set
+    by Unasked given is' later = absurd cc
+    by (Is (Err fault)) given is' later = absurd cc
+    by (Is (Ok d)) given is' later = later d is' (carried_keeps inc keeps c directive d good.0 given kept)
+
+module _ (F : Facts) (prefixes : Prefixes) where
+  file_keeps : (inc : Including) → Keeps inc → (set : Set) (files : ℕ) (pass : Bool) (name : List ℕ) (c' : Carried) → file_carried F prefixes inc set files pass name ≡ Is (Ok c') → Kept set → Kept c'.set
+  file_keeps inc keeps set zero pass name c' is kept = absurd cc
+  file_keeps inc keeps set (suc left) pass name c' is kept = by (file_text F prefixes pass name) is
+    where
+      by : (given : Known (Result (List ℕ) SpecsFault)) → then_by given (λ text. all_carried inc (record { set = set; files = left }) (directives_of text)) ≡ Is (Ok c') → Kept c'.set
+      by Unasked is' = absurd cc
+      by (Is (Err fault)) is' = absurd cc
+      by (Is (Ok text)) is' = all_keep inc keeps (directives_of text) (record { set = set; files = left }) c' (directives_good text) is' kept
+
+  including_keeps : (levels : ℕ) → Keeps (including F prefixes levels)
+  unfolding including
+  including_keeps zero c pass name c' is kept = absurd cc
+  including_keeps (suc levels) c pass name c' is kept = file_keeps (including F prefixes levels) (including_keeps levels) c.set c.files pass name c' is kept
+
+  set_by : (given : Known (Result Carried SpecsFault)) (set' : Set) → then_by given set_in ≡ Is (Ok set') → ((c : Carried) → given ≡ Is (Ok c) → Kept c.set) → Kept set'
+  set_by Unasked set' is kept = absurd cc
+  set_by (Is (Err fault)) set' is kept = absurd cc
+  set_by (Is (Ok c)) set' is kept = let same : c.set ≡ set' = cc in subst Kept same (kept c refl)
+
+  pub loaded_keeps : (set set' : Set) (text : List ℕ) → Kept set → loaded F prefixes set text ≡ Is (Ok set') → Kept set'
+  unfolding loaded
+  loaded_keeps set set' text kept is =
+      set_by (all_carried (including F prefixes 15) (record { set = set; files = most_files }) (directives_of text)) set' is
+      (λ c given. all_keep (including F prefixes 15) (including_keeps 15) (directives_of text) (record { set = set; files = most_files }) c (directives_good text) given kept)
+
+  pub file_loaded_keeps : (set set' : Set) (name : List ℕ) → Kept set → file_loaded F prefixes set name ≡ Is (Ok set') → Kept set'
+  unfolding file_loaded
+  file_loaded_keeps set set' name kept is =
+      set_by (including F prefixes 16 (record { set = set; files = most_files }) false name) set' is
+      (λ c given. including_keeps 16 (record { set = set; files = most_files }) false name c given kept)
+
+  -- a draft that was worked
+  pub worked_kept : (draft set after : Set) (files left : ℕ) (text : List ℕ) → draft ≡ set → Kept set
+      → all_carried (including F prefixes 15) (record { set = draft; files = files }) (directives_of text) ≡ Is (Ok (record { set = after; files = left })) → Kept after
+  worked_kept draft set after files left text same kept is =
+      all_keep (including F prefixes 15) (including_keeps 15) (directives_of text) (record { set = draft; files = files }) (record { set = after; files = left }) (directives_good text) is (subst Kept (sym same) kept)

@@ -1,0 +1,12 @@
+use Rattle.drv_specs.proofs.Reloads.{dump_doubles}
+use Rattle.drv_specs.proofs.set.SpecSet.reloads_over_itself.Goals as goal
+use Rattle.drv_specs.specs.Dumping.{Plain, doubled, dumped}
+use Rattle.drv_specs.specs.Loading.{loaded}
+use Rattle.drv_specs.specs.Sets.{Set}
+use Rattle.drv_system.specs.Known.{Is}
+use Rattle.std.proofs.Common.{◌≡◌, Ok, subst, sym}
+
+pub returns : goal.returns
+returns c plain F prefixes =
+    subst (λ (set : Set). loaded F prefixes set (dumped set) ≡ Is (Ok (doubled set))) c.self.view_is
+    (dump_doubles F prefixes c.self.inside.entries c.self.invariant (subst Plain (sym c.self.view_is) plain))
