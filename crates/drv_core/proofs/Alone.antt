@@ -1,8 +1,9 @@
 use Rattle.drv_core.proofs.Blocks.{Stepped}
 use Rattle.drv_core.proofs.Finish.{Fails, ended, fails, still}
 use Rattle.drv_core.proofs.Standing.{Path, Sound, begins, path_ends, path_even, path_more, sound_out}
-use Rattle.drv_core.proofs.Steps.{Closes, Filled, Valid, asked, base_out, closing, one_step, open_out, valid_after, valid_begin}
+use Rattle.drv_core.proofs.Steps.{Closes, Valid, asked, base_out, closing, one_step, open_out, valid_after, valid_begin}
 use Rattle.drv_core.proofs.Tells.{ToldStory, tells}
+use Rattle.drv_core.specs.Filled.{Filled}
 use Rattle.drv_core.specs.Machine.{Ended, Stage, after, asks, base, begin, inside, is_kind, left, open_of}
 use Rattle.drv_core.specs.Outcomes.{JobAnswers, whole_job}
 use Rattle.drv_core.specs.Story.{Block, event, story}
@@ -83,11 +84,11 @@ pub record AloneBegins (k : ℕ) (job : Job) (E : List RunEvent) : Type 0 where
   pub rest : List RunEvent
   pub events : E ++ rest ≡ events_of (story k job a)
 
-record Leads (k : ℕ) (job : Job) (bs : List Block) : Type 0 where
-  more : List Block
-  told : ToldStory k job (bs ++ more)
+pub record Leads (k : ℕ) (job : Job) (bs : List Block) : Type 0 where
+  pub more : List Block
+  pub told : ToldStory k job (bs ++ more)
 
-leads : (fuel : ℕ) (k : ℕ) (job : Job) (bs : List Block) (s : Stage) → Path k job (begin job) bs s → still job s < fuel → Leads k job bs
+pub leads : (fuel : ℕ) (k : ℕ) (job : Job) (bs : List Block) (s : Stage) → Path k job (begin job) bs s → still job s < fuel → Leads k job bs
 leads zero k job bs s p lt = absurd (omega arith)
 leads (suc fuel) k job bs s p lt = by (left s) refl (λ f. leads fuel k job (bs ++ f.b ∷ []) f.m (path_more k job (begin job) bs s f.b f.m p f.one) (let nearer = f.nearer in omega (arith, nearer)))
   where

@@ -136,7 +136,7 @@ piped_after k job (RemovalReport i) (answer.Reported t) l e = no_pipe_removals j
 piped_after k job (RemovalReport i) a l e = absurd cc
 piped_after k job Ended a l e = absurd cc
 
-pending_append : (p : Bool) (E : List RunEvent) (e : RunEvent) → pending_from p (E ++ e ∷ []) ≡ pending_with (pending_from p E) e.step e.answer
+pub pending_append : (p : Bool) (E : List RunEvent) (e : RunEvent) → pending_from p (E ++ e ∷ []) ≡ pending_with (pending_from p E) e.step e.answer
 pending_append p [] e = refl
 pending_append p (x ∷ E) e = pending_append (pending_with p x.step x.answer) E e
 

@@ -1,8 +1,8 @@
 use Rattle.drv_core.proofs.Order.{and_first, and_second, is_less, same}
+use Rattle.drv_core.specs.Course.{answer_code, run_code}
 use Rattle.drv_core.specs.Outcomes.{Answers, File, GroupAnswers, JobAnswers, Told, claims_failed, code_of, greatest, group_code, group_failed, is_claimed, is_started, job_code, link_run, none, removed_at_end, removed_by_job, status_from, status_of, whole_claims, whole_group, whole_groups, whole_job, whole_jobs}
 use Rattle.drv_core.specs.Story.{Block, after_sources, claim_block, claim_blocks, end_removals, event, group_blocks, own_removals, removal_block, removal_failed, report, starts_block, story, wait_block, wait_blocks}
 use Rattle.drv_core.specs.Windowed.{AllMayCome, SourceBlock, TellStories, Windowed, blocks_of, events_of, nowhere, of}
-use Rattle.drv_words.specs.declared.answers.Answer.{Answer}
 use Rattle.drv_words.specs.declared.answers.Answer.TheVariants as answer
 use Rattle.drv_words.specs.declared.answers.ClaimAnswer.{ClaimAnswer}
 use Rattle.drv_words.specs.declared.answers.ClaimAnswer.TheVariants as claim
@@ -25,18 +25,6 @@ use Rattle.std.proofs.lemmas.Cmp.{nat_eq_equiv}
 use Rattle.std.specs.Prelude.{⊤}
 
 -- The greatest code of a run's events is that of its answers, so a run can count it as it goes.
-
--- the code of an answer: 1 for a claim or a start that failed, and a child's own
-abbrev pub answer_code : Answer → ℕ
-answer_code (answer.Claim x) = if is_claimed x then 0 else 1
-answer_code (answer.Start x) = if is_started x then 0 else 1
-answer_code answer.Closed = 0
-answer_code (answer.Wait x) = code_of x
-answer_code (answer.Remove x) = 0
-answer_code (answer.Reported t) = 0
-
-abbrev pub run_code : List RunEvent → ℕ
-run_code E = greatest (λ e. answer_code e.answer) E
 
 max_nothing : (n : ℕ) → max n 0 ≡ n
 max_nothing n = omega arith
@@ -160,11 +148,11 @@ code_story k job a e = events_two (claim_blocks k 0 a.claims) (group_blocks k 0 
 
 -- the sources, in whatever order their blocks come
 
-abbrev top : ℕ → (ℕ → ℕ) → ℕ
+abbrev pub top : ℕ → (ℕ → ℕ) → ℕ
 top zero f = 0
 top (suc n) f = max (f n) (top n f)
 
-top_same : (n : ℕ) (f g : ℕ → ℕ) → ((j : ℕ) → j < n → f j ≡ g j) → top n f ≡ top n g
+pub top_same : (n : ℕ) (f g : ℕ → ℕ) → ((j : ℕ) → j < n → f j ≡ g j) → top n f ≡ top n g
 top_same zero f g e = refl
 top_same (suc n) f g e = rw (e n (omega arith), top_same n f g (λ j lt. e j (omega arith))) refl
 
@@ -182,11 +170,11 @@ top_with (suc n) k c f g lt at others = by (nat_eq k n) refl (λ below. top_with
         let rest : top n g ≡ max c (top n f) = ih (grind (arith, nat_tests)) in
         rw (others n e, rest) (omega arith)
 
-abbrev Below : ℕ → List SourceBlock → Type 0
+abbrev pub Below : ℕ → List SourceBlock → Type 0
 Below n [] = ⊤
 Below n (b ∷ bs) = (b.source < n) × Below n bs
 
-all_below : (n N : ℕ) (left : ℕ → Bool) (before blocks : List SourceBlock) → AllMayCome n N left before blocks → Below n blocks
+pub all_below : (n N : ℕ) (left : ℕ → Bool) (before blocks : List SourceBlock) → AllMayCome n N left before blocks → Below n blocks
 all_below n N left before [] come = tt
 all_below n N left before (b ∷ bs) come = (is_less b.source n come.0.is_source, all_below n N left (before ++ b ∷ []) bs come.1)
 
@@ -194,7 +182,7 @@ no_top : (n : ℕ) → 0 ≡ top n (λ j. 0)
 no_top zero = refl
 no_top (suc n) = no_top n ∙ sym (nothing_max (top n (λ j. 0)))
 
-code_blocks : (n : ℕ) (blocks : List SourceBlock) → Below n blocks → run_code (events_of (blocks_of blocks)) ≡ top n (λ j. run_code (events_of (of j blocks)))
+pub code_blocks : (n : ℕ) (blocks : List SourceBlock) → Below n blocks → run_code (events_of (blocks_of blocks)) ≡ top n (λ j. run_code (events_of (of j blocks)))
 code_blocks n [] below = no_top n
 code_blocks n (b ∷ bs) below = code_append b.block (events_of (blocks_of bs)) ∙ ap (λ m. max (run_code b.block) m) (code_blocks n bs below.1)
     ∙ sym (top_with n b.source (run_code b.block) (λ j. run_code (events_of (of j bs))) (λ j. run_code (events_of (of j (b ∷ bs)))) below.0
@@ -206,7 +194,7 @@ top_first : (n : ℕ) (f : ℕ → ℕ) → top (suc n) f ≡ max (f 0) (top n (
 top_first zero f = refl
 top_first (suc n) f = ap (λ m. max (f (suc n)) m) (top_first n f) ∙ (let swap : max (f (suc n)) (max (f 0) (top n (λ j. f (suc j)))) ≡ max (f 0) (max (f (suc n)) (top n (λ j. f (suc j)))) = omega arith in swap)
 
-code_stories : (blocks : List SourceBlock) (k : ℕ) (jobs : List Job) (xs : List JobAnswers) → whole_jobs jobs xs ≡ true → TellStories blocks k jobs xs → top (length jobs) (λ j. run_code (events_of (of (k + j) blocks))) ≡ greatest job_code xs
+pub code_stories : (blocks : List SourceBlock) (k : ℕ) (jobs : List Job) (xs : List JobAnswers) → whole_jobs jobs xs ≡ true → TellStories blocks k jobs xs → top (length jobs) (λ j. run_code (events_of (of (k + j) blocks))) ≡ greatest job_code xs
 code_stories blocks k [] [] e t = refl
 code_stories blocks k [] (x ∷ xs) e t = absurd cc
 code_stories blocks k (job ∷ jobs) [] e t = absurd cc

@@ -2,6 +2,7 @@ use Rattle.drv_core.proofs.Blocks.{OneBlock, Stepped, by_itself, ends, out_remov
 use Rattle.drv_core.proofs.Finish.{Finished, Keeps, finish, keeps_more}
 use Rattle.drv_core.proofs.Order.{is_less, same}
 use Rattle.drv_core.proofs.Standing.{SourcesRun, pending, put, sources_run, waits_next}
+use Rattle.drv_core.specs.Filled.{Filled}
 use Rattle.drv_core.specs.Machine.{ClaimReport, Claims, Closing, Ended, RemovalReport, Removals, Stage, StartReport, Starts, WaitReport, Waits, after, asks, base, begin, end_group, enter_claims, enter_group, enter_removals, enter_waits, inside, is_kind, left, open_of, refused_so_far, starts_so_far, wait_note}
 use Rattle.drv_core.specs.Outcomes.{is_claimed, none}
 use Rattle.drv_core.specs.Story.{Block, event, report, start_event}
@@ -46,24 +47,21 @@ Valid job (RemovalReport i) = i < length job.on_failure
 Valid job Ended = ⊤
 
 -- no group is empty
-abbrev pub Filled : Job → Type 0
-Filled job = (g : ℕ) → g < length job.groups → 0 < length (group_at job g)
-
-valid_group : (job : Job) (g : ℕ) (was : Bool) → Filled job → Valid job (enter_group job g was)
+pub valid_group : (job : Job) (g : ℕ) (was : Bool) → Filled job → Valid job (enter_group job g was)
 valid_group job g was filled = by (nat_lt g (length job.groups)) refl
   where
     by : (t : Bool) → nat_lt g (length job.groups) ≡ t → Valid job (if t then Starts g was [] else Ended)
     by true e = filled g (is_less g (length job.groups) e)
     by false e = tt
 
-valid_claims : (job : Job) (i : ℕ) → Filled job → Valid job (enter_claims job i)
+pub valid_claims : (job : Job) (i : ℕ) → Filled job → Valid job (enter_claims job i)
 valid_claims job i filled = by (nat_lt i (length job.temps)) refl
   where
     by : (t : Bool) → nat_lt i (length job.temps) ≡ t → Valid job (if t then Claims i else enter_group job 0 false)
     by true e = is_less i (length job.temps) e
     by false e = valid_group job 0 false filled
 
-valid_removals : (job : Job) (i : ℕ) → Valid job (enter_removals job i)
+pub valid_removals : (job : Job) (i : ℕ) → Valid job (enter_removals job i)
 valid_removals job i = by (nat_lt i (length job.on_failure)) refl
   where
     by : (t : Bool) → nat_lt i (length job.on_failure) ≡ t → Valid job (if t then Removals i else Ended)
@@ -75,7 +73,7 @@ valid_end job g true true filled = valid_removals job 0
 valid_end job g false true filled = tt
 valid_end job g started false filled = valid_group job (g + 1) started filled
 
-valid_waits : (job : Job) (g : ℕ) (was : Bool) (ids : List ℕ) (i : ℕ) (fault : Bool) → Filled job → Valid job (enter_waits job g was ids i fault)
+pub valid_waits : (job : Job) (g : ℕ) (was : Bool) (ids : List ℕ) (i : ℕ) (fault : Bool) → Filled job → Valid job (enter_waits job g was ids i fault)
 valid_waits job g was ids i fault filled = by (nat_lt i (length ids)) refl
   where
     by : (t : Bool) → nat_lt i (length ids) ≡ t → Valid job (if t then Waits g was ids i fault else end_group job g (was || not (none ids)) fault)

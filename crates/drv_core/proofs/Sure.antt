@@ -2,12 +2,13 @@ use Rattle.drv_core.proofs.Bound.{cost, cost_less, less_to_come, to_come}
 use Rattle.drv_core.proofs.Conditions.{Sized, makes, pipe_kept, piped, piped_out}
 use Rattle.drv_core.proofs.Finish.{summed}
 use Rattle.drv_core.proofs.Flights.{Going, Landed, Stages, begin_out, gone_on, made, next_stage, stage_closed, stage_opened, stages_of, starts, takes, turn_about}
-use Rattle.drv_core.proofs.Open.{Opens, open_at, opens_after, opens_claims, opens_other, sized_after, sized_claims}
-use Rattle.drv_core.proofs.Order.{is_less, same}
+use Rattle.drv_core.proofs.Open.{Later, Opens, open_at, opens_after, opens_claims, opens_other, sized_after, sized_claims}
+use Rattle.drv_core.proofs.Order.{apart_above, is_less, same}
 use Rattle.drv_core.proofs.Standing.{put}
-use Rattle.drv_core.proofs.Steps.{Filled, Valid, asked, put_here}
+use Rattle.drv_core.proofs.Steps.{Valid, asked, put_here}
+use Rattle.drv_core.specs.Filled.{Filled}
 use Rattle.drv_core.specs.Fleet.{Fleet, first_busy, fresh, fresh_fleet, opened, settled, stage_in, taken, turned}
-use Rattle.drv_core.specs.Machine.{Ended, Stage, after, asks, begin, enter_claims, inside, is_kind, left}
+use Rattle.drv_core.specs.Machine.{Claims, Ended, Stage, after, asks, begin, enter_claims, inside, is_kind, left}
 use Rattle.drv_core.specs.Outcomes.{none}
 use Rattle.drv_words.specs.Places.{job_at, no_job}
 use Rattle.drv_words.specs.Stepping.{can_make, pipe_pending}
@@ -39,11 +40,14 @@ pub record Sure (jobs : List Job) (N most : ℕ) (f : Fleet) (E : List RunEvent)
   pub sized : (j : ℕ) → Sized (get_or jobs j no_job) (stage_in f j)
   pub pipe : pipe_pending E ≡ piped (stage_in f f.current)
   pub bound : length E + to_come jobs (stage_in f) ≤ most
+  -- nobody has waited for a child of the link
+  pub later : Later (length jobs) 0 0 E
 
 pub record Over (jobs : List Job) (N most : ℕ) (f : Fleet) (E : List RunEvent) : Type 0 where
   pub landed : Landed jobs N f E
   pub pipe : pipe_pending E ≡ false
   pub bound : length E ≤ most
+  pub later : Later (length jobs) 0 0 E
 
 -- what is asked for can be made
 pub sure_makes : (plan : Plan) (N most : ℕ) (f : Fleet) (E : List RunEvent) → Sure plan.jobs N most f E → can_make plan E (asked (asks f.current (get_or plan.jobs f.current no_job) (stage_in f f.current))) ≡ true
@@ -149,6 +153,9 @@ sure_takes jobs N most f E a some filled s kind = by (takes jobs N f E a some fi
         let le = s.bound in
         omega (arith, less, is, len, le)
 
+    later : Later (length jobs) 0 0 (E ++ made jobs f (stage_in f) a ∷ [])
+    later = opens_other f.current (length jobs) (get_or jobs f.current no_job) (stage_in f f.current) (Claims 0) a E (apart_above (length jobs) f.current in_range) s.later
+
     pipe_is : pipe_pending (E ++ made jobs f (stage_in f) a ∷ []) ≡ piped (next_stage jobs f (stage_in f) a)
     pipe_is = pipe_kept f.current (get_or jobs f.current no_job) (stage_in f f.current) a E more kind s.pipe
 
@@ -167,23 +174,25 @@ sure_takes jobs N most f E a some filled s kind = by (takes jobs N f E a some fi
       sized = λ j. subst (λ t. Sized (get_or jobs j no_job) t) (sym (at j)) (sized_by j (nat_eq f.current j) refl);
       pipe = pipe_is ∙ pipe_by (inside (next_stage jobs f (stage_in f) a)) refl;
       bound = bound;
+      later = later;
     })
     by (inr over) = inr (record {
       landed = over;
       pipe = pipe_is ∙ ap piped (sym (put_here (stage_in f) f.current (next_stage jobs f (stage_in f) a)) ∙ sym (at f.current) ∙ over.at f.current ∙ over.all f.current);
       bound = (let le = bound in omega (arith, le));
+      later = later;
     })
 
 -- at the beginning
 
-opens_begin : (k : ℕ) (job : Job) → Opens k (begin job) []
-opens_begin k job = by (none job.groups)
+pub opens_begin : (k : ℕ) (job : Job) (E : List RunEvent) → Later k 0 0 E → Opens k (begin job) E
+opens_begin k job E w = by (none job.groups)
   where
-    by : (t : Bool) → Opens k (if t then Ended else enter_claims job 0) []
+    by : (t : Bool) → Opens k (if t then Ended else enter_claims job 0) E
     by true = tt
-    by false = opens_claims k job 0 [] (λ h l at. refl)
+    by false = opens_claims k job 0 E w
 
-sized_begin : (job : Job) → Sized job (begin job)
+pub sized_begin : (job : Job) → Sized job (begin job)
 sized_begin job = by (none job.groups)
   where
     by : (t : Bool) → Sized job (if t then Ended else enter_claims job 0)
@@ -199,9 +208,10 @@ sure_starts jobs N most some filled few = by (starts jobs N some filled)
     by : Going jobs N (fresh_fleet jobs N) [] ⊎ Landed jobs N (fresh_fleet jobs N) [] → Sure jobs N most (fresh_fleet jobs N) [] ⊎ Over jobs N most (fresh_fleet jobs N) []
     by (inl on) = inl (record {
       going = on;
-      opens = λ j. subst (λ t. Opens j t []) (sym (at j)) (opens_begin j (get_or jobs j no_job));
+      opens = λ j. subst (λ t. Opens j t []) (sym (at j)) (opens_begin j (get_or jobs j no_job) [] (λ h l at. refl));
       sized = λ j. subst (λ t. Sized (get_or jobs j no_job) t) (sym (at j)) (sized_begin (get_or jobs j no_job));
       pipe = sym (ap piped (at (first_busy 0 jobs)) ∙ piped_out (begin (get_or jobs (first_busy 0 jobs) no_job)) (begin_out (get_or jobs (first_busy 0 jobs) no_job)));
       bound = (let is : to_come jobs (stage_in (fresh_fleet jobs N)) ≡ to_come jobs (λ j. begin (get_or jobs j no_job)) = ap (λ st. to_come jobs st) (fun_ext at) in omega (arith, is, few));
+      later = λ h l at. refl;
     })
-    by (inr over) = inr (record { landed = over; pipe = refl; bound = omega arith })
+    by (inr over) = inr (record { landed = over; pipe = refl; bound = omega arith; later = λ h l at. refl })

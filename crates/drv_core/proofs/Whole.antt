@@ -1,10 +1,11 @@
 use Rattle.drv_core.proofs.Alone.{AloneBegins, AloneRan, alone_begins, alone_first, events_both, events_more}
 use Rattle.drv_core.proofs.Standing.{SourcesRun}
-use Rattle.drv_core.proofs.Steps.{Begins, Filled, Ran}
+use Rattle.drv_core.proofs.Steps.{Begins, Ran}
+use Rattle.drv_core.specs.Filled.{Filled}
 use Rattle.drv_core.specs.Machine.{begin}
 use Rattle.drv_core.specs.Outcomes.{Answers, File, JobAnswers, Told, job_failed, link_run, removed_at_end, whole_job, whole_jobs}
 use Rattle.drv_core.specs.Story.{Block, after_sources, end_removals, event, removal_block, removal_failed, report, story}
-use Rattle.drv_core.specs.Windowed.{SourceBlock, Windowed, blocks_of, events_of}
+use Rattle.drv_core.specs.Windowed.{IsBeginning, IsWhole, SourceBlock, Windowed, blocks_of, events_of}
 use Rattle.drv_words.specs.Places.{no_job}
 use Rattle.drv_words.specs.declared.answers.Answer.TheVariants as answer
 use Rattle.drv_words.specs.declared.answers.RemoveAnswer.{RemoveAnswer}
@@ -134,17 +135,6 @@ assembled plan N blocks run a last whole_link many = record {
   all_answers = all_whole (whole_jobs plan.jobs run.answers) (whole_job (link_run plan.link run.answers) a) (nat_eq (length last) (length (removed_at_end plan (answers run.answers a last)))) run.all whole_link
       (ap (λ n. nat_eq n (length (removed_at_end plan (answers run.answers a last)))) many ∙ nat_eq_equiv.refl (length (removed_at_end plan (answers run.answers a last))));
 }
-
--- E is the beginning of a whole run
-pub record IsBeginning (plan : Plan) (N : ℕ) (E : List RunEvent) : Type 0 where
-  pub o : Answers
-  pub rest : List RunEvent
-  pub windowed : Windowed plan N o (E ++ rest)
-
--- E is a whole run
-pub record IsWhole (plan : Plan) (N : ℕ) (E : List RunEvent) : Type 0 where
-  pub o : Answers
-  pub windowed : Windowed plan N o E
 
 -- the removals are begun
 pub begun_removals : (plan : Plan) (N : ℕ) (E₁ E₂ E₃ : List RunEvent) (ran : Ran plan.jobs N E₁) (link : AloneRan (length plan.jobs) (link_run plan.link ran.run.answers) E₂) → RemovalsBegin (removed_at_end plan (answers ran.run.answers link.a [])) E₃ → IsBeginning plan N (E₁ ++ (E₂ ++ E₃))

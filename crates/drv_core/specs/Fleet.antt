@@ -5,7 +5,7 @@ use Rattle.drv_words.specs.declared.answers.Answer.{Answer}
 use Rattle.drv_words.specs.declared.plan.Job.{Job}
 use Rattle.drv_words.specs.declared.steps.Step.{Step}
 use Rattle.std.specs.List.{filter}
-use Rattle.std.specs.Prelude.{◌||◌, ◌+◌, ◌-◌, Bool, List, [], ◌∷◌, ◌++◌, Option, drop, get_or, if◌then◌else◌, length, map, min, nat_eq, not, slice_set, ℕ}
+use Rattle.std.specs.Prelude.{◌&&◌, ◌||◌, ◌+◌, ◌-◌, Bool, List, [], ◌∷◌, ◌++◌, Option, drop, get_or, if◌then◌else◌, length, map, min, nat_eq, nat_lt, not, slice_set, ℕ}
 
 -- All sources, step by step. Private clauses alone cite it: what a run comes to is said by the stories.
 
@@ -52,6 +52,14 @@ may_go all f k = all || not (awaits (stage_in f k))
 abbrev pub picked : Fleet → ℕ
 picked f = get_or (filter (may_go (all_fly f) f) f.begun) 0 f.next
 
+-- the next that hasn't begun may begin, while the window has room
+abbrev pub may_begin : List Job → Fleet → Bool
+may_begin jobs f = nat_lt f.next (length jobs) && nat_lt (length f.begun) f.window
+
+-- the sources that may go on, in plan order
+abbrev pub able : List Job → Fleet → List ℕ
+able jobs f = filter (may_go (all_fly f) f) f.begun ++ (if may_begin jobs f then f.next ∷ [] else [])
+
 abbrev pub first_busy : ℕ → List Job → ℕ
 first_busy k [] = k
 first_busy k (job ∷ jobs) = if none job.groups then first_busy (k + 1) jobs else k
@@ -92,6 +100,10 @@ closed f = if left (stage_in f f.current) then f else ended f
 
 abbrev pub chosen : Fleet → Fleet
 chosen f = record f { current = picked f }
+
+-- or the k-th of those that may go on
+abbrev pub selected : List Job → Fleet → ℕ → Fleet
+selected jobs f k = record f { current = get_or (able jobs f) k f.next }
 
 abbrev pub turned : List Job → Fleet → Fleet
 turned jobs f = chosen (closed (opened jobs f))

@@ -75,6 +75,11 @@ pub record MayCome (n N : ℕ) (begun left flying : ℕ → Bool) (k : ℕ) (wai
   -- before a wait as many sources as can have a child in flight
   pub all_in_flight : wait ≡ true → count n flying ≡ min N (count n left)
 
+-- whether a source has blocks to come, of which the first may come next; waits: whether that is a wait
+abbrev pub may_go_on : ℕ → ℕ → (ℕ → Bool) → (ℕ → Bool) → (ℕ → Bool) → (ℕ → Bool) → ℕ → Bool
+may_go_on n N begun left flying waits k =
+    left k && (nat_eq (count k (λ j. not (begun j) && left j)) 0 && (nat_lt (count n (λ j. (begun j || nat_eq j k) && left j)) (N + 1) && (not (waits k) || nat_eq (count n flying) (min N (count n left)))))
+
 -- that all blocks come so, after `before`; `left` says of which sources there are more to come after them
 abbrev pub AllMayCome : ℕ → ℕ → (ℕ → Bool) → List SourceBlock → List SourceBlock → Type 0
 AllMayCome n N left before [] = ⊤
@@ -98,6 +103,17 @@ pub record Windowed (plan : Plan) (N : ℕ) (o : Answers) (E : List RunEvent) : 
   pub stories : TellStories blocks 0 plan.jobs o.jobs
   pub may_come : AllMayCome (length plan.jobs) N nowhere [] blocks
   pub all_answers : whole plan o ≡ true
+
+-- E is the beginning of a whole run
+pub record IsBeginning (plan : Plan) (N : ℕ) (E : List RunEvent) : Type 0 where
+  pub o : Answers
+  pub rest : List RunEvent
+  pub windowed : Windowed plan N o (E ++ rest)
+
+-- E is a whole run
+pub record IsWhole (plan : Plan) (N : ℕ) (E : List RunEvent) : Type 0 where
+  pub o : Answers
+  pub windowed : Windowed plan N o E
 
 -- the sources' blocks, source by source in plan order
 abbrev pub only : ℕ → List SourceBlock → List SourceBlock

@@ -1,10 +1,11 @@
 //! The sources of a run, of which some are under way, and the one of them that is worked.
 
-ghost use Rattle.drv_core.specs.Fleet.{asked_of, busy, closed, ended, first_busy, flying, fresh, fresh_fleet, opened, picked, stage_in, taken, turned, worked, worker_in};
+ghost use Rattle.drv_core.specs.Fleet.{able, all_fly, asked_of, busy, closed, ended, first_busy, flying, fresh, fresh_fleet, may_go, opened, selected, stage_in, taken, turned, worked, worker_in};
+ghost use Rattle.drv_core.specs.Filled.{AllFilled};
 ghost use Rattle.drv_core.specs.FleetView.{fleet_of, worker_of};
 ghost use Rattle.drv_core.specs.Machine.{awaits, inside, left};
 ghost use Rattle.drv_core.specs.Source.{HasRoom};
-ghost use Rattle.std.specs.Prelude.{◌≡◌, ◌+◌, ◌<◌, ◌≤◌, IfOk, drop, get_or, length, map};
+ghost use Rattle.std.specs.Prelude.{◌≡◌, ◌+◌, ◌<◌, ◌≤◌, IfOk, OnOk, drop, get_or, length, map};
 ghost use Rattle.drv_words.specs.Places.{no_job};
 ghost use Rattle.std.specs.List.{filter};
 ghost use Rattle.std.specs.Vec.{vec_capacity};
@@ -53,9 +54,10 @@ fn count_busy(jobs: &[Job]) -> usize
     count
 }
 
-/// A source for each job. Want of memory is the only error.
+/// A source for each job, of which none has an empty group. Want of memory is the only error.
 fn sources_of(alloc: Global, jobs: &[Job]) -> Result<Vec<Source>, AllocError>
-    ensures { IfOk result (λ made. map worker_of made.items ≡ map fresh jobs.now) }
+    ensures fresh { IfOk result (λ made. map worker_of made.items ≡ map fresh jobs.now) }
+    ensures filled { OnOk result (AllFilled jobs.now) }
 {
     let mut sources = Vec::with_capacity(alloc, jobs.len())?;
     for job in jobs {
@@ -69,7 +71,8 @@ impl Flight {
     /// Nothing has begun. Want of memory is the only error.
     pub(crate) fn new(alloc: Global, jobs: &[Job], window: usize) -> Result<Flight, AllocError>
         requires { window ≤ 64 }
-        ensures { IfOk result (λ made. fleet_of made ≡ fresh_fleet jobs.now window) }
+        ensures fresh { IfOk result (λ made. fleet_of made ≡ fresh_fleet jobs.now window) }
+        ensures filled { OnOk result (AllFilled jobs.now) }
     {
         let sources = sources_of(alloc, jobs)?;
         let begun = Vec::with_capacity(alloc, window + 1)?;
@@ -122,7 +125,7 @@ impl Flight {
     }
 
     /// Whether the source that is worked is inside a block.
-    fn is_inside(&self) -> bool
+    pub(crate) fn is_inside(&self) -> bool
         ensures { result ≡ inside (stage_in (fleet_of self.now) self.now.current) }
     {
         match self.sources.as_slice().get(self.current) {
@@ -149,7 +152,7 @@ impl Flight {
     {
         self.open(jobs);
         self.close();
-        self.current = self.picked();
+        self.current = self.nth_going(0);
     }
 
     /// Behind its first block a source has begun.
@@ -205,16 +208,69 @@ impl Flight {
         count
     }
 
-    /// The first source that may go on: of those that have begun, or else the next that begins.
-    fn picked(&self) -> usize
-        ensures { result ≡ picked (fleet_of self.now) }
+    /// Whether all sources that can have a child in flight have one.
+    fn all_fly(&self) -> bool
+        ensures { result ≡ all_fly (fleet_of self.now) }
     {
-        let all_fly = self.flying() == self.window.min(self.unended);
+        self.flying() == self.window.min(self.unended)
+    }
+
+    /// Whether a source that has begun may go on; `all` says whether all fly.
+    fn may_go(&self, all: bool, number: usize) -> bool
+        ensures { result ≡ may_go all (fleet_of self.now) number }
+    {
+        all || !self.awaits(number)
+    }
+
+    /// The source of this number among those that have begun and may go on, or else the next that begins.
+    fn nth_going(&self, choice: usize) -> usize
+        ensures { result ≡ get_or (filter (may_go (all_fly (fleet_of self.now)) (fleet_of self.now)) self.now.begun.items) choice self.now.next }
+    {
+        let all = self.all_fly();
+        let mut left = choice;
         for number in self.begun.as_slice() {
-            if all_fly || !self.awaits(*number) {
+            if !self.may_go(all, *number) {
+                continue;
+            }
+            if left == 0 {
                 return *number;
             }
+            left -= 1;
         }
         self.next
+    }
+
+    /// How many of those that have begun may go on.
+    fn count_going(&self) -> usize
+        ensures going { result ≡ length (filter (may_go (all_fly (fleet_of self.now)) (fleet_of self.now)) self.now.begun.items) }
+        ensures few { result ≤ length self.now.begun.items }
+    {
+        let all = self.all_fly();
+        let mut count = 0;
+        for number in self.begun.as_slice() {
+            if self.may_go(all, *number) {
+                count += 1;
+            }
+        }
+        count
+    }
+
+    /// How many sources may go on.
+    pub(crate) fn count_able(&self, jobs: &[Job]) -> usize
+        ensures { result ≡ length (able jobs.now (fleet_of self.now)) }
+    {
+        let going = self.count_going();
+        if self.next < jobs.len() && self.begun.as_slice().len() < self.window {
+            going + 1
+        } else {
+            going
+        }
+    }
+
+    /// The source of this number among those that may go on is worked next.
+    pub(crate) fn select(&mut self, jobs: &[Job], choice: usize)
+        ensures { fleet_of self.new ≡ selected jobs.now (fleet_of self.old) choice }
+    {
+        self.current = self.nth_going(choice);
     }
 }

@@ -1,9 +1,14 @@
 //! The files that may be left at the end of a run: the temporaries and the marked files of the jobs that make calls.
 
-ghost use Rattle.drv_core.specs.LeftoverView.{places_of};
-ghost use Rattle.drv_core.specs.Leftovers.{all_files, files_from, job_files, place_in, temp_files};
-ghost use Rattle.drv_core.specs.Outcomes.{marked_files};
-ghost use Rattle.std.specs.Prelude.{◌≡◌, ◌++◌, ◌∷◌, ◌<◌, ◌≤◌, [], IfOk, OnOk, length, map, slice_get};
+ghost use Rattle.drv_core.specs.LeftoverView.{left_of, lefts_of, remains_of};
+ghost use Rattle.drv_core.specs.Leftovers.{all_files, files_from, job_files, temp_files};
+ghost use Rattle.drv_core.specs.Numbering.{Noted, lefts};
+ghost use Rattle.drv_core.specs.Outcomes.{File, marked_files};
+ghost use Rattle.drv_core.specs.Counting.{counting, fresh_remains, noting, noting_claim, place_at};
+ghost use Rattle.drv_core.specs.Remains.{is_due, is_left, passing, seeking, sought};
+ghost use Rattle.std.specs.Cmp.Lexicographic.{pointwise};
+ghost use Rattle.std.specs.Map.{lookup};
+ghost use Rattle.std.specs.Prelude.{◌≡◌, ◌-◌, ◌++◌, ◌∷◌, ◌<◌, ◌^◌, [], IfOk, List, OnOk, Some, cond, drop, false, get_or, if◌then◌else◌, length, nat_eq, unwrap_or, ℕ};
 
 use drv_words::{Answer, ClaimAnswer, Job, Place, Plan, Step, Word};
 use std::alloc::{AllocError, Global};
@@ -33,6 +38,33 @@ pub(crate) struct Leftovers {
     pub(crate) at: usize,
 }
 
+/// The number of a path, or a new one.
+fn number_of(known: &HashMap<&Word, usize>, path: &Word, new: usize) -> usize
+    ensures { result ≡ unwrap_or (lookup (λ k. pointwise nat_eq path.now k.now) known.now.entries) new }
+{
+    match known.get(&path) {
+        Some(first) => *first,
+        None => new,
+    }
+}
+
+/// A path that has no number yet gets the next.
+fn note_path<'p>(
+    known: &mut HashMap<&'p Word, usize>,
+    path: &'p Word,
+    first: usize,
+    number: usize,
+) -> Result<(), AllocError>
+    ensures { OnOk result ((p : List ℕ) → lookup (λ k. pointwise nat_eq p k.now) known.new.entries
+        ≡ (if nat_eq first number then cond (pointwise nat_eq path.now p) (Some number) (lookup (λ k. pointwise nat_eq p k.now) known.old.entries) else lookup (λ k. pointwise nat_eq p k.now) known.old.entries)) }
+{
+    if first == number {
+        known.insert(path, number)?;
+        return Ok(());
+    }
+    Ok(())
+}
+
 /// One file more, with the number of the first of its path.
 fn add_file<'p>(
     files: &mut Vec<Leftover>,
@@ -40,16 +72,12 @@ fn add_file<'p>(
     place: Place,
     path: &'p Word,
 ) -> Result<(), AllocError>
-    ensures { OnOk result (places_of files.new.items ≡ places_of files.old.items ++ place ∷ []) }
+    ensures { (before : List File) → Noted before (lefts_of files.old.items) (λ p. lookup (λ k. pointwise nat_eq p k.now) known.old.entries)
+        → OnOk result (Noted (before ++ record { place = place; path = path.now } ∷ []) (lefts_of files.new.items) (λ p. lookup (λ k. pointwise nat_eq p k.now) known.new.entries)) }
 {
     let number = files.len();
-    let first = match known.get(&path) {
-        Some(first) => *first,
-        None => number,
-    };
-    if first == number {
-        known.insert(path, number)?;
-    }
+    let first = number_of(known, path, number);
+    note_path(known, path, first, number)?;
     files.push(Leftover { place, first })?;
     Ok(())
 }
@@ -61,7 +89,8 @@ fn add_temps<'p>(
     number: usize,
     job: &'p Job,
 ) -> Result<(), AllocError>
-    ensures { OnOk result (places_of files.new.items ≡ places_of files.old.items ++ map place_in (temp_files number 0 job.now.temps)) }
+    ensures { (before : List File) → Noted before (lefts_of files.old.items) (λ p. lookup (λ k. pointwise nat_eq p k.now) known.old.entries)
+        → OnOk result (Noted (before ++ temp_files number 0 job.now.temps) (lefts_of files.new.items) (λ p. lookup (λ k. pointwise nat_eq p k.now) known.new.entries)) }
 {
     for (index, temp) in job.temps.as_slice().iter().enumerate() {
         add_file(files, known, Place::Temp { job: number, index }, &temp.path)?;
@@ -76,7 +105,8 @@ fn add_marked<'p>(
     number: usize,
     job: &'p Job,
 ) -> Result<(), AllocError>
-    ensures { OnOk result (places_of files.new.items ≡ places_of files.old.items ++ map place_in (marked_files number 0 job.now.marked)) }
+    ensures { (before : List File) → Noted before (lefts_of files.old.items) (λ p. lookup (λ k. pointwise nat_eq p k.now) known.old.entries)
+        → OnOk result (Noted (before ++ marked_files number 0 job.now.marked) (lefts_of files.new.items) (λ p. lookup (λ k. pointwise nat_eq p k.now) known.new.entries)) }
 {
     for (index, path) in job.marked.as_slice().iter().enumerate() {
         add_file(files, known, Place::Marked { job: number, index }, path)?;
@@ -91,7 +121,8 @@ fn add_job<'p>(
     number: usize,
     job: &'p Job,
 ) -> Result<(), AllocError>
-    ensures { OnOk result (places_of files.new.items ≡ places_of files.old.items ++ map place_in (job_files number job.now)) }
+    ensures { (before : List File) → Noted before (lefts_of files.old.items) (λ p. lookup (λ k. pointwise nat_eq p k.now) known.old.entries)
+        → OnOk result (Noted (before ++ job_files number job.now) (lefts_of files.new.items) (λ p. lookup (λ k. pointwise nat_eq p k.now) known.new.entries)) }
 {
     if job.groups.as_slice().is_empty() {
         return Ok(());
@@ -106,7 +137,8 @@ fn add_sources<'p>(
     known: &mut HashMap<&'p Word, usize>,
     jobs: &'p [Job],
 ) -> Result<(), AllocError>
-    ensures { OnOk result (places_of files.new.items ≡ places_of files.old.items ++ map place_in (files_from 0 jobs.now)) }
+    ensures { (before : List File) → Noted before (lefts_of files.old.items) (λ p. lookup (λ k. pointwise nat_eq p k.now) known.old.entries)
+        → OnOk result (Noted (before ++ files_from 0 jobs.now) (lefts_of files.new.items) (λ p. lookup (λ k. pointwise nat_eq p k.now) known.new.entries)) }
 {
     for (number, job) in jobs.iter().enumerate() {
         add_job(files, known, number, job)?;
@@ -115,9 +147,8 @@ fn add_sources<'p>(
 }
 
 /// The files of all jobs.
-#[tactic(auto, using(crate::proofs::Files::files_none, crate::proofs::Files::files_some))]
 fn files_of(alloc: Global, plan: &Plan) -> Result<Vec<Leftover>, AllocError>
-    ensures { IfOk result (λ files. places_of files.items ≡ map place_in (all_files plan.now)) }
+    ensures { IfOk result (λ files. lefts_of files.items ≡ lefts [] (all_files plan.now)) }
 {
     let mut files = Vec::new(alloc);
     let mut known = HashMap::new(alloc);
@@ -134,7 +165,7 @@ fn files_of(alloc: Global, plan: &Plan) -> Result<Vec<Leftover>, AllocError>
 impl Leftovers {
     /// Nothing was claimed or removed. Want of memory is the only error.
     pub(crate) fn new(alloc: Global, plan: &Plan) -> Result<Leftovers, AllocError>
-        ensures { IfOk result (λ made. places_of made.files.items ≡ map place_in (all_files plan.now)) }
+        ensures { IfOk result (λ made. remains_of made ≡ fresh_remains (lefts [] (all_files plan.now)) (length plan.now.jobs)) }
     {
         let files = files_of(alloc, plan)?;
         let gone = vec![in alloc; false; files.len()]?;
@@ -152,7 +183,7 @@ impl Leftovers {
 
     /// The file that is removed next.
     pub(crate) fn place(&self) -> Option<Place>
-        ensures { result ≡ slice_get (places_of self.now.files.items) self.now.at }
+        ensures { result ≡ place_at (remains_of self.now) }
     {
         match self.files.as_slice().get(self.at) {
             Some(file) => Some(file.place),
@@ -162,65 +193,98 @@ impl Leftovers {
 
     /// A temporary was claimed, if the step and its answer say so.
     pub(crate) fn note(&mut self, step: Step, answer: Answer)
-        ensures files { self.new.files.items ≡ self.old.files.items }
-        ensures at { self.new.at ≡ self.old.at }
+        requires few { (k : ℕ) → get_or self.old.claimed.items k 0 < 2 ^ 64 - 1 }
+        ensures { remains_of self.new ≡ noting (remains_of self.old) step answer }
     {
-        if let (Step::Claim(Place::Temp { job, .. }), Answer::Claim(ClaimAnswer::Claimed)) = (
-            step, answer,
-        ) {
-            self.count_claim(job);
+        match step {
+            Step::Claim(place) => self.note_claim(place, answer),
+            Step::Start { .. } => {}
+            Step::ClosePipe => {}
+            Step::Wait { .. } => {}
+            Step::Remove(_) => {}
+            Step::Report(_) => {}
+        }
+    }
+
+    /// A claim was answered.
+    fn note_claim(&mut self, place: Place, answer: Answer)
+        requires few { (k : ℕ) → get_or self.old.claimed.items k 0 < 2 ^ 64 - 1 }
+        ensures { remains_of self.new ≡ noting_claim (remains_of self.old) place answer }
+    {
+        match (place, answer) {
+            (Place::Temp { job, .. }, Answer::Claim(ClaimAnswer::Claimed)) => self.count_claim(job),
+            _ => {}
         }
     }
 
     /// One temporary more of this job was claimed.
     fn count_claim(&mut self, job: usize)
-        ensures files { self.new.files.items ≡ self.old.files.items }
-        ensures at { self.new.at ≡ self.old.at }
+        requires few { get_or self.old.claimed.items job 0 < 2 ^ 64 - 1 }
+        ensures { remains_of self.new ≡ counting (remains_of self.old) job }
     {
-        if let Some(count) = self.claimed.get_mut(job) {
-            *count = count.saturating_add(1);
+        if job < self.claimed.len() {
+            self.claimed[job] += 1;
         }
     }
 
     /// Whether a file is to be removed.
-    fn is_due(&self, file: Leftover) -> bool {
-        let is_left = match file.place {
+    fn is_due(&self, file: Leftover) -> bool
+        ensures { result ≡ is_due (remains_of self.now) self.now.gone.items (left_of file) }
+    {
+        self.is_left(file.place) && !self.is_gone(file.first)
+    }
+
+    /// Whether a file is a temporary that was claimed, or a marked file of a job that was worked.
+    fn is_left(&self, place: Place) -> bool
+        ensures { result ≡ is_left self.now.claimed.items self.now.sources self.now.is_linked place }
+    {
+        match place {
+            Place::Command { .. } => false,
             Place::Temp { job, index } => match self.claimed.as_slice().get(job) {
                 Some(count) => index < *count,
                 None => false,
             },
             Place::Marked { job, .. } => job < self.sources || self.is_linked,
             Place::OnFailure { .. } => false,
-            Place::Command { .. } => false,
-        };
-        let is_gone = match self.gone.as_slice().get(file.first) {
+        }
+    }
+
+    /// Whether the path of this number was removed.
+    fn is_gone(&self, number: usize) -> bool
+        ensures { result ≡ get_or self.now.gone.items number false }
+    {
+        match self.gone.as_slice().get(number) {
             Some(gone) => *gone,
             None => false,
-        };
-        is_left && !is_gone
+        }
     }
 
     /// Goes to the next file that is to be removed, from this number on, or behind the last.
     pub(crate) fn seek(&mut self, from: usize)
-        ensures files { self.new.files.items ≡ self.old.files.items }
-        ensures on { from ≤ self.new.at }
+        ensures { remains_of self.new ≡ seeking (remains_of self.old) from }
+    {
+        self.at = self.sought(from);
+    }
+
+    /// The number of the next file that is to be removed, from this one on.
+    fn sought(&self, from: usize) -> usize
+        ensures { result ≡ sought (remains_of self.now) from (lefts_of (drop from self.now.files.items)) }
     {
         let mut at = from;
         while at < self.files.len() && !self.is_due(self.files[at]) {
             at += 1;
         }
-        self.at = at;
+        at
     }
 
     /// The file's path is removed, and the next is sought.
     pub(crate) fn pass(&mut self)
         requires { self.old.at < length self.old.files.items }
-        ensures files { self.new.files.items ≡ self.old.files.items }
-        ensures on { self.old.at < self.new.at }
+        ensures { remains_of self.new ≡ passing (remains_of self.old) }
     {
         let first = self.files[self.at].first;
-        if let Some(gone) = self.gone.get_mut(first) {
-            *gone = true;
+        if first < self.gone.len() {
+            self.gone[first] = true;
         }
         self.seek(self.at + 1);
     }

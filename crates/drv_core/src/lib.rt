@@ -1,11 +1,16 @@
 //! The run of a plan, as pure steps: what is asked next, and what the answers come to.
 #![tactic(auto)]
 
+mod action;
 mod flight;
 mod law;
 mod leftovers;
 mod needed;
+mod run;
 mod source;
+mod work;
 
+pub use action::Action;
 pub use law::interleaving_law;
 pub use needed::events_needed;
+pub use run::Run;

@@ -1,6 +1,7 @@
 //! One source of a run: what is asked next for it, and where an answer leads.
 
 ghost use Rattle.drv_core.specs.Machine.{after, after_claim, after_refusal, after_removal, after_start, after_wait, asks, begin, claim_of, end_group, enter_claims, enter_group, enter_removals, enter_waits, remove_of, start_of, told_of, wait_note, wait_of};
+ghost use Rattle.drv_core.specs.Filled.{Filled};
 ghost use Rattle.drv_core.specs.Fleet.{fresh};
 ghost use Rattle.drv_core.specs.FleetView.{worker_of};
 ghost use Rattle.drv_core.specs.Outcomes.{greatest, none};
@@ -8,8 +9,8 @@ ghost use Rattle.drv_core.specs.Machine.{Starts, awaits, inside, left};
 ghost use Rattle.drv_core.specs.Source.{HasRoom, stage_at};
 ghost use Rattle.drv_words.specs.declared.steps.Place.TheVariants as place;
 ghost use Rattle.drv_words.specs.declared.steps.Step.TheVariants as step;
-ghost use Rattle.drv_words.specs.Places.{group_at};
-ghost use Rattle.std.specs.Prelude.{◌≡◌, ◌||◌, ◌+◌, ◌<◌, IfOk, Some, false, get_or, length, nat_lt, not};
+ghost use Rattle.drv_words.specs.Places.{group_at, no_job};
+ghost use Rattle.std.specs.Prelude.{◌≡◌, ◌||◌, ◌+◌, ◌<◌, IfOk, OnOk, Some, false, get_or, length, nat_lt, not};
 ghost use Rattle.std.specs.Vec.{vec_capacity};
 
 use drv_words::{
@@ -95,7 +96,7 @@ fn wait_of(answer: Answer) -> WaitAnswer
 }
 
 /// What a removal was answered.
-fn remove_of(answer: Answer) -> RemoveAnswer
+pub(crate) fn remove_of(answer: Answer) -> RemoveAnswer
     ensures { result ≡ remove_of answer }
 {
     match answer {
@@ -139,9 +140,10 @@ fn group_len(job: &Job, group: usize) -> usize
     }
 }
 
-/// The most commands of a group.
+/// The most commands of a group. None is empty.
 fn widest(job: &Job) -> usize
-    ensures { result ≡ greatest (λ group. length group) job.now.groups }
+    ensures most { result ≡ greatest (λ group. length group) job.now.groups }
+    ensures filled { Filled job.now }
 {
     let mut most = 0;
     for group in job.groups.as_slice() {
@@ -408,9 +410,11 @@ impl Source {
         }
     }
 
-    /// Nothing has begun, and there is room for the children of each group. Want of memory is the only error.
+    /// Nothing has begun, and there is room for the children of each group, of which none is empty. Want of memory is the only
+    /// error.
     pub(crate) fn new(alloc: Global, job: &Job) -> Result<Source, AllocError>
-        ensures { IfOk result (λ made. worker_of made ≡ fresh job.now) }
+        ensures fresh { IfOk result (λ made. worker_of made ≡ fresh job.now) }
+        ensures filled { OnOk result (Filled job.now) }
     {
         let mut source = Source {
             point: Point::Ended,
@@ -419,6 +423,17 @@ impl Source {
         };
         source.begin(job);
         Ok(source)
+    }
+
+    /// Nothing to do. It takes no memory.
+    pub(crate) fn idle(alloc: Global) -> Source
+        ensures { worker_of result ≡ fresh no_job }
+    {
+        Source {
+            point: Point::Ended,
+            started_before: false,
+            children: Vec::new(alloc),
+        }
     }
 
     /// Whether there is more to do.

@@ -1,8 +1,13 @@
 use Rattle.drv_core.proofs.flight.sources_of.Given as goal
+use Rattle.drv_core.specs.Filled.{Filled}
 use Rattle.drv_core.specs.Fleet.{fresh}
 use Rattle.drv_core.specs.FleetView.{worker_of}
-use Rattle.std.proofs.Common.{◌≡◌, ◌++◌, drop, map}
+use Rattle.drv_words.specs.Places.{no_job}
+use Rattle.std.proofs.Common.{◌≡◌, ◌<◌, ◌++◌, drop, get_or, map, ℕ}
 
--- those that are made and those that are left are all
+-- those that are made and those that are left are all; none so far has an empty group
 abbrev pub invariant-loop-job : goal.invariant-loop-job
-invariant-loop-job l = map worker_of l.sources.items ++ map fresh (drop l.job-index l.jobs) ≡ map fresh l.jobs
+invariant-loop-job l = record {
+  made : map worker_of l.sources.items ++ map fresh (drop l.job-index l.jobs) ≡ map fresh l.jobs;
+  filled : (j : ℕ) → j < l.job-index → Filled (get_or l.jobs j no_job);
+}

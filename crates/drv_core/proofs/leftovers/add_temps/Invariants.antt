@@ -1,8 +1,13 @@
 use Rattle.drv_core.proofs.leftovers.add_temps.Given as goal
-use Rattle.drv_core.specs.LeftoverView.{places_of}
-use Rattle.drv_core.specs.Leftovers.{place_in, temp_files}
-use Rattle.std.proofs.Common.{◌≡◌, ◌++◌, drop, map}
+use Rattle.drv_core.specs.LeftoverView.{lefts_of}
+use Rattle.drv_core.specs.Leftovers.{temp_files}
+use Rattle.drv_core.specs.Numbering.{Noted, Noting}
+use Rattle.drv_core.specs.Outcomes.{File}
+use Rattle.std.proofs.Common.{◌++◌, List, drop, nat_eq}
+use Rattle.std.specs.Cmp.Lexicographic.{pointwise}
+use Rattle.std.specs.Map.{lookup}
 
 -- those that were added and those that are left are all
 abbrev pub invariant-loop-index : goal.invariant-loop-index
-invariant-loop-index l = places_of l.files.items ++ map place_in (temp_files l.number l.index (drop l.index l.temp-items)) ≡ places_of l.fn.files.items ++ map place_in (temp_files l.number 0 l.temp-items)
+invariant-loop-index l = (before : List File) → Noted before (lefts_of l.fn.files.items) (λ p. lookup (λ k. pointwise nat_eq p k.now) l.fn.known.entries)
+    → Noting (before ++ temp_files l.number 0 l.temp-items) (temp_files l.number l.index (drop l.index l.temp-items)) (lefts_of l.files.items) (λ p. lookup (λ k. pointwise nat_eq p k.now) l.known.entries)

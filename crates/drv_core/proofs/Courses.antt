@@ -1,0 +1,246 @@
+use Rattle.drv_core.proofs.Ends.{AtEnd, AtLink, Holds, HoldsAt, end_files, file_there, link_ends, most_of, removal_fails, removal_passes, report_passes, sources_end}
+use Rattle.drv_core.proofs.Finish.{ended as is_ended}
+use Rattle.drv_core.proofs.Flights.{made}
+use Rattle.drv_core.proofs.Linked.{Linking, end_begins, end_whole, link_begins, link_fewer, link_makes, link_starts, link_takes, sure_begins}
+use Rattle.drv_core.proofs.Order.{apart_above, count_some, is_less}
+use Rattle.drv_core.proofs.Rooms.{first_cost, run_fits}
+use Rattle.drv_core.proofs.Status.{status_is}
+use Rattle.drv_core.proofs.Steps.{asked}
+use Rattle.drv_core.proofs.Sure.{Over, Sure, sure_fewer, sure_makes, sure_starts, sure_takes}
+use Rattle.drv_core.proofs.Able.{sure_selected}
+use Rattle.drv_core.proofs.Whole.{file_at, no_file}
+use Rattle.drv_core.specs.Filled.{Filled}
+use Rattle.drv_core.specs.Course.{Course, Done, Link, Phase, Removals, Report, Sources, asked_at, asked_by, behind_link, behind_sources, fresh_course, link_by, link_of, linking, removed, removes, removing, reports, run_code, sourced, stepped, stepped_at}
+use Rattle.drv_core.specs.Fleet.{able, asked_of, fresh_fleet, selected, stage_in, taken}
+use Rattle.drv_core.specs.Machine.{ClaimReport, Claims, Closing, Ended, RemovalReport, Removals as OwnRemovals, Stage, StartReport, Starts, WaitReport, Waits, after, asks, begin, inside, is_kind, left}
+use Rattle.drv_core.specs.Needed.{needed}
+use Rattle.drv_core.specs.Outcomes.{status_from, status_of}
+use Rattle.drv_core.specs.Story.{event}
+use Rattle.drv_core.specs.Windowed.{IsBeginning, IsWhole, count}
+use Rattle.drv_core.specs.Reached.{between_blocks}
+use Rattle.drv_words.specs.Places.{no_job}
+use Rattle.drv_words.specs.Stepping.{can_make}
+use Rattle.drv_words.specs.declared.answers.Answer.{Answer}
+use Rattle.drv_words.specs.declared.answers.Answer.TheVariants as answer
+use Rattle.drv_words.specs.declared.answers.RemoveAnswer.{RemoveAnswer}
+use Rattle.drv_words.specs.declared.answers.RemoveAnswer.TheVariants as remove
+use Rattle.drv_words.specs.declared.plan.Job.{Job}
+use Rattle.drv_words.specs.declared.plan.Plan.{Plan}
+use Rattle.drv_words.specs.declared.steps.Note.TheVariants as note
+use Rattle.drv_words.specs.declared.steps.RunEvent.{RunEvent}
+use Rattle.drv_words.specs.declared.steps.Step.{Step}
+use Rattle.drv_words.specs.declared.steps.Step.TheVariants as step
+use Rattle.std.proofs.Common.{◌≡◌, ◌⊎◌, ◌<◌, ◌≤◌, ◌+◌, ◌∙◌, Bool, false, true, List, [], ◌∷◌, ◌++◌, None, Option, Some, ap, arith, drop, get_or, if◌then◌else◌, inl, inr, length, nat_eq, not, refl, subst, sym, ℕ}
+use Rattle.std.proofs.lemmas.List.Sums.{sum_by-cons}
+use Rattle.std.proofs.lemmas.List.{drop_more}
+use Rattle.std.specs.List.{sum_by}
+use Rattle.std.specs.Option.{option_to_list}
+
+-- A whole run, step by step: what holds of it is kept by each answer, from the beginning on.
+
+-- no group of the plan is empty
+pub record FilledPlan (plan : Plan) : Type 0 where
+  pub jobs : (j : ℕ) → Filled (get_or plan.jobs j no_job)
+  pub link : (job : Job) → plan.link ≡ Some job → Filled job
+
+-- the link is begun, or there is nothing to do for it
+linking_holds : (plan : Plan) (N : ℕ) (c : Course) (job : Job) → plan.link ≡ Some job → Linking plan N (most_of plan + first_cost job) job c.link c.events → Holds plan N (linking plan job c)
+linking_holds plan N c job is k = by (left c.link) refl
+  where
+    by : (t : Bool) → left c.link ≡ t → Holds plan N (if t then record c { phase = Link } else behind_link plan job c)
+    by true e = record { job = job; is = is; linked = k; more = e }
+    by false e = link_ends plan N c job is (subst (λ s. Linking plan N (most_of plan + first_cost job) job s c.events) (is_ended c.link e) k)
+
+-- all sources have ended
+over_holds : (plan : Plan) (N : ℕ) (c : Course) → FilledPlan plan → Over plan.jobs N (most_of plan) c.fleet c.events → Holds plan N (behind_sources plan (link_by plan.link (run_code c.events)) c)
+over_holds plan N c filled o = by plan.link refl
+  where
+    quiet : link_by plan.link (run_code c.events) ≡ no_job → Holds plan N (behind_sources plan no_job c)
+    quiet e = sources_end plan N (record c { link = Ended }) o e
+
+    runs : (job : Job) → plan.link ≡ Some job → (t : Bool) → nat_eq (run_code c.events) 0 ≡ t → Holds plan N (behind_sources plan (if t then job else no_job) c)
+    runs job is true e = linking_holds plan N (record c { link = begin job }) job is (link_starts plan N (most_of plan) c.fleet job c.events (filled.link job is) o is e)
+    runs job is false e = quiet (ap (λ l. link_by l (run_code c.events)) is ∙ ap (λ (t : Bool). if t then job else no_job) e)
+
+    by : (l : Option Job) → plan.link ≡ l → Holds plan N (behind_sources plan (link_by l (run_code c.events)) c)
+    by None is = quiet (ap (λ l. link_by l (run_code c.events)) is)
+    by (Some job) is = runs job is (nat_eq (run_code c.events) 0) refl
+
+sourced_holds : (plan : Plan) (N : ℕ) (c : Course) → FilledPlan plan → Sure plan.jobs N (most_of plan) c.fleet c.events ⊎ Over plan.jobs N (most_of plan) c.fleet c.events → Holds plan N (sourced plan c)
+sourced_holds plan N c filled (inl s) = subst (λ (t : Bool). Holds plan N (if t then behind_sources plan (link_by plan.link (run_code c.events)) c else record c { phase = Sources })) (sym some_left) s
+  where
+    in_range : c.fleet.current < length plan.jobs
+    in_range = is_less c.fleet.current (length plan.jobs) s.going.may.is_source
+
+    some_left : nat_eq c.fleet.unended 0 ≡ false
+    some_left =
+        let one : 1 ≤ count (length plan.jobs) (λ j. left (stage_in c.fleet j)) = count_some (length plan.jobs) c.fleet.current (λ j. left (stage_in c.fleet j)) in_range (ap left (s.going.at c.fleet.current) ∙ s.going.more) in
+        let is : c.fleet.unended ≡ count (length plan.jobs) (λ j. left (stage_in c.fleet j)) = s.going.counts.unended_is in
+        apart_above c.fleet.unended 0 (omega (arith, one, is))
+sourced_holds plan N c filled (inr o) = subst (λ (t : Bool). Holds plan N (if t then behind_sources plan (link_by plan.link (run_code c.events)) c else record c { phase = Sources })) (sym (ap (λ n. nat_eq n 0) o.landed.unended_is)) (over_holds plan N c filled o)
+
+-- at the beginning
+pub fresh_holds : (plan : Plan) (N : ℕ) → 1 ≤ N → FilledPlan plan → Holds plan N (fresh_course plan N)
+fresh_holds plan N some filled = sourced_holds plan N (record { phase = Sources; fleet = fresh_fleet plan.jobs N; link = Ended; due = []; events = [] }) filled (sure_starts plan.jobs N (most_of plan) some filled.jobs (omega arith))
+
+-- one step
+
+same_some : (s t : Step) → Some s ≡ Some t → s ≡ t
+same_some s t e = ap asked e
+
+event_with : (c : Course) (s t : Step) (a : Answer) → s ≡ t → c.events ++ event s a ∷ [] ≡ c.events ++ event t a ∷ []
+event_with c s t a e = ap (λ x. c.events ++ event x a ∷ []) e
+
+sources_step : (plan : Plan) (N : ℕ) (c : Course) (s : Step) (a : Answer) → 1 ≤ N → FilledPlan plan → Sure plan.jobs N (most_of plan) c.fleet c.events → asked_of plan.jobs c.fleet ≡ Some s → is_kind s a ≡ true
+    → Holds plan N (sourced plan (record c { fleet = taken plan.jobs c.fleet a; events = c.events ++ event s a ∷ [] }))
+sources_step plan N c s a some filled h is kind = subst (λ t. Holds plan N (sourced plan (record c { fleet = taken plan.jobs c.fleet a; events = c.events ++ event t a ∷ [] }))) (ap asked is)
+    (sourced_holds plan N (record c { fleet = taken plan.jobs c.fleet a; events = c.events ++ made plan.jobs c.fleet (stage_in c.fleet) a ∷ [] }) filled
+    (sure_takes plan.jobs N (most_of plan) c.fleet c.events a some filled.jobs h (subst (λ t. is_kind t a ≡ true) (sym (ap asked is)) kind)))
+
+link_step : (plan : Plan) (N : ℕ) (c : Course) (s : Step) (a : Answer) → FilledPlan plan → AtLink plan N c → asks (length plan.jobs) (link_of plan.link) c.link ≡ Some s → is_kind s a ≡ true
+    → Holds plan N (linking plan (link_of plan.link) (record c { link = after (link_of plan.link) c.link a; events = c.events ++ event s a ∷ [] }))
+link_step plan N c s a filled h is kind = subst (λ j. Holds plan N (linking plan j (record c { link = after j c.link a; events = c.events ++ event s a ∷ [] }))) (sym job_is)
+    (subst (λ t. Holds plan N (linking plan h.job (record c { link = after h.job c.link a; events = c.events ++ event t a ∷ [] }))) asks_is
+    (linking_holds plan N (record c { link = after h.job c.link a; events = c.events ++ event (asked (asks (length plan.jobs) h.job c.link)) a ∷ [] }) h.job h.is
+    (link_takes plan N (most_of plan + first_cost h.job) h.job c.link c.events a (filled.link h.job h.is) h.linked h.more (subst (λ t. is_kind t a ≡ true) (sym asks_is) kind))))
+  where
+    job_is : link_of plan.link ≡ h.job
+    job_is = ap (λ l. link_of l) h.is
+
+    asks_is : asked (asks (length plan.jobs) h.job c.link) ≡ s
+    asks_is = ap (λ j. asked (asks (length plan.jobs) j c.link)) (sym job_is) ∙ ap asked is
+
+-- the file that is next
+next_is_first : (plan : Plan) (N : ℕ) (failed : Bool) (c : Course) (h : AtEnd plan N failed c) → c.due ≡ file_at (end_files plan N h.i failed c.events h.ending) h.i ∷ drop (h.i + 1) (end_files plan N h.i failed c.events h.ending)
+next_is_first plan N failed c h = h.due_is ∙ drop_more (end_files plan N h.i failed c.events h.ending) h.i no_file h.some
+
+removal_answered : (plan : Plan) (N : ℕ) (c : Course) (h : AtEnd plan N false c) (x : RemoveAnswer)
+    → Holds plan N (removed (record c { events = c.events ++ event (step.Remove (file_at (end_files plan N h.i false c.events h.ending) h.i).place) (answer.Remove x) ∷ [] }) (answer.Remove x))
+removal_answered plan N c h remove.Removed = removal_passes plan N c h remove.Removed refl
+removal_answered plan N c h remove.Missing = removal_passes plan N c h remove.Missing refl
+removal_answered plan N c h remove.NotPlain = removal_passes plan N c h remove.NotPlain refl
+removal_answered plan N c h remove.Failed = removal_fails plan N c h
+
+removal_of_kind : (plan : Plan) (N : ℕ) (c : Course) (h : AtEnd plan N false c) (a : Answer) → is_kind (step.Remove (file_at (end_files plan N h.i false c.events h.ending) h.i).place) a ≡ true
+    → Holds plan N (removed (record c { events = c.events ++ event (step.Remove (file_at (end_files plan N h.i false c.events h.ending) h.i).place) a ∷ [] }) a)
+removal_of_kind plan N c h (answer.Remove x) kind = removal_answered plan N c h x
+removal_of_kind plan N c h a kind = absurd cc
+
+removal_step : (plan : Plan) (N : ℕ) (c : Course) (s : Step) (a : Answer) → AtEnd plan N false c → removes c.due ≡ Some s → is_kind s a ≡ true → Holds plan N (removed (record c { events = c.events ++ event s a ∷ [] }) a)
+removal_step plan N c s a h is kind = subst (λ t. Holds plan N (removed (record c { events = c.events ++ event t a ∷ [] }) a)) asks_is (removal_of_kind plan N c h a (subst (λ t. is_kind t a ≡ true) (sym asks_is) kind))
+  where
+    asks_is : step.Remove (file_at (end_files plan N h.i false c.events h.ending) h.i).place ≡ s
+    asks_is = ap (λ l. asked (removes l)) (sym (next_is_first plan N false c h)) ∙ ap asked is
+
+report_of_kind : (plan : Plan) (N : ℕ) (c : Course) (h : AtEnd plan N true c) (a : Answer) → is_kind (step.Report (note.NotRemoved (file_at (end_files plan N h.i true c.events h.ending) h.i).place)) a ≡ true
+    → Holds plan N (removing (record c { events = c.events ++ event (step.Report (note.NotRemoved (file_at (end_files plan N h.i true c.events h.ending) h.i).place)) a ∷ [] }) (drop 1 c.due))
+report_of_kind plan N c h (answer.Reported t) kind = report_passes plan N c h t
+report_of_kind plan N c h a kind = absurd cc
+
+report_step : (plan : Plan) (N : ℕ) (c : Course) (s : Step) (a : Answer) → AtEnd plan N true c → reports c.due ≡ Some s → is_kind s a ≡ true → Holds plan N (removing (record c { events = c.events ++ event s a ∷ [] }) (drop 1 c.due))
+report_step plan N c s a h is kind = subst (λ t. Holds plan N (removing (record c { events = c.events ++ event t a ∷ [] }) (drop 1 c.due))) asks_is (report_of_kind plan N c h a (subst (λ t. is_kind t a ≡ true) (sym asks_is) kind))
+  where
+    asks_is : step.Report (note.NotRemoved (file_at (end_files plan N h.i true c.events h.ending) h.i).place) ≡ s
+    asks_is = ap (λ l. asked (reports l)) (sym (next_is_first plan N true c h)) ∙ ap asked is
+
+pub steps : (plan : Plan) (N : ℕ) (c : Course) (s : Step) (a : Answer) → 1 ≤ N → FilledPlan plan → Holds plan N c → asked_by plan c ≡ Some s → is_kind s a ≡ true → Holds plan N (stepped plan c s a)
+steps plan N c s a some filled h is kind = by c.phase h is
+  where
+    by : (p : Phase) → HoldsAt plan N p c → asked_at plan p c ≡ Some s → Holds plan N (stepped_at plan p (record c { events = c.events ++ event s a ∷ [] }) a)
+    by Sources held asks_is = sources_step plan N c s a some filled held asks_is kind
+    by Link held asks_is = link_step plan N c s a filled held asks_is kind
+    by Removals held asks_is = removal_step plan N c s a held asks_is kind
+    by Report held asks_is = report_step plan N c s a held asks_is kind
+    by Done held asks_is = absurd cc
+
+-- another source is chosen
+pub selected_holds : (plan : Plan) (N : ℕ) (c : Course) (k : ℕ) → between_blocks c.phase c.fleet ≡ true → Holds plan N c → k < length (able plan.jobs c.fleet) → Holds plan N (record c { fleet = selected plan.jobs c.fleet k })
+selected_holds plan N c k e h lt = by c.phase e h
+  where
+    out : (t : Bool) → not t ≡ true → t ≡ false
+    out true e = absurd cc
+    out false e = refl
+
+    by : (p : Phase) → between_blocks p c.fleet ≡ true → HoldsAt plan N p c → HoldsAt plan N p (record c { fleet = selected plan.jobs c.fleet k })
+    by Sources between held = sure_selected plan.jobs N (most_of plan) c.fleet c.events k held (out (inside (stage_in c.fleet c.fleet.current)) between) lt
+    by Link between held = absurd cc
+    by Removals between held = absurd cc
+    by Report between held = absurd cc
+    by Done between held = absurd cc
+
+-- what is known of it
+
+left_asks : (k : ℕ) (job : Job) (s : Stage) → left s ≡ true → asks k job s ≡ None → ⊥
+left_asks k job (Claims i) l e = absurd cc
+left_asks k job (ClaimReport i x) l e = absurd cc
+left_asks k job (Starts g was ids) l e = absurd cc
+left_asks k job (StartReport g was ids why) l e = absurd cc
+left_asks k job (Closing g was ids why told) l e = absurd cc
+left_asks k job (Waits g was ids i fault) l e = absurd cc
+left_asks k job (WaitReport g was ids i fault x) l e = absurd cc
+left_asks k job (OwnRemovals i) l e = absurd cc
+left_asks k job (RemovalReport i) l e = absurd cc
+left_asks k job Ended l e = absurd cc
+
+pub holds_begins : (plan : Plan) (N : ℕ) (c : Course) → 1 ≤ N → FilledPlan plan → Holds plan N c → IsBeginning plan N c.events
+holds_begins plan N c some filled h = by c.phase h
+  where
+    by : (p : Phase) → HoldsAt plan N p c → IsBeginning plan N c.events
+    by Sources held = sure_begins plan N (most_of plan) c.fleet c.events some filled.link held
+    by Link held = link_begins plan N (most_of plan + first_cost held.job) held.job c.link c.events held.linked
+    by Removals held = end_begins plan N held.i false c.events held.ending
+    by Report held = end_begins plan N held.i true c.events held.ending
+    by Done held = end_begins plan N held.i false c.events held.ending
+
+pub holds_makes : (plan : Plan) (N : ℕ) (c : Course) (s : Step) → Holds plan N c → asked_by plan c ≡ Some s → can_make plan c.events s ≡ true
+holds_makes plan N c s h is = by c.phase h is
+  where
+    by : (p : Phase) → HoldsAt plan N p c → asked_at plan p c ≡ Some s → can_make plan c.events s ≡ true
+    by Sources held e = subst (λ t. can_make plan c.events t ≡ true) (ap asked e) (sure_makes plan N (most_of plan) c.fleet c.events held)
+    by Link held e = subst (λ t. can_make plan c.events t ≡ true) (ap (λ l. asked (asks (length plan.jobs) (link_of l) c.link)) (sym held.is) ∙ ap asked e) (link_makes plan N (most_of plan + first_cost held.job) held.job c.link c.events held.is held.linked held.more)
+    by Removals held e = subst (λ t. can_make plan c.events t ≡ true) (ap (λ l. asked (removes l)) (sym (next_is_first plan N false c held)) ∙ ap asked e) (file_there plan N held.i false c.events held.ending held.some)
+    by Report held e = subst (λ t. can_make plan c.events t ≡ true) (ap (λ l. asked (reports l)) (sym (next_is_first plan N true c held)) ∙ ap asked e) (file_there plan N held.i true c.events held.ending held.some)
+    by Done held e = absurd cc
+
+few_sources : (plan : Plan) → most_of plan ≤ needed plan
+few_sources plan = let fits = run_fits plan in omega (arith, fits)
+
+few_with_link : (plan : Plan) (job : Job) → plan.link ≡ Some job → most_of plan + first_cost job ≤ needed plan
+few_with_link plan job is =
+    let fits = run_fits plan in
+    let cost : sum_by first_cost (option_to_list plan.link) ≡ first_cost job + sum_by first_cost [] = ap (λ l. sum_by first_cost (option_to_list l)) is ∙ sum_by-cons first_cost job [] in
+    omega (arith, fits, cost)
+
+pub holds_fewer : (plan : Plan) (N : ℕ) (c : Course) (s : Step) → Holds plan N c → asked_by plan c ≡ Some s → length c.events < needed plan
+holds_fewer plan N c s h is = by c.phase h is
+  where
+    by : (p : Phase) → HoldsAt plan N p c → asked_at plan p c ≡ Some s → length c.events < needed plan
+    by Sources held e = let lt = sure_fewer plan.jobs N (most_of plan) c.fleet c.events held in let few = few_sources plan in omega (arith, lt, few)
+    by Link held e = let lt = link_fewer plan N (most_of plan + first_cost held.job) held.job c.link c.events held.linked held.more in let few = few_with_link plan held.job held.is in omega (arith, lt, few)
+    by Removals held e = let le = held.bound in let lt = held.some in omega (arith, le, lt)
+    by Report held e = let le = held.bound in let lt = held.some in omega (arith, le, lt)
+    by Done held e = absurd cc
+
+pub holds_bound : (plan : Plan) (N : ℕ) (c : Course) → Holds plan N c → length c.events ≤ needed plan
+holds_bound plan N c h = by c.phase h
+  where
+    by : (p : Phase) → HoldsAt plan N p c → length c.events ≤ needed plan
+    by Sources held = let lt = sure_fewer plan.jobs N (most_of plan) c.fleet c.events held in let few = few_sources plan in omega (arith, lt, few)
+    by Link held = let lt = link_fewer plan N (most_of plan + first_cost held.job) held.job c.link c.events held.linked held.more in let few = few_with_link plan held.job held.is in omega (arith, lt, few)
+    by Removals held = let le = held.bound in let lt = held.some in omega (arith, le, lt)
+    by Report held = let le = held.bound in let lt = held.some in omega (arith, le, lt)
+    by Done held = held.bound
+
+-- where nothing is asked for, the events are a whole run
+pub holds_whole : (plan : Plan) (N : ℕ) (c : Course) → Holds plan N c → asked_by plan c ≡ None → IsWhole plan N c.events
+holds_whole plan N c h is = by c.phase h is
+  where
+    by : (p : Phase) → HoldsAt plan N p c → asked_at plan p c ≡ None → IsWhole plan N c.events
+    by Sources held e = absurd (left_asks c.fleet.current (get_or plan.jobs c.fleet.current no_job) (stage_in c.fleet c.fleet.current) (ap left (held.going.at c.fleet.current) ∙ held.going.more) e)
+    by Link held e = absurd (left_asks (length plan.jobs) (link_of plan.link) c.link held.more e)
+    by Removals held e = absurd (let clash : Some (step.Remove (file_at (end_files plan N held.i false c.events held.ending) held.i).place) ≡ None = ap removes (sym (next_is_first plan N false c held)) ∙ e in cc)
+    by Report held e = absurd (let clash : Some (step.Report (note.NotRemoved (file_at (end_files plan N held.i true c.events held.ending) held.i).place)) ≡ None = ap reports (sym (next_is_first plan N true c held)) ∙ e in cc)
+    by Done held e = end_whole plan N held.i c.events held.ending held.all
+
+pub whole_status : (plan : Plan) (N : ℕ) (E : List RunEvent) (pass_codes : Bool) → (w : IsWhole plan N E) → status_from pass_codes (run_code E) ≡ status_of pass_codes w.o
+whole_status plan N E pass_codes w = status_is plan N w.o E pass_codes w.windowed

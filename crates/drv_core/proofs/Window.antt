@@ -1,0 +1,151 @@
+use Rattle.drv_core.proofs.Stands.{answer_kept, choice_kept, fresh_kept}
+use Rattle.drv_core.specs.Course.{Done, Link, Phase, Removals, Report, Sources, link_of}
+use Rattle.drv_core.specs.Filled.{AllFilled, Filled}
+use Rattle.drv_core.specs.Fleet.{Fleet, closed, ended, first_busy, opened, selected, settled, stage_in, taken, turned, worked}
+use Rattle.drv_core.specs.Machine.{inside, is_kind, left, remove_of}
+use Rattle.drv_core.specs.Needed.{needed}
+use Rattle.drv_core.specs.Position.{Position, flown, kept, link_after, linked, moved, moved_in, next_of, removal_made, removing_first, removing_next, sources_left}
+use Rattle.drv_core.specs.Reached.{Kept, between_blocks, choices_at, choosing}
+use Rattle.drv_core.specs.Starting.{first_position, fresh_position}
+use Rattle.drv_core.specs.Story.{event, removal_failed}
+use Rattle.drv_words.specs.Places.{no_job}
+use Rattle.drv_words.specs.declared.answers.Answer.{Answer}
+use Rattle.drv_words.specs.declared.plan.Job.{Job}
+use Rattle.drv_words.specs.declared.plan.Plan.{Plan}
+use Rattle.drv_words.specs.declared.steps.Step.{Step}
+use Rattle.std.proofs.Common.{◌≡◌, ◌<◌, ◌≤◌, ◌+◌, ◌∙◌, Bool, false, true, List, [], ◌∷◌, ◌++◌, Some, ap, drop, get_or, if◌then◌else◌, nat_eq, refl, subst, sym, ℕ}
+
+-- The window of a run stays as it was given.
+
+linked_fleet : (p : Position) → (linked p).fleet ≡ p.fleet
+linked_fleet p = by (left p.link.stage)
+  where
+    by : (t : Bool) → (if t then record p { phase = Link } else removing_first p).fleet ≡ p.fleet
+    by true = refl
+    by false = refl
+
+left_fleet : (p : Position) → (sources_left p).fleet ≡ p.fleet
+left_fleet p = by (nat_eq p.code 0)
+  where
+    by : (t : Bool) → (if t then linked (record p { remains = record p.remains { linked = true } }) else removing_first p).fleet ≡ p.fleet
+    by true = linked_fleet (record p { remains = record p.remains { linked = true } })
+    by false = refl
+
+flown_fleet : (p : Position) → (flown p).fleet ≡ p.fleet
+flown_fleet p = by (nat_eq p.fleet.unended 0)
+  where
+    by : (t : Bool) → (if t then sources_left p else p).fleet ≡ p.fleet
+    by true = left_fleet p
+    by false = refl
+
+opened_window : (jobs : List Job) (f : Fleet) → (opened jobs f).window ≡ f.window
+opened_window jobs f = by (nat_eq f.current f.next)
+  where
+    by : (t : Bool) → (if t then record f { begun = f.begun ++ f.current ∷ []; next = first_busy (f.current + 1) (drop (f.current + 1) jobs) } else f).window ≡ f.window
+    by true = refl
+    by false = refl
+
+closed_window : (f : Fleet) → (closed f).window ≡ f.window
+closed_window f = by (left (stage_in f f.current))
+  where
+    by : (t : Bool) → (if t then f else ended f).window ≡ f.window
+    by true = refl
+    by false = refl
+
+settled_window : (jobs : List Job) (f : Fleet) → (settled jobs f).window ≡ f.window
+settled_window jobs f = by (inside (stage_in f f.current))
+  where
+    by : (t : Bool) → (if t then f else turned jobs f).window ≡ f.window
+    by true = refl
+    by false = closed_window (opened jobs f) ∙ opened_window jobs f
+
+removal_fleet : (p : Position) (a : Answer) → (removal_made p a).fleet ≡ p.fleet
+removal_fleet p a = by (removal_failed (remove_of a))
+  where
+    by : (t : Bool) → (if t then record p { phase = Report } else removing_next p).fleet ≡ p.fleet
+    by true = refl
+    by false = refl
+
+moved_window : (plan : Plan) (p : Position) (s : Step) (a : Answer) → (moved plan p s a).fleet.window ≡ p.fleet.window
+moved_window plan p s a = by p.phase
+  where
+    by : (q : Phase) → (moved_in q plan (kept p s a) a).fleet.window ≡ p.fleet.window
+    by Sources = ap (λ f. f.window) (flown_fleet (record (kept p s a) { fleet = taken plan.jobs p.fleet a })) ∙ settled_window plan.jobs (worked (get_or plan.jobs p.fleet.current no_job) p.fleet a)
+    by Link = ap (λ f. f.window) (linked_fleet (record (kept p s a) { link = link_after plan.link p.link a }))
+    by Removals = ap (λ f. f.window) (removal_fleet (kept p s a) a)
+    by Report = refl
+    by Done = refl
+
+choosing_window : (plan : Plan) (p : Position) (i : ℕ) → (choosing plan p i).fleet.window ≡ p.fleet.window
+choosing_window plan p i = by (between_blocks p.phase p.fleet)
+  where
+    by : (t : Bool) → (if t then record p { fleet = selected plan.jobs p.fleet i } else p).fleet.window ≡ p.fleet.window
+    by true = refl
+    by false = refl
+
+-- so it can be read from the position
+
+pub fresh_stands : (plan : Plan) (N room : ℕ) (p : Position) → 1 ≤ N → AllFilled plan.jobs → Filled (link_of plan.link) → needed plan ≤ room → p ≡ fresh_position plan N room → (Kept plan p.fleet.window p) × (p.fleet.window ≡ N)
+fresh_stands plan N room p some jobs link fits is = (subst (λ n. Kept plan n p) (sym window) (fresh_kept plan N room p some jobs link fits is), window)
+  where
+    window : p.fleet.window ≡ N
+    window = ap (λ q. q.fleet.window) is ∙ ap (λ f. f.window) (flown_fleet (first_position plan N room))
+
+pub answer_stands : (plan : Plan) (p q : Position) (s : Step) (a : Answer) → Kept plan p.fleet.window p → next_of plan p ≡ Some s → is_kind s a ≡ true → q ≡ moved plan p s a → (Kept plan q.fleet.window q) × (q.fleet.window ≡ p.fleet.window)
+answer_stands plan p q s a k is kind to = (subst (λ n. Kept plan n q) (sym window) (answer_kept plan p.fleet.window p q s a k is kind to), window)
+  where
+    window : q.fleet.window ≡ p.fleet.window
+    window = ap (λ r. r.fleet.window) to ∙ moved_window plan p s a
+
+pub choice_stands : (plan : Plan) (p q : Position) (i : ℕ) → Kept plan p.fleet.window p → i < choices_at plan p → q ≡ choosing plan p i → (Kept plan q.fleet.window q) × (q.fleet.window ≡ p.fleet.window)
+choice_stands plan p q i k lt to = (subst (λ n. Kept plan n q) (sym window) (choice_kept plan p.fleet.window p q i k lt to), window)
+  where
+    window : q.fleet.window ≡ p.fleet.window
+    window = ap (λ r. r.fleet.window) to ∙ choosing_window plan p i
+
+-- and an answer is one event more
+
+linked_events : (p : Position) → (linked p).events ≡ p.events
+linked_events p = by (left p.link.stage)
+  where
+    by : (t : Bool) → (if t then record p { phase = Link } else removing_first p).events ≡ p.events
+    by true = refl
+    by false = refl
+
+left_events : (p : Position) → (sources_left p).events ≡ p.events
+left_events p = by (nat_eq p.code 0)
+  where
+    by : (t : Bool) → (if t then linked (record p { remains = record p.remains { linked = true } }) else removing_first p).events ≡ p.events
+    by true = linked_events (record p { remains = record p.remains { linked = true } })
+    by false = refl
+
+flown_events : (p : Position) → (flown p).events ≡ p.events
+flown_events p = by (nat_eq p.fleet.unended 0)
+  where
+    by : (t : Bool) → (if t then sources_left p else p).events ≡ p.events
+    by true = left_events p
+    by false = refl
+
+pub moved_events : (plan : Plan) (p : Position) (s : Step) (a : Answer) → (moved plan p s a).events ≡ p.events ++ event s a ∷ []
+moved_events plan p s a = by p.phase
+  where
+    removal : (t : Bool) → (if t then record (kept p s a) { phase = Report } else removing_next (kept p s a)).events ≡ p.events ++ event s a ∷ []
+    removal true = refl
+    removal false = refl
+
+    by : (q : Phase) → (moved_in q plan (kept p s a) a).events ≡ p.events ++ event s a ∷ []
+    by Sources = flown_events (record (kept p s a) { fleet = taken plan.jobs p.fleet a })
+    by Link = linked_events (record (kept p s a) { link = link_after plan.link p.link a })
+    by Removals = removal (removal_failed (remove_of a))
+    by Report = refl
+    by Done = refl
+
+pub choosing_events : (plan : Plan) (p : Position) (i : ℕ) → (choosing plan p i).events ≡ p.events
+choosing_events plan p i = by (between_blocks p.phase p.fleet)
+  where
+    by : (t : Bool) → (if t then record p { fleet = selected plan.jobs p.fleet i } else p).events ≡ p.events
+    by true = refl
+    by false = refl
+
+pub fresh_events : (plan : Plan) (N room : ℕ) → (fresh_position plan N room).events ≡ []
+fresh_events plan N room = flown_events (first_position plan N room)

@@ -1,0 +1,8 @@
+use Rattle.drv_core.proofs.Moves.{in_part}
+use Rattle.drv_core.proofs.work.Work.take.Goals as goal
+use Rattle.drv_core.specs.Course.{Sources}
+use Rattle.drv_core.specs.PositionView.{phase_of, position_of}
+use Rattle.std.proofs.Common.{ap}
+
+pub returns-in-Sources : goal.returns-in-Sources
+returns-in-Sources c = in_part c.args.plan.now (position_of c.args.self.now) (position_of c.keep.new.self) (position_of c.take_source.new.self) c.args.step c.args.answer Sources c.keep.ensures (ap phase_of c.in-Sources.is) c.take_source.ensures

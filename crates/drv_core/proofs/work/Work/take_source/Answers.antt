@@ -1,0 +1,9 @@
+use Rattle.drv_core.proofs.work.Work.take_source.Goals as goal
+use Rattle.drv_core.specs.Fleet.{taken}
+use Rattle.drv_core.specs.FleetView.{fleet_of}
+use Rattle.drv_core.specs.Position.{flown}
+use Rattle.drv_core.specs.PositionView.{position_of}
+use Rattle.std.proofs.Common.{◌∙◌, ap}
+
+pub returns : goal.returns
+returns c = c.leave_sources.ensures ∙ ap (λ f. flown (record (position_of c.args.self.now) { fleet = f })) (c.take.ensures ∙ ap (λ jobs. taken jobs (fleet_of c.args.self.now.flight) c.args.answer) c.as_slice.ensures)

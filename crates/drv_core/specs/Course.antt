@@ -1,0 +1,106 @@
+use Rattle.drv_core.specs.Due.{due_files, tally}
+use Rattle.drv_core.specs.Fleet.{Fleet, asked_of, fresh_fleet, taken}
+use Rattle.drv_core.specs.Machine.{Ended, Stage, after, asks, begin, left, remove_of}
+use Rattle.drv_core.specs.Outcomes.{File, greatest, code_of, is_claimed, is_started, none}
+use Rattle.drv_core.specs.Story.{event, removal_failed}
+use Rattle.drv_words.specs.Places.{no_job}
+use Rattle.drv_words.specs.declared.answers.Answer.{Answer}
+use Rattle.drv_words.specs.declared.answers.Answer.TheVariants as answer
+use Rattle.drv_words.specs.declared.plan.Job.{Job}
+use Rattle.drv_words.specs.declared.plan.Plan.{Plan}
+use Rattle.drv_words.specs.declared.steps.Note.TheVariants as note
+use Rattle.drv_words.specs.declared.steps.RunEvent.{RunEvent}
+use Rattle.drv_words.specs.declared.steps.Step.{Step}
+use Rattle.drv_words.specs.declared.steps.Step.TheVariants as step
+use Rattle.std.specs.Prelude.{List, [], ◌∷◌, ◌++◌, None, Option, Some, drop, if◌then◌else◌, length, nat_eq, ℕ}
+
+-- A whole run, step by step. Private clauses alone cite it: what a run comes to is said by the stories.
+
+-- the code of an answer: 1 for a claim or a start that failed, and a child's own
+abbrev pub answer_code : Answer → ℕ
+answer_code (answer.Claim x) = if is_claimed x then 0 else 1
+answer_code (answer.Start x) = if is_started x then 0 else 1
+answer_code answer.Closed = 0
+answer_code (answer.Wait x) = code_of x
+answer_code (answer.Remove x) = 0
+answer_code (answer.Reported t) = 0
+
+abbrev pub run_code : List RunEvent → ℕ
+run_code events = greatest (λ e. answer_code e.answer) events
+
+pub data Phase : Type 0 where
+  Sources : Phase
+  Link : Phase
+  Removals : Phase
+  Report : Phase
+  Done : Phase
+
+-- due: the files that are to be removed at the end, of which the first is the next
+pub record Course : Type 0 where
+  pub phase : Phase
+  pub fleet : Fleet
+  pub link : Stage
+  pub due : List File
+  pub events : List RunEvent
+
+-- the link's job where it runs behind these events
+abbrev pub link_by : Option Job → ℕ → Job
+link_by None code = no_job
+link_by (Some job) code = if nat_eq code 0 then job else no_job
+
+abbrev pub link_of : Option Job → Job
+link_of None = no_job
+link_of (Some job) = job
+
+abbrev pub removes : List File → Option Step
+removes [] = None
+removes (f ∷ fs) = Some (step.Remove f.place)
+
+abbrev pub reports : List File → Option Step
+reports [] = None
+reports (f ∷ fs) = Some (step.Report (note.NotRemoved f.place))
+
+abbrev pub asked_at : Plan → Phase → Course → Option Step
+asked_at plan Sources c = asked_of plan.jobs c.fleet
+asked_at plan Link c = asks (length plan.jobs) (link_of plan.link) c.link
+asked_at plan Removals c = removes c.due
+asked_at plan Report c = reports c.due
+asked_at plan Done c = None
+
+abbrev pub asked_by : Plan → Course → Option Step
+asked_by plan c = asked_at plan c.phase c
+
+-- the files of the list are removed, if there are any
+abbrev pub removing : Course → List File → Course
+removing c due = record c { phase = if none due then Done else Removals; due = due }
+
+-- behind the link, whose job was this
+abbrev pub behind_link : Plan → Job → Course → Course
+behind_link plan job c = removing c (due_files plan job (λ k. tally k c.events))
+
+abbrev pub linking : Plan → Job → Course → Course
+linking plan job c = if left c.link then record c { phase = Link } else behind_link plan job c
+
+-- behind the sources, the link's job being this
+abbrev pub behind_sources : Plan → Job → Course → Course
+behind_sources plan job c = linking plan job (record c { link = begin job })
+
+abbrev pub sourced : Plan → Course → Course
+sourced plan c = if nat_eq c.fleet.unended 0 then behind_sources plan (link_by plan.link (run_code c.events)) c else record c { phase = Sources }
+
+abbrev pub removed : Course → Answer → Course
+removed c a = if removal_failed (remove_of a) then record c { phase = Report } else removing c (drop 1 c.due)
+
+-- by the answer, whose event stands in the list already
+abbrev pub stepped_at : Plan → Phase → Course → Answer → Course
+stepped_at plan Sources c a = sourced plan (record c { fleet = taken plan.jobs c.fleet a })
+stepped_at plan Link c a = linking plan (link_of plan.link) (record c { link = after (link_of plan.link) c.link a })
+stepped_at plan Removals c a = removed c a
+stepped_at plan Report c a = removing c (drop 1 c.due)
+stepped_at plan Done c a = c
+
+abbrev pub stepped : Plan → Course → Step → Answer → Course
+stepped plan c s a = stepped_at plan c.phase (record c { events = c.events ++ event s a ∷ [] }) a
+
+abbrev pub fresh_course : Plan → ℕ → Course
+fresh_course plan N = sourced plan (record { phase = Sources; fleet = fresh_fleet plan.jobs N; link = Ended; due = []; events = [] })

@@ -1,0 +1,11 @@
+use Rattle.drv_words.specs.Places.{group_at, no_job}
+use Rattle.drv_words.specs.declared.plan.Job.{Job}
+use Rattle.std.specs.Prelude.{◌<◌, List, get_or, length, ℕ}
+
+-- No group is empty. Private clauses alone cite it: each group keeps it of itself.
+
+abbrev pub Filled : Job → Type 0
+Filled job = (g : ℕ) → g < length job.groups → 0 < length (group_at job g)
+
+abbrev pub AllFilled : List Job → Type 0
+AllFilled jobs = (j : ℕ) → j < length jobs → Filled (get_or jobs j no_job)

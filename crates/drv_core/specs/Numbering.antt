@@ -1,0 +1,27 @@
+use Rattle.drv_core.specs.Outcomes.{File}
+use Rattle.drv_core.specs.Remains.{Left}
+use Rattle.std.specs.Cmp.Lexicographic.{pointwise}
+use Rattle.std.specs.Prelude.{◌≡◌, ◌+◌, List, [], ◌∷◌, ◌++◌, None, Option, Some, if◌then◌else◌, length, nat_eq, unwrap_or, ℕ}
+
+-- Files with the numbers of their paths. Private clauses alone cite it.
+
+-- the number of the first of these files that has a path, theirs being counted from i
+abbrev pub first_with : ℕ → List ℕ → List File → Option ℕ
+first_with i p [] = None
+first_with i p (f ∷ fs) = if pointwise nat_eq p f.path then Some i else first_with (i + 1) p fs
+
+-- each file with the number of the first of its path; before: the files before them
+abbrev pub lefts : List File → List File → List Left
+lefts before [] = []
+lefts before (f ∷ fs) = record { place = f.place; first = unwrap_or (first_with 0 f.path before) (length before) } ∷ lefts (before ++ f ∷ []) fs
+
+-- what the code has of these files: each with its number, and how the number of a path is found
+pub record Noted (before : List File) (files : List Left) (find : List ℕ → Option ℕ) : Type 0 where
+  pub files_are : files ≡ lefts [] before
+  pub found : (p : List ℕ) → find p ≡ first_with 0 p before
+
+-- some of these files are noted, and the rest are left
+pub record Noting (all rest : List File) (files : List Left) (find : List ℕ → Option ℕ) : Type 0 where
+  pub before : List File
+  pub parts : before ++ rest ≡ all
+  pub noted : Noted before files find

@@ -1,0 +1,34 @@
+use Rattle.drv_core.specs.declared.action.Action.{Action}
+use Rattle.drv_core.specs.declared.action.Action.TheVariants as action
+use Rattle.drv_words.specs.declared.plan.Plan.{Plan}
+use Rattle.drv_words.specs.declared.steps.RunEvent.{RunEvent}
+use Rattle.drv_words.specs.declared.steps.Step.{Step}
+use Rattle.std.specs.Prelude.{⊤, Bool, List, None, Option, Some, ℕ}
+
+-- A run of a plan, as its callers see it.
+
+-- window: how many sources may be under way at once; events: those so far; action: what is made next, or the status
+pub record Run : Type 0 where
+  pub plan : Plan
+  pub pass_codes : Bool
+  pub window : ℕ
+  pub events : List RunEvent
+  pub action : Action
+
+-- what holds of the step that is made next, and of the status
+abbrev pub IfMake : Action → (Step → Type 0) → Type 0
+IfMake (action.Make s) P = P s
+IfMake (action.Done n) P = ⊤
+
+abbrev pub IfDone : Action → (ℕ → Type 0) → Type 0
+IfDone (action.Make s) P = ⊤
+IfDone (action.Done n) P = P n
+
+-- what is asked next, or else the status
+abbrev pub action_of : Option Step → ℕ → Action
+action_of None status = action.Done status
+action_of (Some s) status = action.Make s
+
+abbrev pub step_in : Action → Option Step
+step_in (action.Make s) = Some s
+step_in (action.Done n) = None

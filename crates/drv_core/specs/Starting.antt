@@ -1,0 +1,24 @@
+use Rattle.drv_core.specs.Counting.{fresh_remains}
+use Rattle.drv_core.specs.Course.{Sources, link_of}
+use Rattle.drv_core.specs.Fleet.{fresh, fresh_fleet}
+use Rattle.drv_core.specs.Leftovers.{all_files}
+use Rattle.drv_core.specs.Numbering.{lefts}
+use Rattle.drv_core.specs.Position.{Position, flown}
+use Rattle.drv_words.specs.declared.plan.Plan.{Plan}
+use Rattle.std.specs.Prelude.{[], length, ℕ}
+
+-- Where the code begins with a run. Private clauses alone cite it.
+
+abbrev pub first_position : Plan → ℕ → ℕ → Position
+first_position plan window room = record {
+  phase = Sources;
+  fleet = fresh_fleet plan.jobs window;
+  link = fresh (link_of plan.link);
+  remains = fresh_remains (lefts [] (all_files plan)) (length plan.jobs);
+  code = 0;
+  events = [];
+  room = room;
+}
+
+abbrev pub fresh_position : Plan → ℕ → ℕ → Position
+fresh_position plan window room = flown (first_position plan window room)

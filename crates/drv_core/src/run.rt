@@ -1,0 +1,186 @@
+//! The run of a plan: what is made next, for every answer, and what it comes to.
+
+ghost use Rattle.drv_core.specs.Choices.{BetweenBlocks, ChoicesAre, IsChoice, IsNextOf};
+ghost use Rattle.drv_core.specs.Machine.{is_kind};
+ghost use Rattle.drv_core.specs.Needed.{needed};
+ghost use Rattle.drv_core.specs.Outcomes.{Answers, status_from, status_of};
+ghost use Rattle.drv_core.specs.Position.{moved, next_of};
+ghost use Rattle.drv_core.specs.PositionView.{position_of};
+ghost use Rattle.drv_core.specs.Reached.{choosing};
+ghost use Rattle.drv_core.specs.Run.{IfDone, IfMake, step_in};
+ghost use Rattle.drv_core.specs.RunView.{Stands, run_of};
+ghost use Rattle.drv_core.specs.Story.{event};
+ghost use Rattle.drv_core.specs.Windowed.{IsBeginning, IsWhole, Windowed};
+ghost use Rattle.drv_core.specs.declared.action.Action.TheVariants as action;
+ghost use Rattle.drv_words.specs.declared.steps.Step.{Step};
+ghost use Rattle.drv_words.specs.Stepping.{can_make, fits};
+ghost use Rattle.std.specs.Prelude.{◌≡◌, ◌<◌, ◌≤◌, ◌++◌, ◌∷◌, [], IfOk, Some, length, true};
+
+use crate::action::Action;
+use crate::work::Work;
+use drv_words::{Answer, Plan, RunEvent};
+use std::alloc::{AllocError, Global};
+use std::marker::Model;
+
+/// The run of a plan, which is lent to it. It makes no call itself: `next` says which step is made next, and `answer` takes what
+/// that step was answered. Room for all its events is got by `new`, and no later call takes memory.
+///
+/// Contracts see the plan, whether codes are passed on, how many sources may be under way at once, the events so far, and what
+/// `next` gives.
+#[derive(Drop)]
+pub struct Run<'a> {
+    plan: &'a Plan,
+    pass_codes: bool,
+    work: Work,
+}
+
+impl<'a> Model for Run<'a> {
+    ghost use Rattle.drv_core.specs.Run as specs;
+
+    ghost Value = { specs.Run };
+
+    ghost use Rattle.drv_core.specs.RunView.{Stands, run_of};
+
+    ghost view = { λ r. run_of r.plan.now r.pass_codes r.work };
+
+    ghost invariant = { λ r. Stands r.plan.now r.work };
+}
+
+/// The status where this is the greatest code.
+fn status_code(pass_codes: bool, code: u8) -> u8
+    ensures { result ≡ status_from pass_codes code }
+{
+    if pass_codes {
+        code
+    } else if code == 0 {
+        0
+    } else {
+        1
+    }
+}
+
+/// What is made next, or the status where nothing is.
+#[tactic(auto, using(crate::proofs::Runs::is_ready))]
+fn look(plan: &Plan, pass_codes: bool, work: &Work) -> Action
+    requires { Stands plan.now work.now }
+    ensures { result ≡ (run_of plan.now pass_codes work.now).action }
+{
+    match work.asks(plan) {
+        Some(step) => Action::Make(step),
+        None => Action::Done(status_code(pass_codes, work.code)),
+    }
+}
+
+/// The work goes on by the answer to what was asked.
+fn advance(plan: &Plan, work: &mut Work, answer: Answer)
+    requires stands { Stands plan.now work.old }
+    requires kind { (s : Step) → next_of plan.now (position_of work.old) ≡ Some s → is_kind s answer ≡ true }
+    ensures stands { Stands plan.now work.new }
+    ensures moved { (s : Step) → next_of plan.now (position_of work.old) ≡ Some s → position_of work.new ≡ moved plan.now (position_of work.old) s answer }
+    ensures window { work.new.flight.window ≡ work.old.flight.window }
+{
+    match work.asks(plan) {
+        Some(step) => work.take(plan, step, answer),
+        None => {}
+    }
+}
+
+/// The work goes on with a source that was chosen.
+fn turn(plan: &Plan, work: &mut Work, choice: usize)
+    requires stands { Stands plan.now work.old }
+    requires choice { IsChoice plan.now work.old.flight.window work.old.events.items choice }
+    ensures stands { Stands plan.now work.new }
+    ensures chosen { position_of work.new ≡ choosing plan.now (position_of work.old) choice }
+    ensures window { work.new.flight.window ≡ work.old.flight.window }
+{
+    work.choose(plan, choice);
+}
+
+impl<'a> Run<'a> {
+    /// Nothing of the plan was worked yet. At most `window` sources are under way at once, which is 1 to 64; where `pass_codes`,
+    /// the status is the greatest code (GCC manual, "Overall Options", `-pass-exit-codes`). Want of memory is the only error, also
+    /// where `usize` has no number for the events that can come.
+    pub fn new(
+        alloc: Global,
+        plan: &'a Plan,
+        pass_codes: bool,
+        window: usize,
+    ) -> Result<Run<'a>, AllocError>
+        requires some { 1 ≤ window }
+        requires most { window ≤ 64 }
+        ensures plan { IfOk result (λ run. run.plan ≡ plan.now) }
+        ensures pass_codes { IfOk result (λ run. run.pass_codes ≡ pass_codes) }
+        ensures window { IfOk result (λ run. run.window ≡ window) }
+        ensures events { IfOk result (λ run. run.events ≡ []) }
+    {
+        let work = Work::new(alloc, plan, window)?;
+        Ok(Run {
+            plan,
+            pass_codes,
+            work,
+        })
+    }
+
+    /// What is made next, or the status where the run is whole.
+    pub fn next(&self) -> Action
+        ensures action { result ≡ self.now.action }
+        ensures beginning { IsBeginning self.now.plan self.now.window self.now.events }
+        ensures possible { IfMake result (λ step. can_make self.now.plan self.now.events step ≡ true) }
+        ensures bound { length self.now.events ≤ needed self.now.plan }
+        ensures fewer { IfMake result (λ step. length self.now.events < needed self.now.plan) }
+        ensures unfinished { IfMake result (λ step. IsWhole self.now.plan self.now.window self.now.events → ⊥) }
+        ensures whole { IfDone result (λ status. IsWhole self.now.plan self.now.window self.now.events) }
+        ensures status { IfDone result (λ status. (o : Answers) → Windowed self.now.plan self.now.window o self.now.events → status ≡ status_of self.now.pass_codes o) }
+    {
+        look(self.plan, self.pass_codes, &self.work)
+    }
+
+    /// What the step of `next` was answered, by an answer of its kind; the number of a child that was started is new.
+    pub fn answer(&mut self, answer: Answer)
+        requires more { IfDone self.old.action (λ status. ⊥) }
+        requires fits { IfMake self.old.action (λ step. fits self.old.events step answer ≡ true) }
+        ensures events { IfMake self.old.action (λ step. self.new.events ≡ self.old.events ++ event step answer ∷ []) }
+        ensures plan { self.new.plan ≡ self.old.plan }
+        ensures pass_codes { self.new.pass_codes ≡ self.old.pass_codes }
+        ensures window { self.new.window ≡ self.old.window }
+    {
+        advance(self.plan, &mut self.work, answer);
+    }
+
+    /// The events so far, each step with its answer.
+    pub fn events(&self) -> &[RunEvent]
+        ensures { result.now ≡ self.now.events }
+    {
+        self.work.events.as_slice()
+    }
+
+    /// The status of the run, which is whole: 0 where all codes are 0, else 1, or the greatest code where codes are passed on.
+    pub fn status(&self) -> u8
+        requires { IfMake self.now.action (λ step. ⊥) }
+        ensures done { self.now.action ≡ action.Done result }
+        ensures status { (o : Answers) → Windowed self.now.plan self.now.window o self.now.events → result ≡ status_of self.now.pass_codes o }
+    {
+        status_code(self.pass_codes, self.work.code)
+    }
+
+    /// How many sources may go on, where the events so far are whole blocks of the sources and a source has more to do; else 1. Without
+    /// `choose` it is the first of them that goes on.
+    pub fn choices(&self) -> usize
+        ensures { ChoicesAre self.now.plan self.now.window self.now.events result }
+    {
+        self.work.choices(self.plan)
+    }
+
+    /// The next block is that of the source of this number among those that may go on, which are counted from 0 in plan order.
+    pub fn choose(&mut self, choice: usize)
+        requires { IsChoice self.old.plan self.old.window self.old.events choice }
+        ensures next { (b : BetweenBlocks self.old.plan self.old.window self.old.events) → IsNextOf self.old.plan self.old.window self.old.events b choice (step_in self.new.action) }
+        ensures elsewhere { (BetweenBlocks self.old.plan self.old.window self.old.events → ⊥) → self.new ≡ self.old }
+        ensures plan { self.new.plan ≡ self.old.plan }
+        ensures pass_codes { self.new.pass_codes ≡ self.old.pass_codes }
+        ensures window { self.new.window ≡ self.old.window }
+        ensures events { self.new.events ≡ self.old.events }
+    {
+        turn(self.plan, &mut self.work, choice);
+    }
+}
