@@ -112,8 +112,10 @@ module _ (F : Facts) (C : Context) where
   pipe_failed s fault (inr stopped) = inr (piped_then s ∙ ap (λ a. a >>- with_pipe) stopped)
 
   -- what is begun with
-  pub begun_with : (hidden : List Bool) (ns : List (List ℕ)) → names C ≡ ns → hidden ≡ replicate (length ns) false → record { cut = nothing_cut; world = record (start F C) { hidden = hidden } } ≡ begun F C
-  begun_with hidden ns same is = ap (λ h. record { cut = nothing_cut; world = record (start F C) { hidden = h } }) (is ∙ ap (λ ms. replicate (length ms) false) (sym same) ∙ none_hidden C.switches)
+  pub begun_with : (hidden : List Bool) (ns options outputs : List (List ℕ)) (number : ℕ) → ns ≡ names C → hidden ≡ replicate (length ns) false → options ≡ C.options → number ≡ C.number → outputs ≡ C.outputs
+      → record { cut = nothing_cut; world = record { hidden = hidden; options = options; drawn = []; number = number; outputs = outputs; notices = []; items = 0 } } ≡ begun F C
+  begun_with hidden ns options outputs number same is eo en eu =
+      rw (eo, en, eu) (ap (λ h. record { cut = nothing_cut; world = record (start F C) { hidden = h } }) (is ∙ ap (λ ms. replicate (length ms) false) same ∙ none_hidden C.switches))
     where
       none_hidden : (ss : List Switch) → replicate (length (map (λ s. s.name) ss)) false ≡ map (λ s. false) ss
       none_hidden [] = refl

@@ -1,15 +1,21 @@
-use Rattle.drv_machine.specs.Context.{Context}
+use Rattle.drv_machine.specs.Context.{Context, is_piping}
 use Rattle.drv_machine.specs.Cutting.{Cut, Line}
-use Rattle.drv_machine.specs.Held.{alone, command_of}
-use Rattle.drv_machine.specs.Outcome.{command, ends_piped, finished, groups, job, most_piped}
-use Rattle.drv_machine.specs.Working.{World}
+use Rattle.drv_machine.specs.Held.{made}
+use Rattle.drv_machine.specs.Outcome.{add_command, command, ends_piped, finished, groups, job, most_piped, once}
+use Rattle.drv_machine.specs.Working.{◌>>-◌, Answer, World, is_among}
+use Rattle.drv_machine.specs.declared.fault.MachineFault.TheVariants.{PipeTooLong}
 use Rattle.drv_system.specs.Facts.{Facts}
-use Rattle.drv_system.specs.Known.{Is}
-use Rattle.std.proofs.Common.{◌≡◌, ◌≤◌, ◌-◌, arith, get_or, suc, zero, ◌||◌, List, [], ◌∷◌, Ok, ap, false, length, map, refl, ℕ}
-use Rattle.std.specs.List.{list_any}
-use Rattle.std.specs.Prelude.{nat_lt}
+use Rattle.drv_system.specs.Known.{Is, Unasked}
+use Rattle.drv_words.specs.declared.plan.Command.{Command}
+use Rattle.std.proofs.Common.{◌≡◌, ◌≤◌, ◌-◌, ◌∙◌, ◌++◌, ◌&&◌, ◌||◌, Bool, Err, arith, get_or, suc, zero, List, [], ◌∷◌, Ok, ap, append-nil, append_assoc, false, if◌then◌else◌, length, refl, sym, true, ℕ}
+use Rattle.std.proofs.lemmas.List.Elements.{filter-append}
+use Rattle.std.proofs.lemmas.List.{length-append}
+use Rattle.std.proofs.lemmas.Cmp.{nat_list_eq_equiv}
+use Rattle.std.specs.Cmp.Lexicographic.{pointwise, same_text}
+use Rattle.std.specs.List.{filter, list_any}
+use Rattle.std.specs.Prelude.{nat_eq, nat_lt, not}
 
--- What stands behind a whole text, where each command is a group.
+-- What stands behind a whole text.
 
 -- the last command counts
 ends_piped_from : (lines : List Line) (n : ℕ) (last : Line) → length lines ≡ suc n → last ≡ get_or lines n last → last.piped ≡ ends_piped lines
@@ -22,20 +28,152 @@ ends_piped_from (line ∷ other ∷ lines) (suc n) last long is = ends_piped_fro
 pub ends_piped_last : (lines : List Line) (last : Line) → 1 ≤ length lines → last ≡ get_or lines (length lines - 1) last → last.piped ≡ ends_piped lines
 ends_piped_last lines last some is = ends_piped_from lines (length lines - 1) last (omega (arith, some)) is
 
--- no group is too long
-none_long : (lines : List Line) → list_any (λ group. nat_lt most_piped (length group)) (map alone lines) ≡ false
-none_long [] = refl
-none_long (line ∷ lines) = none_long lines
+-- commands of a group that is begun, and the groups behind them
+abbrev pub ahead : List Command → List (List Command) → List (List Command)
+ahead [] gs = gs
+ahead (c ∷ begun) gs = add_command true c (ahead begun gs)
+
+joined : (begun : List Command) (c : Command) (gs : List (List Command)) → ahead begun (add_command true c gs) ≡ ahead (begun ++ c ∷ []) gs
+joined [] c gs = refl
+joined (d ∷ begun) c gs = ap (add_command true d) (joined begun c gs)
+
+alone : (begun : List Command) (c : Command) (gs : List (List Command)) → ahead begun ((c ∷ []) ∷ gs) ≡ made (begun ++ c ∷ []) ++ gs
+alone [] c gs = refl
+alone (d ∷ begun) c gs = ap (add_command true d) (alone begun c gs) ∙ by (begun ++ c ∷ []) refl
+  where
+    by : (all : List Command) → begun ++ c ∷ [] ≡ all → add_command true d (made all ++ gs) ≡ made (d ∷ all) ++ gs
+    by [] e = absurd (let n = ap (λ xs. length xs) e in let m = length-append begun (c ∷ []) in omega (arith, n, m))
+    by (x ∷ all) e = refl
+
+pub nothing_ahead : (begun : List Command) → ahead begun [] ≡ made begun
+nothing_ahead [] = refl
+nothing_ahead (c ∷ []) = refl
+nothing_ahead (c ∷ d ∷ begun) = ap (add_command true c) (nothing_ahead (d ∷ begun))
+
+-- groups that are made, commands of one that is begun, and what the lines behind them give
+abbrev pub grouped : List (List Command) → List Command → Answer (List (List Command)) → Answer (List (List Command))
+grouped done begun others = others >>- λ gs. Is (Ok (done ++ ahead begun gs))
+
+pub grouped_none : (done : List (List Command)) (begun : List Command) (a : Answer (List (List Command))) → done ≡ [] → begun ≡ [] → a ≡ grouped done begun a
+grouped_none done begun a e f = rw (e, f) (by a)
+  where
+    by : (a : Answer (List (List Command))) → a ≡ grouped [] [] a
+    by (Is (Ok gs)) = refl
+    by (Is (Err fault)) = refl
+    by Unasked = refl
 
 module _ (F : Facts) (C : Context) where
-  command_is : (words : List (List ℕ)) → command F C words ≡ Is (Ok (command_of words))
-  command_is [] = refl
-  command_is (name ∷ words) = refl
+  -- one line more, whose command is joined to the next one, or ends its group
+  pub one_joined : (done : List (List Command)) (begun after : List Command) (line : Line) (c : Command) (lines : List Line)
+      → (is_piping C && line.piped) ≡ true → command F C line.words ≡ Is (Ok c) → after ≡ begun ++ c ∷ []
+      → grouped done begun (groups F C (line ∷ lines)) ≡ grouped done after (groups F C lines)
+  one_joined done begun after line c lines piped is e = rw (is, piped, e) (by (groups F C lines))
+    where
+      by : (a : Answer (List (List Command))) → grouped done begun (a >>- λ gs. Is (Ok (add_command true c gs))) ≡ grouped done (begun ++ c ∷ []) a
+      by (Is (Ok gs)) = ap (λ gs. Is (Ok (done ++ gs))) (joined begun c gs)
+      by (Is (Err fault)) = refl
+      by Unasked = refl
 
-  groups_are : (lines : List Line) → groups F C lines ≡ Is (Ok (map alone lines))
-  groups_are [] = refl
-  groups_are (line ∷ lines) = rw (command_is line.words, groups_are lines) refl
+  pub one_ended : (done new : List (List Command)) (begun all after : List Command) (line : Line) (c : Command) (lines : List Line)
+      → (is_piping C && line.piped) ≡ false → command F C line.words ≡ Is (Ok c) → all ≡ begun ++ c ∷ [] → new ≡ done ++ made all → after ≡ []
+      → grouped done begun (groups F C (line ∷ lines)) ≡ grouped new after (groups F C lines)
+  one_ended done new begun all after line c lines piped is e en ea = rw (is, piped, en, e, ea) (by (groups F C lines))
+    where
+      by : (a : Answer (List (List Command))) → grouped done begun (a >>- λ gs. Is (Ok (add_command false c gs))) ≡ grouped (done ++ made (begun ++ c ∷ [])) [] a
+      by (Is (Ok gs)) = ap (λ gs. Is (Ok gs)) (ap (λ gs. done ++ gs) (alone begun c gs) ∙ sym (append_assoc done (made (begun ++ c ∷ [])) gs))
+      by (Is (Err fault)) = refl
+      by Unasked = refl
 
-  pub finished_well : (w : World) (c : Cut) → (c.stray || ends_piped c.lines) ≡ false
-      → finished F C w c ≡ Is (Ok (record { job = job C w c (map alone c.lines); cost = w.items }))
-  finished_well w c well = rw (well, groups_are c.lines, none_long c.lines) refl
+  pub all_grouped : (done new : List (List Command)) (begun : List Command) → new ≡ done ++ made begun → grouped done begun (groups F C []) ≡ Is (Ok new)
+  all_grouped done new begun e = ap (λ gs. Is (Ok gs)) (ap (λ gs. done ++ gs) (nothing_ahead begun) ∙ sym e)
+
+  module _ (w : World) (c : Cut) (commands : List (List Command)) (well : (c.stray || ends_piped c.lines) ≡ false) (are : groups F C c.lines ≡ Is (Ok commands)) where
+    pub finished_long : list_any (λ group. nat_lt most_piped (length group)) commands ≡ true → finished F C w c ≡ Is (Err PipeTooLong)
+    finished_long long = rw (well, are, long) refl
+
+    pub finished_well : list_any (λ group. nat_lt most_piped (length group)) commands ≡ false
+        → finished F C w c ≡ Is (Ok (record { job = job C w c commands; notices = w.notices; outs = w.outputs; accumulated = w.options; next_number = w.number; cost = w.items }))
+    finished_well short = rw (well, are, short) refl
+
+-- Files, each once.
+
+abbrev without : List ℕ → List (List ℕ) → List (List ℕ)
+without file files = filter (λ other. not (pointwise nat_eq file other)) files
+
+-- those that are not among these
+abbrev pub others_than : List (List ℕ) → List (List ℕ) → List (List ℕ)
+others_than kept files = filter (λ file. not (is_among kept file)) files
+
+all_others : (files : List (List ℕ)) → others_than [] files ≡ files
+all_others [] = refl
+all_others (file ∷ files) = ap (λ fs. file ∷ fs) (all_others files)
+
+pub none_kept : (kept files : List (List ℕ)) → kept ≡ [] → files ≡ kept ++ others_than kept files
+none_kept kept files e = rw (e) (sym (all_others files))
+
+-- what a call answered of the list and the file that it was handed
+pub was_among : (kept list : List (List ℕ)) (file bytes : List ℕ) (answer truth : Bool) → answer ≡ is_among list bytes → list ≡ kept → bytes ≡ file → answer ≡ truth → is_among kept file ≡ truth
+was_among kept list file bytes answer truth says same_list same_bytes is = ap (λ l. is_among l file) (sym same_list) ∙ ap (is_among list) (sym same_bytes) ∙ sym says ∙ is
+
+filter_same : {A : Type 0} (f g : A → Bool) (xs : List A) → ((x : A) → f x ≡ g x) → filter f xs ≡ filter g xs
+filter_same f g [] e = refl
+filter_same f g (x ∷ xs) e = ap (λ b. if b then x ∷ filter f xs else filter f xs) (e x) ∙ ap (λ ys. if g x then x ∷ ys else ys) (filter_same f g xs e)
+
+filter_twice : {A : Type 0} (f g : A → Bool) (xs : List A) → filter f (filter g xs) ≡ filter (λ y. g y && f y) xs
+filter_twice f g [] = refl
+filter_twice {A = A} f g (x ∷ xs) = by (g x) (filter_twice f g xs)
+  where
+    by : (b : Bool) → filter f (filter g xs) ≡ filter (λ y. g y && f y) xs
+        → filter f (if b then x ∷ filter g xs else filter g xs) ≡ (if b && f x then x ∷ filter (λ y. g y && f y) xs else filter (λ y. g y && f y) xs)
+    by true others = ap (λ (ys : List A). if f x then x ∷ ys else ys) others
+    by false others = others
+
+-- a file that was kept before
+kept_before : (kept : List (List ℕ)) (file other : List ℕ) → is_among kept file ≡ true → (not (pointwise nat_eq file other) && not (is_among kept other)) ≡ not (is_among kept other)
+kept_before kept file other among = by (pointwise nat_eq file other) refl
+  where
+    by : (b : Bool) → pointwise nat_eq file other ≡ b → (not b && not (is_among kept other)) ≡ not (is_among kept other)
+    by false e = refl
+    by true e = sym (ap not (ap (is_among kept) (sym (same_text file other (sym e))) ∙ among))
+
+pub again : (kept : List (List ℕ)) (file : List ℕ) (files : List (List ℕ)) → is_among kept file ≡ true → kept ++ others_than kept (once (file ∷ files)) ≡ kept ++ others_than kept (once files)
+again kept file files among =
+    ap (λ fs. kept ++ fs) (ap (λ b. if not b then file ∷ others_than kept (without file (once files)) else others_than kept (without file (once files))) among
+    ∙ filter_twice (λ f. not (is_among kept f)) (λ f. not (pointwise nat_eq file f)) (once files)
+    ∙ filter_same (λ f. not (pointwise nat_eq file f) && not (is_among kept f)) (λ f. not (is_among kept f)) (once files) (λ f. kept_before kept file f among))
+
+-- or that is new
+among_more : (kept : List (List ℕ)) (file other : List ℕ) → (not (pointwise nat_eq file other) && not (is_among kept other)) ≡ not (is_among (kept ++ file ∷ []) other)
+among_more [] file other = ap (λ b. not b && true) (nat_list_eq_equiv.symm file other) ∙ by (pointwise nat_eq other file)
+  where
+    by : (b : Bool) → (not b && true) ≡ not (b || false)
+    by true = refl
+    by false = refl
+among_more (k ∷ kept) file other = by (pointwise nat_eq other k) (pointwise nat_eq file other) (is_among kept other) (among_more kept file other)
+  where
+    by : (a b c : Bool) → (not b && not c) ≡ not (is_among (kept ++ file ∷ []) other) → (not b && not (a || c)) ≡ not (a || is_among (kept ++ file ∷ []) other)
+    by true b c e = and_false b
+      where
+        and_false : (b : Bool) → (not b && false) ≡ false
+        and_false true = refl
+        and_false false = refl
+    by false b c e = e
+
+pub one_new : (kept new : List (List ℕ)) (file : List ℕ) (files : List (List ℕ)) → is_among kept file ≡ false → new ≡ kept ++ file ∷ []
+    → kept ++ others_than kept (once (file ∷ files)) ≡ new ++ others_than new (once files)
+one_new kept new file files among e =
+    ap (λ b. kept ++ (if not b then file ∷ others_than kept (without file (once files)) else others_than kept (without file (once files)))) among
+    ∙ ap (λ fs. kept ++ file ∷ fs) (filter_twice (λ f. not (is_among kept f)) (λ f. not (pointwise nat_eq file f)) (once files)
+    ∙ filter_same (λ f. not (pointwise nat_eq file f) && not (is_among kept f)) (λ f. not (is_among (kept ++ file ∷ []) f)) (once files) (λ f. among_more kept file f))
+    ∙ sym (append_assoc kept (file ∷ []) (others_than (kept ++ file ∷ []) (once files)))
+    ∙ ap (λ ks. ks ++ others_than ks (once files)) (sym e)
+
+pub all_once : (kept : List (List ℕ)) → kept ++ others_than kept (once []) ≡ kept
+all_once kept = append-nil kept
+
+-- and those that stay
+pub one_stays : (f : List ℕ → Bool) (files new : List (List ℕ)) (file : List ℕ) (before : List (List ℕ)) → f file ≡ true → new ≡ filter f before ++ file ∷ [] → new ≡ filter f (before ++ file ∷ [])
+one_stays f files new file before stays e = e ∙ sym (filter-append f before (file ∷ []) ∙ ap (λ b. filter f before ++ (if b then file ∷ [] else [])) stays)
+
+pub one_goes : (f : List ℕ → Bool) (kept : List (List ℕ)) (file : List ℕ) (before : List (List ℕ)) → f file ≡ false → kept ≡ filter f before → kept ≡ filter f (before ++ file ∷ [])
+one_goes f kept file before goes e = e ∙ sym (filter-append f before (file ∷ []) ∙ ap (λ b. filter f before ++ (if b then file ∷ [] else [])) goes ∙ append-nil (filter f before))

@@ -3,14 +3,14 @@ use Rattle.drv_machine.specs.ByKind.{kind_step, labelled}
 use Rattle.drv_machine.specs.Context.{Context}
 use Rattle.drv_machine.specs.Standing.{is_test, tests_in}
 use Rattle.drv_machine.specs.Working.{Levels, Step, nothing}
-use Rattle.drv_syntax.specs.Labels.{both, brace_nodes, choice_nodes, inner_nodes, label_of, no_node, node, Nodes, nodes_of, asked_nodes, pattern_label, pattern_nodes, test_label, test_nodes}
+use Rattle.drv_syntax.specs.Labels.{both, label_of, node, nodes_of, asked_nodes, pattern_label, test_label, test_nodes}
 use Rattle.drv_syntax.specs.Tokens.{kind_of}
 use Rattle.drv_syntax.specs.Tree as tree
 use Rattle.drv_syntax.specs.Tree.{Asked, Brace, Choices, Item, Items, Pattern, Span, Tests}
 use Rattle.drv_syntax.specs.declared.token.TokenKind.TheVariants as kinds
 use Rattle.drv_syntax.specs.declared.token.TokenKind.{TokenKind}
 use Rattle.drv_system.specs.Facts.{Facts}
-use Rattle.std.proofs.Common.{◌≡◌, ◌∙◌, ◌∷◌, ◌||◌, Bool, List, [], ap, false, refl, sym, true, ℕ}
+use Rattle.std.proofs.Common.{◌≡◌, Bool, List, ap, false, refl, true, ℕ}
 
 -- Items by their kinds.
 

@@ -2,12 +2,17 @@ pub mod AskedCalls
 pub mod ChoiceSteps
 pub mod ChoiceTurns
 pub mod Cutter
+pub mod Directives
+pub mod Draws
 pub mod EmitSteps
+pub mod Ends
 pub mod Finished
 pub mod ItemKinds
 pub mod Laws
+pub mod Lists
 pub mod Lying
 pub mod Marks
+pub mod NoHits
 pub mod Onward
 pub mod Parts
 pub mod Rows
@@ -17,3 +22,4 @@ pub mod Tables
 pub mod TrueTests
 pub mod TurnSteps
 pub mod WorkSteps
+pub mod WorkedTexts

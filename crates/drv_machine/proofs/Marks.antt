@@ -1,8 +1,10 @@
+use Rattle.drv_machine.proofs.WorkedTexts.{alone, linking}
 use Rattle.drv_machine.specs.Atoms as a
 use Rattle.drv_machine.specs.Atoms.{atoms, items_step, levels_left, named, start}
 use Rattle.drv_machine.specs.Context.{Context}
 use Rattle.drv_machine.specs.Cutting.{all_taken, argument_words, nothing_cut}
-use Rattle.drv_machine.specs.Working.{◌>>-◌, Answer, AsOutput, AsRemoved, Atom, Break, End, From, Goes, Marked, Open, Piped, Put, Refuses, To, Waits, Without, Work, World}
+use Rattle.drv_machine.specs.Working.{◌>>-◌, Answer, Atom, Break, End, From, Goes, Marked, Open, Piped, Put, Refuses, To, Waits, Without, Work, World}
+use Rattle.drv_machine.specs.declared.machine.marking.Mark.TheVariants.{AsOutput, AsRemoved}
 use Rattle.drv_machine.specs.declared.fault.MachineFault.TheVariants.{NotYet, SpecTooDeep, TooManySteps}
 use Rattle.drv_syntax.specs.Outcome.{parsed}
 use Rattle.drv_syntax.specs.Tree.{Items, none}
@@ -24,7 +26,7 @@ tree text = by (parsed text)
     by (Err fault) = none  -- no text of these
 
 abbrev one_switch : Context
-one_switch = record { switches = record { name = codes "ma"; arg = None } ∷ []; input = None }
+one_switch = linking (alone (codes "ma") ∷ [])
 
 abbrev letter_a : ℕ
 letter_a = 97

@@ -28,8 +28,7 @@ use Rattle.drv_syntax.specs.declared.token.TokenKind.{TokenKind}
 use Rattle.drv_system.specs.Facts.{Facts}
 use Rattle.drv_system.specs.Gives.{GivesKnown}
 use Rattle.drv_system.specs.Known.{Is}
-use Rattle.std.proofs.Common.{◌≡◌, ◌⊎◌, ◌<◌, ◌≤◌, ◌+◌, ◌-◌, ◌++◌, ◌∙◌, ◌==◌, Bool, Err, List, [], ◌∷◌, Ok, Result, Some, ap, arith, drop, false, inl, inr, length, length-append, refl, slice_get, subst, suc, sym, true, ℕ}
-use Rattle.std.proofs.lemmas.Bool.Decides.{nat_tests}
+use Rattle.std.proofs.Common.{◌≡◌, ◌⊎◌, ◌<◌, ◌≤◌, ◌+◌, ◌-◌, ◌++◌, ◌∙◌, Err, List, [], ◌∷◌, Ok, Result, Some, ap, arith, drop, inl, inr, length, length-append, refl, slice_get, subst, suc, sym, ℕ}
 
 -- What is left of a walk, and what follows the open parts.
 

@@ -1,56 +1,23 @@
-use Rattle.drv_args.specs.declared.line.Switch.{Switch}
+use Rattle.drv_machine.proofs.WorkedTexts.{alone, in_language, linking, on, with, worked}
+use Rattle.drv_machine.proofs.WorkedTexts as texts
 use Rattle.drv_machine.specs.Context.{Context}
-use Rattle.drv_machine.specs.Outcome.{outcome}
-use Rattle.drv_machine.specs.Working.{◌>>-◌, Answer}
-use Rattle.drv_machine.specs.declared.fault.MachineFault.TheVariants.{NoInput, NotYet, StrayPipe}
+use Rattle.drv_machine.specs.Working.{Answer}
 use Rattle.drv_machine.specs.declared.outcome.Outcome.{Outcome}
-use Rattle.drv_syntax.specs.Outcome.{parsed}
-use Rattle.drv_syntax.specs.Tree.{Items}
-use Rattle.drv_syntax.specs.declared.fault.SyntaxFault.{SyntaxFault}
+use Rattle.drv_machine.specs.declared.fault.MachineFault.TheVariants.{NoInput, StrayPipe, UserError}
 use Rattle.drv_system.specs.Facts.{Facts}
-use Rattle.drv_system.specs.Known.{Is, Unasked}
-use Rattle.drv_words.specs.declared.plan.Command.{Command}
-use Rattle.std.proofs.Common.{◌≡◌, Option, List, [], ◌∷◌, codes, map, refl, ℕ}
-use Rattle.std.specs.Prelude.{Err, None, Ok, Result, Some}
+use Rattle.drv_system.specs.Known.{Is}
+use Rattle.std.proofs.Common.{◌≡◌, Option, List, [], ◌∷◌, codes, refl, ℕ}
+use Rattle.std.specs.Prelude.{Err, None, Ok, Some}
 
 -- Worked texts, by computation: each text is parsed, worked and cut. The expected words were worked out by hand from
 -- the manual and the profile, and hold whatever the facts say.
 
--- a switch of its own, and one with an argument
-abbrev alone : List ℕ → Switch
-alone name = record { name = name; arg = None }
-
-abbrev with : List ℕ → List ℕ → Switch
-with name arg = record { name = name; arg = Some arg }
-
--- a line of switches, with the first of its inputs, or for the link
-abbrev on : List Switch → List ℕ → Context
-on switches name = record { switches = switches; input = Some (record { place = 0; name = name; language = None }) }
-
-abbrev in_language : List ℕ → List ℕ → Context
-in_language language name = record { switches = []; input = Some (record { place = 0; name = name; language = Some language }) }
-
-abbrev linking : List Switch → Context
-linking switches = record { switches = switches; input = None }
-
--- the words of each command, group after group
-abbrev group_words : List Command → List (List ℕ)
-group_words [] = []
-group_words (c ∷ commands) = c.program ∷ c.words
-
 module _ (F : Facts) where
-  abbrev worked : Context → List ℕ → Answer Outcome
-  worked C text = by (parsed text)
-    where
-      by : Result Items SyntaxFault → Answer Outcome
-      by (Ok items) = outcome F C items
-      by (Err fault) = Unasked  -- no text of these
-
   abbrev words_of : Context → List ℕ → Answer (List (List (List ℕ)))
-  words_of C text = worked C text >>- λ o. Is (Ok (map group_words o.job.groups))
+  words_of C text = texts.words_of F C text
 
   abbrev cost_of : Context → List ℕ → Answer ℕ
-  cost_of C text = worked C text >>- λ o. Is (Ok o.cost)
+  cost_of C text = texts.cost_of F C text
 
   -- suffixes and switches, with a ! and without
   abbrev suffixes : List ℕ
@@ -156,7 +123,7 @@ module _ (F : Facts) where
   pipe_twice = refl
 
   -- every other refusal of a text comes before that of a pipe
-  pipe_later : words_of (on [] []) (codes "| c %g") ≡ Is (Err NotYet)
+  pipe_later : words_of (on [] []) (codes "| c %eno") ≡ Is (Err (UserError (codes "no")))
   pipe_later = refl
 
   -- emitted switches end a word, and their arguments are words
@@ -192,11 +159,15 @@ module _ (F : Facts) where
   abbrev program_alone : Option ℕ → Outcome
   program_alone place = record {
     job = record { source = place; groups = (record { program = codes "c"; words = [] } ∷ []) ∷ []; temps = []; marked = []; on_failure = []; output = None };
+    notices = [];
+    outs = [];
+    accumulated = [];
+    next_number = 1;
     cost = 2;
   }
 
-  outcome_of_input : worked (on [] (codes "a.c")) (codes "c\n") ≡ Is (Ok (program_alone (Some 0)))
+  outcome_of_input : worked F (on [] (codes "a.c")) (codes "c\n") ≡ Is (Ok (program_alone (Some 0)))
   outcome_of_input = refl
 
-  outcome_of_link : worked (linking []) (codes " c") ≡ Is (Ok (program_alone None))
+  outcome_of_link : worked F (linking []) (codes " c") ≡ Is (Ok (program_alone None))
   outcome_of_link = refl

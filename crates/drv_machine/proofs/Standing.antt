@@ -7,7 +7,7 @@ use Rattle.drv_syntax.specs.Tree.{Span}
 use Rattle.drv_syntax.specs.declared.token.Token.{Token}
 use Rattle.drv_syntax.specs.declared.token.TokenKind.TheVariants as kinds
 use Rattle.drv_syntax.specs.declared.token.TokenKind.{TokenKind}
-use Rattle.std.proofs.Common.{◌≡◌, ◌<◌, ◌≤◌, ◌+◌, ◌++◌, ◌∙◌, ◌∷◌, ◌||◌, Bool, List, [], Option, Some, ap, append-nil, append_assoc, arith, false, get_or, if◌then◌else◌, length, length-append, refl, slice_get, subst, sym, true, unwrap_or, ℕ}
+use Rattle.std.proofs.Common.{◌≡◌, ◌<◌, ◌≤◌, ◌+◌, ◌++◌, ◌∙◌, ◌∷◌, List, [], Option, Some, ap, append-nil, append_assoc, arith, false, get_or, if◌then◌else◌, length, length-append, refl, slice_get, subst, sym, true, unwrap_or, ℕ}
 use Rattle.std.proofs.lemmas.Option.{slice_get_within}
 use Rattle.std.proofs.Math.Seq.{get_or-append_seam}
 

@@ -1,73 +1,24 @@
-use Rattle.drv_args.specs.declared.line.Switch.{Switch}
+use Rattle.drv_machine.proofs.WorkedTexts.{alone, in_language, linking, on, with}
+use Rattle.drv_machine.proofs.WorkedTexts as texts
 use Rattle.drv_machine.specs.Context.{Context}
-use Rattle.drv_machine.specs.Outcome.{outcome}
-use Rattle.drv_machine.specs.Working.{◌>>-◌, Answer}
+use Rattle.drv_machine.specs.Working.{Answer}
 use Rattle.drv_machine.specs.declared.fault.MachineFault.TheVariants.{NoInput, NotYet, StrayPipe}
-use Rattle.drv_machine.specs.declared.outcome.Outcome.{Outcome}
-use Rattle.drv_syntax.specs.Outcome.{parsed}
-use Rattle.drv_syntax.specs.Tree.{Items}
-use Rattle.drv_syntax.specs.declared.fault.SyntaxFault.{SyntaxFault}
 use Rattle.drv_system.specs.Facts.{Facts}
-use Rattle.drv_system.specs.Known.{Is, Unasked}
-use Rattle.drv_words.specs.declared.plan.Command.{Command}
-use Rattle.std.proofs.Common.{◌≡◌, Option, List, [], ◌∷◌, codes, map, refl, ℕ}
-use Rattle.std.specs.Prelude.{Err, None, Ok, Result, Some}
+use Rattle.drv_system.specs.Known.{Is}
+use Rattle.std.proofs.Common.{◌≡◌, List, [], ◌∷◌, codes, refl, ℕ}
+use Rattle.std.specs.Prelude.{Err, Ok}
 
 -- Worked texts, by computation: tables of what tests ask, what is put of switches, how commands are cut, what is not
 -- there yet, and what texts cost. The expected words were worked out by hand from the manual and the profile.
 
--- a switch of its own, and one with an argument
-abbrev alone : List ℕ → Switch
-alone name = record { name = name; arg = None }
-
-abbrev with : List ℕ → List ℕ → Switch
-with name arg = record { name = name; arg = Some arg }
-
--- a line of switches, with the first of its inputs, or for the link
-abbrev on : List Switch → List ℕ → Context
-on switches name = record { switches = switches; input = Some (record { place = 0; name = name; language = None }) }
-
-abbrev in_language : List ℕ → List ℕ → Context
-in_language language name = record { switches = []; input = Some (record { place = 0; name = name; language = Some language }) }
-
-abbrev linking : List Switch → Context
-linking switches = record { switches = switches; input = None }
-
--- the words of each command, group after group
-abbrev group_words : List Command → List (List ℕ)
-group_words [] = []
-group_words (c ∷ commands) = c.program ∷ c.words
-
 module _ (F : Facts) where
-  abbrev worked : Context → List ℕ → Answer Outcome
-  worked C text = by (parsed text)
-    where
-      by : Result Items SyntaxFault → Answer Outcome
-      by (Ok items) = outcome F C items
-      by (Err fault) = Unasked  -- no text of these
-
   abbrev words_of : Context → List ℕ → Answer (List (List (List ℕ)))
-  words_of C text = worked C text >>- λ o. Is (Ok (map group_words o.job.groups))
+  words_of C text = texts.words_of F C text
 
   abbrev cost_of : Context → List ℕ → Answer ℕ
-  cost_of C text = worked C text >>- λ o. Is (Ok o.cost)
+  cost_of C text = texts.cost_of F C text
 
   -- what tests ask
-  tests_1 : words_of (on [] (codes "fred.c")) (codes "%{.c:-foo} %{!.c:-bar} %{.c|d:-baz} %{!.c|d:-boggle}") ≡ Is (Ok ((codes "-foo" ∷ codes "-baz" ∷ []) ∷ []))
-  tests_1 = refl
-
-  tests_2 : words_of (on [] (codes "jim.d")) (codes "%{.c:-foo} %{!.c:-bar} %{.c|d:-baz} %{!.c|d:-boggle}") ≡ Is (Ok ((codes "-bar" ∷ codes "-boggle" ∷ []) ∷ []))
-  tests_2 = refl
-
-  tests_3 : words_of (on (alone (codes "d") ∷ []) (codes "fred.c")) (codes "%{.c:-foo} %{!.c:-bar} %{.c|d:-baz} %{!.c|d:-boggle}") ≡ Is (Ok ((codes "-foo" ∷ codes "-baz" ∷ codes "-boggle" ∷ []) ∷ []))
-  tests_3 = refl
-
-  tests_4 : words_of (on (alone (codes "d") ∷ []) (codes "jim.d")) (codes "%{.c:-foo} %{!.c:-bar} %{.c|d:-baz} %{!.c|d:-boggle}") ≡ Is (Ok ((codes "-bar" ∷ codes "-baz" ∷ codes "-boggle" ∷ []) ∷ []))
-  tests_4 = refl
-
-  tests_5 : words_of (on (alone (codes "fno-x") ∷ alone (codes "fx") ∷ alone (codes "O1") ∷ alone (codes "O2") ∷ []) (codes "a.c")) (codes "%{fno-x:A} %{fx:B} %{O*} %{f*} %{O1:C}") ≡ Is (Ok ((codes "B" ∷ codes "-O1" ∷ codes "-O2" ∷ codes "-fno-x" ∷ codes "-fx" ∷ []) ∷ []))
-  tests_5 = refl
-
   tests_6 : words_of (linking (alone (codes "c") ∷ [])) (codes "%{c:A;d:B;:C}") ≡ Is (Ok ((codes "A" ∷ []) ∷ []))
   tests_6 = refl
 
@@ -116,9 +67,6 @@ module _ (F : Facts) where
   tests_21 : words_of (linking []) (codes "%{a:x\\;y;b:z;:w}") ≡ Is (Ok ((codes "w" ∷ []) ∷ []))
   tests_21 = refl
 
-  tests_22 : words_of (in_language (codes "c") (codes "x.h")) (codes "%{,c:C;,c++:D;:E}") ≡ Is (Ok ((codes "C" ∷ []) ∷ []))
-  tests_22 = refl
-
   tests_23 : words_of (in_language (codes "c++") (codes "x.h")) (codes "%{,c:C;,c++:D;:E}") ≡ Is (Ok ((codes "D" ∷ []) ∷ []))
   tests_23 = refl
 
@@ -128,18 +76,6 @@ module _ (F : Facts) where
   tests_25 : words_of (linking []) (codes "%{,c:C;,c++:D;:E}") ≡ Is (Ok ((codes "E" ∷ []) ∷ []))
   tests_25 = refl
 
-  tests_26 : words_of (linking []) (codes "%{.c:A} %{!.c:B} %{,c:C} %{!,c:D}") ≡ Is (Ok ((codes "B" ∷ codes "D" ∷ []) ∷ []))
-  tests_26 = refl
-
-  tests_27 : words_of (on [] (codes "d/.c")) (codes "%b %{.c:S}") ≡ Is (Ok ((codes ".c" ∷ []) ∷ []))
-  tests_27 = refl
-
-  tests_28 : words_of (on (alone (codes "S") ∷ []) (codes "x/y.c")) (codes "%{S:rectool cc1 %{std=c99} %i -o %b.s}") ≡ Is (Ok ((codes "rectool" ∷ codes "cc1" ∷ codes "x/y.c" ∷ codes "-o" ∷ codes "y.s" ∷ []) ∷ []))
-  tests_28 = refl
-
-  tests_29 : words_of (on (alone (codes "S") ∷ alone (codes "std=c99") ∷ []) (codes "a.c")) (codes "%{S:rectool cc1 %{std=c99} %i -o %b.s}") ≡ Is (Ok ((codes "rectool" ∷ codes "cc1" ∷ codes "-std=c99" ∷ codes "a.c" ∷ codes "-o" ∷ codes "a.s" ∷ []) ∷ []))
-  tests_29 = refl
-
   tests_30 : words_of (on (alone (codes "std=c99") ∷ []) (codes "a.c")) (codes "%{S:rectool cc1 %{std=c99} %i -o %b.s}") ≡ Is (Ok [])
   tests_30 = refl
 
@@ -147,12 +83,6 @@ module _ (F : Facts) where
   tests_31 = refl
 
   -- what is put of switches, and where they are hidden
-  switches_1 : words_of (on (alone (codes "mcu=newchip") ∷ []) (codes "a.c")) (codes "%{mcu=*:--script=%*/memory.ld}") ≡ Is (Ok ((codes "--script=newchip/memory.ld" ∷ []) ∷ []))
-  switches_1 = refl
-
-  switches_2 : words_of (on (alone (codes "mcu=a") ∷ alone (codes "mcu=b") ∷ []) (codes "a.c")) (codes "%{mcu=*:--script=%*/memory.ld}") ≡ Is (Ok ((codes "--script=a/memory.ld" ∷ codes "--script=b/memory.ld" ∷ []) ∷ []))
-  switches_2 = refl
-
   switches_3 : words_of (on (alone (codes "m") ∷ []) (codes "a.c")) (codes "%{mcu=*:--script=%*/memory.ld}") ≡ Is (Ok [])
   switches_3 = refl
 
@@ -202,9 +132,6 @@ module _ (F : Facts) where
   switches_18 = refl
 
   -- names of the input, words, and commands
-  commands_1 : words_of (on [] (codes "d.x/a.b.c")) (codes "%i %b %B %b%O %%") ≡ Is (Ok ((codes "d.x/a.b.c" ∷ codes "a.b" ∷ codes "a.b.c" ∷ codes "a.b.o" ∷ codes "%" ∷ []) ∷ []))
-  commands_1 = refl
-
   commands_2 : words_of (on [] (codes "d.x/a")) (codes "%i %b %B") ≡ Is (Ok ((codes "d.x/a" ∷ codes "a" ∷ codes "a" ∷ []) ∷ []))
   commands_2 = refl
 
@@ -216,9 +143,6 @@ module _ (F : Facts) where
 
   commands_5 : words_of (linking []) (codes "%i") ≡ Is (Err NoInput)
   commands_5 = refl
-
-  commands_6 : words_of (linking []) (codes "ld %b") ≡ Is (Err NoInput)
-  commands_6 = refl
 
   commands_7 : words_of (linking []) (codes "%B") ≡ Is (Err NoInput)
   commands_7 = refl
@@ -292,9 +216,6 @@ module _ (F : Facts) where
   commands_30 : words_of (linking []) (codes "%{a}|\nd") ≡ Is (Err StrayPipe)
   commands_30 = refl
 
-  commands_31 : words_of (linking []) (codes "| c %g") ≡ Is (Err NotYet)
-  commands_31 = refl
-
   commands_32 : words_of (linking []) (codes "c | d %i") ≡ Is (Err NoInput)
   commands_32 = refl
 
@@ -302,60 +223,6 @@ module _ (F : Facts) where
   commands_33 = refl
 
   -- directives that have no meaning yet
-  not_yet_1 : words_of (on (alone (codes "ma") ∷ []) (codes "a.c")) (codes "%g.s") ≡ Is (Err NotYet)
-  not_yet_1 = refl
-
-  not_yet_2 : words_of (on (alone (codes "ma") ∷ []) (codes "a.c")) (codes "%u.s") ≡ Is (Err NotYet)
-  not_yet_2 = refl
-
-  not_yet_3 : words_of (on (alone (codes "ma") ∷ []) (codes "a.c")) (codes "%U") ≡ Is (Err NotYet)
-  not_yet_3 = refl
-
-  not_yet_4 : words_of (on (alone (codes "ma") ∷ []) (codes "a.c")) (codes "%|.s") ≡ Is (Err NotYet)
-  not_yet_4 = refl
-
-  not_yet_5 : words_of (on (alone (codes "ma") ∷ []) (codes "a.c")) (codes "%m.s") ≡ Is (Err NotYet)
-  not_yet_5 = refl
-
-  not_yet_6 : words_of (on (alone (codes "ma") ∷ []) (codes "a.c")) (codes "%d") ≡ Is (Err NotYet)
-  not_yet_6 = refl
-
-  not_yet_7 : words_of (on (alone (codes "ma") ∷ []) (codes "a.c")) (codes "%w") ≡ Is (Err NotYet)
-  not_yet_7 = refl
-
-  not_yet_8 : words_of (on (alone (codes "ma") ∷ []) (codes "a.c")) (codes "%V") ≡ Is (Err NotYet)
-  not_yet_8 = refl
-
-  not_yet_9 : words_of (on (alone (codes "ma") ∷ []) (codes "a.c")) (codes "%s") ≡ Is (Err NotYet)
-  not_yet_9 = refl
-
-  not_yet_10 : words_of (on (alone (codes "ma") ∷ []) (codes "a.c")) (codes "%T") ≡ Is (Err NotYet)
-  not_yet_10 = refl
-
-  not_yet_11 : words_of (on (alone (codes "ma") ∷ []) (codes "a.c")) (codes "%D") ≡ Is (Err NotYet)
-  not_yet_11 = refl
-
-  not_yet_12 : words_of (on (alone (codes "ma") ∷ []) (codes "a.c")) (codes "%o") ≡ Is (Err NotYet)
-  not_yet_12 = refl
-
-  not_yet_13 : words_of (on (alone (codes "ma") ∷ []) (codes "a.c")) (codes "%x{-q}") ≡ Is (Err NotYet)
-  not_yet_13 = refl
-
-  not_yet_14 : words_of (on (alone (codes "ma") ∷ []) (codes "a.c")) (codes "%X") ≡ Is (Err NotYet)
-  not_yet_14 = refl
-
-  not_yet_15 : words_of (on (alone (codes "ma") ∷ []) (codes "a.c")) (codes "%Y") ≡ Is (Err NotYet)
-  not_yet_15 = refl
-
-  not_yet_16 : words_of (on (alone (codes "ma") ∷ []) (codes "a.c")) (codes "%Z") ≡ Is (Err NotYet)
-  not_yet_16 = refl
-
-  not_yet_17 : words_of (on (alone (codes "ma") ∷ []) (codes "a.c")) (codes "%eno good") ≡ Is (Err NotYet)
-  not_yet_17 = refl
-
-  not_yet_18 : words_of (on (alone (codes "ma") ∷ []) (codes "a.c")) (codes "%nhi") ≡ Is (Err NotYet)
-  not_yet_18 = refl
-
   not_yet_19 : words_of (on (alone (codes "ma") ∷ []) (codes "a.c")) (codes "%(cc1)") ≡ Is (Err NotYet)
   not_yet_19 = refl
 
@@ -406,12 +273,6 @@ module _ (F : Facts) where
 
   not_yet_35 : words_of (on (alone (codes "ma") ∷ []) (codes "a.c")) (codes "%{m*:%{%:getenv(H %*):y}}") ≡ Is (Err NotYet)
   not_yet_35 = refl
-
-  not_yet_36 : words_of (on (alone (codes "ma") ∷ []) (codes "a.c")) (codes "%{m*:c %* %g}") ≡ Is (Err NotYet)
-  not_yet_36 = refl
-
-  not_yet_37 : words_of (on (alone (codes "ma") ∷ []) (codes "a.c")) (codes "c | %d") ≡ Is (Err NotYet)
-  not_yet_37 = refl
 
   -- what texts cost
   cost_1 : cost_of (on [] (codes "a.c")) ([]) ≡ Is (Ok 0)

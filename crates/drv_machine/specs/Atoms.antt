@@ -1,17 +1,23 @@
-use Rattle.drv_machine.specs.Context.{Context, Source, argument, names}
+use Rattle.drv_machine.specs.Context.{Context, Source, argument, is_piping, names}
 use Rattle.drv_machine.specs.Cutting.{all_taken, argument_words, nothing_cut}
+use Rattle.drv_machine.specs.Temps.{last_drawn, temp_name}
 use Rattle.drv_machine.specs.Names.{base, is_word, language_of, stem, suffix_of}
-use Rattle.drv_machine.specs.Working.{◌>>-◌, ◌>>=◌, ◌>>◌, Atom, Break, End, Goes, Levels, Piped, Put, Refuses, Step, Waits, Work, World, bytes, change, counted, give, look, most_open, needs, nothing, opened, puts, refuse, word_of}
-use Rattle.drv_machine.specs.declared.fault.MachineFault.TheVariants.{NoInput, NotYet}
+use Rattle.drv_machine.specs.Working.{◌>>-◌, ◌>>=◌, ◌>>◌, Atom, Break, End, Goes, Levels, Marked, Piped, Put, Refuses, Step, Waits, Without, Work, World, bytes, change, counted, give, is_among, known, look, most_open, needs, nothing, opened, puts, refuse, word_of, words}
+use Rattle.drv_machine.specs.declared.fault.MachineFault.TheVariants as fault
+use Rattle.drv_machine.specs.declared.fault.MachineFault.TheVariants.{NoInput, NotInLink, NotYet}
+use Rattle.drv_machine.specs.declared.machine.marking.Mark.TheVariants.{AsFile, AsOutput, AsRemoved, AsScript}
 use Rattle.drv_match.specs.Matching.{hidden_by, hits, is_hit, name_at}
 use Rattle.drv_match.specs.Pattern as switches
+use Rattle.drv_search.specs.Search.{folder_options}
+use Rattle.drv_syntax.specs.declared.token.TempKind.TheVariants.{Last, New, PipedIn, PipedOut, Shared}
+use Rattle.drv_syntax.specs.declared.token.TempKind.{TempKind}
 use Rattle.drv_syntax.specs.Stars.{has_star}
 use Rattle.drv_syntax.specs.Tree.{AddOption, ArgumentsFile, Asked, AssemblerOptions, BaseName, BaseStem, Blank, Brace, Braces, BuiltinText, Choices, Choose, Directories, Emit, Escape, FailureFile, FoundFile, FoundScript, Function, HasLanguage, HasResult, HasSuffix, HasSwitch, Hide, InputName, Item, Items, LinkerOptions, NamedText, Newline, NoOutput, Notice, ObjectSuffix, Output, Outputs, Pattern, Percent, Pipe, Plain, PreprocessorOptions, Removed, Span, Star, TempName, Tests, UserError, choice, more, no_choice, no_test, none, pattern, test}
 use Rattle.drv_system.specs.Facts.{Facts}
 use Rattle.drv_system.specs.Known.{Is, Unasked}
 use Rattle.drv_words.specs.Bytes.{hyphen, percent}
 use Rattle.std.specs.List.{filter, flat_map, list_any, range_with_len}
-use Rattle.std.specs.Prelude.{Err, ◌||◌, Bool, List, [], ◌∷◌, ◌++◌, Option, None, Some, codes, drop, false, if◌then◌else◌, length, map, nat_lt, not, suc, true, zero, ℕ}
+use Rattle.std.specs.Prelude.{◌+◌, Err, Bool, List, [], ◌∷◌, ◌++◌, Option, None, Some, codes, drop, false, if◌then◌else◌, length, map, nat_lt, not, suc, true, zero, ℕ}
 
 -- What each item of a text means: one row for each directive (GCC manual, "Spec Files"; what it leaves open is this
 -- project's profile).
@@ -24,6 +30,18 @@ matching (pattern word star) = record { name = word; star = star }
 abbrev pub turned : Bool → Bool → Bool
 turned negated holds = if negated then not holds else holds
 
+-- an option goes to the end of the list, unless it is in it
+abbrev pub added : List ℕ → List (List ℕ) → List (List ℕ)
+added option options = if is_among options option then options else options ++ option ∷ []
+
+-- the options that %x has added so far
+abbrev pub options_step : Step (Unit {0})
+options_step = look (λ w. words w.options) >>= puts
+
+-- a word's bytes with a break behind them
+abbrev pub broken_word : List ℕ → List Atom
+broken_word word = map Put word ++ Break ∷ []
+
 module _ (F : Facts) (C : Context) where
   -- the name of the input; the link has none
   abbrev pub input_name : Step (List ℕ)
@@ -32,6 +50,46 @@ module _ (F : Facts) (C : Context) where
       by : Option Source → Step (List ℕ)
       by None = refuse NoInput
       by (Some source) = give source.name
+
+  -- a name that is drawn, by %g or not
+  abbrev pub draw : Bool → List ℕ → Step (List ℕ)
+  draw shared suffix =
+      look (λ w. w.number) >>= λ number. needs (known (temp_name F C.seed number suffix)) >>= λ path.
+      change (λ w. record w { number = w.number + 1; drawn = w.drawn ++ record { shared = shared; suffix = suffix; path = path } ∷ [] }) >> give path
+
+  -- the last name that was drawn so with this suffix, or else a new one
+  abbrev pub drawn_or_new : Bool → List ℕ → Step (List ℕ)
+  drawn_or_new shared suffix = look (λ w. last_drawn shared suffix w.drawn) >>= by
+    where
+      by : Option (List ℕ) → Step (List ℕ)
+      by (Some path) = give path
+      by None = draw shared suffix
+
+  -- the name of %u is put, or that of %g or %U
+  abbrev pub new_name_step : List ℕ → Step (Unit {0})
+  new_name_step suffix = draw false suffix >>= bytes
+
+  abbrev pub name_step : Bool → List ℕ → Step (Unit {0})
+  name_step shared suffix = drawn_or_new shared suffix >>= bytes
+
+  abbrev pub temp_step : TempKind → List ℕ → Step (Unit {0})
+  temp_step Shared suffix = name_step true suffix
+  temp_step New suffix = new_name_step suffix
+  temp_step Last suffix = name_step false suffix
+  temp_step PipedOut suffix = if is_piping C then bytes (hyphen ∷ []) else name_step true suffix
+  temp_step PipedIn suffix = if is_piping C then nothing else name_step true suffix
+
+  -- the options for the folders of libraries
+  abbrev pub folders_step : Step (Unit {0})
+  folders_step = needs (known (folder_options F C.prefixes)) >>= λ options. puts (flat_map broken_word options)
+
+  -- the outputs, which only the link has
+  abbrev pub outputs_step : Step (Unit {0})
+  outputs_step = by C.input
+    where
+      by : Option Source → Step (Unit {0})
+      by None = look (λ w. Break ∷ words w.outputs) >>= puts
+      by (Some source) = refuse NotInLink
 
   -- the places of the switches, in order
   abbrev pub places : List ℕ
@@ -87,20 +145,20 @@ module _ (F : Facts) (C : Context) where
     item_step BaseStem levels star = input_name >>= λ name. bytes (stem name)
     item_step BaseName levels star = input_name >>= λ name. bytes (base name)
     item_step ObjectSuffix levels star = bytes (codes ".o")
-    item_step (TempName kind suffix) levels star = refuse NotYet
-    item_step Removed levels star = refuse NotYet
-    item_step Output levels star = refuse NotYet
-    item_step NoOutput levels star = refuse NotYet
-    item_step FoundFile levels star = refuse NotYet
-    item_step FoundScript levels star = refuse NotYet
-    item_step Directories levels star = refuse NotYet
-    item_step Outputs levels star = refuse NotYet
-    item_step (AddOption option) levels star = refuse NotYet
-    item_step LinkerOptions levels star = refuse NotYet
-    item_step AssemblerOptions levels star = refuse NotYet
-    item_step PreprocessorOptions levels star = refuse NotYet
-    item_step (UserError text) levels star = refuse NotYet
-    item_step (Notice text) levels star = refuse NotYet
+    item_step (TempName kind suffix) levels star = temp_step kind suffix
+    item_step Removed levels star = puts (Marked AsRemoved ∷ [])
+    item_step Output levels star = puts (Marked AsOutput ∷ [])
+    item_step NoOutput levels star = puts (Without ∷ [])
+    item_step FoundFile levels star = puts (Marked AsFile ∷ [])
+    item_step FoundScript levels star = puts (Marked AsScript ∷ [])
+    item_step Directories levels star = folders_step
+    item_step Outputs levels star = outputs_step
+    item_step (AddOption option) levels star = change (λ w. record w { options = added option w.options })
+    item_step LinkerOptions levels star = options_step
+    item_step AssemblerOptions levels star = puts (words C.assembler)
+    item_step PreprocessorOptions levels star = puts (words C.preprocessor)
+    item_step (UserError text) levels star = refuse (fault.UserError text)
+    item_step (Notice text) levels star = change (λ w. record w { notices = w.notices ++ text ∷ [] })
     item_step (NamedText name) levels star = refuse NotYet
     item_step (BuiltinText name) levels star = refuse NotYet
     item_step (Hide p) levels star = change (λ w. record w { hidden = hidden_by (matching p) (names C) w.hidden })
@@ -144,9 +202,9 @@ module _ (F : Facts) (C : Context) where
   levels_left zero = []
   levels_left (suc n) = (λ items. items_step items (levels_left n) []) ∷ levels_left n
 
-  -- nothing is hidden, drawn or counted
+  -- nothing is hidden, drawn or counted; options, numbers and outputs go on from the texts before
   abbrev pub start : World
-  start = record { hidden = map (λ s. false) C.switches; options = []; drawn = []; number = 1; outputs = []; notices = []; items = 0 }
+  start = record { hidden = map (λ s. false) C.switches; options = C.options; drawn = []; number = C.number; outputs = C.outputs; notices = []; items = 0 }
 
   -- a whole text, whose end ends its last command
   abbrev pub whole_text : Items → Step (Unit {0})

@@ -1,11 +1,13 @@
-use Rattle.drv_machine.specs.Atoms.{choices_step, emitted, input_name, switch_atoms}
+use Rattle.drv_machine.specs.Atoms.{added, choices_step, emitted, folders_step, input_name, options_step, outputs_step, switch_atoms, temp_step}
 use Rattle.drv_machine.specs.Context.{Context, names}
 use Rattle.drv_machine.specs.Names.{base, is_word, language_of, stem, suffix_of}
 use Rattle.drv_machine.specs.Running.{Machine, run}
 use Rattle.drv_machine.specs.Standing.{Stands}
-use Rattle.drv_machine.specs.Working.{◌>>=◌, Atom, Break, End, Levels, Piped, Step, bytes, change, give, look, puts, refuse}
+use Rattle.drv_machine.specs.Working.{◌>>=◌, Atom, Break, End, Levels, Marked, Piped, Step, Without, bytes, change, give, look, puts, refuse, words}
+use Rattle.drv_machine.specs.declared.fault.MachineFault.TheVariants as fault
 use Rattle.drv_machine.specs.declared.fault.MachineFault.TheVariants.{Memory, NotYet}
 use Rattle.drv_machine.specs.declared.fault.MachineFault.{MachineFault}
+use Rattle.drv_machine.specs.declared.machine.marking.Mark.TheVariants.{AsFile, AsOutput, AsRemoved, AsScript}
 use Rattle.drv_match.specs.Matching.{hidden_by, hits, is_hit}
 use Rattle.drv_match.specs.Pattern as switches
 use Rattle.drv_syntax.specs.Labels.{Label, choice_nodes, label_at, pattern_nodes, test_label}
@@ -19,7 +21,7 @@ use Rattle.drv_system.specs.Facts.{Facts}
 use Rattle.drv_system.specs.Known.{Is}
 use Rattle.drv_words.specs.Bytes.{percent}
 use Rattle.std.specs.List.{filter, flat_map, list_any, range_with_len}
-use Rattle.std.specs.Prelude.{◌≡◌, ◌⊎◌, ◌-◌, Bool, List, [], ◌∷◌, Option, None, Some, Result, Err, Ok, codes, false, length, nat_lt, true, ⊤, ℕ}
+use Rattle.std.specs.Prelude.{◌≡◌, ◌⊎◌, ◌-◌, Bool, List, [], ◌∷◌, ◌++◌, Option, None, Some, Result, Err, Ok, codes, false, length, nat_lt, true, ⊤, ℕ}
 
 -- What an item means, by its kind and its label (this project's profile). For the clauses of the code alone.
 
@@ -93,4 +95,18 @@ kind_step F C kinds.Hide label star inner = hide_step C label
 kind_step F C kinds.Emit label star inner = inner
 kind_step F C kinds.Choose label star inner = inner
 kind_step F C kinds.Star label star inner = bytes star
+kind_step F C (kinds.TempName kind) label star inner = temp_step F C kind label.word
+kind_step F C kinds.Removed label star inner = puts (Marked AsRemoved ∷ [])
+kind_step F C kinds.Output label star inner = puts (Marked AsOutput ∷ [])
+kind_step F C kinds.NoOutput label star inner = puts (Without ∷ [])
+kind_step F C kinds.FoundFile label star inner = puts (Marked AsFile ∷ [])
+kind_step F C kinds.FoundScript label star inner = puts (Marked AsScript ∷ [])
+kind_step F C kinds.Directories label star inner = folders_step F C
+kind_step F C kinds.Outputs label star inner = outputs_step F C
+kind_step F C kinds.AddOption label star inner = change (λ w. record w { options = added label.word w.options })
+kind_step F C kinds.LinkerOptions label star inner = options_step
+kind_step F C kinds.AssemblerOptions label star inner = puts (words C.assembler)
+kind_step F C kinds.PreprocessorOptions label star inner = puts (words C.preprocessor)
+kind_step F C kinds.UserError label star inner = refuse (fault.UserError label.word)
+kind_step F C kinds.Notice label star inner = change (λ w. record w { notices = w.notices ++ label.word ∷ [] })
 kind_step F C _ label star inner = refuse NotYet

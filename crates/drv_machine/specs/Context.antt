@@ -1,5 +1,8 @@
 use Rattle.drv_args.specs.declared.line.Switch.{Switch}
-use Rattle.std.specs.Prelude.{List, Option, None, get_or, map, ℕ}
+use Rattle.drv_search.specs.declared.prefixes.Prefixes.{Prefixes}
+use Rattle.std.specs.Cmp.Lexicographic.{pointwise}
+use Rattle.std.specs.List.{list_any}
+use Rattle.std.specs.Prelude.{Bool, List, Option, None, codes, get_or, map, nat_eq, ℕ}
 
 -- What a text is worked for (this project's profile).
 
@@ -9,10 +12,16 @@ pub record Source : Type 0 where
   pub name : List ℕ
   pub language : Option (List ℕ)
 
--- the switches of the line, and the input that the text is worked for; none for the link
 pub record Context : Type 0 where
-  pub switches : List Switch
-  pub input : Option Source
+  pub switches : List Switch  -- of the line
+  pub assembler : List (List ℕ)  -- the line's pieces for the assembler
+  pub preprocessor : List (List ℕ)  -- and for the preprocessor
+  pub prefixes : Prefixes  -- where programs and files are looked for
+  pub seed : ℕ  -- of the names of temporaries
+  pub number : ℕ  -- of the next name that is drawn
+  pub options : List (List ℕ)  -- that %x has added so far
+  pub input : Option Source  -- that the text is worked for; none for the link
+  pub outputs : List (List ℕ)  -- of the jobs so far, for the link
 
 abbrev pub names : Context → List (List ℕ)
 names C = map (λ s. s.name) C.switches
@@ -20,3 +29,7 @@ names C = map (λ s. s.name) C.switches
 -- the argument of the switch at a place, if it has one
 abbrev pub argument : Context → ℕ → Option (List ℕ)
 argument C i = get_or (map (λ s. s.arg) C.switches) i None
+
+-- -pipe stands on the line, hidden or not
+abbrev pub is_piping : Context → Bool
+is_piping C = list_any (λ s. pointwise nat_eq s.name (codes "pipe")) C.switches

@@ -1,19 +1,15 @@
 use Rattle.drv_machine.specs.Context.{Context}
-use Rattle.drv_machine.specs.Working.{◌>>-◌, Answer, AsFile, AsOutput, AsRemoved, AsScript, Atom, Break, End, From, Mark, Marked, Open, Piped, Put, To, Without}
-use Rattle.drv_machine.specs.declared.fault.MachineFault.TheVariants.{NotYet}
+use Rattle.drv_machine.specs.Working.{◌>>-◌, Answer, Atom, Break, End, From, Marked, Open, Piped, Put, To, Without, known, searched}
+use Rattle.drv_machine.specs.declared.machine.marking.Mark.TheVariants.{AsFile, AsOutput, AsRemoved, AsScript}
+use Rattle.drv_machine.specs.declared.machine.marking.Mark.{Mark}
+use Rattle.drv_machine.specs.declared.machine.marking.Marking.{Marking}
+use Rattle.drv_search.specs.Search.{file_found, script_found}
 use Rattle.drv_system.specs.Facts.{Facts}
 use Rattle.drv_system.specs.Known.{Is}
 use Rattle.std.specs.Option.{unwrap_or}
-use Rattle.std.specs.Prelude.{◌&&◌, ◌||◌, Bool, List, [], ◌∷◌, ◌++◌, Option, None, Some, Err, Ok, codes, false, if◌then◌else◌, is_some, map, not, true, ℕ}
+use Rattle.std.specs.Prelude.{◌&&◌, ◌||◌, Bool, List, [], ◌∷◌, ◌++◌, Option, None, Some, Ok, codes, false, if◌then◌else◌, is_some, map, not, true, ℕ}
 
 -- Atoms cut into words with their marks, and words into commands (this project's profile).
-
--- the marks of the word that is open, or that wait for the next one
-pub record Marking : Type 0 where
-  pub removed : Bool
-  pub output : Bool
-  pub file : Bool
-  pub script : Bool
 
 -- the words of a command, and whether it ends with a pipe
 pub record Line : Type 0 where
@@ -109,11 +105,11 @@ script_option = codes "--script"
 module _ (F : Facts) (C : Context) where
   -- what a word that is marked as a file becomes
   abbrev pub found_file : List ℕ → Answer (List ℕ)
-  found_file name = Is (Err NotYet)
+  found_file name = known (file_found F C.prefixes name)
 
   -- what a word that is marked as a linker script becomes
   abbrev pub found_script : List ℕ → Answer (List ℕ)
-  found_script name = Is (Err NotYet)
+  found_script name = searched (script_found F C.prefixes name)
 
   -- the word that is open, if one is, ends; where it is marked as a file and as a script, the script counts
   abbrev pub broken : Cut → Answer Cut

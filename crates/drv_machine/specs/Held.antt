@@ -1,6 +1,9 @@
-use Rattle.drv_machine.specs.Cutting.{Line}
+use Rattle.drv_machine.specs.Cutting.{word_done}
+use Rattle.drv_machine.specs.Running.{Machine}
+use Rattle.drv_machine.specs.Working.{◌>>-◌, Answer}
+use Rattle.drv_system.specs.Known.{Is}
 use Rattle.drv_words.specs.declared.plan.Command.{Command}
-use Rattle.std.specs.Prelude.{Bool, List, [], ◌∷◌, None, Option, Some, false, true, ℕ}
+use Rattle.std.specs.Prelude.{◌-◌, ◌++◌, Bool, List, [], ◌∷◌, None, Ok, Option, Some, false, replicate, true, ℕ}
 
 -- How the code holds what is cut. Private clauses alone cite it.
 
@@ -9,11 +12,18 @@ abbrev pub open_word : Bool → List ℕ → Option (List ℕ)
 open_word true bytes = Some bytes
 open_word false bytes = None
 
--- the command of some words, of which the first is its program
-abbrev pub command_of : List (List ℕ) → Command
-command_of [] = record { program = []; words = [] }
-command_of (name ∷ words) = record { program = name; words = words }
+-- for each %W that is open the last word that ended in it: of so many, this word but for the innermost ones
+abbrev pub ended_in : List ℕ → ℕ → ℕ → List (Option (List ℕ))
+ended_in last count fresh = replicate fresh None ++ replicate (count - fresh) (Some last)
 
--- a command in a group of its own
-abbrev pub alone : Line → List Command
-alone line = command_of line.words ∷ []
+-- the group of some commands; none where there is no command
+abbrev pub made : List Command → List (List Command)
+made [] = []
+made (command ∷ commands) = (command ∷ commands) ∷ []
+
+-- the open word has ended as these words for the path that was found
+abbrev pub word_found : Machine → (List ℕ → List (List ℕ)) → Answer (List ℕ) → Answer (Unit {0} × Machine)
+word_found s words found = found >>- by
+  where
+    by : List ℕ → Answer (Unit {0} × Machine)
+    by path = Is (Ok (tt, record s { cut = word_done s.cut (words path) path }))

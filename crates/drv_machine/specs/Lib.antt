@@ -8,5 +8,6 @@ pub mod Names
 pub mod Outcome
 pub mod Running
 pub mod Standing
+pub mod Temps
 pub mod Walking
 pub mod Working

@@ -1,9 +1,10 @@
 use Rattle.drv_machine.specs.Atoms.{atoms}
-use Rattle.drv_machine.specs.Context.{Context, Source}
+use Rattle.drv_machine.specs.Context.{Context, Source, is_piping}
 use Rattle.drv_machine.specs.Cutting.{Cut, Line, all_taken, nothing_cut}
-use Rattle.drv_machine.specs.Working.{◌>>-◌, Answer, Goes, Refuses, Waits, Work, World}
+use Rattle.drv_machine.specs.Working.{◌>>-◌, Answer, Goes, Refuses, Waits, Work, World, is_among, known}
 use Rattle.drv_machine.specs.declared.fault.MachineFault.TheVariants.{PipeTooLong, StrayPipe}
 use Rattle.drv_machine.specs.declared.outcome.Outcome.{Outcome}
+use Rattle.drv_search.specs.Search.{program_found}
 use Rattle.drv_syntax.specs.Tree.{Items}
 use Rattle.drv_system.specs.Facts.{Facts}
 use Rattle.drv_system.specs.Known.{Is, Unasked}
@@ -11,7 +12,7 @@ use Rattle.drv_words.specs.declared.plan.Command.{Command}
 use Rattle.drv_words.specs.declared.plan.Job.{Job}
 use Rattle.std.specs.Cmp.Lexicographic.{pointwise}
 use Rattle.std.specs.List.{filter, list_any}
-use Rattle.std.specs.Prelude.{◌&&◌, ◌||◌, Bool, List, [], ◌∷◌, ◌++◌, Option, None, Some, Err, Ok, false, if◌then◌else◌, length, map, nat_eq, nat_lt, not, true, ℕ}
+use Rattle.std.specs.Prelude.{◌&&◌, ◌||◌, Bool, List, [], ◌∷◌, Option, None, Some, Err, Ok, false, if◌then◌else◌, length, map, nat_eq, nat_lt, not, true, ℕ}
 
 -- The job of a text: its commands, what they leave behind, and what working it cost (this project's profile).
 
@@ -19,26 +20,24 @@ use Rattle.std.specs.Prelude.{◌&&◌, ◌||◌, Bool, List, [], ◌∷◌, ◌
 abbrev pub most_piped : ℕ
 most_piped = 16
 
+-- a command before the groups of those behind it: it goes into the first of them, or is a group of its own
+abbrev pub add_command : Bool → Command → List (List Command) → List (List Command)
+add_command true c (group ∷ groups) = (c ∷ group) ∷ groups
+add_command _ c groups = (c ∷ []) ∷ groups
+
 module _ (F : Facts) (C : Context) where
   -- what the first word of a command becomes
   abbrev pub program : List ℕ → Answer (List ℕ)
-  program name = Is (Ok name)
-
-  -- piped commands form one group; without -pipe each command is a group
-  abbrev pub is_piping : Bool
-  is_piping = false
+  program name = known (program_found F C.prefixes name)
 
   abbrev pub command : List (List ℕ) → Answer Command
   command [] = Is (Ok (record { program = []; words = [] }))  -- there is none
   command (name ∷ words) = program name >>- λ path. Is (Ok (record { program = path; words = words }))
 
-  abbrev pub add_command : Bool → Command → List (List Command) → List (List Command)
-  add_command true c (group ∷ groups) = (c ∷ group) ∷ groups
-  add_command _ c groups = (c ∷ []) ∷ groups
-
+  -- with -pipe piped commands form one group; without it each command is a group
   abbrev pub groups : List Line → Answer (List (List Command))
   groups [] = Is (Ok [])
-  groups (line ∷ lines) = command line.words >>- λ c. groups lines >>- λ others. Is (Ok (add_command (is_piping && line.piped) c others))
+  groups (line ∷ lines) = command line.words >>- λ c. groups lines >>- λ others. Is (Ok (add_command (is_piping C && line.piped) c others))
 
 -- no further command follows a pipe
 abbrev pub ends_piped : List Line → Bool
@@ -46,13 +45,14 @@ ends_piped [] = false
 ends_piped (line ∷ []) = line.piped
 ends_piped (line ∷ other ∷ lines) = ends_piped (other ∷ lines)
 
-abbrev pub is_among : List (List ℕ) → List ℕ → Bool
-is_among files file = list_any (pointwise nat_eq file) files
+-- each once, where it stands first
+abbrev pub once : List (List ℕ) → List (List ℕ)
+once [] = []
+once (file ∷ files) = file ∷ filter (λ other. not (pointwise nat_eq file other)) (once files)
 
 -- each once, and not the job's own temporaries
 abbrev pub lasting : List (List ℕ) → List (List ℕ) → List (List ℕ)
-lasting temps [] = []
-lasting temps (file ∷ files) = (if is_among temps file then [] else file ∷ []) ++ filter (λ other. not (pointwise nat_eq file other)) (lasting temps files)
+lasting temps files = filter (λ file. not (is_among temps file)) (once files)
 
 -- the input's place; the link has none
 abbrev pub place_of : Option Source → Option ℕ
@@ -75,7 +75,7 @@ finished F C w c =
     if c.stray || ends_piped c.lines then Is (Err StrayPipe)
     else (groups F C c.lines >>- λ commands.
     if list_any (λ group. nat_lt most_piped (length group)) commands then Is (Err PipeTooLong)
-    else Is (Ok (record { job = job C w c commands; cost = w.items })))
+    else Is (Ok (record { job = job C w c commands; notices = w.notices; outs = w.outputs; accumulated = w.options; next_number = w.number; cost = w.items })))
 
 -- what stops first in the order of the list counts
 abbrev pub cut : Facts → Context → Work (Unit {0}) → Answer Outcome

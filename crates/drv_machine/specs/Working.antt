@@ -1,17 +1,16 @@
 use Rattle.drv_machine.specs.declared.fault.MachineFault.{MachineFault}
-use Rattle.drv_machine.specs.declared.fault.MachineFault.TheVariants.{SpecTooDeep, TooManySteps}
+use Rattle.drv_machine.specs.declared.fault.MachineFault.TheVariants.{Memory, Search, SpecTooDeep, TooManySteps}
+use Rattle.drv_machine.specs.declared.machine.marking.Mark.{Mark}
+use Rattle.drv_machine.specs.declared.machine.naming.Drawn.{Drawn}
+use Rattle.drv_search.specs.declared.fault.SearchFault.TheVariants as search
+use Rattle.drv_search.specs.declared.fault.SearchFault.{SearchFault}
 use Rattle.drv_syntax.specs.Tree.{Items}
 use Rattle.drv_system.specs.Known.{Known, Is, Unasked}
-use Rattle.std.specs.Prelude.{◌+◌, Bool, List, [], ◌∷◌, ◌++◌, Option, None, Some, Result, Err, Ok, if◌then◌else◌, map, nat_lt, ℕ}
+use Rattle.std.specs.Cmp.Lexicographic.{pointwise}
+use Rattle.std.specs.List.{list_any}
+use Rattle.std.specs.Prelude.{◌+◌, Bool, List, [], ◌∷◌, ◌++◌, Option, None, Some, Result, Err, Ok, flat_map, if◌then◌else◌, map, nat_eq, nat_lt, ℕ}
 
 -- What working a part of a text gives: a list of atoms, and how the list ends (this project's profile).
-
--- how a word is marked
-pub data Mark : Type 0 where
-  AsRemoved : Mark  -- removed at the end of the run
-  AsOutput : Mark  -- the job's output
-  AsFile : Mark  -- a library file, by its name
-  AsScript : Mark  -- a linker script, by its name
 
 pub data Atom : Type 0 where
   Put : ℕ → Atom  -- a byte of the word that is open, or of a new one
@@ -23,12 +22,6 @@ pub data Atom : Type 0 where
   Without : Atom  -- no output, unless a later word is marked as one
   From : Atom  -- %W begins
   To : Atom  -- %W ends: the last word that ended in it is a failure file
-
--- a name that was drawn for a temporary
-pub record Drawn : Type 0 where
-  pub shared : Bool  -- by %g, or else by %u or %U
-  pub suffix : List ℕ
-  pub path : List ℕ
 
 -- what working a text changes as it goes
 pub record World : Type 0 where
@@ -49,6 +42,21 @@ abbrev pub ◌>>-◌ : {X Y : Type 0} → Answer X → (X → Answer Y) → Answ
 Is (Ok x) >>- next = next x
 Is (Err fault) >>- next = Is (Err fault)
 Unasked >>- next = Unasked
+
+-- a refusal of a search
+abbrev pub search_lifted : SearchFault → MachineFault
+search_lifted search.Memory = Memory
+search_lifted fault = Search fault
+
+-- what can't be refused, and what a search gives
+abbrev pub known : {X : Type 0} → Known X → Answer X
+known Unasked = Unasked
+known (Is x) = Is (Ok x)
+
+abbrev pub searched : {X : Type 0} → Known (Result X SearchFault) → Answer X
+searched Unasked = Unasked
+searched (Is (Ok x)) = Is (Ok x)
+searched (Is (Err fault)) = Is (Err (search_lifted fault))
 
 -- atoms, and then a value and the world behind them; or a refusal; or the want of an answer of the facts
 pub data Work (X : Type 0) : Type 0 where
@@ -114,10 +122,16 @@ most_items = 1000000
 abbrev pub counted : Step (Unit {0})
 counted w = if nat_lt w.items most_items then Goes [] tt (record w { items = w.items + 1 }) else Refuses [] TooManySteps
 
--- each with an opening before it and a break behind it
+-- a word is among these
+abbrev pub is_among : List (List ℕ) → List ℕ → Bool
+is_among list word = list_any (pointwise nat_eq word) list
+
+-- a word with an opening before it and a break behind it
+abbrev pub whole_word : List ℕ → List Atom
+whole_word word = Open ∷ map Put word ++ Break ∷ []
+
 abbrev pub words : List (List ℕ) → List Atom
-words [] = []
-words (word ∷ others) = (Open ∷ map Put word ++ Break ∷ []) ++ words others
+words list = flat_map whole_word list
 
 abbrev pub word_of : Option (List ℕ) → List Atom
 word_of None = []

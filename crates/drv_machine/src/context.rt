@@ -1,12 +1,15 @@
-//! What a text is worked for: the switches of the line, and an input or the link.
+//! What a text is worked for: a line, and an input of it or the link.
 
-ghost use Rattle.drv_machine.specs.Context.{argument, names};
+ghost use Rattle.drv_machine.specs.Context.{argument, is_piping, names};
 ghost use Rattle.drv_machine.specs.Outcome.{place_of};
-ghost use Rattle.std.specs.Prelude.{◌≡◌, ◌<◌, IfOk, None, get_or, length, map};
+ghost use Rattle.std.specs.Cmp.Lexicographic.{pointwise};
+ghost use Rattle.std.specs.List.{list_any};
+ghost use Rattle.std.specs.Prelude.{◌≡◌, ◌<◌, [], IfOk, None, codes, get_or, length, map, nat_eq};
 
-use drv_args::Switch;
+use drv_args::{Line, Switch};
 use drv_match::Switches;
-use drv_words::Word;
+use drv_search::Prefixes;
+use drv_words::{Listing, Word};
 use std::alloc::{AllocError, Global};
 use std::marker::Model;
 
@@ -29,25 +32,56 @@ impl<'a> Model for Source<'a> {
     ghost view = { λ s. record { place = s.place; name = s.name.now; language = option_map (λ name. name.now) s.language } };
 }
 
-/// What a text is worked for: the switches of the line, which are lent, and an input or the link. Contracts see the
-/// switches, each with its argument, and the input.
+/// What a text is worked for: a line and the prefixes of its searches, which are lent, what goes on from one text to the
+/// next, and an input or the link.
 #[derive(Debug, Drop)]
 pub struct Context<'a> {
-    switches: &'a [Switch],
-    /// The same switches, ready for patterns.
+    line: &'a Line,
+    /// The line's switches, ready for patterns.
     matcher: Switches,
+    /// Whether `-pipe` stands on the line.
+    is_piping: bool,
+    prefixes: &'a Prefixes,
+    seed: u32,
+    number: usize,
+    options: Listing<Word>,
     input: Option<Source<'a>>,
+    outputs: Listing<Word>,
 }
 
 impl<'a> Model for Context<'a> {
     ghost use Rattle.drv_machine.specs.Context as specs;
-    ghost use Rattle.std.specs.Prelude.{◌≡◌, map};
+    ghost use Rattle.std.specs.Cmp.Lexicographic.{pointwise};
+    ghost use Rattle.std.specs.List.{list_any};
+    ghost use Rattle.std.specs.Prelude.{◌≡◌, codes, map, nat_eq};
 
     ghost Value = { specs.Context };
 
-    ghost view = { λ c. record { switches = c.switches.now; input = c.input } };
+    ghost view = { λ c. record {
+      switches = c.line.now.switches;
+      assembler = c.line.now.asm_opts;
+      preprocessor = c.line.now.cpp_opts;
+      prefixes = c.prefixes.now;
+      seed = c.seed;
+      number = c.number;
+      options = c.options;
+      input = c.input;
+      outputs = c.outputs;
+    } };
 
-    ghost invariant = { λ c. c.matcher ≡ map (λ switch. switch.name) c.switches.now };
+    ghost invariant = { λ c. (c.matcher ≡ map (λ switch. switch.name) c.line.now.switches) × (c.is_piping ≡ list_any (λ switch. pointwise nat_eq switch.name (codes "pipe")) c.line.now.switches) };
+}
+
+/// Whether one of these switches is `-pipe`.
+fn has_pipe(switches: &[Switch]) -> bool
+    ensures { result ≡ list_any (λ switch. pointwise nat_eq switch.name (codes "pipe")) switches.now }
+{
+    for switch in switches {
+        if switch.name.as_bytes() == b"pipe".as_slice() {
+            return true;
+        }
+    }
+    false
 }
 
 /// The argument of the switch at this place of a line.
@@ -59,28 +93,52 @@ fn argument_at(switches: &[Switch], i: usize) -> &Option<Word>
 }
 
 impl<'a> Context<'a> {
-    /// What a text is worked for: these switches, and this input, or none for the link. Want of memory is the
-    /// only error.
+    /// What the first text of a line is worked for, as it would be for a link without outputs: no option was added, and the
+    /// names of temporaries are numbered from 1. Want of memory is the only error.
     pub fn new(
         alloc: Global,
-        switches: &'a [Switch],
-        input: Option<Source<'a>>,
+        line: &'a Line,
+        prefixes: &'a Prefixes,
+        seed: u32,
     ) -> Result<Context<'a>, AllocError>
-        ensures { IfOk result (λ made. made ≡ record { switches = switches.now; input = input.entry }) }
+        ensures { IfOk result (λ made. made ≡ record { switches = line.now.switches; assembler = line.now.asm_opts; preprocessor = line.now.cpp_opts; prefixes = prefixes.now; seed = seed; number = 1; options = []; input = None; outputs = [] }) }
     {
-        let matcher = Switches::new(alloc, switches)?;
+        let matcher = Switches::new(alloc, line.switches.as_slice())?;
+        let is_piping = has_pipe(line.switches.as_slice());
         Ok(Context {
-            switches,
+            line,
             matcher,
-            input,
+            is_piping,
+            prefixes,
+            seed,
+            number: 1,
+            options: Listing::new(alloc),
+            input: None,
+            outputs: Listing::new(alloc),
         })
     }
 
-    /// The same switches, for this input, or none for the link. It takes no memory.
+    /// The same, for this input, or none for the link. It takes no memory.
     pub fn set_input(&mut self, input: Option<Source<'a>>)
         ensures { self.new ≡ record self.old { input = input.entry } }
     {
         self.input = input;
+    }
+
+    /// The same, with what goes on from a text: the options that were added so far, and the number of the next name that is
+    /// drawn. It takes no memory.
+    pub fn go_on(&mut self, options: Listing<Word>, number: usize)
+        ensures { self.new ≡ record self.old { options = options; number = number } }
+    {
+        self.options = options;
+        self.number = number;
+    }
+
+    /// The same, with these outputs of the jobs so far. It takes no memory.
+    pub fn set_outputs(&mut self, outputs: Listing<Word>)
+        ensures { self.new ≡ record self.old { outputs = outputs } }
+    {
+        self.outputs = outputs;
     }
 
     /// The switches, ready for patterns.
@@ -95,7 +153,63 @@ impl<'a> Context<'a> {
         requires { i < length self.now.switches }
         ensures { result.now ≡ argument self.now i }
     {
-        argument_at(self.switches, i)
+        argument_at(self.line.switches.as_slice(), i)
+    }
+
+    /// Whether `-pipe` stands on the line.
+    pub(crate) fn is_piping(&self) -> bool
+        ensures { result ≡ is_piping self.now }
+    {
+        self.is_piping
+    }
+
+    /// The line's pieces for the assembler.
+    pub(crate) fn assembler(&self) -> &'a [Word]
+        ensures { result.now ≡ self.now.assembler }
+    {
+        self.line.asm_opts.as_slice()
+    }
+
+    /// The line's pieces for the preprocessor.
+    pub(crate) fn preprocessor(&self) -> &'a [Word]
+        ensures { result.now ≡ self.now.preprocessor }
+    {
+        self.line.cpp_opts.as_slice()
+    }
+
+    /// Where programs and files are looked for.
+    pub(crate) fn prefixes(&self) -> &'a Prefixes
+        ensures { result.now ≡ self.now.prefixes }
+    {
+        self.prefixes
+    }
+
+    /// The seed of the names of temporaries.
+    pub(crate) fn seed(&self) -> u32
+        ensures { result ≡ self.now.seed }
+    {
+        self.seed
+    }
+
+    /// The number of the next name that is drawn.
+    pub(crate) fn number(&self) -> usize
+        ensures { result ≡ self.now.number }
+    {
+        self.number
+    }
+
+    /// The options that `%x` has added so far.
+    pub(crate) fn options(&self) -> &[Word]
+        ensures { result.now ≡ self.now.options }
+    {
+        self.options.as_slice()
+    }
+
+    /// The outputs of the jobs so far.
+    pub(crate) fn outputs(&self) -> &[Word]
+        ensures { result.now ≡ self.now.outputs }
+    {
+        self.outputs.as_slice()
     }
 
     /// The input, or none for the link.

@@ -7,14 +7,14 @@ ghost use Rattle.drv_machine.specs.Context.{names};
 ghost use Rattle.drv_machine.specs.Running.{run};
 ghost use Rattle.drv_machine.specs.Standing.{Spans, Stands};
 ghost use Rattle.drv_machine.specs.Working.{puts};
-ghost use Rattle.drv_match.specs.Matching.{is_hit};
+ghost use Rattle.drv_match.specs.Matching.{hits, is_hit};
 ghost use Rattle.drv_syntax.specs.Labels.{pattern_nodes};
 ghost use Rattle.drv_syntax.specs.Tree as tree;
 ghost use Rattle.drv_system.specs.Asking.{Extends};
 ghost use Rattle.drv_system.specs.Facts.{Facts};
 ghost use Rattle.drv_system.specs.Gives.{GivesKnown};
 ghost use Rattle.std.specs.List.{list_any};
-ghost use Rattle.std.specs.Prelude.{◌≡◌, ◌<◌, IfOk, List, OnOk, length, map};
+ghost use Rattle.std.specs.Prelude.{◌≡◌, ◌<◌, IfOk, List, OnOk, length, map, nat_lt};
 
 use crate::machine::Machine;
 use crate::outside::Outside;
@@ -53,6 +53,19 @@ fn is_any_hit(context: &Context<'_>, hidden: &Hidden, patterns: &[Pattern<'_>], 
 {
     for pattern in patterns {
         if context.switches().is_hit(pattern, hidden, i) {
+            return true;
+        }
+    }
+    false
+}
+
+/// Whether one of the patterns hits a switch. Each is looked up, and the line isn't gone over.
+fn has_any_hit(context: &Context<'_>, hidden: &Hidden, patterns: &[Pattern<'_>]) -> bool
+    requires { length hidden.now ≡ length context.now.switches }
+    ensures { result ≡ list_any (λ pattern. nat_lt 0 (length (hits (names context.now) hidden.now pattern))) patterns.now }
+{
+    for pattern in patterns {
+        if context.switches().has_hit(pattern, hidden) {
             return true;
         }
     }
@@ -100,5 +113,8 @@ pub(crate) fn emit<S: System>(
     ensures uncounted { OnOk result (machine.new.world.items ≡ machine.old.world.items) }
 {
     let patterns = patterns_in(machine.alloc(), text, start, end)?;
+    if !has_any_hit(context, machine.hidden(), patterns.as_slice()) {
+        return Ok(());
+    }
     put_hits(context, patterns.as_slice(), machine, outside)
 }

@@ -1,5 +1,6 @@
 //! Why a text has no job.
 
+use drv_search::SearchFault;
 use drv_words::Word;
 use std::alloc::{AllocError, AllocFailed};
 use thiserror::Error;
@@ -31,6 +32,9 @@ pub enum MachineFault {
     /// More than 16 commands form one pipe.
     #[error("more than 16 commands in one pipe")]
     PipeTooLong,
+    /// A search failed.
+    #[error("a search failed")]
+    Search(SearchFault),
     /// The directive has no meaning yet.
     #[error("%@ is not there yet")]
     NotYet,
@@ -55,5 +59,19 @@ impl<T: Drop> From<AllocFailed<T>> for MachineFault {
 
     fn from(_refused: AllocFailed<T>) -> MachineFault {
         MachineFault::Memory
+    }
+}
+
+impl From<SearchFault> for MachineFault {
+    ghost use Rattle.drv_machine.specs.Working.{search_lifted};
+    ghost use Rattle.std.specs.Prelude.{◌≡◌};
+
+    ghost from_gives = { λ low high. high ≡ search_lifted low };
+
+    fn from(low: SearchFault) -> MachineFault {
+        match low {
+            SearchFault::Memory => MachineFault::Memory,
+            fault => MachineFault::Search(fault),
+        }
     }
 }

@@ -3,11 +3,12 @@
 ghost use Rattle.drv_machine.specs.Asked.{Asked};
 ghost use Rattle.drv_machine.specs.Atoms.{input_name};
 ghost use Rattle.drv_machine.specs.ByKind.{Means, hide_step, kind_step};
+ghost use Rattle.drv_machine.specs.Context as specs;
 ghost use Rattle.drv_machine.specs.Running as running;
 ghost use Rattle.drv_machine.specs.Running.{run};
 ghost use Rattle.drv_machine.specs.Standing.{Spans};
 ghost use Rattle.drv_machine.specs.Walking.{star_of};
-ghost use Rattle.drv_machine.specs.Working.{Levels, Step};
+ghost use Rattle.drv_machine.specs.Working.{Levels, Step, refuse};
 ghost use Rattle.drv_syntax.specs.Labels.{label_at};
 ghost use Rattle.drv_syntax.specs.declared.token.TokenKind.TheVariants as kinds;
 ghost use Rattle.drv_syntax.specs.Parsed.{tree_of};
@@ -19,7 +20,7 @@ ghost use Rattle.drv_system.specs.Known.{Is};
 ghost use Rattle.std.specs.Prelude.{◌≡◌, ◌+◌, ◌<◌, Ok, OnOk, length};
 
 use crate::emitting::emit;
-use crate::machine::Machine;
+use crate::machine::{Machine, Mark};
 use crate::names::{base, stem};
 use crate::outside::Outside;
 use crate::places::pattern_at;
@@ -27,6 +28,8 @@ use crate::walk::{Rest, star_of};
 use crate::{Context, MachineFault};
 use drv_syntax::{SpecTree, Token, TokenKind};
 use drv_system::System;
+use drv_words::Word;
+use std::alloc::Global;
 
 /// The name of the input; the link has none.
 fn input_name<'a>(context: &'a Context<'_>) -> Result<&'a [u8], MachineFault>
@@ -47,6 +50,13 @@ fn hide(text: &SpecTree, context: &Context<'_>, at: usize, machine: &mut Machine
     ensures uncounted { machine.new.world.items ≡ machine.old.world.items }
 {
     machine.hide(context.switches(), &pattern_at(text, at));
+}
+
+/// The text is refused by an error for the user.
+fn user_error(alloc: Global, text: &[u8]) -> Result<(), MachineFault>
+    ensures { (F : Facts) (C : specs.Context) (s : running.Machine) → GivesKnown MachineFault.Memory (λ u. (tt, s)) result (run F C {X = Unit {0}} s (refuse (MachineFault.UserError text.now))) }
+{
+    Err(MachineFault::UserError(Word::from_bytes(alloc, text)?))
 }
 
 /// Works the item at a place, which is this token, and no brace with alternatives; `star` is what `%*` stands for.
@@ -86,21 +96,38 @@ pub(crate) fn work_item<S: System>(
         }
         TokenKind::Emit => emit(text, context, at + 1, next, machine, outside),
         TokenKind::Star => machine.put(star_of(context, star)),
-        TokenKind::TempName(_)
-        | TokenKind::Removed
-        | TokenKind::Output
-        | TokenKind::NoOutput
-        | TokenKind::FoundFile
-        | TokenKind::FoundScript
-        | TokenKind::Directories
-        | TokenKind::Outputs
-        | TokenKind::AddOption
-        | TokenKind::LinkerOptions
-        | TokenKind::AssemblerOptions
-        | TokenKind::PreprocessorOptions
-        | TokenKind::UserError
-        | TokenKind::Notice
-        | TokenKind::NamedText
+        TokenKind::TempName(kind) => machine.put_temp(kind, text.word(at), context, outside),
+        TokenKind::Removed => {
+            machine.mark(Mark::AsRemoved);
+            Ok(())
+        }
+        TokenKind::Output => {
+            machine.mark(Mark::AsOutput);
+            Ok(())
+        }
+        TokenKind::NoOutput => {
+            machine.bar_output();
+            Ok(())
+        }
+        TokenKind::FoundFile => {
+            machine.mark(Mark::AsFile);
+            Ok(())
+        }
+        TokenKind::FoundScript => {
+            machine.mark(Mark::AsScript);
+            Ok(())
+        }
+        TokenKind::Directories => machine.put_folders(context, outside),
+        TokenKind::Outputs => machine.put_outputs(context, outside),
+        TokenKind::AddOption => machine.add_option(text.word(at)),
+        TokenKind::LinkerOptions => machine.put_options(context, outside),
+        TokenKind::AssemblerOptions => machine.put_words(context.assembler(), context, outside),
+        TokenKind::PreprocessorOptions => {
+            machine.put_words(context.preprocessor(), context, outside)
+        }
+        TokenKind::UserError => user_error(machine.alloc(), text.word(at)),
+        TokenKind::Notice => machine.add_notice(text.word(at)),
+        TokenKind::NamedText
         | TokenKind::BuiltinText
         | TokenKind::Function
         | TokenKind::FailureFile

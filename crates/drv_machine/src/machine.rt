@@ -16,6 +16,10 @@ ghost use Rattle.drv_system.specs.Known.{Is};
 ghost use Rattle.std.specs.Prelude.{◌≡◌, ◌∷◌, ◌++◌, ◌+◌, ◌<◌, [], IfOk, Ok, OnOk, length, map};
 
 mod finishing;
+mod inside;
+mod lists;
+mod marking;
+mod naming;
 
 use crate::outside::Outside;
 use crate::{Context, MachineFault};
@@ -23,6 +27,10 @@ use drv_match::{Hidden, Pattern, Switches};
 use drv_system::System;
 use drv_words::{Listing, Word};
 pub(crate) use finishing::into_outcome;
+use inside::Inside;
+use lists::copied_words;
+pub(crate) use marking::{Mark, Marking};
+pub(crate) use naming::Drawn;
 use smallvec::SmallVec;
 use std::alloc::{AllocError, Global};
 use std::marker::Model;
@@ -46,8 +54,7 @@ impl Model for Line {
     ghost view = { λ l. record { words = l.words; piped = l.piped } };
 }
 
-/// What working a text holds: the word, the command and the commands cut so far, the hidden switches, and the
-/// count of items. Contracts see the state of the definitions; what no directive changes yet is constant in it.
+/// What working a text holds: what is cut so far, and what working changes as it goes.
 #[derive(Drop)]
 pub(crate) struct Machine {
     alloc: Global,
@@ -62,17 +69,36 @@ pub(crate) struct Machine {
     lines: Listing<Line>,
     /// Whether a pipe stood where none may.
     is_stray: bool,
+    /// The marks of the open word, or those that wait for the next one.
+    marks: Marking,
+    /// Whether the open word began before a `%V`.
+    is_barred: bool,
+    /// The words that are removed at the end of the run.
+    removed: Listing<Word>,
+    /// The words that are removed where the job fails.
+    on_failure: Listing<Word>,
+    output: Option<Word>,
+    /// What ends in the `%W` that are open.
+    inside: Inside,
     hidden: Hidden,
+    /// What `%x` has added so far.
+    options: Listing<Word>,
+    /// The names of the job's temporaries.
+    drawn: Listing<Drawn>,
+    /// The number of the next name that is drawn.
+    number: usize,
+    /// The outputs of the jobs so far.
+    outputs: Listing<Word>,
+    notices: Listing<Word>,
     /// The number of items that were reached.
     items: usize,
 }
 
 impl Model for Machine {
-    ghost use Rattle.drv_machine.specs.Cutting.{no_marks};
     ghost use Rattle.drv_machine.specs.Held.{open_word};
     ghost use Rattle.drv_machine.specs.Running as running;
     ghost use Rattle.std.specs.Option.{unwrap_or};
-    ghost use Rattle.std.specs.Prelude.{◌≡◌, [], None, false};
+    ghost use Rattle.std.specs.Prelude.{◌≡◌, []};
 
     ghost Value = { running.Machine };
 
@@ -81,24 +107,25 @@ impl Model for Machine {
     ghost view = { λ m. record {
       cut = record {
         word = open_word m.is_open m.word.items;
-        marks = no_marks;
-        barred = false;
+        marks = m.marks;
+        barred = m.is_barred;
         line = record { words = m.line; piped = m.is_piped };
         lines = m.lines;
         stray = m.is_stray;
-        removed = [];
-        on_failure = [];
-        output = None;
-        inside = [];
+        removed = m.removed;
+        on_failure = m.on_failure;
+        output = m.output;
+        inside = m.inside;
       };
-      world = record { hidden = m.hidden; options = []; drawn = []; number = 1; outputs = []; notices = []; items = m.items };
+      world = record { hidden = m.hidden; options = m.options; drawn = m.drawn; number = m.number; outputs = m.outputs; notices = m.notices; items = m.items };
     } };
 }
 
 impl Machine {
-    /// Nothing is cut, hidden or counted. Want of memory is the only error.
-    pub(crate) fn new(alloc: Global, switches: &Switches) -> Result<Machine, AllocError>
-        ensures { IfOk result (λ made. (F : Facts) (C : specs.Context) → names C ≡ switches.now → made ≡ begun F C) }
+    /// Nothing is cut, hidden or counted; options, numbers and outputs go on from the texts before. Want of memory is the
+    /// only error.
+    pub(crate) fn new(alloc: Global, context: &Context<'_>) -> Result<Machine, AllocError>
+        ensures { IfOk result (λ made. (F : Facts) → made ≡ begun F context.now) }
     {
         Ok(Machine {
             alloc,
@@ -108,7 +135,18 @@ impl Machine {
             is_piped: false,
             lines: Listing::new(alloc),
             is_stray: false,
-            hidden: Hidden::new(alloc, switches)?,
+            marks: Marking::none(),
+            is_barred: false,
+            removed: Listing::new(alloc),
+            on_failure: Listing::new(alloc),
+            output: None,
+            inside: Inside::new(alloc),
+            hidden: Hidden::new(alloc, context.switches())?,
+            options: copied_words(alloc, context.options())?,
+            drawn: Listing::new(alloc),
+            number: context.number(),
+            outputs: copied_words(alloc, context.outputs())?,
+            notices: Listing::new(alloc),
             items: 0,
         })
     }
@@ -150,27 +188,6 @@ impl Machine {
             return self.put_byte(bytes[0]);
         }
         self.put(bytes)
-    }
-
-    /// The open word, if there is one, ends.
-    pub(crate) fn end_word<S: System>(
-        &mut self,
-        context: &Context<'_>,
-        outside: &mut Outside<'_, S>,
-    ) -> Result<(), MachineFault>
-        ensures asks { Asked S.events outside.old outside.new }
-        ensures does { (F : Facts) → Extends outside.new.facts.now F → GivesKnown MachineFault.Memory (λ u. (tt, self.new)) result (run F context.now self.old (puts (Break ∷ []))) }
-        ensures sized { length self.new.world.hidden ≡ length self.old.world.hidden }
-        ensures uncounted { OnOk result (self.new.world.items ≡ self.old.world.items) }
-    {
-        if !self.is_open {
-            return Ok(());
-        }
-        self.line
-            .push(Word::from_bytes(self.alloc, self.word.as_slice())?)?;
-        self.word.clear();
-        self.is_open = false;
-        Ok(())
     }
 
     /// A word is open, which may stay empty.

@@ -28,7 +28,7 @@ fn cut<S: System>(
     ensures asks { Asked S.events outside.old outside.new }
     ensures does { (F : Facts) → Extends outside.new.facts.now F → GivesKnown MachineFault.Memory (λ machine. (tt, machine)) result (run F context.now (begun F context.now) (whole_text F context.now (tree_of text.now))) }
 {
-    let mut machine = Machine::new(alloc, context.switches())?;
+    let mut machine = Machine::new(alloc, context)?;
     work_text(text, context, &mut machine, outside)?;
     machine.end_line(context, outside)?;
     Ok(machine)

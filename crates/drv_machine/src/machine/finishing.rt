@@ -1,24 +1,35 @@
 //! What stands behind the whole text: pipes judged, and the commands as a job.
 
 ghost use Rattle.drv_machine.specs.Asked.{Asked};
-ghost use Rattle.drv_machine.specs.Held.{alone, command_of};
-ghost use Rattle.drv_machine.specs.Outcome.{ends_piped, finished};
+ghost use Rattle.drv_machine.specs.Context.{is_piping};
+ghost use Rattle.drv_machine.specs.Held.{made};
+ghost use Rattle.drv_machine.specs.Outcome.{command, ends_piped, finished, groups, lasting, most_piped, once};
+ghost use Rattle.drv_machine.specs.Working.{is_among};
 ghost use Rattle.drv_system.specs.Asking.{Extends};
 ghost use Rattle.drv_system.specs.Facts.{Facts};
 ghost use Rattle.drv_system.specs.Gives.{GivesKnown};
-ghost use Rattle.std.specs.Prelude.{◌≡◌, ◌||◌, ◌∷◌, [], IfOk, map};
+ghost use Rattle.drv_system.specs.Known.{Is};
+ghost use Rattle.std.specs.List.{list_any};
+ghost use Rattle.std.specs.Prelude.{◌≡◌, ◌&&◌, ◌||◌, ◌++◌, [], IfOk, Ok, OnOk, length, map, nat_lt};
 
-use super::{Line, Machine};
+use super::lists::is_among;
+use super::{Drawn, Line, Machine};
 use crate::outside::Outside;
 use crate::{Context, MachineFault, Outcome};
+use drv_search::find_program;
 use drv_system::System;
-use drv_words::{Command, Group, Job, Listing, Word};
+use drv_words::{Command, Group, Job, Listing, Temp, Word};
 use std::alloc::{AllocError, Global};
+use std::mem;
 
-/// The job of a text that was worked to its end, and what it cost. Words are moved.
+/// The most commands of a group.
+const MOST_PIPED: usize = 16;
+
+/// The job of a text that was worked to its end, and what goes on to the next text. Words are moved.
 ///
 /// # Errors
-/// `StrayPipe` where a pipe is not at the end of a command with a word, or no further command follows it.
+/// `StrayPipe` where a pipe is not at the end of a command with a word, or no further command follows it; `PipeTooLong`
+/// where more than 16 commands form one pipe.
 #[tactic(auto, using(crate::proofs::AskedCalls::asked_none))]
 pub(crate) fn into_outcome<S: System>(
     machine: Machine,
@@ -32,16 +43,29 @@ pub(crate) fn into_outcome<S: System>(
         return Err(MachineFault::StrayPipe);
     }
     let alloc = machine.alloc;
-    let cost = machine.items;
+    let groups = groups_of(alloc, machine.lines, context, outside)?;
+    if has_long_pipe(groups.as_slice()) {
+        return Err(MachineFault::PipeTooLong);
+    }
+    let drawn = machine.drawn;
+    let marked = lasting(alloc, drawn.as_slice(), machine.removed)?;
+    let on_failure = lasting(alloc, drawn.as_slice(), machine.on_failure)?;
     let job = Job {
         source: context.place(),
-        groups: groups_of(alloc, machine.lines)?,
-        temps: Listing::new(alloc),
-        marked: Listing::new(alloc),
-        on_failure: Listing::new(alloc),
-        output: None,
+        groups,
+        temps: temps_of(alloc, drawn)?,
+        marked,
+        on_failure,
+        output: machine.output,
     };
-    Ok(Outcome { job, cost })
+    Ok(Outcome {
+        job,
+        notices: machine.notices,
+        outs: machine.outputs,
+        accumulated: machine.options,
+        next_number: machine.number,
+        cost: machine.items,
+    })
 }
 
 /// Whether a pipe stands where none may.
@@ -61,40 +85,141 @@ fn ends_piped(lines: &[Line]) -> bool
     }
 }
 
-/// Each command in a group of its own.
-fn groups_of(alloc: Global, lines: Listing<Line>) -> Result<Listing<Group>, AllocError>
-    ensures { IfOk result (λ groups. groups ≡ map alone lines) }
+/// Whether a group has too many commands.
+fn has_long_pipe(groups: &[Group]) -> bool
+    ensures { result ≡ list_any (λ group. nat_lt most_piped (length group)) groups.now }
+{
+    for group in groups {
+        if group.as_slice().len() > MOST_PIPED {
+            return true;
+        }
+    }
+    false
+}
+
+/// The groups of commands: with `-pipe` piped commands form one, otherwise each command is one. Want of memory is the
+/// only error.
+#[tactic(auto, using(crate::proofs::AskedCalls::asked_none, crate::proofs::AskedCalls::asked_further))]
+fn groups_of<S: System>(
+    alloc: Global,
+    lines: Listing<Line>,
+    context: &Context<'_>,
+    outside: &mut Outside<'_, S>,
+) -> Result<Listing<Group>, AllocError>
+    ensures asks { Asked S.events outside.old outside.new }
+    ensures made { (F : Facts) → Extends outside.new.facts.now F → IfOk result (λ made. groups F context.now lines ≡ Is (Ok made)) }
 {
     let mut groups = Listing::new(alloc);
+    let mut begun = Vec::new(alloc);
     for line in lines.into_vec() {
-        groups.push(alone(alloc, line.words)?)?;
+        let is_joined = is_joined(context, &line);
+        begun.push(command_of(alloc, line.words, context, outside)?)?;
+        if is_joined {
+            continue;
+        }
+        push_group(&mut groups, mem::replace(&mut begun, Vec::new(alloc)))?;
     }
+    push_group(&mut groups, begun)?;
     Ok(groups)
 }
 
-/// A group of one command.
-fn alone(alloc: Global, words: Listing<Word>) -> Result<Group, AllocError>
-    ensures { IfOk result (λ group. group ≡ command_of words ∷ []) }
+/// Whether the command of a line goes into one group with the next one.
+fn is_joined(context: &Context<'_>, line: &Line) -> bool
+    ensures { result ≡ (is_piping context.now && line.now.piped) }
 {
-    let mut commands = Vec::new(alloc);
-    commands.push(command_of(alloc, words))?;
-    Ok(Group::from_vec(commands).unwrap())
+    context.is_piping() && line.piped
 }
 
-/// The command of these words, of which the first is its program.
-fn command_of(alloc: Global, words: Listing<Word>) -> Command
-    ensures { result ≡ command_of words }
+/// One group more, if these are commands.
+fn push_group(groups: &mut Listing<Group>, commands: Vec<Command>) -> Result<(), AllocError>
+    ensures { OnOk result (groups.new ≡ groups.old ++ made commands.items) }
+{
+    if let Some(group) = Group::from_vec(commands) {
+        groups.push(group)?;
+    }
+    Ok(())
+}
+
+/// The command of these words, of which the first names its program. Want of memory is the only error.
+#[tactic(auto, using(crate::proofs::AskedCalls::asked_none))]
+fn command_of<S: System>(
+    alloc: Global,
+    words: Listing<Word>,
+    context: &Context<'_>,
+    outside: &mut Outside<'_, S>,
+) -> Result<Command, AllocError>
+    ensures asks { Asked S.events outside.old outside.new }
+    ensures made { (F : Facts) → Extends outside.new.facts.now F → IfOk result (λ made. command F context.now words ≡ Is (Ok made)) }
 {
     let mut words = words.into_vec();
     if words.is_empty() {
-        return Command {
+        return Ok(Command {
             program: Word::empty(alloc),
             words: Listing::new(alloc),
-        };
+        });
     }
-    let program = words.remove(0);
-    Command {
+    let name = words.remove(0);
+    let program = find_program(alloc, context.prefixes(), &name, outside.sys, outside.facts)?;
+    Ok(Command {
         program,
         words: Listing::from_vec(words),
+    })
+}
+
+/// The temporaries of a job, whose files are empty. Paths are moved.
+fn temps_of(alloc: Global, drawn: Listing<Drawn>) -> Result<Listing<Temp>, AllocError>
+    ensures { IfOk result (λ temps. temps ≡ map (λ name. record { path = name.path; contents = [] }) drawn) }
+{
+    let mut temps = Listing::new(alloc);
+    for name in drawn.into_vec() {
+        temps.push(Temp {
+            path: name.path,
+            contents: Word::empty(alloc),
+        })?;
     }
+    Ok(temps)
+}
+
+/// Whether a file is a temporary of the job.
+fn is_temp(drawn: &[Drawn], file: &[u8]) -> bool
+    ensures { result ≡ is_among (map (λ name. name.path) drawn.now) file.now }
+{
+    for name in drawn {
+        if file == name.path.as_bytes() {
+            return true;
+        }
+    }
+    false
+}
+
+/// Files, each once. Words are moved.
+fn once(alloc: Global, files: Listing<Word>) -> Result<Listing<Word>, AllocError>
+    ensures { IfOk result (λ kept. kept ≡ once files) }
+{
+    let mut kept = Listing::new(alloc);
+    for file in files.into_vec() {
+        if is_among(kept.as_slice(), file.as_bytes()) {
+            continue;
+        }
+        kept.push(file)?;
+    }
+    Ok(kept)
+}
+
+/// Files, each once, and without the job's own temporaries. Words are moved.
+fn lasting(
+    alloc: Global,
+    drawn: &[Drawn],
+    files: Listing<Word>,
+) -> Result<Listing<Word>, AllocError>
+    ensures { IfOk result (λ kept. kept ≡ lasting (map (λ name. name.path) drawn.now) files) }
+{
+    let mut kept = Listing::new(alloc);
+    for file in once(alloc, files)?.into_vec() {
+        if is_temp(drawn, file.as_bytes()) {
+            continue;
+        }
+        kept.push(file)?;
+    }
+    Ok(kept)
 }

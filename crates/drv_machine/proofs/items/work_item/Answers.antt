@@ -2,16 +2,17 @@ use Rattle.drv_machine.proofs.items.work_item.Goals as goal
 use Rattle.drv_machine.proofs.Standing.{stand_grows}
 use Rattle.drv_machine.proofs.Steps.{fails_as, gives_as, then_fails, then_ok}
 use Rattle.drv_machine.proofs.WorkSteps.{by_kind}
-use Rattle.drv_machine.specs.Atoms.{input_name}
+use Rattle.drv_machine.specs.Atoms.{added, input_name}
 use Rattle.drv_machine.specs.ByKind.{kind_step}
 use Rattle.drv_machine.specs.Names.{base, stem}
 use Rattle.drv_machine.specs.Running.{run}
 use Rattle.drv_machine.specs.Walking.{star_of}
-use Rattle.drv_machine.specs.Working.{bytes}
+use Rattle.drv_machine.specs.Working.{World, bytes, change, refuse}
+use Rattle.drv_machine.specs.declared.fault.MachineFault.TheVariants.{UserError}
 use Rattle.drv_syntax.specs.Labels.{label_at}
 use Rattle.drv_syntax.specs.Parsed.{tree_of}
 use Rattle.drv_syntax.specs.declared.token.TokenKind.TheVariants as kinds
-use Rattle.std.proofs.Common.{ap, arith, rules, sym, ◌+◌, ◌∙◌}
+use Rattle.std.proofs.Common.{[], ◌∷◌, ◌++◌, ap, arith, rules, sym, ◌+◌, ◌∙◌}
 
 pub returns-in_err-input_name-in-InputName-clause-does : goal.returns-in_err-input_name-in-InputName-clause-does
 returns-in_err-input_name-in-InputName-clause-does g c F e levels inner means =
@@ -71,3 +72,38 @@ returns-in-ObjectSuffix-clause-does g c F e levels inner means =
 pub returns-in-Hide-clause-does : goal.returns-in-Hide-clause-does
 returns-in-Hide-clause-does g c F e levels inner means =
     sym (by_kind F c.args.context.now c.args.machine.now c.args.token.kind kinds.Hide c.args.text.now c.args.at (star_of c.args.context.now c.args.star) inner c.in-Hide.is) ∙ c.hide.ensures.does F
+
+pub returns-in-Removed-clause-does : goal.returns-in-Removed-clause-does
+returns-in-Removed-clause-does g c F e levels inner means =
+    sym (by_kind F c.args.context.now c.args.machine.now c.args.token.kind kinds.Removed c.args.text.now c.args.at (star_of c.args.context.now c.args.star) inner c.in-Removed.is) ∙ c.mark.ensures.does F c.args.context.now
+
+pub returns-in-Output-clause-does : goal.returns-in-Output-clause-does
+returns-in-Output-clause-does g c F e levels inner means =
+    sym (by_kind F c.args.context.now c.args.machine.now c.args.token.kind kinds.Output c.args.text.now c.args.at (star_of c.args.context.now c.args.star) inner c.in-Output.is) ∙ c.mark-in-Output.ensures.does F c.args.context.now
+
+pub returns-in-NoOutput-clause-does : goal.returns-in-NoOutput-clause-does
+returns-in-NoOutput-clause-does g c F e levels inner means =
+    sym (by_kind F c.args.context.now c.args.machine.now c.args.token.kind kinds.NoOutput c.args.text.now c.args.at (star_of c.args.context.now c.args.star) inner c.in-NoOutput.is) ∙ c.bar_output.ensures.does F c.args.context.now
+
+pub returns-in-FoundFile-clause-does : goal.returns-in-FoundFile-clause-does
+returns-in-FoundFile-clause-does g c F e levels inner means =
+    sym (by_kind F c.args.context.now c.args.machine.now c.args.token.kind kinds.FoundFile c.args.text.now c.args.at (star_of c.args.context.now c.args.star) inner c.in-FoundFile.is) ∙ c.mark-in-FoundFile.ensures.does F c.args.context.now
+
+pub returns-in-FoundScript-clause-does : goal.returns-in-FoundScript-clause-does
+returns-in-FoundScript-clause-does g c F e levels inner means =
+    sym (by_kind F c.args.context.now c.args.machine.now c.args.token.kind kinds.FoundScript c.args.text.now c.args.at (star_of c.args.context.now c.args.star) inner c.in-FoundScript.is) ∙ c.mark-in-FoundScript.ensures.does F c.args.context.now
+
+pub returns-in-AddOption-clause-does : goal.returns-in-AddOption-clause-does
+returns-in-AddOption-clause-does g c F e levels inner means =
+    gives_as c.add_option.new.self c.add_option.result _ _
+    (ap (λ word. run F c.args.context.now c.args.machine.now (change (λ (w : World). record w { options = added word w.options }))) c.word-in-AddOption.ensures ∙ by_kind F c.args.context.now c.args.machine.now c.args.token.kind kinds.AddOption c.args.text.now c.args.at (star_of c.args.context.now c.args.star) inner c.in-AddOption.is) (c.add_option.ensures.does F c.args.context.now)
+
+pub returns-in-Notice-clause-does : goal.returns-in-Notice-clause-does
+returns-in-Notice-clause-does g c F e levels inner means =
+    gives_as c.add_notice.new.self c.add_notice.result _ _
+    (ap (λ word. run F c.args.context.now c.args.machine.now (change (λ (w : World). record w { notices = w.notices ++ word ∷ [] }))) c.word-in-Notice.ensures ∙ by_kind F c.args.context.now c.args.machine.now c.args.token.kind kinds.Notice c.args.text.now c.args.at (star_of c.args.context.now c.args.star) inner c.in-Notice.is) (c.add_notice.ensures.does F c.args.context.now)
+
+pub returns-in-UserError-clause-does : goal.returns-in-UserError-clause-does
+returns-in-UserError-clause-does g c F e levels inner means =
+    gives_as c.args.machine.now c.user_error.result _ _
+    (ap (λ word. run F c.args.context.now {X = Unit {0}} c.args.machine.now (refuse (UserError word))) c.word-in-UserError.ensures ∙ by_kind F c.args.context.now c.args.machine.now c.args.token.kind kinds.UserError c.args.text.now c.args.at (star_of c.args.context.now c.args.star) inner c.in-UserError.is) (c.user_error.ensures F c.args.context.now c.args.machine.now)

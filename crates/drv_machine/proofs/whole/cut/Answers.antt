@@ -11,11 +11,11 @@ use Rattle.std.proofs.lemmas.List.{length-map}
 
 pub work_text-requires : goal.work_text-requires
 work_text-requires g c =
-    ap (λ (s : Machine). length s.world.hidden) (c.in_ok-machine.ensures no_facts c.args.context.now (sym c.switches.ensures)) ∙ length-map c.args.context.now.switches (λ s. false)
+    ap (λ (s : Machine). length s.world.hidden) (c.in_ok-machine.ensures no_facts) ∙ length-map c.args.context.now.switches (λ s. false)
 
 pub returns-in_err-work_text-clause-does : goal.returns-in_err-work_text-clause-does
 returns-in_err-work_text-clause-does g c F e =
-    let start = c.in_ok-machine.ensures F c.args.context.now (sym c.switches.ensures) in
+    let start = c.in_ok-machine.ensures F in
     let failed =
     then_fails F c.args.context.now c.in_ok-machine.machine (items_step F c.args.context.now (tree_of c.args.text.now) (levels_left F c.args.context.now most_open) []) (λ u. puts (Break ∷ End ∷ []))
     c.in_err-work_text.field-0.0 (c.in_err-work_text.ensures.does F e) in
@@ -27,7 +27,7 @@ returns-in_err-work_text-clause-does g c F e =
 
 pub returns-in_err-end_line-clause-does : goal.returns-in_err-end_line-clause-does
 returns-in_err-end_line-clause-does g c F e =
-    let start = c.in_ok-machine.ensures F c.args.context.now (sym c.switches.ensures) in
+    let start = c.in_ok-machine.ensures F in
     let went =
     then_ok F c.args.context.now c.in_ok-machine.machine (items_step F c.args.context.now (tree_of c.args.text.now) (levels_left F c.args.context.now most_open) []) (λ u. puts (Break ∷ End ∷ [])) tt
     c.work_text.new.machine (c.in_ok-work_text.ensures.does F (extends_before c.end_line.ensures.asks e)) in
@@ -39,7 +39,7 @@ returns-in_err-end_line-clause-does g c F e =
 
 pub returns-clause-does : goal.returns-clause-does
 returns-clause-does g c F e =
-    let start = c.in_ok-machine.ensures F c.args.context.now (sym c.switches.ensures) in
+    let start = c.in_ok-machine.ensures F in
     let went =
     then_ok F c.args.context.now c.in_ok-machine.machine (items_step F c.args.context.now (tree_of c.args.text.now) (levels_left F c.args.context.now most_open) []) (λ u. puts (Break ∷ End ∷ [])) tt
     c.work_text.new.machine (c.in_ok-work_text.ensures.does F (extends_before c.end_line.ensures.asks e)) in

@@ -1,5 +1,9 @@
 use Rattle.drv_machine.proofs.Cutter.{begun_with}
 use Rattle.drv_machine.proofs.machine.Machine.new.Goals as goal
+use Rattle.std.proofs.Common.{◌∙◌}
 
 pub returns : goal.returns
-returns c F C e = rw (c.new-2.ensures, c.new-3.ensures) (begun_with F C c.in_ok-new.field-0 c.args.switches.now e c.in_ok-new.ensures)
+returns c F =
+    rw (c.new-2.ensures, c.new-3.ensures, c.none.ensures, c.new-4.ensures, c.new-5.ensures, c.new-6.ensures, c.new-9.ensures, c.new-10.ensures)
+    (begun_with F c.args.context.now c.in_ok-new.field-0 c.switches.result.now c.in_ok-copied_words.field-0 c.in_ok-copied_words-2.field-0 c.number.result
+    c.switches.ensures c.in_ok-new.ensures (c.in_ok-copied_words.ensures ∙ c.options.ensures) c.number.ensures (c.in_ok-copied_words-2.ensures ∙ c.outputs.ensures))

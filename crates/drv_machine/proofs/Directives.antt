@@ -1,0 +1,214 @@
+use Rattle.drv_machine.proofs.WorkedTexts.{alone, linking, on, words_of, worked}
+use Rattle.drv_machine.specs.Context.{Context}
+use Rattle.drv_machine.specs.Working.{◌>>-◌, Answer}
+use Rattle.drv_machine.specs.declared.fault.MachineFault.TheVariants.{NotInLink, PipeTooLong, Search, StrayPipe, UserError}
+use Rattle.drv_search.specs.declared.fault.SearchFault.TheVariants.{ScriptMissing}
+use Rattle.drv_search.specs.declared.prefixes.Prefixes.{Prefixes}
+use Rattle.drv_system.specs.Facts.{Facts, no_facts}
+use Rattle.drv_system.specs.Known.{Is, Unasked}
+use Rattle.drv_system.specs.declared.event.PathKind.TheVariants.{Dir, Missing, Plain}
+use Rattle.drv_words.specs.declared.plan.Job.{Job}
+use Rattle.std.proofs.Common.{◌≡◌, ◌++◌, Option, List, [], ◌∷◌, arith, codes, length, map, refl, suc, zero, ℕ}
+use Rattle.std.proofs.lemmas.Fmt.{decimal_digit}
+use Rattle.std.specs.Prelude.{Err, None, Ok, Some}
+
+-- Worked texts, by computation: names of temporaries, marks, lists, pipes and searches. The expected values were worked out
+-- by hand from the manual and the profile.
+
+-- no TMPDIR
+abbrev untouched : Facts
+untouched = record no_facts { variables = (codes "TMPDIR", None) ∷ [] }
+
+abbrev job_of : Facts → Context → List ℕ → Answer Job
+job_of F C text = worked F C text >>- λ o. Is (Ok o.job)
+
+-- temporaries: %g has one name for its suffix, %u a new one, and %U the last one of %u and %U
+names_drawn : words_of untouched (on [] (codes "a.c")) (codes "%g.s %U.s %g.s %u.s %U.s %g%O")
+    ≡ Is (Ok ((codes "/tmp/cc0000002a_1.s" ∷ codes "/tmp/cc0000002a_2.s" ∷ codes "/tmp/cc0000002a_1.s" ∷ codes "/tmp/cc0000002a_3.s" ∷ codes "/tmp/cc0000002a_3.s" ∷ codes "/tmp/cc0000002a_4.o" ∷ []) ∷ []))
+names_drawn = rw (decimal_digit 1 (omega arith), decimal_digit 2 (omega arith), decimal_digit 3 (omega arith), decimal_digit 4 (omega arith)) refl
+
+abbrev paths_of : Facts → List ℕ → Answer (List (List ℕ))
+paths_of F text = job_of F (on [] (codes "a.c")) text >>- λ job. Is (Ok (map (λ temp. temp.path) job.temps))
+
+four_temps : paths_of untouched (codes "%g.s %U.s %g.s %u.s %U.s %g%O")
+    ≡ Is (Ok (codes "/tmp/cc0000002a_1.s" ∷ codes "/tmp/cc0000002a_2.s" ∷ codes "/tmp/cc0000002a_3.s" ∷ codes "/tmp/cc0000002a_4.o" ∷ []))
+four_temps = rw (decimal_digit 1 (omega arith), decimal_digit 2 (omega arith), decimal_digit 3 (omega arith), decimal_digit 4 (omega arith)) refl
+
+-- a name that another text used is not drawn again
+next_number : (worked untouched (record (on [] (codes "a.c")) { number = 7 }) (codes "%u.o %u.o") >>- λ o. Is (Ok o.next_number)) ≡ Is (Ok 9)
+next_number = rw (decimal_digit 7 (omega arith), decimal_digit 8 (omega arith)) refl
+
+-- the folder is TMPDIR, if it has a value; a slash at its end is not doubled, and none is taken away
+abbrev in_folder : Option (List ℕ) → Facts
+in_folder value = record no_facts { variables = (codes "TMPDIR", value) ∷ [] }
+
+folder_with_slash : words_of (in_folder (Some (codes "t/"))) (on [] (codes "a.c")) (codes "%g.s") ≡ Is (Ok ((codes "t/cc0000002a_1.s" ∷ []) ∷ []))
+folder_with_slash = rw (decimal_digit 1 (omega arith)) refl
+
+folder_without : words_of (in_folder (Some (codes "t"))) (on [] (codes "a.c")) (codes "%g.s") ≡ Is (Ok ((codes "t/cc0000002a_1.s" ∷ []) ∷ []))
+folder_without = rw (decimal_digit 1 (omega arith)) refl
+
+folder_with_two : words_of (in_folder (Some (codes "t//"))) (on [] (codes "a.c")) (codes "%g.s") ≡ Is (Ok ((codes "t//cc0000002a_1.s" ∷ []) ∷ []))
+folder_with_two = rw (decimal_digit 1 (omega arith)) refl
+
+empty_folder : words_of (in_folder (Some [])) (on [] (codes "a.c")) (codes "%g.s") ≡ Is (Ok ((codes "/tmp/cc0000002a_1.s" ∷ []) ∷ []))
+empty_folder = rw (decimal_digit 1 (omega arith)) refl
+
+-- without the answer there is no name
+unasked_folder : words_of no_facts (on [] (codes "a.c")) (codes "%g.s") ≡ Unasked
+unasked_folder = refl
+
+-- %| and %m
+piped_names : words_of no_facts (on (alone (codes "pipe") ∷ []) (codes "a.c")) (codes "cc1 -o %|.s |\nas %m.s") ≡ Is (Ok ((codes "cc1" ∷ codes "-o" ∷ codes "-" ∷ codes "as" ∷ []) ∷ []))
+piped_names = refl
+
+unpiped_names : words_of untouched (on [] (codes "a.c")) (codes "cc1 -o %|.s |\nas %m.s")
+    ≡ Is (Ok ((codes "cc1" ∷ codes "-o" ∷ codes "/tmp/cc0000002a_1.s" ∷ []) ∷ (codes "as" ∷ codes "/tmp/cc0000002a_1.s" ∷ []) ∷ []))
+unpiped_names = rw (decimal_digit 1 (omega arith)) refl
+
+-- with -pipe piped commands are one group, also where the switch is hidden
+abbrev sizes : Context → List ℕ → Answer (List ℕ)
+sizes C text = job_of no_facts C text >>- λ job. Is (Ok (map length job.groups))
+
+abbrev piping : Context
+piping = on (alone (codes "pipe") ∷ []) (codes "a.c")
+
+one_group : sizes piping (codes "%<pipe c |\nd |\ne\nf") ≡ Is (Ok (3 ∷ 1 ∷ []))
+one_group = refl
+
+no_group : sizes (on [] (codes "a.c")) (codes "c |\nd |\ne\nf") ≡ Is (Ok (1 ∷ 1 ∷ 1 ∷ 1 ∷ []))
+no_group = refl
+
+-- a blank line doesn't split a group
+blank_line : sizes piping (codes "c |\n\nd") ≡ Is (Ok (2 ∷ []))
+blank_line = refl
+
+abbrev times : ℕ → List ℕ → List ℕ
+times zero text = []
+times (suc n) text = text ++ times n text
+
+sixteen : sizes piping (times 15 (codes "c |\n") ++ codes "c") ≡ Is (Ok (16 ∷ []))
+sixteen = refl
+
+seventeen : sizes piping (times 16 (codes "c |\n") ++ codes "c") ≡ Is (Err PipeTooLong)
+seventeen = refl
+
+seventeen_apart : sizes (on [] (codes "a.c")) (times 16 (codes "c |\n") ++ codes "c") ≡ Is (Ok (times 17 (1 ∷ [])))
+seventeen_apart = refl
+
+-- a mark behind a pipe is stray, and a list, a notice or a %V is not
+stray_mark : sizes piping (codes "c |%d\nd") ≡ Is (Err StrayPipe)
+stray_mark = refl
+
+no_stray : sizes piping (codes "c |%V%x{-q}%nhi\n\nd") ≡ Is (Ok (2 ∷ []))
+no_stray = refl
+
+-- marks
+abbrev left : Context → List ℕ → Answer (Option (List ℕ) × List (List ℕ) × List (List ℕ))
+left C text = job_of untouched C text >>- λ job. Is (Ok (job.output, job.marked, job.on_failure))
+
+output : left (on [] (codes "a.c")) (codes "as -o %w%b.o") ≡ Is (Ok (Some (codes "a.o"), [], codes "a.o" ∷ []))
+output = refl
+
+last_output : left (on [] (codes "a.c")) (codes "a%w b%w c%d d%d") ≡ Is (Ok (Some (codes "b"), codes "c" ∷ codes "d" ∷ [], codes "a" ∷ codes "b" ∷ []))
+last_output = refl
+
+-- each file once, and none of the job's temporaries
+files_once : left (on [] (codes "a.c")) (codes "a%d b%d a%d %g.s%d") ≡ Is (Ok (None, codes "a" ∷ codes "b" ∷ [], []))
+files_once = rw (decimal_digit 1 (omega arith)) refl
+
+temp_later : left (on [] (codes "a.c")) (codes "/tmp/cc0000002a_1.s%d %g.s") ≡ Is (Ok (None, [], []))
+temp_later = rw (decimal_digit 1 (omega arith)) refl
+
+-- %V takes an output away, unless a later word is one
+no_output : left (on [] (codes "a.c")) (codes "a%w %V b") ≡ Is (Ok (None, [], codes "a" ∷ []))
+no_output = refl
+
+no_output_within : left (on [] (codes "a.c")) (codes "a%V%w b") ≡ Is (Ok (None, [], codes "a" ∷ []))
+no_output_within = refl
+
+output_again : left (on [] (codes "a.c")) (codes "%V a%w") ≡ Is (Ok (Some (codes "a"), [], codes "a" ∷ []))
+output_again = refl
+
+-- a mark waits for the next word, and a break ends it
+mark_waits : left (on [] (codes "a.c")) (codes "a %wb") ≡ Is (Ok (Some (codes "b"), [], codes "b" ∷ []))
+mark_waits = refl
+
+mark_ends : left (on [] (codes "a.c")) (codes "a %w b") ≡ Is (Ok (None, [], []))
+mark_ends = refl
+
+-- lists
+options_once : words_of no_facts (linking []) (codes "%x{-lq} %x{-lq} %x{-lr} %X") ≡ Is (Ok ((codes "-lq" ∷ codes "-lr" ∷ []) ∷ []))
+options_once = refl
+
+options_join : words_of no_facts (linking []) (codes "%x{-lq}%x{-lr}foo%X") ≡ Is (Ok ((codes "foo-lq" ∷ codes "-lr" ∷ []) ∷ []))
+options_join = refl
+
+options_go_on : (worked no_facts (record (linking []) { options = codes "-lq" ∷ [] }) (codes "%x{-lr}%x{-lq}") >>- λ o. Is (Ok o.accumulated)) ≡ Is (Ok (codes "-lq" ∷ codes "-lr" ∷ []))
+options_go_on = refl
+
+pieces : words_of no_facts (record (linking []) { assembler = codes "-a" ∷ [] ∷ []; preprocessor = codes "-p" ∷ [] }) (codes "c%Y %Z") ≡ Is (Ok ((codes "c-a" ∷ [] ∷ codes "-p" ∷ []) ∷ []))
+pieces = refl
+
+outputs : words_of no_facts (record (linking []) { outputs = codes "a.o" ∷ codes "-lm" ∷ [] }) (codes "ld%ob") ≡ Is (Ok ((codes "ld" ∷ codes "a.o" ∷ codes "-lm" ∷ codes "b" ∷ []) ∷ []))
+outputs = refl
+
+outputs_in_link_alone : words_of no_facts (on [] (codes "a.c")) (codes "prog %o") ≡ Is (Err NotInLink)
+outputs_in_link_alone = refl
+
+-- notices and errors
+notice : (worked no_facts (on [] (codes "a.c")) (codes "%nhello\nprog") >>- λ o. Is (Ok o.notices)) ≡ Is (Ok (codes "hello" ∷ []))
+notice = refl
+
+notice_ends_no_word : words_of no_facts (on [] (codes "a.c")) (codes "foo%nhi\nbaz") ≡ Is (Ok ((codes "foobaz" ∷ []) ∷ []))
+notice_ends_no_word = refl
+
+error : words_of no_facts (on (alone (codes "a") ∷ []) (codes "a.c")) (codes "%{a:%eno good}") ≡ Is (Err (UserError (codes "no good")))
+error = refl
+
+-- searches
+abbrev prefixes : Prefixes
+prefixes = record { programs = codes "d/" ∷ []; libraries = codes "d/" ∷ [] }
+
+abbrev searching : Context
+searching = record (linking []) { prefixes = prefixes }
+
+abbrev there : Facts
+there = record no_facts {
+  kinds =
+      (codes "d/generic-elf/13/prog", Plain) ∷ (codes "d/generic-elf/13/crt1.o", Missing) ∷ (codes "d/crt1.o", Plain) ∷ (codes "d/generic-elf/13/x.ld", Missing) ∷ (codes "d/x.ld", Plain)
+      ∷ (codes "d/generic-elf/13/y.ld", Missing) ∷ (codes "d/y.ld", Missing) ∷ (codes "d/generic-elf/13", Dir) ∷ (codes "d", Dir) ∷ [];
+}
+
+program_found : words_of there searching (codes "prog prog") ≡ Is (Ok ((codes "d/generic-elf/13/prog" ∷ codes "prog" ∷ []) ∷ []))
+program_found = refl
+
+program_unasked : words_of no_facts searching (codes "prog") ≡ Unasked
+program_unasked = refl
+
+file_found : words_of there searching (codes "/ld crt1.o%s%d") ≡ Is (Ok ((codes "/ld" ∷ codes "d/crt1.o" ∷ []) ∷ []))
+file_found = refl
+
+-- the mark takes the path
+file_marked : (job_of there searching (codes "/ld crt1.o%s%d") >>- λ job. Is (Ok job.marked)) ≡ Is (Ok (codes "d/crt1.o" ∷ []))
+file_marked = refl
+
+-- a script counts before a file
+script_found : words_of there searching (codes "/ld x.ld%T%s%w") ≡ Is (Ok ((codes "/ld" ∷ codes "--script" ∷ codes "d/x.ld" ∷ []) ∷ []))
+script_found = refl
+
+script_marked : (job_of there searching (codes "/ld x.ld%T%s%w") >>- λ job. Is (Ok job.output)) ≡ Is (Ok (Some (codes "d/x.ld")))
+script_marked = refl
+
+script_missing : words_of there searching (codes "/ld y.ld%T b") ≡ Is (Err (Search (ScriptMissing (codes "y.ld"))))
+script_missing = refl
+
+-- it is judged at the end of its word
+script_judged_late : words_of there searching (codes "%Ty.ld%eno") ≡ Is (Err (UserError (codes "no")))
+script_judged_late = refl
+
+script_judged_first : words_of there searching (codes "%Ty.ld %eno") ≡ Is (Err (Search (ScriptMissing (codes "y.ld"))))
+script_judged_first = refl
+
+folders : words_of there searching (codes "/ld %Dx") ≡ Is (Ok ((codes "/ld" ∷ codes "-Ld/generic-elf/13" ∷ codes "-Ld" ∷ codes "x" ∷ []) ∷ []))
+folders = refl

@@ -1,0 +1,26 @@
+use Rattle.drv_machine.proofs.AskedCalls.{asked_further, extends_before}
+use Rattle.drv_machine.proofs.Lists.{next_failed, next_put}
+use Rattle.drv_machine.proofs.Steps.{fails_as}
+use Rattle.drv_machine.proofs.machine.Machine.put_all_broken.Goals as goal
+use Rattle.drv_machine.specs.Atoms.{broken_word}
+use Rattle.drv_machine.specs.Running.{run}
+use Rattle.drv_machine.specs.Working.{puts}
+use Rattle.std.proofs.Common.{arith, rules, sym, ◌∙◌}
+use Rattle.std.specs.List.{flat_map}
+
+pub loop-word-preserved : goal.loop-word-preserved
+loop-word-preserved g c = record {
+  asks = asked_further c.loop-word.invariant.asks c.put_broken.ensures.asks;
+  sized = c.put_broken.ensures.sized ∙ c.loop-word.invariant.sized;
+  uncounted = c.in_ok-put_broken.ensures.uncounted ∙ c.loop-word.invariant.uncounted;
+  left = λ F e.
+      next_put F c.args.context.now broken_word c.loop-word.self c.put_broken.new.self c.args.list.now c.loop-word.word-index c.word-item.result c.as_bytes.result.now (omega arith) c.word-item.is c.as_bytes.ensures (c.in_ok-put_broken.ensures.does F e)
+      ∙ c.loop-word.invariant.left F (extends_before c.put_broken.ensures.asks e);
+}
+
+pub returns-in_err-put_broken-clause-does : goal.returns-in_err-put_broken-clause-does
+returns-in_err-put_broken-clause-does g c F e =
+    let failed = next_failed F c.args.context.now broken_word c.loop-word.self c.put_broken.new.self c.args.list.now c.loop-word.word-index c.word-item.result c.as_bytes.result.now (omega arith) c.word-item.is c.as_bytes.ensures c.in_err-put_broken.field-0.0 (c.in_err-put_broken.ensures.does F e) in
+    let whole = fails_as _ (run F c.args.context.now c.args.self.now (puts (flat_map broken_word c.args.list.now))) failed (λ x. sym (c.loop-word.invariant.left F (extends_before c.put_broken.ensures.asks e)) ∙ x) in
+    let f = c.from_residual.ensures in
+    search rules

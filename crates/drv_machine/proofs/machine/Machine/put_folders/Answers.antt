@@ -1,0 +1,20 @@
+use Rattle.drv_machine.proofs.AskedCalls.{extends_before}
+use Rattle.drv_machine.proofs.Lists.{folders_known}
+use Rattle.drv_machine.proofs.Steps.{gives_as, then_ok}
+use Rattle.drv_machine.proofs.machine.Machine.put_folders.Goals as goal
+use Rattle.drv_machine.specs.Atoms.{broken_word}
+use Rattle.drv_machine.specs.Running.{run}
+use Rattle.drv_machine.specs.Working.{known, needs, puts}
+use Rattle.drv_search.specs.Search.{folder_options}
+use Rattle.std.proofs.Common.{ap, sym, ◌∙◌}
+use Rattle.std.specs.List.{flat_map}
+
+pub returns-clause-does : goal.returns-clause-does
+returns-clause-does g c F e =
+    let C = c.args.context.now in
+    let s = c.args.self.now in
+    let options = c.in_ok-options.options in
+    gives_as c.put_all_broken.new.self c.put_all_broken.result _ _
+    (ap (λ list. run F C s (puts (flat_map broken_word list))) c.as_slice.ensures
+    ∙ sym (then_ok F C s (needs (known (folder_options F C.prefixes))) (λ list. puts (flat_map broken_word list)) options s (folders_known F C s options (c.in_ok-options.ensures.options F (extends_before c.put_all_broken.ensures.asks e)))))
+    (c.put_all_broken.ensures.does F e)

@@ -1,0 +1,9 @@
+use Rattle.drv_machine.proofs.Cutter.{put_last}
+use Rattle.drv_machine.proofs.machine.Machine.put_word.Goals as goal
+use Rattle.drv_machine.specs.Atoms.{broken_word}
+use Rattle.drv_machine.specs.Working.{Open}
+use Rattle.std.proofs.Common.{[], ◌∷◌}
+
+pub returns-clause-does : goal.returns-clause-does
+returns-clause-does g c F e =
+    put_last F c.args.context.now c.args.self.now c.open.new.self c.put_broken.new.self (Open ∷ []) (broken_word c.args.word.now) c.put_broken.result (c.open.ensures.does F c.args.context.now) (c.put_broken.ensures.does F e)

@@ -1,0 +1,8 @@
+use Rattle.drv_machine.proofs.machine.finishing.lasting.Given as goal
+use Rattle.drv_machine.specs.Working.{is_among}
+use Rattle.std.proofs.Common.{map, ◌≡◌}
+use Rattle.std.specs.List.{filter}
+use Rattle.std.specs.Prelude.{not}
+
+abbrev pub invariant-loop-file : goal.invariant-loop-file
+invariant-loop-file l = l.kept ≡ filter (λ file. not (is_among (map (λ name. name.path) l.drawn) file)) l.yielded

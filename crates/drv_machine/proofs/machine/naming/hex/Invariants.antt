@@ -1,0 +1,13 @@
+use Rattle.drv_machine.proofs.machine.naming.hex.Given as goal
+use Rattle.drv_machine.specs.Temps.{hex}
+use Rattle.std.proofs.Common.{drop, length, ◌≡◌, ◌++◌, ◌≤◌}
+
+abbrev pub invariant-loop-at : goal.invariant-loop-at
+invariant-loop-at l = record {
+  within : l.at ≤ 8;
+  long : length l.digits ≡ 8;
+  same : hex l.at l.rest ++ drop l.at l.digits ≡ hex 8 l.number;
+}
+
+abbrev pub decreases-loop-at : goal.decreases-loop-at
+decreases-loop-at l = l.at

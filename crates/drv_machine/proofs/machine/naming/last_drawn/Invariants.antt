@@ -1,0 +1,13 @@
+use Rattle.drv_machine.proofs.machine.naming.last_drawn.Given as goal
+use Rattle.drv_machine.specs.Temps.{last_drawn}
+use Rattle.std.proofs.Common.{drop, length, ◌≡◌, ◌≤◌}
+use Rattle.std.specs.Prelude.{None}
+
+abbrev pub invariant-loop-i : goal.invariant-loop-i
+invariant-loop-i l = record {
+  within : l.i ≤ length l.drawn;
+  none : last_drawn l.shared l.suffix (drop l.i l.drawn) ≡ None;
+}
+
+abbrev pub decreases-loop-i : goal.decreases-loop-i
+decreases-loop-i l = l.i

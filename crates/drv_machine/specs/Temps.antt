@@ -1,0 +1,50 @@
+use Rattle.drv_machine.specs.declared.machine.naming.Drawn.{Drawn}
+use Rattle.drv_search.specs.Search.{ends_with_slash}
+use Rattle.drv_system.specs.Facts.{Facts, variable_of}
+use Rattle.drv_system.specs.Known.{◌>>=◌, Is, Known, asked}
+use Rattle.drv_words.specs.Bytes.{slash}
+use Rattle.std.specs.Cmp.Lexicographic.{pointwise}
+use Rattle.std.specs.Fmt.{decimal}
+use Rattle.std.specs.Str.{byte}
+use Rattle.std.specs.Prelude.{◌&&◌, ◌+◌, ◌-◌, ◌++◌, ◌/◌, ◌%◌, Bool, List, [], ◌∷◌, None, Option, Some, codes, if◌then◌else◌, nat_eq, nat_lt, not, suc, true, false, zero, ℕ}
+
+-- The names of temporaries (GCC manual, "Environment Variables", TMPDIR; how a name goes on from there is this project's
+-- profile).
+
+-- the folder that they stand in, with a slash at its end
+abbrev pub folder : Option (List ℕ) → List ℕ
+folder None = codes "/tmp/"
+folder (Some []) = codes "/tmp/"
+folder (Some (b ∷ path)) = if ends_with_slash (b ∷ path) then b ∷ path else (b ∷ path) ++ slash ∷ []
+
+-- a digit of a number in base 16, in lower case
+abbrev pub hex_digit : ℕ → ℕ
+hex_digit digit = if nat_lt digit 10 then byte "0" + digit else byte "a" + (digit - 10)
+
+-- the last digits of a number in base 16, so many
+abbrev pub hex : ℕ → ℕ → List ℕ
+hex zero number = []
+hex (suc count) number = hex count (number / 16) ++ hex_digit (number % 16) ∷ []
+
+-- the name that is drawn with this seed, number and suffix
+abbrev pub temp_name : Facts → ℕ → ℕ → List ℕ → Known (List ℕ)
+temp_name F seed number suffix =
+    asked (variable_of F (codes "TMPDIR")) >>= λ path. Is (folder path ++ codes "cc" ++ hex 8 seed ++ codes "_" ++ decimal number ++ suffix)
+
+-- two flags are the same
+abbrev pub is_same : Bool → Bool → Bool
+is_same true other = other
+is_same false other = not other
+
+-- a name was drawn with this suffix, by %g or not
+abbrev pub is_drawn : Bool → List ℕ → Drawn → Bool
+is_drawn shared suffix name = is_same name.shared shared && pointwise nat_eq name.suffix suffix
+
+-- the last of these names that was drawn so
+abbrev pub last_drawn : Bool → List ℕ → List Drawn → Option (List ℕ)
+last_drawn shared suffix [] = None
+last_drawn shared suffix (name ∷ later) = by (last_drawn shared suffix later)
+  where
+    by : Option (List ℕ) → Option (List ℕ)
+    by (Some path) = Some path
+    by None = if is_drawn shared suffix name then Some name.path else None

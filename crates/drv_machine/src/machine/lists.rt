@@ -1,0 +1,207 @@
+//! Lists that are put word by word, or that grow.
+
+ghost use Rattle.drv_machine.specs.Asked.{Asked};
+ghost use Rattle.drv_machine.specs.Atoms.{added, broken_word, folders_step, options_step, outputs_step};
+ghost use Rattle.drv_machine.specs.Context as specs;
+ghost use Rattle.drv_machine.specs.Running.{run};
+ghost use Rattle.drv_machine.specs.Working.{change, is_among, puts, whole_word, words};
+ghost use Rattle.drv_search.specs.Search.{folder_options};
+ghost use Rattle.drv_system.specs.Asking.{Extends};
+ghost use Rattle.drv_system.specs.Facts.{Facts};
+ghost use Rattle.drv_system.specs.Gives.{GivesKnown};
+ghost use Rattle.drv_system.specs.Known.{Is};
+ghost use Rattle.std.specs.Prelude.{◌≡◌, ◌∷◌, ◌++◌, [], IfOk, OnOk, flat_map, length};
+
+use super::Machine;
+use crate::outside::Outside;
+use crate::{Context, MachineFault};
+use drv_search::dir_options;
+use drv_system::System;
+use drv_words::{Listing, Word};
+use std::alloc::{AllocError, Global};
+
+/// Copies of words.
+pub(crate) fn copied_words(alloc: Global, words: &[Word]) -> Result<Listing<Word>, AllocError>
+    ensures { IfOk result (λ copies. copies ≡ words.now) }
+{
+    let mut copies = Listing::new(alloc);
+    for word in words {
+        copies.push(word.clone()?)?;
+    }
+    Ok(copies)
+}
+
+/// Whether a word is among these.
+pub(crate) fn is_among(list: &[Word], word: &[u8]) -> bool
+    ensures { result ≡ is_among list.now word.now }
+{
+    for other in list {
+        if word == other.as_bytes() {
+            return true;
+        }
+    }
+    false
+}
+
+impl Machine {
+    /// A whole word is put, with an opening before it and a break behind it.
+    #[tactic(auto, using(crate::proofs::AskedCalls::asked_further))]
+    fn put_word<S: System>(
+        &mut self,
+        word: &[u8],
+        context: &Context<'_>,
+        outside: &mut Outside<'_, S>,
+    ) -> Result<(), MachineFault>
+        ensures asks { Asked S.events outside.old outside.new }
+        ensures does { (F : Facts) → Extends outside.new.facts.now F → GivesKnown MachineFault.Memory (λ u. (tt, self.new)) result (run F context.now self.old (puts (whole_word word.now))) }
+        ensures sized { length self.new.world.hidden ≡ length self.old.world.hidden }
+        ensures uncounted { OnOk result (self.new.world.items ≡ self.old.world.items) }
+    {
+        self.open();
+        self.put_broken(word, context, outside)
+    }
+
+    /// Bytes are put, with a break behind them.
+    #[tactic(auto, using(crate::proofs::AskedCalls::asked_further))]
+    fn put_broken<S: System>(
+        &mut self,
+        word: &[u8],
+        context: &Context<'_>,
+        outside: &mut Outside<'_, S>,
+    ) -> Result<(), MachineFault>
+        ensures asks { Asked S.events outside.old outside.new }
+        ensures does { (F : Facts) → Extends outside.new.facts.now F → GivesKnown MachineFault.Memory (λ u. (tt, self.new)) result (run F context.now self.old (puts (broken_word word.now))) }
+        ensures sized { length self.new.world.hidden ≡ length self.old.world.hidden }
+        ensures uncounted { OnOk result (self.new.world.items ≡ self.old.world.items) }
+    {
+        self.put(word)?;
+        self.end_word(context, outside)
+    }
+
+    /// Whole words are put.
+    #[tactic(auto, using(crate::proofs::AskedCalls::asked_none, crate::proofs::AskedCalls::asked_further))]
+    pub(crate) fn put_words<S: System>(
+        &mut self,
+        list: &[Word],
+        context: &Context<'_>,
+        outside: &mut Outside<'_, S>,
+    ) -> Result<(), MachineFault>
+        ensures asks { Asked S.events outside.old outside.new }
+        ensures does { (F : Facts) → Extends outside.new.facts.now F → GivesKnown MachineFault.Memory (λ u. (tt, self.new)) result (run F context.now self.old (puts (words list.now))) }
+        ensures sized { length self.new.world.hidden ≡ length self.old.world.hidden }
+        ensures uncounted { OnOk result (self.new.world.items ≡ self.old.world.items) }
+    {
+        for word in list {
+            self.put_word(word.as_bytes(), context, outside)?;
+        }
+        Ok(())
+    }
+
+    /// The options that `%x` has added so far are put.
+    pub(crate) fn put_options<S: System>(
+        &mut self,
+        context: &Context<'_>,
+        outside: &mut Outside<'_, S>,
+    ) -> Result<(), MachineFault>
+        ensures asks { Asked S.events outside.old outside.new }
+        ensures does { (F : Facts) → Extends outside.new.facts.now F → GivesKnown MachineFault.Memory (λ u. (tt, self.new)) result (run F context.now self.old options_step) }
+        ensures sized { length self.new.world.hidden ≡ length self.old.world.hidden }
+        ensures uncounted { OnOk result (self.new.world.items ≡ self.old.world.items) }
+    {
+        let options = copied_words(self.alloc, self.options.as_slice())?;
+        self.put_words(options.as_slice(), context, outside)
+    }
+
+    /// The outputs of the jobs so far are put, each as a word of its own.
+    ///
+    /// # Errors
+    /// `NotInLink` in a text other than the link's.
+    #[tactic(auto, using(crate::proofs::AskedCalls::asked_none, crate::proofs::AskedCalls::asked_further))]
+    pub(crate) fn put_outputs<S: System>(
+        &mut self,
+        context: &Context<'_>,
+        outside: &mut Outside<'_, S>,
+    ) -> Result<(), MachineFault>
+        ensures asks { Asked S.events outside.old outside.new }
+        ensures does { (F : Facts) → Extends outside.new.facts.now F → GivesKnown MachineFault.Memory (λ u. (tt, self.new)) result (run F context.now self.old (outputs_step F context.now)) }
+        ensures sized { length self.new.world.hidden ≡ length self.old.world.hidden }
+        ensures uncounted { OnOk result (self.new.world.items ≡ self.old.world.items) }
+    {
+        if context.input().is_some() {
+            return Err(MachineFault::NotInLink);
+        }
+        let outputs = copied_words(self.alloc, self.outputs.as_slice())?;
+        self.end_word(context, outside)?;
+        self.put_words(outputs.as_slice(), context, outside)
+    }
+
+    /// Lists of bytes are put, with a break behind each.
+    #[tactic(auto, using(crate::proofs::AskedCalls::asked_none, crate::proofs::AskedCalls::asked_further))]
+    fn put_all_broken<S: System>(
+        &mut self,
+        list: &[Word],
+        context: &Context<'_>,
+        outside: &mut Outside<'_, S>,
+    ) -> Result<(), MachineFault>
+        ensures asks { Asked S.events outside.old outside.new }
+        ensures does { (F : Facts) → Extends outside.new.facts.now F → GivesKnown MachineFault.Memory (λ u. (tt, self.new)) result (run F context.now self.old (puts (flat_map broken_word list.now))) }
+        ensures sized { length self.new.world.hidden ≡ length self.old.world.hidden }
+        ensures uncounted { OnOk result (self.new.world.items ≡ self.old.world.items) }
+    {
+        for word in list {
+            self.put_broken(word.as_bytes(), context, outside)?;
+        }
+        Ok(())
+    }
+
+    /// The options for the folders of libraries are put.
+    #[tactic(auto, using(crate::proofs::AskedCalls::asked_further))]
+    pub(crate) fn put_folders<S: System>(
+        &mut self,
+        context: &Context<'_>,
+        outside: &mut Outside<'_, S>,
+    ) -> Result<(), MachineFault>
+        ensures asks { Asked S.events outside.old outside.new }
+        ensures does { (F : Facts) → Extends outside.new.facts.now F → GivesKnown MachineFault.Memory (λ u. (tt, self.new)) result (run F context.now self.old (folders_step F context.now)) }
+        ensures sized { length self.new.world.hidden ≡ length self.old.world.hidden }
+        ensures uncounted { OnOk result (self.new.world.items ≡ self.old.world.items) }
+    {
+        let options = folders(self.alloc, context, outside)?;
+        self.put_all_broken(options.as_slice(), context, outside)
+    }
+
+    /// An option goes to the end of the list, unless it is in it.
+    pub(crate) fn add_option(&mut self, option: &[u8]) -> Result<(), MachineFault>
+        ensures does { (F : Facts) (C : specs.Context) → GivesKnown MachineFault.Memory (λ u. (tt, self.new)) result (run F C self.old (change (λ w. record w { options = added option.now w.options }))) }
+        ensures sized { length self.new.world.hidden ≡ length self.old.world.hidden }
+        ensures uncounted { OnOk result (self.new.world.items ≡ self.old.world.items) }
+    {
+        if is_among(self.options.as_slice(), option) {
+            return Ok(());
+        }
+        self.options.push(Word::from_bytes(self.alloc, option)?)?;
+        Ok(())
+    }
+
+    /// The user is told a text.
+    pub(crate) fn add_notice(&mut self, text: &[u8]) -> Result<(), MachineFault>
+        ensures does { (F : Facts) (C : specs.Context) → GivesKnown MachineFault.Memory (λ u. (tt, self.new)) result (run F C self.old (change (λ w. record w { notices = w.notices ++ text.now ∷ [] }))) }
+        ensures sized { length self.new.world.hidden ≡ length self.old.world.hidden }
+        ensures uncounted { OnOk result (self.new.world.items ≡ self.old.world.items) }
+    {
+        self.notices.push(Word::from_bytes(self.alloc, text)?)?;
+        Ok(())
+    }
+}
+
+/// The options for the folders of libraries.
+fn folders<S: System>(
+    alloc: Global,
+    context: &Context<'_>,
+    outside: &mut Outside<'_, S>,
+) -> Result<Listing<Word>, AllocError>
+    ensures asks { Asked S.events outside.old outside.new }
+    ensures options { (F : Facts) → Extends outside.new.facts.now F → IfOk result (λ options. folder_options F context.now.prefixes ≡ Is options) }
+{
+    dir_options(alloc, context.prefixes(), outside.sys, outside.facts)
+}

@@ -1,0 +1,222 @@
+//! Names of temporaries.
+
+ghost use Rattle.drv_machine.specs.Asked.{Asked};
+ghost use Rattle.drv_machine.specs.Atoms.{draw, drawn_or_new, name_step, new_name_step, temp_step};
+ghost use Rattle.drv_machine.specs.Running.{run};
+ghost use Rattle.drv_machine.specs.Temps.{folder, hex, hex_digit, is_drawn, last_drawn, temp_name};
+ghost use Rattle.drv_system.specs.Asking.{Extends};
+ghost use Rattle.drv_system.specs.Facts.{Facts};
+ghost use Rattle.drv_system.specs.Gives.{GivesKnown};
+ghost use Rattle.drv_system.specs.Known.{Is};
+ghost use Rattle.std.specs.Option.{option_copied, option_map};
+ghost use Rattle.std.specs.Prelude.{◌≡◌, ◌<◌, ◌++◌, IfOk, OnOk, false, length};
+
+use super::Machine;
+use crate::outside::Outside;
+use crate::{Context, MachineFault};
+use drv_syntax::TempKind;
+use drv_system::System;
+use drv_words::Word;
+use itoa::Buffer;
+use std::alloc::{AllocError, Global};
+
+/// A name that was drawn for a temporary.
+#[derive(Debug, Drop)]
+pub(crate) struct Drawn {
+    /// By `%g`; otherwise by `%u` or `%U`.
+    pub(crate) shared: bool,
+    pub(crate) suffix: Word,
+    pub(crate) path: Word,
+}
+
+/// A digit of a number in base 16.
+fn hex_digit(digit: u8) -> u8
+    requires { digit < 16 }
+    ensures { result ≡ hex_digit digit }
+{
+    if digit < 10 {
+        b'0' + digit
+    } else {
+        b'a' + (digit - 10)
+    }
+}
+
+/// A number in base 16, with eight digits.
+fn hex(number: u32) -> [u8; 8]
+    ensures { result ≡ hex 8 number }
+{
+    let mut digits = [0; 8];
+    let mut rest = number;
+    let mut at = 8;
+    while at > 0 {
+        at -= 1;
+        digits[at] = hex_digit((rest % 16) as u8);
+        rest /= 16;
+    }
+    digits
+}
+
+/// Adds the folder of temporaries, with a slash at its end, by the value of TMPDIR.
+fn push_folder(path: &mut Word, dir: Option<&Word>) -> Result<(), AllocError>
+    ensures { OnOk result (path.new ≡ path.old ++ folder (option_copied dir.entry)) }
+{
+    let folder = match dir {
+        Some(dir) if !dir.is_empty() => dir.as_bytes(),
+        _ => b"/tmp",
+    };
+    path.extend_from_slice(folder)?;
+    if !folder.ends_with(b"/") {
+        path.push(b'/')?;
+    }
+    Ok(())
+}
+
+/// The name of a temporary with this seed, number and suffix.
+fn temp_name<S: System>(
+    alloc: Global,
+    seed: u32,
+    number: usize,
+    suffix: &[u8],
+    outside: &mut Outside<'_, S>,
+) -> Result<Word, AllocError>
+    ensures asks { Asked S.events outside.old outside.new }
+    ensures name { (F : Facts) → Extends outside.new.facts.now F → IfOk result (λ path. temp_name F seed number suffix.now ≡ Is path) }
+{
+    let variable = Word::from_bytes(alloc, b"TMPDIR")?;
+    outside.facts.variable(outside.sys, &variable)?;
+    let mut path = Word::empty(alloc);
+    push_folder(&mut path, outside.facts.variable_answer(&variable))?;
+    path.extend_from_slice(b"cc")?;
+    path.extend_from_slice(&hex(seed))?;
+    path.push(b'_')?;
+    path.extend_from_slice(Buffer::new().format(number).as_bytes())?;
+    path.extend_from_slice(suffix)?;
+    Ok(path)
+}
+
+/// Whether a name was drawn with this suffix, by `%g` or not.
+fn is_drawn(name: &Drawn, shared: bool, suffix: &[u8]) -> bool
+    ensures { result ≡ is_drawn shared suffix.now name.now }
+{
+    name.shared == shared && name.suffix.as_bytes() == suffix
+}
+
+/// The last of these names that was drawn with this suffix, by `%g` or not.
+fn last_drawn<'a>(drawn: &'a [Drawn], shared: bool, suffix: &[u8]) -> Option<&'a [u8]>
+    ensures { option_map (λ path. path.now) result ≡ last_drawn shared suffix.now drawn.now }
+{
+    let mut i = drawn.len();
+    while i > 0 {
+        i -= 1;
+        let name = &drawn[i];
+        if is_drawn(name, shared, suffix) {
+            return Some(name.path.as_bytes());
+        }
+    }
+    None
+}
+
+impl Machine {
+    /// A name is drawn, by `%g` or not, and it is a temporary of the job.
+    fn draw<S: System>(
+        &mut self,
+        shared: bool,
+        suffix: &[u8],
+        context: &Context<'_>,
+        outside: &mut Outside<'_, S>,
+    ) -> Result<Word, MachineFault>
+        ensures asks { Asked S.events outside.old outside.new }
+        ensures does { (F : Facts) → Extends outside.new.facts.now F → GivesKnown MachineFault.Memory (λ path. (path, self.new)) result (run F context.now self.old (draw F context.now shared suffix.now)) }
+        ensures sized { length self.new.world.hidden ≡ length self.old.world.hidden }
+        ensures uncounted { OnOk result (self.new.world.items ≡ self.old.world.items) }
+    {
+        let path = temp_name(self.alloc, context.seed(), self.number, suffix, outside)?;
+        let Some(next) = self.number.checked_add(1) else {
+            return Err(MachineFault::Memory);
+        };
+        self.drawn.push(Drawn {
+            shared,
+            suffix: Word::from_bytes(self.alloc, suffix)?,
+            path: path.clone()?,
+        })?;
+        self.number = next;
+        Ok(path)
+    }
+
+    /// The last name that was drawn so with this suffix, or else a new one.
+    #[tactic(auto, using(crate::proofs::AskedCalls::asked_none))]
+    fn drawn_or_new<S: System>(
+        &mut self,
+        shared: bool,
+        suffix: &[u8],
+        context: &Context<'_>,
+        outside: &mut Outside<'_, S>,
+    ) -> Result<Word, MachineFault>
+        ensures asks { Asked S.events outside.old outside.new }
+        ensures does { (F : Facts) → Extends outside.new.facts.now F → GivesKnown MachineFault.Memory (λ path. (path, self.new)) result (run F context.now self.old (drawn_or_new F context.now shared suffix.now)) }
+        ensures sized { length self.new.world.hidden ≡ length self.old.world.hidden }
+        ensures uncounted { OnOk result (self.new.world.items ≡ self.old.world.items) }
+    {
+        if let Some(path) = last_drawn(self.drawn.as_slice(), shared, suffix) {
+            return Ok(Word::from_bytes(self.alloc, path)?);
+        }
+        self.draw(shared, suffix, context, outside)
+    }
+
+    /// The name of `%g`, `%u` or `%U` is put.
+    fn put_name<S: System>(
+        &mut self,
+        shared: bool,
+        suffix: &[u8],
+        context: &Context<'_>,
+        outside: &mut Outside<'_, S>,
+    ) -> Result<(), MachineFault>
+        ensures asks { Asked S.events outside.old outside.new }
+        ensures does { (F : Facts) → Extends outside.new.facts.now F → GivesKnown MachineFault.Memory (λ u. (tt, self.new)) result (run F context.now self.old (name_step F context.now shared suffix.now)) }
+        ensures sized { length self.new.world.hidden ≡ length self.old.world.hidden }
+        ensures uncounted { OnOk result (self.new.world.items ≡ self.old.world.items) }
+    {
+        let path = self.drawn_or_new(shared, suffix, context, outside)?;
+        self.put(path.as_bytes())
+    }
+
+    /// A new name is put.
+    fn put_new_name<S: System>(
+        &mut self,
+        suffix: &[u8],
+        context: &Context<'_>,
+        outside: &mut Outside<'_, S>,
+    ) -> Result<(), MachineFault>
+        ensures asks { Asked S.events outside.old outside.new }
+        ensures does { (F : Facts) → Extends outside.new.facts.now F → GivesKnown MachineFault.Memory (λ u. (tt, self.new)) result (run F context.now self.old (new_name_step F context.now suffix.now)) }
+        ensures sized { length self.new.world.hidden ≡ length self.old.world.hidden }
+        ensures uncounted { OnOk result (self.new.world.items ≡ self.old.world.items) }
+    {
+        let path = self.draw(false, suffix, context, outside)?;
+        self.put(path.as_bytes())
+    }
+
+    /// The name of a temporary with this suffix is put; where commands are piped, `-` or nothing may stand for it.
+    #[tactic(auto, using(crate::proofs::AskedCalls::asked_none))]
+    pub(crate) fn put_temp<S: System>(
+        &mut self,
+        kind: TempKind,
+        suffix: &[u8],
+        context: &Context<'_>,
+        outside: &mut Outside<'_, S>,
+    ) -> Result<(), MachineFault>
+        ensures asks { Asked S.events outside.old outside.new }
+        ensures does { (F : Facts) → Extends outside.new.facts.now F → GivesKnown MachineFault.Memory (λ u. (tt, self.new)) result (run F context.now self.old (temp_step F context.now kind suffix.now)) }
+        ensures sized { length self.new.world.hidden ≡ length self.old.world.hidden }
+        ensures uncounted { OnOk result (self.new.world.items ≡ self.old.world.items) }
+    {
+        match kind {
+            TempKind::Shared => self.put_name(true, suffix, context, outside),
+            TempKind::New => self.put_new_name(suffix, context, outside),
+            TempKind::Last => self.put_name(false, suffix, context, outside),
+            TempKind::PipedOut if context.is_piping() => self.put(b"-"),
+            TempKind::PipedIn if context.is_piping() => Ok(()),
+            TempKind::PipedOut | TempKind::PipedIn => self.put_name(true, suffix, context, outside),
+        }
+    }
+}
