@@ -1,2 +1,4 @@
 pub mod Asked
 pub mod Jobs
+mod LanguageRows
+mod LastTexts

@@ -1,1 +1,3 @@
 pub mod Denoted
+pub mod Languages
+pub mod Looking

@@ -1,6 +1,7 @@
 //! Why a line has no plan.
 
 use drv_machine::MachineFault;
+use drv_words::Word;
 use std::alloc::{AllocError, AllocFailed};
 use thiserror::Error;
 
@@ -14,6 +15,12 @@ pub enum PlanFault {
     /// plan's own.
     #[error("{0}")]
     Machine(MachineFault),
+    /// No pair is that of this language.
+    #[error("language not recognized")]
+    UnknownLanguage(Word),
+    /// The compiler of this name isn't installed.
+    #[error("compiler not installed")]
+    NotInstalled(Word),
 }
 
 impl From<AllocError> for PlanFault {

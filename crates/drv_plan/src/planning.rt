@@ -1,18 +1,18 @@
 //! The plan of a line.
 
 ghost use Rattle.drv_machine.specs.declared.fault.MachineFault.TheVariants as machine;
-ghost use Rattle.drv_plan.specs.Denoted.{denoted, first_text, is_file, jobs};
+ghost use Rattle.drv_plan.specs.Denoted.{denoted, first_text, jobs, line_jobs};
 ghost use Rattle.drv_system.specs.Asking.{Asks, Extends};
 ghost use Rattle.drv_system.specs.Facts.{Facts};
 ghost use Rattle.drv_system.specs.Gives.{GivesKnown};
 ghost use Rattle.drv_words.specs.Gives.{Gives};
-ghost use Rattle.std.specs.List.{list_any};
 ghost use Rattle.std.specs.Option.{option_map};
 ghost use Rattle.std.specs.Prelude.{◌≡◌, ◌≢◌, IfErr, Ok};
 
 use crate::PlanFault;
 use drv_args::{Input, Line};
 use drv_machine::{Context, MachineFault, Source, run};
+use drv_search::Prefixes;
 use drv_syntax::{SpecTree, SyntaxFault, parse};
 use drv_system::{FactTable, System};
 use drv_words::{Job, Listing, Plan, Word};
@@ -20,6 +20,9 @@ use std::alloc::Global;
 
 /// The text that each file is worked with.
 pub const FIRST_TEXT: &str = "%{S:rectool cc1 %{std=c99} %i -o %b.s}";
+
+/// The seed of names of temporaries, of which that text draws none.
+const NO_SEED: u32 = 0;
 
 /// The bytes of that text.
 fn first_text() -> &'static [u8]
@@ -37,15 +40,6 @@ fn first_tree(alloc: Global) -> Result<SpecTree, MachineFault>
         Err(SyntaxFault::Memory) => Err(MachineFault::Memory),
         Err(_) => unreachable!(),
     }
-}
-
-/// Whether there is a file among inputs. It takes no memory.
-fn has_file(inputs: &[Input]) -> bool
-    ensures { result ≡ list_any is_file inputs.now }
-{
-    inputs
-        .iter()
-        .any(|input| matches!(input, Input::File { .. }))
 }
 
 /// The bytes of a word, if there is one.
@@ -81,7 +75,7 @@ fn jobs_in<'a, S: System>(
 ) -> Result<Listing<Job>, MachineFault>
     requires { tree.now ≡ first_text }
     ensures asks { Asks (S.events sys.old) (S.events sys.new) facts.old facts.new }
-    ensures works { (F : Facts) → Extends facts.new F → GivesKnown machine.Memory (λ done. done) result (jobs F context.old.switches 0 inputs.now) }
+    ensures works { (F : Facts) → Extends facts.new F → GivesKnown machine.Memory (λ done. done) result (jobs F context.old 0 inputs.now) }
 {
     let mut jobs = Listing::new(alloc);
     for (place, input) in inputs.iter().enumerate() {
@@ -94,7 +88,7 @@ fn jobs_in<'a, S: System>(
     Ok(jobs)
 }
 
-/// The jobs of the files of a line. The text is read once, if there is a file; the line is lent.
+/// The jobs of the files of a line, which is lent. The text is read once.
 #[tactic(auto, using(crate::proofs::Asked::asks_further))]
 fn jobs_of<S: System>(
     alloc: Global,
@@ -103,15 +97,19 @@ fn jobs_of<S: System>(
     facts: &mut FactTable,
 ) -> Result<Listing<Job>, MachineFault>
     ensures asks { Asks (S.events sys.old) (S.events sys.new) facts.old facts.new }
-    ensures works { (F : Facts) → Extends facts.new F → GivesKnown machine.Memory (λ done. done) result (jobs F line.now.switches 0 line.now.inputs) }
+    ensures works { (F : Facts) → Extends facts.new F → GivesKnown machine.Memory (λ done. done) result (line_jobs F line.now) }
 {
-    let inputs = line.inputs.as_slice();
-    if !has_file(inputs) {
-        return Ok(Listing::new(alloc));
-    }
+    let prefixes = Prefixes::new(alloc, line.settings.prefixes.as_slice(), sys, facts)?;
     let tree = first_tree(alloc)?;
-    let mut context = Context::new(alloc, line.switches.as_slice(), None)?;
-    jobs_in(alloc, inputs, &tree, &mut context, sys, facts)
+    let mut context = Context::new(alloc, line, &prefixes, NO_SEED)?;
+    jobs_in(
+        alloc,
+        line.inputs.as_slice(),
+        &tree,
+        &mut context,
+        sys,
+        facts,
+    )
 }
 
 /// The plan of a line: the job of each of its files in order. It asks the system only where the table has no

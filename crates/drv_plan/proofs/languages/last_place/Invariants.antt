@@ -1,0 +1,13 @@
+use Rattle.drv_plan.proofs.languages.last_place.Given as goal
+use Rattle.drv_plan.specs.Languages.{last_text}
+use Rattle.drv_plan.specs.Looking.{fits}
+use Rattle.std.proofs.Common.{◌≡◌, ◌≤◌, length, take}
+
+abbrev pub decreases-loop-left : goal.decreases-loop-left
+decreases-loop-left l = l.left
+
+abbrev pub invariant-loop-left : goal.invariant-loop-left
+invariant-loop-left l = record {
+  within : l.left ≤ length l.pairs;
+  rest : last_text (fits l.wanted) (take l.left l.pairs) ≡ last_text (fits l.wanted) l.pairs;
+}

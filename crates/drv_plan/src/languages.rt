@@ -1,0 +1,201 @@
+//! The language of an input, and the text that it is worked with.
+
+ghost use Rattle.drv_plan.specs.Languages.{by_language, by_suffix, is_of_language, is_standard_input, is_suffix_of, language_of, last_pair, last_text, pair_text};
+ghost use Rattle.drv_plan.specs.Looking.{fits, shown};
+ghost use Rattle.drv_plan.specs.declared.fault.PlanFault.TheVariants as fault;
+ghost use Rattle.drv_specs.specs.Sets.{begins_with_at, is_no_text};
+ghost use Rattle.drv_words.specs.Gives.{Gives};
+ghost use Rattle.std.specs.Option.{option_map};
+ghost use Rattle.std.specs.Prelude.{◌≡◌, None, Some, if◌then◌else◌, option_and_then, slice_get};
+
+use crate::PlanFault;
+use drv_args::Input;
+use drv_specs::SpecSet;
+use drv_syntax::SpecTree;
+use drv_words::Word;
+use std::alloc::Global;
+use std::marker::Model;
+
+/// The language of standard input.
+const LANGUAGE_OF_STANDARD_INPUT: &[u8] = b"c";
+
+/// What an input is worked with. It is lent.
+#[derive(Drop)]
+pub struct Chosen<'a> {
+    /// The name of its language. A file whose suffix has a text of its own has none.
+    pub name: Option<&'a [u8]>,
+    /// The text.
+    pub tree: &'a SpecTree,
+}
+
+impl<'a> Model for Chosen<'a> {
+    ghost use Rattle.drv_plan.specs.Languages as specs;
+    ghost use Rattle.std.specs.Option.{option_map};
+
+    ghost Value = { specs.Chosen };
+
+    ghost view = { λ c. record { name = option_map (λ name. name.now) c.name; text = c.tree.now } };
+}
+
+/// What is looked for among the keys of pairs.
+#[derive(Clone, Copy)]
+enum Wanted<'a> {
+    /// The language of this name.
+    Language(&'a [u8]),
+    /// The suffix of this file.
+    Suffix(&'a [u8]),
+}
+
+/// Whether a key is that of a suffix or a language that begins with `@`.
+fn begins_with_at(key: &[u8]) -> bool
+    ensures { result ≡ begins_with_at key.now }
+{
+    matches!(key, [b'@', ..])
+}
+
+/// Whether a key is that of a language.
+fn is_of_language(language: &[u8], key: &[u8]) -> bool
+    ensures { result ≡ is_of_language language.now key.now }
+{
+    match key {
+        [b'@', name @ ..] => name == language,
+        _ => false,
+    }
+}
+
+/// Whether a key is a suffix of a file's name.
+fn is_suffix_of(name: &[u8], key: &[u8]) -> bool
+    ensures { result ≡ is_suffix_of name.now key.now }
+{
+    !begins_with_at(key) && key.len() < name.len() && name.ends_with(key)
+}
+
+/// Whether a key is what is looked for.
+fn fits(wanted: Wanted<'_>, key: &[u8]) -> bool
+    ensures { result ≡ fits wanted.entry key.now }
+{
+    match wanted {
+        Wanted::Language(language) => is_of_language(language, key),
+        Wanted::Suffix(name) => is_suffix_of(name, key),
+    }
+}
+
+/// The place of the last pair whose key fits.
+fn last_place(wanted: Wanted<'_>, pairs: &[(Word, Word)]) -> Option<usize>
+    ensures { option_map (λ pair. pair.1) (option_and_then (slice_get pairs.now) result) ≡ last_text (fits wanted.entry) pairs.now }
+{
+    let mut left = pairs.len();
+    while left > 0 {
+        left -= 1;
+        if fits(wanted, pairs[left].0.as_bytes()) {
+            return Some(left);
+        }
+    }
+    None
+}
+
+/// What a pair's text is.
+#[derive(Clone, Copy)]
+enum PairText<'a> {
+    /// The compiler of this name isn't installed.
+    Missing(&'a [u8]),
+    /// Another name of this language.
+    Alias(&'a [u8]),
+    /// A text that is worked.
+    Worked(&'a SpecTree),
+}
+
+/// What a pair's text is, which has a tree if it is one that is worked.
+fn pair_text<'a>(tree: Option<&'a SpecTree>, text: &'a [u8]) -> PairText<'a>
+    requires { option_map (λ tree. tree.now) tree ≡ (if is_no_text text.now then None else Some text.now) }
+    ensures { shown result ≡ pair_text text.now }
+{
+    match (tree, text) {
+        (Some(tree), _) => PairText::Worked(tree),
+        (None, [b'#', compiler @ ..]) => PairText::Missing(compiler),
+        (None, [_, language @ ..]) => PairText::Alias(language),
+        (None, []) => unreachable!(),
+    }
+}
+
+/// What the text is of the last pair whose key fits.
+fn last_pair<'a>(set: &'a SpecSet, wanted: Wanted<'_>) -> Option<PairText<'a>>
+    ensures { option_map shown result ≡ last_pair set.now (fits wanted.entry) }
+{
+    let place = last_place(wanted, set.pairs())?;
+    let (_, text) = set.pairs().get(place)?;
+    Some(pair_text(set.pair_tree(place), text.as_bytes()))
+}
+
+/// What a file in a language is worked with.
+fn by_language<'a>(
+    alloc: Global,
+    set: &'a SpecSet,
+    language: &'a [u8],
+) -> Result<Chosen<'a>, PlanFault>
+    ensures { Gives fault.Memory (λ chosen. chosen) result (by_language set.now language.now) }
+{
+    match last_pair(set, Wanted::Language(language)) {
+        Some(PairText::Worked(tree)) => Ok(Chosen {
+            name: Some(language),
+            tree,
+        }),
+        Some(PairText::Missing(compiler)) => {
+            Err(PlanFault::NotInstalled(Word::from_bytes(alloc, compiler)?))
+        }
+        Some(PairText::Alias(_)) | None => Err(PlanFault::UnknownLanguage(Word::from_bytes(
+            alloc, language,
+        )?)),
+    }
+}
+
+/// What a file is worked with whose suffix decides.
+fn by_suffix<'a>(
+    alloc: Global,
+    set: &'a SpecSet,
+    name: &[u8],
+) -> Result<Option<Chosen<'a>>, PlanFault>
+    ensures { Gives fault.Memory (λ chosen. chosen) result (by_suffix set.now name.now) }
+{
+    match last_pair(set, Wanted::Suffix(name)) {
+        Some(PairText::Worked(tree)) => Ok(Some(Chosen { name: None, tree })),
+        Some(PairText::Missing(compiler)) => {
+            Err(PlanFault::NotInstalled(Word::from_bytes(alloc, compiler)?))
+        }
+        Some(PairText::Alias(language)) => Ok(Some(by_language(alloc, set, language)?)),
+        None => Ok(None),
+    }
+}
+
+/// Whether a file is standard input.
+fn is_standard_input(name: &[u8]) -> bool
+    ensures { result ≡ is_standard_input name.now }
+{
+    matches!(name, [b'-'])
+}
+
+/// What an input is worked with, or none where it is the linker's (GCC manual, "Overall Options", -x): a file is worked in the
+/// language that `-x` gave it; without one standard input is in C, and the suffix of any other decides.
+///
+/// # Errors
+/// `UnknownLanguage` with the language that no pair has, and `NotInstalled` with the compiler that a pair says isn't
+/// installed.
+pub fn language<'a>(
+    alloc: Global,
+    input: &'a Input,
+    set: &'a SpecSet,
+) -> Result<Option<Chosen<'a>>, PlanFault>
+    ensures { Gives fault.Memory (λ chosen. chosen) result (language_of set.now input.now) }
+{
+    match input {
+        Input::File {
+            lang: Some(language),
+            ..
+        } => Ok(Some(by_language(alloc, set, language.as_bytes())?)),
+        Input::File { name, lang: None } if is_standard_input(name.as_bytes()) => {
+            Ok(Some(by_language(alloc, set, LANGUAGE_OF_STANDARD_INPUT)?))
+        }
+        Input::File { name, lang: None } => by_suffix(alloc, set, name.as_bytes()),
+        Input::Library(_) | Input::LinkWord(_) => Ok(None),
+    }
+}
