@@ -8,7 +8,7 @@ use Rattle.gdrv.specs.declared.ending.Ending.{Ending}
 use Rattle.std.proofs.Common.{◌≡◌, ◌∙◌, ◌++◌, Err, List, [], ap, refl, subst, sym, ℕ}
 use Rattle.std.proofs.lemmas.List.{append-nil}
 
--- A call that ends before its plan is said.
+-- A call that ends before its work is done.
 
 ends_before : (F : Facts) (args : List (List ℕ)) (ending : Ending) → Comes F args (Err ending) → Ends F args ending []
 ends_before F args (Done status) comes = absurd comes

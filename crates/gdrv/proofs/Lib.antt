@@ -1,3 +1,5 @@
+pub mod Asked
 mod Endings
+mod Files
 mod OneEnding
 mod Steps

@@ -2,12 +2,17 @@
 
 use drv_args::ArgsFault;
 use drv_plan::PlanFault;
+use drv_specs::SpecsFault;
+use drv_syntax::SyntaxFault;
+use std::alloc::AllocError;
 
 /// Why a call is refused. It is never for want of memory.
 #[derive(Debug, Drop)]
 pub enum Refusal {
     /// The arguments are refused.
     Args(ArgsFault),
+    /// A spec file is refused.
+    Specs(SpecsFault),
     /// The line has no plan.
     Plan(PlanFault),
 }
@@ -34,6 +39,35 @@ impl From<ArgsFault> for Ending {
             ArgsFault::Memory => Ending::OutOfMemory,
             fault => Ending::Refused(Refusal::Args(fault)),
         }
+    }
+}
+
+impl From<SpecsFault> for Ending {
+    ghost use Rattle.gdrv.specs.Drives.{stopped_by_specs};
+    ghost use Rattle.std.specs.Prelude.{◌≡◌};
+
+    ghost from_gives = { λ fault ending. ending ≡ stopped_by_specs fault };
+
+    fn from(fault: SpecsFault) -> Ending {
+        match fault {
+            SpecsFault::Memory
+            | SpecsFault::Syntax {
+                fault: SyntaxFault::Memory,
+                ..
+            } => Ending::OutOfMemory,
+            fault => Ending::Refused(Refusal::Specs(fault)),
+        }
+    }
+}
+
+impl From<AllocError> for Ending {
+    ghost use Rattle.gdrv.specs.declared.ending.Ending.TheVariants.{OutOfMemory};
+    ghost use Rattle.std.specs.Prelude.{◌≡◌};
+
+    ghost from_gives = { λ _ ending. ending ≡ OutOfMemory };
+
+    fn from(_refused: AllocError) -> Ending {
+        Ending::OutOfMemory
     }
 }
 

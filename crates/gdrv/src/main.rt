@@ -1,4 +1,4 @@
-//! The driver: a command line in, and its plan or its refusal on standard error.
+//! The driver: a command line in, and its plan or its refusal on standard error, or the specs on standard output.
 #![tactic(auto)]
 
 ghost use Rattle.gdrv.specs.Drives.{exit_status_of};
@@ -11,11 +11,12 @@ mod planning;
 mod process;
 mod seed;
 mod wording;
+mod work;
 
 use driving::drive;
-use drv_system::HostSystem;
+use drv_system::{HostSystem, arguments};
 use ending::Ending;
-use process::{arguments, clock_seed, complain};
+use process::{clock_seed, complain};
 use std::io::ErrorKind;
 use std::process::ExitCode;
 use wording::fault_line;

@@ -1,55 +1,12 @@
-//! What the process is given, and how it complains.
+//! The seed that the process is given, and how it complains.
 
-ghost use Rattle.std.specs.Prelude.{◌≡◌, ◌≤◌, IfOk, IfSome, length};
+ghost use Rattle.std.specs.Prelude.{◌≡◌};
 
 use crate::seed::seed_of;
-use drv_words::{Listing, Word};
-use std::env::FillError;
-use std::io::{ErrorKind, Write};
+use std::io::Write;
 use std::process::ExitCode;
-use std::rt::{Clock, Env};
-use std::str::from_utf8;
+use std::rt::Clock;
 use std::{env, io};
-
-/// How many bytes of an argument there is room for at first.
-const ROOM: usize = 4096;
-
-/// How many bytes the argument at a place has, which are then the first ones of the room; none if there is no such argument. The
-/// room is doubled until they fit.
-fn argument_length(rt: &HostRuntime, place: usize, room: &mut Vec<u8>) -> io::Result<Option<usize>>
-    ensures { IfOk result (λ found. IfSome found (λ n. n ≤ length room.new.items)) }
-{
-    for _ in 0..usize::BITS {
-        match rt.arg(place, room.as_mut_slice()) {
-            Ok(length) => return Ok(Some(length)),
-            Err(FillError::NotPresent) => return Ok(None),
-            Err(FillError::TooLong) => room.resize(room.len().saturating_mul(2), 0)?,
-        }
-    }
-    Err(io::Error::from(ErrorKind::OutOfMemory))
-}
-
-/// The arguments, without the program's name.
-///
-/// # Errors
-/// `OutOfMemory`, or another kind where one of them is no UTF-8.
-pub fn arguments(rt: &HostRuntime) -> io::Result<Listing<Word>> {
-    let alloc = rt.alloc();
-    let mut words = Listing::new(alloc);
-    let mut room = vec![in alloc; 0u8; ROOM]?;
-    for place in 1..usize::MAX {
-        let Some(length) = argument_length(rt, place, &mut room)? else {
-            break;
-        };
-        let bytes = &room[..length];
-        let is_plain = bytes.iter().all(|byte| byte.is_ascii());
-        if !is_plain && from_utf8(bytes).is_err() {
-            return Err(io::Error::from(ErrorKind::InvalidData));
-        }
-        words.push(Word::from_bytes(alloc, bytes)?)?;
-    }
-    Ok(words)
-}
 
 /// The seed of temporary names: the variable GDRV_SEED where it has eight hexadecimal digits, otherwise the low 32
 /// bits of the clock's nanoseconds.
