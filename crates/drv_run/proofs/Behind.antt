@@ -1,0 +1,93 @@
+use Rattle.drv_core.specs.Outcomes.{Answers, status_of}
+use Rattle.drv_core.specs.Windowed.{IsWhole, Windowed}
+use Rattle.drv_run.specs.Executed.{Executed}
+use Rattle.drv_run.specs.Making.{CanMake}
+use Rattle.drv_system.proofs.Running.{open_behind, pending_of_rest, run_of-append}
+use Rattle.drv_system.specs.Running.{run_of}
+use Rattle.drv_system.specs.declared.event.Event.{Event}
+use Rattle.drv_system.specs.declared.event.Event.TheVariants.{Run}
+use Rattle.drv_words.specs.Places.{is_command}
+use Rattle.drv_words.specs.Stepping.{can_make, fits, fits_start, is_child, is_new, is_open, pipe_pending, same_bool}
+use Rattle.drv_words.specs.declared.answers.Answer.{Answer}
+use Rattle.drv_words.specs.declared.answers.Answer.TheVariants as answer
+use Rattle.drv_words.specs.declared.answers.StartAnswer.{StartAnswer}
+use Rattle.drv_words.specs.declared.answers.StartAnswer.TheVariants as start
+use Rattle.drv_words.specs.declared.plan.Plan.{Plan}
+use Rattle.drv_words.specs.declared.steps.RunEvent.{RunEvent}
+use Rattle.drv_words.specs.declared.steps.Step.{Step}
+use Rattle.drv_words.specs.declared.steps.Step.TheVariants as step
+use Rattle.std.proofs.Common.{refl, ap, sym, subst, ◌∙◌}
+use Rattle.std.specs.List.{list_any}
+use Rattle.std.specs.Prelude.{◌≡◌, ◌&&◌, ◌||◌, Bool, List, [], ◌∷◌, ◌++◌, false, if◌then◌else◌, map, not, true, ℕ}
+
+-- The events of a run behind a journal without a pending pipe: what can be made behind them can be made behind both, and what
+-- fits behind both fits behind them.
+
+pub run_is : (events : List RunEvent) → run_of (map Run events) ≡ events
+run_is [] = refl
+run_is (e ∷ events) = ap (λ rest. e ∷ rest) (run_is events)
+
+pub run_behind : (journal : List Event) (events : List RunEvent) → run_of (journal ++ map Run events) ≡ run_of journal ++ events
+run_behind journal events = run_of-append journal (map Run events) ∙ ap (λ rest. run_of journal ++ rest) (run_is events)
+
+and_parts : (a b : Bool) → (a && b) ≡ true → (a ≡ true) × (b ≡ true)
+and_parts true b e = (refl, e)
+and_parts false b e = absurd cc
+
+same : (a b : Bool) → same_bool a b ≡ true → a ≡ b
+same true true e = refl
+same true false e = absurd cc
+same false true e = absurd cc
+same false false e = refl
+
+pub can_behind : (plan : Plan) (journal : List Event) (events : List RunEvent) (s : Step) → pipe_pending (run_of journal) ≡ false
+    → can_make plan events s ≡ true → CanMake plan (journal ++ map Run events) s
+can_behind plan journal events (step.Claim p) none can = can
+can_behind plan journal events (step.Start p from_pipe to_pipe) none can =
+    let both : (is_command plan p ≡ true) × (same_bool from_pipe (pipe_pending events) ≡ true) = and_parts (is_command plan p) (same_bool from_pipe (pipe_pending events)) can in
+    (both.0, same from_pipe (pipe_pending events) both.1 ∙ sym (pipe_behind plan journal events none))
+  where
+    pipe_behind : (plan : Plan) (journal : List Event) (events : List RunEvent) → pipe_pending (run_of journal) ≡ false → pipe_pending (run_of (journal ++ map Run events)) ≡ pipe_pending events
+    pipe_behind plan journal events none = ap pipe_pending (run_behind journal events) ∙ pending_of_rest (run_of journal) events none
+can_behind plan journal events step.ClosePipe none can = ap pipe_pending (run_behind journal events) ∙ pending_of_rest (run_of journal) events none ∙ can
+can_behind plan journal events (step.Wait p id) none can = open_behind p id journal (map Run events) (ap (λ run. is_open p id run) (run_is events) ∙ can)
+can_behind plan journal events (step.Remove p) none can = can
+can_behind plan journal events (step.Report n) none can = can
+
+-- a number that is new behind both is new behind the run's own events
+
+new_rest : (id : ℕ) (before events : List RunEvent) → is_new id (before ++ events) ≡ true → is_new id events ≡ true
+new_rest id [] events is = is
+new_rest id (e ∷ before) events is = new_rest id before events (by (is_child id e.answer) (list_any (λ (f : RunEvent). is_child id f.answer) (before ++ events)) is)
+  where
+    by : (a b : Bool) → not (a || b) ≡ true → not b ≡ true
+    by false b e = e
+    by true b e = absurd cc
+
+start_rest : (before events : List RunEvent) (x : StartAnswer) → fits_start (before ++ events) x ≡ true → fits_start events x ≡ true
+start_rest before events (start.Started id) is = new_rest id before events is
+start_rest before events (start.NotStarted why) is = is
+
+fits_rest : (before events : List RunEvent) (s : Step) (a : Answer) → fits (before ++ events) s a ≡ true → fits events s a ≡ true
+fits_rest before events (step.Claim p) (answer.Claim x) is = is
+fits_rest before events (step.Start p from_pipe to_pipe) (answer.Start x) is = start_rest before events x is
+fits_rest before events step.ClosePipe answer.Closed is = is
+fits_rest before events (step.Wait p id) (answer.Wait x) is = is
+fits_rest before events (step.Remove p) (answer.Remove x) is = is
+fits_rest before events (step.Report n) (answer.Reported told) is = is
+fits_rest before events s a is = absurd cc
+
+pub fits_behind : (journal : List Event) (events : List RunEvent) (s : Step) (a : Answer) → fits (run_of (journal ++ map Run events)) s a ≡ true → fits events s a ≡ true
+fits_behind journal events s a is = fits_rest (run_of journal) events s a (subst (λ run. fits run s a ≡ true) (run_behind journal events) is)
+
+-- a whole run, in the words of a caller
+pub executed : (plan p : Plan) (pass_codes q : Bool) (N n : ℕ) (journal journal' : List Event) (status : ℕ) (events : List RunEvent)
+    → journal' ≡ journal ++ map Run events → p ≡ plan → q ≡ pass_codes → n ≡ N → (w : IsWhole p n events)
+    → ((o : Answers) → Windowed p n o events → status ≡ status_of q o) → Executed plan pass_codes N journal journal' status
+executed plan p pass_codes q N n journal journal' status events grows plans codes windows w says = record {
+  events = events;
+  answers = w.o;
+  journal_grows = grows;
+  windowed = subst (λ m. Windowed plan m w.o events) windows (subst (λ r. Windowed r n w.o events) plans w.windowed);
+  status_is = says w.o w.windowed ∙ ap (λ b. status_of b w.o) codes;
+}

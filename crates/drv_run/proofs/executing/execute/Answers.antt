@@ -1,0 +1,26 @@
+use Rattle.drv_core.specs.Run.{IfMake}
+use Rattle.drv_run.proofs.Behind.{can_behind, executed, fits_behind}
+use Rattle.drv_run.proofs.executing.execute.Goals as goal
+use Rattle.drv_run.specs.Making.{CanMake}
+use Rattle.drv_system.specs.Running.{run_of}
+use Rattle.drv_words.specs.Stepping.{can_make, fits}
+use Rattle.std.proofs.Common.{◌≡◌, subst, sym, true}
+
+pub returns-in-Done-clause-executed : goal.returns-in-Done-clause-executed
+returns-in-Done-clause-executed g c =
+    executed c.args.plan.now c.loop-status.run.plan c.args.pass_codes c.loop-status.run.pass_codes c.args.window c.loop-status.run.window
+    (g.S.System.events c.args.sys.now) (g.S.System.events c.loop-status.sys) c.in-Done.status c.loop-status.run.events
+    c.loop-status.invariant.journal c.loop-status.invariant.plan c.loop-status.invariant.codes c.loop-status.invariant.window
+    c.in-Done.ensures.whole c.in-Done.ensures.status
+
+pub make-answer-requires-clause-can : goal.make-answer-requires-clause-can
+make-answer-requires-clause-can g c =
+    subst (λ journal. CanMake c.args.plan.now journal c.in-Make.step) (sym c.loop-status.invariant.journal)
+    (can_behind c.args.plan.now (g.S.System.events c.args.sys.now) c.loop-status.run.events c.in-Make.step c.requires.pipe
+    (subst (λ plan. can_make plan c.loop-status.run.events c.in-Make.step ≡ true) c.loop-status.invariant.plan c.in-Make.ensures.possible))
+
+pub answer-requires-clause-fits : goal.answer-requires-clause-fits
+answer-requires-clause-fits g c =
+    subst (λ action. IfMake action (λ step. fits c.loop-status.run.events step c.make-answer.result ≡ true)) c.in-Make.ensures.action
+    (fits_behind (g.S.System.events c.args.sys.now) c.loop-status.run.events c.in-Make.step c.make-answer.result
+    (subst (λ journal. fits (run_of journal) c.in-Make.step c.make-answer.result ≡ true) c.loop-status.invariant.journal c.make-answer.ensures.fits))
