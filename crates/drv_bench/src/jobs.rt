@@ -2,8 +2,10 @@
 
 ghost use Rattle.std.specs.Prelude.{◌≡◌, IfOk, replicate};
 
-use drv_args::{expand, read};
+use drv_args::{Expanded, Line, expand, read};
 use drv_machine::Context;
+use drv_search::Prefixes;
+use drv_specs::{SpecSet, builtin};
 use drv_syntax::parse;
 use drv_system::{FactTable, ScriptSystem, System};
 use drv_words::{Command, Group, Job, Listing, Plan, Word, plan_lines, render, split};
@@ -119,12 +121,98 @@ fn parsed(alloc: Global, count: usize) -> Result<usize, AllocError> {
     }
 }
 
+/// The names of the built-in spec texts.
+const NAMES: [&'static [u8]; 19] = [
+    b"asm",
+    b"cpp",
+    b"cc1",
+    b"endfile",
+    b"link",
+    b"lib",
+    b"libgcc",
+    b"link_gcc_c_sequence",
+    b"linker",
+    b"signed_char",
+    b"startfile",
+    b"cpp_cmd",
+    b"cc1_cmd",
+    b"as_cmd",
+    b"cpp_unique_options",
+    b"cpp_options",
+    b"cc1_options",
+    b"asm_options",
+    b"link_command",
+];
+
+/// How many bytes a spec text has, if it has a tree.
+fn tree_bytes(alloc: Global, text: &[u8]) -> usize {
+    match parse(alloc, text) {
+        Ok(tree) => tree.text().len(),
+        Err(_) => 0,
+    }
+}
+
+/// How many bytes the named texts of a set have, each parsed once.
+fn named_bytes(alloc: Global, set: &SpecSet) -> usize {
+    let mut bytes: usize = 0;
+    for name in &NAMES {
+        if let Some(text) = set.text(name) {
+            bytes = bytes.saturating_add(tree_bytes(alloc, text));
+        }
+    }
+    bytes
+}
+
+/// How many bytes the texts of a set's pairs have, each parsed once.
+fn pair_bytes(alloc: Global, set: &SpecSet) -> usize {
+    let mut bytes: usize = 0;
+    for place in 0..set.pairs().len() {
+        if let Some(tree) = set.pair_tree(place) {
+            bytes = bytes.saturating_add(tree_bytes(alloc, tree.text()));
+        }
+    }
+    bytes
+}
+
+/// How many bytes the built-in spec texts have, each parsed so many times.
+fn text_bytes(alloc: Global, count: usize) -> Result<usize, AllocError> {
+    let set = builtin(alloc)?;
+    let mut bytes: usize = 0;
+    for _ in 0..count {
+        bytes = bytes
+            .saturating_add(named_bytes(alloc, &set))
+            .saturating_add(pair_bytes(alloc, &set));
+    }
+    Ok(bytes)
+}
+
+/// A line of one file.
+fn line_of_file(alloc: Global) -> Result<Option<Line>, AllocError> {
+    let mut words = Listing::new(alloc);
+    words.push(Word::from_bytes(alloc, b"a.c")?)?;
+    let expanded = Expanded {
+        words,
+        from_file: false,
+    };
+    match read(alloc, &expanded) {
+        Ok(line) => Ok(Some(line)),
+        Err(_) => Ok(None),
+    }
+}
+
 /// What it costs to work a spec text of so many plain bytes.
 fn worked(alloc: Global, count: usize) -> Result<usize, AllocError> {
     let Ok(tree) = parse(alloc, letters(alloc, count)?.as_bytes()) else {
         return Ok(0);
     };
-    let context = Context::new(alloc, &[], None)?;
+    let Some(line) = line_of_file(alloc)? else {
+        return Ok(0);
+    };
+    let prefixes = Prefixes {
+        programs: Listing::new(alloc),
+        libraries: Listing::new(alloc),
+    };
+    let context = Context::new(alloc, &line, &prefixes, 0)?;
     let mut sys = system(alloc, Listing::new(alloc));
     let mut facts = FactTable::new(alloc);
     match drv_machine::run(alloc, &tree, &context, &mut sys, &mut facts) {
@@ -154,6 +242,42 @@ fn asked(alloc: Global, count: u32) -> Result<usize, AllocError> {
     Ok(sys.journal().len())
 }
 
+/// A spec file of so many named texts.
+fn spec_file(alloc: Global, count: usize) -> Result<Word, AllocError> {
+    let mut text = Word::empty(alloc);
+    for number in 0..count {
+        text.extend_from_slice(b"*name")?;
+        text.extend_from_slice(itoa::Buffer::new().format(number).as_bytes())?;
+        text.extend_from_slice(b":\n%{O*} -lx\n\n")?;
+    }
+    Ok(text)
+}
+
+/// How many bytes the first text has that a spec file of so many named texts puts into the empty set.
+fn loaded(alloc: Global, count: usize) -> Result<usize, AllocError> {
+    let nowhere = Prefixes {
+        programs: Listing::new(alloc),
+        libraries: Listing::new(alloc),
+    };
+    let mut sys = system(alloc, Listing::new(alloc));
+    let mut facts = FactTable::new(alloc);
+    let mut set = SpecSet::empty(alloc);
+    let file = spec_file(alloc, count)?;
+    match set.load(file.as_bytes(), &nowhere, &mut sys, &mut facts) {
+        Ok(()) => Ok(set.text(b"name0").map_or(0, |text| text.len())),
+        Err(_) => Ok(0),
+    }
+}
+
+/// How many pairs the built-in set has, which is made so many times.
+fn built_in(alloc: Global, count: usize) -> Result<usize, AllocError> {
+    let mut pairs = 0;
+    for _ in 0..count {
+        pairs = builtin(alloc)?.pairs().len();
+    }
+    Ok(pairs)
+}
+
 /// Does a job, and answers the size of what came of it; none if there is no such job, or memory ran out.
 pub fn run(alloc: Global, job: &str, count: &str, length: &str) -> Option<usize> {
     let count = count.parse::<usize>().ok()?;
@@ -163,7 +287,10 @@ pub fn run(alloc: Global, job: &str, count: &str, length: &str) -> Option<usize>
         "split" => split_words(alloc, count, length).ok(),
         "arguments" => switches(alloc, count, length).ok(),
         "parse" => parsed(alloc, count).ok(),
+        "texts" => text_bytes(alloc, count).ok(),
         "work" => worked(alloc, count).ok(),
+        "specs" => loaded(alloc, count).ok(),
+        "builtin" => built_in(alloc, count).ok(),
         "facts" => asked(alloc, u32::try_from(count).ok()?).ok(),
         _ => None,
     }

@@ -7,7 +7,7 @@ use std::process::ExitCode;
 use std::{env, io};
 
 const USAGE: &str =
-    "usage: drv_bench render WORDS | split WORDS LENGTH | arguments WORDS LENGTH | parse BYTES | work ITEMS | facts PATHS";
+    "usage: drv_bench render WORDS | split WORDS LENGTH | arguments WORDS LENGTH | parse BYTES | texts TIMES | work ITEMS | specs TEXTS | builtin TIMES | facts PATHS";
 
 fn main(rt: HostRuntime) -> io::Result<ExitCode> {
     let args: Vec<String> = env::args(&rt)?.collect(rt.alloc())?;

@@ -8,22 +8,13 @@ mod calls;
 mod functions;
 mod script;
 mod searching;
+mod specs;
 
 use calls::{answered, asked};
-use drv_system::{HostSystem, System};
-use drv_words::{Listing, Word, split};
+use drv_system::{HostSystem, System, arguments};
+use drv_words::{Word, split};
 use script::Script;
-use std::io::Write;
-use std::{env, io};
-
-/// The arguments, without the program's name.
-fn arguments(rt: &HostRuntime) -> io::Result<Listing<Word>> {
-    let mut words = Listing::new(rt.alloc());
-    for argument in env::args(rt)?.skip(1) {
-        words.push(Word::from_vec(argument.into_bytes()))?;
-    }
-    Ok(words)
-}
+use std::io::{self, Write};
 
 /// What standard input says of files, folders and variables.
 fn read_script(rt: &HostRuntime) -> io::Result<Script> {

@@ -1,6 +1,6 @@
 //! What the tests are made of.
 
-use drv_words::{Command, Group, Job, Listing, Plan, Word, split};
+use drv_words::{Command, Group, Job, Listing, Plan, Temp, Word, split};
 use std::alloc::{AllocError, Global};
 
 /// The list of the words of these texts.
@@ -63,5 +63,27 @@ pub fn piped_plan(alloc: Global) -> Result<Plan, AllocError> {
         notices: Listing::new(alloc),
         jobs,
         link: Some(job(alloc, command(alloc, "$LD", "a.o ''")?, None)?),
+    })
+}
+
+/// A source of one command, with a temporary.
+fn source(alloc: Global, path: &str) -> Result<Job, AllocError> {
+    let mut source = job(alloc, command(alloc, "rectool", "cc1")?, None)?;
+    source.temps.push(Temp {
+        path: Word::from_bytes(alloc, path.as_bytes())?,
+        contents: Word::empty(alloc),
+    })?;
+    Ok(source)
+}
+
+/// The plan of two sources of one command, each with a temporary.
+pub fn two_sources(alloc: Global) -> Result<Plan, AllocError> {
+    let mut jobs = Listing::new(alloc);
+    jobs.push(source(alloc, "_1.s")?)?;
+    jobs.push(source(alloc, "_2.s")?)?;
+    Ok(Plan {
+        notices: Listing::new(alloc),
+        jobs,
+        link: None,
     })
 }

@@ -1,0 +1,71 @@
+//! What the steps of a run are answered, as lines say it.
+
+ghost use Rattle.std.specs.Prelude.{◌≡◌, [], IfOk};
+
+use drv_system::ScriptSystem;
+use drv_words::{
+    Answer, ClaimAnswer, Listing, NotStarted, RemoveAnswer, StartAnswer, WaitAnswer, Word,
+};
+use std::alloc::{AllocError, Global};
+use std::str::from_utf8;
+
+/// The exit status that a word writes in decimal.
+fn status_of(word: &[u8]) -> Option<u8> {
+    from_utf8(word).ok()?.parse().ok()
+}
+
+/// The answer that a word stands for.
+fn answer_of(word: &[u8]) -> Option<Answer> {
+    match word {
+        b"claimed" => Some(Answer::Claim(ClaimAnswer::Claimed)),
+        b"taken" => Some(Answer::Claim(ClaimAnswer::Taken)),
+        b"unclaimed" => Some(Answer::Claim(ClaimAnswer::Failed)),
+        b"started" => Some(Answer::Start(StartAnswer::Started(0))),
+        b"refused" => Some(Answer::Start(StartAnswer::NotStarted(NotStarted::NotFound))),
+        b"signal" => Some(Answer::Wait(WaitAnswer::Signal)),
+        b"lost" => Some(Answer::Wait(WaitAnswer::Lost)),
+        b"removed" => Some(Answer::Remove(RemoveAnswer::Removed)),
+        b"missing" => Some(Answer::Remove(RemoveAnswer::Missing)),
+        b"kept" => Some(Answer::Remove(RemoveAnswer::NotPlain)),
+        b"unremoved" => Some(Answer::Remove(RemoveAnswer::Failed)),
+        _ => Some(Answer::Wait(WaitAnswer::Exit(status_of(word)?))),
+    }
+}
+
+/// The answers in the lines that begin with `answers`.
+fn answers(alloc: Global, lines: &[Listing<Word>]) -> Result<Listing<Answer>, AllocError> {
+    let mut answers = Listing::new(alloc);
+    for line in lines {
+        if let [what, words @ ..] = line.as_slice()
+            && what.as_bytes() == b"answers".as_slice()
+        {
+            for word in words {
+                if let Some(answer) = answer_of(word.as_bytes()) {
+                    answers.push(answer)?;
+                }
+            }
+        }
+    }
+    Ok(answers)
+}
+
+/// A system that answers as lines say.
+pub fn system(alloc: Global, lines: &[Listing<Word>]) -> Result<ScriptSystem, AllocError>
+    ensures { IfOk result (λ sys. sys.journal ≡ []) }
+{
+    let answers = answers(alloc, lines)?;
+    Ok(ScriptSystem::new(
+        alloc,
+        Listing::new(alloc),
+        Listing::new(alloc),
+        Listing::new(alloc),
+        answers,
+    ))
+}
+
+/// Whether a line says that nothing can be told.
+pub fn is_mute(lines: &[Listing<Word>]) -> bool {
+    lines.iter().any(
+        |line| matches!(line.as_slice(), [word] if word.as_bytes() == b"mute".as_slice()),
+    )
+}
