@@ -4,9 +4,11 @@ use Rattle.drv_args.specs.declared.fault.ArgsFault.TheVariants as args_fault
 use Rattle.drv_args.specs.declared.fault.ArgsFault.{ArgsFault}
 use Rattle.drv_args.specs.declared.line.Expanded.{Expanded}
 use Rattle.drv_args.specs.declared.line.Line.{Line}
+use Rattle.drv_machine.specs.declared.fault.MachineFault.TheVariants as machine_fault
 use Rattle.drv_plan.specs.Denoted.{denoted}
 use Rattle.drv_plan.specs.declared.fault.PlanFault.TheVariants as plan_fault
 use Rattle.drv_plan.specs.declared.fault.PlanFault.{PlanFault}
+use Rattle.drv_search.specs.declared.fault.SearchFault.TheVariants as search_fault
 use Rattle.drv_specs.specs.Dumping.{dumped}
 use Rattle.drv_specs.specs.Sets.{Set}
 use Rattle.drv_specs.specs.declared.fault.SpecsFault.TheVariants as specs_fault
@@ -39,7 +41,17 @@ refused_args F args (args_fault.OutputIsInput input) refused = refused
 
 refused_plan : (F : Facts) (args : List (List ℕ)) (fault : PlanFault) → Refuses F args (NoPlan fault) → Comes F args (Err (stopped_by_plan fault))
 refused_plan F args plan_fault.Memory refused = tt
-refused_plan F args (plan_fault.Machine fault) refused = refused
+refused_plan F args (plan_fault.Machine machine_fault.Memory) refused = refused
+refused_plan F args (plan_fault.Machine (machine_fault.UserError text)) refused = refused
+refused_plan F args (plan_fault.Machine machine_fault.SpecTooDeep) refused = refused
+refused_plan F args (plan_fault.Machine machine_fault.TooManySteps) refused = refused
+refused_plan F args (plan_fault.Machine machine_fault.NoInput) refused = refused
+refused_plan F args (plan_fault.Machine machine_fault.NotInLink) refused = refused
+refused_plan F args (plan_fault.Machine machine_fault.StrayPipe) refused = refused
+refused_plan F args (plan_fault.Machine machine_fault.PipeTooLong) refused = refused
+refused_plan F args (plan_fault.Machine (machine_fault.Search search_fault.Memory)) refused = tt
+refused_plan F args (plan_fault.Machine (machine_fault.Search (search_fault.ScriptMissing name))) refused = refused
+refused_plan F args (plan_fault.Machine machine_fault.NotYet) refused = refused
 refused_plan F args (plan_fault.UnknownLanguage name) refused = refused
 refused_plan F args (plan_fault.NotInstalled name) refused = refused
 

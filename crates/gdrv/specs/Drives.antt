@@ -10,6 +10,7 @@ use Rattle.drv_plan.specs.Denoted.{denoted}
 use Rattle.drv_plan.specs.declared.fault.PlanFault.TheVariants as plan_fault
 use Rattle.drv_plan.specs.declared.fault.PlanFault.{PlanFault}
 use Rattle.drv_search.specs.Search.{prefixes_of}
+use Rattle.drv_search.specs.declared.fault.SearchFault.TheVariants as search_fault
 use Rattle.drv_search.specs.declared.prefixes.Prefixes.{Prefixes}
 use Rattle.drv_specs.specs.Builtin.{builtin_specs}
 use Rattle.drv_specs.specs.Dumping.{dumped}
@@ -92,6 +93,7 @@ stopped_by_specs fault = Refused (NoSpecs fault)
 
 abbrev pub stopped_by_plan : PlanFault → Ending
 stopped_by_plan plan_fault.Memory = OutOfMemory
+stopped_by_plan (plan_fault.Machine (machine_fault.Search search_fault.Memory)) = OutOfMemory
 stopped_by_plan fault = Refused (NoPlan fault)
 
 -- what arguments come to: work, or an ending in its place; want of memory may come in place of either
@@ -141,6 +143,7 @@ holds_memory (NoSpecs specs_fault.Memory) = true
 holds_memory (NoSpecs (specs_fault.Syntax name syntax_fault.Memory)) = true
 holds_memory (NoPlan plan_fault.Memory) = true
 holds_memory (NoPlan (plan_fault.Machine machine_fault.Memory)) = true
+holds_memory (NoPlan (plan_fault.Machine (machine_fault.Search search_fault.Memory))) = true
 holds_memory refusal = false
 
 -- want of memory is no refusal: an ending says it by its own name

@@ -1,7 +1,9 @@
 //! How a call of the driver ends.
 
 use drv_args::ArgsFault;
+use drv_machine::MachineFault;
 use drv_plan::PlanFault;
+use drv_search::SearchFault;
 use drv_specs::SpecsFault;
 use drv_syntax::SyntaxFault;
 use std::alloc::AllocError;
@@ -79,7 +81,8 @@ impl From<PlanFault> for Ending {
 
     fn from(fault: PlanFault) -> Ending {
         match fault {
-            PlanFault::Memory => Ending::OutOfMemory,
+            PlanFault::Memory | PlanFault::Machine(MachineFault::Search(SearchFault::Memory)) =>
+                Ending::OutOfMemory,
             fault => Ending::Refused(Refusal::Plan(fault)),
         }
     }
