@@ -1,6 +1,7 @@
 pub mod Asked
 pub mod Expanding
 pub mod FrontLaws
+pub mod JobCounts
 pub mod LineSteps
 pub mod Lookups
 pub mod OneExpansion

@@ -238,7 +238,7 @@ line_50 : read (codes "a.c -Xlinker") ≡ Err (MissingArgument (codes "-Xlinker"
 unfolding option_table
 line_50 = refl
 
-line_51 : read (codes "--jobs=2 a.c") ≡ Err (BadJobs (codes "--jobs=2"))
+line_51 : read (codes "--jobs=2 a.c") ≡ Ok (record empty { inputs = File (codes "a.c") None ∷ []; settings = record off { jobs = 2 } })
 unfolding option_table
 line_51 = refl
 
@@ -261,6 +261,27 @@ line_55 = refl
 line_56 : read (codes "-dumpspecs -o") ≡ Err (MissingArgument (codes "-o"))
 unfolding option_table
 line_56 = refl
+
+line_57 : read (codes "--jobs=9 a.c --jobs=64 -v --jobs=1 --jobs=10") ≡ Ok (record empty { switches = alone (codes "v") ∷ []; inputs = File (codes "a.c") None ∷ []; settings = record off { verbose = true; jobs = 10 } })
+unfolding option_table
+line_57 = refl
+
+line_58 : read (codes "-dumpspecs --jobs=0") ≡ Err (BadJobs (codes "--jobs=0"))
+unfolding option_table
+line_58 = refl
+
+-- numbers of jobs, and words that are none
+numbers : map (λ word. read_words (word ∷ codes "a.c" ∷ [])) (codes "--jobs=1" ∷ codes "--jobs=8" ∷ codes "--jobs=30" ∷ codes "--jobs=63" ∷ codes "--jobs=64" ∷ [])
+    ≡ map (λ jobs. Ok (record empty { inputs = File (codes "a.c") None ∷ []; settings = record off { jobs = jobs } })) (1 ∷ 8 ∷ 30 ∷ 63 ∷ 64 ∷ [])
+unfolding option_table
+numbers = refl
+
+abbrev no_numbers : List (List ℕ)
+no_numbers = codes "--jobs" ∷ codes "--jobs=" ∷ codes "--jobs=0" ∷ codes "--jobs=65" ∷ codes "--jobs=99" ∷ codes "--jobs=100" ∷ codes "--jobs=08" ∷ codes "--jobs=00" ∷ codes "--jobs=064" ∷ codes "--jobs=+2" ∷ codes "--jobs=-1" ∷ codes "--jobs=2x" ∷ codes "--jobs=x" ∷ codes "--jobs=:" ∷ codes "--jobs=/" ∷ codes "--jobsx" ∷ codes "--jobs2" ∷ []
+
+not_numbers : map (λ word. read_words (word ∷ codes "a.c" ∷ [])) no_numbers ≡ map (λ word. Err (BadJobs word)) no_numbers
+unfolding option_table
+not_numbers = refl
 
 -- options that take the next word, and no joined one
 abbrev separate : List (List ℕ)

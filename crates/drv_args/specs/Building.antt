@@ -1,6 +1,7 @@
 use Rattle.drv_args.specs.Fronts as fronts
 use Rattle.drv_args.specs.Fronts.{Item, Start, item}
-use Rattle.drv_args.specs.Lines.{assembler_pieces, inputs_of, is_on, language_behind, last_output, line_of, prefix_of, preprocessor_pieces, spec_of, switches_of}
+use Rattle.drv_args.specs.Jobs.{jobs_named}
+use Rattle.drv_args.specs.Lines.{assembler_pieces, inputs_of, is_on, language_behind, last_jobs, last_output, line_of, prefix_of, preprocessor_pieces, spec_of, switches_of}
 use Rattle.drv_args.specs.declared.building.LineBuilder.{LineBuilder}
 use Rattle.drv_args.specs.declared.fault.ArgsFault.{ArgsFault}
 use Rattle.drv_args.specs.declared.line.Input.TheVariants as input
@@ -14,6 +15,7 @@ use Rattle.drv_args.specs.declared.option_table.Tool.{Tool}
 use Rattle.drv_args.specs.declared.reading.Start.TheVariants as code
 use Rattle.drv_args.specs.declared.reading.Start.{Start as CodeStart}
 use Rattle.std.specs.List.{filter_map, flat_map}
+use Rattle.std.specs.Option.{unwrap_or}
 use Rattle.std.specs.Prelude.{◌||◌, Bool, Err, List, [], ◌∷◌, ◌++◌, None, Ok, Option, Result, map, true, ℕ}
 
 -- A line that is built item by item. Private clauses alone cite it: what `read` answers is said by `line_read`.
@@ -38,6 +40,7 @@ with_items b items = record {
     output = last_output b.line.settings.output items;
     specs = b.line.settings.specs ++ filter_map (λ i. spec_of i.effect i.argument) items;
     prefixes = b.line.settings.prefixes ++ filter_map (λ i. prefix_of i.effect i.argument) items;
+    jobs = last_jobs b.line.settings.jobs items;
   };
 }
 
@@ -67,6 +70,9 @@ with_setting b setting.Verbose = with_settings b (record b.line.settings { verbo
 with_setting b setting.Dump = with_settings b (record b.line.settings { dump = true })
 with_setting b setting.PassCodes = with_settings b (record b.line.settings { pass_codes = true })
 with_setting b setting.Pipe = with_settings b (record b.line.settings { pipe = true })
+
+abbrev pub with_jobs : LineBuilder → List ℕ → LineBuilder
+with_jobs b argument = with_settings b (record b.line.settings { jobs = unwrap_or (jobs_named argument) b.line.settings.jobs })
 
 abbrev pub with_pieces : LineBuilder → Tool → List (List ℕ) → LineBuilder
 with_pieces b tool.Assembler pieces = record b { line = record b.line { asm_opts = b.line.asm_opts ++ pieces } }

@@ -1,3 +1,4 @@
+use Rattle.drv_args.specs.Jobs.{jobs_named}
 use Rattle.drv_args.specs.Options.{OptionRow, first_row}
 use Rattle.drv_args.specs.declared.fault.ArgsFault.TheVariants.{BadJobs, MissingArgument}
 use Rattle.drv_args.specs.declared.fault.ArgsFault.{ArgsFault}
@@ -6,7 +7,7 @@ use Rattle.drv_args.specs.declared.option_table.Effect.{Effect}
 use Rattle.drv_args.specs.declared.option_table.Form.TheVariants.{Either, Exact, Joined, Separate}
 use Rattle.drv_args.specs.declared.option_table.Form.{Form}
 use Rattle.drv_words.specs.Bytes.{hyphen}
-use Rattle.std.specs.Prelude.{◌≡◌, ◌==◌, Bool, Err, List, [], ◌∷◌, ◌++◌, None, Ok, Option, Result, Some, drop, false, if◌then◌else◌, length, true, ℕ}
+use Rattle.std.specs.Prelude.{◌≡◌, ◌==◌, Bool, Err, List, [], ◌∷◌, ◌++◌, None, Ok, Option, Result, Some, drop, false, if◌then◌else◌, is_none, length, true, ℕ}
 
 -- A line of words is read front by front (GCC manual, "Overall Options"; this project's profile).
 
@@ -35,10 +36,13 @@ by_form Separate effect option word = Wants effect option
 by_form Joined effect option word = Alone (item effect option (drop (length option) word))
 by_form Either effect option word = with_rest (length option == length word) effect option (drop (length option) word)
 
--- no number of jobs is known yet
+-- what stands behind --jobs is a number of jobs, or the word is refused
+abbrev pub is_bad : Effect → List ℕ → Bool
+is_bad effect.Jobs argument = is_none (jobs_named argument)
+is_bad _ argument = false
+
 abbrev pub by_effect : Effect → OptionRow → List ℕ → Start
-by_effect effect.Jobs r word = Bad
-by_effect effect r word = by_form r.form effect r.option word
+by_effect effect r word = if is_bad effect (drop (length r.option) word) then Bad else by_form r.form effect r.option word
 
 -- a word that fits no row is a switch
 abbrev pub by_row : Option OptionRow → List ℕ → Start
@@ -64,7 +68,7 @@ pub data Reads : List (List ℕ) → List Item → Type 0 where
   no_front : Reads [] []
   front : {words rest : List (List ℕ)} {i : Item} {items : List Item} → Fits words i → Reads rest items → Reads (words ++ rest) (i ∷ items)
 
--- The first offending word: the last one where it wants an argument, or a number of jobs.
+-- The first offending word: the last one where it wants an argument, or a bad number of jobs.
 pub data Offends : List (List ℕ) → ArgsFault → Type 0 where
   lacks_argument : {word option : List ℕ} {effect : Effect} → start_of word ≡ Wants effect option → Offends (word ∷ []) (MissingArgument word)
   bad_jobs : {word : List ℕ} {words : List (List ℕ)} → start_of word ≡ Bad → Offends (word ∷ words) (BadJobs word)

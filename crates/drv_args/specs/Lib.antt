@@ -1,6 +1,7 @@
 pub mod Building
 pub mod Expansion
 pub mod Fronts
+pub mod Jobs
 pub mod Judging
 pub mod Lines
 pub mod Lookup

@@ -1,5 +1,6 @@
 use Rattle.drv_words.specs.Bytes.{comma}
 use Rattle.drv_args.specs.Fronts.{Item, items_of}
+use Rattle.drv_args.specs.Jobs.{jobs_named}
 use Rattle.drv_args.specs.declared.fault.ArgsFault.TheVariants.{NoInputs, OutputIsInput, OutputWithMany, StdinNeedsLanguage, TooManyArguments}
 use Rattle.drv_args.specs.declared.fault.ArgsFault.{ArgsFault}
 use Rattle.drv_args.specs.declared.line.Expanded.{Expanded}
@@ -15,6 +16,7 @@ use Rattle.drv_args.specs.declared.option_table.Tool.TheVariants as tool
 use Rattle.drv_words.specs.Bytes.{comma}
 use Rattle.std.specs.Cmp.Lexicographic.{pointwise}
 use Rattle.std.specs.List.{filter_map, flat_map, list_any, slice_split}
+use Rattle.std.specs.Option.{unwrap_or}
 use Rattle.std.specs.Prelude.{◌&&◌, ◌||◌, ◌==◌, Bool, Err, List, [], ◌∷◌, ◌++◌, None, Ok, Option, Result, Some, codes, count_by, drop, false, if◌then◌else◌, length, map, nat_eq, nat_lt, not, true, ℕ}
 
 -- The line that items make: each part is a filter of the one list (GCC manual, "Overall Options"; this project's
@@ -108,6 +110,15 @@ abbrev pub prefix_of : Effect → List ℕ → Option (List ℕ)
 prefix_of effect.Prefix argument = Some argument
 prefix_of _ argument = None
 
+-- how many sources are worked at once: the last number counts
+abbrev pub jobs_behind : Effect → List ℕ → ℕ → ℕ
+jobs_behind effect.Jobs argument jobs = unwrap_or (jobs_named argument) jobs
+jobs_behind _ argument jobs = jobs
+
+abbrev pub last_jobs : ℕ → List Item → ℕ
+last_jobs jobs [] = jobs
+last_jobs jobs (i ∷ items) = last_jobs (jobs_behind i.effect i.argument jobs) items
+
 abbrev pub line_of : Bool → List Item → Line
 line_of from_file items = record {
   switches = switches_of items;
@@ -124,7 +135,7 @@ line_of from_file items = record {
     output = last_output None items;
     specs = filter_map (λ i. spec_of i.effect i.argument) items;
     prefixes = filter_map (λ i. prefix_of i.effect i.argument) items;
-    jobs = 1;
+    jobs = last_jobs 1 items;
   };
 }
 

@@ -1,11 +1,12 @@
 //! A line that is built item by item.
 
-ghost use Rattle.drv_args.specs.Building.{begun, noted, with_inputs, with_pieces, with_setting, with_switch};
+ghost use Rattle.drv_args.specs.Building.{begun, noted, with_inputs, with_jobs, with_pieces, with_setting, with_switch};
 ghost use Rattle.drv_args.specs.Fronts.{item};
 ghost use Rattle.drv_args.specs.Lines.{language_of, pieces_of};
 ghost use Rattle.drv_args.specs.declared.line.Input.TheVariants as input;
 ghost use Rattle.std.specs.Prelude.{◌≡◌, ◌∷◌, ◌++◌, [], IfOk, OnOk, Some, drop};
 
+use crate::jobs::jobs_named;
 use crate::option_table::{Effect, Setting, Tool};
 use crate::{Input, Line, Settings, Switch};
 use drv_words::{Listing, Word};
@@ -145,6 +146,14 @@ impl LineBuilder {
         }
     }
 
+    /// Takes the number of jobs that an argument names.
+    fn set_jobs(&mut self, argument: &[u8])
+        ensures { self.new ≡ with_jobs self.old argument.now }
+    {
+        let jobs = jobs_named(argument).unwrap_or(self.line.settings.jobs);
+        self.line.settings.jobs = jobs;
+    }
+
     /// Adds a piece for a tool.
     fn add_piece(&mut self, tool: Tool, piece: Word) -> Result<(), AllocError>
         ensures { OnOk result (self.new ≡ with_pieces self.old tool (piece ∷ [])) }
@@ -213,7 +222,10 @@ impl LineBuilder {
             Effect::Library => self.add_input(Input::Library(joined(alloc, option, argument)?)),
             Effect::Pieces(tool) => self.add_pieces(alloc, tool, argument),
             Effect::Piece(tool) => self.add_piece(tool, Word::from_bytes(alloc, argument)?),
-            Effect::Jobs => Ok(()),
+            Effect::Jobs => {
+                self.set_jobs(argument);
+                Ok(())
+            }
             Effect::File => self.add_file(alloc, option),
         }
     }

@@ -22,7 +22,7 @@ pub enum ArgsFault {
     /// This option takes the next word, and is the last.
     #[error("MissingArgument")]
     MissingArgument(Word),
-    /// This word names no number of jobs.
+    /// This word names no number of jobs from 1 to 64.
     #[error("BadJobs")]
     BadJobs(Word),
     /// Nothing is to be worked or linked.

@@ -4,6 +4,7 @@
 mod building;
 mod expansion;
 mod fault;
+mod jobs;
 mod judging;
 mod laws;
 mod line;

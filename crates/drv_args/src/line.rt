@@ -41,8 +41,8 @@ pub struct Settings {
     pub specs: Listing<Word>,
     /// The prefixes of `-B`, in order.
     pub prefixes: Listing<Word>,
-    /// How many sources are worked at once.
-    pub jobs: u32,
+    /// How many sources are worked at once, from 1 to 64: the number of the last `--jobs=N`, or 1.
+    pub jobs: usize,
 }
 
 /// A command line as it was read.

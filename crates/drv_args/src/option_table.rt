@@ -76,7 +76,7 @@ pub(crate) enum Effect {
     Pieces(Tool),
     /// It has one piece for a tool.
     Piece(Tool),
-    /// It is a number of jobs.
+    /// It says how many sources are worked at once.
     Jobs,
     /// It is an input file.
     File,

@@ -1,7 +1,7 @@
 //! Words read by the option table.
 
 ghost use Rattle.drv_args.specs.Building.{start_shown};
-ghost use Rattle.drv_args.specs.Fronts.{by_effect, items_of, start_of};
+ghost use Rattle.drv_args.specs.Fronts.{by_effect, is_bad, items_of, start_of};
 ghost use Rattle.drv_args.specs.Lines.{line_of_items, line_read};
 ghost use Rattle.drv_args.specs.Lookup.{shown};
 ghost use Rattle.drv_args.specs.Options.{row_fits};
@@ -11,6 +11,7 @@ ghost use Rattle.std.specs.Option.{option_map};
 ghost use Rattle.std.specs.Prelude.{◌≡◌, drop, find, length, map};
 
 use crate::building::LineBuilder;
+use crate::jobs::jobs_named;
 use crate::judging::judge;
 use crate::option_table::{Effect, Form, Row, rows_behind};
 use crate::{ArgsFault, Expanded, Line};
@@ -71,6 +72,16 @@ fn rest_behind<'a>(word: &'a [u8], option: &[u8]) -> &'a [u8]
     }
 }
 
+/// Whether the argument of an option is refused: it has to be a number of jobs, and is none.
+fn is_bad(effect: Effect, argument: &[u8]) -> bool
+    ensures { result ≡ is_bad effect argument.now }
+{
+    match effect {
+        Effect::Jobs => matches!(jobs_named(argument), None),
+        _ => false,
+    }
+}
+
 /// How a word begins a front by the row that fits it.
 fn start_by_row<'a>(row: Row, word: &'a [u8]) -> Start<'a>
     ensures { start_shown result ≡ by_effect row.effect (shown row) word.now }
@@ -80,10 +91,10 @@ fn start_by_row<'a>(row: Row, word: &'a [u8]) -> Start<'a>
         form,
         effect,
     } = row;
-    if matches!(effect, Effect::Jobs) {
+    let argument = rest_behind(word, option);
+    if is_bad(effect, argument) {
         return Start::Bad;
     }
-    let argument = rest_behind(word, option);
     match form {
         Form::Exact => Start::Alone {
             effect,
@@ -154,8 +165,8 @@ fn read_words(alloc: Global, words: &[Word], from_file: bool) -> Result<Line, Ar
 ///
 /// # Errors
 /// `TooManyArguments` for more than 65,536 words; then at the first offending word `MissingArgument` or
-/// `BadJobs`, which no word that begins with `--jobs` escapes yet; then, unless the specs are dumped, the first
-/// of `NoInputs`, `StdinNeedsLanguage`, `OutputWithMany` and `OutputIsInput`.
+/// `BadJobs`, for each word that begins with `--jobs` but for `--jobs=N` with N from 1 to 64; then, unless the specs are
+/// dumped, the first of `NoInputs`, `StdinNeedsLanguage`, `OutputWithMany` and `OutputIsInput`.
 pub fn read(alloc: Global, expanded: &Expanded) -> Result<Line, ArgsFault>
     ensures { Gives fault.Memory (λ line. line) result (line_read expanded.now) }
 {

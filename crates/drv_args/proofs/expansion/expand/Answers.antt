@@ -1,7 +1,7 @@
 use Rattle.drv_args.proofs.Expanding.{none_expanded}
 use Rattle.drv_args.proofs.expansion.expand.Goals as goal
 use Rattle.drv_args.specs.Expansion.{file_named}
-use Rattle.std.proofs.Common.{◌≡◌, ◌∙◌, ap, false, is_some, sym}
+use Rattle.std.proofs.Common.{◌∙◌, ap, is_some, sym}
 use Rattle.std.specs.List.{list_any}
 
 pub returns-clause-expands : goal.returns-clause-expands

@@ -1,0 +1,79 @@
+use Rattle.drv_args.specs.Fronts.{Item, items_of}
+use Rattle.drv_args.specs.Jobs.{in_range, jobs_named, number_of}
+use Rattle.drv_args.specs.Lines.{jobs_behind, judged, judged_line, last_jobs, line_fault, line_of, line_of_items, line_read}
+use Rattle.drv_args.specs.declared.fault.ArgsFault.TheVariants.{TooManyArguments}
+use Rattle.drv_args.specs.declared.fault.ArgsFault.{ArgsFault}
+use Rattle.drv_args.specs.declared.line.Expanded.{Expanded}
+use Rattle.drv_args.specs.declared.line.Line.{Line}
+use Rattle.drv_args.specs.declared.option_table.Effect.TheVariants as effect
+use Rattle.drv_args.specs.declared.option_table.Effect.{Effect}
+use Rattle.drv_words.specs.Bytes.{equals}
+use Rattle.std.proofs.Common.{◌≡◌, ◌≤◌, ◌==◌, ◌&&◌, Bool, List, [], ◌∷◌, Err, None, Ok, Option, Result, Some, arith, false, length, refl, subst, true, ℕ}
+use Rattle.std.proofs.lemmas.Bool.{leb-true}
+use Rattle.std.specs.Option.{unwrap_or}
+use Rattle.std.specs.Prelude.{IfSome, if◌then◌else◌, nat_le, nat_lt}
+
+-- A line that was read has a number of jobs from 1 to 64.
+
+abbrev Few : ℕ → Type 0
+Few n = (1 ≤ n) × (n ≤ 64)
+
+and_parts : (a b : Bool) → (a && b) ≡ true → (a ≡ true) × (b ≡ true)
+and_parts true b e = (refl, e)
+and_parts false b e = absurd cc
+
+tested : (n : ℕ) (t : Bool) → (nat_le 1 n && nat_le n 64) ≡ t → IfSome (if t then Some n else None) Few
+tested n false e = tt
+tested n true e = let both = and_parts (nat_le 1 n) (nat_le n 64) e in (leb-true 1 n both.0, leb-true n 64 both.1)
+
+ranged : (number : Option ℕ) → IfSome (in_range number) Few
+ranged None = tt
+ranged (Some n) = tested n (nat_le 1 n && nat_le n 64) refl
+
+named : (behind : List ℕ) → IfSome (jobs_named behind) Few
+named [] = tt
+named (b ∷ digits) = by (b == equals)
+  where
+    by : (t : Bool) → IfSome (if t then in_range (number_of digits) else None) Few
+    by true = ranged (number_of digits)
+    by false = tt
+
+given : (number : Option ℕ) (jobs : ℕ) → IfSome number Few → Few jobs → Few (unwrap_or number jobs)
+given None jobs few before = before
+given (Some n) jobs few before = few
+
+behind_few : (e : Effect) (argument : List ℕ) (jobs : ℕ) → Few jobs → Few (jobs_behind e argument jobs)
+behind_few (effect.TurnsOn setting) argument jobs few = few
+behind_few effect.Switch argument jobs few = few
+behind_few effect.SwitchWithArgument argument jobs few = few
+behind_few effect.JoinedSwitch argument jobs few = few
+behind_few effect.Specs argument jobs few = few
+behind_few effect.Prefix argument jobs few = few
+behind_few effect.Output argument jobs few = few
+behind_few effect.Language argument jobs few = few
+behind_few effect.Library argument jobs few = few
+behind_few (effect.Pieces tool) argument jobs few = few
+behind_few (effect.Piece tool) argument jobs few = few
+behind_few effect.Jobs argument jobs few = given (jobs_named argument) jobs (named argument) few
+behind_few effect.File argument jobs few = few
+
+last_few : (jobs : ℕ) (items : List Item) → Few jobs → Few (last_jobs jobs items)
+last_few jobs [] few = few
+last_few jobs (i ∷ items) few = last_few (jobs_behind i.effect i.argument jobs) items (behind_few i.effect i.argument jobs few)
+
+judged_few : (whole line : Line) (found : Option ArgsFault) → Few whole.settings.jobs → judged whole found ≡ Ok line → Few line.settings.jobs
+judged_few whole line (Some fault) few is = absurd cc
+judged_few whole line None few is = let same : whole ≡ line = cc in subst (λ (l : Line). Few l.settings.jobs) same few
+
+items_few : (from_file : Bool) (items : Result (List Item) ArgsFault) (line : Line) → judged_line (line_of_items from_file items) ≡ Ok line → Few line.settings.jobs
+items_few from_file (Err fault) line is = absurd cc
+items_few from_file (Ok items) line is =
+    let some : 1 ≤ 1 = omega arith in let most : 1 ≤ 64 = omega arith in
+    judged_few (line_of from_file items) line (line_fault (line_of from_file items)) (last_few 1 items (some, most)) is
+
+pub jobs_are_few : (expanded : Expanded) (line : Line) → line_read expanded ≡ Ok line → (1 ≤ line.settings.jobs) × (line.settings.jobs ≤ 64)
+jobs_are_few expanded line reads = by (nat_lt 65536 (length expanded.words)) reads
+  where
+    by : (many : Bool) → (if many then Err TooManyArguments else judged_line (line_of_items expanded.from_file (items_of expanded.words))) ≡ Ok line → Few line.settings.jobs
+    by true is = absurd cc
+    by false is = items_few expanded.from_file (items_of expanded.words) line is

@@ -1,0 +1,69 @@
+//! How many sources are worked at once, as a word says it.
+
+ghost use Rattle.drv_args.specs.Jobs.{digit_of, in_range, jobs_named, joined, number_of, tens_of};
+ghost use Rattle.std.specs.Prelude.{◌≡◌, ◌<◌, IfSome};
+
+/// How many sources may be worked at once.
+const MOST_JOBS: usize = 64;
+
+/// The value of a decimal digit.
+fn digit(byte: u8) -> Option<usize>
+    ensures is { result ≡ digit_of byte }
+    ensures small { IfSome result (λ d. d < 10) }
+{
+    match byte {
+        b'0'..=b'9' => Some((byte - b'0') as usize),
+        _ => None,
+    }
+}
+
+/// The value of a digit that a number of two digits begins with.
+fn tens(byte: u8) -> Option<usize>
+    ensures is { result ≡ tens_of byte }
+    ensures small { IfSome result (λ d. d < 10) }
+{
+    match byte {
+        b'1'..=b'9' => Some((byte - b'0') as usize),
+        _ => None,
+    }
+}
+
+/// The number of two digits.
+fn pair(high: u8, low: u8) -> Option<usize>
+    ensures { result ≡ joined (tens_of high) (digit_of low) }
+{
+    Some(tens(high)? * 10 + digit(low)?)
+}
+
+/// The number of one or two digits, without a leading zero.
+fn number(digits: &[u8]) -> Option<usize>
+    ensures { result ≡ number_of digits.now }
+{
+    match digits {
+        [one] => digit(*one),
+        [high, low] => pair(*high, *low),
+        _ => None,
+    }
+}
+
+/// A number that is from 1 to the most.
+fn in_range(number: Option<usize>) -> Option<usize>
+    ensures { result ≡ in_range number }
+{
+    let jobs = number?;
+    if 1 <= jobs && jobs <= MOST_JOBS {
+        return Some(jobs);
+    }
+    None
+}
+
+/// The number of jobs that stands behind `--jobs`: an equals sign, and a number from 1 to 64 in decimal digits without a
+/// leading zero.
+pub(crate) fn jobs_named(behind: &[u8]) -> Option<usize>
+    ensures { result ≡ jobs_named behind.now }
+{
+    match behind {
+        [b'=', digits @ ..] => in_range(number(digits)),
+        _ => None,
+    }
+}
