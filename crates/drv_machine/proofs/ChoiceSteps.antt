@@ -1,13 +1,14 @@
 use Rattle.drv_machine.proofs.ItemKinds.{item_no_test, tests_first}
+use Rattle.drv_machine.proofs.Laws.{run_then}
 use Rattle.drv_machine.proofs.Standing.{next_at, stand_grows}
 use Rattle.drv_machine.proofs.Steps.{then_err, then_ok}
-use Rattle.drv_machine.specs.Atoms.{choices_step, each_hit, first_true, items_step, matching, places, worked}
-use Rattle.drv_machine.specs.ByKind.{TrueTest, asks_switch, labelled}
+use Rattle.drv_machine.specs.Atoms.{choices_step, each_hit, first_true, found_step, items_step, judged, matching, places, truth, worked}
+use Rattle.drv_machine.specs.ByKind.{AskedTest, TrueTest, asks_switch, labelled}
 use Rattle.drv_machine.specs.Context.{Context, names}
 use Rattle.drv_machine.specs.Running.{Machine, run}
 use Rattle.drv_machine.specs.Standing.{Part, Stands, behind_tests, tests_in}
-use Rattle.drv_machine.specs.Walking.{each_from, hit_step}
-use Rattle.drv_machine.specs.Working.{◌>>=◌, ◌>>◌, Answer, Levels, Step, look, nothing}
+use Rattle.drv_machine.specs.Walking.{AskFits, Kept, arguments_of, each_from, hit_step}
+use Rattle.drv_machine.specs.Working.{◌>>-◌, ◌>>=◌, ◌>>◌, Answer, Levels, Step, look, nothing}
 use Rattle.drv_machine.specs.declared.fault.MachineFault.TheVariants.{Memory}
 use Rattle.drv_machine.specs.declared.fault.MachineFault.{MachineFault}
 use Rattle.drv_match.specs.Matching.{is_hit}
@@ -23,6 +24,7 @@ use Rattle.drv_syntax.specs.declared.token.TokenKind.TheVariants as kinds
 use Rattle.drv_system.specs.Facts.{Facts}
 use Rattle.drv_system.specs.Known.{Is}
 use Rattle.std.proofs.Common.{◌≡◌, ◌⊎◌, ◌&&◌, ◌<◌, ◌≤◌, ◌+◌, ◌-◌, ◌∙◌, ◌∷◌, Bool, Err, List, None, Ok, Option, Some, ap, arith, false, if◌then◌else◌, inl, inr, length, refl, slice_get, subst, suc, sym, true, ℕ}
+use Rattle.std.proofs.lemmas.Option.{slice_get_within}
 use Rattle.std.specs.List.{range_with_len}
 
 -- Alternatives, one after another.
@@ -143,6 +145,34 @@ module _ (F : Facts) (C : Context) (text : List ℕ) (s t : Machine) (at end : �
             let g = found f.tests (tests_there f) in
             subst P (sym (with_tests f ∙ then_ok F C t (first_true F C f.tests levels star) (by_found F C f.items f.others levels star) (Some g.asked) u g.gives))
             (working g.negated g.asked f.items (choices_step F C f.others levels star) (ap (λ (l : Label). l.holds_star) f.part.label_is) g.label_is (items_there f))
+
+        -- a test by a function comes first: its arguments are opened, with what follows them
+        pub one_asked : (u : Machine) (test : ℕ) (at_test : Token) (is : slice_get (tokens_of (tree_of text)) test ≡ Some at_test) (own : Bool) (owns : own ≡ (label_at (tree_of text) at).holds_star) (P : Answer (Unit {0} × Machine) → Type 0)
+            → ((tests : Tests) → Stands text (at + 1) (test_nodes tests) middle → AskedTest F C text middle t u test tests levels star)
+            → ((items arguments : Items) (kept : Kept) → AskFits text (record { test = test; from = at_test.next; start = middle; next = token.next; own = own; end = end }) items kept → Stands text (test + 1) (nodes_of arguments) at_test.next
+            → P (run F C u (arguments_of F C arguments kept.name levels star >>= judged F C kept.negated kept.asked kept.tests levels star >>= found_step F C items kept.choices levels star)))
+            → P (run F C s (choices_step F C choices levels star))
+        one_asked u test at_test is own owns P found working =
+            let f = front_choice text at left.rest end h left.stands in
+            let g = found f.tests (tests_there f) in
+            let next = next_at text test at_test kinds.Test (test_label g.negated (tree.HasResult g.name g.arguments)) g.next is g.part in
+            subst P
+            (sym (with_tests f
+            ∙ run_then F C t (first_true F C f.tests levels star) (by_found F C f.items f.others levels star)
+            ∙ ap (λ x. x >>- λ r. run F C r.1 (by_found F C f.items f.others levels star r.0)) g.gives
+            ∙ sym (run_then F C u (truth F C (tree.HasResult g.name g.arguments) levels star >>= judged F C g.negated (tree.HasResult g.name g.arguments) g.others levels star) (by_found F C f.items f.others levels star))))
+            (working f.items g.arguments (record { name = g.name; negated = g.negated; asked = tree.HasResult g.name g.arguments; tests = g.others; choices = f.others })
+            (record {
+              in_list = slice_get_within (tokens_of (tree_of text)) test at_test is;
+              name_is = ap (λ (l : Label). l.word) g.part.label_is;
+              label_is = g.part.label_is;
+              later = omega (arith, next, g.part.later);
+              own_is = owns ∙ ap (λ (l : Label). l.holds_star) f.part.label_is;
+              tests_stand = subst (λ (k : ℕ). Stands text k (test_nodes g.others) middle) (sym next) g.behind;
+              items_stand = items_there f;
+              choices_stand = subst (λ (k : ℕ). Stands text k (choice_nodes f.others) end) (sym (next_at text at token kinds.Alternative (alternative_label f.items) f.next there f.part)) f.behind;
+            })
+            (subst (λ (k : ℕ). Stands text (test + 1) (nodes_of g.arguments) k) (sym next) g.within))
 
 pub choices_end : (F : Facts) (C : Context) (text : List ℕ) (s t : Machine) (at end : ℕ) → end ≤ at → (choices : Choices) (levels : Levels) (star : List ℕ) → ChoicesLeft F C text s t at end choices levels star
     → run F C s (choices_step F C choices levels star) ≡ Is (Ok (tt, t))

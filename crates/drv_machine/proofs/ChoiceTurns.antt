@@ -1,12 +1,13 @@
-use Rattle.drv_machine.proofs.ChoiceSteps.{ChoicesLeft, as_default, choices_end, each_all, one_true, others_there, tests_fail, work_for_each, work_once}
+use Rattle.drv_machine.proofs.ChoiceSteps.{ChoicesLeft, as_default, choices_end, each_all, one_asked, one_true, others_there, tests_fail, work_for_each, work_once}
+use Rattle.drv_machine.proofs.Lying.{no_skip}
 use Rattle.drv_machine.proofs.Onward.{behind_as, entered, leaf, same_step}
-use Rattle.drv_machine.specs.Atoms.{choices_step, first_true, items_step, matching, worked}
-use Rattle.drv_machine.specs.ByKind.{TrueTest, asks_switch, labelled}
+use Rattle.drv_machine.specs.Atoms.{choices_step, first_true, found_step, items_step, judged, matching, worked}
+use Rattle.drv_machine.specs.ByKind.{AskedTest, TrueTest, asks_switch, labelled}
 use Rattle.drv_machine.specs.Context.{Context}
 use Rattle.drv_machine.specs.Running.{Machine, run}
 use Rattle.drv_machine.specs.Standing.{Stands, behind_tests, tests_in}
-use Rattle.drv_machine.specs.Walking.{Behind, Left, Skips, each_from, levels_in, onward, star_of}
-use Rattle.drv_machine.specs.Working.{◌>>-◌, Answer, Levels, Step}
+use Rattle.drv_machine.specs.Walking.{AskFits, Behind, Kept, Left, Skips, arguments_of, each_from, levels_in, onward, star_of}
+use Rattle.drv_machine.specs.Working.{◌>>-◌, ◌>>=◌, Answer, Levels, Step}
 use Rattle.drv_machine.specs.declared.fault.MachineFault.TheVariants.{Memory}
 use Rattle.drv_machine.specs.declared.fault.MachineFault.{MachineFault}
 use Rattle.drv_machine.specs.declared.walk.Walk.{Walk}
@@ -66,6 +67,21 @@ module _ (F : Facts) (C : Context) (text : List ℕ) (w : Walk) (s t : Machine) 
           chosen negated asked items others owns label stands
           (behind_as F C text w s given end (λ levels star. choices_step F C choices levels star) b token.next skips
           (λ levels star. worked F C (Some asked) (has_star items) (λ rest inside. items_step F C items inside rest) levels star others) u same))
+          b.same
+
+      pub asked_chosen : (u : Machine) (test : ℕ) (at_test : Token) → slice_get (tokens_of (tree_of text)) test ≡ Some at_test → (own : Bool) → own ≡ (label_at (tree_of text) at).holds_star → (P : Type 0)
+          → ((tests : Tests) (levels : Levels) (star : List ℕ) → Stands text (at + 1) (test_nodes tests) middle → AskedTest F C text middle t u test tests levels star)
+          → ((items arguments : Items) (kept : Kept) → AskFits text (record { test = test; from = at_test.next; start = middle; next = token.next; own = own; end = end }) items kept
+          → Stands text (test + 1) (nodes_of arguments) at_test.next
+          → Behind F C text w end (λ levels star. arguments_of F C arguments kept.name levels star >>= judged F C kept.negated kept.asked kept.tests levels star >>= found_step F C items kept.choices levels star) u given → P) → P
+      asked_chosen u test at_test is own owns P found chosen =
+          one_asked F C text s t at end h choices (levels_in F C b.arounds) (star_of C w.star) (left (levels_in F C b.arounds) (star_of C w.star)) token there middle first behind_first some u test at_test is own owns
+          (λ a. (◌>>-◌ {Y = Unit {0} × Machine} a (λ r. onward F C w.star b.rest b.arounds r.1) ≡ given) → P)
+          (λ tests stands. found tests (levels_in F C b.arounds) (star_of C w.star) stands)
+          (λ items arguments kept fits stands same.
+          chosen items arguments kept fits stands
+          (behind_as F C text w s given end (λ levels star. choices_step F C choices levels star) b end (no_skip text end)
+          (λ levels star. arguments_of F C arguments kept.name levels star >>= judged F C kept.negated kept.asked kept.tests levels star >>= found_step F C items kept.choices levels star) u same))
           b.same
 
 -- an X whose test is true: once, or for each hit

@@ -2,7 +2,7 @@ use Rattle.drv_machine.proofs.Laws.{run_then}
 use Rattle.drv_args.specs.declared.line.Switch.{Switch}
 use Rattle.drv_machine.specs.Atoms.{start}
 use Rattle.drv_machine.specs.Context.{Context, names}
-use Rattle.drv_machine.specs.Cutting.{Cut, all_taken, in_word, nothing_cut, pipe_done, taken, touched}
+use Rattle.drv_machine.specs.Cutting.{Cut, all_taken, in_word, nothing_cut, pipe_ended, taken, touched}
 use Rattle.drv_machine.specs.Running.{Machine, begun, run}
 use Rattle.drv_machine.specs.Working.{◌>>-◌, Answer, Atom, Break, Open, Piped, Put, bytes, puts, word_of}
 use Rattle.drv_machine.specs.declared.fault.MachineFault.{MachineFault}
@@ -87,7 +87,7 @@ module _ (F : Facts) (C : Context) where
 
   -- a word ends, and then its command with a pipe
   abbrev with_pipe : Unit {0} × Machine → Answer (Unit {0} × Machine)
-  with_pipe r = Is (Ok (tt, record r.1 { cut = pipe_done r.1.cut }))
+  with_pipe r = Is (Ok (tt, record r.1 { cut = pipe_ended r.1.cut }))
 
   piped_then : (s : Machine) → run F C s (puts (Piped ∷ [])) ≡ (run F C s (puts (Break ∷ [])) >>- with_pipe)
   piped_then s = by (taken F C s.cut Break)
@@ -95,12 +95,12 @@ module _ (F : Facts) (C : Context) where
       ended : Cut → Answer (Unit {0} × Machine)
       ended d = Is (Ok (tt, record { cut = d; world = s.world }))
 
-      by : (a : Answer Cut) → (((a >>- λ d. Is (Ok (pipe_done d))) >>- λ d. Is (Ok d)) >>- λ d. ended d) ≡ (((a >>- λ d. Is (Ok d)) >>- λ d. ended d) >>- with_pipe)
+      by : (a : Answer Cut) → (((a >>- λ d. Is (Ok (pipe_ended d))) >>- λ d. Is (Ok d)) >>- λ d. ended d) ≡ (((a >>- λ d. Is (Ok d)) >>- λ d. ended d) >>- with_pipe)
       by (Is (Ok c)) = refl
       by (Is (Err fault)) = refl
       by Unasked = refl
 
-  pub pipe_put : (s t u : Machine) → run F C s (puts (Break ∷ [])) ≡ Is (Ok (tt, t)) → u ≡ record t { cut = pipe_done t.cut } → run F C s (puts (Piped ∷ [])) ≡ Is (Ok (tt, u))
+  pub pipe_put : (s t u : Machine) → run F C s (puts (Break ∷ [])) ≡ Is (Ok (tt, t)) → u ≡ record t { cut = pipe_ended t.cut } → run F C s (puts (Piped ∷ [])) ≡ Is (Ok (tt, u))
   pipe_put s t u went is = piped_then s ∙ ap (λ a. a >>- with_pipe) went ∙ ap ended (sym is)
     where
       ended : Machine → Answer (Unit {0} × Machine)
@@ -113,7 +113,7 @@ module _ (F : Facts) (C : Context) where
 
   -- what is begun with
   pub begun_with : (hidden : List Bool) (ns options outputs : List (List ℕ)) (number : ℕ) → ns ≡ names C → hidden ≡ replicate (length ns) false → options ≡ C.options → number ≡ C.number → outputs ≡ C.outputs
-      → record { cut = nothing_cut; world = record { hidden = hidden; options = options; drawn = []; number = number; outputs = outputs; notices = []; items = 0 } } ≡ begun F C
+      → record { cut = nothing_cut; world = record { hidden = hidden; options = options; drawn = []; number = number; outputs = outputs; notices = []; is_in_file = false; items = 0 } } ≡ begun F C
   begun_with hidden ns options outputs number same is eo en eu =
       rw (eo, en, eu) (ap (λ h. record { cut = nothing_cut; world = record (start F C) { hidden = h } }) (is ∙ ap (λ ms. replicate (length ms) false) same ∙ none_hidden C.switches))
     where

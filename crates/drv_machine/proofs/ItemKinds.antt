@@ -1,4 +1,4 @@
-use Rattle.drv_machine.specs.Atoms.{brace_step, item_step, matching}
+use Rattle.drv_machine.specs.Atoms.{brace_step, item_step, matching, named, tree_named}
 use Rattle.drv_machine.specs.ByKind.{kind_step, labelled}
 use Rattle.drv_machine.specs.Context.{Context}
 use Rattle.drv_machine.specs.Standing.{is_test, tests_in}
@@ -6,7 +6,7 @@ use Rattle.drv_machine.specs.Working.{Levels, Step, nothing}
 use Rattle.drv_syntax.specs.Labels.{both, label_of, node, nodes_of, asked_nodes, pattern_label, test_label, test_nodes}
 use Rattle.drv_syntax.specs.Tokens.{kind_of}
 use Rattle.drv_syntax.specs.Tree as tree
-use Rattle.drv_syntax.specs.Tree.{Asked, Brace, Choices, Item, Items, Pattern, Span, Tests}
+use Rattle.drv_syntax.specs.Tree.{Brace, Item, Items, Pattern, Tests}
 use Rattle.drv_syntax.specs.declared.token.TokenKind.TheVariants as kinds
 use Rattle.drv_syntax.specs.declared.token.TokenKind.{TokenKind}
 use Rattle.drv_system.specs.Facts.{Facts}
@@ -17,8 +17,13 @@ use Rattle.std.proofs.Common.{◌≡◌, Bool, List, ap, false, refl, true, ℕ}
 pub labelled_is : (p : Pattern) → labelled (pattern_label p) ≡ matching p
 labelled_is (tree.pattern word star) = refl
 
--- what the braces of an item mean
+-- what the braces of an item mean, or the text of a name
 abbrev pub inner_step : Facts → Context → Item → Levels → List ℕ → Step (Unit {0})
+inner_step F C (tree.NamedText name) levels star = named F C (tree_named F C name) levels
+inner_step F C (tree.BuiltinText name) levels star = named F C (tree_named F C name) levels
+inner_step F C (tree.FailureFile brace) levels star = item_step F C (tree.FailureFile brace) levels star
+inner_step F C (tree.ArgumentsFile brace) levels star = item_step F C (tree.ArgumentsFile brace) levels star
+inner_step F C (tree.Function name items) levels star = item_step F C (tree.Function name items) levels star
 inner_step F C (tree.Braces brace) levels star = brace_step F C brace levels star
 inner_step F C _ levels star = nothing
 
@@ -56,6 +61,40 @@ item_by_kind F C (tree.Braces (tree.Choose choices)) levels star = refl
 item_by_kind F C tree.Star levels star = refl
 item_by_kind F C (tree.FailureFile brace) levels star = refl
 item_by_kind F C (tree.ArgumentsFile brace) levels star = refl
+
+-- a named text, by its label
+pub text_item : (F : Facts) (C : Context) (item : Item) (levels : Levels) (star : List ℕ) → kind_of item ≡ kinds.NamedText → item_step F C item levels star ≡ named F C (tree_named F C (label_of item).word) levels
+text_item F C (tree.NamedText name) levels star e = refl
+text_item F C (tree.Braces (tree.Emit patterns)) levels star e = absurd cc
+text_item F C (tree.Braces (tree.Choose choices)) levels star e = absurd cc
+text_item F C _ levels star e = absurd cc
+
+pub builtin_item : (F : Facts) (C : Context) (item : Item) (levels : Levels) (star : List ℕ) → kind_of item ≡ kinds.BuiltinText → item_step F C item levels star ≡ named F C (tree_named F C (label_of item).word) levels
+builtin_item F C (tree.BuiltinText name) levels star e = refl
+builtin_item F C (tree.Braces (tree.Emit patterns)) levels star e = absurd cc
+builtin_item F C (tree.Braces (tree.Choose choices)) levels star e = absurd cc
+builtin_item F C _ levels star e = absurd cc
+
+-- a %W
+pub failure_item : (item : Item) → kind_of item ≡ kinds.FailureFile → (brace : Brace) × (item ≡ tree.FailureFile brace)
+failure_item (tree.FailureFile brace) e = (brace, refl)
+failure_item (tree.Braces (tree.Emit patterns)) e = absurd cc
+failure_item (tree.Braces (tree.Choose choices)) e = absurd cc
+failure_item _ e = absurd cc
+
+-- a %@
+pub filed_item : (item : Item) → kind_of item ≡ kinds.ArgumentsFile → (brace : Brace) × (item ≡ tree.ArgumentsFile brace)
+filed_item (tree.ArgumentsFile brace) e = (brace, refl)
+filed_item (tree.Braces (tree.Emit patterns)) e = absurd cc
+filed_item (tree.Braces (tree.Choose choices)) e = absurd cc
+filed_item _ e = absurd cc
+
+-- a function
+pub function_item : (item : Item) → kind_of item ≡ kinds.Function → (name : List ℕ) × (items : Items) × (item ≡ tree.Function name items)
+function_item (tree.Function name items) e = (name, items, refl)
+function_item (tree.Braces (tree.Emit patterns)) e = absurd cc
+function_item (tree.Braces (tree.Choose choices)) e = absurd cc
+function_item _ e = absurd cc
 
 -- a part that is no item
 abbrev is_part : TokenKind → Bool

@@ -23,7 +23,7 @@ then_same (Is (Err fault)) f g e = refl
 then_same Unasked f g e = refl
 
 module _ (F : Facts) (C : Context) where
-  all_taken-append : (c : Cut) (xs ys : List Atom) → all_taken F C c (xs ++ ys) ≡ (all_taken F C c xs >>- λ d. all_taken F C d ys)
+  pub all_taken-append : (c : Cut) (xs ys : List Atom) → all_taken F C c (xs ++ ys) ≡ (all_taken F C c xs >>- λ d. all_taken F C d ys)
   all_taken-append c [] ys = refl
   all_taken-append c (x ∷ xs) ys =
       then_same (taken F C c x) (λ d. all_taken F C d (xs ++ ys)) (λ d. all_taken F C d xs >>- λ e. all_taken F C e ys) (λ d. all_taken-append d xs ys)
@@ -33,7 +33,7 @@ module _ (F : Facts) (C : Context) where
       → (all_taken F C c (xs ++ ys) >>- last) ≡ (all_taken F C c xs >>- λ d. all_taken F C d ys >>- last)
   further c xs ys last = ap (λ a. a >>- last) (all_taken-append c xs ys) ∙ then_then (all_taken F C c xs) (λ d. all_taken F C d ys) last
 
-  done-behind : {Y : Type 0} (c : Cut) (xs : List Atom) (work : Work Y) → done F C c (behind xs work) ≡ (all_taken F C c xs >>- λ d. done F C d work)
+  pub done-behind : {Y : Type 0} (c : Cut) (xs : List Atom) (work : Work Y) → done F C c (behind xs work) ≡ (all_taken F C c xs >>- λ d. done F C d work)
   done-behind c xs (Goes ys y w) = further c xs ys (λ d. Is (Ok (y, record { cut = d; world = w })))
   done-behind c xs (Refuses ys fault) = further c xs ys (λ d. Is (Err fault))
   done-behind c xs (Waits ys) = further c xs ys (λ d. Unasked)

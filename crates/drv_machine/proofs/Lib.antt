@@ -1,3 +1,4 @@
+pub mod Arguments
 pub mod AskedCalls
 pub mod ChoiceSteps
 pub mod ChoiceTurns
@@ -6,14 +7,22 @@ pub mod Directives
 pub mod Draws
 pub mod EmitSteps
 pub mod Ends
+pub mod FailureFiles
+pub mod FileParts
+pub mod FileWords
+pub mod Files
 pub mod Finished
+pub mod Functions
 pub mod ItemKinds
+pub mod Judging
 pub mod Laws
 pub mod Lists
 pub mod Lying
 pub mod Marks
+pub mod NamedTexts
 pub mod NoHits
 pub mod Onward
+pub mod Opened
 pub mod Parts
 pub mod Rows
 pub mod Standing

@@ -5,7 +5,7 @@ use Rattle.drv_machine.specs.Context.{Context}
 use Rattle.drv_machine.specs.Cutting.{all_taken, argument_words, nothing_cut}
 use Rattle.drv_machine.specs.Working.{◌>>-◌, Answer, Atom, Break, End, From, Goes, Marked, Open, Piped, Put, Refuses, To, Waits, Without, Work, World}
 use Rattle.drv_machine.specs.declared.machine.marking.Mark.TheVariants.{AsOutput, AsRemoved}
-use Rattle.drv_machine.specs.declared.fault.MachineFault.TheVariants.{NotYet, SpecTooDeep, TooManySteps}
+use Rattle.drv_machine.specs.declared.fault.MachineFault.TheVariants.{SpecTooDeep, TooManySteps}
 use Rattle.drv_syntax.specs.Outcome.{parsed}
 use Rattle.drv_syntax.specs.Tree.{Items, none}
 use Rattle.drv_syntax.specs.declared.fault.SyntaxFault.{SyntaxFault}
@@ -151,7 +151,7 @@ module _ (F : Facts) where
   star_in_test : ends (items_step F one_switch asked_with_star [] [] (from_item 0)) ≡ ([], Is (Err SpecTooDeep))
   star_in_test = refl
 
-  star_in_test_open : ends (items_step F one_switch asked_with_star (levels_left F one_switch 1) [] (from_item 0)) ≡ ([], Is (Err NotYet))
+  star_in_test_open : ends (items_step F one_switch asked_with_star (levels_left F one_switch 1) [] (from_item 0)) ≡ ([], Is (Err SpecTooDeep))
   star_in_test_open = refl
 
   -- an X without a %* of its own opens nothing

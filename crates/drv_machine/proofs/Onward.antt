@@ -1,14 +1,14 @@
-use Rattle.drv_machine.proofs.ItemKinds.{inner_step, item_by_kind}
+use Rattle.drv_machine.proofs.ItemKinds.{builtin_item, inner_step, item_by_kind, text_item}
 use Rattle.drv_machine.proofs.Laws.{run_then, then_same, then_then}
 use Rattle.drv_machine.proofs.Lying.{Reached, joined, lies_alone, lies_behind, lies_joined, nothing_left}
 use Rattle.drv_machine.proofs.Standing.{next_at, some_same}
 use Rattle.drv_machine.proofs.WorkSteps.{item_means}
-use Rattle.drv_machine.specs.Atoms.{choices_step, item_step, items_step, levels_left, matching}
+use Rattle.drv_machine.specs.Atoms.{choices_step, item_step, items_step, levels_left, matching, named, tree_named}
 use Rattle.drv_machine.specs.ByKind.{Means, kind_step}
 use Rattle.drv_machine.specs.Context.{Context, argument, names}
 use Rattle.drv_machine.specs.Running.{Machine, run}
 use Rattle.drv_machine.specs.Standing.{Part, Stands}
-use Rattle.drv_machine.specs.Walking.{Around, Behind, Fits, Framed, HitFits, Left, Lies, Skips, Went, back_of, closing, each_from, ends, hit_step, hits_left, levels_in, onward, star_of, weight}
+use Rattle.drv_machine.specs.Walking.{After, Around, Behind, Fits, Framed, HitFits, Left, Lies, Skips, Went, back_of, closing, each_from, ends, hit_step, hits_left, levels_in, nothing_kept, onward, star_of, text_around, weight}
 use Rattle.drv_machine.specs.Working.{◌>>-◌, ◌>>◌, Answer, Break, Levels, Step, counted, most_open, puts, word_of}
 use Rattle.drv_machine.specs.declared.fault.MachineFault.TheVariants.{Memory, SpecTooDeep}
 use Rattle.drv_machine.specs.declared.fault.MachineFault.{MachineFault}
@@ -17,7 +17,7 @@ use Rattle.drv_machine.specs.declared.walk.Frame.{Frame}
 use Rattle.drv_machine.specs.declared.walk.Opened.TheVariants.{Hit}
 use Rattle.drv_machine.specs.declared.walk.Walk.{Walk}
 use Rattle.drv_match.specs.Matching.{name_at}
-use Rattle.drv_syntax.specs.Labels.{choice_nodes, inner_nodes, label_at, label_of, labels_of, nodes_of}
+use Rattle.drv_syntax.specs.Labels.{Label, choice_nodes, inner_nodes, label_at, label_of, labels_of, nodes_of}
 use Rattle.drv_syntax.specs.Parsed.{tree_of}
 use Rattle.drv_syntax.specs.Tokens.{kind_of, tokens_of}
 use Rattle.drv_syntax.specs.Tree as tree
@@ -28,7 +28,7 @@ use Rattle.drv_syntax.specs.declared.token.TokenKind.{TokenKind}
 use Rattle.drv_system.specs.Facts.{Facts}
 use Rattle.drv_system.specs.Gives.{GivesKnown}
 use Rattle.drv_system.specs.Known.{Is}
-use Rattle.std.proofs.Common.{◌≡◌, ◌⊎◌, ◌<◌, ◌≤◌, ◌+◌, ◌-◌, ◌++◌, ◌∙◌, Err, List, [], ◌∷◌, Ok, Result, Some, ap, arith, drop, inl, inr, length, length-append, refl, slice_get, subst, suc, sym, ℕ}
+use Rattle.std.proofs.Common.{◌≡◌, ◌⊎◌, ◌<◌, ◌≤◌, ◌+◌, ◌-◌, ◌++◌, ◌∙◌, Err, List, [], ◌∷◌, Ok, OnOk, Result, Some, ap, arith, drop, inl, inr, length, length-append, refl, slice_get, subst, suc, sym, ℕ}
 
 -- What is left of a walk, and what follows the open parts.
 
@@ -57,7 +57,7 @@ last_same (z ∷ zs) (v ∷ vs) x y e =
 pub framed_long : (text : List ℕ) (C : Context) (frames : List Frame) (arounds : List Around) → Framed text C frames arounds → length frames ≡ length arounds
 framed_long text C frames [] e = ap (λ fs. length fs) e
 framed_long text C frames (a ∷ others) (outer, e, fits, framed) =
-    let n : length outer ≡ length others = framed_long text C outer others framed in
+    let n : length outer ≡ length others = framed_long (text_around text a.frame.opened) C outer others framed in
     let m : length frames ≡ length (outer ++ a.frame ∷ []) = ap (λ fs. length fs) e in
     omega (arith, n, m, length-append outer (a.frame ∷ []))
 
@@ -68,7 +68,7 @@ pub record Popped (text : List ℕ) (C : Context) (arounds : List Around) (frame
   pub is : arounds ≡ around ∷ others
   pub frame_is : around.frame ≡ frame
   pub fits : Fits text C around
-  pub framed : Framed text C frames others
+  pub framed : Framed (text_around text frame.opened) C frames others
 
 pub popped : (text : List ℕ) (C : Context) (frames : List Frame) (arounds : List Around) (outer : List Frame) (frame : Frame) → Framed text C frames arounds → frames ≡ outer ++ frame ∷ [] → Popped text C arounds frame outer
 popped text C frames [] outer frame e s = absurd (no_last outer frame (sym e ∙ s))
@@ -79,7 +79,7 @@ popped text C frames (a ∷ others) outer frame (inner, e, fits, framed) s =
       is = refl;
       frame_is = r.1;
       fits = fits;
-      framed = subst (λ fs. Framed text C fs others) r.0 framed;
+      framed = subst (λ (f : Frame). Framed (text_around text f.opened) C outer others) r.1 (subst (λ fs. Framed (text_around text a.frame.opened) C fs others) r.0 framed);
     }
 
 pub none_open : (text : List ℕ) (C : Context) (frames : List Frame) (arounds : List Around) → Framed text C frames arounds → length frames ≡ 0 → arounds ≡ []
@@ -93,9 +93,37 @@ pub weight_one : (size : ℕ) (frames : List Frame) (frame : Frame) → weight s
 weight_one size [] frame = omega arith
 weight_one size (f ∷ frames) frame = let e : weight size (frames ++ frame ∷ []) ≡ weight size frames + hits_left size frame.opened = weight_one size frames frame in omega (arith, e)
 
+-- a part that was opened once is lighter by its end
+pub once_lighter : {X : Type 0} (result : Result X MachineFault) (a b : ℕ) → 0 < b → OnOk result (a < a + b)
+once_lighter (Ok x) a b h = omega arith
+once_lighter (Err fault) a b h = tt
+
+-- the same by another name of the text
+pub went_in : (F : Facts) (C : Context) (text other : List ℕ) (w : Walk) (s : Machine) (given : Answer (Unit {0} × Machine)) (result : Result (Unit {0}) MachineFault) → other ≡ text → Went F C text w s given result → Went F C other w s given result
+went_in F C text other w s given result e went = subst (λ (t : List ℕ). Went F C t w s given result) (sym e) went
+
+pub left_in : (F : Facts) (C : Context) (text other : List ℕ) (w : Walk) (s : Machine) (given : Answer (Unit {0} × Machine)) → other ≡ text → Left F C text w s given → Left F C other w s given
+left_in F C text other w s given e left = subst (λ (t : List ℕ). Left F C t w s given) (sym e) left
+
+-- and by a walk that has the same open parts around it
+pub behind_in : (F : Facts) (C : Context) (text : List ℕ) (w v : Walk) (at : ℕ) (step : Levels → List ℕ → Step (Unit {0})) (s : Machine) (given : Answer (Unit {0} × Machine)) → v.end ≡ w.end → v.star ≡ w.star → v.frames ≡ w.frames
+    → Behind F C text w at step s given → Behind F C text v at step s given
+behind_in F C text w v at step s given end_is star_is frames_is b = record {
+  rest = b.rest;
+  arounds = b.arounds;
+  lies = subst (λ (k : ℕ). Lies text at b.rest k) (sym end_is) b.lies;
+  framed = subst (λ fs. Framed text C fs b.arounds) (sym frames_is) b.framed;
+  same = ap (λ star. run F C s (step (levels_in F C b.arounds) (star_of C star)) >>- λ r. onward F C star b.rest b.arounds r.1) star_is ∙ b.same;
+}
+
+-- the end of a part that is a step
+pub as_behind : (F : Facts) (C : Context) (text : List ℕ) (w : Walk) (at : ℕ) (step : Levels → List ℕ → Step (Unit {0})) (s : Machine) (given : Answer (Unit {0} × Machine)) → After F C text w at (λ levels star t. run F C t (step levels star)) s given
+    → Behind F C text w at step s given
+as_behind F C text w at step s given a = record { rest = a.rest; arounds = a.arounds; lies = a.lies; framed = a.framed; same = a.same }
+
 module _ (F : Facts) (C : Context) where
   -- three steps
-  three : (s : Machine) (a b d : Step (Unit {0})) (k : Unit {0} × Machine → Answer (Unit {0} × Machine)) → (run F C s ((a >> b) >> d) >>- k) ≡ (run F C s a >>- λ r. run F C r.1 (b >> d) >>- k)
+  pub three : (s : Machine) (a b d : Step (Unit {0})) (k : Unit {0} × Machine → Answer (Unit {0} × Machine)) → (run F C s ((a >> b) >> d) >>- k) ≡ (run F C s a >>- λ r. run F C r.1 (b >> d) >>- k)
   three s a b d k =
       ap (λ x. x >>- k) (run_then F C s (a >> b) (λ u. d) ∙ ap (λ x. x >>- λ r. run F C r.1 d) (run_then F C s a (λ u. b)) ∙ then_then (run F C s a) (λ r. run F C r.1 b) (λ r. run F C r.1 d))
       ∙ then_then (run F C s a) (λ r. run F C r.1 b >>- λ q. run F C q.1 d) k
@@ -174,6 +202,19 @@ module _ (F : Facts) (C : Context) where
         same = ap (λ x. x >>- λ r. onward F C w.star b.rest b.arounds r.1) (sym e) ∙ b.same;
       }
 
+    -- the end of a part that was done, or refused
+    pub after_leaf : (at : ℕ) (f : Levels → List ℕ → Machine → Answer (Unit {0} × Machine)) (a : After F C text w at f s given) (result : Result (Unit {0}) MachineFault) (t : Machine)
+        → GivesKnown Memory (λ u. (tt, t)) result (f (levels_in F C a.arounds) (star_of C w.star) s) → Went F C text (record w { at = at }) t given result
+    after_leaf at f a (Ok u) t e = record {
+      rest = a.rest;
+      arounds = a.arounds;
+      lies = a.lies;
+      framed = a.framed;
+      same = sym (ap (λ x. x >>- λ r. onward F C w.star a.rest a.arounds r.1) e) ∙ a.same;
+    }
+    after_leaf at f a (Err fault) t (inl memory) = inl memory
+    after_leaf at f a (Err fault) t (inr e) = inr (sym a.same ∙ ap (λ x. x >>- λ r. onward F C w.star a.rest a.arounds r.1) e)
+
     -- items are reached
     pub entered : (items : Items) (start at : ℕ) → Stands text start (nodes_of items) at → Behind F C text w at (λ levels star. items_step F C items levels star) s given → Left F C text (record w { at = start }) s given
     entered items start at stands b = record {
@@ -207,7 +248,7 @@ module _ (F : Facts) (C : Context) where
       frame = record { opened = Hit each switch; end = w.end; star = w.star }
 
       abbrev around : Around
-      around = record { frame = record { opened = Hit each switch; end = w.end; star = w.star }; pattern = p; items = items; rest = b.rest }
+      around = record { frame = record { opened = Hit each switch; end = w.end; star = w.star }; pattern = p; items = items; kept = nothing_kept; rest = b.rest }
 
       one_level : (n : ℕ) → n < 64 → levels_left F C (most_open - n) ≡ ◌∷◌ (λ xs. items_step F C xs (levels_left F C (most_open - (n + 1))) []) (levels_left F C (most_open - (n + 1)))
       one_level n h = by (most_open - n) (most_open - (n + 1)) (omega (arith, h))
@@ -243,18 +284,18 @@ module _ (F : Facts) (C : Context) where
 
     -- what a part was opened for, behind its end
     pub closes : (left : Left F C text w s given) → w.end ≤ w.at → (frame : Frame) (outer : List Frame) (o : Popped text C left.arounds frame outer) (v : Walk) → v.end ≡ frame.end → v.star ≡ frame.star → v.frames ≡ outer
-        → Behind F C text v (back_of frame.opened) (λ levels star. closing F C levels frame.opened o.around.pattern o.around.items) s given
+        → After F C (text_around text frame.opened) v (back_of frame.opened) (λ levels star t. closing F C levels star frame.opened o.around.pattern o.around.items o.around.kept t) s given
     closes left h frame outer o v end_is star_is frames_is =
         let f = o.frame_is in record {
           rest = o.around.rest;
           arounds = o.others;
           lies =
-              subst (λ (k : ℕ). Lies text (back_of frame.opened) o.around.rest k) (sym end_is)
-              (subst (λ (x : Frame). Lies text (back_of x.opened) o.around.rest x.end) f o.fits.behind);
-          framed = subst (λ fs. Framed text C fs o.others) (sym frames_is) o.framed;
+              subst (λ (k : ℕ). Lies (text_around text frame.opened) (back_of frame.opened) o.around.rest k) (sym end_is)
+              (subst (λ (x : Frame). Lies (text_around text x.opened) (back_of x.opened) o.around.rest x.end) f o.fits.behind);
+          framed = subst (λ fs. Framed (text_around text frame.opened) C fs o.others) (sym frames_is) o.framed;
           same =
-              ap (λ star. run F C s (closing F C (levels_in F C o.others) frame.opened o.around.pattern o.around.items) >>- λ r. onward F C star o.around.rest o.others r.1) star_is
-              ∙ ap (λ (x : Frame). run F C s (closing F C (levels_in F C o.others) x.opened o.around.pattern o.around.items) >>- λ r. onward F C x.star o.around.rest o.others r.1) (sym f)
+              ap (λ star. closing F C (levels_in F C o.others) (star_of C star) frame.opened o.around.pattern o.around.items o.around.kept s >>- λ r. onward F C star o.around.rest o.others r.1) star_is
+              ∙ ap (λ (x : Frame). closing F C (levels_in F C o.others) (star_of C x.star) x.opened o.around.pattern o.around.items o.around.kept s >>- λ r. onward F C x.star o.around.rest o.others r.1) (sym f)
               ∙ ap (λ list. ends F C list s) (sym o.is)
               ∙ part_ended left h;
         }
@@ -262,7 +303,7 @@ module _ (F : Facts) (C : Context) where
 -- the item at a place, as the code works it
 module _ (F : Facts) (C : Context) (text : List ℕ) (at next : ℕ) (levels : Levels) (star : List ℕ) (item : Item) (part : Part (tokens_of (tree_of text)) (labels_of (tree_of text)) at (kind_of item) (label_of item) next)
     (within : Stands text (at + 1) (inner_nodes item) next) (token : Token) (there : slice_get (tokens_of (tree_of text)) at ≡ Some token) where
-  kind_there : token.kind ≡ kind_of item
+  pub kind_there : token.kind ≡ kind_of item
   kind_there = ap (λ (x : Token). x.kind) (some_same token part.token (sym there ∙ part.there)) ∙ part.kind_is
 
   pub means_there : Means F C text token.kind (at + 1) token.next levels star (inner_step F C item levels star)
@@ -275,6 +316,13 @@ module _ (F : Facts) (C : Context) (text : List ℕ) (at next : ℕ) (levels : L
       ap (λ k. kind_step F C k (label_at (tree_of text) at) star (inner_step F C item levels star)) kind_there
       ∙ ap (λ l. kind_step F C (kind_of item) l star (inner_step F C item levels star)) part.label_is
       ∙ sym (item_by_kind F C item levels star)
+
+  -- a named text
+  pub text_there : token.kind ≡ kinds.NamedText → item_step F C item levels star ≡ named F C (tree_named F C (label_at (tree_of text) at).word) levels
+  text_there e = text_item F C item levels star (sym kind_there ∙ e) ∙ ap (λ (l : Label). named F C (tree_named F C l.word) levels) (sym part.label_is)
+
+  pub builtin_there : token.kind ≡ kinds.BuiltinText → item_step F C item levels star ≡ named F C (tree_named F C (label_at (tree_of text) at).word) levels
+  builtin_there e = builtin_item F C item levels star (sym kind_there ∙ e) ∙ ap (λ (l : Label). named F C (tree_named F C l.word) levels) (sym part.label_is)
 
   -- a brace with alternatives
   pub choices_there : token.kind ≡ kinds.Choose → (choices : Choices) × Stands text (at + 1) (choice_nodes choices) token.next × (item_step F C item levels star ≡ choices_step F C choices levels star)

@@ -8,6 +8,7 @@ use Rattle.drv_system.specs.Facts.{Facts}
 use Rattle.drv_system.specs.Gives.{GivesKnown}
 use Rattle.drv_system.specs.Known.{Is}
 use Rattle.std.proofs.Common.{◌≡◌, ◌⊎◌, ◌∙◌, Bool, Err, Ok, Result, ap, false, inl, inr, not, refl, subst, true}
+use Rattle.std.specs.Prelude.{OnOk}
 
 -- One part of a text after another, where the first has been worked.
 
@@ -42,3 +43,8 @@ not_false false e = absurd cc
 
 pub gives_as : (new : Machine) (result : Result (Unit {0}) MachineFault) (given whole : Answer (Unit {0} × Machine)) → given ≡ whole → GivesKnown Memory (λ u. (tt, new)) result given → GivesKnown Memory (λ u. (tt, new)) result whole
 gives_as new result given whole e g = subst (λ x. GivesKnown Memory (λ u. (tt, new)) result x) e g
+
+-- what holds where a part of the walk went well
+pub ok_as : {A B : Type 0} (result : Result (Unit {0}) MachineFault) → (A → B) → OnOk result A → OnOk result B
+ok_as (Ok u) f a = f a
+ok_as (Err fault) f a = a

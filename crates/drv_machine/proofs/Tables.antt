@@ -2,14 +2,14 @@ use Rattle.drv_machine.proofs.WorkedTexts.{alone, in_language, linking, on, with
 use Rattle.drv_machine.proofs.WorkedTexts as texts
 use Rattle.drv_machine.specs.Context.{Context}
 use Rattle.drv_machine.specs.Working.{Answer}
-use Rattle.drv_machine.specs.declared.fault.MachineFault.TheVariants.{NoInput, NotYet, StrayPipe}
+use Rattle.drv_machine.specs.declared.fault.MachineFault.TheVariants.{NoInput, StrayPipe}
 use Rattle.drv_system.specs.Facts.{Facts}
 use Rattle.drv_system.specs.Known.{Is}
 use Rattle.std.proofs.Common.{◌≡◌, List, [], ◌∷◌, codes, refl, ℕ}
 use Rattle.std.specs.Prelude.{Err, Ok}
 
--- Worked texts, by computation: tables of what tests ask, what is put of switches, how commands are cut, what is not
--- there yet, and what texts cost. The expected words were worked out by hand from the manual and the profile.
+-- Worked texts, by computation: tables of what tests ask, what is put of switches, how commands are cut, and what texts
+-- cost. The expected words were worked out by hand from the manual and the profile.
 
 module _ (F : Facts) where
   abbrev words_of : Context → List ℕ → Answer (List (List (List ℕ)))
@@ -221,58 +221,6 @@ module _ (F : Facts) where
 
   commands_33 : words_of (linking []) (codes "c\n %i %g") ≡ Is (Err NoInput)
   commands_33 = refl
-
-  -- directives that have no meaning yet
-  not_yet_19 : words_of (on (alone (codes "ma") ∷ []) (codes "a.c")) (codes "%(cc1)") ≡ Is (Err NotYet)
-  not_yet_19 = refl
-
-  not_yet_20 : words_of (on (alone (codes "ma") ∷ []) (codes "a.c")) (codes "%a") ≡ Is (Err NotYet)
-  not_yet_20 = refl
-
-  not_yet_21 : words_of (on (alone (codes "ma") ∷ []) (codes "a.c")) (codes "%A") ≡ Is (Err NotYet)
-  not_yet_21 = refl
-
-  not_yet_22 : words_of (on (alone (codes "ma") ∷ []) (codes "a.c")) (codes "%l") ≡ Is (Err NotYet)
-  not_yet_22 = refl
-
-  not_yet_23 : words_of (on (alone (codes "ma") ∷ []) (codes "a.c")) (codes "%L") ≡ Is (Err NotYet)
-  not_yet_23 = refl
-
-  not_yet_24 : words_of (on (alone (codes "ma") ∷ []) (codes "a.c")) (codes "%G") ≡ Is (Err NotYet)
-  not_yet_24 = refl
-
-  not_yet_25 : words_of (on (alone (codes "ma") ∷ []) (codes "a.c")) (codes "%S") ≡ Is (Err NotYet)
-  not_yet_25 = refl
-
-  not_yet_26 : words_of (on (alone (codes "ma") ∷ []) (codes "a.c")) (codes "%E") ≡ Is (Err NotYet)
-  not_yet_26 = refl
-
-  not_yet_27 : words_of (on (alone (codes "ma") ∷ []) (codes "a.c")) (codes "%C") ≡ Is (Err NotYet)
-  not_yet_27 = refl
-
-  not_yet_28 : words_of (on (alone (codes "ma") ∷ []) (codes "a.c")) (codes "%1") ≡ Is (Err NotYet)
-  not_yet_28 = refl
-
-  not_yet_29 : words_of (on (alone (codes "ma") ∷ []) (codes "a.c")) (codes "%2") ≡ Is (Err NotYet)
-  not_yet_29 = refl
-
-  not_yet_30 : words_of (on (alone (codes "ma") ∷ []) (codes "a.c")) (codes "%:getenv(H)") ≡ Is (Err NotYet)
-  not_yet_30 = refl
-
-  not_yet_31 : words_of (on (alone (codes "ma") ∷ []) (codes "a.c")) (codes "%{%:getenv(H):x}") ≡ Is (Err NotYet)
-  not_yet_31 = refl
-
-  not_yet_32 : words_of (on (alone (codes "ma") ∷ []) (codes "a.c")) (codes "%{!%:getenv(H):x}") ≡ Is (Err NotYet)
-  not_yet_32 = refl
-
-  not_yet_33 : words_of (on (alone (codes "ma") ∷ []) (codes "a.c")) (codes "%W{a:x}") ≡ Is (Err NotYet)
-  not_yet_33 = refl
-
-  not_yet_34 : words_of (on (alone (codes "ma") ∷ []) (codes "a.c")) (codes "%@{a:x}") ≡ Is (Err NotYet)
-  not_yet_34 = refl
-
-  not_yet_35 : words_of (on (alone (codes "ma") ∷ []) (codes "a.c")) (codes "%{m*:%{%:getenv(H %*):y}}") ≡ Is (Err NotYet)
-  not_yet_35 = refl
 
   -- what texts cost
   cost_1 : cost_of (on [] (codes "a.c")) ([]) ≡ Is (Ok 0)

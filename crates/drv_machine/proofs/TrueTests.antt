@@ -1,32 +1,40 @@
 use Rattle.drv_machine.proofs.Standing.{next_at, stand_grows}
 use Rattle.drv_machine.proofs.Steps.{then_err, then_ok}
-use Rattle.drv_machine.specs.Atoms.{first_true, truth, turned}
-use Rattle.drv_machine.specs.ByKind.{TrueTest, asked_step}
+use Rattle.drv_machine.specs.Atoms.{first_true, judged, truth, turned}
+use Rattle.drv_machine.specs.ByKind.{AskedTest, TrueTest, asked_step, is_call}
 use Rattle.drv_machine.specs.Context.{Context}
 use Rattle.drv_machine.specs.Running.{Machine, run}
 use Rattle.drv_machine.specs.Standing.{Part, Stands}
-use Rattle.drv_machine.specs.Working.{Answer, Levels, Step, give}
+use Rattle.drv_machine.specs.Working.{Answer, Levels, give}
 use Rattle.drv_machine.specs.declared.fault.MachineFault.TheVariants.{Memory}
 use Rattle.drv_machine.specs.declared.fault.MachineFault.{MachineFault}
-use Rattle.drv_syntax.specs.Labels.{Label, label_at, labels_of, test_label, test_nodes}
+use Rattle.drv_syntax.specs.Labels.{Label, asked_nodes, label_at, labels_of, test_label, test_nodes}
 use Rattle.drv_syntax.specs.Parsed.{tree_of}
 use Rattle.drv_syntax.specs.Tokens.{tokens_of}
 use Rattle.drv_syntax.specs.Tree as tree
-use Rattle.drv_syntax.specs.Tree.{Asked, Span, Tests}
+use Rattle.drv_syntax.specs.Tree.{Asked, Items, Span, Tests}
 use Rattle.drv_syntax.specs.declared.token.Token.{Token}
 use Rattle.drv_syntax.specs.declared.token.TokenKind.TheVariants as kinds
 use Rattle.drv_system.specs.Facts.{Facts}
 use Rattle.drv_system.specs.Known.{Is}
-use Rattle.std.proofs.Common.{◌≡◌, ◌⊎◌, ◌<◌, ◌≤◌, ◌∙◌, Bool, Err, List, Ok, Option, Some, ap, arith, false, if◌then◌else◌, inl, inr, not, refl, slice_get, subst, sym, true, ℕ}
+use Rattle.std.proofs.Common.{◌≡◌, ◌⊎◌, ◌<◌, ◌≤◌, ◌+◌, ◌∙◌, Bool, Err, List, Ok, Some, ap, arith, false, if◌then◌else◌, inl, inr, not, refl, slice_get, subst, sym, true, ℕ}
 use mathlib.Core.Bool.{beq}
 
 -- Tests, the first of which is judged.
 
-pub asked_is : (F : Facts) (C : Context) (negated : Bool) (asked : Asked) (levels : Levels) (star : List ℕ) → truth F C asked levels star ≡ asked_step C (test_label negated asked)
-asked_is F C negated (tree.HasSwitch (tree.pattern word starred)) levels star = refl
-asked_is F C negated (tree.HasSuffix word) levels star = refl
-asked_is F C negated (tree.HasLanguage word) levels star = refl
-asked_is F C negated (tree.HasResult name items) levels star = refl
+-- a test that is by no function
+pub asked_is : (F : Facts) (C : Context) (negated : Bool) (asked : Asked) (levels : Levels) (star : List ℕ) → is_call (test_label negated asked) ≡ false → truth F C asked levels star ≡ asked_step C (test_label negated asked)
+asked_is F C negated (tree.HasSwitch (tree.pattern word starred)) levels star e = refl
+asked_is F C negated (tree.HasSuffix word) levels star e = refl
+asked_is F C negated (tree.HasLanguage word) levels star e = refl
+asked_is F C negated (tree.HasResult name items) levels star e = absurd cc
+
+-- and one that is
+result_asked : (negated : Bool) (asked : Asked) → is_call (test_label negated asked) ≡ true → (name : List ℕ) × (items : Items) × (asked ≡ tree.HasResult name items)
+result_asked negated (tree.HasSwitch (tree.pattern word starred)) e = absurd cc
+result_asked negated (tree.HasSuffix word) e = absurd cc
+result_asked negated (tree.HasLanguage word) e = absurd cc
+result_asked negated (tree.HasResult name items) e = (name, items, refl)
 
 -- the tests that are left at a place, and the state that was there and that is
 pub record TestsLeft (F : Facts) (C : Context) (text : List ℕ) (s t : Machine) (at end : ℕ) (tests : Tests) (levels : Levels) (star : List ℕ) : Type 0 where
@@ -42,6 +50,7 @@ pub record FrontTest (text : List ℕ) (at : ℕ) (tests : Tests) (end : ℕ) : 
   pub is : tests ≡ tree.test span negated asked others
   pub next : ℕ
   pub part : Part (tokens_of (tree_of text)) (labels_of (tree_of text)) at kinds.Test (test_label negated asked) next
+  pub within : Stands text (at + 1) (asked_nodes asked) next
   pub behind : Stands text next (test_nodes others) end
 
 pub front_test : (text : List ℕ) (at : ℕ) (tests : Tests) (end : ℕ) → at < end → Stands text at (test_nodes tests) end → FrontTest text at tests end
@@ -54,6 +63,7 @@ front_test text at (tree.test span negated asked others) end h (next, part, with
   is = refl;
   next = next;
   part = part;
+  within = within;
   behind = behind;
 }
 
@@ -61,15 +71,12 @@ pub no_tests_left : (text : List ℕ) (at : ℕ) (tests : Tests) (end : ℕ) →
 no_tests_left text at tree.no_test end h s = refl
 no_tests_left text at (tree.test span negated asked others) end h (next, part, within, behind) = absurd (omega (arith, h, part.later, stand_grows _ _ next (test_nodes others) end behind))
 
-module _ (F : Facts) (C : Context) (s u : Machine) (span : Span) (negated : Bool) (asked : Asked) (others : Tests) (levels : Levels) (star : List ℕ) where
-  abbrev judged : Bool → Step (Option Asked)
-  judged holds = if turned negated holds then give (Some asked) else first_true F C others levels star
-
-  test_answers : (holds : Bool) → run F C s (asked_step C (test_label negated asked)) ≡ Is (Ok (holds, u)) → run F C s (first_true F C (tree.test span negated asked others) levels star) ≡ run F C u (judged holds)
-  test_answers holds e = then_ok F C s (truth F C asked levels star) judged holds u (ap (run F C s) (asked_is F C negated asked levels star) ∙ e)
+module _ (F : Facts) (C : Context) (s u : Machine) (span : Span) (negated : Bool) (asked : Asked) (others : Tests) (levels : Levels) (star : List ℕ) (plain : is_call (test_label negated asked) ≡ false) where
+  test_answers : (holds : Bool) → run F C s (asked_step C (test_label negated asked)) ≡ Is (Ok (holds, u)) → run F C s (first_true F C (tree.test span negated asked others) levels star) ≡ run F C u (judged F C negated asked others levels star holds)
+  test_answers holds e = then_ok F C s (truth F C asked levels star) (judged F C negated asked others levels star) holds u (ap (run F C s) (asked_is F C negated asked levels star plain) ∙ e)
 
   pub test_refuses : (fault : MachineFault) → run F C s (asked_step C (test_label negated asked)) ≡ Is (Err fault) → run F C s (first_true F C (tree.test span negated asked others) levels star) ≡ Is (Err fault)
-  test_refuses fault e = then_err F C s (truth F C asked levels star) judged fault (ap (run F C s) (asked_is F C negated asked levels star) ∙ e)
+  test_refuses fault e = then_err F C s (truth F C asked levels star) (judged F C negated asked others levels star) fault (ap (run F C s) (asked_is F C negated asked levels star plain) ∙ e)
 
   pub test_is_true : (holds : Bool) → run F C s (asked_step C (test_label negated asked)) ≡ Is (Ok (holds, u)) → turned negated holds ≡ true
       → run F C s (first_true F C (tree.test span negated asked others) levels star) ≡ Is (Ok (Some asked, u))
@@ -91,6 +98,9 @@ negated_is negated (tree.HasSuffix word) = refl
 negated_is negated (tree.HasLanguage word) = refl
 negated_is negated (tree.HasResult name items) = refl
 
+pub negated_kept : (kept : Bool) (asked : Asked) (text : List ℕ) (at : ℕ) (holds negated b : Bool) → negated ≡ (label_at (tree_of text) at).negated → label_at (tree_of text) at ≡ test_label kept asked → not (beq holds negated) ≡ b → turned kept holds ≡ b
+negated_kept kept asked text at holds negated b n label e = ap (λ m. turned m holds) (sym (negated_is kept asked) ∙ ap (λ (l : Label). l.negated) (sym label) ∙ sym n) ∙ turned_is holds negated ∙ e
+
 module _ (F : Facts) (C : Context) (text : List ℕ) (s v : Machine) (at end : ℕ) (h : at < end) (tests : Tests) (levels : Levels) (star : List ℕ) (left : TestsLeft F C text s v at end tests levels star) where
   turned_at : (f : FrontTest text at left.rest end) (holds negated b : Bool) → negated ≡ (label_at (tree_of text) at).negated → not (beq holds negated) ≡ b → turned f.negated holds ≡ b
   turned_at f holds negated b n e =
@@ -102,27 +112,46 @@ module _ (F : Facts) (C : Context) (text : List ℕ) (s v : Machine) (at end : �
   from_rest : (f : FrontTest text at left.rest end) → run F C s (first_true F C tests levels star) ≡ run F C v (first_true F C (tree.test f.span f.negated f.asked f.others) levels star)
   from_rest f = sym left.same ∙ ap (λ ts. run F C v (first_true F C ts levels star)) f.is
 
-  pub found_true : (u : Machine) (holds negated : Bool) → negated ≡ (label_at (tree_of text) at).negated → run F C v (asked_step C (label_at (tree_of text) at)) ≡ Is (Ok (holds, u))
+  plain_at : (f : FrontTest text at left.rest end) (b : Bool) → is_call (label_at (tree_of text) at) ≡ b → is_call (test_label f.negated f.asked) ≡ b
+  plain_at f b e = ap is_call (sym f.part.label_is) ∙ e
+
+  -- a test by a function stands here
+  pub found_asks : is_call (label_at (tree_of text) at) ≡ true → AskedTest F C text end s v at tests levels star
+  found_asks e =
+      let f = front_test text at left.rest end h left.stands in
+      let r = result_asked f.negated f.asked (plain_at f true e) in record {
+        negated = f.negated;
+        name = r.0;
+        arguments = r.1;
+        others = f.others;
+        next = f.next;
+        part = subst (λ (a : Asked). Part (tokens_of (tree_of text)) (labels_of (tree_of text)) at kinds.Test (test_label f.negated a) f.next) r.2 f.part;
+        within = subst (λ (a : Asked). Stands text (at + 1) (asked_nodes a) f.next) r.2 f.within;
+        behind = f.behind;
+        gives = from_rest f ∙ ap (λ (a : Asked). run F C v (first_true F C (tree.test f.span f.negated a f.others) levels star)) r.2;
+      }
+
+  pub found_true : (plain : is_call (label_at (tree_of text) at) ≡ false) (u : Machine) (holds negated : Bool) → negated ≡ (label_at (tree_of text) at).negated → run F C v (asked_step C (label_at (tree_of text) at)) ≡ Is (Ok (holds, u))
       → not (beq holds negated) ≡ true → TrueTest F C text s u at (first_true F C tests levels star)
-  found_true u holds negated n e t =
+  found_true plain u holds negated n e t =
       let f = front_test text at left.rest end h left.stands in record {
         negated = f.negated;
         asked = f.asked;
         label_is = f.part.label_is;
-        gives = from_rest f ∙ test_is_true F C v u f.span f.negated f.asked f.others levels star holds (asks_at f (Is (Ok (holds, u))) e) (turned_at f holds negated true n t);
+        gives = from_rest f ∙ test_is_true F C v u f.span f.negated f.asked f.others levels star (plain_at f false plain) holds (asks_at f (Is (Ok (holds, u))) e) (turned_at f holds negated true n t);
       }
 
-  pub found_false : (u : Machine) (holds negated : Bool) → negated ≡ (label_at (tree_of text) at).negated → run F C v (asked_step C (label_at (tree_of text) at)) ≡ Is (Ok (holds, u))
+  pub found_false : (plain : is_call (label_at (tree_of text) at) ≡ false) (u : Machine) (holds negated : Bool) → negated ≡ (label_at (tree_of text) at).negated → run F C v (asked_step C (label_at (tree_of text) at)) ≡ Is (Ok (holds, u))
       → not (beq holds negated) ≡ false → (token : Token) → slice_get (tokens_of (tree_of text)) at ≡ Some token → TestsLeft F C text s u token.next end tests levels star
-  found_false u holds negated n e t token there =
+  found_false plain u holds negated n e t token there =
       let f = front_test text at left.rest end h left.stands in record {
         rest = f.others;
         stands = subst (λ (k : ℕ). Stands text k (test_nodes f.others) end) (sym (next_at text at token kinds.Test (test_label f.negated f.asked) f.next there f.part)) f.behind;
-        same = sym (from_rest f ∙ test_is_false F C v u f.span f.negated f.asked f.others levels star holds (asks_at f (Is (Ok (holds, u))) e) (turned_at f holds negated false n t));
+        same = sym (from_rest f ∙ test_is_false F C v u f.span f.negated f.asked f.others levels star (plain_at f false plain) holds (asks_at f (Is (Ok (holds, u))) e) (turned_at f holds negated false n t));
       }
 
-  pub found_refusal : (fault : MachineFault) → (fault ≡ Memory) ⊎ (run F C v (asked_step C (label_at (tree_of text) at)) ≡ Is (Err fault)) → (fault ≡ Memory) ⊎ (run F C s (first_true F C tests levels star) ≡ Is (Err fault))
-  found_refusal fault (inl memory) = inl memory
-  found_refusal fault (inr e) =
+  pub found_refusal : (plain : is_call (label_at (tree_of text) at) ≡ false) (fault : MachineFault) → (fault ≡ Memory) ⊎ (run F C v (asked_step C (label_at (tree_of text) at)) ≡ Is (Err fault)) → (fault ≡ Memory) ⊎ (run F C s (first_true F C tests levels star) ≡ Is (Err fault))
+  found_refusal plain fault (inl memory) = inl memory
+  found_refusal plain fault (inr e) =
       let f = front_test text at left.rest end h left.stands in
-      inr (from_rest f ∙ test_refuses F C v v f.span f.negated f.asked f.others levels star fault (asks_at f (Is (Err fault)) e))
+      inr (from_rest f ∙ test_refuses F C v v f.span f.negated f.asked f.others levels star (plain_at f false plain) fault (asks_at f (Is (Err fault)) e))

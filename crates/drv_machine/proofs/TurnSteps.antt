@@ -1,24 +1,26 @@
-use Rattle.drv_machine.proofs.ItemKinds.{inner_step}
+use Rattle.drv_machine.proofs.ItemKinds.{failure_item, filed_item, function_item, inner_step}
 use Rattle.drv_machine.proofs.Lying.{Reached, lies_alone, place_in, reached}
-use Rattle.drv_machine.proofs.Onward.{Popped, behind_item, choices_there, closes, count_stops, leaf, means_there, none_open, part_ended, popped, same_step, step_there}
+use Rattle.drv_machine.proofs.Onward.{Popped, behind_in, behind_item, builtin_there, choices_there, closes, count_stops, kind_there, leaf, means_there, none_open, part_ended, popped, same_step, step_there, text_there}
 use Rattle.drv_machine.proofs.Standing.{next_at, some_same}
-use Rattle.drv_machine.specs.Atoms.{choices_step, item_step, items_step, levels_left}
+use Rattle.drv_machine.specs.Atoms.{choices_step, item_step, items_step, levels_left, named, tree_named}
 use Rattle.drv_machine.specs.ByKind.{Means, kind_step}
 use Rattle.drv_machine.specs.Context.{Context}
 use Rattle.drv_machine.specs.Running.{Machine, run}
 use Rattle.drv_machine.specs.Standing.{Spans, Stands}
-use Rattle.drv_machine.specs.Walking.{AtItem, Behind, HasFrames, Lain, Left, Lies, OpenedFits, Went, back_of, closing, ends, levels_in, onward, star_of}
-use Rattle.drv_machine.specs.Working.{◌>>-◌, Answer, Levels, Step, counted, most_open}
+use Rattle.drv_machine.specs.Walking.{After, AtItem, Behind, HasFrames, Kept, Lain, Left, Lies, OpenedFits, Went, back_of, closing, ends, levels_in, onward, star_of, text_around}
+use Rattle.drv_machine.specs.Working.{◌>>-◌, Answer, Levels, Step, bytes, counted, most_open}
 use Rattle.drv_machine.specs.declared.fault.MachineFault.TheVariants.{Memory}
 use Rattle.drv_machine.specs.declared.fault.MachineFault.{MachineFault}
 use Rattle.drv_machine.specs.declared.walk.Frame.{Frame}
 use Rattle.drv_machine.specs.declared.walk.Walk.{Walk}
-use Rattle.drv_syntax.specs.Labels.{choice_nodes, inner_nodes, label_at, label_of, nodes_of}
+use Rattle.drv_syntax.specs.Labels.{Label, brace_nodes, choice_nodes, inner_nodes, label_at, label_of, nodes_of}
 use Rattle.drv_syntax.specs.Parsed.{tree_of}
 use Rattle.drv_syntax.specs.Tokens.{kind_of, tokens_of}
-use Rattle.drv_syntax.specs.Tree.{Choices, Items, Pattern}
+use Rattle.drv_syntax.specs.Tree as tree
+use Rattle.drv_syntax.specs.Tree.{Brace, Choices, Item, Items, Pattern}
 use Rattle.drv_syntax.specs.declared.token.Token.{Token}
 use Rattle.drv_syntax.specs.declared.token.TokenKind.TheVariants as kinds
+use Rattle.drv_syntax.specs.declared.token.TokenKind.{TokenKind}
 use Rattle.drv_system.specs.Facts.{Facts}
 use Rattle.drv_system.specs.Gives.{GivesKnown}
 use Rattle.drv_system.specs.Known.{Is, Unasked}
@@ -39,6 +41,10 @@ at_item text w token h there never = record {
   before_end = h;
   no_alternative = λ other e k. never (ap (λ (t : Token). t.kind) (some_same token other (sym there ∙ e)) ∙ k);
 }
+
+-- the same by another name of the text
+pub item_in : (text other : List ℕ) (w : Walk) → other ≡ text → AtItem text w → AtItem other w
+item_in text other w e item = subst (λ (t : List ℕ). AtItem t w) (sym e) item
 
 pub at_place : (text : List ℕ) (w : Walk) → Lain text w → AtItem text w → w.at < length (tokens_of (tree_of text))
 at_place text w lain item = place_in text w.at lain.rest w.end item.before_end lain.lies
@@ -75,6 +81,67 @@ module _ (text : List ℕ) (w : Walk) (item : AtItem text w) (token : Token) (th
           (worked (levels_in F C counted_item.arounds) (inner_step F C front.item (levels_in F C counted_item.arounds) (star_of C w.star))
           (means_there F C text w.at front.next (levels_in F C counted_item.arounds) (star_of C w.star) front.item front.part front.within token there)))
 
+      -- a plain byte
+      pub turn_plain : token.kind ≡ kinds.Plain → (word : List ℕ) → word ≡ (label_at (tree_of text) w.at).word → (result : Result (Unit {0}) MachineFault) (t : Machine)
+          → GivesKnown Memory (λ x. (tt, t)) result (run F C u (bytes word)) → Went F C text (record w { at = token.next }) t given result
+      turn_plain k word is result t put =
+          turn_item result t
+          (λ levels inner means. subst (λ (kind : TokenKind). GivesKnown Memory (λ x. (tt, t)) result (run F C u (kind_step F C kind (label_at (tree_of text) w.at) (star_of C w.star) inner))) (sym k)
+          (subst (λ (n : List ℕ). GivesKnown Memory (λ x. (tt, t)) result (run F C u (bytes n))) is put))
+
+      -- a named text, from the place behind it
+      text_behind : (name : List ℕ) → name ≡ (label_at (tree_of text) w.at).word
+          → item_step F C front.item (levels_in F C counted_item.arounds) (star_of C w.star) ≡ named F C (tree_named F C (label_at (tree_of text) w.at).word) (levels_in F C counted_item.arounds)
+          → Behind F C text (record w { at = token.next }) token.next (λ levels star. named F C (tree_named F C name) levels) u given
+      text_behind name is step =
+          subst (λ (n : List ℕ). Behind F C text (record w { at = token.next }) token.next (λ levels star. named F C (tree_named F C n) levels) u given) (sym is)
+          (behind_in F C text w (record w { at = token.next }) token.next (λ levels star. named F C (tree_named F C (label_at (tree_of text) w.at).word) levels) u given refl refl refl
+          (same_step F C text w u given token.next (λ levels star. item_step F C front.item levels star) counted_item (λ levels star. named F C (tree_named F C (label_at (tree_of text) w.at).word) levels) u (ap (run F C u) step)))
+
+      pub turn_text : token.kind ≡ kinds.NamedText → (name : List ℕ) → name ≡ (label_at (tree_of text) w.at).word
+          → Behind F C text (record w { at = token.next }) token.next (λ levels star. named F C (tree_named F C name) levels) u given
+      turn_text k name is =
+          text_behind name is (text_there F C text w.at front.next (levels_in F C counted_item.arounds) (star_of C w.star) front.item front.part front.within token there k)
+
+      pub turn_builtin : token.kind ≡ kinds.BuiltinText → (name : List ℕ) → name ≡ (label_at (tree_of text) w.at).word
+          → Behind F C text (record w { at = token.next }) token.next (λ levels star. named F C (tree_named F C name) levels) u given
+      turn_builtin k name is =
+          text_behind name is (builtin_there F C text w.at front.next (levels_in F C counted_item.arounds) (star_of C w.star) front.item front.part front.within token there k)
+
+      -- what stands inside the item
+      inside_there : Stands text (w.at + 1) (inner_nodes front.item) token.next
+      inside_there =
+          subst (λ (k : ℕ). Stands text (w.at + 1) (inner_nodes front.item) k) (sym (next_at text w.at token (kind_of front.item) (label_of front.item) front.next there front.part)) front.within
+
+      item_kind : token.kind ≡ kind_of front.item
+      item_kind = kind_there F C text w.at front.next (levels_in F C counted_item.arounds) (star_of C w.star) front.item front.part front.within token there
+
+      -- a %W
+      pub turn_failure : token.kind ≡ kinds.FailureFile → (P : Type 0)
+          → ((brace : Brace) → Stands text (w.at + 1) (brace_nodes brace) token.next → Behind F C text w token.next (λ levels star. item_step F C (tree.FailureFile brace) levels star) u given → P) → P
+      turn_failure k P opening =
+          let f = failure_item front.item (sym item_kind ∙ k) in
+          opening f.0 (subst (λ (x : Item). Stands text (w.at + 1) (inner_nodes x) token.next) f.1 inside_there)
+          (subst (λ (x : Item). Behind F C text w token.next (λ levels star. item_step F C x levels star) u given) f.1 counted_item)
+
+      -- a %@
+      pub turn_filed : token.kind ≡ kinds.ArgumentsFile → (P : Type 0)
+          → ((brace : Brace) → Stands text (w.at + 1) (brace_nodes brace) token.next → Behind F C text w token.next (λ levels star. item_step F C (tree.ArgumentsFile brace) levels star) u given → P) → P
+      turn_filed k P opening =
+          let f = filed_item front.item (sym item_kind ∙ k) in
+          opening f.0 (subst (λ (x : Item). Stands text (w.at + 1) (inner_nodes x) token.next) f.1 inside_there)
+          (subst (λ (x : Item). Behind F C text w token.next (λ levels star. item_step F C x levels star) u given) f.1 counted_item)
+
+      -- a function
+      pub turn_function : token.kind ≡ kinds.Function → (P : Type 0)
+          → ((name : List ℕ) (items : Items) → (label_at (tree_of text) w.at).word ≡ name → Stands text (w.at + 1) (nodes_of items) token.next
+          → Behind F C text w token.next (λ levels star. item_step F C (tree.Function name items) levels star) u given → P) → P
+      turn_function k P opening =
+          let f = function_item front.item (sym item_kind ∙ k) in
+          opening f.0 f.1 (ap (λ (l : Label). l.word) front.part.label_is ∙ ap (λ (x : Item). (label_of x).word) f.2)
+          (subst (λ (x : Item). Stands text (w.at + 1) (inner_nodes x) token.next) f.2 inside_there)
+          (subst (λ (x : Item). Behind F C text w token.next (λ levels star. item_step F C x levels star) u given) f.2 counted_item)
+
       -- a brace with alternatives
       pub turn_choose : token.kind ≡ kinds.Choose → (P : Type 0)
           → ((choices : Choices) → Stands text (w.at + 1) (choice_nodes choices) token.next → Behind F C text w token.next (λ levels star. choices_step F C choices levels star) u given → P) → P
@@ -89,16 +156,17 @@ module _ (text : List ℕ) (w : Walk) (h : w.end ≤ w.at) (frame : Frame) (oute
     inner : Popped text C left.arounds frame outer
     inner = popped text C w.frames left.arounds outer frame left.framed popped_is
 
-    abbrev opened_fits : OpenedFits text C frame.opened inner.around.pattern inner.around.items
-    opened_fits = subst (λ (x : Frame). OpenedFits text C x.opened inner.around.pattern inner.around.items) inner.frame_is inner.fits.opened
+    abbrev opened_fits : OpenedFits text C frame.opened inner.around.pattern inner.around.items inner.around.kept
+    opened_fits = subst (λ (x : Frame). OpenedFits text C x.opened inner.around.pattern inner.around.items inner.around.kept) inner.frame_is inner.fits.opened
 
-    pub can_close : (p : Pattern) × (items : Items) × OpenedFits text C frame.opened p items
-    can_close = (inner.around.pattern, inner.around.items, opened_fits)
+    pub can_close : (p : Pattern) × (items : Items) × (kept : Kept) × OpenedFits text C frame.opened p items kept
+    can_close = (inner.around.pattern, inner.around.items, inner.around.kept, opened_fits)
 
     pub closed : (v : Walk) → v.end ≡ frame.end → v.star ≡ frame.star → v.frames ≡ outer → (P : Type 0)
-        → ((p : Pattern) (items : Items) → OpenedFits text C frame.opened p items → Behind F C text v (back_of frame.opened) (λ levels star. closing F C levels frame.opened p items) s given → P) → P
+        → ((p : Pattern) (items : Items) (kept : Kept) → OpenedFits text C frame.opened p items kept
+        → After F C (text_around text frame.opened) v (back_of frame.opened) (λ levels star t. closing F C levels star frame.opened p items kept t) s given → P) → P
     closed v e f g P behind =
-        behind inner.around.pattern inner.around.items opened_fits (closes F C text w s given left h frame outer inner v e f g)
+        behind inner.around.pattern inner.around.items inner.around.kept opened_fits (closes F C text w s given left h frame outer inner v e f g)
 
 -- the walk is at its end
 pub walk_ended : (F : Facts) (C : Context) (text : List ℕ) (w : Walk) (s : Machine) (given : Answer (Unit {0} × Machine)) → w.end ≤ w.at → length w.frames ≡ 0 → Left F C text w s given → given ≡ Is (Ok (tt, s))

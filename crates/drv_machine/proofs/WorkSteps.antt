@@ -8,7 +8,7 @@ use Rattle.drv_syntax.specs.Labels.{inner_nodes, label_at}
 use Rattle.drv_syntax.specs.Parsed.{tree_of}
 use Rattle.drv_syntax.specs.Tokens.{kind_of}
 use Rattle.drv_syntax.specs.Tree as tree
-use Rattle.drv_syntax.specs.Tree.{Item, Items, Span}
+use Rattle.drv_syntax.specs.Tree.{Item}
 use Rattle.drv_syntax.specs.declared.token.TokenKind.{TokenKind}
 use Rattle.drv_system.specs.Facts.{Facts}
 use Rattle.std.proofs.Common.{◌≡◌, List, ap, refl, sym, ℕ}

@@ -11,7 +11,7 @@ use Rattle.drv_system.specs.Facts.{Facts}
 use Rattle.drv_system.specs.Known.{Is, Unasked}
 use Rattle.drv_words.specs.declared.plan.Command.{Command}
 use Rattle.std.proofs.Common.{List, [], ◌∷◌, ◌++◌, map, ℕ}
-use Rattle.std.specs.Prelude.{Err, None, Ok, Result, Some}
+use Rattle.std.specs.Prelude.{Err, None, Ok, Result, Some, false}
 
 -- What the worked texts are worked for, and what is looked at of what they give.
 
@@ -32,7 +32,9 @@ linking switches = record {
   switches = switches;
   assembler = [];
   preprocessor = [];
+  texts = [];
   prefixes = no_prefixes;
+  from_file = false;
   seed = 42;
   number = 1;
   options = [];

@@ -1,23 +1,29 @@
-use Rattle.drv_machine.specs.Context.{Context, Source, argument, is_piping, names}
-use Rattle.drv_machine.specs.Cutting.{all_taken, argument_words, nothing_cut}
+use Rattle.drv_funcs.specs.Functions.{function_of}
+use Rattle.drv_funcs.specs.Outcome as outcomes
+use Rattle.drv_funcs.specs.declared.function.Function.{Function as Func}
+use Rattle.drv_machine.specs.Context.{Context, Source, argument, is_piping, names, text_named}
+use Rattle.drv_machine.specs.Cutting.{all_taken, argument_words, file_words, nothing_cut}
 use Rattle.drv_machine.specs.Temps.{last_drawn, temp_name}
 use Rattle.drv_machine.specs.Names.{base, is_word, language_of, stem, suffix_of}
-use Rattle.drv_machine.specs.Working.{◌>>-◌, ◌>>=◌, ◌>>◌, Atom, Break, End, Goes, Levels, Marked, Piped, Put, Refuses, Step, Waits, Without, Work, World, bytes, change, counted, give, is_among, known, look, most_open, needs, nothing, opened, puts, refuse, word_of, words}
+use Rattle.drv_machine.specs.Working.{◌>>-◌, ◌>>=◌, ◌>>◌, Atom, Break, End, FileFrom, FileTo, From, Goes, Levels, Marked, Piped, Put, Refuses, Step, To, Waits, Without, Work, World, behind, bytes, called, change, counted, give, is_among, known, look, most_open, needs, nothing, opened, puts, refuse, word_of, words}
 use Rattle.drv_machine.specs.declared.fault.MachineFault.TheVariants as fault
-use Rattle.drv_machine.specs.declared.fault.MachineFault.TheVariants.{NoInput, NotInLink, NotYet}
+use Rattle.drv_machine.specs.declared.fault.MachineFault.TheVariants.{NoInput, NotInLink}
 use Rattle.drv_machine.specs.declared.machine.marking.Mark.TheVariants.{AsFile, AsOutput, AsRemoved, AsScript}
 use Rattle.drv_match.specs.Matching.{hidden_by, hits, is_hit, name_at}
 use Rattle.drv_match.specs.Pattern as switches
 use Rattle.drv_search.specs.Search.{folder_options}
 use Rattle.drv_syntax.specs.declared.token.TempKind.TheVariants.{Last, New, PipedIn, PipedOut, Shared}
 use Rattle.drv_syntax.specs.declared.token.TempKind.{TempKind}
+use Rattle.drv_syntax.specs.Parsed.{tree_of}
 use Rattle.drv_syntax.specs.Stars.{has_star}
 use Rattle.drv_syntax.specs.Tree.{AddOption, ArgumentsFile, Asked, AssemblerOptions, BaseName, BaseStem, Blank, Brace, Braces, BuiltinText, Choices, Choose, Directories, Emit, Escape, FailureFile, FoundFile, FoundScript, Function, HasLanguage, HasResult, HasSuffix, HasSwitch, Hide, InputName, Item, Items, LinkerOptions, NamedText, Newline, NoOutput, Notice, ObjectSuffix, Output, Outputs, Pattern, Percent, Pipe, Plain, PreprocessorOptions, Removed, Span, Star, TempName, Tests, UserError, choice, more, no_choice, no_test, none, pattern, test}
 use Rattle.drv_system.specs.Facts.{Facts}
 use Rattle.drv_system.specs.Known.{Is, Unasked}
-use Rattle.drv_words.specs.Bytes.{hyphen, percent}
+use Rattle.drv_words.specs.Bytes.{at_sign, hyphen, percent}
+use Rattle.drv_words.specs.Response.{response_text}
 use Rattle.std.specs.List.{filter, flat_map, list_any, range_with_len}
-use Rattle.std.specs.Prelude.{◌+◌, Err, Bool, List, [], ◌∷◌, ◌++◌, Option, None, Some, codes, drop, false, if◌then◌else◌, length, map, nat_lt, not, suc, true, zero, ℕ}
+use Rattle.std.specs.Option.{is_none, unwrap_or}
+use Rattle.std.specs.Prelude.{◌&&◌, ◌+◌, Err, Bool, List, [], ◌∷◌, ◌++◌, Option, None, Some, codes, drop, false, if◌then◌else◌, is_some, length, map, nat_lt, not, option_map, suc, true, zero, ℕ}
 
 -- What each item of a text means: one row for each directive (GCC manual, "Spec Files"; what it leaves open is this
 -- project's profile).
@@ -51,11 +57,14 @@ module _ (F : Facts) (C : Context) where
       by None = refuse NoInput
       by (Some source) = give source.name
 
-  -- a name that is drawn, by %g or not
-  abbrev pub draw : Bool → List ℕ → Step (List ℕ)
-  draw shared suffix =
+  -- a name that is drawn, by %g or not, for a file with these contents
+  abbrev pub draw_with : List ℕ → Bool → List ℕ → Step (List ℕ)
+  draw_with contents shared suffix =
       look (λ w. w.number) >>= λ number. needs (known (temp_name F C.seed number suffix)) >>= λ path.
-      change (λ w. record w { number = w.number + 1; drawn = w.drawn ++ record { shared = shared; suffix = suffix; path = path } ∷ [] }) >> give path
+      change (λ w. record w { number = w.number + 1; drawn = w.drawn ++ record { shared = shared; suffix = suffix; path = path; contents = contents } ∷ [] }) >> give path
+
+  abbrev pub draw : Bool → List ℕ → Step (List ℕ)
+  draw shared suffix = draw_with [] shared suffix
 
   -- the last name that was drawn so with this suffix, or else a new one
   abbrev pub drawn_or_new : Bool → List ℕ → Step (List ℕ)
@@ -104,13 +113,55 @@ module _ (F : Facts) (C : Context) where
   emitted patterns hidden = flat_map switch_atoms (filter (λ i. list_any (λ p. is_hit (names C) hidden (matching p.1) i) patterns) places)
 
   -- the words of arguments, whose atoms go nowhere else; what stops first in their order counts
+  abbrev pub words_of : World → Work (Unit {0}) → Work (List (List ℕ))
+  words_of w (Goes atoms u v) = needs (argument_words F C atoms) v
+  words_of w (Refuses atoms fault) = needs (all_taken F C nothing_cut atoms >>- λ c. Is (Err fault)) w
+  words_of w (Waits atoms) = needs (all_taken F C nothing_cut atoms >>- λ c. Unasked) w
+
   abbrev pub arguments : Step (Unit {0}) → Step (List (List ℕ))
-  arguments step w = by (step w)
-    where
-      by : Work (Unit {0}) → Work (List (List ℕ))
-      by (Goes atoms u v) = needs (argument_words F C atoms) v
-      by (Refuses atoms fault) = needs (all_taken F C nothing_cut atoms >>- λ c. Is (Err fault)) w
-      by (Waits atoms) = needs (all_taken F C nothing_cut atoms >>- λ c. Unasked) w
+  arguments step w = words_of w (step w)
+
+  -- what a function gives for these words, which were worked before it is called, and the outputs behind it; no text has a function of another name
+  abbrev pub called_step : List (List ℕ) → Option Func → World → Step (Option (List ℕ))
+  called_step args None w = give None
+  called_step args (Some function) w =
+      needs (called (outcomes.called F (names C) w.hidden (is_none C.input) function args w.outputs)) >>= λ c.
+      change (λ v. record v { outputs = c.outputs }) >> give c.given
+
+  abbrev pub call_step : List ℕ → List (List ℕ) → Step (Option (List ℕ))
+  call_step name args = look (λ w. w) >>= called_step args (function_of name)
+
+  -- the bytes of its value, if it has one
+  abbrev pub value_step : List ℕ → List (List ℕ) → Step (Unit {0})
+  value_step name args = call_step name args >>= λ given. bytes (unwrap_or given [])
+
+  -- whether it has one
+  abbrev pub has_value : List ℕ → List (List ℕ) → Step Bool
+  has_value name args = call_step name args >>= λ given. give (is_some given)
+
+  -- the tree of the text of a name, if the set has one
+  abbrev pub tree_named : List ℕ → Option Items
+  tree_named name = option_map tree_of (text_named C name)
+
+  -- the name of a file with these words stands for them; for none stands nothing
+  abbrev pub named_file : List (List ℕ) → Step (Unit {0})
+  named_file [] = nothing
+  named_file (word ∷ words) =
+      draw_with (response_text (word ∷ words)) false (codes ".args") >>= λ path. puts (map Put (at_sign ∷ path) ++ Break ∷ [])
+
+  -- what stands in a %@ that makes a file: its words are those of the file, and then the file is named
+  abbrev pub filed : Work (Unit {0}) → Work (Unit {0})
+  filed (Goes atoms u v) =
+      behind (Break ∷ FileFrom ∷ atoms ++ Break ∷ FileTo ∷ []) ((needs (file_words F C atoms) >>= named_file) (record v { is_in_file = false }))
+  filed (Refuses atoms fault) = Refuses (Break ∷ FileFrom ∷ atoms) fault
+  filed (Waits atoms) = Waits (Break ∷ FileFrom ∷ atoms)
+
+  abbrev pub file_step : Step (Unit {0}) → Step (Unit {0})
+  file_step step w = filed (step (record w { is_in_file = true }))
+
+  -- a %@ makes a file where words of the line come from one, unless it stands in another
+  abbrev pub starts_file : World → Bool
+  starts_file w = C.from_file && not w.is_in_file
 
   -- a named text is worked in one more open part; a missing one gives nothing
   abbrev pub named : Option Items → Levels → Step (Unit {0})
@@ -159,14 +210,17 @@ module _ (F : Facts) (C : Context) where
     item_step PreprocessorOptions levels star = puts (words C.preprocessor)
     item_step (UserError text) levels star = refuse (fault.UserError text)
     item_step (Notice text) levels star = change (λ w. record w { notices = w.notices ++ text ∷ [] })
-    item_step (NamedText name) levels star = refuse NotYet
-    item_step (BuiltinText name) levels star = refuse NotYet
+    item_step (NamedText name) levels star = named (tree_named name) levels
+    item_step (BuiltinText name) levels star = named (tree_named name) levels
     item_step (Hide p) levels star = change (λ w. record w { hidden = hidden_by (matching p) (names C) w.hidden })
-    item_step (Function name items) levels star = refuse NotYet
+    item_step (Function name items) levels star =
+        opened levels (λ deeper inside. arguments (items_step items inside star) >>= value_step name)
     item_step (Braces brace) levels star = brace_step brace levels star
     item_step Star levels star = bytes star
-    item_step (FailureFile brace) levels star = refuse NotYet
-    item_step (ArgumentsFile brace) levels star = refuse NotYet
+    item_step (FailureFile brace) levels star =
+        opened levels (λ deeper inside. puts (From ∷ []) >> brace_step brace inside star >> puts (Break ∷ To ∷ []))
+    item_step (ArgumentsFile brace) levels star =
+        opened levels (λ deeper inside. look starts_file >>= λ starts. if starts then file_step (brace_step brace inside star) else brace_step brace inside star)
 
     -- items one after another, each counted before it is worked
     pub items_step : Items → Levels → List ℕ → Step (Unit {0})
@@ -195,7 +249,16 @@ module _ (F : Facts) (C : Context) where
     truth (HasSwitch p) levels star = look (λ w. nat_lt 0 (length (hits (names C) w.hidden (matching p))))
     truth (HasSuffix word) levels star = give (is_word word (suffix_of C.input))
     truth (HasLanguage word) levels star = give (is_word word (language_of C.input))
-    truth (HasResult name items) levels star = refuse NotYet
+    truth (HasResult name items) levels star = opened levels (λ deeper inside. arguments (items_step items inside star) >>= has_value name)
+
+  -- a test that was answered: the next ones are judged, unless it is true
+  abbrev pub judged : Bool → Asked → Tests → Levels → List ℕ → Bool → Step (Option Asked)
+  judged negated asked tests levels star holds = if turned negated holds then give (Some asked) else first_true tests levels star
+
+  -- an X by what was found of its tests, and the alternatives behind it
+  abbrev pub found_step : Items → Choices → Levels → List ℕ → Option Asked → Step (Unit {0})
+  found_step items choices levels star found =
+      worked found (has_star items) (λ rest inside. items_step items inside rest) levels star (choices_step choices levels star)
 
   -- what items mean where so many parts may still be opened, the next one first
   abbrev pub levels_left : ℕ → Levels
@@ -204,7 +267,7 @@ module _ (F : Facts) (C : Context) where
 
   -- nothing is hidden, drawn or counted; options, numbers and outputs go on from the texts before
   abbrev pub start : World
-  start = record { hidden = map (λ s. false) C.switches; options = C.options; drawn = []; number = C.number; outputs = C.outputs; notices = []; items = 0 }
+  start = record { hidden = map (λ s. false) C.switches; options = C.options; drawn = []; number = C.number; outputs = C.outputs; notices = []; is_in_file = false; items = 0 }
 
   -- a whole text, whose end ends its last command
   abbrev pub whole_text : Items → Step (Unit {0})

@@ -1,18 +1,21 @@
-use Rattle.drv_machine.specs.Atoms.{added, choices_step, emitted, folders_step, input_name, options_step, outputs_step, switch_atoms, temp_step}
+use Rattle.drv_machine.specs.Atoms.{added, choices_step, emitted, first_true, folders_step, input_name, judged, options_step, outputs_step, switch_atoms, temp_step, truth}
 use Rattle.drv_machine.specs.Context.{Context, names}
 use Rattle.drv_machine.specs.Names.{base, is_word, language_of, stem, suffix_of}
 use Rattle.drv_machine.specs.Running.{Machine, run}
-use Rattle.drv_machine.specs.Standing.{Stands}
-use Rattle.drv_machine.specs.Working.{◌>>=◌, Atom, Break, End, Levels, Marked, Piped, Step, Without, bytes, change, give, look, puts, refuse, words}
+use Rattle.drv_machine.specs.Standing.{Part, Stands}
+use Rattle.drv_machine.specs.Working.{◌>>=◌, Atom, Break, End, Levels, Marked, Piped, Step, Without, bytes, change, give, look, nothing, puts, refuse, words}
+use Rattle.drv_machine.specs.declared.asking.Judged.TheVariants as found
+use Rattle.drv_machine.specs.declared.asking.Judged.{Judged}
 use Rattle.drv_machine.specs.declared.fault.MachineFault.TheVariants as fault
-use Rattle.drv_machine.specs.declared.fault.MachineFault.TheVariants.{Memory, NotYet}
+use Rattle.drv_machine.specs.declared.fault.MachineFault.TheVariants.{Memory}
 use Rattle.drv_machine.specs.declared.fault.MachineFault.{MachineFault}
 use Rattle.drv_machine.specs.declared.machine.marking.Mark.TheVariants.{AsFile, AsOutput, AsRemoved, AsScript}
 use Rattle.drv_match.specs.Matching.{hidden_by, hits, is_hit}
 use Rattle.drv_match.specs.Pattern as switches
-use Rattle.drv_syntax.specs.Labels.{Label, choice_nodes, label_at, pattern_nodes, test_label}
+use Rattle.drv_syntax.specs.Labels.{Label, choice_nodes, label_at, labels_of, nodes_of, pattern_nodes, test_label, test_nodes}
 use Rattle.drv_syntax.specs.Parsed.{tree_of}
-use Rattle.drv_syntax.specs.Tree.{Asked, Choices, Pattern, Span}
+use Rattle.drv_syntax.specs.Tokens.{tokens_of}
+use Rattle.drv_syntax.specs.Tree.{Asked, Choices, HasResult, Items, Pattern, Span, Tests}
 use Rattle.drv_syntax.specs.declared.token.TestKind.TheVariants as asks
 use Rattle.drv_syntax.specs.declared.token.TestKind.{TestKind}
 use Rattle.drv_syntax.specs.declared.token.TokenKind.TheVariants as kinds
@@ -21,7 +24,7 @@ use Rattle.drv_system.specs.Facts.{Facts}
 use Rattle.drv_system.specs.Known.{Is}
 use Rattle.drv_words.specs.Bytes.{percent}
 use Rattle.std.specs.List.{filter, flat_map, list_any, range_with_len}
-use Rattle.std.specs.Prelude.{◌≡◌, ◌⊎◌, ◌-◌, Bool, List, [], ◌∷◌, ◌++◌, Option, None, Some, Result, Err, Ok, codes, false, length, nat_lt, true, ⊤, ℕ}
+use Rattle.std.specs.Prelude.{◌≡◌, ◌⊎◌, ◌+◌, ◌-◌, ◌<◌, ◌≤◌, Bool, List, [], ◌∷◌, ◌++◌, Option, None, Some, Result, Err, Ok, codes, false, length, nat_lt, true, ⊤, ℕ}
 
 -- What an item means, by its kind and its label (this project's profile). For the clauses of the code alone.
 
@@ -57,7 +60,7 @@ asked_step C label = by label.asks
     by asks.Switch = look (λ w. nat_lt 0 (length (hits (names C) w.hidden (labelled label))))
     by asks.Suffix = give (is_word label.word (suffix_of C.input))
     by asks.Language = give (is_word label.word (language_of C.input))
-    by asks.Result = refuse NotYet
+    by asks.Result = give false  -- a function is answered behind its arguments
 
 -- what the braces of this kind mean, whose parts stand from one place up to another
 abbrev pub Means : Facts → Context → List ℕ → TokenKind → ℕ → ℕ → Levels → List ℕ → Step (Unit {0}) → Type 0
@@ -66,6 +69,14 @@ Means F C text kinds.Emit at end levels star inner =
 Means F C text kinds.Choose at end levels star inner = (choices : Choices) × Stands text at (choice_nodes choices) end × (inner ≡ choices_step F C choices levels star)
 Means F C text _ at end levels star inner = ⊤
 
+-- a test by a function
+abbrev pub is_call : Label → Bool
+is_call label = by label.asks
+  where
+    by : TestKind → Bool
+    by asks.Result = true
+    by _ = false
+
 -- a test that is true, at a place, and the state behind it
 pub record TrueTest (F : Facts) (C : Context) (text : List ℕ) (s t : Machine) (at : ℕ) (step : Step (Option Asked)) : Type 0 where
   pub negated : Bool
@@ -73,13 +84,33 @@ pub record TrueTest (F : Facts) (C : Context) (text : List ℕ) (s t : Machine) 
   pub label_is : label_at (tree_of text) at ≡ test_label negated asked
   pub gives : run F C s step ≡ Is (Ok (Some asked, t))
 
--- what was found of tests
-abbrev pub Found : Facts → Context → List ℕ → Machine → Machine → Result (Option ℕ) MachineFault → Step (Option Asked) → Type 0
-Found F C text s t (Ok None) step = run F C s step ≡ Is (Ok (None, t))
-Found F C text s t (Ok (Some at)) step = TrueTest F C text s t at step
-Found F C text s t (Err fault) step = (fault ≡ Memory) ⊎ (run F C s step ≡ Is (Err fault))
+-- a test by a function, at a place, and the state before it
+pub record AskedTest (F : Facts) (C : Context) (text : List ℕ) (end : ℕ) (s t : Machine) (at : ℕ) (tests : Tests) (levels : Levels) (star : List ℕ) : Type 0 where
+  pub negated : Bool
+  pub name : List ℕ
+  pub arguments : Items
+  pub others : Tests
+  pub next : ℕ
+  pub part : Part (tokens_of (tree_of text)) (labels_of (tree_of text)) at kinds.Test (test_label negated (HasResult name arguments)) next
+  pub within : Stands text (at + 1) (nodes_of arguments) next
+  pub behind : Stands text next (test_nodes others) end
+  pub gives : run F C s (first_true F C tests levels star)
+      ≡ run F C t (truth F C (HasResult name arguments) levels star >>= judged F C negated (HasResult name arguments) others levels star)
 
--- `star` is what %* stands for, and `inner` what the braces mean
+-- what was found of tests
+abbrev pub Found : Facts → Context → List ℕ → ℕ → Machine → Machine → Result Judged MachineFault → Tests → Levels → List ℕ → Type 0
+Found F C text end s t (Ok found.Neither) tests levels star = run F C s (first_true F C tests levels star) ≡ Is (Ok (None, t))
+Found F C text end s t (Ok (found.True at)) tests levels star = TrueTest F C text s t at (first_true F C tests levels star)
+Found F C text end s t (Ok (found.Asks at)) tests levels star = AskedTest F C text end s t at tests levels star
+Found F C text end s t (Err fault) tests levels star = (fault ≡ Memory) ⊎ (run F C s (first_true F C tests levels star) ≡ Is (Err fault))
+
+-- it is one of the tests, and a part of the list
+abbrev pub Within : ℕ → ℕ → ℕ → Judged → Type 0
+Within start end count found.Neither = ⊤
+Within start end count (found.True at) = (start ≤ at) × (at < end) × (at < count)
+Within start end count (found.Asks at) = (start ≤ at) × (at < end) × (at < count)
+
+-- `star` is what %* stands for, and `inner` what the braces mean, or the text of a name
 abbrev pub kind_step : Facts → Context → TokenKind → Label → List ℕ → Step (Unit {0}) → Step (Unit {0})
 kind_step F C kinds.Plain label star inner = bytes label.word
 kind_step F C kinds.Escape label star inner = bytes label.word
@@ -94,6 +125,11 @@ kind_step F C kinds.ObjectSuffix label star inner = bytes (codes ".o")
 kind_step F C kinds.Hide label star inner = hide_step C label
 kind_step F C kinds.Emit label star inner = inner
 kind_step F C kinds.Choose label star inner = inner
+kind_step F C kinds.NamedText label star inner = inner
+kind_step F C kinds.BuiltinText label star inner = inner
+kind_step F C kinds.FailureFile label star inner = inner
+kind_step F C kinds.Function label star inner = inner
+kind_step F C kinds.ArgumentsFile label star inner = inner
 kind_step F C kinds.Star label star inner = bytes star
 kind_step F C (kinds.TempName kind) label star inner = temp_step F C kind label.word
 kind_step F C kinds.Removed label star inner = puts (Marked AsRemoved ∷ [])
@@ -109,4 +145,4 @@ kind_step F C kinds.AssemblerOptions label star inner = puts (words C.assembler)
 kind_step F C kinds.PreprocessorOptions label star inner = puts (words C.preprocessor)
 kind_step F C kinds.UserError label star inner = refuse (fault.UserError label.word)
 kind_step F C kinds.Notice label star inner = change (λ w. record w { notices = w.notices ++ label.word ∷ [] })
-kind_step F C _ label star inner = refuse NotYet
+kind_step F C _ label star inner = nothing  -- no item

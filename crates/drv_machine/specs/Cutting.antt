@@ -1,5 +1,5 @@
 use Rattle.drv_machine.specs.Context.{Context}
-use Rattle.drv_machine.specs.Working.{◌>>-◌, Answer, Atom, Break, End, From, Marked, Open, Piped, Put, To, Without, known, searched}
+use Rattle.drv_machine.specs.Working.{◌>>-◌, Answer, Atom, Break, End, FileFrom, FileTo, From, Marked, Open, Piped, Put, To, Without, known, searched}
 use Rattle.drv_machine.specs.declared.machine.marking.Mark.TheVariants.{AsFile, AsOutput, AsRemoved, AsScript}
 use Rattle.drv_machine.specs.declared.machine.marking.Mark.{Mark}
 use Rattle.drv_machine.specs.declared.machine.marking.Marking.{Marking}
@@ -7,7 +7,7 @@ use Rattle.drv_search.specs.Search.{file_found, script_found}
 use Rattle.drv_system.specs.Facts.{Facts}
 use Rattle.drv_system.specs.Known.{Is}
 use Rattle.std.specs.Option.{unwrap_or}
-use Rattle.std.specs.Prelude.{◌&&◌, ◌||◌, Bool, List, [], ◌∷◌, ◌++◌, Option, None, Some, Ok, codes, false, if◌then◌else◌, is_some, map, not, true, ℕ}
+use Rattle.std.specs.Prelude.{◌&&◌, ◌||◌, Bool, List, [], ◌∷◌, ◌++◌, Option, None, Some, Ok, codes, false, if◌then◌else◌, is_some, map, not, option_map, true, ℕ}
 
 -- Atoms cut into words with their marks, and words into commands (this project's profile).
 
@@ -27,6 +27,7 @@ pub record Cut : Type 0 where
   pub removed : List (List ℕ)
   pub on_failure : List (List ℕ)
   pub output : Option (List ℕ)
+  pub outer : Option Line  -- the command, where words go to the file of a %@
   pub inside : List (Option (List ℕ))  -- for each %W that is open the last word that ended in it, the innermost first
 
 abbrev pub no_marks : Marking
@@ -46,6 +47,7 @@ nothing_cut = record {
   removed = [];
   on_failure = [];
   output = None;
+  outer = None;
   inside = [];
 }
 
@@ -98,6 +100,36 @@ inside_done [] c = c
 inside_done (None ∷ outer) c = record c { inside = outer }
 inside_done (Some last ∷ outer) c = record c { inside = outer; on_failure = c.on_failure ++ last ∷ [] }
 
+-- where words go to a file, no command ends
+abbrev pub line_ended : Cut → Cut
+line_ended c = by c.outer
+  where
+    by : Option Line → Cut
+    by None = line_done c
+    by (Some line) = c
+
+-- nor with a pipe
+abbrev pub pipe_ended : Cut → Cut
+pipe_ended c = by c.outer
+  where
+    by : Option Line → Cut
+    by None = pipe_done c
+    by (Some line) = c
+
+-- a file begins, and ends; the words of the file so far
+abbrev pub file_begun : Cut → Cut
+file_begun c = record c { outer = Some c.line; line = no_line }
+
+abbrev pub file_done : Cut → Cut
+file_done c = by c.outer
+  where
+    by : Option Line → Cut
+    by None = c
+    by (Some line) = record c { outer = None; line = line }
+
+abbrev pub words_in_file : Cut → List (List ℕ)
+words_in_file c = unwrap_or (option_map (λ outer. c.line.words) c.outer) []
+
 -- --script
 abbrev pub script_option : List ℕ
 script_option = codes "--script"
@@ -126,12 +158,14 @@ module _ (F : Facts) (C : Context) where
   taken c (Put b) = Is (Ok (in_word c (b ∷ [])))
   taken c Open = Is (Ok (in_word c []))
   taken c Break = broken c
-  taken c End = Is (Ok (line_done c))
-  taken c Piped = broken c >>- λ d. Is (Ok (pipe_done d))
+  taken c End = Is (Ok (line_ended c))
+  taken c Piped = broken c >>- λ d. Is (Ok (pipe_ended d))
   taken c (Marked mark) = Is (Ok (record (touched c) { marks = marked mark c.marks }))
   taken c Without = Is (Ok (record c { output = None; barred = is_some c.word }))
   taken c From = Is (Ok (record c { inside = None ∷ c.inside }))
   taken c To = Is (Ok (inside_done c.inside c))
+  taken c FileFrom = Is (Ok (file_begun c))
+  taken c FileTo = Is (Ok (file_done c))
 
   -- atoms, one after another; the first that has no answer stops it
   abbrev pub all_taken : Cut → List Atom → Answer Cut
@@ -141,3 +175,7 @@ module _ (F : Facts) (C : Context) where
   -- the words of a function's arguments, by the same law
   abbrev pub argument_words : List Atom → Answer (List (List ℕ))
   argument_words atoms = all_taken nothing_cut (atoms ++ Break ∷ []) >>- λ c. Is (Ok c.line.words)
+
+  -- the words of a file, in which no command ends
+  abbrev pub file_words : List Atom → Answer (List (List ℕ))
+  file_words atoms = all_taken (file_begun nothing_cut) (atoms ++ Break ∷ []) >>- λ c. Is (Ok (words_in_file c))

@@ -3,7 +3,7 @@ use Rattle.drv_machine.specs.Running.{Machine}
 use Rattle.drv_machine.specs.Working.{◌>>-◌, Answer}
 use Rattle.drv_system.specs.Known.{Is}
 use Rattle.drv_words.specs.declared.plan.Command.{Command}
-use Rattle.std.specs.Prelude.{◌-◌, ◌++◌, Bool, List, [], ◌∷◌, None, Ok, Option, Some, false, replicate, true, ℕ}
+use Rattle.std.specs.Prelude.{◌≡◌, ◌-◌, ◌++◌, Bool, List, [], ◌∷◌, None, Ok, Option, Some, false, replicate, true, ℕ}
 
 -- How the code holds what is cut. Private clauses alone cite it.
 
@@ -15,6 +15,11 @@ open_word false bytes = None
 -- for each %W that is open the last word that ended in it: of so many, this word but for the innermost ones
 abbrev pub ended_in : List ℕ → ℕ → ℕ → List (Option (List ℕ))
 ended_in last count fresh = replicate fresh None ++ replicate (count - fresh) (Some last)
+
+-- the innermost %W ends: what is left, and its last word
+abbrev pub Ends : List (Option (List ℕ)) → List (Option (List ℕ)) → Option (List ℕ) → Type 0
+Ends [] after last = (after ≡ []) × (last ≡ None)
+Ends (word ∷ outer) after last = (after ≡ outer) × (last ≡ word)
 
 -- the group of some commands; none where there is no command
 abbrev pub made : List Command → List (List Command)

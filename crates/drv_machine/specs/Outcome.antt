@@ -63,7 +63,7 @@ abbrev pub job : Context → World → Cut → List (List Command) → Job
 job C w c commands = record {
   source = place_of C.input;
   groups = commands;
-  temps = map (λ name. record { path = name.path; contents = [] }) w.drawn;
+  temps = map (λ name. record { path = name.path; contents = name.contents }) w.drawn;
   marked = lasting (map (λ name. name.path) w.drawn) c.removed;
   on_failure = lasting (map (λ name. name.path) w.drawn) c.on_failure;
   output = c.output;

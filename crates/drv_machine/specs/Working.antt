@@ -1,5 +1,7 @@
+use Rattle.drv_funcs.specs.declared.fault.FuncsFault.TheVariants as funcs
+use Rattle.drv_funcs.specs.declared.fault.FuncsFault.{FuncsFault}
+use Rattle.drv_machine.specs.declared.fault.MachineFault.TheVariants.{Funcs, Memory, Search, SpecTooDeep, TooManySteps}
 use Rattle.drv_machine.specs.declared.fault.MachineFault.{MachineFault}
-use Rattle.drv_machine.specs.declared.fault.MachineFault.TheVariants.{Memory, Search, SpecTooDeep, TooManySteps}
 use Rattle.drv_machine.specs.declared.machine.marking.Mark.{Mark}
 use Rattle.drv_machine.specs.declared.machine.naming.Drawn.{Drawn}
 use Rattle.drv_search.specs.declared.fault.SearchFault.TheVariants as search
@@ -22,6 +24,8 @@ pub data Atom : Type 0 where
   Without : Atom  -- no output, unless a later word is marked as one
   From : Atom  -- %W begins
   To : Atom  -- %W ends: the last word that ended in it is a failure file
+  FileFrom : Atom  -- the words behind it are those of a file
+  FileTo : Atom  -- and those behind this are the command's again
 
 -- what working a text changes as it goes
 pub record World : Type 0 where
@@ -31,6 +35,7 @@ pub record World : Type 0 where
   pub number : ℕ  -- of the next name that is drawn
   pub outputs : List (List ℕ)
   pub notices : List (List ℕ)
+  pub is_in_file : Bool  -- words go to the file of a %@
   pub items : ℕ  -- reached so far
 
 -- a value over facts, or a refusal
@@ -48,7 +53,12 @@ abbrev pub search_lifted : SearchFault → MachineFault
 search_lifted search.Memory = Memory
 search_lifted fault = Search fault
 
--- what can't be refused, and what a search gives
+-- a refusal of a function
+abbrev pub funcs_lifted : FuncsFault → MachineFault
+funcs_lifted funcs.Memory = Memory
+funcs_lifted fault = Funcs fault
+
+-- what can't be refused, what a search gives, and what a function gives
 abbrev pub known : {X : Type 0} → Known X → Answer X
 known Unasked = Unasked
 known (Is x) = Is (Ok x)
@@ -57,6 +67,11 @@ abbrev pub searched : {X : Type 0} → Known (Result X SearchFault) → Answer X
 searched Unasked = Unasked
 searched (Is (Ok x)) = Is (Ok x)
 searched (Is (Err fault)) = Is (Err (search_lifted fault))
+
+abbrev pub called : {X : Type 0} → Known (Result X FuncsFault) → Answer X
+called Unasked = Unasked
+called (Is (Ok x)) = Is (Ok x)
+called (Is (Err fault)) = Is (Err (funcs_lifted fault))
 
 -- atoms, and then a value and the world behind them; or a refusal; or the want of an answer of the facts
 pub data Work (X : Type 0) : Type 0 where

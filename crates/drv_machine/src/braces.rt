@@ -5,7 +5,7 @@ ghost use Rattle.drv_machine.specs.Atoms.{choices_step, items_step, worked};
 ghost use Rattle.drv_machine.specs.ByKind.{asks_switch};
 ghost use Rattle.drv_machine.specs.Running as running;
 ghost use Rattle.drv_machine.specs.Standing.{Spans, Stands};
-ghost use Rattle.drv_machine.specs.Walking.{Behind, Went};
+ghost use Rattle.drv_machine.specs.Walking.{AskFits, Behind, Kept, Went, decided_on, weight};
 ghost use Rattle.drv_machine.specs.Working.{Answer, Step};
 ghost use Rattle.drv_syntax.specs.Labels.{choice_nodes, label_at, nodes_of, test_label};
 ghost use Rattle.drv_syntax.specs.Parsed.{tree_of};
@@ -14,14 +14,15 @@ ghost use Rattle.drv_syntax.specs.Tokens.{tokens_of};
 ghost use Rattle.drv_syntax.specs.Tree as tree;
 ghost use Rattle.drv_system.specs.Asking.{Extends};
 ghost use Rattle.drv_system.specs.Facts.{Facts};
-ghost use Rattle.std.specs.Prelude.{◌≡◌, ◌&&◌, ◌<◌, Bool, OnOk, Some, length};
+ghost use Rattle.std.specs.Prelude.{◌≡◌, ◌&&◌, ◌+◌, ◌-◌, ◌<◌, ◌≤◌, Bool, OnOk, Some, length};
 
-use crate::asking::first_true;
+use crate::asking::{Judged, first_true};
+use crate::calling::open_test;
 use crate::hits::enter_next;
 use crate::machine::Machine;
 use crate::outside::Outside;
 use crate::places::{tests_end, token_at};
-use crate::walk::{Each, Walk};
+use crate::walk::{Asking, Each, Walk};
 use crate::{Context, MachineFault};
 use drv_syntax::{SpecTree, TestKind};
 use drv_system::System;
@@ -44,18 +45,74 @@ fn enter_alternative(
     context: &Context<'_>,
     each: Each,
     own: bool,
-    walk: &mut Walk,
+    walk: &mut Walk<'_>,
     machine: &Machine,
 ) -> Result<(), MachineFault>
     requires in_list { each.test < length (tokens_of (tree_of text.now)) }
     requires sized { length machine.now.world.hidden ≡ length context.now.switches }
-    ensures { (F : Facts) (negated : Bool) (asked : tree.Asked) (items : tree.Items) (others : Step (Unit {0})) (given : Answer (Unit {0} × running.Machine)) → own ≡ has_star items → label_at (tree_of text.now) each.test ≡ test_label negated asked → Stands text.now each.start (nodes_of items) each.end → Behind F context.now text.now walk.old each.end (λ levels star. worked F context.now (Some asked) (has_star items) (λ rest inside. items_step F context.now items inside rest) levels star others) machine.now given → Went F context.now text.now walk.new machine.now given result }
+    ensures does { (F : Facts) (negated : Bool) (asked : tree.Asked) (items : tree.Items) (others : Step (Unit {0})) (given : Answer (Unit {0} × running.Machine)) → own ≡ has_star items → label_at (tree_of text.now) each.test ≡ test_label negated asked → Stands text.now each.start (nodes_of items) each.end → Behind F context.now text.now walk.old each.end (λ levels star. worked F context.now (Some asked) (has_star items) (λ rest inside. items_step F context.now items inside rest) levels star others) machine.now given → Went F context.now text.now walk.new machine.now given result }
+    ensures lighter { OnOk result (weight (length context.now.switches) walk.new.frames ≤ weight (length context.now.switches) walk.old.frames + length context.now.switches) }
+    ensures same_text { walk.new.text.now ≡ walk.old.text.now }
 {
     if is_for_each(text, each.test, own) {
         return enter_next(text, context, each, 0, walk, machine);
     }
     walk.at = each.start;
     Ok(())
+}
+
+/// A test by a function was answered: its X is reached or opened, or the tests behind it are judged, and then the
+/// alternatives behind them.
+#[tactic(auto, using(crate::proofs::AskedCalls::asked_further))]
+pub(crate) fn answer<S: System>(
+    text: &SpecTree,
+    context: &Context<'_>,
+    asking: Asking,
+    holds: bool,
+    walk: &mut Walk<'_>,
+    machine: &mut Machine,
+    outside: &mut Outside<'_, S>,
+) -> Result<(), MachineFault>
+    requires fits { (items : tree.Items) × (kept : Kept) × AskFits text.now asking items kept }
+    requires sized { length machine.old.world.hidden ≡ length context.now.switches }
+    ensures asks { Asked S.events outside.old outside.new }
+    ensures does { (F : Facts) → Extends outside.new.facts.now F → (items : tree.Items) (kept : Kept) (given : Answer (Unit {0} × running.Machine)) → AskFits text.now asking items kept → Behind F context.now text.now walk.old asking.end (λ levels star. decided_on F context.now items kept levels star holds) machine.old given → Went F context.now text.now walk.new machine.new given result }
+    ensures lighter { OnOk result (weight (length context.now.switches) walk.new.frames ≤ weight (length context.now.switches) walk.old.frames + (length context.now.switches + (asking.end - asking.test))) }
+    ensures sized { length machine.new.world.hidden ≡ length machine.old.world.hidden }
+    ensures uncounted { OnOk result (machine.new.world.items ≡ machine.old.world.items) }
+    ensures same_text { walk.new.text.now ≡ walk.old.text.now }
+{
+    let mut each = Each {
+        test: asking.test,
+        start: asking.start,
+        end: asking.next,
+    };
+    if holds != text.negated(asking.test) {
+        return enter_alternative(text, context, each, asking.own, walk, machine);
+    }
+    match first_true(text, context, asking.from, asking.start, machine, outside)? {
+        Judged::True(test) => {
+            each.test = test;
+            enter_alternative(text, context, each, asking.own, walk, machine)
+        }
+        Judged::Asks(test) => {
+            let later = Asking {
+                test,
+                from: token_at(text, test).next as usize,
+                ..asking
+            };
+            open_test(later, walk, machine)
+        }
+        Judged::Neither => choose(
+            text,
+            context,
+            asking.next,
+            asking.end,
+            walk,
+            machine,
+            outside,
+        ),
+    }
 }
 
 /// The first of the alternatives with a true test that stand from one place up to another is reached or opened, or the
@@ -66,7 +123,7 @@ pub(crate) fn choose<S: System>(
     context: &Context<'_>,
     start: usize,
     end: usize,
-    walk: &mut Walk,
+    walk: &mut Walk<'_>,
     machine: &mut Machine,
     outside: &mut Outside<'_, S>,
 ) -> Result<(), MachineFault>
@@ -76,6 +133,8 @@ pub(crate) fn choose<S: System>(
     ensures does { (F : Facts) → Extends outside.new.facts.now F → (choices : tree.Choices) (given : Answer (Unit {0} × running.Machine)) → Stands text.now start (choice_nodes choices) end → Behind F context.now text.now walk.old end (λ levels star. choices_step F context.now choices levels star) machine.old given → Went F context.now text.now walk.new machine.new given result }
     ensures sized { length machine.new.world.hidden ≡ length machine.old.world.hidden }
     ensures uncounted { OnOk result (machine.new.world.items ≡ machine.old.world.items) }
+    ensures lighter { OnOk result (weight (length context.now.switches) walk.new.frames ≤ weight (length context.now.switches) walk.old.frames + (length context.now.switches + (end - start))) }
+    ensures same_text { walk.new.text.now ≡ walk.old.text.now }
 {
     let mut at = start;
     while at < end {
@@ -85,15 +144,29 @@ pub(crate) fn choose<S: System>(
             walk.at = items;
             return Ok(());
         }
-        if let Some(test) = first_true(text, context, at + 1, items, machine, outside)? {
-            let each = Each {
-                test,
-                start: items,
-                end: next,
-            };
-            return enter_alternative(text, context, each, text.holds_star(at), walk, machine);
+        let own = text.holds_star(at);
+        match first_true(text, context, at + 1, items, machine, outside)? {
+            Judged::True(test) => {
+                let each = Each {
+                    test,
+                    start: items,
+                    end: next,
+                };
+                return enter_alternative(text, context, each, own, walk, machine);
+            }
+            Judged::Asks(test) => {
+                let asking = Asking {
+                    test,
+                    from: token_at(text, test).next as usize,
+                    start: items,
+                    next,
+                    own,
+                    end,
+                };
+                return open_test(asking, walk, machine);
+            }
+            Judged::Neither => at = next,
         }
-        at = next;
     }
     walk.at = end;
     Ok(())

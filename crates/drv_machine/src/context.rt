@@ -1,14 +1,17 @@
 //! What a text is worked for: a line, and an input of it or the link.
 
-ghost use Rattle.drv_machine.specs.Context.{argument, is_piping, names};
+ghost use Rattle.drv_machine.specs.Context.{argument, is_piping, names, text_named};
 ghost use Rattle.drv_machine.specs.Outcome.{place_of};
 ghost use Rattle.std.specs.Cmp.Lexicographic.{pointwise};
 ghost use Rattle.std.specs.List.{list_any};
+ghost use Rattle.std.specs.Option.{is_none, option_map};
 ghost use Rattle.std.specs.Prelude.{◌≡◌, ◌<◌, [], IfOk, None, codes, get_or, length, map, nat_eq};
 
 use drv_args::{Line, Switch};
 use drv_match::Switches;
 use drv_search::Prefixes;
+use drv_specs::SpecSet;
+use drv_syntax::SpecTree;
 use drv_words::{Listing, Word};
 use std::alloc::{AllocError, Global};
 use std::marker::Model;
@@ -32,15 +35,16 @@ impl<'a> Model for Source<'a> {
     ghost view = { λ s. record { place = s.place; name = s.name.now; language = option_map (λ name. name.now) s.language } };
 }
 
-/// What a text is worked for: a line and the prefixes of its searches, which are lent, what goes on from one text to the
-/// next, and an input or the link.
-#[derive(Debug, Drop)]
+/// What a text is worked for: a line, the named texts and the prefixes of its searches, which are lent, what goes on from
+/// one text to the next, and an input or the link.
+#[derive(Drop)]
 pub struct Context<'a> {
     line: &'a Line,
     /// The line's switches, ready for patterns.
     matcher: Switches,
     /// Whether `-pipe` stands on the line.
     is_piping: bool,
+    texts: &'a SpecSet,
     prefixes: &'a Prefixes,
     seed: u32,
     number: usize,
@@ -61,7 +65,9 @@ impl<'a> Model for Context<'a> {
       switches = c.line.now.switches;
       assembler = c.line.now.asm_opts;
       preprocessor = c.line.now.cpp_opts;
+      texts = c.texts.now.named;
       prefixes = c.prefixes.now;
+      from_file = c.line.now.settings.from_file;
       seed = c.seed;
       number = c.number;
       options = c.options;
@@ -98,10 +104,11 @@ impl<'a> Context<'a> {
     pub fn new(
         alloc: Global,
         line: &'a Line,
+        texts: &'a SpecSet,
         prefixes: &'a Prefixes,
         seed: u32,
     ) -> Result<Context<'a>, AllocError>
-        ensures { IfOk result (λ made. made ≡ record { switches = line.now.switches; assembler = line.now.asm_opts; preprocessor = line.now.cpp_opts; prefixes = prefixes.now; seed = seed; number = 1; options = []; input = None; outputs = [] }) }
+        ensures { IfOk result (λ made. made ≡ record { switches = line.now.switches; assembler = line.now.asm_opts; preprocessor = line.now.cpp_opts; texts = texts.now.named; prefixes = prefixes.now; from_file = line.now.settings.from_file; seed = seed; number = 1; options = []; input = None; outputs = [] }) }
     {
         let matcher = Switches::new(alloc, line.switches.as_slice())?;
         let is_piping = has_pipe(line.switches.as_slice());
@@ -109,6 +116,7 @@ impl<'a> Context<'a> {
             line,
             matcher,
             is_piping,
+            texts,
             prefixes,
             seed,
             number: 1,
@@ -177,6 +185,20 @@ impl<'a> Context<'a> {
         self.line.cpp_opts.as_slice()
     }
 
+    /// The tree of the text of a name, if the set has one.
+    pub(crate) fn named(&self, name: &[u8]) -> Option<&'a SpecTree>
+        ensures { option_map (λ tree. tree.now) result ≡ text_named self.now name.now }
+    {
+        self.texts.tree(name)
+    }
+
+    /// Whether words of the line come from a response file.
+    pub(crate) fn from_file(&self) -> bool
+        ensures { result ≡ self.now.from_file }
+    {
+        self.line.settings.from_file
+    }
+
     /// Where programs and files are looked for.
     pub(crate) fn prefixes(&self) -> &'a Prefixes
         ensures { result.now ≡ self.now.prefixes }
@@ -217,6 +239,16 @@ impl<'a> Context<'a> {
         ensures { result.now ≡ self.now.input }
     {
         &self.input
+    }
+
+    /// Whether the link's text is worked.
+    pub(crate) fn is_link(&self) -> bool
+        ensures { result ≡ is_none self.now.input }
+    {
+        match &self.input {
+            Some(_) => false,
+            None => true,
+        }
     }
 
     /// The input's place among the line's inputs; the link has none.

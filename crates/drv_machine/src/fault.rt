@@ -1,5 +1,6 @@
 //! Why a text has no job.
 
+use drv_funcs::FuncsFault;
 use drv_search::SearchFault;
 use drv_words::Word;
 use std::alloc::{AllocError, AllocFailed};
@@ -35,9 +36,9 @@ pub enum MachineFault {
     /// A search failed.
     #[error("a search failed")]
     Search(SearchFault),
-    /// The directive has no meaning yet.
-    #[error("%@ is not there yet")]
-    NotYet,
+    /// A function is refused. The refusal isn't `Memory`, which is the machine's own.
+    #[error("a function was refused")]
+    Funcs(FuncsFault),
 }
 
 impl From<AllocError> for MachineFault {
@@ -72,6 +73,20 @@ impl From<SearchFault> for MachineFault {
         match low {
             SearchFault::Memory => MachineFault::Memory,
             fault => MachineFault::Search(fault),
+        }
+    }
+}
+
+impl From<FuncsFault> for MachineFault {
+    ghost use Rattle.drv_machine.specs.Working.{funcs_lifted};
+    ghost use Rattle.std.specs.Prelude.{◌≡◌};
+
+    ghost from_gives = { λ low high. high ≡ funcs_lifted low };
+
+    fn from(low: FuncsFault) -> MachineFault {
+        match low {
+            FuncsFault::Memory => MachineFault::Memory,
+            fault => MachineFault::Funcs(fault),
         }
     }
 }

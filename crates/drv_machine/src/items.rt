@@ -59,7 +59,8 @@ fn user_error(alloc: Global, text: &[u8]) -> Result<(), MachineFault>
     Err(MachineFault::UserError(Word::from_bytes(alloc, text)?))
 }
 
-/// Works the item at a place, which is this token, and no brace with alternatives; `star` is what `%*` stands for.
+/// Works the item at a place, which is this token, and opens no part and has no alternatives; `star` is what `%*` stands
+/// for.
 #[tactic(auto, using(crate::proofs::AskedCalls::asked_none))]
 pub(crate) fn work_item<S: System>(
     text: &SpecTree,
@@ -74,6 +75,11 @@ pub(crate) fn work_item<S: System>(
     requires spans { Spans text.now (at + 1) token.next }
     requires sized { length machine.old.world.hidden ≡ length context.now.switches }
     requires no_choice { token.kind ≡ kinds.Choose → ⊥ }
+    requires no_text { token.kind ≡ kinds.NamedText → ⊥ }
+    requires no_builtin { token.kind ≡ kinds.BuiltinText → ⊥ }
+    requires no_failure { token.kind ≡ kinds.FailureFile → ⊥ }
+    requires no_call { token.kind ≡ kinds.Function → ⊥ }
+    requires no_file { token.kind ≡ kinds.ArgumentsFile → ⊥ }
     ensures asks { Asked S.events outside.old outside.new }
     ensures does { (F : Facts) → Extends outside.new.facts.now F → (levels : Levels) (inner : Step (Unit {0})) → Means F context.now text.now token.kind (at + 1) token.next levels (star_of context.now star) inner → GivesKnown MachineFault.Memory (λ u. (tt, machine.new)) result (run F context.now machine.old (kind_step F context.now token.kind (label_at (tree_of text.now) at) (star_of context.now star) inner)) }
     ensures sized { length machine.new.world.hidden ≡ length machine.old.world.hidden }
@@ -135,6 +141,6 @@ pub(crate) fn work_item<S: System>(
         | TokenKind::Choose
         | TokenKind::Alternative
         | TokenKind::Test
-        | TokenKind::Pattern => Err(MachineFault::NotYet),
+        | TokenKind::Pattern => Ok(()),
     }
 }

@@ -3,12 +3,16 @@
 
 mod asking;
 mod braces;
+mod calling;
 mod context;
 mod emitting;
+mod failing;
 mod fault;
+mod filing;
 mod hits;
 mod items;
 mod machine;
+mod named;
 mod names;
 mod outcome;
 mod outside;

@@ -4,7 +4,7 @@ ghost use Rattle.drv_machine.specs.Asked.{Asked};
 ghost use Rattle.drv_machine.specs.Atoms.{switch_atoms};
 ghost use Rattle.drv_machine.specs.Context as specs;
 ghost use Rattle.drv_machine.specs.Context.{argument, names};
-ghost use Rattle.drv_machine.specs.Cutting.{pipe_done};
+ghost use Rattle.drv_machine.specs.Cutting.{pipe_ended};
 ghost use Rattle.drv_machine.specs.Running.{begun, run};
 ghost use Rattle.drv_machine.specs.Working as step;
 ghost use Rattle.drv_machine.specs.Working.{Break, End, Open, Piped, Put, counted, puts, word_of};
@@ -15,7 +15,10 @@ ghost use Rattle.drv_system.specs.Gives.{GivesKnown};
 ghost use Rattle.drv_system.specs.Known.{Is};
 ghost use Rattle.std.specs.Prelude.{◌≡◌, ◌∷◌, ◌++◌, ◌+◌, ◌<◌, [], IfOk, Ok, OnOk, length, map};
 
+mod cutter;
+mod filing;
 mod finishing;
+mod functions;
 mod inside;
 mod lists;
 mod marking;
@@ -23,6 +26,7 @@ mod naming;
 
 use crate::outside::Outside;
 use crate::{Context, MachineFault};
+pub(crate) use cutter::Cutter;
 use drv_match::{Hidden, Pattern, Switches};
 use drv_system::System;
 use drv_words::{Listing, Word};
@@ -69,6 +73,8 @@ pub(crate) struct Machine {
     lines: Listing<Line>,
     /// Whether a pipe stood where none may.
     is_stray: bool,
+    /// The command, where words go to the file of a `%@`.
+    outer: Option<Line>,
     /// The marks of the open word, or those that wait for the next one.
     marks: Marking,
     /// Whether the open word began before a `%V`.
@@ -90,6 +96,8 @@ pub(crate) struct Machine {
     /// The outputs of the jobs so far.
     outputs: Listing<Word>,
     notices: Listing<Word>,
+    /// Whether words go to the file of a `%@`.
+    is_in_file: bool,
     /// The number of items that were reached.
     items: usize,
 }
@@ -115,9 +123,10 @@ impl Model for Machine {
         removed = m.removed;
         on_failure = m.on_failure;
         output = m.output;
+        outer = m.outer;
         inside = m.inside;
       };
-      world = record { hidden = m.hidden; options = m.options; drawn = m.drawn; number = m.number; outputs = m.outputs; notices = m.notices; items = m.items };
+      world = record { hidden = m.hidden; options = m.options; drawn = m.drawn; number = m.number; outputs = m.outputs; notices = m.notices; is_in_file = m.is_in_file; items = m.items };
     } };
 }
 
@@ -135,6 +144,7 @@ impl Machine {
             is_piped: false,
             lines: Listing::new(alloc),
             is_stray: false,
+            outer: None,
             marks: Marking::none(),
             is_barred: false,
             removed: Listing::new(alloc),
@@ -147,6 +157,7 @@ impl Machine {
             number: context.number(),
             outputs: copied_words(alloc, context.outputs())?,
             notices: Listing::new(alloc),
+            is_in_file: false,
             items: 0,
         })
     }
@@ -199,11 +210,14 @@ impl Machine {
         self.is_stray |= self.is_piped;
     }
 
-    /// The open command ends; one without a word and a pipe is dropped.
+    /// The open command ends; one without a word and a pipe is dropped. In a file none ends.
     fn close_line(&mut self) -> Result<(), MachineFault>
         ensures does { (F : Facts) (C : specs.Context) → GivesKnown MachineFault.Memory (λ u. (tt, self.new)) result (run F C self.old (puts (End ∷ []))) }
         ensures same { self.new.world ≡ self.old.world }
     {
+        if self.outer.is_some() {
+            return Ok(());
+        }
         if self.line.is_empty() && !self.is_piped {
             return Ok(());
         }
@@ -213,10 +227,13 @@ impl Machine {
         Ok(())
     }
 
-    /// A pipe stands behind the words of the open command: there has to be one, and no pipe yet.
+    /// A pipe stands behind the words of the open command: there has to be one, and no pipe yet. In a file it is none.
     fn close_with_pipe(&mut self)
-        ensures { self.new ≡ record self.old { cut = pipe_done self.old.cut } }
+        ensures { self.new ≡ record self.old { cut = pipe_ended self.old.cut } }
     {
+        if self.outer.is_some() {
+            return;
+        }
         self.is_stray |= self.is_piped || self.line.is_empty();
         self.is_piped = true;
     }

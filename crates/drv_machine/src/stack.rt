@@ -12,12 +12,12 @@ use std::marker::Model;
 /// The open parts, the innermost last: at most 64. Their table is made when the first is opened, so that a text without
 /// open parts pays nothing for it.
 #[derive(Drop)]
-pub(crate) struct Stack {
+pub(crate) struct Stack<'a> {
     alloc: Global,
-    table: Option<Box<ArrayVec<Frame, 64>>>,
+    table: Option<Box<ArrayVec<Frame<'a>, 64>>>,
 }
 
-impl Model for Stack {
+impl<'a> Model for Stack<'a> {
     ghost use Rattle.drv_machine.specs.declared.walk.Frame.{Frame};
     ghost use Rattle.std.specs.Option.{option_map, unwrap_or};
     ghost use Rattle.std.specs.Prelude.{List, []};
@@ -27,9 +27,9 @@ impl Model for Stack {
     ghost view = { λ s. unwrap_or (option_map (λ table. table.value.items) s.table) [] };
 }
 
-impl Stack {
+impl<'a> Stack<'a> {
     /// No part is open.
-    pub(crate) fn new(alloc: Global) -> Stack
+    pub(crate) fn new(alloc: Global) -> Stack<'a>
         ensures { result ≡ [] }
     {
         Stack { alloc, table: None }
@@ -50,8 +50,8 @@ impl Stack {
     ///
     /// # Errors
     /// `SpecTooDeep` where 64 are open.
-    pub(crate) fn push(&mut self, frame: Frame) -> Result<(), MachineFault>
-        ensures ok { OnOk result (self.new ≡ self.old ++ frame ∷ []) }
+    pub(crate) fn push(&mut self, frame: Frame<'a>) -> Result<(), MachineFault>
+        ensures ok { OnOk result (self.new ≡ self.old ++ frame.entry ∷ []) }
         ensures room { OnOk result (length self.old < most_open) }
         ensures err { IfErr result (λ fault. (fault ≡ MachineFault.Memory) ⊎ ((fault ≡ MachineFault.SpecTooDeep) × (length self.old ≡ most_open))) }
     {
@@ -68,7 +68,7 @@ impl Stack {
     }
 
     /// The innermost part, which is open no more, if one was.
-    pub(crate) fn pop(&mut self) -> Option<Frame>
+    pub(crate) fn pop(&mut self) -> Option<Frame<'a>>
         ensures items { self.old ≡ self.new ++ option_to_list result }
         ensures variant { IsSome result ↔ (0 < length self.old) }
     {

@@ -4,7 +4,7 @@ ghost use Rattle.drv_machine.specs.Asked.{Asked};
 ghost use Rattle.drv_machine.specs.Atoms.{items_step, levels_left};
 ghost use Rattle.drv_machine.specs.Running as running;
 ghost use Rattle.drv_machine.specs.Running.{run};
-ghost use Rattle.drv_machine.specs.Walking.{AtItem, Behind, HasFrames, Lain, Left, OpenedFits, Settled, Went, back_of, closing, hits_left, weight};
+ghost use Rattle.drv_machine.specs.Walking.{After, AtItem, HasFrames, Kept, Lain, Left, OpenedFits, Settled, Went, back_of, closing, hits_left, text_around, weight};
 ghost use Rattle.drv_machine.specs.Working.{Answer, most_open};
 ghost use Rattle.drv_syntax.specs.Parsed.{tree_of};
 ghost use Rattle.drv_syntax.specs.Tree as tree;
@@ -13,10 +13,14 @@ ghost use Rattle.drv_system.specs.Facts.{Facts};
 ghost use Rattle.drv_system.specs.Gives.{GivesKnown};
 ghost use Rattle.std.specs.Prelude.{◌≡◌, ◌+◌, ◌<◌, [], IfOk, IsTrue, OnOk, length};
 
-use crate::braces::choose;
+use crate::braces::{answer, choose};
+use crate::calling::open_call;
+use crate::failing::work_failure;
+use crate::filing::work_filed;
 use crate::hits::close_hit;
 use crate::items::work_item;
 use crate::machine::Machine;
+use crate::named::open_text;
 use crate::outside::Outside;
 use crate::places::token_at;
 use crate::walk::{Frame, Opened, Walk};
@@ -25,32 +29,54 @@ use drv_syntax::{SpecTree, TokenKind};
 use drv_system::System;
 
 /// The innermost open part ends: what it was opened for is done, or done once more, in the part around it.
-#[tactic(auto, using(crate::proofs::AskedCalls::asked_none))]
-fn close<S: System>(
-    text: &SpecTree,
+#[tactic(auto, using(crate::proofs::AskedCalls::asked_none, crate::proofs::AskedCalls::asked_further))]
+fn close<'w, S: System>(
     context: &Context<'_>,
-    frame: Frame,
-    walk: &mut Walk,
+    frame: Frame<'w>,
+    walk: &mut Walk<'w>,
     machine: &mut Machine,
     outside: &mut Outside<'_, S>,
 ) -> Result<(), MachineFault>
-    requires fits { (p : tree.Pattern) × (items : tree.Items) × OpenedFits text.now context.now frame.opened p items }
+    requires fits { (p : tree.Pattern) × (items : tree.Items) × (kept : Kept) × OpenedFits walk.old.text.now context.now frame.opened p items kept }
     requires sized { length machine.old.world.hidden ≡ length context.now.switches }
     ensures asks { Asked S.events outside.old outside.new }
-    ensures does { (F : Facts) → Extends outside.new.facts.now F → (p : tree.Pattern) (items : tree.Items) (given : Answer (Unit {0} × running.Machine)) → OpenedFits text.now context.now frame.opened p items → Behind F context.now text.now (record walk.old { end = frame.end; star = frame.star }) (back_of frame.opened) (λ levels star. closing F context.now levels frame.opened p items) machine.old given → Went F context.now text.now walk.new machine.new given result }
-    ensures lighter { OnOk result (weight (length context.now.switches) walk.new.frames < weight (length context.now.switches) walk.old.frames + hits_left (length context.now.switches) frame.opened) }
+    ensures does { (F : Facts) → Extends outside.new.facts.now F → (p : tree.Pattern) (items : tree.Items) (kept : Kept) (given : Answer (Unit {0} × running.Machine)) → OpenedFits walk.old.text.now context.now frame.entry.opened p items kept → After F context.now (text_around walk.old.text.now frame.entry.opened) (record walk.old { end = frame.entry.end; star = frame.entry.star }) (back_of frame.entry.opened) (λ levels star s. closing F context.now levels star frame.entry.opened p items kept s) machine.old given → Went F context.now walk.new.text.now walk.new machine.new given result }
+    ensures lighter { OnOk result (weight (length context.now.switches) walk.new.frames < weight (length context.now.switches) walk.old.frames + hits_left (length context.now.switches) frame.entry.opened) }
     ensures sized { length machine.new.world.hidden ≡ length machine.old.world.hidden }
     ensures uncounted { OnOk result (machine.new.world.items ≡ machine.old.world.items) }
 {
+    let text = walk.text;
     walk.end = frame.end;
     walk.star = frame.star;
     match frame.opened {
         Opened::Hit(each, switch) => {
             close_hit(text, context, each, switch, walk, machine, outside)
         }
-        Opened::Text(back) => {
+        Opened::Text(around, back) => {
+            walk.text = around;
             walk.at = back;
             Ok(())
+        }
+        Opened::Failure(back) => {
+            walk.at = back;
+            machine.end_failure(context, outside)
+        }
+        Opened::File(back) => {
+            walk.at = back;
+            machine.end_file(context, outside)
+        }
+        Opened::Inside(back) => {
+            walk.at = back;
+            Ok(())
+        }
+        Opened::Call(at, back, outer) => {
+            walk.at = back;
+            machine.put_value(text.word(at), Box::into_inner(outer), context, outside)
+        }
+        Opened::Asks(asking, outer) => {
+            let name = text.word(asking.test);
+            let holds = machine.has_value(name, Box::into_inner(outer), context, outside)?;
+            answer(text, context, asking, holds, walk, machine, outside)
         }
     }
 }
@@ -58,56 +84,77 @@ fn close<S: System>(
 /// Closes the open parts that have ended. Whether an item is left.
 #[tactic(auto, using(crate::proofs::AskedCalls::asked_further))]
 fn settle<S: System>(
-    text: &SpecTree,
     context: &Context<'_>,
-    walk: &mut Walk,
+    walk: &mut Walk<'_>,
     machine: &mut Machine,
     outside: &mut Outside<'_, S>,
 ) -> Result<bool, MachineFault>
-    requires lain { Lain text.now walk.old }
-    requires framed { HasFrames context.now text.now walk.old }
+    requires lain { Lain walk.old.text.now walk.old }
+    requires framed { HasFrames context.now walk.old.text.now walk.old }
     requires sized { length machine.old.world.hidden ≡ length context.now.switches }
     ensures asks { Asked S.events outside.old outside.new }
-    ensures does { (F : Facts) → Extends outside.new.facts.now F → (given : Answer (Unit {0} × running.Machine)) → Left F context.now text.now walk.old machine.old given → Settled F context.now text.now walk.new machine.new given result }
-    ensures reached { IfOk result (λ more. IsTrue more → AtItem text.now walk.new) }
+    ensures does { (F : Facts) → Extends outside.new.facts.now F → (given : Answer (Unit {0} × running.Machine)) → Left F context.now walk.old.text.now walk.old machine.old given → Settled F context.now walk.new.text.now walk.new machine.new given result }
+    ensures reached { IfOk result (λ more. IsTrue more → AtItem walk.new.text.now walk.new) }
     ensures sized { length machine.new.world.hidden ≡ length machine.old.world.hidden }
     ensures uncounted { OnOk result (machine.new.world.items ≡ machine.old.world.items) }
 {
+    let text = walk.text;
     walk.skip(text);
     while walk.at >= walk.end {
         let Some(frame) = walk.frames.pop() else {
             return Ok(false);
         };
-        close(text, context, frame, walk, machine, outside)?;
-        walk.skip(text);
+        close(context, frame, walk, machine, outside)?;
+        let around = walk.text;
+        walk.skip(around);
     }
     Ok(true)
 }
 
 /// Works the item that is reached.
 #[tactic(auto, using(crate::proofs::AskedCalls::asked_none))]
-fn turn<S: System>(
-    text: &SpecTree,
-    context: &Context<'_>,
-    walk: &mut Walk,
+fn turn<'w, S: System>(
+    context: &'w Context<'_>,
+    walk: &mut Walk<'w>,
     machine: &mut Machine,
     outside: &mut Outside<'_, S>,
 ) -> Result<(), MachineFault>
-    requires lain { Lain text.now walk.old }
-    requires at_item { AtItem text.now walk.old }
+    requires lain { Lain walk.old.text.now walk.old }
+    requires at_item { AtItem walk.old.text.now walk.old }
     requires sized { length machine.old.world.hidden ≡ length context.now.switches }
     ensures asks { Asked S.events outside.old outside.new }
-    ensures does { (F : Facts) → Extends outside.new.facts.now F → (given : Answer (Unit {0} × running.Machine)) → Left F context.now text.now walk.old machine.old given → Went F context.now text.now walk.new machine.new given result }
+    ensures does { (F : Facts) → Extends outside.new.facts.now F → (given : Answer (Unit {0} × running.Machine)) → Left F context.now walk.old.text.now walk.old machine.old given → Went F context.now walk.new.text.now walk.new machine.new given result }
     ensures sized { length machine.new.world.hidden ≡ length machine.old.world.hidden }
     ensures counts { OnOk result (machine.new.world.items ≡ machine.old.world.items + 1) }
     ensures below { OnOk result (machine.old.world.items < 1000000) }
 {
+    let text = walk.text;
     let at = walk.at;
     let token = token_at(text, at);
     machine.count()?;
     let next = token.next as usize;
     match token.kind {
         TokenKind::Choose => choose(text, context, at + 1, next, walk, machine, outside),
+        TokenKind::NamedText => {
+            walk.at = next;
+            open_text(context, text.word(at), walk)
+        }
+        TokenKind::BuiltinText => {
+            walk.at = next;
+            open_text(context, text.word(at), walk)
+        }
+        TokenKind::Function => open_call(at, next, walk, machine),
+        TokenKind::FailureFile => {
+            work_failure(text, context, at + 1, next, walk, machine, outside)
+        }
+        TokenKind::ArgumentsFile => {
+            work_filed(text, context, at + 1, next, walk, machine, outside)
+        }
+        // Most items are plain bytes, which take a shorter path.
+        TokenKind::Plain => {
+            walk.at = next;
+            machine.put_item(text.word(at))
+        }
         _ => {
             walk.at = next;
             work_item(text, context, at, token, walk.star, machine, outside)
@@ -117,9 +164,9 @@ fn turn<S: System>(
 
 /// Works a whole text.
 #[tactic(auto, using(crate::proofs::AskedCalls::asked_further))]
-pub(crate) fn work_text<S: System>(
-    text: &SpecTree,
-    context: &Context<'_>,
+pub(crate) fn work_text<'w, S: System>(
+    text: &'w SpecTree,
+    context: &'w Context<'_>,
     machine: &mut Machine,
     outside: &mut Outside<'_, S>,
 ) -> Result<(), MachineFault>
@@ -127,9 +174,9 @@ pub(crate) fn work_text<S: System>(
     ensures asks { Asked S.events outside.old outside.new }
     ensures does { (F : Facts) → Extends outside.new.facts.now F → GivesKnown MachineFault.Memory (λ u. (tt, machine.new)) result (run F context.now machine.old (items_step F context.now (tree_of text.now) (levels_left F context.now most_open) [])) }
 {
-    let mut walk = Walk::new(machine.alloc(), text.tokens().len());
-    while settle(text, context, &mut walk, machine, outside)? {
-        turn(text, context, &mut walk, machine, outside)?;
+    let mut walk = Walk::new(machine.alloc(), text, text.tokens().len());
+    while settle(context, &mut walk, machine, outside)? {
+        turn(context, &mut walk, machine, outside)?;
     }
     Ok(())
 }

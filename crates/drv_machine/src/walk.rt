@@ -10,6 +10,7 @@ ghost use Rattle.drv_system.specs.Facts.{Facts};
 ghost use Rattle.std.specs.Prelude.{◌≡◌, ◌<◌, [], None, drop, length};
 
 use crate::Context;
+use crate::machine::Cutter;
 use crate::places::token_at;
 use crate::stack::Stack;
 use drv_syntax::{SpecTree, TokenKind};
@@ -30,47 +31,73 @@ pub(crate) struct Each {
     pub(crate) end: usize,
 }
 
-/// What a part was opened for. A row that opens a part of another kind adds a variant.
-#[derive(Clone, Copy, Debug)]
-pub(crate) enum Opened {
-    /// A working of an X for the hit at a place of the line. The part around it goes on behind X.
-    Hit(Each, usize),
-    /// A named text. The part around it goes on at a place.
-    Text(usize),
+/// A test by a function: its place, and where the tests behind it begin; where the X begins that it asks for, and where that
+/// ends, and whether it has a `%*` of its own; and where the braces end.
+#[derive(Clone, Copy, Debug, Default)]
+pub(crate) struct Asking {
+    pub(crate) test: usize,
+    pub(crate) from: usize,
+    pub(crate) start: usize,
+    pub(crate) next: usize,
+    pub(crate) own: bool,
+    pub(crate) end: usize,
 }
 
-impl Default for Opened {
-    fn default() -> Opened {
-        Opened::Text(0)
+/// What a part was opened for. A row that opens a part of another kind adds a variant.
+#[derive(Drop)]
+pub(crate) enum Opened<'a> {
+    /// A working of an X for the hit at a place of the line. The part around it goes on behind X.
+    Hit(Each, usize),
+    /// A named text. The part around it lies in this text, and goes on at a place of it.
+    Text(&'a SpecTree, usize),
+    /// A `%W`. The part around it goes on at a place.
+    Failure(usize),
+    /// A `%@` that makes a file of its words. The part around it goes on at a place.
+    File(usize),
+    /// A `%@` that means what its braces mean. The part around it goes on at a place.
+    Inside(usize),
+    /// The arguments of the function at a place, and what was cut before them. The part around it goes on at a place.
+    Call(usize, usize, Box<Cutter>),
+    /// The arguments of a function that a test asks, and what was cut before them.
+    Asks(Asking, Box<Cutter>),
+}
+
+impl<'a> Default for Opened<'a> {
+    fn default() -> Opened<'a> {
+        Opened::Failure(0)
     }
 }
 
 /// An open part: what it was opened for, and of the part around it where it ends, and what `%*` is there.
-#[derive(Clone, Copy, Debug, Default)]
-pub(crate) struct Frame {
-    pub(crate) opened: Opened,
+#[derive(Default, Drop)]
+pub(crate) struct Frame<'a> {
+    pub(crate) opened: Opened<'a>,
     pub(crate) end: usize,
     pub(crate) star: Option<Rest>,
 }
 
-/// A walk: the place that is reached, where the innermost open part ends, what `%*` stands for in it, and the open parts.
+/// A walk: the text that is worked, the place of it that is reached, where the innermost open part ends, what `%*` stands
+/// for in it, and the open parts.
 #[derive(Drop)]
-pub(crate) struct Walk {
+pub(crate) struct Walk<'a> {
+    pub(crate) text: &'a SpecTree,
     pub(crate) at: usize,
     pub(crate) end: usize,
     pub(crate) star: Option<Rest>,
-    pub(crate) frames: Stack,
+    pub(crate) frames: Stack<'a>,
 }
 
-impl Walk {
+impl<'a> Walk<'a> {
     /// A walk over a whole text of so many parts.
-    pub(crate) fn new(alloc: Global, end: usize) -> Walk
+    pub(crate) fn new(alloc: Global, text: &'a SpecTree, end: usize) -> Walk<'a>
+        ensures text { result.text.now ≡ text.now }
         ensures at { result.at ≡ 0 }
         ensures end { result.end ≡ end }
         ensures star { result.star ≡ None }
         ensures frames { result.frames ≡ [] }
     {
         Walk {
+            text,
             at: 0,
             end,
             star: None,

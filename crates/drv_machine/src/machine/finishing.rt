@@ -166,15 +166,15 @@ fn command_of<S: System>(
     })
 }
 
-/// The temporaries of a job, whose files are empty. Paths are moved.
+/// The temporaries of a job, with what their files hold. Words are moved.
 fn temps_of(alloc: Global, drawn: Listing<Drawn>) -> Result<Listing<Temp>, AllocError>
-    ensures { IfOk result (λ temps. temps ≡ map (λ name. record { path = name.path; contents = [] }) drawn) }
+    ensures { IfOk result (λ temps. temps ≡ map (λ name. record { path = name.path; contents = name.contents }) drawn) }
 {
     let mut temps = Listing::new(alloc);
     for name in drawn.into_vec() {
         temps.push(Temp {
             path: name.path,
-            contents: Word::empty(alloc),
+            contents: name.contents,
         })?;
     }
     Ok(temps)

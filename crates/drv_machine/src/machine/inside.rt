@@ -1,6 +1,7 @@
 //! What ends in the `%W` that are open.
 
-ghost use Rattle.std.specs.Prelude.{◌≡◌, [], OnOk, Some, map};
+ghost use Rattle.drv_machine.specs.Held.{Ends};
+ghost use Rattle.std.specs.Prelude.{◌≡◌, ◌∷◌, [], IfOk, None, OnOk, Some, map};
 
 use drv_words::Word;
 use std::alloc::{AllocError, Global};
@@ -49,5 +50,36 @@ impl Inside {
         self.last = word.clone()?;
         self.fresh = 0;
         Ok(())
+    }
+
+    /// One more is open.
+    pub(crate) fn open(&mut self) -> Result<(), AllocError>
+        ensures { OnOk result (self.new ≡ None ∷ self.old) }
+    {
+        if self.count == usize::MAX {
+            return Err(AllocError);
+        }
+        self.count += 1;
+        self.fresh += 1;
+        Ok(())
+    }
+
+    /// The innermost one ends, if one is open: the last word that ended in it, if one did.
+    pub(crate) fn close(&mut self) -> Result<Option<Word>, AllocError>
+        ensures { IfOk result (λ last. Ends self.old self.new last) }
+    {
+        let count = self.count;
+        let fresh = self.fresh;
+        if count == 0 {
+            return Ok(None);
+        }
+        if fresh == 0 {
+            let last = self.last.clone()?;
+            self.count -= 1;
+            return Ok(Some(last));
+        }
+        self.fresh -= 1;
+        self.count -= 1;
+        Ok(None)
     }
 }

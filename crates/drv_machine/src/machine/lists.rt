@@ -63,7 +63,7 @@ impl Machine {
 
     /// Bytes are put, with a break behind them.
     #[tactic(auto, using(crate::proofs::AskedCalls::asked_further))]
-    fn put_broken<S: System>(
+    pub(crate) fn put_broken<S: System>(
         &mut self,
         word: &[u8],
         context: &Context<'_>,

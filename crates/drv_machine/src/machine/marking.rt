@@ -5,7 +5,7 @@ ghost use Rattle.drv_machine.specs.Context as specs;
 ghost use Rattle.drv_machine.specs.Cutting.{found_file, found_script, marked, no_marks, script_option, word_done};
 ghost use Rattle.drv_machine.specs.Held.{word_found};
 ghost use Rattle.drv_machine.specs.Running.{run};
-ghost use Rattle.drv_machine.specs.Working.{Break, Marked, Without, puts};
+ghost use Rattle.drv_machine.specs.Working.{Break, From, Marked, To, Without, puts};
 ghost use Rattle.drv_system.specs.Asking.{Extends};
 ghost use Rattle.drv_system.specs.Facts.{Facts};
 ghost use Rattle.drv_system.specs.Gives.{GivesKnown};
@@ -245,5 +245,42 @@ impl Machine {
             return self.finish_file(&word, context, outside);
         }
         self.finish_word(word)
+    }
+
+    /// A `%W` begins.
+    pub(crate) fn begin_failure(&mut self) -> Result<(), MachineFault>
+        ensures does { (F : Facts) (C : specs.Context) → GivesKnown MachineFault.Memory (λ u. (tt, self.new)) result (run F C self.old (puts (From ∷ []))) }
+        ensures same { self.new.world ≡ self.old.world }
+    {
+        self.inside.open()?;
+        Ok(())
+    }
+
+    /// The innermost `%W` ends, and the last word that ended in it is a failure file.
+    fn close_inside(&mut self) -> Result<(), MachineFault>
+        ensures does { (F : Facts) (C : specs.Context) → GivesKnown MachineFault.Memory (λ u. (tt, self.new)) result (run F C self.old (puts (To ∷ []))) }
+        ensures same { self.new.world ≡ self.old.world }
+    {
+        let Some(word) = self.inside.close()? else {
+            return Ok(());
+        };
+        self.on_failure.push(word)?;
+        Ok(())
+    }
+
+    /// The open word ends, and with it the innermost `%W`.
+    #[tactic(auto, using(crate::proofs::AskedCalls::asked_further))]
+    pub(crate) fn end_failure<S: System>(
+        &mut self,
+        context: &Context<'_>,
+        outside: &mut Outside<'_, S>,
+    ) -> Result<(), MachineFault>
+        ensures asks { Asked S.events outside.old outside.new }
+        ensures does { (F : Facts) → Extends outside.new.facts.now F → GivesKnown MachineFault.Memory (λ u. (tt, self.new)) result (run F context.now self.old (puts (Break ∷ To ∷ []))) }
+        ensures sized { length self.new.world.hidden ≡ length self.old.world.hidden }
+        ensures uncounted { OnOk result (self.new.world.items ≡ self.old.world.items) }
+    {
+        self.end_word(context, outside)?;
+        self.close_inside()
     }
 }

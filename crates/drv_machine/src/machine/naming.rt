@@ -1,7 +1,7 @@
 //! Names of temporaries.
 
 ghost use Rattle.drv_machine.specs.Asked.{Asked};
-ghost use Rattle.drv_machine.specs.Atoms.{draw, drawn_or_new, name_step, new_name_step, temp_step};
+ghost use Rattle.drv_machine.specs.Atoms.{draw, draw_with, drawn_or_new, name_step, new_name_step, temp_step};
 ghost use Rattle.drv_machine.specs.Running.{run};
 ghost use Rattle.drv_machine.specs.Temps.{folder, hex, hex_digit, is_drawn, last_drawn, temp_name};
 ghost use Rattle.drv_system.specs.Asking.{Extends};
@@ -27,6 +27,8 @@ pub(crate) struct Drawn {
     pub(crate) shared: bool,
     pub(crate) suffix: Word,
     pub(crate) path: Word,
+    /// What its file holds.
+    pub(crate) contents: Word,
 }
 
 /// A digit of a number in base 16.
@@ -117,7 +119,35 @@ fn last_drawn<'a>(drawn: &'a [Drawn], shared: bool, suffix: &[u8]) -> Option<&'a
 }
 
 impl Machine {
-    /// A name is drawn, by `%g` or not, and it is a temporary of the job.
+    /// A name is drawn, by `%g` or not, for a file with these contents, and it is a temporary of the job.
+    pub(crate) fn draw_with<S: System>(
+        &mut self,
+        contents: Word,
+        shared: bool,
+        suffix: &[u8],
+        context: &Context<'_>,
+        outside: &mut Outside<'_, S>,
+    ) -> Result<Word, MachineFault>
+        ensures asks { Asked S.events outside.old outside.new }
+        ensures does { (F : Facts) → Extends outside.new.facts.now F → GivesKnown MachineFault.Memory (λ path. (path, self.new)) result (run F context.now self.old (draw_with F context.now contents shared suffix.now)) }
+        ensures sized { length self.new.world.hidden ≡ length self.old.world.hidden }
+        ensures uncounted { OnOk result (self.new.world.items ≡ self.old.world.items) }
+    {
+        let path = temp_name(self.alloc, context.seed(), self.number, suffix, outside)?;
+        let Some(next) = self.number.checked_add(1) else {
+            return Err(MachineFault::Memory);
+        };
+        self.drawn.push(Drawn {
+            shared,
+            suffix: Word::from_bytes(self.alloc, suffix)?,
+            path: path.clone()?,
+            contents,
+        })?;
+        self.number = next;
+        Ok(path)
+    }
+
+    /// A name is drawn, by `%g` or not, for a file that is empty.
     fn draw<S: System>(
         &mut self,
         shared: bool,
@@ -130,17 +160,7 @@ impl Machine {
         ensures sized { length self.new.world.hidden ≡ length self.old.world.hidden }
         ensures uncounted { OnOk result (self.new.world.items ≡ self.old.world.items) }
     {
-        let path = temp_name(self.alloc, context.seed(), self.number, suffix, outside)?;
-        let Some(next) = self.number.checked_add(1) else {
-            return Err(MachineFault::Memory);
-        };
-        self.drawn.push(Drawn {
-            shared,
-            suffix: Word::from_bytes(self.alloc, suffix)?,
-            path: path.clone()?,
-        })?;
-        self.number = next;
-        Ok(path)
+        self.draw_with(Word::empty(self.alloc), shared, suffix, context, outside)
     }
 
     /// The last name that was drawn so with this suffix, or else a new one.

@@ -7,11 +7,12 @@ use Rattle.drv_syntax.specs.Labels.{test_nodes}
 use Rattle.drv_syntax.specs.Tree.{Tests}
 use Rattle.drv_system.specs.Asking.{Extends}
 use Rattle.drv_system.specs.Facts.{Facts}
-use Rattle.std.proofs.Common.{List, length, ◌-◌, ◌≡◌, ℕ}
+use Rattle.std.proofs.Common.{List, length, ◌-◌, ◌≡◌, ◌≤◌, ℕ}
 
 abbrev pub invariant-loop-at : goal.invariant-loop-at
 invariant-loop-at g l = record {
   asks : Asked g.S.System.events l.fn.outside l.outside;
+  low : l.start ≤ l.at;
   spans : Spans l.text l.at l.end;
   sized : length l.machine.world.hidden ≡ length l.context.switches;
   uncounted : l.machine.world.items ≡ l.fn.machine.world.items;

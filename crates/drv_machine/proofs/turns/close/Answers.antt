@@ -1,29 +1,70 @@
-use Rattle.drv_machine.proofs.Onward.{leaf}
+use Rattle.drv_machine.proofs.AskedCalls.{extends_before}
+use Rattle.drv_machine.proofs.Judging.{answer_refused, answered}
+use Rattle.drv_machine.proofs.Onward.{after_leaf, as_behind, behind_in, leaf, once_lighter, went_in}
 use Rattle.drv_machine.proofs.turns.close.Goals as goal
-use Rattle.drv_machine.specs.Walking.{Behind, OpenedFits, back_of, closing, hits_left}
-use Rattle.drv_machine.specs.declared.walk.Opened.TheVariants.{Text}
+use Rattle.drv_machine.specs.Atoms.{has_value, value_step}
+use Rattle.drv_machine.specs.Cutting.{Cut}
+use Rattle.drv_machine.specs.Running.{run}
+use Rattle.drv_machine.specs.Walking.{After, OpenedFits, back_of, behind_arguments, closing, file_end, hit_end, hits_left, text_around, weight}
+use Rattle.drv_machine.specs.Working.{Break, To, nothing, puts}
+use Rattle.drv_machine.specs.declared.fault.MachineFault.TheVariants.{Memory}
 use Rattle.drv_machine.specs.declared.walk.Opened.{Opened}
-use Rattle.std.proofs.Common.{Ok, ap, arith, length, refl, subst}
+use Rattle.drv_system.specs.Gives.{GivesKnown}
+use Rattle.drv_system.specs.Known.{Is}
+use Rattle.std.proofs.Common.{◌≡◌, ◌⊎◌, ◌∙◌, Err, List, [], ◌∷◌, Ok, ap, arith, length, refl, rules, subst, ℕ}
 
 pub close_hit-requires-clause-in_list : goal.close_hit-requires-clause-in_list
 close_hit-requires-clause-in_list g c =
-    (subst (λ (o : Opened). OpenedFits c.args.text.now c.args.context.now o c.requires.fits.0 c.requires.fits.1) c.in-Hit.is c.requires.fits.2).in_list
+    (subst (λ (o : Opened). OpenedFits c.args.walk.now.text.now c.args.context.now o c.requires.fits.0 c.requires.fits.1 c.requires.fits.2) c.in-Hit.is c.requires.fits.3).in_list
 
 pub close_hit-requires-clause-in_line : goal.close_hit-requires-clause-in_line
 close_hit-requires-clause-in_line g c =
-    (subst (λ (o : Opened). OpenedFits c.args.text.now c.args.context.now o c.requires.fits.0 c.requires.fits.1) c.in-Hit.is c.requires.fits.2).in_line
+    (subst (λ (o : Opened). OpenedFits c.args.walk.now.text.now c.args.context.now o c.requires.fits.0 c.requires.fits.1 c.requires.fits.2) c.in-Hit.is c.requires.fits.3).in_line
 
 pub returns-in-Hit-clause-does : goal.returns-in-Hit-clause-does
-returns-in-Hit-clause-does g c F e p items given fits b =
-    c.close_hit.ensures.does F e p items given (subst (λ (o : Opened). OpenedFits c.args.text.now c.args.context.now o p items) c.in-Hit.is fits)
-    (subst (λ (o : Opened). Behind F c.args.context.now c.args.text.now (record c.args.walk.now { end = c.args.frame.end; star = c.args.frame.star }) (back_of o) (λ levels star. closing F c.args.context.now levels o p items) c.args.machine.now given)
-    c.in-Hit.is b)
+returns-in-Hit-clause-does g c F e p items kept given fits a =
+    went_in F c.args.context.now c.args.walk.now.text.now c.close_hit.new.walk.text.now c.close_hit.new.walk c.close_hit.new.machine given c.close_hit.result c.close_hit.ensures.same_text
+    (c.close_hit.ensures.does F e p items given (subst (λ (o : Opened). OpenedFits c.args.walk.now.text.now c.args.context.now o p items kept) c.in-Hit.is fits)
+    (as_behind F c.args.context.now c.args.walk.now.text.now (record c.args.walk.now { end = c.args.frame.end; star = c.args.frame.star }) c.in-Hit.each.end (λ levels star. hit_end F c.args.context.now p items levels c.in-Hit.switch) c.args.machine.now given
+    (subst (λ (o : Opened). After F c.args.context.now (text_around c.args.walk.now.text.now o) (record c.args.walk.now { end = c.args.frame.end; star = c.args.frame.star }) (back_of o) (λ levels star s. closing F c.args.context.now levels star o p items kept s) c.args.machine.now given) c.in-Hit.is a)))
 
 pub returns-in-Text-clause-does : goal.returns-in-Text-clause-does
-returns-in-Text-clause-does g c F e p items given fits b =
-    leaf F c.args.context.now c.args.text.now (record c.args.walk.now { end = c.args.frame.end; star = c.args.frame.star }) c.args.machine.now given c.in-Text.back (λ levels star. closing F c.args.context.now levels (Text c.in-Text.back) p items)
-    (subst (λ (o : Opened). Behind F c.args.context.now c.args.text.now (record c.args.walk.now { end = c.args.frame.end; star = c.args.frame.star }) (back_of o) (λ levels star. closing F c.args.context.now levels o p items) c.args.machine.now given)
-    c.in-Text.is b) (Ok tt) c.args.machine.now refl
+returns-in-Text-clause-does g c F e p items kept given fits a =
+    leaf F c.args.context.now c.in-Text.around.now (record c.args.walk.now { text = c.in-Text.around; end = c.args.frame.end; star = c.args.frame.star }) c.args.machine.now given c.in-Text.back (λ levels star. nothing)
+    (behind_in F c.args.context.now c.in-Text.around.now (record c.args.walk.now { end = c.args.frame.end; star = c.args.frame.star }) (record c.args.walk.now { text = c.in-Text.around; end = c.args.frame.end; star = c.args.frame.star })
+    c.in-Text.back (λ levels star. nothing) c.args.machine.now given refl refl refl
+    (as_behind F c.args.context.now c.in-Text.around.now (record c.args.walk.now { end = c.args.frame.end; star = c.args.frame.star }) c.in-Text.back (λ levels star. nothing) c.args.machine.now given
+    (subst (λ (o : Opened). After F c.args.context.now (text_around c.args.walk.now.text.now o) (record c.args.walk.now { end = c.args.frame.end; star = c.args.frame.star }) (back_of o) (λ levels star s. closing F c.args.context.now levels star o p items kept s) c.args.machine.now given) c.in-Text.is a))) (Ok tt) c.args.machine.now refl
+
+pub returns-in-Failure-clause-does : goal.returns-in-Failure-clause-does
+returns-in-Failure-clause-does g c F e p items kept given fits a =
+    leaf F c.args.context.now c.args.walk.now.text.now (record c.args.walk.now { end = c.args.frame.end; star = c.args.frame.star }) c.args.machine.now given c.in-Failure.back (λ levels star. puts (Break ∷ To ∷ []))
+    (as_behind F c.args.context.now c.args.walk.now.text.now (record c.args.walk.now { end = c.args.frame.end; star = c.args.frame.star }) c.in-Failure.back (λ levels star. puts (Break ∷ To ∷ [])) c.args.machine.now given
+    (subst (λ (o : Opened). After F c.args.context.now (text_around c.args.walk.now.text.now o) (record c.args.walk.now { end = c.args.frame.end; star = c.args.frame.star }) (back_of o) (λ levels star s. closing F c.args.context.now levels star o p items kept s) c.args.machine.now given) c.in-Failure.is a)) c.end_failure.result c.end_failure.new.self (c.end_failure.ensures.does F e)
+
+pub returns-in-File-clause-does : goal.returns-in-File-clause-does
+returns-in-File-clause-does g c F e p items kept given fits a =
+    after_leaf F c.args.context.now c.args.walk.now.text.now (record c.args.walk.now { end = c.args.frame.end; star = c.args.frame.star }) c.args.machine.now given c.in-File.back (λ levels star s. file_end F c.args.context.now s)
+    (subst (λ (o : Opened). After F c.args.context.now (text_around c.args.walk.now.text.now o) (record c.args.walk.now { end = c.args.frame.end; star = c.args.frame.star }) (back_of o) (λ levels star s. closing F c.args.context.now levels star o p items kept s) c.args.machine.now given) c.in-File.is a) c.end_file.result c.end_file.new.self (c.end_file.ensures.does F e)
+
+pub returns-in-Inside-clause-does : goal.returns-in-Inside-clause-does
+returns-in-Inside-clause-does g c F e p items kept given fits a =
+    after_leaf F c.args.context.now c.args.walk.now.text.now (record c.args.walk.now { end = c.args.frame.end; star = c.args.frame.star }) c.args.machine.now given c.in-Inside.back (λ levels star s. run F c.args.context.now s nothing)
+    (subst (λ (o : Opened). After F c.args.context.now (text_around c.args.walk.now.text.now o) (record c.args.walk.now { end = c.args.frame.end; star = c.args.frame.star }) (back_of o) (λ levels star s. closing F c.args.context.now levels star o p items kept s) c.args.machine.now given) c.in-Inside.is a) (Ok tt) c.args.machine.now refl
+
+pub word-requires : goal.word-requires
+word-requires g c =
+    (subst (λ (o : Opened). OpenedFits c.args.walk.now.text.now c.args.context.now o c.requires.fits.0 c.requires.fits.1 c.requires.fits.2) c.in-Call.is c.requires.fits.3).in_list
+
+pub returns-in-Call-clause-does : goal.returns-in-Call-clause-does
+returns-in-Call-clause-does g c F e p items kept given fits a =
+    let call = subst (λ (o : Opened). OpenedFits c.args.walk.now.text.now c.args.context.now o p items kept) c.in-Call.is fits in
+    after_leaf F c.args.context.now c.args.walk.now.text.now (record c.args.walk.now { end = c.args.frame.end; star = c.args.frame.star }) c.args.machine.now given c.in-Call.back (λ levels star s. behind_arguments F c.args.context.now c.in-Call.outer.value (value_step F c.args.context.now kept.name) s)
+    (subst (λ (o : Opened). After F c.args.context.now (text_around c.args.walk.now.text.now o) (record c.args.walk.now { end = c.args.frame.end; star = c.args.frame.star }) (back_of o) (λ levels star s. closing F c.args.context.now levels star o p items kept s) c.args.machine.now given) c.in-Call.is a) c.put_value.result c.put_value.new.self
+    (subst (λ (name : List ℕ). GivesKnown Memory (λ u. (tt, c.put_value.new.self)) c.put_value.result (behind_arguments F c.args.context.now c.in-Call.outer.value (value_step F c.args.context.now name) c.args.machine.now))
+    (c.word.ensures ∙ call.name_is)
+    (subst (λ (cut : Cut). GivesKnown Memory (λ u. (tt, c.put_value.new.self)) c.put_value.result (behind_arguments F c.args.context.now cut (value_step F c.args.context.now c.word.result.now) c.args.machine.now))
+    (let same : c.into_inner.result ≡ c.in-Call.outer.value = search rules in same) (c.put_value.ensures.does F e)))
 
 pub returns-in-Hit-clause-lighter : goal.returns-in-Hit-clause-lighter
 returns-in-Hit-clause-lighter g c =
@@ -33,3 +74,51 @@ returns-in-Hit-clause-lighter g c =
 
 pub returns-in-Text-clause-lighter : goal.returns-in-Text-clause-lighter
 returns-in-Text-clause-lighter g c = let e = ap (hits_left (length c.args.context.now.switches)) c.in-Text.is in omega (arith, e)
+
+pub returns-in-Failure-clause-lighter : goal.returns-in-Failure-clause-lighter
+returns-in-Failure-clause-lighter g c =
+    let e = ap (hits_left (length c.args.context.now.switches)) c.in-Failure.is in
+    once_lighter c.end_failure.result (weight (length c.args.context.now.switches) c.args.walk.now.frames) (hits_left (length c.args.context.now.switches) c.args.frame.opened) (omega (arith, e))
+
+pub returns-in-File-clause-lighter : goal.returns-in-File-clause-lighter
+returns-in-File-clause-lighter g c =
+    let e = ap (hits_left (length c.args.context.now.switches)) c.in-File.is in
+    once_lighter c.end_file.result (weight (length c.args.context.now.switches) c.args.walk.now.frames) (hits_left (length c.args.context.now.switches) c.args.frame.opened) (omega (arith, e))
+
+pub returns-in-Inside-clause-lighter : goal.returns-in-Inside-clause-lighter
+returns-in-Inside-clause-lighter g c = let e = ap (hits_left (length c.args.context.now.switches)) c.in-Inside.is in omega (arith, e)
+
+pub returns-in-Call-clause-lighter : goal.returns-in-Call-clause-lighter
+returns-in-Call-clause-lighter g c =
+    let e = ap (hits_left (length c.args.context.now.switches)) c.in-Call.is in
+    once_lighter c.put_value.result (weight (length c.args.context.now.switches) c.args.walk.now.frames) (hits_left (length c.args.context.now.switches) c.args.frame.opened) (omega (arith, e))
+
+pub word-name-requires : goal.word-name-requires
+word-name-requires g c =
+    (subst (λ (o : Opened). OpenedFits c.args.walk.now.text.now c.args.context.now o c.requires.fits.0 c.requires.fits.1 c.requires.fits.2) c.in-Asks.is c.requires.fits.3).in_list
+
+pub answer-requires-clause-fits : goal.answer-requires-clause-fits
+answer-requires-clause-fits g c =
+    (c.requires.fits.1, c.requires.fits.2, subst (λ (o : Opened). OpenedFits c.args.walk.now.text.now c.args.context.now o c.requires.fits.0 c.requires.fits.1 c.requires.fits.2) c.in-Asks.is c.requires.fits.3)
+
+pub returns-in_err-holds-in-Asks-clause-does : goal.returns-in_err-holds-in-Asks-clause-does
+returns-in_err-holds-in-Asks-clause-does g c F e p items kept given fits a =
+    let ask = subst (λ (o : Opened). OpenedFits c.args.walk.now.text.now c.args.context.now o p items kept) c.in-Asks.is fits in
+    let failed =
+    answer_refused F c.args.context.now c.args.walk.now.text.now (record c.args.walk.now { end = c.args.frame.end; star = c.args.frame.star }) items kept given c.in-Asks.asking.end c.in-Asks.outer.value c.args.machine.now
+    (subst (λ (o : Opened). After F c.args.context.now (text_around c.args.walk.now.text.now o) (record c.args.walk.now { end = c.args.frame.end; star = c.args.frame.star }) (back_of o) (λ levels star s. closing F c.args.context.now levels star o p items kept s) c.args.machine.now given) c.in-Asks.is a) c.in_err-holds-in-Asks.field-0.0
+    (subst (λ (name : List ℕ). (c.in_err-holds-in-Asks.field-0.0 ≡ Memory) ⊎ (behind_arguments F c.args.context.now c.in-Asks.outer.value (has_value F c.args.context.now name) c.args.machine.now ≡ Is (Err c.in_err-holds-in-Asks.field-0.0))) (c.word-name.ensures ∙ ask.name_is)
+    (subst (λ (cut : Cut). (c.in_err-holds-in-Asks.field-0.0 ≡ Memory) ⊎ (behind_arguments F c.args.context.now cut (has_value F c.args.context.now c.word-name.result.now) c.args.machine.now ≡ Is (Err c.in_err-holds-in-Asks.field-0.0))) (let same : c.into_inner-in-Asks.result ≡ c.in-Asks.outer.value = search rules in same) (c.in_err-holds-in-Asks.ensures.does F e))) in
+    let f = c.from_residual.ensures in
+    search rules
+
+pub returns-in_ok-holds-in-Asks-clause-does : goal.returns-in_ok-holds-in-Asks-clause-does
+returns-in_ok-holds-in-Asks-clause-does g c F e p items kept given fits a =
+    let ask = subst (λ (o : Opened). OpenedFits c.args.walk.now.text.now c.args.context.now o p items kept) c.in-Asks.is fits in
+    went_in F c.args.context.now c.args.walk.now.text.now c.answer.new.walk.text.now c.answer.new.walk c.answer.new.machine given c.answer.result c.answer.ensures.same_text
+    (c.answer.ensures.does F e items kept given ask
+    (answered F c.args.context.now c.args.walk.now.text.now (record c.args.walk.now { end = c.args.frame.end; star = c.args.frame.star }) items kept given c.in-Asks.asking.end c.in-Asks.outer.value c.args.machine.now
+    (subst (λ (o : Opened). After F c.args.context.now (text_around c.args.walk.now.text.now o) (record c.args.walk.now { end = c.args.frame.end; star = c.args.frame.star }) (back_of o) (λ levels star s. closing F c.args.context.now levels star o p items kept s) c.args.machine.now given) c.in-Asks.is a) c.in_ok-holds-in-Asks.holds c.has_value.new.self
+    (subst (λ (name : List ℕ). behind_arguments F c.args.context.now c.in-Asks.outer.value (has_value F c.args.context.now name) c.args.machine.now ≡ Is (Ok (c.in_ok-holds-in-Asks.holds, c.has_value.new.self))) (c.word-name.ensures ∙ ask.name_is)
+    (subst (λ (cut : Cut). behind_arguments F c.args.context.now cut (has_value F c.args.context.now c.word-name.result.now) c.args.machine.now ≡ Is (Ok (c.in_ok-holds-in-Asks.holds, c.has_value.new.self))) (let same : c.into_inner-in-Asks.result ≡ c.in-Asks.outer.value = search rules in same)
+    (c.in_ok-holds-in-Asks.ensures.does F (extends_before c.answer.ensures.asks e))))))

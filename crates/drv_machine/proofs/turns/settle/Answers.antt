@@ -1,6 +1,6 @@
 use Rattle.drv_machine.proofs.AskedCalls.{asked_further, asked_none, extends_before}
-use Rattle.drv_machine.proofs.Onward.{weight_one}
-use Rattle.drv_machine.proofs.TurnSteps.{as_left, can_close, closed, framed_of, given_of, lain_of, none_popped, walk_ended}
+use Rattle.drv_machine.proofs.Onward.{left_in, weight_one}
+use Rattle.drv_machine.proofs.TurnSteps.{as_left, can_close, closed, given_of, item_in, none_popped, walk_ended}
 use Rattle.drv_machine.proofs.turns.settle.Goals as goal
 use Rattle.drv_machine.specs.Walking.{Left, weight}
 use Rattle.drv_machine.specs.declared.fault.MachineFault.TheVariants.{Memory}
@@ -17,52 +17,55 @@ skip-requires g c = c.requires.lain
 
 pub loop-walk-init : goal.loop-walk-init
 loop-walk-init g c =
-    let start = c.skip.ensures.does no_facts c.args.context.now c.args.machine.now (given_of no_facts c.args.context.now c.args.text.now c.args.walk.now c.args.machine.now c.requires.lain c.requires.framed)
-    (as_left no_facts c.args.context.now c.args.text.now c.args.walk.now c.args.machine.now c.requires.lain c.requires.framed) in record {
+    let same = ap (λ (v : Walk). v.text.now) c.skip.ensures.same in
+    let start =
+    left_in no_facts c.args.context.now c.args.walk.now.text.now c.skip.new.self.text.now c.skip.new.self c.args.machine.now (given_of no_facts c.args.context.now c.args.walk.now.text.now c.args.walk.now c.args.machine.now c.requires.lain c.requires.framed) same
+    (c.skip.ensures.does no_facts c.args.context.now c.args.machine.now (given_of no_facts c.args.context.now c.args.walk.now.text.now c.args.walk.now c.args.machine.now c.requires.lain c.requires.framed)
+    (as_left no_facts c.args.context.now c.args.walk.now.text.now c.args.walk.now c.args.machine.now c.requires.lain c.requires.framed)) in record {
       asks = asked_none c.args.outside.now;
-      lain = lain_of no_facts c.args.context.now c.args.text.now c.skip.new.self c.args.machine.now (given_of no_facts c.args.context.now c.args.text.now c.args.walk.now c.args.machine.now c.requires.lain c.requires.framed) start;
-      framed = framed_of no_facts c.args.context.now c.args.text.now c.skip.new.self c.args.machine.now (given_of no_facts c.args.context.now c.args.text.now c.args.walk.now c.args.machine.now c.requires.lain c.requires.framed) start;
+      lain = record { rest = start.rest; lies = start.lies };
+      framed = record { arounds = start.arounds; framed = start.framed };
       sized = c.requires.sized;
       uncounted = refl;
-      reached = c.skip.ensures.reached;
-      left = λ F e given left. c.skip.ensures.does F c.args.context.now c.args.machine.now given left;
+      reached = λ h. item_in c.args.walk.now.text.now c.skip.new.self.text.now c.skip.new.self same (c.skip.ensures.reached h);
+      left = λ F e given left. left_in F c.args.context.now c.args.walk.now.text.now c.skip.new.self.text.now c.skip.new.self c.args.machine.now given same (c.skip.ensures.does F c.args.context.now c.args.machine.now given left);
     }
 
 pub returns-in_default-clause-does : goal.returns-in_default-clause-does
 returns-in_default-clause-does g c F e given left =
-    walk_ended F c.args.context.now c.args.text.now c.loop-walk.walk c.loop-walk.machine given c.loop-walk-test.true (none_popped c.pop.result (length c.loop-walk.walk.frames) c.pop.ensures.variant c.in_default.is)
+    walk_ended F c.args.context.now c.loop-walk.walk.text.now c.loop-walk.walk c.loop-walk.machine given c.loop-walk-test.true (none_popped c.pop.result (length c.loop-walk.walk.frames) c.pop.ensures.variant c.in_default.is)
     (c.loop-walk.invariant.left F e given left)
 
 pub close-requires-clause-fits : goal.close-requires-clause-fits
 close-requires-clause-fits g c =
-    can_close c.args.text.now c.loop-walk.walk c.loop-walk-test.true c.in-Some.frame c.pop.new.self
+    can_close c.loop-walk.walk.text.now c.loop-walk.walk c.loop-walk-test.true c.in-Some.frame c.pop.new.self
     (c.pop.ensures.items ∙ ap (λ (o : Option Frame). c.pop.new.self ++ option_to_list o) c.in-Some.is)
-    no_facts c.args.context.now c.loop-walk.machine (given_of no_facts c.args.context.now c.args.text.now c.loop-walk.walk c.loop-walk.machine c.loop-walk.invariant.lain c.loop-walk.invariant.framed)
-    (as_left no_facts c.args.context.now c.args.text.now c.loop-walk.walk c.loop-walk.machine c.loop-walk.invariant.lain c.loop-walk.invariant.framed)
+    no_facts c.args.context.now c.loop-walk.machine (given_of no_facts c.args.context.now c.loop-walk.walk.text.now c.loop-walk.walk c.loop-walk.machine c.loop-walk.invariant.lain c.loop-walk.invariant.framed)
+    (as_left no_facts c.args.context.now c.loop-walk.walk.text.now c.loop-walk.walk c.loop-walk.machine c.loop-walk.invariant.lain c.loop-walk.invariant.framed)
 
 pub returns-in_err-close-clause-does : goal.returns-in_err-close-clause-does
 returns-in_err-close-clause-does g c F e given left =
     let failed =
-    closed c.args.text.now c.loop-walk.walk c.loop-walk-test.true c.in-Some.frame c.pop.new.self
+    closed c.loop-walk.walk.text.now c.loop-walk.walk c.loop-walk-test.true c.in-Some.frame c.pop.new.self
     (c.pop.ensures.items ∙ ap (λ (o : Option Frame). c.pop.new.self ++ option_to_list o) c.in-Some.is)
     F c.args.context.now c.loop-walk.machine given (c.loop-walk.invariant.left F (extends_before c.close.ensures.asks e) given left)
     (record c.loop-walk.walk { end = c.in-Some.frame.end; star = c.in-Some.frame.star; frames = c.pop.new.self }) refl refl refl
     ((c.in_err-close.field-0.0 ≡ Memory) ⊎ (given ≡ Is (Err c.in_err-close.field-0.0)))
-    (λ p items fits behind. c.in_err-close.ensures.does F e p items given fits behind) in
+    (λ p items kept fits behind. c.in_err-close.ensures.does F e p items kept given fits behind) in
     let f = c.from_residual.ensures in
     search rules
 
 pub skip-requires-in-loop-walk : goal.skip-requires-in-loop-walk
 skip-requires-in-loop-walk g c =
     let left =
-    closed c.args.text.now c.loop-walk.walk c.loop-walk-test.true c.in-Some.frame c.pop.new.self
+    closed c.loop-walk.walk.text.now c.loop-walk.walk c.loop-walk-test.true c.in-Some.frame c.pop.new.self
     (c.pop.ensures.items ∙ ap (λ (o : Option Frame). c.pop.new.self ++ option_to_list o) c.in-Some.is)
-    c.close.new.outside.facts.now c.args.context.now c.loop-walk.machine (given_of c.close.new.outside.facts.now c.args.context.now c.args.text.now c.loop-walk.walk c.loop-walk.machine c.loop-walk.invariant.lain c.loop-walk.invariant.framed)
-    (as_left c.close.new.outside.facts.now c.args.context.now c.args.text.now c.loop-walk.walk c.loop-walk.machine c.loop-walk.invariant.lain c.loop-walk.invariant.framed)
+    c.close.new.outside.facts.now c.args.context.now c.loop-walk.machine (given_of c.close.new.outside.facts.now c.args.context.now c.loop-walk.walk.text.now c.loop-walk.walk c.loop-walk.machine c.loop-walk.invariant.lain c.loop-walk.invariant.framed)
+    (as_left c.close.new.outside.facts.now c.args.context.now c.loop-walk.walk.text.now c.loop-walk.walk c.loop-walk.machine c.loop-walk.invariant.lain c.loop-walk.invariant.framed)
     (record c.loop-walk.walk { end = c.in-Some.frame.end; star = c.in-Some.frame.star; frames = c.pop.new.self }) refl refl refl
-    (Left c.close.new.outside.facts.now c.args.context.now c.args.text.now c.close.new.walk c.close.new.machine (given_of c.close.new.outside.facts.now c.args.context.now c.args.text.now c.loop-walk.walk c.loop-walk.machine c.loop-walk.invariant.lain c.loop-walk.invariant.framed))
-    (λ p items fits behind. c.in_ok-close.ensures.does c.close.new.outside.facts.now (extends_refl c.close.new.outside.facts.now) p items
-    (given_of c.close.new.outside.facts.now c.args.context.now c.args.text.now c.loop-walk.walk c.loop-walk.machine c.loop-walk.invariant.lain c.loop-walk.invariant.framed) fits behind) in
+    (Left c.close.new.outside.facts.now c.args.context.now c.close.new.walk.text.now c.close.new.walk c.close.new.machine (given_of c.close.new.outside.facts.now c.args.context.now c.loop-walk.walk.text.now c.loop-walk.walk c.loop-walk.machine c.loop-walk.invariant.lain c.loop-walk.invariant.framed))
+    (λ p items kept fits behind. c.in_ok-close.ensures.does c.close.new.outside.facts.now (extends_refl c.close.new.outside.facts.now) p items kept
+    (given_of c.close.new.outside.facts.now c.args.context.now c.loop-walk.walk.text.now c.loop-walk.walk c.loop-walk.machine c.loop-walk.invariant.lain c.loop-walk.invariant.framed) fits behind) in
     record { rest = left.rest; lies = left.lies }
 
 pub loop-walk-smaller : goal.loop-walk-smaller
@@ -73,30 +76,34 @@ loop-walk-smaller g c =
 
 pub loop-walk-preserved : goal.loop-walk-preserved
 loop-walk-preserved g c =
+    let same = ap (λ (v : Walk). v.text.now) c.skip-in-loop-walk.ensures.same in
     let after =
-    c.skip-in-loop-walk.ensures.does c.close.new.outside.facts.now c.args.context.now c.close.new.machine (given_of c.close.new.outside.facts.now c.args.context.now c.args.text.now c.loop-walk.walk c.loop-walk.machine c.loop-walk.invariant.lain c.loop-walk.invariant.framed)
-    (closed c.args.text.now c.loop-walk.walk c.loop-walk-test.true c.in-Some.frame c.pop.new.self
+    left_in c.close.new.outside.facts.now c.args.context.now c.close.new.walk.text.now c.skip-in-loop-walk.new.self.text.now c.skip-in-loop-walk.new.self c.close.new.machine
+    (given_of c.close.new.outside.facts.now c.args.context.now c.loop-walk.walk.text.now c.loop-walk.walk c.loop-walk.machine c.loop-walk.invariant.lain c.loop-walk.invariant.framed) same
+    (c.skip-in-loop-walk.ensures.does c.close.new.outside.facts.now c.args.context.now c.close.new.machine (given_of c.close.new.outside.facts.now c.args.context.now c.loop-walk.walk.text.now c.loop-walk.walk c.loop-walk.machine c.loop-walk.invariant.lain c.loop-walk.invariant.framed)
+    (closed c.loop-walk.walk.text.now c.loop-walk.walk c.loop-walk-test.true c.in-Some.frame c.pop.new.self
     (c.pop.ensures.items ∙ ap (λ (o : Option Frame). c.pop.new.self ++ option_to_list o) c.in-Some.is)
-    c.close.new.outside.facts.now c.args.context.now c.loop-walk.machine (given_of c.close.new.outside.facts.now c.args.context.now c.args.text.now c.loop-walk.walk c.loop-walk.machine c.loop-walk.invariant.lain c.loop-walk.invariant.framed)
-    (as_left c.close.new.outside.facts.now c.args.context.now c.args.text.now c.loop-walk.walk c.loop-walk.machine c.loop-walk.invariant.lain c.loop-walk.invariant.framed)
+    c.close.new.outside.facts.now c.args.context.now c.loop-walk.machine (given_of c.close.new.outside.facts.now c.args.context.now c.loop-walk.walk.text.now c.loop-walk.walk c.loop-walk.machine c.loop-walk.invariant.lain c.loop-walk.invariant.framed)
+    (as_left c.close.new.outside.facts.now c.args.context.now c.loop-walk.walk.text.now c.loop-walk.walk c.loop-walk.machine c.loop-walk.invariant.lain c.loop-walk.invariant.framed)
     (record c.loop-walk.walk { end = c.in-Some.frame.end; star = c.in-Some.frame.star; frames = c.pop.new.self }) refl refl refl
-    (Left c.close.new.outside.facts.now c.args.context.now c.args.text.now c.close.new.walk c.close.new.machine (given_of c.close.new.outside.facts.now c.args.context.now c.args.text.now c.loop-walk.walk c.loop-walk.machine c.loop-walk.invariant.lain c.loop-walk.invariant.framed))
-    (λ p items fits behind. c.in_ok-close.ensures.does c.close.new.outside.facts.now (extends_refl c.close.new.outside.facts.now) p items
-    (given_of c.close.new.outside.facts.now c.args.context.now c.args.text.now c.loop-walk.walk c.loop-walk.machine c.loop-walk.invariant.lain c.loop-walk.invariant.framed) fits behind)) in record {
+    (Left c.close.new.outside.facts.now c.args.context.now c.close.new.walk.text.now c.close.new.walk c.close.new.machine (given_of c.close.new.outside.facts.now c.args.context.now c.loop-walk.walk.text.now c.loop-walk.walk c.loop-walk.machine c.loop-walk.invariant.lain c.loop-walk.invariant.framed))
+    (λ p items kept fits behind. c.in_ok-close.ensures.does c.close.new.outside.facts.now (extends_refl c.close.new.outside.facts.now) p items kept
+    (given_of c.close.new.outside.facts.now c.args.context.now c.loop-walk.walk.text.now c.loop-walk.walk c.loop-walk.machine c.loop-walk.invariant.lain c.loop-walk.invariant.framed) fits behind))) in record {
       asks = asked_further c.loop-walk.invariant.asks c.close.ensures.asks;
       lain = record { rest = after.rest; lies = after.lies };
       framed = record { arounds = after.arounds; framed = after.framed };
       sized = c.close.ensures.sized ∙ c.loop-walk.invariant.sized;
       uncounted = c.in_ok-close.ensures.uncounted ∙ c.loop-walk.invariant.uncounted;
-      reached = c.skip-in-loop-walk.ensures.reached;
+      reached = λ h. item_in c.close.new.walk.text.now c.skip-in-loop-walk.new.self.text.now c.skip-in-loop-walk.new.self same (c.skip-in-loop-walk.ensures.reached h);
       left = λ F e given left.
-          c.skip-in-loop-walk.ensures.does F c.args.context.now c.close.new.machine given
-          (closed c.args.text.now c.loop-walk.walk c.loop-walk-test.true c.in-Some.frame c.pop.new.self
+          left_in F c.args.context.now c.close.new.walk.text.now c.skip-in-loop-walk.new.self.text.now c.skip-in-loop-walk.new.self c.close.new.machine given same
+          (c.skip-in-loop-walk.ensures.does F c.args.context.now c.close.new.machine given
+          (closed c.loop-walk.walk.text.now c.loop-walk.walk c.loop-walk-test.true c.in-Some.frame c.pop.new.self
           (c.pop.ensures.items ∙ ap (λ (o : Option Frame). c.pop.new.self ++ option_to_list o) c.in-Some.is)
           F c.args.context.now c.loop-walk.machine given (c.loop-walk.invariant.left F (extends_before c.close.ensures.asks e) given left)
           (record c.loop-walk.walk { end = c.in-Some.frame.end; star = c.in-Some.frame.star; frames = c.pop.new.self }) refl refl refl
-          (Left F c.args.context.now c.args.text.now c.close.new.walk c.close.new.machine given)
-          (λ p items fits behind. c.in_ok-close.ensures.does F e p items given fits behind));
+          (Left F c.args.context.now c.close.new.walk.text.now c.close.new.walk c.close.new.machine given)
+          (λ p items kept fits behind. c.in_ok-close.ensures.does F e p items kept given fits behind)));
     }
 
 pub returns-clause-reached : goal.returns-clause-reached

@@ -10,12 +10,12 @@ use Rattle.std.proofs.Common.{length, ◌<◌, ◌≡◌}
 abbrev pub invariant-loop-walk : goal.invariant-loop-walk
 invariant-loop-walk g l = record {
   asks : Asked g.S.System.events l.fn.outside l.outside;
-  lain : Lain l.text l.walk;
-  framed : HasFrames l.context l.text l.walk;
+  lain : Lain l.walk.text.now l.walk;
+  framed : HasFrames l.context l.walk.text.now l.walk;
   sized : length l.machine.world.hidden ≡ length l.context.switches;
   uncounted : l.machine.world.items ≡ l.fn.machine.world.items;
-  reached : l.walk.at < l.walk.end → AtItem l.text l.walk;
-  left : (F : Facts) → Extends l.outside.facts.now F → (given : Answer (Unit {0} × Machine)) → Left F l.context l.text l.fn.walk l.fn.machine given → Left F l.context l.text l.walk l.machine given;
+  reached : l.walk.at < l.walk.end → AtItem l.walk.text.now l.walk;
+  left : (F : Facts) → Extends l.outside.facts.now F → (given : Answer (Unit {0} × Machine)) → Left F l.context l.fn.walk.text.now l.fn.walk l.fn.machine given → Left F l.context l.walk.text.now l.walk l.machine given;
 }
 
 abbrev pub decreases-loop-walk : goal.decreases-loop-walk

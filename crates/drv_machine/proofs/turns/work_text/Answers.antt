@@ -1,4 +1,5 @@
 use Rattle.drv_machine.proofs.AskedCalls.{asked_further, asked_none, extends_before}
+use Rattle.drv_machine.proofs.Onward.{left_in}
 use Rattle.drv_machine.proofs.Standing.{whole_there}
 use Rattle.drv_machine.proofs.TurnSteps.{started}
 use Rattle.drv_machine.proofs.turns.work_text.Goals as goal
@@ -14,15 +15,19 @@ use Rattle.std.proofs.Common.{Bool, Ok, [], ap, arith, length, rules, subst, ◌
 pub loop-walk-init : goal.loop-walk-init
 loop-walk-init g c =
     let first =
-    started no_facts c.args.context.now c.args.text.now c.new-walk.result c.args.machine.now (tree_of c.args.text.now) (length c.tokens.result.now)
-    (whole_there c.args.text.now (length c.tokens.result.now) (ap (λ ts. length ts) c.tokens.ensures)) c.new-walk.ensures.at c.new-walk.ensures.end c.new-walk.ensures.star c.new-walk.ensures.frames in record {
+    left_in no_facts c.args.context.now c.args.text.now c.new-walk.result.text.now c.new-walk.result c.args.machine.now
+    (run no_facts c.args.context.now c.args.machine.now (items_step no_facts c.args.context.now (tree_of c.args.text.now) (levels_left no_facts c.args.context.now most_open) [])) c.new-walk.ensures.text
+    (started no_facts c.args.context.now c.args.text.now c.new-walk.result c.args.machine.now (tree_of c.args.text.now) (length c.tokens.result.now)
+    (whole_there c.args.text.now (length c.tokens.result.now) (ap (λ ts. length ts) c.tokens.ensures)) c.new-walk.ensures.at c.new-walk.ensures.end c.new-walk.ensures.star c.new-walk.ensures.frames) in record {
       asks = asked_none c.args.outside.now;
       lain = record { rest = first.rest; lies = first.lies };
       framed = record { arounds = first.arounds; framed = first.framed };
       sized = c.requires;
       left = λ F e.
-          started F c.args.context.now c.args.text.now c.new-walk.result c.args.machine.now (tree_of c.args.text.now) (length c.tokens.result.now)
-          (whole_there c.args.text.now (length c.tokens.result.now) (ap (λ ts. length ts) c.tokens.ensures)) c.new-walk.ensures.at c.new-walk.ensures.end c.new-walk.ensures.star c.new-walk.ensures.frames;
+          left_in F c.args.context.now c.args.text.now c.new-walk.result.text.now c.new-walk.result c.args.machine.now
+          (run F c.args.context.now c.args.machine.now (items_step F c.args.context.now (tree_of c.args.text.now) (levels_left F c.args.context.now most_open) [])) c.new-walk.ensures.text
+          (started F c.args.context.now c.args.text.now c.new-walk.result c.args.machine.now (tree_of c.args.text.now) (length c.tokens.result.now)
+          (whole_there c.args.text.now (length c.tokens.result.now) (ap (λ ts. length ts) c.tokens.ensures)) c.new-walk.ensures.at c.new-walk.ensures.end c.new-walk.ensures.star c.new-walk.ensures.frames);
     }
 
 pub returns-in_err-settle-clause-does : goal.returns-in_err-settle-clause-does
@@ -35,7 +40,7 @@ returns-in_err-settle-clause-does g c F e =
 pub turn-requires-clause-lain : goal.turn-requires-clause-lain
 turn-requires-clause-lain g c =
     let left =
-    subst (λ (more : Bool). Settled c.settle.new.outside.facts.now c.args.context.now c.args.text.now c.settle.new.walk c.settle.new.machine
+    subst (λ (more : Bool). Settled c.settle.new.outside.facts.now c.args.context.now c.settle.new.walk.text.now c.settle.new.walk c.settle.new.machine
     (run c.settle.new.outside.facts.now c.args.context.now c.args.machine.now (items_step c.settle.new.outside.facts.now c.args.context.now (tree_of c.args.text.now) (levels_left c.settle.new.outside.facts.now c.args.context.now most_open) [])) (Ok more))
     c.if-branch.true
     (c.in_ok-settle.ensures.does c.settle.new.outside.facts.now (extends_refl c.settle.new.outside.facts.now)
@@ -50,7 +55,7 @@ pub returns-in_err-turn-clause-does : goal.returns-in_err-turn-clause-does
 returns-in_err-turn-clause-does g c F e =
     let failed =
     c.in_err-turn.ensures.does F e (run F c.args.context.now c.args.machine.now (items_step F c.args.context.now (tree_of c.args.text.now) (levels_left F c.args.context.now most_open) []))
-    (subst (λ (more : Bool). Settled F c.args.context.now c.args.text.now c.settle.new.walk c.settle.new.machine
+    (subst (λ (more : Bool). Settled F c.args.context.now c.settle.new.walk.text.now c.settle.new.walk c.settle.new.machine
     (run F c.args.context.now c.args.machine.now (items_step F c.args.context.now (tree_of c.args.text.now) (levels_left F c.args.context.now most_open) [])) (Ok more))
     c.if-branch.true
     (c.in_ok-settle.ensures.does F (extends_before c.turn.ensures.asks e)
@@ -67,7 +72,7 @@ loop-walk-preserved g c =
     let after =
     c.in_ok-turn.ensures.does c.turn.new.outside.facts.now (extends_refl c.turn.new.outside.facts.now)
     (run c.turn.new.outside.facts.now c.args.context.now c.args.machine.now (items_step c.turn.new.outside.facts.now c.args.context.now (tree_of c.args.text.now) (levels_left c.turn.new.outside.facts.now c.args.context.now most_open) []))
-    (subst (λ (more : Bool). Settled c.turn.new.outside.facts.now c.args.context.now c.args.text.now c.settle.new.walk c.settle.new.machine
+    (subst (λ (more : Bool). Settled c.turn.new.outside.facts.now c.args.context.now c.settle.new.walk.text.now c.settle.new.walk c.settle.new.machine
     (run c.turn.new.outside.facts.now c.args.context.now c.args.machine.now (items_step c.turn.new.outside.facts.now c.args.context.now (tree_of c.args.text.now) (levels_left c.turn.new.outside.facts.now c.args.context.now most_open) [])) (Ok more))
     c.if-branch.true
     (c.in_ok-settle.ensures.does c.turn.new.outside.facts.now (extends_before c.turn.ensures.asks (extends_refl c.turn.new.outside.facts.now))
@@ -79,7 +84,7 @@ loop-walk-preserved g c =
       sized = c.turn.ensures.sized ∙ c.settle.ensures.sized ∙ c.loop-walk.invariant.sized;
       left = λ F e.
           c.in_ok-turn.ensures.does F e (run F c.args.context.now c.args.machine.now (items_step F c.args.context.now (tree_of c.args.text.now) (levels_left F c.args.context.now most_open) []))
-          (subst (λ (more : Bool). Settled F c.args.context.now c.args.text.now c.settle.new.walk c.settle.new.machine
+          (subst (λ (more : Bool). Settled F c.args.context.now c.settle.new.walk.text.now c.settle.new.walk c.settle.new.machine
           (run F c.args.context.now c.args.machine.now (items_step F c.args.context.now (tree_of c.args.text.now) (levels_left F c.args.context.now most_open) [])) (Ok more))
           c.if-branch.true
           (c.in_ok-settle.ensures.does F (extends_before c.turn.ensures.asks e)
@@ -89,7 +94,7 @@ loop-walk-preserved g c =
 
 pub returns-clause-does : goal.returns-clause-does
 returns-clause-does g c F e =
-    subst (λ (more : Bool). Settled F c.args.context.now c.args.text.now c.settle.new.walk c.settle.new.machine
+    subst (λ (more : Bool). Settled F c.args.context.now c.settle.new.walk.text.now c.settle.new.walk c.settle.new.machine
     (run F c.args.context.now c.args.machine.now (items_step F c.args.context.now (tree_of c.args.text.now) (levels_left F c.args.context.now most_open) [])) (Ok more))
     c.if-branch.false
     (c.in_ok-settle.ensures.does F e

@@ -12,10 +12,10 @@ use Rattle.std.proofs.Common.{[], length, ◌-◌, ◌≡◌}
 abbrev pub invariant-loop-walk : goal.invariant-loop-walk
 invariant-loop-walk g l = record {
   asks : Asked g.S.System.events l.fn.outside l.outside;
-  lain : Lain l.text l.walk;
-  framed : HasFrames l.context l.text l.walk;
+  lain : Lain l.walk.text.now l.walk;
+  framed : HasFrames l.context l.walk.text.now l.walk;
   sized : length l.machine.world.hidden ≡ length l.context.switches;
-  left : (F : Facts) → Extends l.outside.facts.now F → Left F l.context l.text l.walk l.machine (run F l.context l.fn.machine (items_step F l.context (tree_of l.text) (levels_left F l.context most_open) []));
+  left : (F : Facts) → Extends l.outside.facts.now F → Left F l.context l.walk.text.now l.walk l.machine (run F l.context l.fn.machine (items_step F l.context (tree_of l.text) (levels_left F l.context most_open) []));
 }
 
 abbrev pub decreases-loop-walk : goal.decreases-loop-walk

@@ -1,5 +1,5 @@
 use Rattle.drv_machine.proofs.machine.finishing.temps_of.Given as goal
-use Rattle.std.proofs.Common.{[], map, ◌≡◌}
+use Rattle.std.proofs.Common.{map, ◌≡◌}
 
 abbrev pub invariant-loop-name : goal.invariant-loop-name
-invariant-loop-name l = l.temps ≡ map (λ name. record { path = name.path; contents = [] }) l.yielded
+invariant-loop-name l = l.temps ≡ map (λ name. record { path = name.path; contents = name.contents }) l.yielded

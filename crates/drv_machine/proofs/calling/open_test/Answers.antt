@@ -1,0 +1,27 @@
+use Rattle.drv_machine.proofs.Arguments.{ask_opened, ask_refused}
+use Rattle.drv_machine.proofs.Onward.{weight_one}
+use Rattle.drv_machine.proofs.calling.open_test.Goals as goal
+use Rattle.drv_machine.specs.Cutting.{Cut}
+use Rattle.drv_machine.specs.Running.{Machine}
+use Rattle.drv_machine.specs.Walking.{Left, asked_on, behind_arguments, levels_in, star_of, weight}
+use Rattle.drv_machine.specs.declared.walk.Opened.TheVariants.{Asks}
+use Rattle.std.proofs.Common.{ap, arith, refl, rules, subst, sym, ◌+◌, ◌∙◌}
+
+pub returns-in_err-push-clause-does : goal.returns-in_err-push-clause-does
+returns-in_err-push-clause-does c F C text items arguments kept given fits stands b =
+    let failed = ask_refused F C text c.args.walk.now c.args.machine.now c.args.asking.end items arguments kept given b c.in_err-push.field-0.0 c.in_err-push.ensures.err in
+    let f = c.from_residual-in_err-push.ensures in
+    search rules
+
+pub returns-clause-does : goal.returns-clause-does
+returns-clause-does c F C text items arguments kept given fits stands b =
+    let outer = c.in_ok-outer.ensures.ok ∙ c.put_aside.ensures.aside in
+    subst (λ (m : Machine). Left F C text (record c.args.walk.now { at = c.args.asking.test + 1; end = c.args.asking.from; frames = c.push.new.self }) m given) (sym c.put_aside.ensures.begun)
+    (ask_opened F C text c.args.walk.now c.args.machine.now c.args.asking.end items arguments kept given b (Asks c.args.asking c.in_ok-outer.outer) fits refl refl
+    (λ r. ap (λ (cut : Cut). behind_arguments F C cut (asked_on F C items kept (levels_in F C b.arounds) (star_of C c.args.walk.now.star)) r) outer)
+    c.in_ok-push.ensures.room (c.args.asking.test + 1) c.args.asking.from stands (record c.args.walk.now { at = c.args.asking.test + 1; end = c.args.asking.from; frames = c.push.new.self }) refl refl refl c.in_ok-push.ensures.ok)
+
+pub returns-clause-lighter : goal.returns-clause-lighter
+returns-clause-lighter c n =
+    let e = ap (weight n) c.in_ok-push.ensures.ok in
+    omega (arith, e, weight_one n c.args.walk.now.frames (record { opened = Asks c.args.asking c.in_ok-outer.outer; end = c.args.walk.now.end; star = c.args.walk.now.star }))

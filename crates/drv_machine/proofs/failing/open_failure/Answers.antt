@@ -1,0 +1,14 @@
+use Rattle.drv_machine.proofs.FailureFiles.{failure_refused, from_begun}
+use Rattle.drv_machine.proofs.failing.open_failure.Goals as goal
+use Rattle.std.proofs.Common.{refl, rules}
+
+pub returns-in_err-push-clause-does : goal.returns-in_err-push-clause-does
+returns-in_err-push-clause-does c F C text brace given b =
+    let failed = failure_refused F C text c.args.walk.now c.args.machine.now c.args.end brace given b c.in_err-push.field-0.0 c.in_err-push.ensures.err in
+    let f = c.from_residual.ensures in
+    search rules
+
+pub returns-clause-does : goal.returns-clause-does
+returns-clause-does c F C text brace given b =
+    from_begun F C text c.args.walk.now c.args.machine.now c.args.end brace given b c.in_ok-push.ensures.room c.begin_failure.result c.begin_failure.new.self (c.begin_failure.ensures.does F C)
+    _ refl refl c.in_ok-push.ensures.ok

@@ -1,0 +1,13 @@
+use Rattle.drv_machine.proofs.AskedCalls.{extends_before}
+use Rattle.drv_machine.proofs.filing.work_filed.Goals as goal
+use Rattle.std.proofs.Common.{rules}
+
+pub returns-in_err-open_filed-clause-does : goal.returns-in_err-open_filed-clause-does
+returns-in_err-open_filed-clause-does g c F e brace given s b =
+    let failed = c.in_err-open_filed.ensures.does F e c.args.text.now brace given b in
+    let f = c.from_residual.ensures in
+    search rules
+
+pub returns-clause-does : goal.returns-clause-does
+returns-clause-does g c F e brace given s b =
+    c.work_brace.ensures.does F e brace given s (c.in_ok-open_filed.ensures.does F (extends_before c.work_brace.ensures.asks e) c.args.text.now brace given b)

@@ -1,0 +1,11 @@
+use Rattle.drv_machine.proofs.Files.{file_begins, no_beginning}
+use Rattle.drv_machine.proofs.machine.Machine.begin_file.Goals as goal
+use Rattle.std.proofs.Common.{rules}
+
+pub returns-in_err-end_word-clause-does : goal.returns-in_err-end_word-clause-does
+returns-in_err-end_word-clause-does g c F e =
+    let failed = no_beginning F c.args.context.now c.args.self.now c.in_err-end_word.field-0.0 (c.in_err-end_word.ensures.does F e) in
+    let handed = c.from_residual.ensures in search rules
+
+pub returns-clause-does : goal.returns-clause-does
+returns-clause-does g c F e = file_begins F c.args.context.now c.args.self.now c.end_word.new.self c.enter_file.new.self (c.in_ok-end_word.ensures.does F e) c.enter_file.ensures

@@ -1,0 +1,17 @@
+use Rattle.drv_machine.proofs.AskedCalls.{extends_before}
+use Rattle.drv_machine.proofs.Files.{file_ends, no_end}
+use Rattle.drv_machine.proofs.Steps.{gives_as}
+use Rattle.drv_machine.proofs.machine.Machine.end_file.Goals as goal
+use Rattle.std.proofs.Common.{rules, ◌∙◌}
+
+pub returns-in_err-end_word-clause-does : goal.returns-in_err-end_word-clause-does
+returns-in_err-end_word-clause-does g c F e =
+    let failed = no_end F c.args.context.now c.args.self.now c.in_err-end_word.field-0.0 (c.in_err-end_word.ensures.does F e) in
+    let handed = c.from_residual.ensures in search rules
+
+pub returns-clause-does : goal.returns-clause-does
+returns-clause-does g c F e =
+    gives_as c.put_file.new.self c.put_file.result _ _
+    (file_ends F c.args.context.now c.args.self.now c.end_word.new.self c.leave_file-words.new.self c.as_slice.result.now (c.in_ok-end_word.ensures.does F (extends_before c.put_file.ensures.asks e))
+    (c.as_slice.ensures ∙ c.leave_file-words.ensures.words) c.leave_file-words.ensures.left)
+    (c.put_file.ensures.does F e)

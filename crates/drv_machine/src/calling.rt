@@ -1,0 +1,71 @@
+//! Functions in a text, whose arguments are worked as an open part with a cut of its own.
+
+ghost use Rattle.drv_machine.specs.Atoms.{item_step};
+ghost use Rattle.drv_machine.specs.Context as specs;
+ghost use Rattle.drv_machine.specs.Running as running;
+ghost use Rattle.drv_machine.specs.Standing.{Stands};
+ghost use Rattle.drv_machine.specs.Walking.{AskFits, Behind, Kept, Went, tested_on, weight};
+ghost use Rattle.drv_machine.specs.Working.{Answer};
+ghost use Rattle.drv_syntax.specs.Labels.{label_at, nodes_of};
+ghost use Rattle.drv_syntax.specs.Parsed.{tree_of};
+ghost use Rattle.drv_syntax.specs.Tokens.{tokens_of};
+ghost use Rattle.drv_syntax.specs.Tree as tree;
+ghost use Rattle.drv_system.specs.Facts.{Facts};
+ghost use Rattle.std.specs.Prelude.{◌≡◌, ◌+◌, ◌-◌, ◌<◌, ◌≤◌, List, OnOk, length, ℕ};
+
+use crate::MachineFault;
+use crate::machine::Machine;
+use crate::walk::{Asking, Frame, Opened, Walk};
+
+/// The arguments of the function item at a place are opened, which end where the next item begins. What is cut so far is put
+/// aside.
+///
+/// # Errors
+/// `SpecTooDeep` where 64 parts are open.
+pub(crate) fn open_call(
+    at: usize,
+    next: usize,
+    walk: &mut Walk<'_>,
+    machine: &mut Machine,
+) -> Result<(), MachineFault>
+    requires { at < next }
+    ensures does { (F : Facts) (C : specs.Context) (text : List ℕ) (name : List ℕ) (items : tree.Items) (given : Answer (Unit {0} × running.Machine)) → at < length (tokens_of (tree_of text)) → (label_at (tree_of text) at).word ≡ name → Stands text (at + 1) (nodes_of items) next → Behind F C text walk.old next (λ levels star. item_step F C (tree.Function name items) levels star) machine.old given → Went F C text walk.new machine.new given result }
+    ensures same { machine.new.world ≡ machine.old.world }
+    ensures same_text { walk.new.text.now ≡ walk.old.text.now }
+{
+    let outer = Box::new(machine.alloc(), machine.put_aside())?;
+    walk.frames.push(Frame {
+        opened: Opened::Call(at, next, outer),
+        end: walk.end,
+        star: walk.star,
+    })?;
+    walk.at = at + 1;
+    walk.end = next;
+    Ok(())
+}
+
+/// The arguments of the function that a test asks are opened. What is cut so far is put aside.
+///
+/// # Errors
+/// `SpecTooDeep` where 64 parts are open.
+pub(crate) fn open_test(
+    asking: Asking,
+    walk: &mut Walk<'_>,
+    machine: &mut Machine,
+) -> Result<(), MachineFault>
+    requires { asking.test < asking.start }
+    ensures does { (F : Facts) (C : specs.Context) (text : List ℕ) (items arguments : tree.Items) (kept : Kept) (given : Answer (Unit {0} × running.Machine)) → AskFits text asking items kept → Stands text (asking.test + 1) (nodes_of arguments) asking.from → Behind F C text walk.old asking.end (λ levels star. tested_on F C arguments items kept levels star) machine.old given → Went F C text walk.new machine.new given result }
+    ensures lighter { (n : ℕ) → OnOk result (weight n walk.new.frames ≤ weight n walk.old.frames + (n + 1 + (asking.end - asking.test))) }
+    ensures same { machine.new.world ≡ machine.old.world }
+    ensures same_text { walk.new.text.now ≡ walk.old.text.now }
+{
+    let outer = Box::new(machine.alloc(), machine.put_aside())?;
+    walk.frames.push(Frame {
+        opened: Opened::Asks(asking, outer),
+        end: walk.end,
+        star: walk.star,
+    })?;
+    walk.at = asking.test + 1;
+    walk.end = asking.from;
+    Ok(())
+}

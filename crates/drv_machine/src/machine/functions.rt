@@ -1,0 +1,114 @@
+//! Functions, called with the words of their arguments.
+
+ghost use Rattle.drv_machine.specs.Asked.{Asked};
+ghost use Rattle.drv_machine.specs.Atoms.{call_step, has_value, value_step};
+ghost use Rattle.drv_machine.specs.Running.{run};
+ghost use Rattle.drv_machine.specs.Walking.{behind_arguments};
+ghost use Rattle.drv_system.specs.Asking.{Extends};
+ghost use Rattle.drv_system.specs.Facts.{Facts};
+ghost use Rattle.drv_system.specs.Gives.{GivesKnown};
+ghost use Rattle.std.specs.Prelude.{◌≡◌, OnOk, length};
+
+use super::{Cutter, Machine};
+use crate::outside::Outside;
+use crate::{Context, MachineFault};
+use drv_funcs::{Function, call};
+use drv_system::System;
+use drv_words::Word;
+
+impl Machine {
+    /// What the function of a name gives for these words: a word, or nothing. In the link it may change the outputs.
+    ///
+    /// # Errors
+    /// `Funcs` where the function is refused.
+    #[tactic(auto, using(crate::proofs::AskedCalls::asked_none))]
+    fn call<S: System>(
+        &mut self,
+        name: &[u8],
+        args: &[Word],
+        context: &Context<'_>,
+        outside: &mut Outside<'_, S>,
+    ) -> Result<Option<Word>, MachineFault>
+        requires { length self.old.world.hidden ≡ length context.now.switches }
+        ensures asks { Asked S.events outside.old outside.new }
+        ensures does { (F : Facts) → Extends outside.new.facts.now F → GivesKnown MachineFault.Memory (λ given. (given, self.new)) result (run F context.now self.old (call_step F context.now name.now args.now)) }
+        ensures sized { length self.new.world.hidden ≡ length self.old.world.hidden }
+        ensures uncounted { OnOk result (self.new.world.items ≡ self.old.world.items) }
+    {
+        let Some(function) = Function::named(name) else {
+            return Ok(None);
+        };
+        let given = call(
+            self.alloc,
+            function,
+            args,
+            context.switches(),
+            &self.hidden,
+            context.is_link(),
+            &mut self.outputs,
+            outside.sys,
+            outside.facts,
+        )?;
+        Ok(given)
+    }
+
+    /// Arguments have been cut, and what was cut before them goes on: what the function of a name gives for them.
+    #[tactic(auto, using(crate::proofs::AskedCalls::asked_further))]
+    fn call_behind<S: System>(
+        &mut self,
+        name: &[u8],
+        outer: Cutter,
+        context: &Context<'_>,
+        outside: &mut Outside<'_, S>,
+    ) -> Result<Option<Word>, MachineFault>
+        requires { length self.old.world.hidden ≡ length context.now.switches }
+        ensures asks { Asked S.events outside.old outside.new }
+        ensures does { (F : Facts) → Extends outside.new.facts.now F → GivesKnown MachineFault.Memory (λ given. (given, self.new)) result (behind_arguments F context.now outer (call_step F context.now name.now) self.old) }
+        ensures sized { length self.new.world.hidden ≡ length self.old.world.hidden }
+        ensures uncounted { OnOk result (self.new.world.items ≡ self.old.world.items) }
+    {
+        self.end_word(context, outside)?;
+        let args = self.take_back(outer);
+        self.call(name, args.as_slice(), context, outside)
+    }
+
+    /// Arguments have been cut, and what was cut before them goes on: the function's value is put, if it has one.
+    #[tactic(auto, using(crate::proofs::AskedCalls::asked_further))]
+    pub(crate) fn put_value<S: System>(
+        &mut self,
+        name: &[u8],
+        outer: Cutter,
+        context: &Context<'_>,
+        outside: &mut Outside<'_, S>,
+    ) -> Result<(), MachineFault>
+        requires { length self.old.world.hidden ≡ length context.now.switches }
+        ensures asks { Asked S.events outside.old outside.new }
+        ensures does { (F : Facts) → Extends outside.new.facts.now F → GivesKnown MachineFault.Memory (λ u. (tt, self.new)) result (behind_arguments F context.now outer (value_step F context.now name.now) self.old) }
+        ensures sized { length self.new.world.hidden ≡ length self.old.world.hidden }
+        ensures uncounted { OnOk result (self.new.world.items ≡ self.old.world.items) }
+    {
+        let Some(word) = self.call_behind(name, outer, context, outside)? else {
+            return Ok(());
+        };
+        self.put(word.as_bytes())
+    }
+
+    /// Arguments have been cut, and what was cut before them goes on: whether the function has a value.
+    #[tactic(auto, using(crate::proofs::AskedCalls::asked_further))]
+    pub(crate) fn has_value<S: System>(
+        &mut self,
+        name: &[u8],
+        outer: Cutter,
+        context: &Context<'_>,
+        outside: &mut Outside<'_, S>,
+    ) -> Result<bool, MachineFault>
+        requires { length self.old.world.hidden ≡ length context.now.switches }
+        ensures asks { Asked S.events outside.old outside.new }
+        ensures does { (F : Facts) → Extends outside.new.facts.now F → GivesKnown MachineFault.Memory (λ holds. (holds, self.new)) result (behind_arguments F context.now outer (has_value F context.now name.now) self.old) }
+        ensures sized { length self.new.world.hidden ≡ length self.old.world.hidden }
+        ensures uncounted { OnOk result (self.new.world.items ≡ self.old.world.items) }
+    {
+        let given = self.call_behind(name, outer, context, outside)?;
+        Ok(given.is_some())
+    }
+}
