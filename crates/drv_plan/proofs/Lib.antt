@@ -1,4 +1,7 @@
 pub mod Asked
-pub mod Jobs
+mod BuiltinPlans
 mod LanguageRows
 mod LastTexts
+mod PlanRows
+mod Reloaded
+mod Steps

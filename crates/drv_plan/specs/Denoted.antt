@@ -1,67 +1,162 @@
 use Rattle.drv_args.specs.declared.line.Input.TheVariants.{File, Library, LinkWord}
 use Rattle.drv_args.specs.declared.line.Input.{Input}
 use Rattle.drv_args.specs.declared.line.Line.{Line}
-use Rattle.drv_machine.specs.Context.{Context}
+use Rattle.drv_machine.specs.Context.{Context, Source}
 use Rattle.drv_machine.specs.Outcome.{outcome}
-use Rattle.drv_machine.specs.Working.{◌>>-◌, Answer, known}
+use Rattle.drv_machine.specs.Working.{Answer}
 use Rattle.drv_machine.specs.declared.fault.MachineFault.TheVariants as machine
 use Rattle.drv_machine.specs.declared.fault.MachineFault.{MachineFault}
+use Rattle.drv_machine.specs.declared.outcome.Outcome.{Outcome}
+use Rattle.drv_plan.specs.Languages.{Chosen, language_of}
 use Rattle.drv_plan.specs.declared.fault.PlanFault.TheVariants.{Machine, Memory}
 use Rattle.drv_plan.specs.declared.fault.PlanFault.{PlanFault}
+use Rattle.drv_plan.specs.declared.going.Going.{Going}
 use Rattle.drv_search.specs.Search.{prefixes_of}
 use Rattle.drv_search.specs.declared.prefixes.Prefixes.{Prefixes}
+use Rattle.drv_specs.specs.Sets.{Set, text_of}
 use Rattle.drv_syntax.specs.Parsed.{tree_of}
 use Rattle.drv_system.specs.Facts.{Facts}
-use Rattle.drv_system.specs.Known.{Is, Known, Unasked}
+use Rattle.drv_system.specs.Known.{◌>>=◌, Is, Known, Unasked}
 use Rattle.drv_words.specs.declared.plan.Job.{Job}
 use Rattle.drv_words.specs.declared.plan.Plan.{Plan}
-use Rattle.std.specs.Prelude.{◌+◌, List, [], ◌∷◌, None, Some, Result, Err, Ok, codes, ℕ}
+use Rattle.std.specs.Prelude.{◌+◌, ◌==◌, Err, List, [], ◌∷◌, ◌++◌, None, Ok, Option, Result, Some, codes, if◌then◌else◌, length, map, ℕ}
 
--- The plan of a line (GCC manual, "Overall Options"; that every file is worked with one text, and that there is no link
--- yet, is this project's profile).
+-- The plan of a line over its specs: every source, and the link (GCC manual, "Overall Options" and "Spec Files"; the wording of
+-- notices, and when there is a link, is this project's profile).
 
--- the text that a file is worked with
-abbrev pub first_text : List ℕ
-first_text = codes "%{S:rectool cc1 %{std=c99} %i -o %b.s}"
+-- an answer of the facts, a refusal, or the want of an answer
+abbrev pub Planned : Type 0 → Type 0
+Planned X = Known (Result X PlanFault)
 
--- what the texts of a line are worked for; the first text draws no name and adds no option, so nothing goes on from one
--- file to the next
-abbrev pub context_of : Line → Prefixes → Context
-context_of line prefixes = record {
-  switches = line.switches;
-  assembler = line.asm_opts;
-  preprocessor = line.cpp_opts;
-  prefixes = prefixes;
-  seed = 0;
-  number = 1;
-  options = [];
-  input = None;
-  outputs = [];
-}
-
--- the jobs of the files among inputs, of which the first has this place in the line
-abbrev pub jobs : Facts → Context → ℕ → List Input → Answer (List Job)
-jobs F C place [] = Is (Ok [])
-jobs F C place (File name language ∷ inputs) =
-    outcome F (record C { input = Some (record { place = place; name = name; language = language }) }) (tree_of first_text) >>- λ worked.
-    jobs F C (place + 1) inputs >>- λ others. Is (Ok (worked.job ∷ others))
-jobs F C place (Library word ∷ inputs) = jobs F C (place + 1) inputs
-jobs F C place (LinkWord word ∷ inputs) = jobs F C (place + 1) inputs
-
--- with the prefixes that the arguments of -B stand for
-abbrev pub line_jobs : Facts → Line → Answer (List Job)
-line_jobs F line = known (prefixes_of F line.settings.prefixes) >>- λ prefixes. jobs F (context_of line prefixes) 0 line.inputs
+abbrev pub then_by : {X Y : Type 0} → Planned X → (X → Planned Y) → Planned Y
+then_by Unasked next = Unasked
+then_by (Is (Ok x)) next = next x
+then_by (Is (Err fault)) next = Is (Err fault)
 
 -- why a line has no plan, by why a text has no job
 abbrev pub lifted : MachineFault → PlanFault
 lifted machine.Memory = Memory
 lifted fault = Machine fault
 
-abbrev pub plan_of : Answer (List Job) → Known (Result Plan PlanFault)
-plan_of Unasked = Unasked
-plan_of (Is (Ok jobs)) = Is (Ok (record { notices = []; jobs = jobs; link = None }))
-plan_of (Is (Err fault)) = Is (Err (Machine fault))
+-- what a text comes to, its refusal as the line's
+abbrev pub of_text : {X : Type 0} → Answer X → Planned X
+of_text Unasked = Unasked
+of_text (Is (Ok x)) = Is (Ok x)
+of_text (Is (Err fault)) = Is (Err (lifted fault))
 
--- the plan of a line, or the machine's refusal for the first file that has one
-abbrev pub denoted : Facts → Line → Known (Result Plan PlanFault)
-denoted F line = plan_of (line_jobs F line)
+-- what the texts of a line are worked for: at first no option was added, and names are numbered from 1
+abbrev pub context_of : Line → Set → Prefixes → ℕ → Context
+context_of line set prefixes seed = record {
+  switches = line.switches;
+  assembler = line.asm_opts;
+  preprocessor = line.cpp_opts;
+  texts = set.named;
+  prefixes = prefixes;
+  from_file = line.settings.from_file;
+  seed = seed;
+  number = 1;
+  options = [];
+  input = None;
+  outputs = [];
+}
+
+-- nothing was worked yet
+abbrev pub begun : Context → Going
+begun C = record { context = C; notes = []; jobs = []; outputs = []; passed_on = [] }
+
+-- behind a text: the options of %x and the number of the next name go on to the next one, and hidden switches don't
+abbrev pub behind_text : Outcome → Going → Going
+behind_text worked g = record g {
+  context = record g.context { options = worked.accumulated; number = worked.next_number };
+  notes = g.notes ++ worked.notices;
+}
+
+-- a text is worked: its job, and what goes on
+abbrev pub worked : Facts → List ℕ → Going → Planned (Job × Going)
+worked F text g = then_by (of_text (outcome F g.context (tree_of text))) (λ done. Is (Ok (done.job, behind_text done g)))
+
+abbrev pub for_source : Source → Going → Going
+for_source source g = record g { context = record g.context { input = Some source } }
+
+abbrev pub for_link : Going → Going
+for_link g = record g { context = record g.context { input = None; outputs = g.outputs } }
+
+abbrev pub output_list : Option (List ℕ) → List (List ℕ)
+output_list None = []
+output_list (Some output) = output ∷ []
+
+-- a source that has a job: its output is one of the link's
+abbrev pub behind_job : Job → Going → Going
+behind_job job g = record g { jobs = g.jobs ++ job ∷ []; outputs = g.outputs ++ output_list job.output }
+
+-- a word of the link: a library, or what -Wl and -Xlinker say
+abbrev pub behind_word : List ℕ → Going → Going
+behind_word word g = record g { outputs = g.outputs ++ word ∷ [] }
+
+-- a file that is the linker's
+abbrev pub behind_object : List ℕ → Going → Going
+behind_object name g = record g { outputs = g.outputs ++ name ∷ []; passed_on = g.passed_on ++ name ∷ [] }
+
+-- a source that is worked with this text
+abbrev pub with_source : Facts → Source → List ℕ → Going → Planned Going
+with_source F source text g = then_by (worked F text (for_source source g)) (λ done. Is (Ok (behind_job done.0 done.1)))
+
+-- a file, by what it is worked with
+abbrev pub with_file : Facts → ℕ → List ℕ → Result (Option Chosen) PlanFault → Going → Planned Going
+with_file F place name (Err fault) g = Is (Err fault)
+with_file F place name (Ok None) g = Is (Ok (behind_object name g))
+with_file F place name (Ok (Some c)) g = with_source F (record { place = place; name = name; language = c.name }) c.text g
+
+abbrev pub with_input : Facts → Set → ℕ → Input → Going → Planned Going
+with_input F set place (File name language) g = with_file F place name (language_of set (File name language)) g
+with_input F set place (Library word) g = Is (Ok (behind_word word g))
+with_input F set place (LinkWord word) g = Is (Ok (behind_word word g))
+
+-- inputs, of which the first has this place in the line
+abbrev pub with_inputs : Facts → Set → ℕ → List Input → Going → Planned Going
+with_inputs F set place [] g = Is (Ok g)
+with_inputs F set place (input ∷ inputs) g = then_by (with_input F set place input g) (λ g'. with_inputs F set (place + 1) inputs g')
+
+-- the link, if its job has a command
+abbrev pub with_command : Job → Option Job
+with_command job = if length job.groups == 0 then None else Some job
+
+abbrev pub linked : Job × Going → Option Job × Going
+linked done = (with_command done.0, done.1)
+
+-- the link, where there is anything to be linked and a text for it
+abbrev pub with_text : Facts → Option (List ℕ) → Going → Planned (Option Job × Going)
+with_text F None g = Is (Ok (None, g))
+with_text F (Some text) g = then_by (worked F text (for_link g)) (λ done. Is (Ok (linked done)))
+
+abbrev pub with_link : Facts → Set → Going → Planned (Option Job × Going)
+with_link F set g = if length g.outputs == 0 then Is (Ok (None, g)) else with_text F (text_of set (codes "link_command")) g
+
+-- a word between two texts
+abbrev pub around : List ℕ → List ℕ → List ℕ → List ℕ
+around before behind word = before ++ word ++ behind
+
+-- without a link each file that is the linker's is told
+abbrev pub unused : Option Job → List (List ℕ) → List (List ℕ)
+unused (Some link) names = []
+unused None names = map (around (codes "warning: ") (codes ": linker input file unused because linking not done")) names
+
+-- the notices: what texts tell, and behind it the files that no link takes
+abbrev pub notices : Option Job → Going → List (List ℕ)
+notices link g = map (around (codes "note: ") []) g.notes ++ unused link g.passed_on
+
+abbrev pub plan_of : Option Job × Going → Plan
+plan_of done = record { notices = notices done.0 done.1; jobs = done.1.jobs; link = done.0 }
+
+-- the plan, once all inputs were worked
+abbrev pub finished : Facts → Set → Going → Planned Plan
+finished F set g = then_by (with_link F set g) (λ done. Is (Ok (plan_of done)))
+
+-- the plan of inputs, in this context
+abbrev pub planned : Facts → Set → List Input → Context → Planned Plan
+planned F set inputs C = then_by (with_inputs F set 0 inputs (begun C)) (λ g. finished F set g)
+
+-- The plan of a line, or the first refusal in the order of its inputs, with the link behind them. It looks at none of `dry`,
+-- `verbose`, `pass_codes` and `jobs` of the settings.
+abbrev pub denoted : Facts → Line → Set → ℕ → Planned Plan
+denoted F line set seed = prefixes_of F line.settings.prefixes >>= λ prefixes. planned F set line.inputs (context_of line set prefixes seed)

@@ -11,7 +11,7 @@ pub enum PlanFault {
     /// An allocation was refused.
     #[error("out of memory")]
     Memory,
-    /// A spec text that is worked for a file of the line has no job. The refusal isn't `Memory`, which is the
+    /// A spec text that is worked for the line has no job. The refusal isn't `Memory`, which is the
     /// plan's own.
     #[error("{0}")]
     Machine(MachineFault),

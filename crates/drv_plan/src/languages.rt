@@ -1,12 +1,13 @@
 //! The language of an input, and the text that it is worked with.
 
+ghost use Rattle.drv_machine.specs.declared.fault.MachineFault.TheVariants as machine;
 ghost use Rattle.drv_plan.specs.Languages.{by_language, by_suffix, is_of_language, is_standard_input, is_suffix_of, language_of, last_pair, last_text, pair_text};
 ghost use Rattle.drv_plan.specs.Looking.{fits, shown};
 ghost use Rattle.drv_plan.specs.declared.fault.PlanFault.TheVariants as fault;
 ghost use Rattle.drv_specs.specs.Sets.{begins_with_at, is_no_text};
 ghost use Rattle.drv_words.specs.Gives.{Gives};
 ghost use Rattle.std.specs.Option.{option_map};
-ghost use Rattle.std.specs.Prelude.{◌≡◌, None, Some, if◌then◌else◌, option_and_then, slice_get};
+ghost use Rattle.std.specs.Prelude.{◌≡◌, ◌≢◌, IfErr, None, Some, if◌then◌else◌, option_and_then, slice_get};
 
 use crate::PlanFault;
 use drv_args::Input;
@@ -133,7 +134,8 @@ fn by_language<'a>(
     set: &'a SpecSet,
     language: &'a [u8],
 ) -> Result<Chosen<'a>, PlanFault>
-    ensures { Gives fault.Memory (λ chosen. chosen) result (by_language set.now language.now) }
+    ensures gives { Gives fault.Memory (λ chosen. chosen) result (by_language set.now language.now) }
+    ensures apart { IfErr result (λ refusal. refusal ≢ fault.Machine machine.Memory) }
 {
     match last_pair(set, Wanted::Language(language)) {
         Some(PairText::Worked(tree)) => Ok(Chosen {
@@ -155,7 +157,8 @@ fn by_suffix<'a>(
     set: &'a SpecSet,
     name: &[u8],
 ) -> Result<Option<Chosen<'a>>, PlanFault>
-    ensures { Gives fault.Memory (λ chosen. chosen) result (by_suffix set.now name.now) }
+    ensures gives { Gives fault.Memory (λ chosen. chosen) result (by_suffix set.now name.now) }
+    ensures apart { IfErr result (λ refusal. refusal ≢ fault.Machine machine.Memory) }
 {
     match last_pair(set, Wanted::Suffix(name)) {
         Some(PairText::Worked(tree)) => Ok(Some(Chosen { name: None, tree })),
@@ -185,7 +188,8 @@ pub fn language<'a>(
     input: &'a Input,
     set: &'a SpecSet,
 ) -> Result<Option<Chosen<'a>>, PlanFault>
-    ensures { Gives fault.Memory (λ chosen. chosen) result (language_of set.now input.now) }
+    ensures gives { Gives fault.Memory (λ chosen. chosen) result (language_of set.now input.now) }
+    ensures apart { IfErr result (λ refusal. refusal ≢ fault.Machine machine.Memory) }
 {
     match input {
         Input::File {

@@ -1,10 +1,15 @@
-//! The plan of a line: the language of each input, and a job for each of its files.
+//! The plan of a line: the language of each input, a job for each source, and the link.
 #![tactic(auto)]
 
 mod fault;
+mod going;
 mod languages;
+mod laws;
+mod notices;
 mod planning;
+mod sources;
 
 pub use fault::PlanFault;
 pub use languages::{Chosen, language};
-pub use planning::{FIRST_TEXT, plan};
+pub use laws::reload_law;
+pub use planning::plan;

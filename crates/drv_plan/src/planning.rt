@@ -1,137 +1,145 @@
 //! The plan of a line.
 
 ghost use Rattle.drv_machine.specs.declared.fault.MachineFault.TheVariants as machine;
-ghost use Rattle.drv_plan.specs.Denoted.{denoted, first_text, jobs, line_jobs};
+ghost use Rattle.drv_plan.specs.Denoted.{denoted, finished, planned, with_command, with_link, with_text};
 ghost use Rattle.drv_system.specs.Asking.{Asks, Extends};
 ghost use Rattle.drv_system.specs.Facts.{Facts};
 ghost use Rattle.drv_system.specs.Gives.{GivesKnown};
-ghost use Rattle.drv_words.specs.Gives.{Gives};
-ghost use Rattle.std.specs.Option.{option_map};
-ghost use Rattle.std.specs.Prelude.{◌≡◌, ◌≢◌, IfErr, Ok};
+ghost use Rattle.std.specs.Prelude.{◌≡◌, ◌==◌, ◌≢◌, IfErr, Some, length};
 
 use crate::PlanFault;
+use crate::going::Going;
+use crate::notices::notices_of;
+use crate::sources::add_inputs;
 use drv_args::{Input, Line};
-use drv_machine::{Context, MachineFault, Source, run};
+use drv_machine::Context;
 use drv_search::Prefixes;
-use drv_syntax::{SpecTree, SyntaxFault, parse};
+use drv_specs::SpecSet;
+use drv_syntax::SpecTree;
 use drv_system::{FactTable, System};
-use drv_words::{Job, Listing, Plan, Word};
+use drv_words::{Job, Plan, Word};
 use std::alloc::Global;
 
-/// The text that each file is worked with.
-pub const FIRST_TEXT: &str = "%{S:rectool cc1 %{std=c99} %i -o %b.s}";
+/// The name of the link's text.
+const LINK_COMMAND: &[u8] = b"link_command";
 
-/// The seed of names of temporaries, of which that text draws none.
-const NO_SEED: u32 = 0;
-
-/// The bytes of that text.
-fn first_text() -> &'static [u8]
-    ensures { result.now ≡ first_text }
+/// The link, if its job has a command.
+fn with_command(job: Job) -> Option<Job>
+    ensures { result ≡ with_command job }
 {
-    FIRST_TEXT.as_bytes()
-}
-
-/// The tree of that text, which has one: want of memory is the only error.
-fn first_tree(alloc: Global) -> Result<SpecTree, MachineFault>
-    ensures { Gives machine.Memory (λ tree. tree) result (Ok first_text) }
-{
-    match parse(alloc, first_text()) {
-        Ok(tree) => Ok(tree),
-        Err(SyntaxFault::Memory) => Err(MachineFault::Memory),
-        Err(_) => unreachable!(),
+    if job.groups.is_empty() {
+        None
+    } else {
+        Some(job)
     }
 }
 
-/// The bytes of a word, if there is one.
-fn bytes_of(word: &Option<Word>) -> Option<&[u8]>
-    ensures { option_map (λ bytes. bytes.now) result ≡ word.now }
+/// Whether nothing is to be linked.
+fn is_empty_link(outputs: &[Word]) -> bool
+    ensures { result ≡ (length outputs.now == 0) }
 {
-    match word {
-        Some(word) => Some(word.as_bytes()),
-        None => None,
-    }
+    outputs.is_empty()
 }
 
-/// The file that has this place among the inputs of a line.
-fn source_of<'a>(place: usize, name: &'a Word, language: &'a Option<Word>) -> Source<'a>
-    ensures { result ≡ record { place = place; name = name.now; language = language.now } }
-{
-    Source {
-        place,
-        name: name.as_bytes(),
-        language: bytes_of(language),
-    }
-}
-
-/// The jobs of the files among the inputs of a line, worked in this context.
-#[tactic(auto, using(crate::proofs::Asked::asks_further))]
-fn jobs_in<'a, S: System>(
+/// The link with this text.
+fn link_with<S: System>(
     alloc: Global,
-    inputs: &'a [Input],
-    tree: &SpecTree,
-    context: &mut Context<'a>,
+    text: &SpecTree,
+    going: &mut Going<'_>,
     sys: &mut S,
     facts: &mut FactTable,
-) -> Result<Listing<Job>, MachineFault>
-    requires { tree.now ≡ first_text }
+) -> Result<Option<Job>, PlanFault>
     ensures asks { Asks (S.events sys.old) (S.events sys.new) facts.old facts.new }
-    ensures works { (F : Facts) → Extends facts.new F → GivesKnown machine.Memory (λ done. done) result (jobs F context.old 0 inputs.now) }
+    ensures works { (F : Facts) → Extends facts.new F → GivesKnown PlanFault.Memory (λ link. (link, going.new)) result (with_text F (Some text.now) going.old) }
+    ensures apart { IfErr result (λ fault. fault ≢ PlanFault.Machine machine.Memory) }
 {
-    let mut jobs = Listing::new(alloc);
-    for (place, input) in inputs.iter().enumerate() {
-        let Input::File { name, lang } = input else {
-            continue;
-        };
-        context.set_input(Some(source_of(place, name, lang)));
-        jobs.push(run(alloc, tree, context, sys, facts)?.job)?;
-    }
-    Ok(jobs)
+    let job = going.work_link(alloc, text, sys, facts)?;
+    Ok(with_command(job))
 }
 
-/// The jobs of the files of a line, which is lent. The text is read once.
-#[tactic(auto, using(crate::proofs::Asked::asks_further))]
-fn jobs_of<S: System>(
+/// The link, where there is anything to be linked and a text for it.
+fn link_of<S: System>(
     alloc: Global,
-    line: &Line,
+    set: &SpecSet,
+    going: &mut Going<'_>,
     sys: &mut S,
     facts: &mut FactTable,
-) -> Result<Listing<Job>, MachineFault>
+) -> Result<Option<Job>, PlanFault>
     ensures asks { Asks (S.events sys.old) (S.events sys.new) facts.old facts.new }
-    ensures works { (F : Facts) → Extends facts.new F → GivesKnown machine.Memory (λ done. done) result (line_jobs F line.now) }
+    ensures works { (F : Facts) → Extends facts.new F → GivesKnown PlanFault.Memory (λ link. (link, going.new)) result (with_link F set.now going.old) }
+    ensures apart { IfErr result (λ fault. fault ≢ PlanFault.Machine machine.Memory) }
 {
-    let prefixes = Prefixes::new(alloc, line.settings.prefixes.as_slice(), sys, facts)?;
-    let tree = first_tree(alloc)?;
-    let mut context = Context::new(alloc, line, &prefixes, NO_SEED)?;
-    jobs_in(
-        alloc,
-        line.inputs.as_slice(),
-        &tree,
-        &mut context,
-        sys,
-        facts,
-    )
+    if is_empty_link(going.outputs.as_slice()) {
+        return Ok(None);
+    }
+    match set.tree(LINK_COMMAND) {
+        Some(text) => link_with(alloc, text, going, sys, facts),
+        None => Ok(None),
+    }
 }
 
-/// The plan of a line: the job of each of its files in order. It asks the system only where the table has no
-/// answer.
-///
-/// # Errors
-/// The machine's refusal for the first file whose text has no job.
-#[tactic(auto, using(crate::proofs::Asked::asks_further))]
-pub fn plan<S: System>(
+/// The plan, once all inputs were worked.
+fn finish<S: System>(
     alloc: Global,
-    line: &Line,
+    set: &SpecSet,
+    going: Going<'_>,
     sys: &mut S,
     facts: &mut FactTable,
 ) -> Result<Plan, PlanFault>
     ensures asks { Asks (S.events sys.old) (S.events sys.new) facts.old facts.new }
-    ensures plans { (F : Facts) → Extends facts.new F → GivesKnown PlanFault.Memory (λ p. p) result (denoted F line.now) }
+    ensures works { (F : Facts) → Extends facts.new F → GivesKnown PlanFault.Memory (λ plan. plan) result (finished F set.now going.entry) }
     ensures apart { IfErr result (λ fault. fault ≢ PlanFault.Machine machine.Memory) }
 {
-    let jobs = jobs_of(alloc, line, sys, facts)?;
+    let mut going = going;
+    let link = link_of(alloc, set, &mut going, sys, facts)?;
+    let notices = notices_of(alloc, &link, &going)?;
     Ok(Plan {
-        notices: Listing::new(alloc),
-        jobs,
-        link: None,
+        notices,
+        jobs: going.jobs,
+        link,
     })
+}
+
+/// The plan of inputs, in this context.
+#[tactic(auto, using(crate::proofs::Asked::asks_further))]
+fn planned<'a, S: System>(
+    alloc: Global,
+    set: &'a SpecSet,
+    inputs: &'a [Input],
+    context: Context<'a>,
+    sys: &mut S,
+    facts: &mut FactTable,
+) -> Result<Plan, PlanFault>
+    ensures asks { Asks (S.events sys.old) (S.events sys.new) facts.old facts.new }
+    ensures works { (F : Facts) → Extends facts.new F → GivesKnown PlanFault.Memory (λ plan. plan) result (planned F set.now inputs.now context.entry) }
+    ensures apart { IfErr result (λ fault. fault ≢ PlanFault.Machine machine.Memory) }
+{
+    let mut going = Going::new(alloc, context);
+    add_inputs(alloc, set, inputs, &mut going, sys, facts)?;
+    finish(alloc, set, going, sys, facts)
+}
+
+/// The plan of a line over its specs: each source worked with the text of its language, in the order of the line, and the
+/// link, where there is one (GCC manual, "Overall Options" and "Spec Files"). Names of temporaries have this seed. It asks
+/// the system only where the table has no answer.
+///
+/// # Errors
+/// The first refusal in the order of the inputs, with the link behind them: `UnknownLanguage` and `NotInstalled` of a file, and
+/// the machine's refusal of a text.
+#[tactic(auto, using(crate::proofs::Asked::asks_further))]
+pub fn plan<S: System>(
+    alloc: Global,
+    line: &Line,
+    set: &SpecSet,
+    seed: u32,
+    sys: &mut S,
+    facts: &mut FactTable,
+) -> Result<Plan, PlanFault>
+    ensures asks { Asks (S.events sys.old) (S.events sys.new) facts.old facts.new }
+    ensures plans { (F : Facts) → Extends facts.new F → GivesKnown PlanFault.Memory (λ p. p) result (denoted F line.now set.now seed) }
+    ensures apart { IfErr result (λ fault. fault ≢ PlanFault.Machine machine.Memory) }
+{
+    let prefixes = Prefixes::new(alloc, line.settings.prefixes.as_slice(), sys, facts)?;
+    let context = Context::new(alloc, line, set, &prefixes, seed)?;
+    planned(alloc, set, line.inputs.as_slice(), context, sys, facts)
 }

@@ -1,0 +1,11 @@
+use Rattle.drv_plan.proofs.Steps.{given_alike, prefixes_first}
+use Rattle.drv_plan.proofs.planning.plan.Goals as goal
+use Rattle.drv_plan.specs.Denoted.{denoted, planned}
+use Rattle.drv_system.proofs.Asking.{asks_extends, extends_then}
+
+pub returns-clause-plans : goal.returns-clause-plans
+returns-clause-plans g c F e =
+    given_alike _ c.planned.result (planned F c.args.set.now c.as_slice-2.result.now c.in_ok-context.context) (denoted F c.args.line.now c.args.set.now c.args.seed)
+    (prefixes_first F c.args.line.now c.args.set.now c.args.seed c.as_slice.result.now c.as_slice-2.result.now c.in_ok-prefixes.prefixes c.in_ok-context.context
+    c.as_slice.ensures c.as_slice-2.ensures (c.in_ok-prefixes.ensures.prefixes F (extends_then (asks_extends c.planned.ensures.asks) e)) c.in_ok-context.ensures)
+    (c.planned.ensures.works F e)

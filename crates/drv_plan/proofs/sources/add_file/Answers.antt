@@ -1,0 +1,12 @@
+use Rattle.drv_plan.proofs.Steps.{given_alike, source_chosen}
+use Rattle.drv_plan.proofs.sources.add_file.Goals as goal
+use Rattle.drv_plan.specs.Denoted.{with_file, with_source}
+use Rattle.drv_plan.specs.Languages.{Chosen}
+use Rattle.std.proofs.Common.{Ok, ap, ◌∙◌}
+
+pub returns-clause-works : goal.returns-clause-works
+returns-clause-works g c F e =
+    given_alike _ c.add_source.result (with_source F c.source_of-source.result c.chosen.inside.tree.now c.args.going.now) (with_file F c.args.place c.args.name.now (Ok c.args.chosen) c.args.going.now)
+    (ap (λ chosen. with_file F c.args.place c.args.name.now (Ok chosen) c.args.going.now) c.in-Some.is
+    ∙ source_chosen F c.args.place c.args.name.now c.in-Some.chosen c.source_of-source.result c.chosen.inside.tree.now c.args.going.now c.source_of-source.ensures (ap (λ (v : Chosen). v.text) c.chosen.view_is))
+    (c.add_source.ensures.works F e)

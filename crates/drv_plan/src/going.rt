@@ -1,0 +1,157 @@
+//! What goes on from one input of a line to the next.
+
+ghost use Rattle.drv_machine.specs.declared.fault.MachineFault.TheVariants as machine;
+ghost use Rattle.drv_plan.specs.Denoted.{begun, behind_job, behind_object, behind_word, for_link, output_list, with_source, worked};
+ghost use Rattle.drv_system.specs.Asking.{Asks, Extends};
+ghost use Rattle.drv_system.specs.Facts.{Facts};
+ghost use Rattle.drv_system.specs.Gives.{GivesKnown};
+ghost use Rattle.std.specs.Prelude.{◌≡◌, ◌≢◌, ◌++◌, IfErr, OnOk};
+
+use crate::PlanFault;
+use drv_machine::{Context, Source, run};
+use drv_syntax::SpecTree;
+use drv_system::{FactTable, System};
+use drv_words::{Job, Listing, Word};
+use std::alloc::{AllocError, Global};
+
+/// What goes on from one input to the next, and what they have given so far.
+#[derive(Drop)]
+pub(crate) struct Going<'a> {
+    /// What the last text was worked for, with what it left to the next one.
+    pub(crate) context: Context<'a>,
+    /// What texts tell the user.
+    pub(crate) notes: Listing<Word>,
+    /// The jobs of the sources.
+    pub(crate) jobs: Listing<Job>,
+    /// The words of the link.
+    pub(crate) outputs: Listing<Word>,
+    /// The names of the files that are the linker's.
+    pub(crate) passed_on: Listing<Word>,
+}
+
+/// Adds copies of words.
+fn push_words(list: &mut Listing<Word>, words: &[Word]) -> Result<(), AllocError>
+    ensures { OnOk result (list.new ≡ list.old ++ words.now) }
+{
+    for word in words {
+        list.push(word.clone()?)?;
+    }
+    Ok(())
+}
+
+/// Adds a copy of a job's output, if it has one.
+fn push_output(list: &mut Listing<Word>, output: &Option<Word>) -> Result<(), AllocError>
+    ensures { OnOk result (list.new ≡ list.old ++ output_list output.now) }
+{
+    if let Some(output) = output {
+        list.push(output.clone()?)?;
+    }
+    Ok(())
+}
+
+impl<'a> Going<'a> {
+    /// Nothing was worked yet.
+    pub(crate) fn new(alloc: Global, context: Context<'a>) -> Going<'a>
+        ensures { result ≡ begun context.entry }
+    {
+        Going {
+            context,
+            notes: Listing::new(alloc),
+            jobs: Listing::new(alloc),
+            outputs: Listing::new(alloc),
+            passed_on: Listing::new(alloc),
+        }
+    }
+
+    /// Adds the name of a file that is the linker's.
+    pub(crate) fn add_object(&mut self, name: &Word) -> Result<(), AllocError>
+        ensures { OnOk result (self.new ≡ behind_object name.now self.old) }
+    {
+        self.outputs.push(name.clone()?)?;
+        self.passed_on.push(name.clone()?)?;
+        Ok(())
+    }
+
+    /// Adds a word of the link.
+    pub(crate) fn add_word(&mut self, word: &Word) -> Result<(), AllocError>
+        ensures { OnOk result (self.new ≡ behind_word word.now self.old) }
+    {
+        self.outputs.push(word.clone()?)?;
+        Ok(())
+    }
+
+    /// Adds the job of a source.
+    fn add_job(&mut self, job: Job) -> Result<(), AllocError>
+        ensures { OnOk result (self.new ≡ behind_job job self.old) }
+    {
+        push_output(&mut self.outputs, &job.output)?;
+        self.jobs.push(job)?;
+        Ok(())
+    }
+
+    /// Works a text for what the context has, and keeps what goes on to the next one. It asks the system only where the
+    /// table has no answer.
+    ///
+    /// # Errors
+    /// The machine's refusal of the text.
+    pub(crate) fn work<S: System>(
+        &mut self,
+        alloc: Global,
+        text: &SpecTree,
+        sys: &mut S,
+        facts: &mut FactTable,
+    ) -> Result<Job, PlanFault>
+        ensures asks { Asks (S.events sys.old) (S.events sys.new) facts.old facts.new }
+        ensures works { (F : Facts) → Extends facts.new F → GivesKnown PlanFault.Memory (λ job. (job, self.new)) result (worked F text.now self.old) }
+        ensures apart { IfErr result (λ fault. fault ≢ PlanFault.Machine machine.Memory) }
+    {
+        let done = run(alloc, text, &self.context, sys, facts)?;
+        push_words(&mut self.notes, done.notices.as_slice())?;
+        self.context.go_on(done.accumulated, done.next_number);
+        Ok(done.job)
+    }
+
+    /// Works the text of a source, and adds its job.
+    ///
+    /// # Errors
+    /// The machine's refusal of the text.
+    pub(crate) fn add_source<S: System>(
+        &mut self,
+        alloc: Global,
+        source: Source<'a>,
+        text: &SpecTree,
+        sys: &mut S,
+        facts: &mut FactTable,
+    ) -> Result<(), PlanFault>
+        ensures asks { Asks (S.events sys.old) (S.events sys.new) facts.old facts.new }
+        ensures works { (F : Facts) → Extends facts.new F → GivesKnown PlanFault.Memory (λ _. self.new) result (with_source F source.entry text.now self.old) }
+        ensures apart { IfErr result (λ fault. fault ≢ PlanFault.Machine machine.Memory) }
+    {
+        self.context.set_input(Some(source));
+        let job = self.work(alloc, text, sys, facts)?;
+        self.add_job(job)?;
+        Ok(())
+    }
+
+    /// Works the text of the link, which takes the outputs.
+    ///
+    /// # Errors
+    /// The machine's refusal of the text.
+    pub(crate) fn work_link<S: System>(
+        &mut self,
+        alloc: Global,
+        text: &SpecTree,
+        sys: &mut S,
+        facts: &mut FactTable,
+    ) -> Result<Job, PlanFault>
+        ensures asks { Asks (S.events sys.old) (S.events sys.new) facts.old facts.new }
+        ensures works { (F : Facts) → Extends facts.new F → GivesKnown PlanFault.Memory (λ job. (job, self.new)) result (worked F text.now (for_link self.old)) }
+        ensures apart { IfErr result (λ fault. fault ≢ PlanFault.Machine machine.Memory) }
+    {
+        let mut outputs = Listing::new(alloc);
+        push_words(&mut outputs, self.outputs.as_slice())?;
+        self.context.set_input(None);
+        self.context.set_outputs(outputs);
+        self.work(alloc, text, sys, facts)
+    }
+}

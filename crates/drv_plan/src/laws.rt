@@ -1,0 +1,22 @@
+//! A law of the plan.
+
+ghost use Rattle.drv_args.specs.declared.line.Line.{Line};
+ghost use Rattle.drv_plan.specs.Denoted.{denoted};
+ghost use Rattle.drv_search.specs.declared.prefixes.Prefixes.{Prefixes};
+ghost use Rattle.drv_specs.specs.Dumping.{Plain, dumped};
+ghost use Rattle.drv_specs.specs.Loading.{loaded};
+ghost use Rattle.drv_specs.specs.Sets.{Set};
+ghost use Rattle.drv_system.specs.Facts.{Facts};
+ghost use Rattle.drv_system.specs.Known.{Is};
+ghost use Rattle.std.specs.Prelude.{◌≡◌, Ok, ℕ};
+
+use drv_specs::SpecSet;
+
+/// The law that the dump of a set, loaded over the set, changes no plan, unless a named text begins with `+` and a blank: then
+/// that text would be taken as an addition. It gives nothing.
+pub fn reload_law(set: &SpecSet)
+    ensures { Plain set.now → (F : Facts) (prefixes : Prefixes)
+        → (after : Set) × (loaded F prefixes set.now (dumped set.now) ≡ Is (Ok after)) × ((G : Facts) (line : Line) (seed : ℕ) → denoted G line after seed ≡ denoted G line set.now seed) }
+{
+    set.reloads_over_itself();
+}

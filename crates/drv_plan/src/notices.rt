@@ -1,0 +1,69 @@
+//! The notices of a plan.
+
+ghost use Rattle.drv_plan.specs.Denoted.{around, notices, unused};
+ghost use Rattle.std.specs.Prelude.{◌≡◌, ◌++◌, IfOk, OnOk, map};
+
+use crate::going::Going;
+use drv_words::{Job, Listing, Word};
+use std::alloc::{AllocError, Global};
+
+/// What stands before the name of a file that no link takes.
+const UNUSED_FRONT: &[u8] = b"warning: ";
+
+/// And behind it.
+const UNUSED_END: &[u8] = b": linker input file unused because linking not done";
+
+/// A word between two texts.
+fn around(alloc: Global, before: &[u8], behind: &[u8], word: &[u8]) -> Result<Word, AllocError>
+    ensures { IfOk result (λ text. text ≡ around before.now behind.now word.now) }
+{
+    let mut text = Word::from_bytes(alloc, before)?;
+    text.extend_from_slice(word)?;
+    text.extend_from_slice(behind)?;
+    Ok(text)
+}
+
+/// Adds each of these words between two texts.
+fn push_all(
+    alloc: Global,
+    list: &mut Listing<Word>,
+    before: &[u8],
+    behind: &[u8],
+    words: &[Word],
+) -> Result<(), AllocError>
+    ensures { OnOk result (list.new ≡ list.old ++ map (around before.now behind.now) words.now) }
+{
+    for word in words {
+        list.push(around(alloc, before, behind, word.as_bytes())?)?;
+    }
+    Ok(())
+}
+
+/// Adds the notices of files that are the linker's, of which there is one for each where there is no link.
+fn push_unused(
+    alloc: Global,
+    list: &mut Listing<Word>,
+    link: &Option<Job>,
+    names: &[Word],
+) -> Result<(), AllocError>
+    ensures { OnOk result (list.new ≡ list.old ++ unused link.now names.now) }
+{
+    match link {
+        Some(_) => Ok(()),
+        None => push_all(alloc, list, UNUSED_FRONT, UNUSED_END, names),
+    }
+}
+
+/// The notices of a plan with this link: those of texts, and behind them those of files that no link takes.
+pub(crate) fn notices_of(
+    alloc: Global,
+    link: &Option<Job>,
+    going: &Going<'_>,
+) -> Result<Listing<Word>, AllocError>
+    ensures { IfOk result (λ told. told ≡ notices link.now going.now) }
+{
+    let mut told = Listing::new(alloc);
+    push_all(alloc, &mut told, b"note: ", b"", going.notes.as_slice())?;
+    push_unused(alloc, &mut told, link, going.passed_on.as_slice())?;
+    Ok(told)
+}

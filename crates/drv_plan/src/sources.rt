@@ -1,0 +1,102 @@
+//! The inputs of a line, one after another: a source is worked with the text of its language.
+
+ghost use Rattle.drv_machine.specs.declared.fault.MachineFault.TheVariants as machine;
+ghost use Rattle.drv_plan.specs.Denoted.{with_file, with_input, with_inputs};
+ghost use Rattle.drv_system.specs.Asking.{Asks, Extends};
+ghost use Rattle.drv_system.specs.Facts.{Facts};
+ghost use Rattle.drv_system.specs.Gives.{GivesKnown};
+ghost use Rattle.std.specs.Prelude.{◌≡◌, ◌≢◌, IfErr, Ok};
+
+use crate::PlanFault;
+use crate::going::Going;
+use crate::languages::{Chosen, language};
+use drv_args::Input;
+use drv_machine::Source;
+use drv_specs::SpecSet;
+use drv_system::{FactTable, System};
+use drv_words::Word;
+use std::alloc::Global;
+
+/// The source that has this place among the inputs of a line, by what it is worked with.
+fn source_of<'a>(place: usize, name: &'a Word, chosen: &Chosen<'a>) -> Source<'a>
+    ensures { result ≡ record { place = place; name = name.now; language = chosen.now.name } }
+{
+    Source {
+        place,
+        name: name.as_bytes(),
+        language: chosen.name,
+    }
+}
+
+/// A file: its text is worked, or it is the linker's.
+fn add_file<'a, S: System>(
+    alloc: Global,
+    place: usize,
+    name: &'a Word,
+    chosen: Option<Chosen<'a>>,
+    going: &mut Going<'a>,
+    sys: &mut S,
+    facts: &mut FactTable,
+) -> Result<(), PlanFault>
+    ensures asks { Asks (S.events sys.old) (S.events sys.new) facts.old facts.new }
+    ensures works { (F : Facts) → Extends facts.new F → GivesKnown PlanFault.Memory (λ _. going.new) result (with_file F place name.now (Ok chosen.entry) going.old) }
+    ensures apart { IfErr result (λ fault. fault ≢ PlanFault.Machine machine.Memory) }
+{
+    let Some(chosen) = chosen else {
+        going.add_object(name)?;
+        return Ok(());
+    };
+    let source = source_of(place, name, &chosen);
+    going.add_source(alloc, source, chosen.tree, sys, facts)
+}
+
+/// An input: a file in its language, or a word of the link, which has none.
+fn add_input<'a, S: System>(
+    alloc: Global,
+    set: &'a SpecSet,
+    place: usize,
+    input: &'a Input,
+    going: &mut Going<'a>,
+    sys: &mut S,
+    facts: &mut FactTable,
+) -> Result<(), PlanFault>
+    ensures asks { Asks (S.events sys.old) (S.events sys.new) facts.old facts.new }
+    ensures works { (F : Facts) → Extends facts.new F → GivesKnown PlanFault.Memory (λ _. going.new) result (with_input F set.now place input.now going.old) }
+    ensures apart { IfErr result (λ fault. fault ≢ PlanFault.Machine machine.Memory) }
+{
+    let chosen = language(alloc, input, set)?;
+    match input {
+        Input::File { name, .. } => add_file(alloc, place, name, chosen, going, sys, facts),
+        Input::Library(word) => {
+            going.add_word(word)?;
+            Ok(())
+        }
+        Input::LinkWord(word) => {
+            going.add_word(word)?;
+            Ok(())
+        }
+    }
+}
+
+/// The inputs of a line in their order. It asks the system only where the table has no answer.
+///
+/// # Errors
+/// The first refusal in the order of the inputs: of a file's language, or the machine's of its text.
+#[tactic(auto, using(crate::proofs::Asked::asks_further))]
+pub(crate) fn add_inputs<'a, S: System>(
+    alloc: Global,
+    set: &'a SpecSet,
+    inputs: &'a [Input],
+    going: &mut Going<'a>,
+    sys: &mut S,
+    facts: &mut FactTable,
+) -> Result<(), PlanFault>
+    ensures asks { Asks (S.events sys.old) (S.events sys.new) facts.old facts.new }
+    ensures works { (F : Facts) → Extends facts.new F → GivesKnown PlanFault.Memory (λ _. going.new) result (with_inputs F set.now 0 inputs.now going.old) }
+    ensures apart { IfErr result (λ fault. fault ≢ PlanFault.Machine machine.Memory) }
+{
+    for (place, input) in inputs.iter().enumerate() {
+        add_input(alloc, set, place, input, going, sys, facts)?;
+    }
+    Ok(())
+}
