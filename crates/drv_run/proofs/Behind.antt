@@ -1,3 +1,4 @@
+use Rattle.drv_core.specs.Needed.{needed}
 use Rattle.drv_core.specs.Outcomes.{Answers, status_of}
 use Rattle.drv_core.specs.Windowed.{IsWhole, Windowed}
 use Rattle.drv_run.specs.Executed.{Executed}
@@ -18,7 +19,7 @@ use Rattle.drv_words.specs.declared.steps.Step.{Step}
 use Rattle.drv_words.specs.declared.steps.Step.TheVariants as step
 use Rattle.std.proofs.Common.{refl, ap, sym, subst, ◌∙◌}
 use Rattle.std.specs.List.{list_any}
-use Rattle.std.specs.Prelude.{◌≡◌, ◌&&◌, ◌||◌, Bool, List, [], ◌∷◌, ◌++◌, false, if◌then◌else◌, map, not, true, ℕ}
+use Rattle.std.specs.Prelude.{◌≡◌, ◌≤◌, ◌&&◌, ◌||◌, Bool, List, [], ◌∷◌, ◌++◌, false, length, map, not, true, ℕ}
 
 -- The events of a run behind a journal without a pending pipe: what can be made behind them can be made behind both, and what
 -- fits behind both fits behind them.
@@ -82,12 +83,13 @@ fits_behind journal events s a is = fits_rest (run_of journal) events s a (subst
 
 -- a whole run, in the words of a caller
 pub executed : (plan p : Plan) (pass_codes q : Bool) (N n : ℕ) (journal journal' : List Event) (status : ℕ) (events : List RunEvent)
-    → journal' ≡ journal ++ map Run events → p ≡ plan → q ≡ pass_codes → n ≡ N → (w : IsWhole p n events)
+    → journal' ≡ journal ++ map Run events → p ≡ plan → q ≡ pass_codes → n ≡ N → length events ≤ needed p → (w : IsWhole p n events)
     → ((o : Answers) → Windowed p n o events → status ≡ status_of q o) → Executed plan pass_codes N journal journal' status
-executed plan p pass_codes q N n journal journal' status events grows plans codes windows w says = record {
+executed plan p pass_codes q N n journal journal' status events grows plans codes windows few w says = record {
   events = events;
   answers = w.o;
   journal_grows = grows;
   windowed = subst (λ m. Windowed plan m w.o events) windows (subst (λ r. Windowed r n w.o events) plans w.windowed);
+  few = subst (λ r. length events ≤ needed r) plans few;
   status_is = says w.o w.windowed ∙ ap (λ b. status_of b w.o) codes;
 }

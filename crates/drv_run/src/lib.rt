@@ -1,7 +1,20 @@
-//! A plan is carried out: each step of its run is made by the system.
+//! A call of the driver: from its arguments to the end of its run.
 #![tactic(auto)]
 
+mod driving;
+mod ending;
 mod executing;
+mod fronting;
+mod laws;
 mod making;
+mod planning;
+mod telling;
+mod wording;
+mod work;
 
+pub use driving::drive;
+pub use ending::{Ending, Refusal};
 pub use executing::execute;
+pub use laws::{one_ending, same_plan, started_first};
+pub use wording::fault_line;
+pub use work::{Manner, Work};

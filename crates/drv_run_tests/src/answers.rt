@@ -49,18 +49,61 @@ fn answers(alloc: Global, lines: &[Listing<Word>]) -> Result<Listing<Answer>, Al
     Ok(answers)
 }
 
+/// The files in the lines that begin with `file`, each with its bytes, if it can be read.
+fn files(
+    alloc: Global,
+    lines: &[Listing<Word>],
+) -> Result<Listing<(Word, Option<Word>)>, AllocError> {
+    let mut files = Listing::new(alloc);
+    for line in lines {
+        match line.as_slice() {
+            [what, path] if what.as_bytes() == b"file".as_slice() => {
+                files.push((path.clone()?, None))?;
+            }
+            [what, path, text] if what.as_bytes() == b"file".as_slice() => {
+                files.push((path.clone()?, Some(text.clone()?)))?;
+            }
+            _ => {}
+        }
+    }
+    Ok(files)
+}
+
+/// The folders in the lines that begin with `folder`.
+fn folders(alloc: Global, lines: &[Listing<Word>]) -> Result<Listing<Word>, AllocError> {
+    let mut folders = Listing::new(alloc);
+    for line in lines {
+        if let [what, path] = line.as_slice()
+            && what.as_bytes() == b"folder".as_slice()
+        {
+            folders.push(path.clone()?)?;
+        }
+    }
+    Ok(folders)
+}
+
+/// The variables in the lines that begin with `variable`, each with its value.
+fn variables(alloc: Global, lines: &[Listing<Word>]) -> Result<Listing<(Word, Word)>, AllocError> {
+    let mut variables = Listing::new(alloc);
+    for line in lines {
+        if let [what, name, value] = line.as_slice()
+            && what.as_bytes() == b"variable".as_slice()
+        {
+            variables.push((name.clone()?, value.clone()?))?;
+        }
+    }
+    Ok(variables)
+}
+
 /// A system that answers as lines say.
 pub fn system(alloc: Global, lines: &[Listing<Word>]) -> Result<ScriptSystem, AllocError>
     ensures { IfOk result (λ sys. sys.journal ≡ []) }
 {
+    let files = files(alloc, lines)?;
+    let folders = folders(alloc, lines)?;
+    let variables = variables(alloc, lines)?;
     let answers = answers(alloc, lines)?;
-    Ok(ScriptSystem::new(
-        alloc,
-        Listing::new(alloc),
-        Listing::new(alloc),
-        Listing::new(alloc),
-        answers,
-    ))
+    Ok(ScriptSystem::new(alloc, files, folders, variables, answers))
 }
 
 /// Whether a line says that nothing can be told.

@@ -13,15 +13,28 @@
 //! mute                nothing can be told
 //! answers WORDS       claimed, taken, unclaimed, started, refused, an exit status, signal, lost, removed, missing, kept, unremoved
 //! ```
+//!
+//! `drv_run_tests drive WORD..` makes a whole call of the driver with these arguments and the seed 42, and prints what was said,
+//! the steps with their answers, and how the call ended. Instead of a plan, standard input says what the script has:
+//!
+//! ```text
+//! file PATH TEXT      a file of these bytes; without a text it cannot be read
+//! folder PATH         a folder
+//! variable NAME VALUE a variable of the environment
+//! ```
+//!
+//! Parts of a plan are then named by the numbers of job, group and place.
 #![tactic(auto)]
 
 ghost use Rattle.std.specs.Prelude.{◌≡◌, ◌≤◌, IfSome};
 
 mod answers;
+mod driven;
 mod planning;
 mod showing;
 
 use answers::{is_mute, system};
+use driven::driven;
 use drv_core::events_needed;
 use drv_run::execute;
 use drv_system::{System, arguments};
@@ -71,7 +84,7 @@ fn told(
     let mut text = Word::empty(rt.alloc());
     let status = execute(rt.alloc(), &mut sys, &plan, pass_codes, window)?;
     for event in sys.journal() {
-        show_event(&mut text, &plan, event)?;
+        show_event(&mut text, Some(&plan), event)?;
     }
     show_number(&mut text, b"status ", usize::from(status))?;
     show_number(&mut text, b"needed ", events_needed(&plan).unwrap_or(0))?;
@@ -83,10 +96,14 @@ fn main(rt: HostRuntime) -> io::Result<()> {
     let [window, rest @ ..] = words.as_slice() else {
         return Ok(());
     };
+    let lines = read_lines(&rt)?;
+    if window.as_bytes() == b"drive".as_slice() {
+        let text = driven(rt.alloc(), lines.as_slice(), rest)?;
+        return io::writer(&rt).write_all(text.as_bytes());
+    }
     let Some(window) = window_of(window) else {
         return Ok(());
     };
-    let lines = read_lines(&rt)?;
     let text = told(&rt, lines.as_slice(), window, !rest.is_empty())?;
     io::writer(&rt).write_all(text.as_bytes())
 }

@@ -1,6 +1,6 @@
-//! How the steps of a run and their answers are printed.
+//! How what is said, and the steps of a run with their answers, are printed.
 
-use drv_system::Event;
+use drv_system::{Event, TellAnswer};
 use drv_words::{
     Answer, ClaimAnswer, Job, Note, Place, Plan, RemoveAnswer, RunEvent, StartAnswer, Step,
     WaitAnswer, Word,
@@ -29,9 +29,34 @@ fn name_of(plan: &Plan, place: Place) -> Option<&[u8]> {
     Some(name.as_bytes())
 }
 
-/// What is at a place of a plan.
-fn show_place(text: &mut Word, plan: &Plan, place: Place) -> Result<(), AllocError> {
-    text.extend_from_slice(name_of(plan, place).unwrap_or(b"?"))
+/// A kind of place, and the numbers of the job and of the place in it.
+fn show_file(text: &mut Word, kind: &[u8], job: usize, index: usize) -> Result<(), AllocError> {
+    text.extend_from_slice(kind)?;
+    text.extend_from_slice(itoa::Buffer::new().format(job).as_bytes())?;
+    text.extend_from_slice(b".")?;
+    text.extend_from_slice(itoa::Buffer::new().format(index).as_bytes())
+}
+
+/// A place of a plan by its numbers.
+fn show_numbers(text: &mut Word, place: Place) -> Result<(), AllocError> {
+    match place {
+        Place::Command { job, group, index } => {
+            show_file(text, b"", job, group)?;
+            text.extend_from_slice(b".")?;
+            text.extend_from_slice(itoa::Buffer::new().format(index).as_bytes())
+        }
+        Place::Temp { job, index } => show_file(text, b"temp ", job, index),
+        Place::Marked { job, index } => show_file(text, b"marked ", job, index),
+        Place::OnFailure { job, index } => show_file(text, b"on_failure ", job, index),
+    }
+}
+
+/// What is at a place of a plan, or where the plan isn't known its numbers.
+fn show_place(text: &mut Word, plan: Option<&Plan>, place: Place) -> Result<(), AllocError> {
+    match plan {
+        Some(plan) => text.extend_from_slice(name_of(plan, place).unwrap_or(b"?")),
+        None => show_numbers(text, place),
+    }
 }
 
 /// A text, a number and a newline.
@@ -66,7 +91,7 @@ fn note_text(note: Note) -> &'static [u8] {
 /// A start, with a bar where it reads or writes a pipe.
 fn show_start(
     text: &mut Word,
-    plan: &Plan,
+    plan: Option<&Plan>,
     place: Place,
     from_pipe: bool,
     to_pipe: bool,
@@ -82,7 +107,7 @@ fn show_start(
     Ok(())
 }
 
-fn show_step(text: &mut Word, plan: &Plan, step: Step) -> Result<(), AllocError> {
+fn show_step(text: &mut Word, plan: Option<&Plan>, step: Step) -> Result<(), AllocError> {
     match step {
         Step::Claim(place) => {
             text.extend_from_slice(b"claim ")?;
@@ -148,13 +173,35 @@ fn show_answer(text: &mut Word, answer: Answer) -> Result<(), AllocError> {
     text.extend_from_slice(b"\n")
 }
 
-/// A step and its answer, on a line.
-pub fn show_event(text: &mut Word, plan: &Plan, event: &Event) -> Result<(), AllocError> {
+/// Whether a text could be told.
+fn told_text(answer: TellAnswer) -> &'static [u8] {
+    match answer {
+        TellAnswer::Told => b": told\n",
+        TellAnswer::Failed => b": untold\n",
+    }
+}
+
+/// What became of a text, and behind it the text.
+fn show_told(
+    text: &mut Word,
+    what: &[u8],
+    told: &Word,
+    answer: TellAnswer,
+) -> Result<(), AllocError> {
+    text.extend_from_slice(what)?;
+    text.extend_from_slice(told_text(answer))?;
+    text.extend_from_slice(told.as_bytes())
+}
+
+/// A step and its answer, on a line; a text that was said or put. Questions aren't printed.
+pub fn show_event(text: &mut Word, plan: Option<&Plan>, event: &Event) -> Result<(), AllocError> {
     match event {
         Event::Run(RunEvent { step, answer }) => {
             show_step(text, plan, *step)?;
             show_answer(text, *answer)
         }
-        _ => text.extend_from_slice(b"?\n"),
+        Event::Say(told, answer) => show_told(text, b"say", told, *answer),
+        Event::Put(told, answer) => show_told(text, b"put", told, *answer),
+        _ => Ok(()),
     }
 }

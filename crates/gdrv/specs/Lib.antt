@@ -1,3 +1,2 @@
-pub mod Drives
+pub mod Exits
 pub mod Seed
-pub mod Texts

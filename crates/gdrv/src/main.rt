@@ -1,25 +1,18 @@
-//! The driver: a command line in, and its plan or its refusal on standard error, or the specs on standard output.
+//! The driver: a command line in, its commands carried out; its plan or its refusal on standard error, or the specs on
+//! standard output.
 #![tactic(auto)]
 
-ghost use Rattle.gdrv.specs.Drives.{exit_status_of};
+ghost use Rattle.gdrv.specs.Exits.{exit_status_of};
 ghost use Rattle.std.specs.Prelude.{◌≡◌};
 
-mod driving;
-mod ending;
-mod laws;
-mod planning;
 mod process;
 mod seed;
-mod wording;
-mod work;
 
-use driving::drive;
+use drv_run::{Ending, drive, fault_line};
 use drv_system::{HostSystem, arguments};
-use ending::Ending;
 use process::{clock_seed, complain};
 use std::io::ErrorKind;
 use std::process::ExitCode;
-use wording::fault_line;
 
 const OUT_OF_MEMORY: &[u8] = b"gdrv: out of memory\n";
 

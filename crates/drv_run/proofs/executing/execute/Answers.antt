@@ -11,7 +11,7 @@ returns-in-Done-clause-executed g c =
     executed c.args.plan.now c.loop-status.run.plan c.args.pass_codes c.loop-status.run.pass_codes c.args.window c.loop-status.run.window
     (g.S.System.events c.args.sys.now) (g.S.System.events c.loop-status.sys) c.in-Done.status c.loop-status.run.events
     c.loop-status.invariant.journal c.loop-status.invariant.plan c.loop-status.invariant.codes c.loop-status.invariant.window
-    c.in-Done.ensures.whole c.in-Done.ensures.status
+    c.next.ensures.bound c.in-Done.ensures.whole c.in-Done.ensures.status
 
 pub make-answer-requires-clause-can : goal.make-answer-requires-clause-can
 make-answer-requires-clause-can g c =

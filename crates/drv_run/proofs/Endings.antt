@@ -1,0 +1,64 @@
+use Rattle.drv_run.proofs.Tellings.{pipe_behind_questions}
+use Rattle.drv_run.specs.Calls.{Drove, Ends}
+use Rattle.drv_run.specs.Drives.{Comes, Drives}
+use Rattle.drv_run.specs.Telling.{DoesWork, OnlySays}
+use Rattle.drv_run.specs.declared.ending.Ending.TheVariants.{Done, OutOfMemory, Refused}
+use Rattle.drv_run.specs.declared.ending.Ending.{Ending}
+use Rattle.drv_run.specs.declared.work.Work.{Work}
+use Rattle.drv_system.proofs.Asking.{are_questions, extends_refl}
+use Rattle.drv_system.specs.Asking.{AreNew, Asks, Extends}
+use Rattle.drv_system.specs.Facts.{Facts, learn, no_facts}
+use Rattle.drv_system.specs.Running.{run_of}
+use Rattle.drv_system.specs.declared.event.Event.{Event}
+use Rattle.drv_words.specs.Stepping.{pipe_pending}
+use Rattle.std.proofs.Common.{◌≡◌, ◌∙◌, ◌++◌, Err, List, Ok, [], ap, false, refl, subst, sym, ℕ}
+use Rattle.std.proofs.lemmas.List.{append-nil}
+
+-- How a call ends.
+
+-- the answers to the questions of a call that began with an empty table
+known : {journal journal' : List Event} {F F' : Facts} → F ≡ no_facts → (asks : Asks journal journal' F F') → F' ≡ learn no_facts asks.asked
+known empty asks = asks.facts_grow ∙ ap (λ G. learn G asks.asked) empty
+
+ends_before : (F : Facts) (args : List (List ℕ)) (seed : ℕ) (ending : Ending) → Comes F args seed (Err ending) → Ends F args seed ending []
+ends_before F args seed (Done status) comes = absurd comes
+ends_before F args seed (Refused refusal) comes = (comes, refl)
+ends_before F args seed OutOfMemory comes = tt
+
+-- before its work is done
+pub drove_before : {journal journal' : List Event} {F F' : Facts} (args : List (List ℕ)) (seed : ℕ) (ending : Ending) → F ≡ no_facts
+    → Asks journal journal' F F' → ((G : Facts) → Extends F' G → Comes G args seed (Err ending)) → Drove journal journal' args seed ending
+drove_before {journal} {F' = F'} args seed ending empty asks comes = record {
+  asked = asks.asked;
+  said = [];
+  questions = subst (λ G. AreNew G asks.asked) empty asks.questions;
+  journal_grows = asks.journal_grows ∙ sym (append-nil (journal ++ asks.asked));
+  ends = ends_before (learn no_facts asks.asked) args seed ending (subst (λ G. Comes G args seed (Err ending)) (known empty asks) (comes F' (extends_refl F')));
+}
+
+-- with its work done
+pub drove_done : {journal journal' journal'' : List Event} {F F' : Facts} {args : List (List ℕ)} {seed status : ℕ} {work : Work} → F ≡ no_facts
+    → Asks journal journal' F F' → ((G : Facts) → Extends F' G → Comes G args seed (Ok work)) → DoesWork journal' journal'' work status
+    → Drove journal journal'' args seed (Done status)
+drove_done {F' = F'} {args = args} {seed = seed} {work = work} empty asks comes does = record {
+  asked = asks.asked;
+  said = does.0;
+  questions = subst (λ G. AreNew G asks.asked) empty asks.questions;
+  journal_grows = does.1 ∙ ap (λ events. events ++ does.0) asks.journal_grows;
+  ends = (work, subst (λ G. Drives G args seed work) (known empty asks) (comes F' (extends_refl F')), does.2);
+}
+
+-- and where memory is wanted for it
+pub drove_short : {journal journal' journal'' : List Event} {F F' : Facts} {args : List (List ℕ)} {seed : ℕ} → F ≡ no_facts
+    → Asks journal journal' F F' → OnlySays journal' journal'' → Drove journal journal'' args seed OutOfMemory
+drove_short empty asks only = record {
+  asked = asks.asked;
+  said = only.0;
+  questions = subst (λ G. AreNew G asks.asked) empty asks.questions;
+  journal_grows = only.1 ∙ ap (λ events. events ++ only.0) asks.journal_grows;
+  ends = only.2;
+}
+
+pub no_pipe_behind_questions : {journal journal' : List Event} {F F' : Facts} → Asks journal journal' F F' → pipe_pending (run_of journal) ≡ false → pipe_pending (run_of journal') ≡ false
+no_pipe_behind_questions {journal} {F = F} asks before =
+    ap (λ after. pipe_pending (run_of after)) asks.journal_grows ∙ pipe_behind_questions journal asks.asked (are_questions F asks.asked asks.questions) before

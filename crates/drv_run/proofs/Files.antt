@@ -1,0 +1,63 @@
+use Rattle.drv_args.specs.declared.line.Settings.{Settings}
+use Rattle.drv_search.specs.Search.{prefixes_of}
+use Rattle.drv_search.specs.declared.prefixes.Prefixes.{Prefixes}
+use Rattle.drv_specs.specs.Builtin.{builtin_specs}
+use Rattle.drv_specs.specs.Loading.{file_loaded, then_by}
+use Rattle.drv_specs.specs.Sets.{Set}
+use Rattle.drv_specs.specs.declared.fault.SpecsFault.TheVariants as specs_fault
+use Rattle.drv_specs.specs.declared.fault.SpecsFault.{SpecsFault}
+use Rattle.drv_system.specs.Facts.{Facts}
+use Rattle.drv_system.specs.Gives.{GivesKnown}
+use Rattle.drv_system.specs.Known.{◌>>=◌, Is, Known}
+use Rattle.drv_run.specs.Drives.{files_loaded, specs_of}
+use Rattle.std.proofs.Common.{◌≡◌, ◌<◌, ◌+◌, ◌⊎◌, ◌∙◌, Err, IsErrAnd, List, ◌∷◌, Ok, Result, ap, drop, inl, inr, length, sym, ℕ}
+use Rattle.std.proofs.lemmas.List.{drop_more}
+use Rattle.std.specs.Prelude.{get_or}
+
+-- Files of specs, one after another.
+
+-- at the next file
+abbrev then_files : Facts → Prefixes → List (List ℕ) → Known (Result Set SpecsFault) → Known (Result Set SpecsFault)
+then_files F prefixes names loads = then_by loads (λ set. files_loaded F prefixes set names)
+
+at_file : (F : Facts) (prefixes : Prefixes) (set : Set) (names : List (List ℕ)) (n : ℕ) (next : List ℕ) → n < length names → next ≡ get_or names n next
+    → files_loaded F prefixes set (drop n names) ≡ then_files F prefixes (drop (n + 1) names) (file_loaded F prefixes set next)
+at_file F prefixes set names n next below here =
+    ap (files_loaded F prefixes set) (drop_more names n next below ∙ ap (λ name. name ∷ drop (n + 1) names) (sym here))
+
+pub file_taken : (F : Facts) (prefixes : Prefixes) (set after : Set) (names : List (List ℕ)) (n : ℕ) (next : List ℕ) (whole : Known (Result Set SpecsFault))
+    → n < length names → next ≡ get_or names n next → file_loaded F prefixes set next ≡ Is (Ok after) → files_loaded F prefixes set (drop n names) ≡ whole
+    → files_loaded F prefixes after (drop (n + 1) names) ≡ whole
+file_taken F prefixes set after names n next whole below here loads before =
+    sym (at_file F prefixes set names n next below here ∙ ap (then_files F prefixes (drop (n + 1) names)) loads) ∙ before
+
+pub file_refused : (F : Facts) (prefixes : Prefixes) (set : Set) (names : List (List ℕ)) (n : ℕ) (next : List ℕ) (fault : SpecsFault) (whole : Known (Result Set SpecsFault))
+    → n < length names → next ≡ get_or names n next → (fault ≡ specs_fault.Memory) ⊎ (file_loaded F prefixes set next ≡ Is (Err fault)) → files_loaded F prefixes set (drop n names) ≡ whole
+    → (fault ≡ specs_fault.Memory) ⊎ (whole ≡ Is (Err fault))
+file_refused F prefixes set names n next fault whole below here (inl memory) before = inl memory
+file_refused F prefixes set names n next fault whole below here (inr refused) before =
+    inr (sym before ∙ at_file F prefixes set names n next below here ∙ ap (then_files F prefixes (drop (n + 1) names)) refused)
+
+-- the specs of a line, once its prefixes are known
+specs_from : (F : Facts) (settings : Settings) (dirs names : List (List ℕ)) (prefixes : Prefixes) (set : Set) → dirs ≡ settings.prefixes → names ≡ settings.specs
+    → prefixes_of F dirs ≡ Is prefixes → set ≡ builtin_specs → specs_of F settings ≡ files_loaded F prefixes set names
+specs_from F settings dirs names prefixes set dirs_are names_are made is =
+    ap (λ known. known >>= λ p. files_loaded F p builtin_specs settings.specs) (ap (prefixes_of F) (sym dirs_are) ∙ made)
+    ∙ ap (λ s. files_loaded F prefixes s settings.specs) (sym is) ∙ ap (files_loaded F prefixes set) (sym names_are)
+
+pub specs_given : (F : Facts) (settings : Settings) (dirs names : List (List ℕ)) (prefixes : Prefixes) (set after : Set) → dirs ≡ settings.prefixes → names ≡ settings.specs
+    → prefixes_of F dirs ≡ Is prefixes → set ≡ builtin_specs → files_loaded F prefixes set names ≡ Is (Ok after) → specs_of F settings ≡ Is (Ok after)
+specs_given F settings dirs names prefixes set after dirs_are names_are made is loads = specs_from F settings dirs names prefixes set dirs_are names_are made is ∙ loads
+
+pub specs_refused : (F : Facts) (settings : Settings) (dirs names : List (List ℕ)) (prefixes : Prefixes) (set : Set) (fault : SpecsFault) → dirs ≡ settings.prefixes → names ≡ settings.specs
+    → prefixes_of F dirs ≡ Is prefixes → set ≡ builtin_specs → (fault ≡ specs_fault.Memory) ⊎ (files_loaded F prefixes set names ≡ Is (Err fault))
+    → (fault ≡ specs_fault.Memory) ⊎ (specs_of F settings ≡ Is (Err fault))
+specs_refused F settings dirs names prefixes set fault dirs_are names_are made is (inl memory) = inl memory
+specs_refused F settings dirs names prefixes set fault dirs_are names_are made is (inr refused) = inr (specs_from F settings dirs names prefixes set dirs_are names_are made is ∙ refused)
+
+-- a refusal that is handed on
+pub refusal_given : {X Y : Type 0} (fault : SpecsFault) (result : Result X SpecsFault) (view : X → Y) (defined : Known (Result Y SpecsFault))
+    → IsErrAnd result (λ e. e ≡ fault) → (fault ≡ specs_fault.Memory) ⊎ (defined ≡ Is (Err fault)) → GivesKnown specs_fault.Memory view result defined
+refusal_given fault (Ok x) view defined is refused = absurd is
+refusal_given fault (Err e) view defined is (inl memory) = inl (is ∙ memory)
+refusal_given fault (Err e) view defined is (inr refused) = inr (refused ∙ ap (λ f. Is (Err f)) (sym is))

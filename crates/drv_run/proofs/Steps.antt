@@ -1,0 +1,159 @@
+use Rattle.drv_args.specs.Lines.{line_read}
+use Rattle.drv_args.specs.declared.fault.ArgsFault.TheVariants as args_fault
+use Rattle.drv_args.specs.declared.fault.ArgsFault.{ArgsFault}
+use Rattle.drv_args.specs.declared.line.Expanded.{Expanded}
+use Rattle.drv_args.specs.declared.line.Line.{Line}
+use Rattle.drv_args.specs.declared.line.Settings.{Settings}
+use Rattle.drv_funcs.specs.declared.fault.FuncsFault.TheVariants as funcs_fault
+use Rattle.drv_machine.specs.declared.fault.MachineFault.TheVariants as machine_fault
+use Rattle.drv_plan.specs.declared.fault.PlanFault.TheVariants as plan_fault
+use Rattle.drv_plan.specs.declared.fault.PlanFault.{PlanFault}
+use Rattle.drv_run.specs.Drives.{Comes, Refuses, Words, manner_of, not_expanded, not_fronted, not_loaded, not_planned, not_read, planned, specs_of, stopped_by_args, stopped_by_plan, stopped_by_specs, work_of, work_with, worked}
+use Rattle.drv_run.specs.Telling.{HasWindow}
+use Rattle.drv_run.specs.Wording.{GivesWords}
+use Rattle.drv_run.specs.declared.ending.Ending.TheVariants.{Done, OutOfMemory, Refused}
+use Rattle.drv_run.specs.declared.ending.Ending.{Ending}
+use Rattle.drv_run.specs.declared.ending.Refusal.TheVariants.{Args, C99 as NoFront, Plan as NoPlan, Specs as NoSpecs}
+use Rattle.drv_run.specs.declared.work.Work.TheVariants.{CarryOut, Dump, Show}
+use Rattle.drv_run.specs.declared.work.Work.{Work}
+use Rattle.drv_search.specs.declared.fault.SearchFault.TheVariants as search_fault
+use Rattle.drv_specs.specs.Dumping.{dumped}
+use Rattle.drv_specs.specs.Sets.{Set}
+use Rattle.drv_specs.specs.declared.fault.SpecsFault.TheVariants as specs_fault
+use Rattle.drv_specs.specs.declared.fault.SpecsFault.{SpecsFault}
+use Rattle.drv_syntax.specs.declared.fault.SyntaxFault.TheVariants as syntax_fault
+use Rattle.drv_system.specs.Facts.{Facts}
+use Rattle.drv_system.specs.Known.{Is}
+use Rattle.drv_words.specs.declared.plan.Plan.{Plan}
+use Rattle.std.proofs.Common.{◌≡◌, ◌≤◌, ◌⊎◌, ◌∙◌, Bool, Err, IsErrAnd, List, Ok, Result, ap, false, inl, inr, subst, sym, true, ℕ}
+use Rattle.std.specs.Prelude.{if◌then◌else◌}
+
+-- What a step's fault makes of the call.
+
+-- a call that ends without work
+ended_as : (F : Facts) (args : List (List ℕ)) (seed : ℕ) (ending : Ending) (result : Result Work Ending) → IsErrAnd result (λ e. e ≡ ending) → Comes F args seed (Err ending) → Comes F args seed result
+ended_as F args seed ending (Ok work) is comes = absurd is
+ended_as F args seed ending (Err e) is comes = subst (λ e'. Comes F args seed (Err e')) (sym is) comes
+
+-- without words
+without_words : (F : Facts) (args : List (List ℕ)) (seed : ℕ) (ending : Ending) → GivesWords F args (Err ending) → Comes F args seed (Err ending)
+without_words F args seed (Done status) gives = absurd gives
+without_words F args seed OutOfMemory gives = tt
+without_words F args seed (Refused (Args fault)) gives = not_expanded gives
+without_words F args seed (Refused (NoFront fault)) (expanded, expands, fronts) = not_fronted expands fronts
+without_words F args seed (Refused (NoSpecs fault)) gives = absurd gives
+without_words F args seed (Refused (NoPlan fault)) gives = absurd gives
+
+pub words_end : (F : Facts) (args : List (List ℕ)) (seed : ℕ) (ending : Ending) (result : Result Work Ending)
+    → IsErrAnd result (λ e. e ≡ ending) → GivesWords F args (Err ending) → Comes F args seed result
+words_end F args seed ending result is gives = ended_as F args seed ending result is (without_words F args seed ending gives)
+
+-- a refusal that a definition has
+refused_args : (F : Facts) (args : List (List ℕ)) (seed : ℕ) (fault : ArgsFault) → Refuses F args seed (Args fault) → Comes F args seed (Err (stopped_by_args fault))
+refused_args F args seed args_fault.Memory refused = tt
+refused_args F args seed args_fault.TooManyFiles refused = refused
+refused_args F args seed (args_fault.ResponseTooLarge path) refused = refused
+refused_args F args seed args_fault.TooManyArguments refused = refused
+refused_args F args seed (args_fault.MissingArgument option) refused = refused
+refused_args F args seed (args_fault.BadJobs word) refused = refused
+refused_args F args seed args_fault.NoInputs refused = refused
+refused_args F args seed args_fault.StdinNeedsLanguage refused = refused
+refused_args F args seed args_fault.OutputWithMany refused = refused
+refused_args F args seed (args_fault.OutputIsInput input) refused = refused
+
+refused_plan : (F : Facts) (args : List (List ℕ)) (seed : ℕ) (fault : PlanFault) → Refuses F args seed (NoPlan fault) → Comes F args seed (Err (stopped_by_plan fault))
+refused_plan F args seed plan_fault.Memory refused = tt
+refused_plan F args seed (plan_fault.Machine machine_fault.Memory) refused = refused
+refused_plan F args seed (plan_fault.Machine (machine_fault.UserError text)) refused = refused
+refused_plan F args seed (plan_fault.Machine machine_fault.SpecTooDeep) refused = refused
+refused_plan F args seed (plan_fault.Machine machine_fault.TooManySteps) refused = refused
+refused_plan F args seed (plan_fault.Machine machine_fault.NoInput) refused = refused
+refused_plan F args seed (plan_fault.Machine machine_fault.NotInLink) refused = refused
+refused_plan F args seed (plan_fault.Machine machine_fault.StrayPipe) refused = refused
+refused_plan F args seed (plan_fault.Machine machine_fault.PipeTooLong) refused = refused
+refused_plan F args seed (plan_fault.Machine (machine_fault.Search search_fault.Memory)) refused = tt
+refused_plan F args seed (plan_fault.Machine (machine_fault.Search (search_fault.ScriptMissing name))) refused = refused
+refused_plan F args seed (plan_fault.Machine (machine_fault.Funcs funcs_fault.Memory)) refused = tt
+refused_plan F args seed (plan_fault.Machine (machine_fault.Funcs (funcs_fault.VariableMissing name))) refused = refused
+refused_plan F args seed (plan_fault.Machine (machine_fault.Funcs (funcs_fault.WrongCount function))) refused = refused
+refused_plan F args seed (plan_fault.Machine (machine_fault.Funcs (funcs_fault.BadVersion word))) refused = refused
+refused_plan F args seed (plan_fault.Machine (machine_fault.Funcs (funcs_fault.NotInLink function))) refused = refused
+refused_plan F args seed (plan_fault.Machine (machine_fault.Funcs (funcs_fault.BadOperator word))) refused = refused
+refused_plan F args seed (plan_fault.UnknownLanguage name) refused = refused
+refused_plan F args seed (plan_fault.NotInstalled name) refused = refused
+
+refused_specs : (F : Facts) (args : List (List ℕ)) (seed : ℕ) (fault : SpecsFault) → Refuses F args seed (NoSpecs fault) → Comes F args seed (Err (stopped_by_specs fault))
+refused_specs F args seed specs_fault.Memory refused = tt
+refused_specs F args seed (specs_fault.NoSuchFile path) refused = refused
+refused_specs F args seed (specs_fault.Unreadable path) refused = refused
+refused_specs F args seed (specs_fault.RenameMissing name) refused = refused
+refused_specs F args seed (specs_fault.RenameTaken name) refused = refused
+refused_specs F args seed (specs_fault.BadLine n) refused = refused
+refused_specs F args seed specs_fault.IncludeTooDeep refused = refused
+refused_specs F args seed (specs_fault.AliasOfAlias key) refused = refused
+refused_specs F args seed (specs_fault.TrailingBackslash name) refused = refused
+refused_specs F args seed (specs_fault.BadName name) refused = refused
+refused_specs F args seed specs_fault.TooManyIncludes refused = refused
+refused_specs F args seed (specs_fault.Syntax name syntax_fault.Memory) refused = tt
+refused_specs F args seed (specs_fault.Syntax name (syntax_fault.BadDirective n)) refused = refused
+refused_specs F args seed (specs_fault.Syntax name (syntax_fault.Unclosed n)) refused = refused
+refused_specs F args seed (specs_fault.Syntax name (syntax_fault.StarOutside n)) refused = refused
+refused_specs F args seed (specs_fault.Syntax name (syntax_fault.MixedStar n)) refused = refused
+refused_specs F args seed (specs_fault.Syntax name (syntax_fault.TooNested n)) refused = refused
+refused_specs F args seed (specs_fault.Syntax name (syntax_fault.UnknownFunction n)) refused = refused
+refused_specs F args seed (specs_fault.Syntax name (syntax_fault.EmptyTest n)) refused = refused
+refused_specs F args seed (specs_fault.Syntax name syntax_fault.TextTooLong) refused = refused
+
+-- a fault that is want of memory, or that refusal
+by_args : (F : Facts) (args : List (List ℕ)) (seed : ℕ) (fault : ArgsFault) → (fault ≡ args_fault.Memory) ⊎ Refuses F args seed (Args fault) → Comes F args seed (Err (stopped_by_args fault))
+by_args F args seed fault (inl memory) = subst (λ f. Comes F args seed (Err (stopped_by_args f))) (sym memory) tt
+by_args F args seed fault (inr refused) = refused_args F args seed fault refused
+
+by_specs : (F : Facts) (args : List (List ℕ)) (seed : ℕ) (fault : SpecsFault) → (fault ≡ specs_fault.Memory) ⊎ Refuses F args seed (NoSpecs fault) → Comes F args seed (Err (stopped_by_specs fault))
+by_specs F args seed fault (inl memory) = subst (λ f. Comes F args seed (Err (stopped_by_specs f))) (sym memory) tt
+by_specs F args seed fault (inr refused) = refused_specs F args seed fault refused
+
+by_plan : (F : Facts) (args : List (List ℕ)) (seed : ℕ) (fault : PlanFault) → (fault ≡ plan_fault.Memory) ⊎ Refuses F args seed (NoPlan fault) → Comes F args seed (Err (stopped_by_plan fault))
+by_plan F args seed fault (inl memory) = subst (λ f. Comes F args seed (Err (stopped_by_plan f))) (sym memory) tt
+by_plan F args seed fault (inr refused) = refused_plan F args seed fault refused
+
+-- the steps behind the words
+
+pub reading_ends : (F : Facts) (args : List (List ℕ)) (seed : ℕ) (words : Expanded) (fault : ArgsFault) (result : Result Work Ending)
+    → IsErrAnd result (λ e. e ≡ stopped_by_args fault) → Words F args words → (fault ≡ args_fault.Memory) ⊎ (line_read words ≡ Err fault) → Comes F args seed result
+reading_ends F args seed words fault result is gives (inl memory) = ended_as F args seed (stopped_by_args fault) result is (by_args F args seed fault (inl memory))
+reading_ends F args seed words fault result is gives (inr reads) = ended_as F args seed (stopped_by_args fault) result is (by_args F args seed fault (inr (not_read gives reads)))
+
+pub loading_ends : (F : Facts) (args : List (List ℕ)) (seed : ℕ) (words : Expanded) (line : Line) (fault : SpecsFault) (result : Result Work Ending)
+    → IsErrAnd result (λ e. e ≡ stopped_by_specs fault) → Words F args words → line_read words ≡ Ok line
+    → (fault ≡ specs_fault.Memory) ⊎ (specs_of F line.settings ≡ Is (Err fault)) → Comes F args seed result
+loading_ends F args seed words line fault result is gives reads (inl memory) = ended_as F args seed (stopped_by_specs fault) result is (by_specs F args seed fault (inl memory))
+loading_ends F args seed words line fault result is gives reads (inr loads) = ended_as F args seed (stopped_by_specs fault) result is (by_specs F args seed fault (inr (not_loaded gives reads loads)))
+
+pub working_ends : (F : Facts) (args : List (List ℕ)) (seed : ℕ) (words : Expanded) (line : Line) (set : Set) (fault : PlanFault) (result : Result Work Ending)
+    → IsErrAnd result (λ e. e ≡ stopped_by_plan fault) → Words F args words → line_read words ≡ Ok line → specs_of F line.settings ≡ Is (Ok set)
+    → (fault ≡ plan_fault.Memory) ⊎ (work_of F line set seed ≡ Is (Err fault)) → Comes F args seed result
+working_ends F args seed words line set fault result is gives reads loads (inl memory) = ended_as F args seed (stopped_by_plan fault) result is (by_plan F args seed fault (inl memory))
+working_ends F args seed words line set fault result is gives reads loads (inr works) = ended_as F args seed (stopped_by_plan fault) result is (by_plan F args seed fault (inr (not_planned gives reads loads works)))
+
+-- what is done for a line
+
+pub work_dumped : (F : Facts) (line : Line) (set : Set) (seed : ℕ) (text : List ℕ) → line.settings.dump ≡ true → text ≡ dumped set → work_of F line set seed ≡ Is (Ok (Dump text))
+work_dumped F line set seed text dumps is = rw dumps (ap (λ t. Is (Ok (Dump t))) (sym is))
+
+pub work_planned : (F : Facts) (line : Line) (set : Set) (seed : ℕ) (plan : Plan) (work : Work) → line.settings.dump ≡ false → planned F line set seed ≡ Is (Ok plan)
+    → work ≡ work_with line.settings plan → work_of F line set seed ≡ Is (Ok work)
+work_planned F line set seed plan work dumps plans is = rw dumps (ap (worked line.settings) plans ∙ ap (λ w. Is (Ok w)) (sym is))
+
+pub work_refused : (F : Facts) (line : Line) (set : Set) (seed : ℕ) (fault : PlanFault) → line.settings.dump ≡ false → (fault ≡ plan_fault.Memory) ⊎ (planned F line set seed ≡ Is (Err fault))
+    → (fault ≡ plan_fault.Memory) ⊎ (work_of F line set seed ≡ Is (Err fault))
+work_refused F line set seed fault dumps (inl memory) = inl memory
+work_refused F line set seed fault dumps (inr refused) = inr (rw dumps (ap (worked line.settings) refused))
+
+-- with as many sources under way as the line says
+pub few_window : (settings : Settings) (plan : Plan) (work : Work) → (1 ≤ settings.jobs) × (settings.jobs ≤ 64) → work ≡ work_with settings plan → HasWindow work
+few_window settings plan work few is = subst (λ w. HasWindow w) (sym is) (by settings.dry)
+  where
+    by : (dry : Bool) → HasWindow (if dry then Show plan else CarryOut plan (manner_of settings))
+    by true = tt
+    by false = few

@@ -1,0 +1,86 @@
+use Rattle.drv_run.specs.Calls.{Announces, AreSaid, Says, notices_text}
+use Rattle.drv_run.specs.Executed.{Executed}
+use Rattle.drv_run.specs.Telling.{AnnouncesPlan, DoesWork}
+use Rattle.drv_run.specs.declared.work.Manner.{Manner}
+use Rattle.drv_run.specs.declared.work.Work.TheVariants.{CarryOut}
+use Rattle.drv_system.proofs.Running.{run_of-append}
+use Rattle.drv_system.specs.Asking.{AreQuestions}
+use Rattle.drv_system.specs.Running.{run_of}
+use Rattle.drv_system.specs.declared.event.Event.TheVariants.{Kind, Put, Read, Run, Say, Variable}
+use Rattle.drv_system.specs.declared.event.Event.{Event}
+use Rattle.drv_words.specs.Lines.{lines_of}
+use Rattle.drv_words.specs.Printed.{lines_text}
+use Rattle.drv_words.specs.Stepping.{pipe_pending}
+use Rattle.drv_words.specs.declared.plan.Plan.{Plan}
+use Rattle.std.proofs.Common.{◌≡◌, ◌∙◌, Bool, List, [], ◌∷◌, ◌++◌, ap, append_assoc, false, map, refl, subst, sym, true, ℕ}
+use Rattle.std.proofs.lemmas.List.{append-nil}
+
+-- Texts that are said, one behind another, and a run behind them.
+
+said_only : (text : List ℕ) (status : ℕ) (said : List Event) → Says text status said → AreSaid said
+said_only [] status said is = subst (λ events. AreSaid events) (sym is.1) tt
+said_only (b ∷ text) status said is = subst (λ events. AreSaid events) (sym is.1) tt
+
+said_both : (first second : List Event) → AreSaid first → AreSaid second → AreSaid (first ++ second)
+said_both [] second a b = b
+said_both (Say text answer ∷ first) second a b = said_both first second a b
+said_both (Read path answer ∷ first) second a b = absurd a
+said_both (Kind path kind ∷ first) second a b = absurd a
+said_both (Variable name value ∷ first) second a b = absurd a
+said_both (Put text answer ∷ first) second a b = absurd a
+said_both (Run e ∷ first) second a b = absurd a
+
+announces_only : (verbose : Bool) (plan : Plan) (said : List Event) → Announces verbose plan said → AreSaid said
+announces_only true plan said (status, shows) =
+    subst (λ events. AreSaid events) (sym shows.joined)
+    (said_both shows.notices shows.commands (said_only (notices_text plan.notices) shows.noticed shows.notices shows.notices_are)
+    (said_only (lines_text (lines_of plan)) status shows.commands shows.commands_are))
+announces_only false plan said (status, says) = said_only (notices_text plan.notices) status said says
+
+-- what is told, and then the run
+
+pub plan_carried_out : (journal journal' journal'' : List Event) (plan : Plan) (manner : Manner) (status : ℕ)
+    → AnnouncesPlan journal journal' manner.verbose plan → Executed plan manner.pass_codes manner.window journal' journal'' status → DoesWork journal journal'' (CarryOut plan manner) status
+plan_carried_out journal journal' journal'' plan manner status announces executes = (
+  announces.0 ++ map Run executes.events,
+  executes.journal_grows ∙ ap (λ before. before ++ map Run executes.events) announces.1 ∙ append_assoc journal announces.0 (map Run executes.events),
+  record {
+    announced = announces.0;
+    ran = map Run executes.events;
+    joined = refl;
+    announces = announces.2;
+    executes = record { events = executes.events; answers = executes.answers; journal_grows = refl; windowed = executes.windowed; few = executes.few; status_is = executes.status_is };
+  },
+)
+
+-- no step of a run stands among questions and texts, so no pipe is pending behind them that was not before
+
+none_ran : (said : List Event) → AreSaid said → run_of said ≡ []
+none_ran [] is = refl
+none_ran (Say text answer ∷ said) is = none_ran said is
+none_ran (Read path answer ∷ said) is = absurd is
+none_ran (Kind path kind ∷ said) is = absurd is
+none_ran (Variable name value ∷ said) is = absurd is
+none_ran (Put text answer ∷ said) is = absurd is
+none_ran (Run e ∷ said) is = absurd is
+
+none_ran_asking : (asked : List Event) → AreQuestions asked → run_of asked ≡ []
+none_ran_asking [] is = refl
+none_ran_asking (Read path answer ∷ asked) is = none_ran_asking asked is.1
+none_ran_asking (Kind path kind ∷ asked) is = none_ran_asking asked is.1
+none_ran_asking (Variable name value ∷ asked) is = none_ran_asking asked is.1
+none_ran_asking (Say text answer ∷ asked) is = absurd is.0
+none_ran_asking (Put text answer ∷ asked) is = absurd is.0
+none_ran_asking (Run e ∷ asked) is = absurd is.0
+
+pipe_stays : (journal events : List Event) → run_of events ≡ [] → pipe_pending (run_of journal) ≡ false → pipe_pending (run_of (journal ++ events)) ≡ false
+pipe_stays journal events none before =
+    ap pipe_pending (run_of-append journal events ∙ ap (λ run. run_of journal ++ run) none ∙ append-nil (run_of journal)) ∙ before
+
+pub pipe_behind_questions : (journal asked : List Event) → AreQuestions asked → pipe_pending (run_of journal) ≡ false → pipe_pending (run_of (journal ++ asked)) ≡ false
+pipe_behind_questions journal asked are before = pipe_stays journal asked (none_ran_asking asked are) before
+
+pub no_pipe_behind_announced : (journal journal' : List Event) (verbose : Bool) (plan : Plan)
+    → AnnouncesPlan journal journal' verbose plan → pipe_pending (run_of journal) ≡ false → pipe_pending (run_of journal') ≡ false
+no_pipe_behind_announced journal journal' verbose plan announces before =
+    ap (λ after. pipe_pending (run_of after)) announces.1 ∙ pipe_stays journal announces.0 (none_ran announces.0 (announces_only verbose plan announces.0 announces.2)) before

@@ -1,0 +1,88 @@
+use Rattle.drv_run.specs.Drives.{Drives, Refuses}
+use Rattle.drv_run.specs.Executed.{Executed}
+use Rattle.drv_run.specs.declared.ending.Ending.TheVariants.{Done, OutOfMemory, Refused}
+use Rattle.drv_run.specs.declared.ending.Ending.{Ending}
+use Rattle.drv_run.specs.declared.work.Manner.{Manner}
+use Rattle.drv_run.specs.declared.work.Work.TheVariants.{CarryOut, Dump, Show}
+use Rattle.drv_run.specs.declared.work.Work.{Work}
+use Rattle.drv_system.specs.Asking.{AreNew}
+use Rattle.drv_system.specs.Facts.{Facts, learn, no_facts}
+use Rattle.drv_system.specs.declared.event.Event.TheVariants.{Put, Say}
+use Rattle.drv_system.specs.declared.event.Event.{Event}
+use Rattle.drv_system.specs.declared.event.TellAnswer.TheVariants.{Failed, Told}
+use Rattle.drv_system.specs.declared.event.TellAnswer.{TellAnswer}
+use Rattle.drv_words.specs.Bytes.{newline}
+use Rattle.drv_words.specs.Lines.{lines_of}
+use Rattle.drv_words.specs.Printed.{lines_text}
+use Rattle.drv_words.specs.declared.plan.Plan.{Plan}
+use Rattle.std.specs.List.{flat_map}
+use Rattle.std.specs.Prelude.{◌≡◌, Bool, List, [], ◌∷◌, ◌++◌, codes, false, true, ℕ, ⊤}
+
+-- What a call of the driver does (GCC manual, "Overall Options", -v, -###, -dumpspecs, -pass-exit-codes): what stands in the
+-- journal behind its questions, and its ending.
+
+-- the exit status after a text was said or put
+abbrev pub status_of : TellAnswer → ℕ
+status_of Told = 0
+status_of Failed = 1
+
+-- what the user is told, each on a line of its own
+abbrev pub notice_line : List ℕ → List ℕ
+notice_line notice = codes "gdrv: " ++ notice ++ newline ∷ []
+
+abbrev pub notices_text : List (List ℕ) → List ℕ
+notices_text = flat_map notice_line
+
+-- events that say a text, with the exit status: an empty text is not said, any other is said once
+abbrev pub Says : List ℕ → ℕ → List Event → Type 0
+Says [] status said = (status ≡ 0) × (said ≡ [])
+Says (b ∷ text) status said = (answer : TellAnswer) × (said ≡ Say (b ∷ text) answer ∷ []) × (status ≡ status_of answer)
+
+-- A plan is said: its notices, and then its commands. The status is that of the latter.
+pub record Shows (plan : Plan) (status : ℕ) (said : List Event) : Type 0 where
+  pub notices : List Event
+  pub commands : List Event
+  pub noticed : ℕ
+  pub joined : said ≡ notices ++ commands
+  pub notices_are : Says (notices_text plan.notices) noticed notices
+  pub commands_are : Says (lines_text (lines_of plan)) status commands
+
+-- what is said before a plan is carried out: its notices, and with -v its commands too; whether they could be said is no matter
+abbrev pub Announces : Bool → Plan → List Event → Type 0
+Announces true plan said = (status : ℕ) × Shows plan status said
+Announces false plan said = (status : ℕ) × Says (notices_text plan.notices) status said
+
+-- A plan is carried out behind that, and the status is that of its run.
+pub record CarriesOut (plan : Plan) (manner : Manner) (status : ℕ) (said : List Event) : Type 0 where
+  pub announced : List Event
+  pub ran : List Event
+  pub joined : said ≡ announced ++ ran
+  pub announces : Announces manner.verbose plan announced
+  pub executes : Executed plan manner.pass_codes manner.window [] ran status
+
+-- events that do a work, with the exit status: a dump is written once
+abbrev pub Does : Work → ℕ → List Event → Type 0
+Does (Dump text) status said = (answer : TellAnswer) × (said ≡ Put text answer ∷ []) × (status ≡ status_of answer)
+Does (Show plan) status said = Shows plan status said
+Does (CarryOut plan manner) status said = CarriesOut plan manner status said
+
+-- texts that were said, and nothing else
+abbrev pub AreSaid : List Event → Type 0
+AreSaid [] = ⊤
+AreSaid (Say text answer ∷ events) = AreSaid events
+AreSaid (event ∷ events) = ⊥
+
+-- what stands behind the questions of a call, by how it ended: its work after `Done`; nothing after a refusal; and where memory was
+-- wanted nothing was made or started
+abbrev pub Ends : Facts → List (List ℕ) → ℕ → Ending → List Event → Type 0
+Ends F args seed (Done status) said = (work : Work) × Drives F args seed work × Does work status said
+Ends F args seed (Refused refusal) said = Refuses F args seed refusal × (said ≡ [])
+Ends F args seed OutOfMemory said = AreSaid said
+
+-- A call: it asked what it did not know, and its ending is that of the answers to these questions alone.
+pub record Drove (journal journal' : List Event) (args : List (List ℕ)) (seed : ℕ) (ending : Ending) : Type 0 where
+  pub asked : List Event
+  pub said : List Event
+  pub questions : AreNew no_facts asked
+  pub journal_grows : journal' ≡ journal ++ asked ++ said
+  pub ends : Ends (learn no_facts asked) args seed ending said

@@ -1,0 +1,36 @@
+use Rattle.drv_run.specs.Calls.{Announces, AreSaid, Does, Says, Shows}
+use Rattle.drv_run.specs.declared.work.Work.TheVariants.{CarryOut, Dump, Show}
+use Rattle.drv_run.specs.declared.work.Work.{Work}
+use Rattle.drv_system.specs.declared.event.Event.{Event}
+use Rattle.drv_words.specs.declared.plan.Plan.{Plan}
+use Rattle.std.specs.Prelude.{◌≡◌, ◌≤◌, Bool, List, ◌++◌, ℕ, ⊤}
+
+-- The same of two journals, the one behind the other. Private clauses alone cite it.
+
+-- a text was said
+abbrev pub SaysText : List Event → List Event → List ℕ → ℕ → Type 0
+SaysText journal journal' text status = (said : List Event) × (journal' ≡ journal ++ said) × Says text status said
+
+-- a plan was said
+abbrev pub ShowsPlan : List Event → List Event → Plan → ℕ → Type 0
+ShowsPlan journal journal' plan status = (said : List Event) × (journal' ≡ journal ++ said) × Shows plan status said
+
+abbrev pub AnnouncesPlan : List Event → List Event → Bool → Plan → Type 0
+AnnouncesPlan journal journal' verbose plan = (said : List Event) × (journal' ≡ journal ++ said) × Announces verbose plan said
+
+-- a work was done, and nothing else
+abbrev pub DoesWork : List Event → List Event → Work → ℕ → Type 0
+DoesWork journal journal' work status = (said : List Event) × (journal' ≡ journal ++ said) × Does work status said
+
+-- nothing but texts was said
+abbrev pub OnlySays : List Event → List Event → Type 0
+OnlySays journal journal' = (said : List Event) × (journal' ≡ journal ++ said) × AreSaid said
+
+-- a window that a run may have
+abbrev pub IsWindow : ℕ → Type 0
+IsWindow n = (1 ≤ n) × (n ≤ 64)
+
+abbrev pub HasWindow : Work → Type 0
+HasWindow (Dump text) = ⊤
+HasWindow (Show plan) = ⊤
+HasWindow (CarryOut plan manner) = IsWindow manner.window

@@ -1,0 +1,109 @@
+//! How a call of the driver ends.
+
+use drv_args::ArgsFault;
+use drv_c99::C99Fault;
+use drv_funcs::FuncsFault;
+use drv_machine::MachineFault;
+use drv_plan::PlanFault;
+use drv_search::SearchFault;
+use drv_specs::SpecsFault;
+use drv_syntax::SyntaxFault;
+use std::alloc::AllocError;
+
+/// Why a call is refused. It is never for want of memory.
+#[derive(Debug, Drop)]
+pub enum Refusal {
+    /// The arguments are refused.
+    Args(ArgsFault),
+    /// The words of `c99` are refused.
+    C99(C99Fault),
+    /// A spec file is refused.
+    Specs(SpecsFault),
+    /// The line has no plan.
+    Plan(PlanFault),
+}
+
+/// How a call of the driver ends.
+#[derive(Debug, Drop)]
+pub enum Ending {
+    /// The work was done, with this exit status.
+    Done(u8),
+    /// The call is refused.
+    Refused(Refusal),
+    /// An allocation was refused.
+    OutOfMemory,
+}
+
+impl From<ArgsFault> for Ending {
+    ghost use Rattle.drv_run.specs.Drives.{stopped_by_args};
+    ghost use Rattle.std.specs.Prelude.{◌≡◌};
+
+    ghost from_gives = { λ fault ending. ending ≡ stopped_by_args fault };
+
+    fn from(fault: ArgsFault) -> Ending {
+        match fault {
+            ArgsFault::Memory => Ending::OutOfMemory,
+            fault => Ending::Refused(Refusal::Args(fault)),
+        }
+    }
+}
+
+impl From<C99Fault> for Ending {
+    ghost use Rattle.drv_run.specs.Drives.{stopped_by_c99};
+    ghost use Rattle.std.specs.Prelude.{◌≡◌};
+
+    ghost from_gives = { λ fault ending. ending ≡ stopped_by_c99 fault };
+
+    fn from(fault: C99Fault) -> Ending {
+        match fault {
+            C99Fault::Memory => Ending::OutOfMemory,
+            fault => Ending::Refused(Refusal::C99(fault)),
+        }
+    }
+}
+
+impl From<SpecsFault> for Ending {
+    ghost use Rattle.drv_run.specs.Drives.{stopped_by_specs};
+    ghost use Rattle.std.specs.Prelude.{◌≡◌};
+
+    ghost from_gives = { λ fault ending. ending ≡ stopped_by_specs fault };
+
+    fn from(fault: SpecsFault) -> Ending {
+        match fault {
+            SpecsFault::Memory
+            | SpecsFault::Syntax {
+                fault: SyntaxFault::Memory,
+                ..
+            } => Ending::OutOfMemory,
+            fault => Ending::Refused(Refusal::Specs(fault)),
+        }
+    }
+}
+
+impl From<AllocError> for Ending {
+    ghost use Rattle.drv_run.specs.declared.ending.Ending.TheVariants.{OutOfMemory};
+    ghost use Rattle.std.specs.Prelude.{◌≡◌};
+
+    ghost from_gives = { λ _ ending. ending ≡ OutOfMemory };
+
+    fn from(_refused: AllocError) -> Ending {
+        Ending::OutOfMemory
+    }
+}
+
+impl From<PlanFault> for Ending {
+    ghost use Rattle.drv_run.specs.Drives.{stopped_by_plan};
+    ghost use Rattle.std.specs.Prelude.{◌≡◌};
+
+    ghost from_gives = { λ fault ending. ending ≡ stopped_by_plan fault };
+
+    fn from(fault: PlanFault) -> Ending {
+        match fault {
+            PlanFault::Memory
+            | PlanFault::Machine(
+                MachineFault::Search(SearchFault::Memory) | MachineFault::Funcs(FuncsFault::Memory),
+            ) => Ending::OutOfMemory,
+            fault => Ending::Refused(Refusal::Plan(fault)),
+        }
+    }
+}

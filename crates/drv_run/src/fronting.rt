@@ -1,0 +1,71 @@
+//! The words of a line: response files expanded, and those of `c99` turned into the driver's.
+
+ghost use Rattle.drv_c99.specs.declared.fault.C99Fault.TheVariants as c99_fault;
+ghost use Rattle.drv_run.specs.Drives.{IsApart, behind_c99, fronted, is_c99};
+ghost use Rattle.drv_run.specs.Wording.{GivesWords};
+ghost use Rattle.drv_system.specs.Asking.{Asks, Extends};
+ghost use Rattle.drv_system.specs.Facts.{Facts};
+ghost use Rattle.drv_words.specs.Gives.{Gives};
+ghost use Rattle.std.specs.Prelude.{◌≡◌, IfErr};
+
+use crate::ending::Ending;
+use drv_args::{Expanded, expand};
+use drv_c99::{C99Fault, front};
+use drv_system::{FactTable, System};
+use drv_words::{Listing, Word};
+use std::alloc::Global;
+
+/// Whether the first argument selects the front of `c99`.
+fn is_c99(args: &[Word]) -> bool
+    ensures { result ≡ is_c99 args.now }
+{
+    match args {
+        [word, ..] => word.as_bytes() == b"--c99".as_slice(),
+        _ => false,
+    }
+}
+
+/// The arguments without a first one that selects the front of `c99`. It takes no memory.
+fn behind_c99(args: Listing<Word>) -> Listing<Word>
+    ensures { result ≡ behind_c99 args }
+{
+    if is_c99(args.as_slice()) {
+        let mut words = args.into_vec();
+        let _ = words.remove(0);
+        return Listing::from_vec(words);
+    }
+    args
+}
+
+/// The words of `c99` as words of the driver, where its front was selected.
+fn fronted(alloc: Global, selected: bool, expanded: Expanded) -> Result<Expanded, C99Fault>
+    ensures { Gives c99_fault.Memory (λ words. words) result (fronted selected expanded) }
+{
+    if selected {
+        let from_file = expanded.from_file;
+        let words = front(alloc, expanded.words.as_slice())?;
+        return Ok(Expanded { words, from_file });
+    }
+    Ok(expanded)
+}
+
+/// The words that arguments come to. It asks the system only where the table has no answer.
+///
+/// # Errors
+/// The refusal of the response files, or of `c99`.
+#[tactic(auto, using(crate::proofs::Asked::asks_further))]
+pub(crate) fn words_of<S: System>(
+    alloc: Global,
+    args: Listing<Word>,
+    sys: &mut S,
+    facts: &mut FactTable,
+) -> Result<Expanded, Ending>
+    ensures asks { Asks (S.events sys.old) (S.events sys.new) facts.old facts.new }
+    ensures gives { (F : Facts) → Extends facts.new F → GivesWords F args result }
+    ensures apart { IfErr result (λ ending. IsApart ending) }
+{
+    let selected = is_c99(args.as_slice());
+    let expanded = expand(alloc, behind_c99(args), sys, facts)?;
+    let words = fronted(alloc, selected, expanded)?;
+    Ok(words)
+}

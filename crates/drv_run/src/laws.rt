@@ -1,0 +1,30 @@
+//! Laws of the definitions that the contracts cite.
+
+ghost use Rattle.drv_args.specs.declared.line.Line.{Line};
+ghost use Rattle.drv_core.specs.Outcomes.{JobAnswers, whole_job};
+ghost use Rattle.drv_run.specs.Drives.{Drives, Refuses, called_as, planned};
+ghost use Rattle.drv_run.specs.Started.{StartsFirst};
+ghost use Rattle.drv_run.specs.declared.ending.Refusal.{Refusal};
+ghost use Rattle.drv_run.specs.declared.work.Work.{Work};
+ghost use Rattle.drv_specs.specs.Sets.{Set};
+ghost use Rattle.drv_system.specs.Facts.{Facts};
+ghost use Rattle.drv_words.specs.declared.plan.Job.{Job};
+ghost use Rattle.std.specs.Prelude.{◌≡◌, Bool, List, true, ℕ};
+
+/// A law: arguments come to one work, or they are refused for one reason, and never both.
+pub fn one_ending()
+    ensures driven { (F : Facts) (args : List (List ℕ)) (seed : ℕ) (a b : Work) → Drives F args seed a → Drives F args seed b → a ≡ b }
+    ensures refused { (F : Facts) (args : List (List ℕ)) (seed : ℕ) (r s : Refusal) → Refuses F args seed r → Refuses F args seed s → r ≡ s }
+    ensures never_both { (F : Facts) (args : List (List ℕ)) (seed : ℕ) (work : Work) (refusal : Refusal) → Drives F args seed work → Refuses F args seed refusal → ⊥ }
+{}
+
+/// A law: the plan of a line is the same whether it is shown, said or carried out, whose codes count, and how many sources are
+/// worked at once.
+pub fn same_plan()
+    ensures { (F : Facts) (line : Line) (set : Set) (seed : ℕ) (dry verbose pass_codes : Bool) (jobs : ℕ) → planned F (called_as dry verbose pass_codes jobs line) set seed ≡ planned F line set seed }
+{}
+
+/// A law: the commands of a job that are started are the first ones of its planned list, and all of it where the job doesn't fail.
+pub fn started_first()
+    ensures { (job : Job) (a : JobAnswers) → whole_job job a ≡ true → StartsFirst job a }
+{}

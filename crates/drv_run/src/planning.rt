@@ -1,0 +1,83 @@
+//! What arguments come to.
+
+ghost use Rattle.drv_run.specs.Drives.{Comes, IsApart, files_loaded, specs_of};
+ghost use Rattle.drv_run.specs.Telling.{HasWindow};
+ghost use Rattle.drv_specs.specs.declared.fault.SpecsFault.TheVariants as specs_fault;
+ghost use Rattle.drv_system.specs.Asking.{Asks, Extends};
+ghost use Rattle.drv_system.specs.Facts.{Facts};
+ghost use Rattle.drv_system.specs.Gives.{GivesKnown};
+ghost use Rattle.std.specs.Prelude.{IfErr, IfOk};
+
+use crate::ending::Ending;
+use crate::fronting::words_of;
+use crate::work::{Work, work_with};
+use drv_args::{Settings, read};
+use drv_plan::plan;
+use drv_search::Prefixes;
+use drv_specs::{SpecSet, SpecsFault, builtin};
+use drv_system::{FactTable, System};
+use drv_words::{Listing, Word};
+use std::alloc::Global;
+
+/// Loads files of specs, in their order.
+#[tactic(auto, using(crate::proofs::Asked::asks_further))]
+fn load_files<S: System>(
+    set: &mut SpecSet,
+    names: &[Word],
+    prefixes: &Prefixes,
+    sys: &mut S,
+    facts: &mut FactTable,
+) -> Result<(), SpecsFault>
+    ensures asks { Asks (S.events sys.old) (S.events sys.new) facts.old facts.new }
+    ensures loads { (F : Facts) → Extends facts.new F → GivesKnown specs_fault.Memory (λ _. set.new) result (files_loaded F prefixes.now set.old names.now) }
+{
+    for name in names {
+        set.load_file(name, prefixes, sys, facts)?;
+    }
+    Ok(())
+}
+
+/// The specs of a line: the built-in ones, and what the files of `-specs=` make of them.
+#[tactic(auto, using(crate::proofs::Asked::asks_further))]
+fn specs_of<S: System>(
+    alloc: Global,
+    settings: &Settings,
+    sys: &mut S,
+    facts: &mut FactTable,
+) -> Result<SpecSet, SpecsFault>
+    ensures asks { Asks (S.events sys.old) (S.events sys.new) facts.old facts.new }
+    ensures loads { (F : Facts) → Extends facts.new F → GivesKnown specs_fault.Memory (λ set. set) result (specs_of F settings.now) }
+{
+    let prefixes = Prefixes::new(alloc, settings.prefixes.as_slice(), sys, facts)?;
+    let mut set = builtin(alloc)?;
+    load_files(&mut set, settings.specs.as_slice(), &prefixes, sys, facts)?;
+    Ok(set)
+}
+
+/// What arguments come to: the words of the line read, spec files loaded, and then the dump of the specs, or the plan of the line
+/// with what is done with it. It asks the system only where the table has no answer.
+///
+/// # Errors
+/// The first refusal of these steps.
+#[tactic(auto, using(crate::proofs::Asked::asks_further))]
+pub(crate) fn work_of<S: System>(
+    alloc: Global,
+    args: Listing<Word>,
+    seed: u32,
+    sys: &mut S,
+    facts: &mut FactTable,
+) -> Result<Work, Ending>
+    ensures asks { Asks (S.events sys.old) (S.events sys.new) facts.old facts.new }
+    ensures comes { (F : Facts) → Extends facts.new F → Comes F args seed result }
+    ensures apart { IfErr result (λ ending. IsApart ending) }
+    ensures window { IfOk result (λ work. HasWindow work) }
+{
+    let words = words_of(alloc, args, sys, facts)?;
+    let line = read(alloc, &words)?;
+    let set = specs_of(alloc, &line.settings, sys, facts)?;
+    if line.settings.dump {
+        return Ok(Work::Dump(set.dump()?));
+    }
+    let plan = plan(alloc, &line, &set, seed, sys, facts)?;
+    Ok(work_with(&line.settings, plan))
+}

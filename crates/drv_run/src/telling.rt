@@ -1,0 +1,99 @@
+//! What the user is told of a plan.
+
+ghost use Rattle.drv_run.specs.Calls.{notice_line, notices_text, status_of};
+ghost use Rattle.drv_run.specs.Telling.{AnnouncesPlan, OnlySays, SaysText, ShowsPlan};
+ghost use Rattle.drv_words.specs.Lines.{lines_of};
+ghost use Rattle.drv_words.specs.Printed.{lines_text};
+ghost use Rattle.std.specs.Prelude.{◌≡◌, ◌++◌, IfOk, OnErr, OnOk};
+
+use drv_system::{System, TellAnswer};
+use drv_words::{Plan, Word, plan_lines, render};
+use std::alloc::{AllocError, Global};
+
+/// The exit status after a text was written.
+pub(crate) fn status_of(answer: TellAnswer) -> u8
+    ensures { result ≡ status_of answer }
+{
+    match answer {
+        TellAnswer::Told => 0,
+        TellAnswer::Failed => 1,
+    }
+}
+
+/// Says a text, unless it is empty, and answers the exit status: 0, or 1 where it could not be said.
+fn say_text<S: System>(sys: &mut S, text: &Word) -> Result<u8, AllocError>
+    ensures says { IfOk result (λ status. SaysText (S.events sys.old) (S.events sys.new) text.now status) }
+    ensures memory { OnErr result (S.events sys.new ≡ S.events sys.old) }
+{
+    if text.is_empty() {
+        return Ok(0);
+    }
+    Ok(status_of(sys.say(text)?))
+}
+
+/// Adds a notice as it is told: behind the program's name, on a line of its own.
+fn push_notice(text: &mut Word, notice: &Word) -> Result<(), AllocError>
+    ensures { OnOk result (text.new ≡ text.old ++ notice_line notice.now) }
+{
+    text.extend_from_slice(b"gdrv: ")?;
+    text.extend_from_slice(notice.as_bytes())?;
+    text.push(b'\n')
+}
+
+/// The notices of a plan as they are told.
+fn notices_text(alloc: Global, notices: &[Word]) -> Result<Word, AllocError>
+    ensures { IfOk result (λ text. text ≡ notices_text notices.now) }
+{
+    let mut text = Word::empty(alloc);
+    for notice in notices {
+        push_notice(&mut text, notice)?;
+    }
+    Ok(text)
+}
+
+/// Says the notices of a plan, if it has any.
+fn say_notices<S: System>(alloc: Global, sys: &mut S, plan: &Plan) -> Result<u8, AllocError>
+    ensures says { IfOk result (λ status. SaysText (S.events sys.old) (S.events sys.new) (notices_text plan.now.notices) status) }
+    ensures memory { OnErr result (S.events sys.new ≡ S.events sys.old) }
+{
+    let text = notices_text(alloc, plan.notices.as_slice())?;
+    say_text(sys, &text)
+}
+
+/// Says the commands of a plan, if it has any.
+fn say_commands<S: System>(alloc: Global, sys: &mut S, plan: &Plan) -> Result<u8, AllocError>
+    ensures says { IfOk result (λ status. SaysText (S.events sys.old) (S.events sys.new) (lines_text (lines_of plan.now)) status) }
+    ensures memory { OnErr result (S.events sys.new ≡ S.events sys.old) }
+{
+    let lines = plan_lines(alloc, plan)?;
+    let text = render(alloc, lines.as_slice())?;
+    say_text(sys, &text)
+}
+
+/// Says a plan: its notices, and then its commands. The exit status is 1 where the commands could not be said.
+pub(crate) fn say_plan<S: System>(alloc: Global, sys: &mut S, plan: &Plan) -> Result<u8, AllocError>
+    ensures shows { IfOk result (λ status. ShowsPlan (S.events sys.old) (S.events sys.new) plan.now status) }
+    ensures memory { OnErr result (OnlySays (S.events sys.old) (S.events sys.new)) }
+{
+    let _noticed = say_notices(alloc, sys, plan)?;
+    let status = say_commands(alloc, sys, plan)?;
+    Ok(status)
+}
+
+/// Says what is told before a plan is carried out: its notices, and its commands too where that is asked for.
+pub(crate) fn announce<S: System>(
+    alloc: Global,
+    sys: &mut S,
+    plan: &Plan,
+    verbose: bool,
+) -> Result<(), AllocError>
+    ensures announces { OnOk result (AnnouncesPlan (S.events sys.old) (S.events sys.new) verbose plan.now) }
+    ensures memory { OnErr result (OnlySays (S.events sys.old) (S.events sys.new)) }
+{
+    if verbose {
+        let _status = say_plan(alloc, sys, plan)?;
+        return Ok(());
+    }
+    let _noticed = say_notices(alloc, sys, plan)?;
+    Ok(())
+}

@@ -1,5 +1,0 @@
-pub mod Asked
-mod Endings
-mod Files
-mod OneEnding
-mod Steps
