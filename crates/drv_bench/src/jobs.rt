@@ -212,7 +212,8 @@ fn worked(alloc: Global, count: usize) -> Result<usize, AllocError> {
         programs: Listing::new(alloc),
         libraries: Listing::new(alloc),
     };
-    let context = Context::new(alloc, &line, &prefixes, 0)?;
+    let texts = SpecSet::empty(alloc);
+    let context = Context::new(alloc, &line, &texts, &prefixes, 0)?;
     let mut sys = system(alloc, Listing::new(alloc));
     let mut facts = FactTable::new(alloc);
     match drv_machine::run(alloc, &tree, &context, &mut sys, &mut facts) {
