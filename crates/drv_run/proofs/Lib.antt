@@ -4,6 +4,8 @@ pub mod Endings
 mod Files
 mod LineWords
 mod OneEnding
+mod StartedEvents
 mod StartedFirst
+mod StartedRows
 mod Steps
 pub mod Tellings

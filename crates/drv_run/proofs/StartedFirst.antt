@@ -1,6 +1,6 @@
 use Rattle.drv_core.proofs.Order.{and_first, and_second}
-use Rattle.drv_core.specs.Outcomes.{GroupAnswers, JobAnswers, Told, claims_failed, group_failed, is_started, none, removed_by_job, started_in_group, started_in_groups, wait_failed, whole_claims, whole_group, whole_groups, whole_job}
-use Rattle.drv_run.specs.Started.{StartsFirst}
+use Rattle.drv_core.specs.Outcomes.{GroupAnswers, JobAnswers, Told, claims_failed, group_failed, is_started, job_failed, none, removed_by_job, started, started_in_group, started_in_groups, wait_failed, whole_claims, whole_group, whole_groups, whole_job}
+use Rattle.drv_run.specs.Started.{commands_of}
 use Rattle.drv_words.specs.declared.answers.StartAnswer.TheVariants.{NotStarted, Started}
 use Rattle.drv_words.specs.declared.answers.StartAnswer.{StartAnswer}
 use Rattle.drv_words.specs.declared.answers.WaitAnswer.{WaitAnswer}
@@ -96,8 +96,10 @@ groups_whole job a whole claimed = by (none job.groups) refl whole
         ∙ and_second (whole_claims job.temps a.claims) (if claims_failed a then none a.groups else whole_groups job.groups a.groups)
         (and_first (whole_claims job.temps a.claims && (if claims_failed a then none a.groups else whole_groups job.groups a.groups)) (nat_eq (length a.removals) (length (removed_by_job job a))) h))
 
-pub started_first : (job : Job) (a : JobAnswers) → whole_job job a ≡ true → StartsFirst job a
-started_first job a whole = record { rest = (front (claims_failed a) refl).0; first = (front (claims_failed a) refl).1; every = every_command }
+-- of the answers of a job
+
+pub first_ones : (job : Job) (a : JobAnswers) → whole_job job a ≡ true → (rest : List Command) × (commands_of job ≡ started job a ++ rest)
+first_ones job a whole = front (claims_failed a) refl
   where
     front_of : (none job.groups ≡ true) ⊎ (whole_groups job.groups a.groups ≡ true) → (rest : List Command) × (all_of job.groups ≡ started_in_groups job.groups a.groups ++ rest)
     front_of (inl is) = ([], sym (no_group job.groups a.groups is) ∙ sym (append-nil (started_in_groups job.groups a.groups)))
@@ -107,11 +109,11 @@ started_first job a whole = record { rest = (front (claims_failed a) refl).0; fi
     front true is = (all_of job.groups, refl)
     front false is = front_of (groups_whole job a whole is)
 
+pub every_one : (job : Job) (a : JobAnswers) → whole_job job a ≡ true → job_failed a ≡ false → started job a ≡ commands_of job
+every_one job a whole well =
+    let both = or_parts (claims_failed a) (list_any group_failed a.groups) well in
+    ap (λ (t : Bool). if t then [] else started_in_groups job.groups a.groups) both.0 ∙ every_of (groups_whole job a whole both.0) both.1
+  where
     every_of : (none job.groups ≡ true) ⊎ (whole_groups job.groups a.groups ≡ true) → list_any group_failed a.groups ≡ false → started_in_groups job.groups a.groups ≡ all_of job.groups
-    every_of (inl is) well = no_group job.groups a.groups is
-    every_of (inr groups) well = every_group job.groups a.groups groups well
-
-    every_command : (claims_failed a || list_any group_failed a.groups) ≡ false → (if claims_failed a then [] else started_in_groups job.groups a.groups) ≡ all_of job.groups
-    every_command well =
-        let both = or_parts (claims_failed a) (list_any group_failed a.groups) well in
-        ap (λ (t : Bool). if t then [] else started_in_groups job.groups a.groups) both.0 ∙ every_of (groups_whole job a whole both.0) both.1
+    every_of (inl is) fine = no_group job.groups a.groups is
+    every_of (inr groups) fine = every_group job.groups a.groups groups fine

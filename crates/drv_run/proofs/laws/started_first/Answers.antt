@@ -1,4 +1,4 @@
-use Rattle.drv_run.proofs.StartedFirst.{started_first}
+use Rattle.drv_run.proofs.StartedEvents.{started_first}
 use Rattle.drv_run.proofs.laws.started_first.Goals as goal
 
 pub returns : goal.returns
