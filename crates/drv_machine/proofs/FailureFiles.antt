@@ -10,7 +10,7 @@ use Rattle.drv_machine.specs.Held.{Ends, ended_in}
 use Rattle.drv_machine.specs.Running.{Machine, run}
 use Rattle.drv_machine.specs.Standing.{Stands}
 use Rattle.drv_machine.specs.Walking.{Around, Behind, Chooses, Emits, Reaches, ends, levels_in, nothing_kept, onward, star_of}
-use Rattle.drv_machine.specs.Working.{◌>>-◌, ◌>>◌, Answer, Atom, Break, From, Levels, Step, To, most_open, opened, puts}
+use Rattle.drv_machine.specs.Working.{◌>>-◌, ◌>>◌, Answer, Atom, Break, From, Levels, Step, To, most_open, puts}
 use Rattle.drv_machine.specs.declared.fault.MachineFault.TheVariants.{Memory, SpecTooDeep}
 use Rattle.drv_machine.specs.declared.fault.MachineFault.{MachineFault}
 use Rattle.drv_machine.specs.declared.walk.Opened.TheVariants.{Failure}

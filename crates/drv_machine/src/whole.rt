@@ -8,6 +8,7 @@ ghost use Rattle.drv_syntax.specs.Parsed.{tree_of};
 ghost use Rattle.drv_system.specs.Asking.{Asks, Extends};
 ghost use Rattle.drv_system.specs.Facts.{Facts};
 ghost use Rattle.drv_system.specs.Gives.{GivesKnown};
+ghost use Rattle.std.specs.Prelude.{◌≡◌, length};
 
 use crate::machine::{Machine, into_outcome};
 use crate::outside::Outside;
@@ -17,8 +18,23 @@ use drv_syntax::SpecTree;
 use drv_system::{FactTable, System};
 use std::alloc::Global;
 
-/// The whole text cut, whose end ends its last command.
+/// Works the whole text, whose end ends its last command.
 #[tactic(auto, using(crate::proofs::AskedCalls::asked_further))]
+fn work_whole<S: System>(
+    text: &SpecTree,
+    context: &Context<'_>,
+    machine: &mut Machine,
+    outside: &mut Outside<'_, S>,
+) -> Result<(), MachineFault>
+    requires { length machine.old.world.hidden ≡ length context.now.switches }
+    ensures asks { Asked S.events outside.old outside.new }
+    ensures does { (F : Facts) → Extends outside.new.facts.now F → GivesKnown MachineFault.Memory (λ u. (tt, machine.new)) result (run F context.now machine.old (whole_text F context.now (tree_of text.now))) }
+{
+    work_text(text, context, machine, outside)?;
+    machine.end_line(context, outside)
+}
+
+/// The whole text cut.
 fn cut<S: System>(
     alloc: Global,
     text: &SpecTree,
@@ -29,8 +45,7 @@ fn cut<S: System>(
     ensures does { (F : Facts) → Extends outside.new.facts.now F → GivesKnown MachineFault.Memory (λ machine. (tt, machine)) result (run F context.now (begun F context.now) (whole_text F context.now (tree_of text.now))) }
 {
     let mut machine = Machine::new(alloc, context)?;
-    work_text(text, context, &mut machine, outside)?;
-    machine.end_line(context, outside)?;
+    work_whole(text, context, &mut machine, outside)?;
     Ok(machine)
 }
 
