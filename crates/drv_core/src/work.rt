@@ -8,7 +8,7 @@ ghost use Rattle.drv_core.specs.LeftoverView.{remains_of};
 ghost use Rattle.drv_core.specs.Needed.{needed};
 ghost use Rattle.drv_core.specs.Outcomes.{code_of, is_claimed, is_started};
 ghost use Rattle.drv_core.specs.Position.{FleetReady, Ready, flown, kept, link_after, link_asks, linked, moved, next_of, removal_made, removal_of, removing_first, removing_next, report_of, shown, sources_left};
-ghost use Rattle.drv_core.specs.Starting.{fresh_position};
+ghost use Rattle.drv_core.specs.Starting.{first_position, fresh_position};
 ghost use Rattle.drv_core.specs.Counting.{place_at};
 ghost use Rattle.drv_core.specs.PositionView.{phase_of, position_of};
 ghost use Rattle.drv_core.specs.Reached.{between_blocks, choices_at, choosing};
@@ -121,6 +121,24 @@ fn room_for(alloc: Global, plan: &Plan) -> Result<Vec<RunEvent>, AllocError>
 }
 
 impl Work {
+    /// The parts of a run, where there may be no source to begin with. There is room for all that comes, and no group is empty. Want
+    /// of memory is the only error.
+    fn prepared(alloc: Global, plan: &Plan, window: usize) -> Result<Work, AllocError>
+        requires { window ≤ 64 }
+        ensures fresh { IfOk result (λ made. position_of made ≡ first_position plan.now window (vec_capacity made.events)) }
+        ensures room { IfOk result (λ made. needed plan.now ≤ vec_capacity made.events) }
+        ensures filled { OnOk result (AllFilled plan.now.jobs × Filled (link_of plan.now.link)) }
+    {
+        Ok(Work {
+            part: Part::Sources,
+            flight: Flight::new(alloc, plan.jobs.as_slice(), window)?,
+            link: link_source(alloc, plan)?,
+            leftovers: Leftovers::new(alloc, plan)?,
+            code: 0,
+            events: room_for(alloc, plan)?,
+        })
+    }
+
     /// Nothing has begun, and there is room for all that comes. No group is empty. Want of memory is the only error.
     pub(crate) fn new(alloc: Global, plan: &Plan, window: usize) -> Result<Work, AllocError>
         requires { window ≤ 64 }
@@ -128,14 +146,7 @@ impl Work {
         ensures room { IfOk result (λ made. needed plan.now ≤ vec_capacity made.events) }
         ensures filled { OnOk result (AllFilled plan.now.jobs × Filled (link_of plan.now.link)) }
     {
-        let mut work = Work {
-            part: Part::Sources,
-            flight: Flight::new(alloc, plan.jobs.as_slice(), window)?,
-            link: link_source(alloc, plan)?,
-            leftovers: Leftovers::new(alloc, plan)?,
-            code: 0,
-            events: room_for(alloc, plan)?,
-        };
+        let mut work = Work::prepared(alloc, plan, window)?;
         work.leave_sources();
         Ok(work)
     }
