@@ -1,8 +1,11 @@
 use Rattle.drv_core.proofs.Order.{and_first, and_second, apart, apart_above}
 use Rattle.drv_core.proofs.Status.{Below, all_below}
-use Rattle.drv_core.specs.Outcomes.{Answers, all_succeeded, File, GroupAnswers, JobAnswers, Told, claims_failed, group_failed, link_run, none, removed_at_end, removed_by_job, started, started_in_group, started_in_groups, whole_claims, whole_group, whole_groups, whole_job, whole_jobs}
+use Rattle.drv_core.proofs.Tells.{no_group}
+use Rattle.drv_core.specs.Outcomes.{Answers, File, GroupAnswers, JobAnswers, Told, all_succeeded, claims_failed, group_failed, link_run, none, removed_at_end, removed_by_job, started, started_in_group, started_in_groups, whole_claims, whole_group, whole_groups, whole_job, whole_jobs}
 use Rattle.drv_core.specs.Story.{Block, after_sources, claim_block, claim_blocks, end_removals, event, group_blocks, own_removals, removal_block, removal_failed, report, starts_block, story, wait_block, wait_blocks}
 use Rattle.drv_core.specs.Windowed.{SourceBlock, TellStories, Windowed, blocks_of, events_of, nowhere, of}
+use Rattle.drv_run.proofs.StartedFirst.{every_one, first_ones}
+use Rattle.drv_run.specs.Started.{EachStartsFirst, StartsFirst, command_at, started_by, started_in}
 use Rattle.drv_words.specs.Places.{group_at, job_at, no_job}
 use Rattle.drv_words.specs.declared.answers.Answer.TheVariants as answer
 use Rattle.drv_words.specs.declared.answers.ClaimAnswer.{ClaimAnswer}
@@ -20,9 +23,9 @@ use Rattle.drv_words.specs.declared.steps.Place.{Place}
 use Rattle.drv_words.specs.declared.steps.Place.TheVariants as place
 use Rattle.drv_words.specs.declared.steps.RunEvent.{RunEvent}
 use Rattle.drv_words.specs.declared.steps.Step.TheVariants as step
-use Rattle.drv_run.proofs.StartedFirst.{every_one, first_ones}
-use Rattle.drv_run.specs.Started.{EachStartsFirst, StartsFirst, command_at, started_by, started_in}
 use Rattle.std.proofs.Common.{◌≡◌, ◌<◌, ◌+◌, ◌∙◌, ◌&&◌, Bool, false, true, List, [], ◌∷◌, ◌++◌, None, Option, Some, ap, append-nil, arith, if◌then◌else◌, get_or, length, nat_eq, nat_lt, refl, subst, suc, sym, zero, ℕ}
+use Rattle.std.proofs.Math.ListN.{get_or-append}
+use Rattle.std.proofs.Math.Seq.{get_or-append_seam}
 use Rattle.std.proofs.lemmas.Cmp.{nat_eq_equiv}
 use Rattle.std.proofs.lemmas.Grind.{flat_map-append}
 use Rattle.std.specs.Option.{option_to_list}
@@ -122,10 +125,6 @@ no_starts plan k j g n i refused (Started id ∷ xs) other = nothing (ap (λ (t 
 
 -- groups
 
-no_group : (k g : ℕ) (cs : List (List Command)) → group_blocks k g cs [] ≡ []
-no_group k g [] = refl
-no_group k g (c ∷ cs) = refl
-
 groups : (plan : Plan) (k g : ℕ) (cs : List (List Command)) (xs : List GroupAnswers) → ((h : ℕ) → group_at (job_at plan k) (g + h) ≡ get_or cs h []) → whole_groups cs xs ≡ true → seen plan k (group_blocks k g cs xs) ≡ started_in_groups cs xs
 groups plan k g [] [] at e = refl
 groups plan k g [] (x ∷ xs) at e = absurd cc
@@ -224,28 +223,19 @@ other_sources plan bs k from (job ∷ jobs) (a ∷ xs) e t (suc j) lt other =
 
 -- the jobs of a plan, by their numbers
 
-within : (js ls : List Job) (h : ℕ) → h < length js → get_or (js ++ ls) h no_job ≡ get_or js h no_job
-within [] ls h lt = absurd (omega arith)
-within (j ∷ js) ls zero lt = refl
-within (j ∷ js) ls (suc h) lt = within js ls h (omega arith)
-
-last_one : (js : List Job) (job : Job) → get_or (js ++ job ∷ []) (length js) no_job ≡ job
-last_one [] job = refl
-last_one (j ∷ js) job = last_one js job
-
 link_there : (jobs : List Job) (link : Option Job) (xs : List JobAnswers) → none (link_run link xs).groups ≡ false → get_or (jobs ++ option_to_list link) (length jobs) no_job ≡ link_run link xs
 link_there jobs None xs busy = absurd cc
 link_there jobs (Some job) xs busy = by (all_succeeded xs) busy
   where
     by : (t : Bool) → none (if t then job else no_job).groups ≡ false → get_or (jobs ++ job ∷ []) (length jobs) no_job ≡ (if t then job else no_job)
-    by true e = last_one jobs job
+    by true e = get_or-append_seam jobs job [] no_job
     by false e = absurd cc
 
 -- a whole run
 
 pub started_first : (plan : Plan) (N : ℕ) (o : Answers) (E : List RunEvent) → Windowed plan N o E → EachStartsFirst plan E 0 (plan.jobs ++ link_run plan.link o.jobs ∷ []) (o.jobs ++ o.link ∷ [])
 started_first plan N o E w = each 0 plan.jobs o.jobs jobs_whole w.stories (let is : 0 + length plan.jobs ≡ length plan.jobs = omega arith in is)
-    (λ h lt. ap (λ i. job_at plan i) (let is : 0 + h ≡ h = omega arith in is) ∙ within plan.jobs (option_to_list plan.link) h lt)
+    (λ h lt. ap (λ i. job_at plan i) (let is : 0 + h ≡ h = omega arith in is) ∙ get_or-append plan.jobs (option_to_list plan.link) no_job h lt)
   where
     both_whole : (whole_jobs plan.jobs o.jobs && whole_job (link_run plan.link o.jobs) o.link) ≡ true
     both_whole = and_first (whole_jobs plan.jobs o.jobs && whole_job (link_run plan.link o.jobs) o.link) (nat_eq (length o.last) (length (removed_at_end plan o))) w.all_answers
