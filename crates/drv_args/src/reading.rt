@@ -1,6 +1,6 @@
 //! Words read by the option table.
 
-ghost use Rattle.drv_args.specs.Building.{start_shown};
+ghost use Rattle.drv_args.specs.Building.{line_with, start_shown};
 ghost use Rattle.drv_args.specs.Fronts.{by_effect, is_bad, items_of, start_of};
 ghost use Rattle.drv_args.specs.Lines.{line_of_items, line_read};
 ghost use Rattle.drv_args.specs.Lookup.{shown};
@@ -132,11 +132,10 @@ fn start_of<'a>(word: &'a [u8]) -> Start<'a>
     }
 }
 
-/// Reads words into a line.
-fn read_words(alloc: Global, words: &[Word], from_file: bool) -> Result<Line, ArgsFault>
-    ensures { Gives fault.Memory (λ line. line) result (line_of_items from_file (items_of words.now)) }
+/// Adds what words give to a line.
+fn note_words(alloc: Global, builder: &mut LineBuilder, words: &[Word]) -> Result<(), ArgsFault>
+    ensures { Gives fault.Memory (λ u. builder.new.line) result (line_with builder.old (items_of words.now)) }
 {
-    let mut builder = LineBuilder::new(alloc, from_file);
     let mut left = words;
     while let [word, behind @ ..] = left {
         match start_of(word.as_bytes()) {
@@ -158,6 +157,15 @@ fn read_words(alloc: Global, words: &[Word], from_file: bool) -> Result<Line, Ar
             Start::Bad => return Err(ArgsFault::BadJobs(word.clone()?)),
         }
     }
+    Ok(())
+}
+
+/// Reads words into a line.
+fn read_words(alloc: Global, words: &[Word], from_file: bool) -> Result<Line, ArgsFault>
+    ensures { Gives fault.Memory (λ line. line) result (line_of_items from_file (items_of words.now)) }
+{
+    let mut builder = LineBuilder::new(alloc, from_file);
+    note_words(alloc, &mut builder, words)?;
     Ok(builder.line)
 }
 

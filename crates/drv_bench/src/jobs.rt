@@ -6,7 +6,7 @@ use drv_args::{Expanded, Line, expand, read};
 use drv_machine::Context;
 use drv_search::Prefixes;
 use drv_specs::{SpecSet, builtin};
-use drv_syntax::parse;
+use drv_syntax::{SpecTree, parse};
 use drv_system::{FactTable, ScriptSystem, System};
 use drv_words::{Command, Group, Job, Listing, Plan, Word, plan_lines, render, split};
 use std::alloc::{AllocError, Global};
@@ -200,24 +200,39 @@ fn line_of_file(alloc: Global) -> Result<Option<Line>, AllocError> {
     }
 }
 
-/// What it costs to work a spec text of so many plain bytes.
-fn worked(alloc: Global, count: usize) -> Result<usize, AllocError> {
-    let Ok(tree) = parse(alloc, letters(alloc, count)?.as_bytes()) else {
-        return Ok(0);
-    };
-    let Some(line) = line_of_file(alloc)? else {
-        return Ok(0);
-    };
+/// What it costs to work a text in a context.
+fn cost_in(alloc: Global, tree: &SpecTree, context: &Context<'_>) -> usize {
+    let mut sys = system(alloc, Listing::new(alloc));
+    let mut facts = FactTable::new(alloc);
+    match drv_machine::run(alloc, tree, context, &mut sys, &mut facts) {
+        Ok(outcome) => outcome.cost,
+        Err(_) => 0,
+    }
+}
+
+/// What it costs to work a text for a line.
+fn cost_for(alloc: Global, tree: &SpecTree, line: &Line) -> Result<usize, AllocError> {
     let prefixes = Prefixes {
         programs: Listing::new(alloc),
         libraries: Listing::new(alloc),
     };
     let texts = SpecSet::empty(alloc);
-    let context = Context::new(alloc, &line, &texts, &prefixes, 0)?;
-    let mut sys = system(alloc, Listing::new(alloc));
-    let mut facts = FactTable::new(alloc);
-    match drv_machine::run(alloc, &tree, &context, &mut sys, &mut facts) {
-        Ok(outcome) => Ok(outcome.cost),
+    let context = Context::new(alloc, line, &texts, &prefixes, 0)?;
+    Ok(cost_in(alloc, tree, &context))
+}
+
+/// What it costs to work a text for a line of one file.
+fn cost_of(alloc: Global, tree: &SpecTree) -> Result<usize, AllocError> {
+    match line_of_file(alloc)? {
+        Some(line) => cost_for(alloc, tree, &line),
+        None => Ok(0),
+    }
+}
+
+/// What it costs to work a spec text of so many plain bytes.
+fn worked(alloc: Global, count: usize) -> Result<usize, AllocError> {
+    match parse(alloc, letters(alloc, count)?.as_bytes()) {
+        Ok(tree) => cost_of(alloc, &tree),
         Err(_) => Ok(0),
     }
 }

@@ -1,10 +1,9 @@
-use Rattle.drv_c99.specs.Building.{finished, front_with, noted, with_items}
+use Rattle.drv_c99.specs.Building.{Goes, finished, front_with, noted, with_items}
 use Rattle.drv_c99.specs.Front.{Ends, Flag, Item, Joined, Names, Operand, Passed, Start, Unknown, Wants, and_items, at_last, at_word, given, items_of, name_of, start_of}
 use Rattle.drv_c99.specs.declared.building.Front.{Front}
 use Rattle.drv_c99.specs.declared.fault.C99Fault.TheVariants.{Memory}
 use Rattle.drv_c99.specs.declared.fault.C99Fault.{C99Fault}
 use Rattle.drv_c99.specs.declared.option.Taking.{Taking}
-use Rattle.drv_words.specs.Gives.{Gives}
 use Rattle.std.specs.Prelude.{IsErrAnd}
 use Rattle.std.proofs.Common.{◌≡◌, ◌⊎◌, ◌≤◌, ◌-◌, Bool, inl, inr, List, arith, drop, get_or, length, take, [], ◌∷◌, ◌++◌, Err, Ok, Result, ap, append_assoc, false, refl, sym, true, ◌∙◌, ℕ}
 use Rattle.std.proofs.Math.Bool.{or_assoc, or-false}
@@ -116,15 +115,15 @@ wants_next (w ∷ n ∷ words) word bytes next next_bytes option ended f f' whol
     ∙ ap (front_with f) (sym (wants_first ended option w n words (ap (start_of ended) (sym (same ∙ first)) ∙ sym starts)))
     ∙ so_far
 
-refusal_given : (fault : C99Fault) (result : Result (List (List ℕ)) C99Fault) (whole : Result (List (List ℕ)) C99Fault)
-    → IsErrAnd result (λ e. e ≡ fault) → (fault ≡ Memory) ⊎ (whole ≡ Err fault) → Gives Memory (λ words. words) result whole
-refusal_given fault (Ok words) whole is refused = absurd is
-refusal_given fault (Err e) whole is (inl memory) = inl (is ∙ memory)
-refusal_given fault (Err e) whole is (inr refused) = inr (refused ∙ ap Err (sym is))
+refusal_given : (fault : C99Fault) (end : Result (List (List ℕ)) C99Fault) (result : Result (Unit {0}) C99Fault) (whole : Result (List (List ℕ)) C99Fault)
+    → IsErrAnd result (λ e. e ≡ fault) → (fault ≡ Memory) ⊎ (whole ≡ Err fault) → Goes end result whole
+refusal_given fault end (Ok u) whole is refused = absurd is
+refusal_given fault end (Err e) whole is (inl memory) = inl (is ∙ memory)
+refusal_given fault end (Err e) whole is (inr refused) = inr (refused ∙ ap Err (sym is))
 
-pub joined_gives : (left : List (List ℕ)) (word bytes argument : List ℕ) (option : Taking) (ended : Bool) (f : Front) (fault : C99Fault) (result whole : Result (List (List ℕ)) C99Fault)
+pub joined_gives : (left : List (List ℕ)) (word bytes argument : List ℕ) (option : Taking) (ended : Bool) (f : Front) (fault : C99Fault) (end : Result (List (List ℕ)) C99Fault) (result : Result (Unit {0}) C99Fault) (whole : Result (List (List ℕ)) C99Fault)
     → 1 ≤ length left → word ≡ get_or left 0 word → bytes ≡ word → Joined option argument ≡ start_of ended bytes → (fault ≡ Memory) ⊎ (noted f (given option argument) ≡ Err fault)
-    → IsErrAnd result (λ e. e ≡ fault) → front_with f (items_of ended left) ≡ whole → Gives Memory (λ words. words) result whole
-joined_gives left word bytes argument option ended f fault result whole some first same starts (inl memory) is so_far = refusal_given fault result whole is (inl memory)
-joined_gives left word bytes argument option ended f fault result whole some first same starts (inr refused) is so_far =
-    refusal_given fault result whole is (inr (joined_refused left word bytes argument option ended f fault whole some first same starts refused so_far))
+    → IsErrAnd result (λ e. e ≡ fault) → front_with f (items_of ended left) ≡ whole → Goes end result whole
+joined_gives left word bytes argument option ended f fault end result whole some first same starts (inl memory) is so_far = refusal_given fault end result whole is (inl memory)
+joined_gives left word bytes argument option ended f fault end result whole some first same starts (inr refused) is so_far =
+    refusal_given fault end result whole is (inr (joined_refused left word bytes argument option ended f fault whole some first same starts refused so_far))

@@ -1,12 +1,12 @@
 use Rattle.drv_c99.specs.Front as front
 use Rattle.drv_c99.specs.Front.{Item, Start, defined_words, is_operand, other_words, undefined_words}
 use Rattle.drv_c99.specs.declared.building.Front.{Front}
-use Rattle.drv_c99.specs.declared.fault.C99Fault.TheVariants.{NoOperand}
+use Rattle.drv_c99.specs.declared.fault.C99Fault.TheVariants.{Memory, NoOperand}
 use Rattle.drv_c99.specs.declared.fault.C99Fault.{C99Fault}
 use Rattle.drv_c99.specs.declared.option.Start.TheVariants as code
 use Rattle.drv_c99.specs.declared.option.Start.{Start as CodeStart}
 use Rattle.std.specs.List.{flat_map, list_any}
-use Rattle.std.specs.Prelude.{◌||◌, Bool, Err, List, [], ◌∷◌, ◌++◌, Ok, Result, codes, false, if◌then◌else◌, ℕ}
+use Rattle.std.specs.Prelude.{◌≡◌, ◌⊎◌, ◌||◌, Bool, Err, List, [], ◌∷◌, ◌++◌, Ok, Result, codes, false, if◌then◌else◌, ℕ}
 
 -- A front that is built item by item. Private clauses alone cite it: what `front` answers is said by `front_of`.
 
@@ -45,3 +45,8 @@ start_shown (code.Joined option argument) = front.Joined option argument.now
 start_shown (code.Wants option) = front.Wants option
 start_shown code.Ends = front.Ends
 start_shown code.Unknown = front.Unknown
+
+-- words are added: the rest is what finishing gives, or a refusal is what they come to, unless memory ran out
+abbrev pub Goes : Result (List (List ℕ)) C99Fault → Result (Unit {0}) C99Fault → Result (List (List ℕ)) C99Fault → Type 0
+Goes end (Ok u) whole = whole ≡ end
+Goes end (Err e) whole = (e ≡ Memory) ⊎ (whole ≡ Err e)

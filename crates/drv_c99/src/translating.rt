@@ -1,8 +1,10 @@
 //! A line of `c99` turned into a line of the driver.
 
-ghost use Rattle.drv_c99.specs.Front.{front_of};
+ghost use Rattle.drv_c99.specs.Building.{Goes, finished, front_with};
+ghost use Rattle.drv_c99.specs.Front.{front_of, items_of};
 ghost use Rattle.drv_c99.specs.declared.fault.C99Fault.TheVariants as fault;
 ghost use Rattle.drv_words.specs.Gives.{Gives};
+ghost use Rattle.std.specs.Prelude.{false};
 
 use crate::C99Fault;
 use crate::building::{Front, missing_argument};
@@ -10,19 +12,12 @@ use crate::option::{Start, start_of};
 use drv_words::{Listing, Word};
 use std::alloc::Global;
 
-/// The words of the driver for a line of `c99`: `-std=c99`, what `-D` defines, what `-U` undefines, and all else in its
-/// order (POSIX, c99). An argument is a word of its own, but for those of `-O` and `-l`; behind `--` an operand that begins
-/// with a hyphen gets `./` in front.
-///
-/// # Errors
-/// At the first offending word `UnknownOption` with the word, `MissingArgument` with the option, or `BadLevel` with the
-/// argument of `-O`; then `NoOperand`.
-pub fn front(alloc: Global, args: &[Word]) -> Result<Listing<Word>, C99Fault>
-    ensures { Gives fault.Memory (λ words. words) result (front_of args.now) }
+/// Adds what words give to a front.
+fn add_words(alloc: Global, front: &mut Front, words: &[Word]) -> Result<(), C99Fault>
+    ensures { Goes (finished front.new) result (front_with front.old (items_of false words.now)) }
 {
-    let mut front = Front::new(alloc);
     let mut ended = false;
-    let mut left = args;
+    let mut left = words;
     while let [word, behind @ ..] = left {
         left = behind;
         let bytes = word.as_bytes();
@@ -41,5 +36,20 @@ pub fn front(alloc: Global, args: &[Word]) -> Result<Listing<Word>, C99Fault>
             Start::Unknown => return Err(C99Fault::UnknownOption(word.clone()?)),
         }
     }
+    Ok(())
+}
+
+/// The words of the driver for a line of `c99`: `-std=c99`, what `-D` defines, what `-U` undefines, and all else in its
+/// order (POSIX, c99). An argument is a word of its own, but for those of `-O` and `-l`; behind `--` an operand that begins
+/// with a hyphen gets `./` in front.
+///
+/// # Errors
+/// At the first offending word `UnknownOption` with the word, `MissingArgument` with the option, or `BadLevel` with the
+/// argument of `-O`; then `NoOperand`.
+pub fn front(alloc: Global, args: &[Word]) -> Result<Listing<Word>, C99Fault>
+    ensures { Gives fault.Memory (λ words. words) result (front_of args.now) }
+{
+    let mut front = Front::new(alloc);
+    add_words(alloc, &mut front, args)?;
     front.finish(alloc)
 }

@@ -30,7 +30,7 @@ pub(crate) use cutter::Cutter;
 use drv_match::{Hidden, Pattern, Switches};
 use drv_system::System;
 use drv_words::{Listing, Word};
-pub(crate) use finishing::into_outcome;
+pub(crate) use finishing::outcome_of;
 use inside::Inside;
 use lists::copied_words;
 pub(crate) use marking::{Mark, Marking};

@@ -10,7 +10,7 @@ ghost use Rattle.drv_system.specs.Facts.{Facts};
 ghost use Rattle.drv_system.specs.Gives.{GivesKnown};
 ghost use Rattle.std.specs.Prelude.{◌≡◌, length};
 
-use crate::machine::{Machine, into_outcome};
+use crate::machine::{Machine, outcome_of};
 use crate::outside::Outside;
 use crate::turns::work_text;
 use crate::{Context, MachineFault, Outcome};
@@ -60,8 +60,8 @@ fn worked<S: System>(
     ensures asks { Asked S.events outside.old outside.new }
     ensures does { (F : Facts) → Extends outside.new.facts.now F → GivesKnown MachineFault.Memory (λ o. o) result (outcome F context.now (tree_of text.now)) }
 {
-    let machine = cut(alloc, text, context, outside)?;
-    into_outcome(machine, context, outside)
+    let mut machine = cut(alloc, text, context, outside)?;
+    outcome_of(&mut machine, context, outside)
 }
 
 /// Works a spec text: its job, and what it cost. It asks the system only where the table has no answer.

@@ -80,31 +80,46 @@ fn number_of(word: &Word) -> Option<u64> {
     str::from_utf8(word.as_bytes()).ok()?.parse().ok()
 }
 
-/// Makes the step that words name, and gives what it was answered, or which of its conditions doesn't hold.
-pub fn make(alloc: Global, sys: &mut HostSystem, words: &[Word]) -> Result<String, AllocError> {
-    let (verb, name, rest) = match words {
-        [verb, name, rest @ ..] => (verb.as_bytes(), name, rest),
-        [verb] if verb.as_bytes() == b"close".as_slice() => return close(alloc, sys),
-        _ => return String::from_str(alloc, NO_STEP),
-    };
-    let plan = plan_of(alloc, name, rest)?;
+/// Makes the step of this verb in a plan, and gives what it was answered, or which of its conditions doesn't hold.
+fn make_in(
+    alloc: Global,
+    sys: &mut HostSystem,
+    plan: &Plan,
+    verb: &[u8],
+    name: &Word,
+    rest: &[Word],
+) -> Result<String, AllocError>
+    requires { HasSites plan.now }
+{
     if verb == b"claim".as_slice() {
-        claim(alloc, sys, &plan)
+        claim(alloc, sys, plan)
     } else if verb == b"start".as_slice() {
-        start(alloc, sys, &plan, false)
+        start(alloc, sys, plan, false)
     } else if verb == b"pipe".as_slice() {
-        start(alloc, sys, &plan, true)
+        start(alloc, sys, plan, true)
     } else if verb == b"remove".as_slice() {
-        remove(alloc, sys, &plan)
+        remove(alloc, sys, plan)
     } else if verb == b"report".as_slice()
         && let [of, ..] = rest
     {
-        report(alloc, sys, &plan, of)
+        report(alloc, sys, plan, of)
     } else if verb == b"wait".as_slice()
         && let Some(id) = number_of(name)
     {
         wait(alloc, sys, id)
     } else {
         String::from_str(alloc, NO_STEP)
+    }
+}
+
+/// Makes the step that words name, and gives what it was answered, or which of its conditions doesn't hold.
+pub fn make(alloc: Global, sys: &mut HostSystem, words: &[Word]) -> Result<String, AllocError> {
+    match words {
+        [verb, name, rest @ ..] => {
+            let plan = plan_of(alloc, name, rest)?;
+            make_in(alloc, sys, &plan, verb.as_bytes(), name, rest)
+        }
+        [verb] if verb.as_bytes() == b"close".as_slice() => close(alloc, sys),
+        _ => String::from_str(alloc, NO_STEP),
     }
 }

@@ -4,10 +4,43 @@ ghost use Rattle.std.specs.Option.{IfSome};
 ghost use Rattle.std.specs.Prelude.{◌≡◌, IfOk, is_some, vec_capacity, vec_len};
 
 use crate::host::as_text;
-use drv_words::{Command, NotStarted, WaitAnswer};
+use drv_words::{Command, NotStarted, WaitAnswer, Word};
 use std::alloc::Global;
 use std::io::{self, Error, ErrorKind, PipeReader};
 use std::process::{self, Child};
+
+/// A command with its words.
+fn command_of(alloc: Global, command: &Command) -> io::Result<process::Command> {
+    let mut made = process::Command::new(alloc, text(command.program.as_bytes())?)?;
+    add_words(&mut made, command.words.as_slice())?;
+    Ok(made)
+}
+
+/// Adds the words of a command.
+fn add_words(made: &mut process::Command, words: &[Word]) -> io::Result<()> {
+    for word in words {
+        made.arg(text(word.as_bytes())?)?;
+    }
+    Ok(())
+}
+
+/// Has a command read the end that is given.
+fn read_from(made: &mut process::Command, pending: &Option<PipeReader>) -> io::Result<()> {
+    if let Some(reader) = pending {
+        made.stdin(reader.try_clone()?);
+    }
+    Ok(())
+}
+
+/// Starts a command that writes a new pipe, whose other end is given back.
+fn spawn_into_pipe(
+    rt: &HostRuntime,
+    made: &mut process::Command,
+) -> io::Result<(Child, PipeReader)> {
+    let (reader, writer) = io::pipe(rt)?;
+    made.stdout(writer);
+    Ok((made.spawn(rt)?, reader))
+}
 
 /// Starts a command. It reads the end that is given, or else this process's standard input, and writes a new pipe, whose other end
 /// is given back, or else this process's standard output.
@@ -20,20 +53,13 @@ pub fn spawn(
 ) -> io::Result<(Child, Option<PipeReader>)>
     ensures { IfOk result (λ started. is_some started.1 ≡ to_pipe) }
 {
-    let mut child = process::Command::new(alloc, text(command.program.as_bytes())?)?;
-    for word in command.words.as_slice() {
-        child.arg(text(word.as_bytes())?)?;
-    }
-    if let Some(reader) = pending {
-        child.stdin(reader.try_clone()?);
-    }
+    let mut made = command_of(alloc, command)?;
+    read_from(&mut made, pending)?;
     if to_pipe {
-        let (reader, writer) = io::pipe(rt)?;
-        child.stdout(writer);
-        Ok((child.spawn(rt)?, Some(reader)))
-    } else {
-        Ok((child.spawn(rt)?, None))
+        let (child, reader) = spawn_into_pipe(rt, &mut made)?;
+        return Ok((child, Some(reader)));
     }
+    Ok((made.spawn(rt)?, None))
 }
 
 /// The text of a word, or the error that it is none.

@@ -3,7 +3,7 @@
 ghost use Rattle.drv_machine.specs.Asked.{Asked};
 ghost use Rattle.drv_machine.specs.Context.{is_piping};
 ghost use Rattle.drv_machine.specs.Held.{made};
-ghost use Rattle.drv_machine.specs.Outcome.{command, ends_piped, finished, groups, lasting, most_piped, once};
+ghost use Rattle.drv_machine.specs.Outcome.{command, ends_piped, finished, groups, job, lasting, most_piped, once};
 ghost use Rattle.drv_machine.specs.Working.{is_among};
 ghost use Rattle.drv_system.specs.Asking.{Extends};
 ghost use Rattle.drv_system.specs.Facts.{Facts};
@@ -31,40 +31,79 @@ const MOST_PIPED: usize = 16;
 /// `StrayPipe` where a pipe is not at the end of a command with a word, or no further command follows it; `PipeTooLong`
 /// where more than 16 commands form one pipe.
 #[tactic(auto, using(crate::proofs::AskedCalls::asked_none))]
-pub(crate) fn into_outcome<S: System>(
-    machine: Machine,
+pub(crate) fn outcome_of<S: System>(
+    machine: &mut Machine,
     context: &Context<'_>,
     outside: &mut Outside<'_, S>,
 ) -> Result<Outcome, MachineFault>
     ensures asks { Asked S.events outside.old outside.new }
-    ensures does { (F : Facts) → Extends outside.new.facts.now F → GivesKnown MachineFault.Memory (λ o. o) result (finished F context.now machine.world machine.cut) }
+    ensures does { (F : Facts) → Extends outside.new.facts.now F → GivesKnown MachineFault.Memory (λ o. o) result (finished F context.now machine.old.world machine.old.cut) }
 {
-    if has_stray_pipe(&machine) {
+    let job = job_of(machine, context, outside)?;
+    let alloc = machine.alloc;
+    Ok(Outcome {
+        job,
+        notices: mem::replace(&mut machine.notices, Listing::new(alloc)),
+        outs: mem::replace(&mut machine.outputs, Listing::new(alloc)),
+        accumulated: mem::replace(&mut machine.options, Listing::new(alloc)),
+        next_number: machine.number,
+        cost: machine.items,
+    })
+}
+
+/// The job of a machine's text. Words are moved out of the machine.
+#[tactic(auto, using(crate::proofs::AskedCalls::asked_none))]
+fn job_of<S: System>(
+    machine: &mut Machine,
+    context: &Context<'_>,
+    outside: &mut Outside<'_, S>,
+) -> Result<Job, MachineFault>
+    ensures asks { Asked S.events outside.old outside.new }
+    ensures does { (F : Facts) → Extends outside.new.facts.now F → GivesKnown MachineFault.Memory (λ j. record { job = j; notices = machine.old.world.notices; outs = machine.old.world.outputs; accumulated = machine.old.world.options; next_number = machine.old.world.number; cost = machine.old.world.items }) result (finished F context.now machine.old.world machine.old.cut) }
+    ensures notices { machine.new.world.notices ≡ machine.old.world.notices }
+    ensures outputs { machine.new.world.outputs ≡ machine.old.world.outputs }
+    ensures options { machine.new.world.options ≡ machine.old.world.options }
+    ensures number { machine.new.world.number ≡ machine.old.world.number }
+    ensures items { machine.new.world.items ≡ machine.old.world.items }
+{
+    if has_stray_pipe(machine) {
         return Err(MachineFault::StrayPipe);
     }
     let alloc = machine.alloc;
-    let groups = groups_of(alloc, machine.lines, context, outside)?;
+    let lines = mem::replace(&mut machine.lines, Listing::new(alloc));
+    let groups = groups_of(alloc, lines, context, outside)?;
     if has_long_pipe(groups.as_slice()) {
         return Err(MachineFault::PipeTooLong);
     }
-    let drawn = machine.drawn;
-    let marked = lasting(alloc, drawn.as_slice(), machine.removed)?;
-    let on_failure = lasting(alloc, drawn.as_slice(), machine.on_failure)?;
-    let job = Job {
+    Ok(job_around(machine, groups, context)?)
+}
+
+/// The job of these groups. Words are moved out of the machine.
+fn job_around(
+    machine: &mut Machine,
+    groups: Listing<Group>,
+    context: &Context<'_>,
+) -> Result<Job, AllocError>
+    ensures made { IfOk result (λ made. made ≡ job context.now machine.old.world machine.old.cut groups) }
+    ensures notices { machine.new.world.notices ≡ machine.old.world.notices }
+    ensures outputs { machine.new.world.outputs ≡ machine.old.world.outputs }
+    ensures options { machine.new.world.options ≡ machine.old.world.options }
+    ensures number { machine.new.world.number ≡ machine.old.world.number }
+    ensures items { machine.new.world.items ≡ machine.old.world.items }
+{
+    let alloc = machine.alloc;
+    let drawn = mem::replace(&mut machine.drawn, Listing::new(alloc));
+    let removed = mem::replace(&mut machine.removed, Listing::new(alloc));
+    let failing = mem::replace(&mut machine.on_failure, Listing::new(alloc));
+    let marked = lasting(alloc, drawn.as_slice(), removed)?;
+    let on_failure = lasting(alloc, drawn.as_slice(), failing)?;
+    Ok(Job {
         source: context.place(),
         groups,
         temps: temps_of(alloc, drawn)?,
         marked,
         on_failure,
-        output: machine.output,
-    };
-    Ok(Outcome {
-        job,
-        notices: machine.notices,
-        outs: machine.outputs,
-        accumulated: machine.options,
-        next_number: machine.number,
-        cost: machine.items,
+        output: machine.output.take(),
     })
 }
 

@@ -1,21 +1,16 @@
-use Rattle.drv_args.proofs.LineSteps.{alone_next, first_line, last_line, wants_next}
+use Rattle.drv_args.proofs.LineSteps.{first_line}
 use Rattle.drv_args.proofs.reading.read_words.Goals as goal
 use Rattle.drv_args.specs.Building.{line_with}
 use Rattle.drv_args.specs.Fronts.{items_of}
-use Rattle.std.proofs.Common.{◌∙◌, ap}
+use Rattle.drv_args.specs.Lines.{line_of_items}
+use Rattle.std.proofs.Common.{◌≡◌, ◌∙◌, ap, rules, sym}
 
-pub loop-left-init : goal.loop-left-init
-loop-left-init c = ap (λ b. line_with b (items_of c.args.words.now)) c.new-builder.ensures ∙ first_line c.args.from_file (items_of c.args.words.now)
-
-pub loop-left-preserved-in-Alone : goal.loop-left-preserved-in-Alone
-loop-left-preserved-in-Alone c =
-    alone_next c.loop-left.left.now c.word-item.result c.as_bytes.result.now c.loop-left.builder c.note.new.self c.in-Alone.effect c.in-Alone.option.now c.in-Alone.argument.now _
-    c.in-len1-up.len_at_least c.word-item.is c.as_bytes.ensures c.in-Alone.ensures c.in_ok-note-in-Alone.ensures c.loop-left.invariant
-
-pub loop-left-preserved : goal.loop-left-preserved
-loop-left-preserved c =
-    wants_next c.loop-left.left.now c.word-item.result c.as_bytes.result.now c.argument-item.result c.as_bytes-in-Wants.result.now c.loop-left.builder c.note-in-Wants.new.self c.in-Wants.effect c.in-Wants.option.now _
-    c.in-len1-up.len_at_least c.word-item.is c.as_bytes.ensures c.in-Wants.ensures c.in-len1-up-behind.len_at_least c.argument-item.is c.as_bytes-in-Wants.ensures c.in_ok-note-in-Wants.ensures c.loop-left.invariant
+pub returns-in_err-note_words : goal.returns-in_err-note_words
+returns-in_err-note_words c =
+    let e : line_with c.new-builder.result (items_of c.args.words.now) ≡ line_of_items c.args.from_file (items_of c.args.words.now) =
+    ap (λ b. line_with b (items_of c.args.words.now)) c.new-builder.ensures ∙ first_line c.args.from_file (items_of c.args.words.now) in
+    rw (← e) (search rules)
 
 pub returns : goal.returns
-returns c = last_line c.loop-left.left.now c.loop-left.builder _ c.in_default.len_below c.loop-left.invariant
+returns c =
+    sym (first_line c.args.from_file (items_of c.args.words.now)) ∙ ap (λ b. line_with b (items_of c.args.words.now)) (sym c.new-builder.ensures) ∙ c.in_ok-note_words.ensures

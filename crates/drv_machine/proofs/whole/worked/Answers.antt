@@ -11,7 +11,7 @@ use Rattle.std.proofs.Common.{ap, subst, sym, ◌∙◌}
 
 pub returns-clause-does : goal.returns-clause-does
 returns-clause-does g c F e =
-    subst (λ given. GivesKnown Memory (λ o. o) c.into_outcome.result given)
+    subst (λ given. GivesKnown Memory (λ o. o) c.outcome_of.result given)
     (sym (outcome_runs F c.args.context.now (tree_of c.args.text.now)
-    ∙ ap (λ (a : Answer (Unit {0} × Machine)). a >>- λ r. finished F c.args.context.now r.1.world r.1.cut) (c.in_ok-machine.ensures.does F (extends_before c.into_outcome.ensures.asks e))))
-    (c.into_outcome.ensures.does F e)
+    ∙ ap (λ (a : Answer (Unit {0} × Machine)). a >>- λ r. finished F c.args.context.now r.1.world r.1.cut) (c.in_ok-machine.ensures.does F (extends_before c.outcome_of.ensures.asks e))))
+    (c.outcome_of.ensures.does F e)

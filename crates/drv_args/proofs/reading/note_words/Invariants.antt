@@ -1,11 +1,10 @@
 use Rattle.drv_args.specs.Building.{line_with}
 use Rattle.drv_args.specs.Fronts.{items_of}
-use Rattle.drv_args.specs.Lines.{line_of_items}
 use Rattle.std.proofs.Common.{◌≡◌, length}
-use Rattle.drv_args.proofs.reading.read_words.Given as goal
+use Rattle.drv_args.proofs.reading.note_words.Given as goal
 
 abbrev pub invariant-loop-left : goal.invariant-loop-left
-invariant-loop-left l = line_with l.builder (items_of l.left) ≡ line_of_items l.from_file (items_of l.words)
+invariant-loop-left l = line_with l.builder (items_of l.left) ≡ line_with l.fn.builder (items_of l.words)
 
 abbrev pub decreases-loop-left : goal.decreases-loop-left
 decreases-loop-left l = length l.left

@@ -1,5 +1,5 @@
 use Rattle.drv_c99.proofs.Steps.{ends_next, flag_next, joined_gives, joined_next, operand_next, wants_next}
-use Rattle.drv_c99.proofs.translating.front.Goals as goal
+use Rattle.drv_c99.proofs.translating.add_words.Goals as goal
 use Rattle.std.proofs.Common.{Ok, ap, sym}
 
 pub loop-left-preserved-in_ok-add_flag-in-Flag : goal.loop-left-preserved-in_ok-add_flag-in-Flag
@@ -29,5 +29,5 @@ loop-left-preserved c =
 
 pub returns-in_err-add_option-in-Joined : goal.returns-in_err-add_option-in-Joined
 returns-in_err-add_option-in-Joined c =
-    joined_gives c.loop-left.left.now c.word-item.result c.as_bytes-bytes.result.now c.in-Joined.argument.now c.in-Joined.option c.loop-left.ended c.loop-left.front c.in_err-add_option-in-Joined.field-0.0 c.from_residual-in_err-add_option-in-Joined.result _
+    joined_gives c.loop-left.left.now c.word-item.result c.as_bytes-bytes.result.now c.in-Joined.argument.now c.in-Joined.option c.loop-left.ended c.loop-left.front c.in_err-add_option-in-Joined.field-0.0 _ c.from_residual-in_err-add_option-in-Joined.result _
     c.in-len1-up.len_at_least c.word-item.is c.as_bytes-bytes.ensures c.in-Joined.ensures c.in_err-add_option-in-Joined.ensures c.from_residual-in_err-add_option-in-Joined.ensures.1 c.loop-left.invariant

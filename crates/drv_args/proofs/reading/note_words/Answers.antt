@@ -1,0 +1,18 @@
+use Rattle.drv_args.proofs.LineSteps.{alone_next, first_line, last_line, wants_next}
+use Rattle.drv_args.proofs.reading.note_words.Goals as goal
+use Rattle.drv_args.specs.Building.{line_with}
+use Rattle.drv_args.specs.Fronts.{items_of}
+use Rattle.std.proofs.Common.{◌∙◌, ap}
+
+pub loop-left-preserved-in-Alone : goal.loop-left-preserved-in-Alone
+loop-left-preserved-in-Alone c =
+    alone_next c.loop-left.left.now c.word-item.result c.as_bytes.result.now c.loop-left.builder c.note.new.self c.in-Alone.effect c.in-Alone.option.now c.in-Alone.argument.now _
+    c.in-len1-up.len_at_least c.word-item.is c.as_bytes.ensures c.in-Alone.ensures c.in_ok-note-in-Alone.ensures c.loop-left.invariant
+
+pub loop-left-preserved : goal.loop-left-preserved
+loop-left-preserved c =
+    wants_next c.loop-left.left.now c.word-item.result c.as_bytes.result.now c.argument-item.result c.as_bytes-in-Wants.result.now c.loop-left.builder c.note-in-Wants.new.self c.in-Wants.effect c.in-Wants.option.now _
+    c.in-len1-up.len_at_least c.word-item.is c.as_bytes.ensures c.in-Wants.ensures c.in-len1-up-behind.len_at_least c.argument-item.is c.as_bytes-in-Wants.ensures c.in_ok-note-in-Wants.ensures c.loop-left.invariant
+
+pub returns : goal.returns
+returns c = last_line c.loop-left.left.now c.loop-left.builder _ c.in_default.len_below c.loop-left.invariant
