@@ -1,0 +1,208 @@
+"""The repository's crates, the rooms in which rt works on them, and lanes in which work on several goes on side by side.
+
+rt lets one command in at a time where a library is shared. So each crate is worked on in a room of its own: a folder with that crate,
+what earlier runs kept of its proofs, and the libraries below it.
+"""
+
+import contextlib
+import fcntl
+import os
+import re
+import shutil
+import signal
+import subprocess
+import sys
+import tempfile
+import time
+from concurrent.futures import FIRST_COMPLETED, ThreadPoolExecutor, wait
+from dataclasses import dataclass
+from typing import Callable
+
+MEMORY_OF_ONE = 3_000_000_000
+TEXTS = ("src", "specs", "proofs")
+# Programs whose names begin so are no part of the product: benchmarks and tests.
+INNER = "drv_"
+
+
+class Crates:
+    """The crates of a repository, lowest first, each with those that it stands on."""
+
+    def __init__(self, root):
+        self.root = os.path.realpath(root)
+        self.rooms = f"{self.root}/.git/rooms" if os.path.isdir(f"{self.root}/.git") else f"{self.root}/.rooms"
+        with open(f"{self.root}/crates.txt", encoding="utf-8") as file:
+            self.lines = {re.split(r"[\s:]", line)[0]: line for line in file if line.partition("#")[0].strip()}
+        words = {it: re.split(r"[\s,]+", line.partition("#")[0].partition(":")[2]) for it, line in self.lines.items()}
+        self.uses = {it: [other for other in words[it] if other in words] for it in words}
+        self.names = sorted(self.uses, key=lambda it: len(self.below(it)))
+
+    def folder(self, name):
+        return f"{self.root}/crates/{name}"
+
+    def is_program(self, name):
+        return os.path.isfile(f"{self.folder(name)}/src/main.rt")
+
+    def below(self, name):
+        """All crates that a crate stands on."""
+        return set(self.uses[name]).union(*(self.below(it) for it in self.uses[name]))
+
+    def with_below(self, names):
+        found = set(names).union(*(self.below(it) for it in names))
+        return [it for it in self.names if it in found]
+
+    def programs(self):
+        """The programs of the product."""
+        return [it for it in self.names if self.is_program(it) and not it.startswith(INNER)]
+
+    @contextlib.contextmanager
+    def held(self, names):
+        """Keeps every other rt out of these crates, as rt itself does, and begins with no rooms."""
+        files = [os.open(self.folder(it), os.O_RDONLY) for it in names]
+        for it in files:
+            fcntl.flock(it, fcntl.LOCK_EX)
+        shutil.rmtree(self.rooms, ignore_errors=True)
+        # (so that a room is left, and what is kept put back, where this process is told to end)
+        signal.signal(signal.SIGTERM, lambda *_: sys.exit(1))
+        yield
+        for it in files:
+            os.close(it)
+
+
+def taken(source, to):
+    """Links a file that rt replaces and doesn't write into, and copies any other."""
+    return os.link(source, to) if source.endswith((".rt", ".antt", ".oantt")) else shutil.copy2(source, to)
+
+
+class Room:
+    """A folder in which rt finds a crate and the libraries below it. It is gone when it is left."""
+
+    def __init__(self, crates, name):
+        self.crates, self.name, self.of, self.seconds = crates, name, crates.folder(name), 0
+
+    def __enter__(self):
+        os.makedirs(self.crates.rooms, exist_ok=True)
+        self.room = tempfile.mkdtemp(prefix=f"{self.name}-", dir=self.crates.rooms)
+        self.folder = f"{self.room}/crates/{self.name}"
+        named = self.crates.with_below([self.name])
+        with open(f"{self.room}/crates.txt", "w", encoding="utf-8") as file:
+            file.writelines(self.crates.lines[it] for it in named)
+        for it in named:
+            for part in TEXTS if it == self.name else (*TEXTS, "out/rlib"):
+                self.take(it, part)
+        return self
+
+    def __exit__(self, *_):
+        shutil.rmtree(self.room)
+
+    def take(self, name, part):
+        if os.path.isdir(f"{self.crates.folder(name)}/{part}"):
+            shutil.copytree(f"{self.crates.folder(name)}/{part}", f"{self.room}/crates/{name}/{part}", copy_function=taken)
+
+    def check(self, texts):
+        """Has rt check the crate with these texts in place of its own, over the work that is kept of it and nothing else."""
+        shutil.rmtree(self.folder)
+        for part in (*TEXTS, "out/incremental"):
+            self.take(self.name, part)
+        for path, text in texts.items():
+            # (the file is a link)
+            os.remove(f"{self.folder}/{path}")
+            with open(f"{self.folder}/{path}", "w", encoding="utf-8") as file:
+                file.write(text)
+        return self.rt("check", "--jobs", "1")
+
+    def rt(self, *words):
+        """Runs rt in the crate's folder, and gives its exit status and what it said."""
+        with tempfile.TemporaryFile("w+", errors="replace") as said:
+            ran = subprocess.Popen(["rt", *words], cwd=self.folder, stdin=subprocess.DEVNULL, stdout=said, stderr=said)
+            _, status, used = os.wait4(ran.pid, 0)
+            ran.returncode = os.waitstatus_to_exitcode(status)
+            self.seconds += used.ru_utime + used.ru_stime
+            said.seek(0)
+            return ran.returncode, said.read()
+
+
+@dataclass
+class Proof:
+    """What came of proving and building a crate: what rt said where that failed, otherwise nothing; and processor seconds."""
+
+    said: str
+    seconds: float
+
+
+def prove(crates, name, jobs):
+    """Proves and builds a crate over what is kept of it."""
+    # rt builds a program only to run it, here on no words and an empty input, and says so where it is proved and built.
+    verb = "run" if crates.is_program(name) else "lib"
+    with Room(crates, name) as room:
+        out, kept = f"{room.folder}/out", f"{room.of}/out"
+        if os.path.isdir(kept):
+            os.rename(kept, out)
+        try:
+            status, said = room.rt(verb, "--jobs", str(jobs))
+        finally:
+            if os.path.isdir(out):
+                os.rename(out, kept)
+    is_well = "rt: running out/" in said if verb == "run" else status == 0
+    return Proof("" if is_well else f"{said}{name} was not proved and built\n", room.seconds)
+
+
+@dataclass
+class Task:
+    """A piece of work for a lane: the names of tasks that it waits for, its processor seconds as far as they are known, and a call
+    that takes a number of jobs."""
+
+    name: str
+    after: list
+    seconds: float
+    call: Callable
+
+
+def lanes():
+    """How many checks run side by side: one a processor, as far as memory goes."""
+    with open("/proc/meminfo", encoding="utf-8") as file:
+        free = 1024 * int(re.search(r"MemAvailable: *(\d+)", file.read())[1])
+    return max(1, min(len(os.sched_getaffinity(0)), free // MEMORY_OF_ONE))
+
+
+def chains(tasks):
+    """The seconds of the longest chain of tasks from each one on. A task stands behind those that it waits for."""
+    found = {}
+    for it in reversed(tasks):
+        found[it.name] = it.seconds + max((found[other.name] for other in tasks if it.name in other.after), default=0)
+    return found
+
+
+def in_lanes(tasks, begun, ended):
+    """Does tasks side by side, those of the longest chain first, and tells whether all were done. A task gets a second job where a lane
+    would be idle. `begun` is told each task, and `ended` each with what it gave; where that answers no, no further task begins."""
+    number, length, left = lanes(), chains(tasks), list(tasks)
+    running, done, goes_on = {}, set(), True
+    with ThreadPoolExecutor(number) as pool:
+        while running or (left and goes_on):
+            ready = [it for it in left if goes_on and done.issuperset(it.after)]
+            ready.sort(key=lambda it: -length[it.name])
+            idle = number - sum(jobs for _, jobs in running.values())
+            for at, it in enumerate(ready[: max(0, idle)]):
+                jobs = 2 if idle > len(ready) - at else 1
+                idle -= jobs
+                left.remove(it)
+                begun(it)
+                running[pool.submit(it.call, jobs)] = it, jobs
+            for future in wait(running, return_when=FIRST_COMPLETED).done:
+                it, _ = running.pop(future)
+                done.add(it.name)
+                goes_on = ended(it, future.result()) and goes_on
+    return not left
+
+
+class Clock:
+    """The minutes since it was made, before each line that it says."""
+
+    def __init__(self):
+        self.began = time.monotonic()
+
+    def minutes(self):
+        return (time.monotonic() - self.began) / 60
+
+    def say(self, text):
+        print(f"{self.minutes():5.1f} min  {text}", flush=True)

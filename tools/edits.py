@@ -1,0 +1,195 @@
+"""Wrong bodies: edits of a crate's text, the functions that they stand in, and what the check says of these.
+
+A check proves each function by its own body and by the contracts of what it calls. So edits in different functions can be tried in one
+check: its report tells a function's own goal that is not proved from a call of a function that is not.
+"""
+
+import os
+import re
+from dataclasses import dataclass
+
+HEAD = re.compile(r"( *)(?:pub(?:\([^)]*\))? )?(?:const )?(?:unsafe )?fn (\w+)")
+# A goal of a function's, by the place in the text, stands before the line of that function.
+GOAL = re.compile(r"note: (?:\./)?(src/\S+?):(\d+):\d+: it is not proved (.*)")
+# An error in what was written of a function's proof; one that only names what an edit took away says nothing.
+ERROR = re.compile(r"(?:\./)?proofs/(\S+)/\w+\.antt:\d+:\d+: error: (.*)")
+OF_NAMES = re.compile(r"has no field|is not in scope|has no `|was not admitted")
+ENDED = re.compile(r"fn (\S+): (?:not proved|no proof)")
+UNREAD = re.compile(r"(?:\./)?(\S+?):\d+:\d+: error: (?:`[^`]*`: )?(.*)")
+OF_TEXT = re.compile(r"is not in scope|has no field|is no name|operand is missing|expected the end|cannot continue")
+
+
+def text_of(path):
+    with open(path, encoding="utf-8") as file:
+        return file.read()
+
+
+@dataclass(frozen=True)
+class Function:
+    """A function of a file, with the impl that it stands in, and its lines (from 1) in the layout of rt fmt: those of its body begin
+    behind the contract and end with the first closing brace below the `fn`."""
+
+    file: str
+    owner: str
+    name: str
+    head: int
+    opens: int
+    closes: int
+
+    def has(self, line):
+        return self.head <= line <= self.closes
+
+    def proof(self):
+        """The folder of proofs/ that is this function's."""
+        module = re.sub(r"(/mod)?\.rt$", "", self.file[len("src/") :])
+        parts = [it for it in (module if module not in ("lib", "main") else "", self.owner, self.name) if it]
+        return "/".join(parts)
+
+
+def owner_of(block):
+    """What proofs/ calls an impl: `Type`, or `TypeTrait`."""
+    words = re.sub(r"\bwhere\b.*|\{.*", "", block)
+    while re.search(r"<[^<>]*>", words):
+        words = re.sub(r"<[^<>]*>", "", words)
+    names = [it.split("::")[-1].lstrip("&") for it in words.split() if it != "for"]
+    return names[1] + names[0] if len(names) == 2 else names[0]
+
+
+def closing_line(lines, at, indent):
+    """The line that ends the function whose head is given; none for a method that a trait only names."""
+    if lines[at].endswith("}"):
+        return at
+    for i in range(at + 1, len(lines)):
+        if re.match(rf"{indent}(\}}|\{{.*\}})$", lines[i]):
+            return i
+        if re.match(rf"{indent}\S.*\bfn |\}}$", lines[i]):
+            return None
+    return None
+
+
+def functions_of(file, text):
+    lines, found, owner = text.split("\n"), [], ""
+    for at, line in enumerate(lines):
+        if line.startswith("impl"):
+            owner = owner_of(line[4:])
+        elif line == "}":
+            owner = ""
+        head = HEAD.match(line)
+        closes = closing_line(lines, at, head[1]) if head else None
+        if closes is not None:
+            # without a contract the last line of the head opens the body
+            alone = (i for i in range(at, closes + 1) if lines[i].startswith(f"{head[1]}{{"))
+            last = next(i for i in range(at, closes + 1) if "{" in lines[i])
+            opens = next(alone, last + lines[last].endswith("{"))
+            found.append(Function(file, owner, head[2], at + 1, opens + 1, closes + 1))
+    return found
+
+
+class Edit:
+    """Pairs of texts, each with its file: what stands there once, and what stands there in its place."""
+
+    def __init__(self, path, folder):
+        self.path, self.folder, self.pairs = path, folder, []
+        file = old = None
+        for line in text_of(path).split("\n"):
+            key, _, rest = line.partition(":")
+            rest = rest.removeprefix(" ")
+            if key == "file":
+                file = rest.strip()
+            elif key == "old":
+                old = rest
+            elif key == "new" and old is not None:
+                self.pairs.append((file, old, rest))
+                old = None
+        self.texts, self.why = self.applied({})
+        self.places = None if self.why else self.found()
+
+    def applied(self, texts):
+        """The texts with the edit, beside those that are given; or why it can't be applied."""
+        texts = dict(texts)
+        for file, old, new in self.pairs:
+            if not file or not re.match(r"(src|specs|proofs)/", file) or not os.path.isfile(f"{self.folder}/{file}"):
+                return texts, f"there is no file {file}"
+            text = texts.get(file) or text_of(f"{self.folder}/{file}")
+            if text.count(old) != 1:
+                return texts, f"what is old stands in {file} {text.count(old)} times, and not once"
+            texts[file] = text.replace(old, new)
+        return texts, "" if self.pairs else "it has no pair of old and new"
+
+    def found(self):
+        """The functions whose bodies hold the edit, by file, owner and name; none where it stands anywhere else."""
+        places, texts = set(), {}
+        for file, old, new in self.pairs:
+            text = texts.get(file) or text_of(f"{self.folder}/{file}")
+            first = text.count("\n", 0, text.index(old)) + 1
+            inside = [it for it in functions_of(file, text) if it.opens <= first <= it.closes] if file.startswith("src/") else []
+            if not inside or HEAD.search(new):
+                return None
+            places.add((file, inside[0].owner, inside[0].name))
+            texts[file] = text.replace(old, new)
+        return places
+
+
+def is_read(said, texts):
+    """Whether a check could read the texts, so that the prover judged them."""
+    errors = [it for it in map(UNREAD.match, said.split("\n")) if it and (it[1] in texts or it[1].startswith(("src/", "specs/")))]
+    return bool(re.search(r"^logic=", said, re.M)) and not any(OF_TEXT.search(re.sub(r"`[^`]*`", "", it[2])) for it in errors)
+
+
+@dataclass
+class Lost:
+    """A goal of a function that is not proved: where it stands, which is a line of a file, or of an error the folder of the function's
+    proof and line 0; and what it is."""
+
+    function: str
+    place: str
+    line: int
+    why: str
+
+    def __str__(self):
+        return f"{self.function}: {self.why}"[:200]
+
+
+def lost_goals(said):
+    """The goals of functions that a check says are not proved."""
+    found, goals, errors = [], [], {}
+    for line in said.split("\n"):
+        goal, error, ended = GOAL.match(line), ERROR.match(line), ENDED.match(line)
+        if goal:
+            goals.append((goal[1], int(goal[2]), goal[3]))
+        elif error and not OF_NAMES.search(error[2]):
+            errors[error[1]] = error[2]
+        elif re.match(r"(fn|struct|enum|impl) ", line):
+            if ended:
+                proof = "/".join(ended[1].split("::")[1:])
+                goals += [(proof, 0, errors[proof])] if proof in errors else []
+                found += [Lost(ended[1], *it) for it in goals]
+            goals = []
+    return found
+
+
+def refused_in(said, texts, places):
+    """A goal that a check of these texts says is lost by one of the functions at these places, where there is one."""
+    functions = [it for file in {file for file, _, _ in places} for it in functions_of(file, texts[file]) if (file, it.owner, it.name) in places]
+    hits = [it for it in lost_goals(said) for of in functions if (it.place == of.file and of.has(it.line)) or it.place == of.proof()]
+    return hits[0] if hits else None
+
+
+def together(texts):
+    """Which names of functions can call each other, directly or not: each with those that it reaches and that reach it."""
+    calls = {}
+    for text in texts:
+        lines = text.split("\n")
+        for it in functions_of("", text):
+            calls.setdefault(it.name, set()).update(re.findall(r"\b(\w+)\(", "\n".join(lines[it.opens - 1 : it.closes])))
+    names = calls.keys()
+    calls = {it: calls[it] & names for it in names}
+    reached = {}
+    for name in names:
+        left, found = [name], set()
+        while left:
+            fresh = calls[left.pop()] - found
+            found |= fresh
+            left += fresh
+        reached[name] = found
+    return {it: {other for other in reached[it] if it in reached[other]} for it in names}

@@ -1,0 +1,105 @@
+"""Crates with wrong bodies: each crate proved as it stands, and its edits tried over that work."""
+
+import os
+from dataclasses import dataclass
+
+from crates import Clock, Crates, Proof, Room, Task, in_lanes, prove
+from edits import Edit, is_read, lost_goals, refused_in, text_of, together
+
+# The most edits that are tried in one check.
+MOST = 40
+
+
+@dataclass
+class Verdict:
+    """Whether an edit was refused, and how that was told."""
+
+    is_refused: bool
+    text: str
+
+
+class Trial:
+    """The edits of a crate, each with its verdict once it was tried."""
+
+    def __init__(self, crates, name):
+        self.crates, self.name, self.told = crates, name, {}
+        folder, crate = f"{crates.root}/tests/edits/{name}", crates.folder(name)
+        self.edits = [Edit(f"{folder}/{it}", crate) for it in sorted(os.listdir(folder)) if it.endswith(".edit")]
+        self.told.update({it: Verdict(False, f"BAD EDIT: {it.why}") for it in self.edits if it.why})
+
+    def batches(self):
+        """The edits such that no two of a batch stand in one function, in functions that can call each other, or on one text."""
+        folder = f"{self.crates.folder(self.name)}/src"
+        cycles = together(text_of(f"{at}/{it}") for at, _, names in os.walk(folder) for it in names)
+        made = []
+        for edit in [it for it in self.edits if not it.why]:
+            names = {name for _, _, name in edit.places or ()}
+            near = names.union(*(cycles[it] for it in names))
+            place = next((it for it in made if edit.places and it.takes(edit, near)), None)
+            if place is None:
+                made.append(Batch(edit))
+            else:
+                place.add(edit)
+        return made
+
+    def attempt(self, batch):
+        """Tries a batch in one check, and alone what that doesn't refuse."""
+        with Room(self.crates, self.name) as room:
+            if len(batch.edits) > 1:
+                _, said = room.check(batch.texts)
+                for it in batch.edits if is_read(said, batch.texts) else []:
+                    refused = refused_in(said, batch.texts, it.places)
+                    if refused:
+                        self.told[it] = Verdict(True, f"refused beside {len(batch.edits) - 1} more: {refused}")
+            for it in batch.edits:
+                if it not in self.told:
+                    self.told[it] = alone(room, it)
+        return Proof("", room.seconds)
+
+
+def alone(room, edit):
+    status, said = room.check(edit.texts)
+    if not is_read(said, edit.texts):
+        return Verdict(False, "BAD EDIT: the prover cannot read the edited text")
+    lost = lost_goals(said)
+    if status == 1 and lost:
+        return Verdict(True, f"refused alone: {lost[0]}")
+    return Verdict(False, "NOT REFUSED: the crate is still proved with this edit" if status == 0 else "NOT REFUSED: no function lost a goal")
+
+
+class Batch:
+    """Edits that are tried in one check, and the texts with all of them."""
+
+    def __init__(self, edit):
+        self.edits, self.texts = [edit], edit.texts
+        self.names = {name for _, _, name in edit.places or ()}
+
+    def takes(self, edit, near):
+        return len(self.edits) < MOST and self.names and not self.names & near and not edit.applied(self.texts)[1]
+
+    def add(self, edit):
+        self.edits.append(edit)
+        self.texts, _ = edit.applied(self.texts)
+        self.names |= {name for _, _, name in edit.places}
+
+
+def tried(root, names):
+    """Tries the edits of these crates, and gives each by its path, with whether it was refused and how."""
+    crates, clock = Crates(root), Clock()
+    trials = [Trial(crates, it) for it in crates.names if it in names]
+    proved = crates.with_below(it.name for it in trials)
+    tasks = [Task(it, crates.uses[it], 60, lambda jobs, it=it: prove(crates, it, jobs)) for it in proved]
+    for trial in trials:
+        for at, batch in enumerate(trial.batches(), 1):
+            attempt = lambda _, trial=trial, batch=batch: trial.attempt(batch)
+            tasks.append(Task(f"{trial.name}, check {at} of edits", [trial.name], 30, attempt))
+
+    def ended(task, given):
+        clock.say(f"{task.name}: {given.seconds:.0f} processor seconds")
+        print(given.said, end="", flush=True)
+        return not given.said
+
+    with crates.held(proved):
+        in_lanes(tasks, lambda task: None, ended)
+    told = {it: trial.told.get(it, Verdict(False, "NOT TRIED, since a crate is not proved as it stands")) for trial in trials for it in trial.edits}
+    return {os.path.relpath(it.path, f"{crates.root}/tests/edits"): verdict for it, verdict in told.items()}
