@@ -14,16 +14,16 @@ pub enum ArgsFault {
     #[error("too many @-files")]
     TooManyFiles,
     /// The response file of this path has more than 16,777,216 bytes.
-    #[error("ResponseTooLarge")]
+    #[error("response file of more than 16777216 bytes")]
     ResponseTooLarge(Word),
     /// There are more than 65,536 words.
     #[error("more than 65536 arguments")]
     TooManyArguments,
     /// This option takes the next word, and is the last.
-    #[error("MissingArgument")]
+    #[error("option without its argument")]
     MissingArgument(Word),
     /// This word names no number of jobs from 1 to 64.
-    #[error("BadJobs")]
+    #[error("no number of jobs from 1 to 64")]
     BadJobs(Word),
     /// Nothing is to be worked or linked.
     #[error("no input files")]
@@ -35,7 +35,7 @@ pub enum ArgsFault {
     #[error("cannot specify -o with -c, -S or -E with multiple files")]
     OutputWithMany,
     /// This input is the output too.
-    #[error("OutputIsInput")]
+    #[error("an input is the output too")]
     OutputIsInput(Word),
 }
 

@@ -11,16 +11,16 @@ pub enum C99Fault {
     #[error("out of memory")]
     Memory,
     /// This word is no option.
-    #[error("UnknownOption")]
+    #[error("no such option")]
     UnknownOption(Word),
     /// This option has no argument.
-    #[error("MissingArgument")]
+    #[error("option without its argument")]
     MissingArgument(Word),
     /// There is neither a file nor a library.
     #[error("c99: no operand")]
     NoOperand,
     /// This argument of `-O` is neither 0 nor 1.
-    #[error("BadLevel")]
+    #[error("level that is neither 0 nor 1")]
     BadLevel(Word),
 }
 

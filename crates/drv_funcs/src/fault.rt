@@ -12,19 +12,19 @@ pub enum FuncsFault {
     #[error("out of memory")]
     Memory,
     /// The variable of this name is not set.
-    #[error("VariableMissing")]
+    #[error("variable that is not set")]
     VariableMissing(Word),
     /// This function takes another number of arguments.
-    #[error("WrongCount")]
+    #[error("function with another number of arguments")]
     WrongCount(Function),
     /// This word is no version.
-    #[error("BadVersion")]
+    #[error("no version")]
     BadVersion(Word),
     /// This function is for the link alone.
-    #[error("NotInLink")]
+    #[error("function for the link alone")]
     NotInLink(Function),
     /// This word names no comparison.
-    #[error("BadOperator")]
+    #[error("no such comparison")]
     BadOperator(Word),
 }
 

@@ -13,7 +13,7 @@ pub enum MachineFault {
     #[error("out of memory")]
     Memory,
     /// The text has an error for the user, with this text.
-    #[error("UserError")]
+    #[error("error that the spec text says")]
     UserError(Word),
     /// More than 64 named texts, workings of an X with a `%*`, function arguments, `%W` and `%@` are open at one time.
     #[error("specs nested too deep")]

@@ -1,4 +1,4 @@
-//! A spec text worked: its job and its cost, or its first refusal; the rows of the table that are built.
+//! A spec text worked: its job and its cost, or its first refusal.
 #![tactic(auto)]
 
 mod asking;

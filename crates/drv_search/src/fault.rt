@@ -11,7 +11,7 @@ pub enum SearchFault {
     #[error("out of memory")]
     Memory,
     /// There is no linker script of this name.
-    #[error("ScriptMissing")]
+    #[error("no such linker script")]
     ScriptMissing(Word),
 }
 

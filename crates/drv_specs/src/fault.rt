@@ -31,7 +31,7 @@ pub enum SpecsFault {
     /// More than 16 files stand in one another.
     #[error("includes nested too deep")]
     IncludeTooDeep,
-    /// The pair of this key, a language, is an alias.
+    /// The pair of this key, which begins with `@`, has a body that begins with `@` too.
     #[error("a language is an alias")]
     AliasOfAlias(Word),
     /// The body of this name or key ends with a backslash.

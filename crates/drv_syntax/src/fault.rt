@@ -12,25 +12,25 @@ pub enum SyntaxFault {
     #[error("out of memory")]
     Memory,
     /// No such directive or form, or not allowed where it stands.
-    #[error("BadDirective")]
+    #[error("no such directive here")]
     BadDirective(usize),
     /// The text ends in this directive, or in the escape of this backslash.
-    #[error("Unclosed")]
+    #[error("directive that does not end")]
     Unclosed(usize),
-    /// A `%*` that stands in no braces.
-    #[error("StarOutside")]
+    /// A `%*` that stands in no braces, or in braces that stand in no X, as in the arguments of a function that is a test.
+    #[error("%* outside of braces")]
     StarOutside(usize),
     /// A `%*` whose alternative has a test that is no starred pattern, or no test.
-    #[error("MixedStar")]
+    #[error("%* behind a test that is no starred pattern")]
     MixedStar(usize),
     /// More than 64 braces and arguments stand in one another.
-    #[error("TooNested")]
+    #[error("more than 64 braces and arguments in one another")]
     TooNested(usize),
     /// A `%:` without the name of a function and a `(`.
-    #[error("UnknownFunction")]
+    #[error("no such function")]
     UnknownFunction(usize),
     /// A test or pattern without a word and a star, or an alternative without tests that is the only one or not the last.
-    #[error("EmptyTest")]
+    #[error("test without a word")]
     EmptyTest(usize),
     /// The text has more than 1,048,576 bytes.
     #[error("spec text too long")]
