@@ -1,9 +1,10 @@
-use Rattle.drv_c99.specs.Building.{Goes, finished, front_with, noted, with_items}
-use Rattle.drv_c99.specs.Front.{Ends, Flag, Item, Joined, Names, Operand, Passed, Start, Unknown, Wants, and_items, at_last, at_word, given, items_of, name_of, start_of}
+use Rattle.drv_c99.specs.Building.{Goes, begun, finished, front_with, noted, with_items}
+use Rattle.drv_c99.specs.Front.{Ends, Flag, Item, Joined, Names, Operand, Passed, Start, Unknown, Wants, and_items, at_last, at_word, front_of_items, given, items_of, name_of, start_of}
 use Rattle.drv_c99.specs.declared.building.Front.{Front}
 use Rattle.drv_c99.specs.declared.fault.C99Fault.TheVariants.{Memory}
 use Rattle.drv_c99.specs.declared.fault.C99Fault.{C99Fault}
 use Rattle.drv_c99.specs.declared.option.Taking.{Taking}
+use Rattle.drv_words.specs.Gives.{Gives}
 use Rattle.std.specs.Prelude.{IsErrAnd}
 use Rattle.std.proofs.Common.{◌≡◌, ◌⊎◌, ◌≤◌, ◌-◌, Bool, inl, inr, List, arith, drop, get_or, length, take, [], ◌∷◌, ◌++◌, Err, Ok, Result, ap, append_assoc, false, refl, sym, true, ◌∙◌, ℕ}
 use Rattle.std.proofs.Math.Bool.{or_assoc, or-false}
@@ -127,3 +128,21 @@ pub joined_gives : (left : List (List ℕ)) (word bytes argument : List ℕ) (op
 joined_gives left word bytes argument option ended f fault end result whole some first same starts (inl memory) is so_far = refusal_given fault end result whole is (inl memory)
 joined_gives left word bytes argument option ended f fault end result whole some first same starts (inr refused) is so_far =
     refusal_given fault end result whole is (inr (joined_refused left word bytes argument option ended f fault whole some first same starts refused so_far))
+
+-- A front without items, with those of a line.
+
+front_begun : (items : Result (List Item) C99Fault) → front_with begun items ≡ front_of_items items
+front_begun (Ok items) = refl
+front_begun (Err fault) = refl
+
+pub front_given : (f : Front) (items : Result (List Item) C99Fault) (end result : Result (List (List ℕ)) C99Fault)
+    → f ≡ begun → front_with f items ≡ end → Gives Memory (λ words. words) result end → Gives Memory (λ words. words) result (front_of_items items)
+front_given f items end result start goes given =
+    let e : end ≡ front_of_items items = sym goes ∙ ap (λ g. front_with g items) start ∙ front_begun items in
+    rw (← e) given
+
+pub front_refused : (f : Front) (items : Result (List Item) C99Fault) (fault : C99Fault) (result : Result (List (List ℕ)) C99Fault)
+    → f ≡ begun → (fault ≡ Memory) ⊎ (front_with f items ≡ Err fault) → IsErrAnd result (λ e. e ≡ fault) → Gives Memory (λ words. words) result (front_of_items items)
+front_refused f items fault (Ok words) start refused is = absurd is
+front_refused f items fault (Err e) start (inl memory) is = inl (is ∙ memory)
+front_refused f items fault (Err e) start (inr refused) is = inr (sym (front_begun items) ∙ ap (λ g. front_with g items) (sym start) ∙ refused ∙ ap Err (sym is))

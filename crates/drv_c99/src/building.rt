@@ -4,12 +4,15 @@ ghost use Rattle.drv_c99.specs.Building.{begun, finished, noted, with_items};
 ghost use Rattle.drv_c99.specs.Front.{Operand, Passed, given, name_of};
 ghost use Rattle.drv_c99.specs.declared.fault.C99Fault.TheVariants as fault;
 ghost use Rattle.drv_words.specs.Gives.{Gives};
-ghost use Rattle.std.specs.Prelude.{◌≡◌, ◌⊎◌, ◌∷◌, ◌++◌, [], OnOk};
+ghost use Rattle.std.specs.Prelude.{◌≡◌, ◌⊎◌, ◌∷◌, ◌++◌, [], OnOk, codes, nat_eq};
+ghost use Rattle.std.specs.Cmp.Lexicographic.{pointwise};
+ghost use Rattle.std.specs.List.{list_any};
 
 use crate::C99Fault;
 use crate::option::{Taking, name};
 use drv_words::{Listing, Word};
 use std::alloc::{AllocError, Global};
+use std::mem;
 
 /// The words that the driver gets, in three lists, and whether one of them is an operand.
 #[derive(Drop)]
@@ -47,6 +50,20 @@ fn add_word(
     word.extend_from_slice(rest)?;
     words.push(word)?;
     Ok(())
+}
+
+/// Whether an argument is a level.
+fn is_level(argument: &[u8]) -> bool
+    ensures { result ≡ list_any (pointwise nat_eq argument.now) (codes "0" ∷ codes "1" ∷ []) }
+{
+    matches!(argument, b"0" | b"1")
+}
+
+/// Moves a list's words behind others.
+fn move_list(list: Listing<Word>, words: &mut Vec<Word>) -> Result<(), AllocError>
+    ensures { OnOk result (words.new.items ≡ words.old.items ++ list) }
+{
+    words.append(&mut list.into_vec())
 }
 
 impl Front {
@@ -91,34 +108,44 @@ impl Front {
     ) -> Result<(), C99Fault>
         ensures { Gives fault.Memory (λ u. self.new) result (noted self.old (given option argument.now)) }
     {
-        match option {
-            Taking::Define => add_pair(alloc, &mut self.defined, b"-D", argument)?,
-            Taking::Undefine => add_pair(alloc, &mut self.undefined, b"-U", argument)?,
-            Taking::IncludeFolder => add_pair(alloc, &mut self.others, b"-I", argument)?,
-            Taking::LibraryFolder => add_pair(alloc, &mut self.others, b"-L", argument)?,
-            Taking::Output => add_pair(alloc, &mut self.others, b"-o", argument)?,
-            Taking::Level => match argument {
-                b"0" | b"1" => add_word(alloc, &mut self.others, b"-O", argument)?,
-                _ => return Err(C99Fault::BadLevel(Word::from_bytes(alloc, argument)?)),
-            },
+        let added = match option {
+            Taking::Define => add_pair(alloc, &mut self.defined, b"-D", argument),
+            Taking::Undefine => add_pair(alloc, &mut self.undefined, b"-U", argument),
+            Taking::IncludeFolder => add_pair(alloc, &mut self.others, b"-I", argument),
+            Taking::LibraryFolder => add_pair(alloc, &mut self.others, b"-L", argument),
+            Taking::Output => add_pair(alloc, &mut self.others, b"-o", argument),
+            Taking::Level if !is_level(argument) => {
+                return Err(C99Fault::BadLevel(Word::from_bytes(alloc, argument)?));
+            }
+            Taking::Level => add_word(alloc, &mut self.others, b"-O", argument),
             Taking::Library if argument.is_empty() => return Err(missing_argument(alloc, option)),
-            Taking::Library => self.add_operand(alloc, b"-l", argument)?,
-        }
-        Ok(())
+            Taking::Library => self.add_operand(alloc, b"-l", argument),
+        };
+        Ok(added?)
     }
 
-    /// All its words.
-    pub(crate) fn finish(self, alloc: Global) -> Result<Listing<Word>, C99Fault>
-        ensures { Gives fault.Memory (λ words. words) result (finished self) }
+    /// Moves its words behind others: what is defined, what is undefined, and all else.
+    fn move_behind(&mut self, alloc: Global, words: &mut Vec<Word>) -> Result<(), AllocError>
+        ensures { OnOk result (words.new.items ≡ words.old.items ++ self.old.defined ++ self.old.undefined ++ self.old.others) }
+    {
+        move_list(mem::replace(&mut self.defined, Listing::new(alloc)), words)?;
+        move_list(
+            mem::replace(&mut self.undefined, Listing::new(alloc)),
+            words,
+        )?;
+        move_list(mem::replace(&mut self.others, Listing::new(alloc)), words)
+    }
+
+    /// All its words, moved out of it.
+    pub(crate) fn finish(&mut self, alloc: Global) -> Result<Listing<Word>, C99Fault>
+        ensures { Gives fault.Memory (λ words. words) result (finished self.old) }
     {
         if !self.has_operand {
             return Err(C99Fault::NoOperand);
         }
         let mut words = Vec::new(alloc);
         words.push(Word::from_bytes(alloc, b"-std=c99")?)?;
-        words.append(&mut self.defined.into_vec())?;
-        words.append(&mut self.undefined.into_vec())?;
-        words.append(&mut self.others.into_vec())?;
+        self.move_behind(alloc, &mut words)?;
         Ok(Listing::from_vec(words))
     }
 }
