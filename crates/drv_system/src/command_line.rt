@@ -3,6 +3,7 @@
 ghost use Rattle.std.specs.Prelude.{◌≤◌, IfOk, IfSome, length};
 
 use drv_words::{Listing, Word};
+use std::alloc::Global;
 use std::env::FillError;
 use std::io::{self, ErrorKind};
 use std::rt::Env;
@@ -26,6 +27,30 @@ fn argument_length(rt: &HostRuntime, place: usize, room: &mut Vec<u8>) -> io::Re
     Err(io::Error::from(ErrorKind::OutOfMemory))
 }
 
+/// An argument as a word.
+fn word_of(alloc: Global, bytes: &[u8]) -> io::Result<Word> {
+    let is_plain = bytes.iter().all(|byte| byte.is_ascii());
+    if !is_plain && from_utf8(bytes).is_err() {
+        return Err(io::Error::from(ErrorKind::InvalidData));
+    }
+    Ok(Word::from_bytes(alloc, bytes)?)
+}
+
+/// Adds the arguments to words. There is room for one.
+fn add_arguments(
+    rt: &HostRuntime,
+    room: &mut Vec<u8>,
+    words: &mut Listing<Word>,
+) -> io::Result<()> {
+    for place in 1..usize::MAX {
+        let Some(length) = argument_length(rt, place, room)? else {
+            break;
+        };
+        words.push(word_of(rt.alloc(), &room[..length])?)?;
+    }
+    Ok(())
+}
+
 /// The arguments of this process, without the program's name.
 ///
 /// # Errors
@@ -34,16 +59,6 @@ pub fn arguments(rt: &HostRuntime) -> io::Result<Listing<Word>> {
     let alloc = rt.alloc();
     let mut words = Listing::new(alloc);
     let mut room = vec![in alloc; 0u8; ROOM]?;
-    for place in 1..usize::MAX {
-        let Some(length) = argument_length(rt, place, &mut room)? else {
-            break;
-        };
-        let bytes = &room[..length];
-        let is_plain = bytes.iter().all(|byte| byte.is_ascii());
-        if !is_plain && from_utf8(bytes).is_err() {
-            return Err(io::Error::from(ErrorKind::InvalidData));
-        }
-        words.push(Word::from_bytes(alloc, bytes)?)?;
-    }
+    add_arguments(rt, &mut room, &mut words)?;
     Ok(words)
 }

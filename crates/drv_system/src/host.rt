@@ -5,6 +5,7 @@ ghost use Rattle.std.specs.Io.KnownBytes.{Appends};
 ghost use Rattle.std.specs.Prelude.{◌≡◌, ◌∷◌, ◌++◌, [], IfOk, OnErr};
 
 use crate::files::{make_file, remove_file};
+use crate::noting::{note_kind, note_read, note_variable};
 use crate::places::{command_at, name_at, temp_at};
 use crate::processes::{reason_of, spawn, wait_for};
 use crate::reading::read_path;
@@ -81,35 +82,31 @@ impl System for HostSystem {
     #[tactic(auto, using(crate::proofs::Holding::holds_beside, crate::proofs::Holding::holds_same))]
     /// Reads the file. A folder cannot be read, and a path through a plain file leads nowhere.
     fn read_file(&mut self, path: &Word) -> Result<ReadAnswer, AllocError> {
-        let question = path.clone()?;
         let answer = match as_text(path.as_bytes()) {
             Some(path) => read_path(&self.rt, self.rt.alloc(), path)?,
             None => ReadAnswer::Missing,
         };
-        self.journal.push(Event::Read(question, answer.clone()?))?;
+        note_read(&mut self.journal, path, &answer)?;
         Ok(answer)
     }
 
     #[tactic(auto, using(crate::proofs::Holding::holds_beside, crate::proofs::Holding::holds_same))]
     fn kind(&mut self, path: &Word) -> Result<PathKind, AllocError> {
-        let question = path.clone()?;
         let kind = match as_text(path.as_bytes()) {
             Some(path) => kind_at(&self.rt, path)?,
             None => PathKind::Missing,
         };
-        self.journal.push(Event::Kind(question, kind))?;
+        note_kind(&mut self.journal, path, kind)?;
         Ok(kind)
     }
 
     #[tactic(auto, using(crate::proofs::Holding::holds_beside, crate::proofs::Holding::holds_same))]
     fn variable(&mut self, name: &Word) -> Result<Option<Word>, AllocError> {
-        let question = name.clone()?;
         let value = match as_text(name.as_bytes()) {
             Some(name) => value_of(&self.rt, name)?,
             None => None,
         };
-        self.journal
-            .push(Event::Variable(question, copied(&value)?))?;
+        note_variable(&mut self.journal, name, &value)?;
         Ok(value)
     }
 
@@ -281,15 +278,5 @@ fn tell<W: Write>(stream: &mut W, text: &Word) -> TellAnswer
     match stream.write_all(text.as_bytes()) {
         Ok(()) => TellAnswer::Told,
         Err(_) => TellAnswer::Failed,
-    }
-}
-
-/// A copy of a value, if there is one.
-fn copied(value: &Option<Word>) -> Result<Option<Word>, AllocError>
-    ensures { IfOk result (λ copy. copy ≡ value.now) }
-{
-    match value {
-        Some(word) => Ok(Some(word.clone()?)),
-        None => Ok(None),
     }
 }

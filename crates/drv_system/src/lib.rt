@@ -7,6 +7,7 @@ mod event;
 mod facts;
 mod files;
 mod host;
+mod noting;
 mod places;
 mod processes;
 mod reading;

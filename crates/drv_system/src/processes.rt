@@ -1,20 +1,13 @@
 //! Children of this process, and the pipes between them.
 
 ghost use Rattle.std.specs.Option.{IfSome};
-ghost use Rattle.std.specs.Prelude.{◌≡◌, IfOk, is_some, vec_capacity, vec_len};
+ghost use Rattle.std.specs.Prelude.{◌≡◌, IfOk, is_some, true, vec_capacity, vec_len};
 
 use crate::host::as_text;
 use drv_words::{Command, NotStarted, WaitAnswer, Word};
 use std::alloc::Global;
 use std::io::{self, Error, ErrorKind, PipeReader};
 use std::process::{self, Child};
-
-/// A command with its words.
-fn command_of(alloc: Global, command: &Command) -> io::Result<process::Command> {
-    let mut made = process::Command::new(alloc, text(command.program.as_bytes())?)?;
-    add_words(&mut made, command.words.as_slice())?;
-    Ok(made)
-}
 
 /// Adds the words of a command.
 fn add_words(made: &mut process::Command, words: &[Word]) -> io::Result<()> {
@@ -32,14 +25,29 @@ fn read_from(made: &mut process::Command, pending: &Option<PipeReader>) -> io::R
     Ok(())
 }
 
+/// A command with its words, which reads the end that is given.
+fn command_of(
+    alloc: Global,
+    command: &Command,
+    pending: &Option<PipeReader>,
+) -> io::Result<process::Command> {
+    let program = text(command.program.as_bytes())?;
+    let mut made = process::Command::new(alloc, program)?;
+    add_words(&mut made, command.words.as_slice())?;
+    read_from(&mut made, pending)?;
+    Ok(made)
+}
+
 /// Starts a command that writes a new pipe, whose other end is given back.
 fn spawn_into_pipe(
     rt: &HostRuntime,
     made: &mut process::Command,
-) -> io::Result<(Child, PipeReader)> {
+) -> io::Result<(Child, Option<PipeReader>)>
+    ensures { IfOk result (λ started. is_some started.1 ≡ true) }
+{
     let (reader, writer) = io::pipe(rt)?;
     made.stdout(writer);
-    Ok((made.spawn(rt)?, reader))
+    Ok((made.spawn(rt)?, Some(reader)))
 }
 
 /// Starts a command. It reads the end that is given, or else this process's standard input, and writes a new pipe, whose other end
@@ -53,11 +61,9 @@ pub fn spawn(
 ) -> io::Result<(Child, Option<PipeReader>)>
     ensures { IfOk result (λ started. is_some started.1 ≡ to_pipe) }
 {
-    let mut made = command_of(alloc, command)?;
-    read_from(&mut made, pending)?;
+    let mut made = command_of(alloc, command, pending)?;
     if to_pipe {
-        let (child, reader) = spawn_into_pipe(rt, &mut made)?;
-        return Ok((child, Some(reader)));
+        return spawn_into_pipe(rt, &mut made);
     }
     Ok((made.spawn(rt)?, None))
 }

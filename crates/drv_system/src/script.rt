@@ -13,6 +13,7 @@ ghost use Rattle.std.specs.Map.{lookup};
 ghost use Rattle.std.specs.Option.{option_copied};
 ghost use Rattle.std.specs.Prelude.{◌≡◌, ◌+◌, ◌<◌, ◌≤◌, ◌∷◌, ◌++◌, [], IfOk, OnErr, OnOk, drop, false, if◌then◌else◌, is_some, nat_eq, slice_get, true};
 
+use crate::noting::{note_kind, note_put, note_read, note_said, note_variable};
 use crate::{Event, MOST_BYTES, PathKind, ReadAnswer, System, TellAnswer};
 use drv_words::{
     Answer, ClaimAnswer, Listing, Note, Place, Plan, RemoveAnswer, RunEvent, StartAnswer, Step,
@@ -89,6 +90,19 @@ impl ScriptSystem {
     {
         self.mute = true;
     }
+
+    /// What a path is listed as: the files count before the folders.
+    fn listed_kind(&self, path: &Word) -> PathKind
+        ensures { result ≡ scripted_kind self.now.script path.now }
+    {
+        if find(self.files.as_slice(), path).is_some() {
+            PathKind::Plain
+        } else if self.dirs.as_slice().contains(path) {
+            PathKind::Dir
+        } else {
+            PathKind::Missing
+        }
+    }
 }
 
 impl System for ScriptSystem {
@@ -117,8 +131,7 @@ impl System for ScriptSystem {
         ensures started { self.new.children ≡ self.old.children }
     {
         let answer = read_listed(find(self.files.as_slice(), path))?;
-        let event = Event::Read(path.clone()?, answer.clone()?);
-        self.journal.push(event)?;
+        note_read(&mut self.journal, path, &answer)?;
         Ok(answer)
     }
 
@@ -131,14 +144,8 @@ impl System for ScriptSystem {
         ensures script { self.new.script ≡ self.old.script }
         ensures started { self.new.children ≡ self.old.children }
     {
-        let kind = if find(self.files.as_slice(), path).is_some() {
-            PathKind::Plain
-        } else if self.dirs.as_slice().contains(path) {
-            PathKind::Dir
-        } else {
-            PathKind::Missing
-        };
-        self.journal.push(Event::Kind(path.clone()?, kind))?;
+        let kind = self.listed_kind(path);
+        note_kind(&mut self.journal, path, kind)?;
         Ok(kind)
     }
 
@@ -152,8 +159,7 @@ impl System for ScriptSystem {
         ensures started { self.new.children ≡ self.old.children }
     {
         let value = copied(find(self.variables.as_slice(), name))?;
-        let event = Event::Variable(name.clone()?, copied(value.as_ref())?);
-        self.journal.push(event)?;
+        note_variable(&mut self.journal, name, &value)?;
         Ok(value)
     }
 
@@ -167,7 +173,7 @@ impl System for ScriptSystem {
         ensures started { self.new.children ≡ self.old.children }
     {
         let answer = telling(self.mute);
-        self.journal.push(Event::Say(text.clone()?, answer))?;
+        note_said(&mut self.journal, text, answer)?;
         Ok(answer)
     }
 
@@ -181,7 +187,7 @@ impl System for ScriptSystem {
         ensures started { self.new.children ≡ self.old.children }
     {
         let answer = telling(self.mute);
-        self.journal.push(Event::Put(text.clone()?, answer))?;
+        note_put(&mut self.journal, text, answer)?;
         Ok(answer)
     }
 

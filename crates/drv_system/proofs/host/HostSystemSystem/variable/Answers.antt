@@ -3,4 +3,4 @@ use Rattle.std.proofs.Common.{refl}
 use Rattle.drv_system.proofs.host.HostSystemSystem.variable.Goals as goal
 
 pub invariant_of-self-2 : goal.invariant_of-self-2
-invariant_of-self-2 c = holds_beside _ c.self.invariant c.in_ok-push.ensures.items refl refl refl
+invariant_of-self-2 c = holds_beside _ c.self.invariant c.in_ok-note_variable.ensures.event refl refl refl

@@ -1,0 +1,75 @@
+//! What was asked and said, added to a journal.
+
+ghost use Rattle.drv_system.specs.declared.event.Event.TheVariants as event;
+ghost use Rattle.std.specs.Prelude.{◌≡◌, ◌∷◌, ◌++◌, [], IfOk, OnErr, OnOk};
+
+use crate::{Event, PathKind, ReadAnswer, TellAnswer};
+use drv_words::Word;
+use std::alloc::AllocError;
+
+/// A copy of a value, if there is one.
+fn copied(value: &Option<Word>) -> Result<Option<Word>, AllocError>
+    ensures { IfOk result (λ copy. copy ≡ value.now) }
+{
+    match value {
+        Some(word) => Ok(Some(word.clone()?)),
+        None => Ok(None),
+    }
+}
+
+/// Notes what a file was read as.
+pub fn note_read(
+    journal: &mut Vec<Event>,
+    path: &Word,
+    answer: &ReadAnswer,
+) -> Result<(), AllocError>
+    ensures event { OnOk result (journal.new.items ≡ journal.old.items ++ event.Read path.now answer.now ∷ []) }
+    ensures memory { OnErr result (journal.new.items ≡ journal.old.items) }
+{
+    let event = Event::Read(path.clone()?, answer.clone()?);
+    Ok(journal.push(event)?)
+}
+
+/// Notes what a path leads to.
+pub fn note_kind(journal: &mut Vec<Event>, path: &Word, kind: PathKind) -> Result<(), AllocError>
+    ensures event { OnOk result (journal.new.items ≡ journal.old.items ++ event.Kind path.now kind ∷ []) }
+    ensures memory { OnErr result (journal.new.items ≡ journal.old.items) }
+{
+    let event = Event::Kind(path.clone()?, kind);
+    Ok(journal.push(event)?)
+}
+
+/// Notes the value of a variable.
+pub fn note_variable(
+    journal: &mut Vec<Event>,
+    name: &Word,
+    value: &Option<Word>,
+) -> Result<(), AllocError>
+    ensures event { OnOk result (journal.new.items ≡ journal.old.items ++ event.Variable name.now value.now ∷ []) }
+    ensures memory { OnErr result (journal.new.items ≡ journal.old.items) }
+{
+    let event = Event::Variable(name.clone()?, copied(value)?);
+    Ok(journal.push(event)?)
+}
+
+/// Notes a text that was written to standard error.
+pub fn note_said(
+    journal: &mut Vec<Event>,
+    text: &Word,
+    answer: TellAnswer,
+) -> Result<(), AllocError>
+    ensures event { OnOk result (journal.new.items ≡ journal.old.items ++ event.Say text.now answer ∷ []) }
+    ensures memory { OnErr result (journal.new.items ≡ journal.old.items) }
+{
+    let event = Event::Say(text.clone()?, answer);
+    Ok(journal.push(event)?)
+}
+
+/// Notes a text that was written to standard output.
+pub fn note_put(journal: &mut Vec<Event>, text: &Word, answer: TellAnswer) -> Result<(), AllocError>
+    ensures event { OnOk result (journal.new.items ≡ journal.old.items ++ event.Put text.now answer ∷ []) }
+    ensures memory { OnErr result (journal.new.items ≡ journal.old.items) }
+{
+    let event = Event::Put(text.clone()?, answer);
+    Ok(journal.push(event)?)
+}
