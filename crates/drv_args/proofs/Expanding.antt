@@ -139,6 +139,9 @@ expands_refused F args fault (Ok expanded) is refused = absurd is
 expands_refused F args fault (Err e) is (inl memory) = inl (is ∙ memory)
 expands_refused F args fault (Err e) is (inr refused) = let P : ArgsFault → Type 0 = λ f. Refuses F 2000 args f in inr (subst P (sym is) refused)
 
+pub expands_memory : (F : Facts) (args : List (List ℕ)) (result : Result Expanded ArgsFault) → IsErrAnd result (λ e. e ≡ Memory) → Expands F 2000 args result
+expands_memory F args result is = expands_refused F args Memory result is (inl refl)
+
 pub end_goes : (F : Facts) (left : ℕ) (stack out args : List (List ℕ)) → stack ≡ [] → GoesOn F left (reverse stack) out args → Responds F 2000 args left out
 end_goes F left stack out args empty goes =
     let P : List (List ℕ) → Type 0 = λ ws. Responds F left ws left [] in

@@ -26,10 +26,10 @@ more_pieces Assembler b pieces piece = simp append_assoc
 more_pieces Preprocessor b pieces piece = simp append_assoc
 more_pieces Linker b pieces piece = simp (append_assoc, map-append)
 
-pub next_pieces : (tool : Tool) (b b' b'' : LineBuilder) (done after : List (List ℕ)) (word piece : List ℕ)
-    → b' ≡ with_pieces b tool done → word ≡ piece → b'' ≡ with_pieces b' tool (word ∷ []) → after ≡ done ++ piece ∷ [] → b'' ≡ with_pieces b tool after
-next_pieces tool b b' b'' done after word piece so_far same pushed more =
-    pushed ∙ ap (λ w. with_pieces b' tool (w ∷ [])) same ∙ ap (λ c. with_pieces c tool (piece ∷ [])) so_far ∙ more_pieces tool b done piece ∙ ap (with_pieces b tool) (sym more)
+pub next_pieces : (tool : Tool) (b b' b'' : LineBuilder) (done after : List (List ℕ)) (piece : List ℕ)
+    → b' ≡ with_pieces b tool done → b'' ≡ with_pieces b' tool (piece ∷ []) → after ≡ done ++ piece ∷ [] → b'' ≡ with_pieces b tool after
+next_pieces tool b b' b'' done after piece so_far pushed more =
+    pushed ∙ ap (λ c. with_pieces c tool (piece ∷ [])) so_far ∙ more_pieces tool b done piece ∙ ap (with_pieces b tool) (sym more)
 
 -- what an item gives, noted first, is what the filters of all items find first
 note_items : (b : LineBuilder) (i : Item) (items : List Item) → with_items (noted b i) items ≡ with_items b (i ∷ items)

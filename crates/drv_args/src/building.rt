@@ -4,7 +4,8 @@ ghost use Rattle.drv_args.specs.Building.{begun, noted, with_inputs, with_jobs, 
 ghost use Rattle.drv_args.specs.Fronts.{item};
 ghost use Rattle.drv_args.specs.Lines.{language_of, pieces_of};
 ghost use Rattle.drv_args.specs.declared.line.Input.TheVariants as input;
-ghost use Rattle.std.specs.Prelude.{◌≡◌, ◌∷◌, ◌++◌, [], IfOk, OnOk, Some, drop};
+ghost use Rattle.drv_args.specs.declared.option_table.Effect.TheVariants as given;
+ghost use Rattle.std.specs.Prelude.{◌≡◌, ◌∷◌, ◌++◌, [], IfOk, None, OnOk, Some, drop};
 
 use crate::jobs::jobs_named;
 use crate::option_table::{Effect, Setting, Tool};
@@ -105,6 +106,25 @@ impl LineBuilder {
         Ok(())
     }
 
+    /// Adds a switch of an option's name.
+    fn add_name(&mut self, alloc: Global, option: &[u8]) -> Result<(), AllocError>
+        ensures { OnOk result (self.new ≡ with_switch self.old (drop 1 option.now) None) }
+    {
+        self.add_switch(Word::from_bytes(alloc, name_of(option))?, None)
+    }
+
+    /// Adds a switch of an option's name and an argument.
+    fn add_joined_name(
+        &mut self,
+        alloc: Global,
+        option: &[u8],
+        argument: &[u8],
+    ) -> Result<(), AllocError>
+        ensures { OnOk result (self.new ≡ with_switch self.old (drop 1 (option.now ++ argument.now)) None) }
+    {
+        self.add_switch(joined_name(alloc, option, argument)?, None)
+    }
+
     fn add_switch_with(
         &mut self,
         alloc: Global,
@@ -155,9 +175,10 @@ impl LineBuilder {
     }
 
     /// Adds a piece for a tool.
-    fn add_piece(&mut self, tool: Tool, piece: Word) -> Result<(), AllocError>
-        ensures { OnOk result (self.new ≡ with_pieces self.old tool (piece ∷ [])) }
+    fn add_piece(&mut self, alloc: Global, tool: Tool, piece: &[u8]) -> Result<(), AllocError>
+        ensures { OnOk result (self.new ≡ with_pieces self.old tool (piece.now ∷ [])) }
     {
+        let piece = Word::from_bytes(alloc, piece)?;
         match tool {
             Tool::Assembler => self.line.asm_opts.push(piece)?,
             Tool::Preprocessor => self.line.cpp_opts.push(piece)?,
@@ -171,9 +192,81 @@ impl LineBuilder {
         ensures { OnOk result (self.new ≡ with_pieces self.old tool (pieces_of text.now)) }
     {
         for piece in text.split(|byte| *byte == b',') {
-            self.add_piece(tool, Word::from_bytes(alloc, piece)?)?;
+            self.add_piece(alloc, tool, piece)?;
         }
         Ok(())
+    }
+
+    /// Turns a setting on, and adds the switch that its option may be too.
+    fn add_setting(
+        &mut self,
+        alloc: Global,
+        setting: Setting,
+        option: &[u8],
+    ) -> Result<(), AllocError>
+        ensures { OnOk result (self.new ≡ noted self.old (item (given.TurnsOn setting) option.now [])) }
+    {
+        self.turn_on(setting);
+        if !setting.is_switch_too() {
+            return Ok(());
+        }
+        self.add_name(alloc, option)
+    }
+
+    /// Adds a spec file, and its switch.
+    fn add_specs(&mut self, alloc: Global, argument: &[u8]) -> Result<(), AllocError>
+        ensures { OnOk result (self.new ≡ noted self.old (item given.Specs [] argument.now)) }
+    {
+        let specs = Word::from_bytes(alloc, argument)?;
+        self.line.settings.specs.push(specs)?;
+        self.add_switch(joined(alloc, b"specs=", argument)?, None)
+    }
+
+    /// Adds a prefix, and its switch.
+    fn add_prefix(
+        &mut self,
+        alloc: Global,
+        option: &[u8],
+        argument: &[u8],
+    ) -> Result<(), AllocError>
+        ensures { OnOk result (self.new ≡ noted self.old (item given.Prefix option.now argument.now)) }
+    {
+        let prefix = Word::from_bytes(alloc, argument)?;
+        self.line.settings.prefixes.push(prefix)?;
+        self.add_joined_name(alloc, option, argument)
+    }
+
+    /// Takes the output, and adds its switch.
+    fn set_output(
+        &mut self,
+        alloc: Global,
+        option: &[u8],
+        argument: &[u8],
+    ) -> Result<(), AllocError>
+        ensures { OnOk result (self.new ≡ noted self.old (item given.Output option.now argument.now)) }
+    {
+        self.line.settings.output = Some(Word::from_bytes(alloc, argument)?);
+        self.add_switch_with(alloc, option, argument)
+    }
+
+    /// Takes the language that is in force from here on.
+    fn set_language(&mut self, alloc: Global, argument: &[u8]) -> Result<(), AllocError>
+        ensures { OnOk result (self.new ≡ noted self.old (item given.Language [] argument.now)) }
+    {
+        self.language = language_for(alloc, argument)?;
+        Ok(())
+    }
+
+    /// Adds a library.
+    fn add_library(
+        &mut self,
+        alloc: Global,
+        option: &[u8],
+        argument: &[u8],
+    ) -> Result<(), AllocError>
+        ensures { OnOk result (self.new ≡ noted self.old (item given.Library option.now argument.now)) }
+    {
+        self.add_input(Input::Library(joined(alloc, option, argument)?))
     }
 
     /// Adds all that an item gives.
@@ -187,41 +280,17 @@ impl LineBuilder {
         ensures { OnOk result (self.new ≡ noted self.old (item effect option.now argument.now)) }
     {
         match effect {
-            Effect::TurnsOn(setting) => {
-                self.turn_on(setting);
-                if !setting.is_switch_too() {
-                    return Ok(());
-                }
-                self.add_switch(Word::from_bytes(alloc, name_of(option))?, None)
-            }
-            Effect::Switch => self.add_switch(Word::from_bytes(alloc, name_of(option))?, None),
+            Effect::TurnsOn(setting) => self.add_setting(alloc, setting, option),
+            Effect::Switch => self.add_name(alloc, option),
             Effect::SwitchWithArgument => self.add_switch_with(alloc, option, argument),
-            Effect::JoinedSwitch => self.add_switch(joined_name(alloc, option, argument)?, None),
-            Effect::Specs => {
-                self.line
-                    .settings
-                    .specs
-                    .push(Word::from_bytes(alloc, argument)?)?;
-                self.add_switch(joined(alloc, b"specs=", argument)?, None)
-            }
-            Effect::Prefix => {
-                self.line
-                    .settings
-                    .prefixes
-                    .push(Word::from_bytes(alloc, argument)?)?;
-                self.add_switch(joined_name(alloc, option, argument)?, None)
-            }
-            Effect::Output => {
-                self.line.settings.output = Some(Word::from_bytes(alloc, argument)?);
-                self.add_switch_with(alloc, option, argument)
-            }
-            Effect::Language => {
-                self.language = language_for(alloc, argument)?;
-                Ok(())
-            }
-            Effect::Library => self.add_input(Input::Library(joined(alloc, option, argument)?)),
+            Effect::JoinedSwitch => self.add_joined_name(alloc, option, argument),
+            Effect::Specs => self.add_specs(alloc, argument),
+            Effect::Prefix => self.add_prefix(alloc, option, argument),
+            Effect::Output => self.set_output(alloc, option, argument),
+            Effect::Language => self.set_language(alloc, argument),
+            Effect::Library => self.add_library(alloc, option, argument),
             Effect::Pieces(tool) => self.add_pieces(alloc, tool, argument),
-            Effect::Piece(tool) => self.add_piece(tool, Word::from_bytes(alloc, argument)?),
+            Effect::Piece(tool) => self.add_piece(alloc, tool, argument),
             Effect::Jobs => {
                 self.set_jobs(argument);
                 Ok(())

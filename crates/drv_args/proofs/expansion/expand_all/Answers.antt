@@ -1,4 +1,4 @@
-use Rattle.drv_args.proofs.Expanding.{end_goes, expands_refused, itself_goes, large_refused, many_refused, text_goes}
+use Rattle.drv_args.proofs.Expanding.{end_goes, expands_memory, expands_refused, itself_goes, large_refused, many_refused, text_goes}
 use Rattle.drv_system.proofs.Asking.{asks_extends, asks_then, extends_then}
 use Rattle.drv_args.specs.Replacing.{IsReplaced}
 use Rattle.std.proofs.Common.{◌≡◌, ◌-◌, List, length, Ok, Option, arith, inr, refl, subst, ℕ}
@@ -42,3 +42,21 @@ returns-clause-expands g c F e =
     let none : length c.loop-word.stack.items ≡ 0 = omega (arith, c.loop-word.stack.ok, c.in_default.ensures.cases.0) in
     let empty = nil_from_length c.loop-word.stack.items none in
     (c.loop-word.left, end_goes F c.loop-word.left c.loop-word.stack.items c.loop-word.words c.args.args empty (c.loop-word.invariant.goes F e), refl)
+
+pub returns-in_err-replacement-clause-asks : goal.returns-in_err-replacement-clause-asks
+returns-in_err-replacement-clause-asks g c = asks_then c.loop-word.invariant.asks c.replacement.ensures.asks
+
+pub returns-in_err-push-in-None-clause-asks : goal.returns-in_err-push-in-None-clause-asks
+returns-in_err-push-in-None-clause-asks g c = asks_then c.loop-word.invariant.asks c.replacement.ensures.asks
+
+pub returns-in_err-push-in-None-clause-expands : goal.returns-in_err-push-in-None-clause-expands
+returns-in_err-push-in-None-clause-expands g c F e = expands_memory F c.args.args _ c.from_residual-in_err-push-in-None.ensures.1
+
+pub returns-in-Some-2-clause-asks : goal.returns-in-Some-2-clause-asks
+returns-in-Some-2-clause-asks g c = asks_then c.loop-word.invariant.asks c.replacement.ensures.asks
+
+pub returns-in_err-push_reversed-in-Some-2-2-clause-asks : goal.returns-in_err-push_reversed-in-Some-2-2-clause-asks
+returns-in_err-push_reversed-in-Some-2-2-clause-asks g c = asks_then c.loop-word.invariant.asks c.replacement.ensures.asks
+
+pub returns-in_err-push_reversed-in-Some-2-2-clause-expands : goal.returns-in_err-push_reversed-in-Some-2-2-clause-expands
+returns-in_err-push_reversed-in-Some-2-2-clause-expands g c F e = expands_memory F c.args.args _ c.from_residual-in_err-push_reversed-in-Some-2-2.ensures.1

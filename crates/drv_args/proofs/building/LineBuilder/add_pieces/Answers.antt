@@ -13,8 +13,8 @@ loop-piece-init c = no_pieces c.args.tool c.args.self.now
 
 pub loop-piece-preserved : goal.loop-piece-preserved
 loop-piece-preserved c =
-    next_pieces c.args.tool c.args.self.now c.loop-piece.self c.add_piece.new.self (map (λ piece. piece.now) c.loop-piece.yielded) _ c.in_ok-from_bytes.field-0 c.in-Some.piece.now
-    c.loop-piece.invariant c.in_ok-from_bytes.ensures c.in_ok-add_piece.ensures (map-append (λ piece. piece.now) c.loop-piece.yielded (c.in-Some.piece ∷ []))
+    next_pieces c.args.tool c.args.self.now c.loop-piece.self c.add_piece.new.self (map (λ piece. piece.now) c.loop-piece.yielded) _ c.in-Some.piece.now
+    c.loop-piece.invariant c.in_ok-add_piece.ensures (map-append (λ piece. piece.now) c.loop-piece.yielded (c.in-Some.piece ∷ []))
 
 pub returns : goal.returns
 returns c =
