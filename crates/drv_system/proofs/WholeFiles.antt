@@ -1,10 +1,11 @@
+use Rattle.drv_system.specs.Limit.{is_too_large}
 use Rattle.drv_system.specs.Reading.{ReadsAs}
 use Rattle.drv_system.specs.declared.event.ReadAnswer.TheVariants.{Read, TooLarge}
 use Rattle.std.proofs.Common.{ap, sym, ◌∙◌, arith}
 use Rattle.std.proofs.lemmas.Bool.Decides.{nat_tests}
 use Rattle.std.proofs.lemmas.List.{append-nil, length-append}
 use Rattle.std.specs.Io.KnownBytes.{Consumes, IsAtEnd}
-use Rattle.std.specs.Prelude.{◌≡◌, ◌<◌, ◌+◌, List, [], ◌++◌, None, Option, Some, length, nat_lt, true, ℕ}
+use Rattle.std.specs.Prelude.{◌≡◌, ◌<◌, ◌≤◌, ◌+◌, List, [], ◌++◌, None, Option, Some, false, length, nat_lt, true, ℕ}
 
 -- What was read of a file, in all.
 
@@ -30,3 +31,10 @@ too_large (Some xs) (Some ys) (Some zs) bytes taken before now over =
     let size : length xs ≡ length bytes + (length taken + length zs) =
     ap length (before ∙ ap (λ rest. bytes ++ rest) now) ∙ length-append bytes (taken ++ zs) ∙ ap (λ k. length bytes + k) (length-append taken zs) in
     ap (λ k. nat_lt 16777216 k) size ∙ larger (length bytes) (length taken) 16777216 over (length zs)
+
+-- within what it may hold
+few : (n : ℕ) → n ≤ 16777216 → nat_lt 16777216 n ≡ false
+few n le = grind (arith, nat_tests)
+
+pub within_limit : (bytes word : List ℕ) → length bytes ≤ 16777216 → word ≡ bytes → is_too_large word ≡ false
+within_limit bytes word le is = ap is_too_large is ∙ few (length bytes) le

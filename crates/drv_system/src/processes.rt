@@ -17,8 +17,13 @@ fn add_words(made: &mut process::Command, words: &[Word]) -> io::Result<()> {
     Ok(())
 }
 
-/// Has a command read the end that is given.
-fn read_from(made: &mut process::Command, pending: &Option<PipeReader>) -> io::Result<()> {
+/// Adds the words of a command, and has it read the end that is given.
+fn prepare(
+    made: &mut process::Command,
+    words: &[Word],
+    pending: &Option<PipeReader>,
+) -> io::Result<()> {
+    add_words(made, words)?;
     if let Some(reader) = pending {
         made.stdin(reader.try_clone()?);
     }
@@ -33,8 +38,7 @@ fn command_of(
 ) -> io::Result<process::Command> {
     let program = text(command.program.as_bytes())?;
     let mut made = process::Command::new(alloc, program)?;
-    add_words(&mut made, command.words.as_slice())?;
-    read_from(&mut made, pending)?;
+    prepare(&mut made, command.words.as_slice(), pending)?;
     Ok(made)
 }
 
@@ -50,6 +54,20 @@ fn spawn_into_pipe(
     Ok((made.spawn(rt)?, Some(reader)))
 }
 
+/// Starts a command, which writes a new pipe or this process's standard output.
+fn spawn_made(
+    rt: &HostRuntime,
+    made: &mut process::Command,
+    to_pipe: bool,
+) -> io::Result<(Child, Option<PipeReader>)>
+    ensures { IfOk result (λ started. is_some started.1 ≡ to_pipe) }
+{
+    if to_pipe {
+        return spawn_into_pipe(rt, made);
+    }
+    Ok((made.spawn(rt)?, None))
+}
+
 /// Starts a command. It reads the end that is given, or else this process's standard input, and writes a new pipe, whose other end
 /// is given back, or else this process's standard output.
 pub fn spawn(
@@ -62,10 +80,7 @@ pub fn spawn(
     ensures { IfOk result (λ started. is_some started.1 ≡ to_pipe) }
 {
     let mut made = command_of(alloc, command, pending)?;
-    if to_pipe {
-        return spawn_into_pipe(rt, &mut made);
-    }
-    Ok((made.spawn(rt)?, None))
+    spawn_made(rt, &mut made, to_pipe)
 }
 
 /// The text of a word, or the error that it is none.

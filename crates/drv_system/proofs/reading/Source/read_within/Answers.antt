@@ -1,4 +1,4 @@
-use Rattle.drv_system.proofs.WholeFiles.{too_large, whole}
+use Rattle.drv_system.proofs.WholeFiles.{too_large, whole, within_limit}
 use Rattle.std.proofs.Common.{◌+◌, ◌<◌, ap, arith, length, take}
 use Rattle.std.proofs.lemmas.Grind.{common_steps}
 use Rattle.drv_system.proofs.reading.Source.read_within.Goals as goal
@@ -11,3 +11,6 @@ pub returns-then-count-len-clause-read : goal.returns-then-count-len-clause-read
 returns-then-count-len-clause-read g c =
     let over : 16777216 < length c.loop.bytes.items + length (take c.in-Ok.count c.read.new.buffer) = grind (arith, common_steps) in
     too_large _ _ _ _ (take c.in-Ok.count c.read.new.buffer) c.loop.invariant.left c.in-Ok.ensures.bytes.0 over
+
+pub returns-in-Ok-eq0-clause-within : goal.returns-in-Ok-eq0-clause-within
+returns-in-Ok-eq0-clause-within g c = within_limit _ _ c.loop.invariant.within c.from_vec.ensures
