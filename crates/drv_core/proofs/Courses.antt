@@ -12,6 +12,7 @@ use Rattle.drv_core.proofs.Whole.{file_at, no_file}
 use Rattle.drv_core.specs.Filled.{Filled}
 use Rattle.drv_core.specs.Course.{Course, Done, Link, Phase, Removals, Report, Sources, asked_at, asked_by, behind_link, behind_sources, fresh_course, link_by, link_of, linking, removed, removes, removing, reports, run_code, sourced, stepped, stepped_at}
 use Rattle.drv_core.specs.Fleet.{able, asked_of, fresh_fleet, selected, stage_in, taken}
+use Rattle.drv_core.specs.Leftovers.{all_files}
 use Rattle.drv_core.specs.Machine.{ClaimReport, Claims, Closing, Ended, RemovalReport, Removals as OwnRemovals, Stage, StartReport, Starts, WaitReport, Waits, after, asks, begin, inside, is_kind, left}
 use Rattle.drv_core.specs.Needed.{needed}
 use Rattle.drv_core.specs.Outcomes.{status_from, status_of}
@@ -30,7 +31,7 @@ use Rattle.drv_words.specs.declared.steps.Note.TheVariants as note
 use Rattle.drv_words.specs.declared.steps.RunEvent.{RunEvent}
 use Rattle.drv_words.specs.declared.steps.Step.{Step}
 use Rattle.drv_words.specs.declared.steps.Step.TheVariants as step
-use Rattle.std.proofs.Common.{◌≡◌, ◌⊎◌, ◌<◌, ◌≤◌, ◌+◌, ◌∙◌, Bool, false, true, List, [], ◌∷◌, ◌++◌, None, Option, Some, ap, arith, drop, get_or, if◌then◌else◌, inl, inr, length, nat_eq, not, refl, subst, sym, ℕ}
+use Rattle.std.proofs.Common.{◌≡◌, ◌⊎◌, ◌<◌, ◌≤◌, ◌+◌, ◌-◌, ◌*◌, ◌∙◌, Bool, false, true, List, [], ◌∷◌, ◌++◌, None, Option, Some, ap, arith, drop, get_or, if◌then◌else◌, inl, inr, length, nat_eq, not, refl, subst, sym, ℕ}
 use Rattle.std.proofs.lemmas.List.Sums.{sum_by-cons}
 use Rattle.std.proofs.lemmas.List.{drop_more}
 use Rattle.std.specs.List.{sum_by}
@@ -85,6 +86,12 @@ fresh_holds plan N some filled = sourced_holds plan N (record { phase = Sources;
 
 -- one step
 
+no : false ≡ true → ⊥
+no e = absurd cc
+
+none_asked : (s : Step) → None ≡ Some s → ⊥
+none_asked s e = absurd cc
+
 same_some : (s t : Step) → Some s ≡ Some t → s ≡ t
 same_some s t e = ap asked e
 
@@ -124,7 +131,7 @@ removal_answered plan N c h remove.Failed = removal_fails plan N c h
 removal_of_kind : (plan : Plan) (N : ℕ) (c : Course) (h : AtEnd plan N false c) (a : Answer) → is_kind (step.Remove (file_at (end_files plan N h.i false c.events h.ending) h.i).place) a ≡ true
     → Holds plan N (removed (record c { events = c.events ++ event (step.Remove (file_at (end_files plan N h.i false c.events h.ending) h.i).place) a ∷ [] }) a)
 removal_of_kind plan N c h (answer.Remove x) kind = removal_answered plan N c h x
-removal_of_kind plan N c h a kind = absurd cc
+removal_of_kind plan N c h a kind = absurd (no kind)
 
 removal_step : (plan : Plan) (N : ℕ) (c : Course) (s : Step) (a : Answer) → AtEnd plan N false c → removes c.due ≡ Some s → is_kind s a ≡ true → Holds plan N (removed (record c { events = c.events ++ event s a ∷ [] }) a)
 removal_step plan N c s a h is kind = subst (λ t. Holds plan N (removed (record c { events = c.events ++ event t a ∷ [] }) a)) asks_is (removal_of_kind plan N c h a (subst (λ t. is_kind t a ≡ true) (sym asks_is) kind))
@@ -135,7 +142,7 @@ removal_step plan N c s a h is kind = subst (λ t. Holds plan N (removed (record
 report_of_kind : (plan : Plan) (N : ℕ) (c : Course) (h : AtEnd plan N true c) (a : Answer) → is_kind (step.Report (note.NotRemoved (file_at (end_files plan N h.i true c.events h.ending) h.i).place)) a ≡ true
     → Holds plan N (removing (record c { events = c.events ++ event (step.Report (note.NotRemoved (file_at (end_files plan N h.i true c.events h.ending) h.i).place)) a ∷ [] }) (drop 1 c.due))
 report_of_kind plan N c h (answer.Reported t) kind = report_passes plan N c h t
-report_of_kind plan N c h a kind = absurd cc
+report_of_kind plan N c h a kind = absurd (no kind)
 
 report_step : (plan : Plan) (N : ℕ) (c : Course) (s : Step) (a : Answer) → AtEnd plan N true c → reports c.due ≡ Some s → is_kind s a ≡ true → Holds plan N (removing (record c { events = c.events ++ event s a ∷ [] }) (drop 1 c.due))
 report_step plan N c s a h is kind = subst (λ t. Holds plan N (removing (record c { events = c.events ++ event t a ∷ [] }) (drop 1 c.due))) asks_is (report_of_kind plan N c h a (subst (λ t. is_kind t a ≡ true) (sym asks_is) kind))
@@ -151,22 +158,22 @@ steps plan N c s a some filled h is kind = by c.phase h is
     by Link held asks_is = link_step plan N c s a filled held asks_is kind
     by Removals held asks_is = removal_step plan N c s a held asks_is kind
     by Report held asks_is = report_step plan N c s a held asks_is kind
-    by Done held asks_is = absurd cc
+    by Done held asks_is = absurd (none_asked s asks_is)
 
 -- another source is chosen
 pub selected_holds : (plan : Plan) (N : ℕ) (c : Course) (k : ℕ) → between_blocks c.phase c.fleet ≡ true → Holds plan N c → k < length (able plan.jobs c.fleet) → Holds plan N (record c { fleet = selected plan.jobs c.fleet k })
 selected_holds plan N c k e h lt = by c.phase e h
   where
     out : (t : Bool) → not t ≡ true → t ≡ false
-    out true e = absurd cc
+    out true e = absurd (no e)
     out false e = refl
 
     by : (p : Phase) → between_blocks p c.fleet ≡ true → HoldsAt plan N p c → HoldsAt plan N p (record c { fleet = selected plan.jobs c.fleet k })
     by Sources between held = sure_selected plan.jobs N (most_of plan) c.fleet c.events k held (out (inside (stage_in c.fleet c.fleet.current)) between) lt
-    by Link between held = absurd cc
-    by Removals between held = absurd cc
-    by Report between held = absurd cc
-    by Done between held = absurd cc
+    by Link between held = absurd (no between)
+    by Removals between held = absurd (no between)
+    by Report between held = absurd (no between)
+    by Done between held = absurd (no between)
 
 -- what is known of it
 
@@ -200,35 +207,61 @@ holds_makes plan N c s h is = by c.phase h is
     by Link held e = subst (λ t. can_make plan c.events t ≡ true) (ap (λ l. asked (asks (length plan.jobs) (link_of l) c.link)) (sym held.is) ∙ ap asked e) (link_makes plan N (most_of plan + first_cost held.job) held.job c.link c.events held.is held.linked held.more)
     by Removals held e = subst (λ t. can_make plan c.events t ≡ true) (ap (λ l. asked (removes l)) (sym (next_is_first plan N false c held)) ∙ ap asked e) (file_there plan N held.i false c.events held.ending held.some)
     by Report held e = subst (λ t. can_make plan c.events t ≡ true) (ap (λ l. asked (reports l)) (sym (next_is_first plan N true c held)) ∙ ap asked e) (file_there plan N held.i true c.events held.ending held.some)
-    by Done held e = absurd cc
+    by Done held e = absurd (none_asked s e)
+
+-- what the events so far may come to
+
+below : (n few most : ℕ) → n < few → few ≤ most → n < most
+below n few most lt le = omega arith
+
+above : (n few : ℕ) → n < few → n ≤ few
+above n few lt = omega arith
+
+-- two more come for each file that is left, of which one may have come
+two_more : (n i files more most : ℕ) → more ≤ 1 → i < files → n + 2 * (files - i) ≤ most + more → n < most
+two_more n i files more most one some fits = omega arith
+
+first_part : (sources links files most : ℕ) → sources + links + files ≤ most → sources ≤ most
+first_part sources links files most fits = omega arith
+
+two_parts : (sources links files most one rest : ℕ) → sources + links + files ≤ most → links ≡ one + rest → sources + one ≤ most
+two_parts sources links files most one rest fits is = omega arith
 
 few_sources : (plan : Plan) → most_of plan ≤ needed plan
-few_sources plan = let fits = run_fits plan in omega (arith, fits)
+few_sources plan = first_part (most_of plan) (sum_by first_cost (option_to_list plan.link)) (2 * length (all_files plan)) (needed plan) (run_fits plan)
 
 few_with_link : (plan : Plan) (job : Job) → plan.link ≡ Some job → most_of plan + first_cost job ≤ needed plan
-few_with_link plan job is =
-    let fits = run_fits plan in
-    let cost : sum_by first_cost (option_to_list plan.link) ≡ first_cost job + sum_by first_cost [] = ap (λ l. sum_by first_cost (option_to_list l)) is ∙ sum_by-cons first_cost job [] in
-    omega (arith, fits, cost)
+few_with_link plan job is = two_parts (most_of plan) (sum_by first_cost (option_to_list plan.link)) (2 * length (all_files plan)) (needed plan) (first_cost job) (sum_by first_cost []) (run_fits plan)
+    (ap (λ l. sum_by first_cost (option_to_list l)) is ∙ sum_by-cons first_cost job [])
+
+fewer_at_end : (plan : Plan) (N : ℕ) (failed : Bool) (c : Course) → AtEnd plan N failed c → length c.events < needed plan
+fewer_at_end plan N failed c h = two_more (length c.events) h.i (length (end_files plan N h.i failed c.events h.ending)) (if failed then 1 else 0) (needed plan) (at_most_one failed) h.some h.bound
+  where
+    at_most_one : (t : Bool) → (if t then 1 else 0) ≤ 1
+    at_most_one true = omega arith
+    at_most_one false = omega arith
 
 pub holds_fewer : (plan : Plan) (N : ℕ) (c : Course) (s : Step) → Holds plan N c → asked_by plan c ≡ Some s → length c.events < needed plan
 holds_fewer plan N c s h is = by c.phase h is
   where
     by : (p : Phase) → HoldsAt plan N p c → asked_at plan p c ≡ Some s → length c.events < needed plan
-    by Sources held e = let lt = sure_fewer plan.jobs N (most_of plan) c.fleet c.events held in let few = few_sources plan in omega (arith, lt, few)
-    by Link held e = let lt = link_fewer plan N (most_of plan + first_cost held.job) held.job c.link c.events held.linked held.more in let few = few_with_link plan held.job held.is in omega (arith, lt, few)
-    by Removals held e = let le = held.bound in let lt = held.some in omega (arith, le, lt)
-    by Report held e = let le = held.bound in let lt = held.some in omega (arith, le, lt)
-    by Done held e = absurd cc
+    by Sources held e = below (length c.events) (most_of plan) (needed plan) (sure_fewer plan.jobs N (most_of plan) c.fleet c.events held) (few_sources plan)
+    by Link held e = below (length c.events) (most_of plan + first_cost held.job) (needed plan) (link_fewer plan N (most_of plan + first_cost held.job) held.job c.link c.events held.linked held.more) (few_with_link plan held.job held.is)
+    by Removals held e = fewer_at_end plan N false c held
+    by Report held e = fewer_at_end plan N true c held
+    by Done held e = absurd (none_asked s e)
 
 pub holds_bound : (plan : Plan) (N : ℕ) (c : Course) → Holds plan N c → length c.events ≤ needed plan
 holds_bound plan N c h = by c.phase h
   where
+    fewer : length c.events < needed plan → length c.events ≤ needed plan
+    fewer lt = above (length c.events) (needed plan) lt
+
     by : (p : Phase) → HoldsAt plan N p c → length c.events ≤ needed plan
-    by Sources held = let lt = sure_fewer plan.jobs N (most_of plan) c.fleet c.events held in let few = few_sources plan in omega (arith, lt, few)
-    by Link held = let lt = link_fewer plan N (most_of plan + first_cost held.job) held.job c.link c.events held.linked held.more in let few = few_with_link plan held.job held.is in omega (arith, lt, few)
-    by Removals held = let le = held.bound in let lt = held.some in omega (arith, le, lt)
-    by Report held = let le = held.bound in let lt = held.some in omega (arith, le, lt)
+    by Sources held = fewer (below (length c.events) (most_of plan) (needed plan) (sure_fewer plan.jobs N (most_of plan) c.fleet c.events held) (few_sources plan))
+    by Link held = fewer (below (length c.events) (most_of plan + first_cost held.job) (needed plan) (link_fewer plan N (most_of plan + first_cost held.job) held.job c.link c.events held.linked held.more) (few_with_link plan held.job held.is))
+    by Removals held = fewer (fewer_at_end plan N false c held)
+    by Report held = fewer (fewer_at_end plan N true c held)
     by Done held = held.bound
 
 -- where nothing is asked for, the events are a whole run
@@ -238,8 +271,8 @@ holds_whole plan N c h is = by c.phase h is
     by : (p : Phase) → HoldsAt plan N p c → asked_at plan p c ≡ None → IsWhole plan N c.events
     by Sources held e = absurd (left_asks c.fleet.current (get_or plan.jobs c.fleet.current no_job) (stage_in c.fleet c.fleet.current) (ap left (held.going.at c.fleet.current) ∙ held.going.more) e)
     by Link held e = absurd (left_asks (length plan.jobs) (link_of plan.link) c.link held.more e)
-    by Removals held e = absurd (let clash : Some (step.Remove (file_at (end_files plan N held.i false c.events held.ending) held.i).place) ≡ None = ap removes (sym (next_is_first plan N false c held)) ∙ e in cc)
-    by Report held e = absurd (let clash : Some (step.Report (note.NotRemoved (file_at (end_files plan N held.i true c.events held.ending) held.i).place)) ≡ None = ap reports (sym (next_is_first plan N true c held)) ∙ e in cc)
+    by Removals held e = absurd (none_asked (step.Remove (file_at (end_files plan N held.i false c.events held.ending) held.i).place) (sym (ap removes (sym (next_is_first plan N false c held)) ∙ e)))
+    by Report held e = absurd (none_asked (step.Report (note.NotRemoved (file_at (end_files plan N held.i true c.events held.ending) held.i).place)) (sym (ap reports (sym (next_is_first plan N true c held)) ∙ e)))
     by Done held e = end_whole plan N held.i c.events held.ending held.all
 
 pub whole_status : (plan : Plan) (N : ℕ) (E : List RunEvent) (pass_codes : Bool) → (w : IsWhole plan N E) → status_from pass_codes (run_code E) ≡ status_of pass_codes w.o

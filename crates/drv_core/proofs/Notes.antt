@@ -1,14 +1,15 @@
 use Rattle.drv_core.proofs.Order.{same}
+use Rattle.drv_core.specs.Counting.{fresh_remains}
 use Rattle.drv_core.specs.LeftoverView.{left_of, lefts_of}
 use Rattle.drv_core.specs.Numbering.{Noted, Noting, first_with, lefts}
 use Rattle.drv_core.specs.Outcomes.{File}
-use Rattle.drv_core.specs.Remains.{Left}
+use Rattle.drv_core.specs.Remains.{Left, Remains}
 use Rattle.drv_core.specs.declared.leftovers.Leftover.{Leftover}
 use Rattle.drv_words.specs.declared.steps.Place.{Place}
-use Rattle.std.proofs.Common.{◌≡◌, ◌+◌, ◌∙◌, Bool, false, true, List, [], ◌∷◌, ◌++◌, None, Option, Some, ap, append-nil, append_assoc, arith, cond, drop, if◌then◌else◌, length, nat_eq, refl, subst, suc, sym, unwrap_or, zero, ℕ}
+use Rattle.std.proofs.Common.{◌≡◌, ◌<◌, ◌≤◌, ◌+◌, ◌∙◌, Bool, false, true, List, [], ◌∷◌, ◌++◌, None, Option, Some, ap, append-nil, append_assoc, arith, cond, drop, get_or, if◌then◌else◌, length, nat_eq, refl, replicate, subst, suc, sym, unwrap_or, zero, ℕ}
 use Rattle.std.proofs.lemmas.Cmp.{nat_eq_equiv}
 use Rattle.std.proofs.lemmas.Cmp.{nat_list_eq_equiv}
-use Rattle.std.proofs.lemmas.List.{length-map, map-append}
+use Rattle.std.proofs.lemmas.List.{drop_all, drop_more, length-map, map-append}
 use Rattle.std.specs.Cmp.Lexicographic.{pointwise, same_text}
 
 -- Files, and the numbers of their paths.
@@ -98,6 +99,20 @@ noting_ends all files find h = subst (λ l. Noted l files find) (sym (append-nil
 pub noting_on : (all more rest : List File) (files new : List Left) (find now : List ℕ → Option ℕ) → Noting all (more ++ rest) files find → ((before : List File) → Noted before files find → Noted (before ++ more) new now) → Noting all rest new now
 noting_on all more rest files new find now h goes = record { before = h.before ++ more; parts = append_assoc h.before more rest ∙ h.parts; noted = goes h.before h.noted }
 
+-- the files of a list's items, of which the next are noted
+pub noting_next : {X : Type 0} (from : ℕ → List X → List File) (one : ℕ → X → List File) (all : List File) (xs : List X) (i : ℕ) (x : X) (files new : List Left) (find now : List ℕ → Option ℕ)
+    → ((rest : List X) → from i (x ∷ rest) ≡ one i x ++ from (i + 1) rest) → x ≡ get_or xs i x → i < length xs
+    → Noting all (from i (drop i xs)) files find → ((before : List File) → Noted before files find → Noted (before ++ one i x) new now) → Noting all (from (i + 1) (drop (i + 1) xs)) new now
+noting_next from one all xs i x files new find now steps is here h goes =
+    noting_on all (one i x) (from (i + 1) (drop (i + 1) xs)) files new find now
+    (subst (λ l. Noting all l files find) (ap (λ l. from i l) (drop_more xs i x here) ∙ ap (λ y. from i (y ∷ drop (i + 1) xs)) (sym is) ∙ steps (drop (i + 1) xs)) h) goes
+
+-- and none are left
+pub noting_all : {X : Type 0} (from : ℕ → List X → List File) (before : List File) (xs all : List X) (i : ℕ) (files : List Left) (find : List ℕ → Option ℕ)
+    → from i [] ≡ [] → length xs ≤ i → xs ≡ all → Noting (before ++ from 0 xs) (from i (drop i xs)) files find → Noted (before ++ from 0 all) files find
+noting_all from before xs all i files find none past is h = subst (λ l. Noted (before ++ from 0 l) files find) is
+    (noting_ends (before ++ from 0 xs) files find (subst (λ l. Noting (before ++ from 0 xs) l files find) (ap (λ l. from i l) (drop_all i xs past) ∙ none) h))
+
 -- none was there before
 pub noted_none : (files : List Leftover) (find : List ℕ → Option ℕ) → files ≡ [] → ((p : List ℕ) → find p ≡ None) → Noted [] (lefts_of files) find
 noted_none files find no_files none = record { files_are = ap lefts_of no_files; found = none }
@@ -106,6 +121,19 @@ noted_none files find no_files none = record { files_are = ap lefts_of no_files;
 pub noted_file : (before : List File) (files new : List Leftover) (find now : List ℕ → Option ℕ) (place : Place) (path : List ℕ) (first n : ℕ) → Noted before (lefts_of files) find → n ≡ length files → first ≡ unwrap_or (find path) n
     → new ≡ files ++ record { place = place; first = first } ∷ [] → ((p : List ℕ) → now p ≡ (if nat_eq first n then cond (pointwise nat_eq path p) (Some n) (find p) else find p)) → Noted (before ++ file_of place path ∷ []) (lefts_of new) now
 noted_file before files new find now place path first n h many is e found = noted_more before (lefts_of files) (lefts_of new) find now place path first n h (many ∙ sym (length-map files left_of)) is (ap lefts_of e ∙ map-append left_of files (record { place = place; first = first } ∷ [])) found
+
+-- at the beginning, when nothing was claimed or removed
+abbrev at_first : List Left → List Bool → List ℕ → ℕ → Remains
+at_first files gone claimed sources = record { files = files; gone = gone; claimed = claimed; sources = sources; linked = false; at = 0 }
+
+pub fresh_made : (files : List Leftover) (named : List Left) (gone : List Bool) (claimed pushed : List ℕ) (n m k sources : ℕ)
+    → lefts_of files ≡ named → gone ≡ replicate n false → n ≡ length files → claimed ≡ replicate m 0 → m ≡ sources → pushed ≡ claimed ++ 0 ∷ [] → k ≡ sources
+    → at_first (lefts_of files) gone pushed k ≡ fresh_remains named sources
+fresh_made files named gone claimed pushed n m k sources named_is none_gone many none_claimed each one_more all =
+    ap (λ l. at_first (lefts_of files) l pushed k) (none_gone ∙ ap (λ i. replicate i false) (many ∙ sym (length-map files left_of)))
+    ∙ ap (λ l. at_first l (replicate (length l) false) pushed k) named_is
+    ∙ ap (λ l. at_first named (replicate (length named) false) l k) (one_more ∙ ap (λ l. l ++ 0 ∷ []) (none_claimed ∙ ap (λ i. replicate i 0) each))
+    ∙ ap (λ i. at_first named (replicate (length named) false) (replicate sources 0 ++ 0 ∷ []) i) all
 
 pub drop_lefts : (n : ℕ) (files : List Leftover) → lefts_of (drop n files) ≡ drop n (lefts_of files)
 drop_lefts zero files = refl
