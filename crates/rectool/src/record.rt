@@ -9,16 +9,21 @@ use drv_system::{HostSystem, ReadAnswer, System, read_to_end};
 use drv_words::{Command, Listing, PlanLine, Word, render};
 use std::alloc::{AllocError, Global};
 
-/// The line of the call, as `-###` prints it.
-fn line(alloc: Global, words: &[Word]) -> Result<Word, AllocError> {
+/// Copies of words.
+fn copies_of(alloc: Global, words: &[Word]) -> Result<Listing<Word>, AllocError> {
     let mut copies = Listing::new(alloc);
     for word in words {
         copies.push(word.clone()?)?;
     }
+    Ok(copies)
+}
+
+/// The line of the call, as `-###` prints it.
+fn line(alloc: Global, words: &[Word]) -> Result<Word, AllocError> {
     let line = PlanLine {
         command: Command {
             program: Word::from_bytes(alloc, b"rectool")?,
-            words: copies,
+            words: copies_of(alloc, words)?,
         },
         piped: false,
     };
@@ -33,23 +38,42 @@ fn push_input(alloc: Global, record: &mut Word, bytes: &[u8]) -> Result<(), Allo
     record.push(b'\n')
 }
 
+/// Adds what files hold. One that can't be read is left out.
+fn push_files(rt: &HostRuntime, record: &mut Word, paths: &[Word]) -> Result<(), AllocError> {
+    let mut sys = HostSystem::new(rt.clone()?);
+    for path in paths {
+        if let ReadAnswer::Read(bytes) = sys.read_file(path)? {
+            push_input(rt.alloc(), record, bytes.as_bytes())?;
+        }
+    }
+    Ok(())
+}
+
+/// Adds what standard input holds, and answers whether it could be read.
+fn push_standard_input(rt: &HostRuntime, record: &mut Word) -> Result<bool, AllocError> {
+    match read_to_end(rt.alloc(), rt.stdin())? {
+        ReadAnswer::Read(bytes) => {
+            push_input(rt.alloc(), record, bytes.as_bytes())?;
+            Ok(true)
+        }
+        _ => Ok(false),
+    }
+}
+
+/// Adds what these inputs hold, and answers whether there is a record. Standard input is the one input where no word can be one.
+fn push_inputs(rt: &HostRuntime, record: &mut Word, inputs: &[Word]) -> Result<bool, AllocError> {
+    if inputs.is_empty() {
+        return push_standard_input(rt, record);
+    }
+    push_files(rt, record, inputs)?;
+    Ok(true)
+}
+
 /// The record of a call. An input that can't be read is left out. Standard input is the one input where no word can be one; the
 /// record is none where that can't be read.
 pub fn recorded(rt: &HostRuntime, words: &[Word]) -> Result<Option<Word>, AllocError> {
-    let alloc = rt.alloc();
-    let mut record = line(alloc, words)?;
-    let mut sys = HostSystem::new(rt.clone()?);
-    let inputs = inputs(alloc, words)?;
-    for path in inputs.as_slice() {
-        if let ReadAnswer::Read(bytes) = sys.read_file(path)? {
-            push_input(alloc, &mut record, bytes.as_bytes())?;
-        }
-    }
-    if inputs.is_empty() {
-        let ReadAnswer::Read(bytes) = read_to_end(alloc, rt.stdin())? else {
-            return Ok(None);
-        };
-        push_input(alloc, &mut record, bytes.as_bytes())?;
-    }
-    Ok(Some(record))
+    let inputs = inputs(rt.alloc(), words)?;
+    let mut record = line(rt.alloc(), words)?;
+    let is_read = push_inputs(rt, &mut record, inputs.as_slice())?;
+    Ok(if is_read { Some(record) } else { None })
 }
