@@ -66,14 +66,12 @@ prefix_given F dir kind (Ok prefix) bare known is = prefix_asked F dir prefix ki
 prefix_given F dir kind (Err e) bare known is = tt
 
 -- what is found under one prefix, where its machine's folder has nothing
-pub under_second : {E : Type 0} (F : Facts) (prefix name path path' : List ℕ) (hit : Option (List ℕ)) (result : Result (Option (List ℕ)) E)
-    → path ≡ prefix ++ machine_folder ++ name → path' ≡ prefix ++ name → found F (path ∷ []) ≡ Is hit → hit ≡ None
-    → IfOk result (λ h. found F (path' ∷ []) ≡ Is h) → IfOk result (λ h. found F (candidates_under name prefix) ≡ Is h)
-under_second F prefix name path path' hit (Err e) is is' first none second = tt
-under_second F prefix name path path' hit (Ok h) is is' first none second =
-    ap (λ p. found F (p ∷ (prefix ++ name) ∷ [])) (sym is)
-    ∙ found_later F (path ∷ []) ((prefix ++ name) ∷ []) (first ∙ ap Is none)
-    ∙ ap (λ p. found F (p ∷ [])) (sym is') ∙ second
+pub under_second : {E : Type 0} (F : Facts) (prefix name : List ℕ) (hit : Option (List ℕ)) (result : Result (Option (List ℕ)) E)
+    → found F ((prefix ++ machine_folder ++ name) ∷ []) ≡ Is hit → hit ≡ None
+    → IfOk result (λ h. found F ((prefix ++ name) ∷ []) ≡ Is h) → IfOk result (λ h. found F (candidates_under name prefix) ≡ Is h)
+under_second F prefix name hit (Err e) first none second = tt
+under_second F prefix name hit (Ok h) first none second =
+    found_later F ((prefix ++ machine_folder ++ name) ∷ []) ((prefix ++ name) ∷ []) (first ∙ ap Is none) ∙ second
 
 -- one prefix more, by its bytes, and what is left
 left_prefixes : (prefixes : List (List ℕ)) (i : ℕ) (prefix bytes : List ℕ) → i < length prefixes → prefix ≡ get_or prefixes i prefix → bytes ≡ prefix

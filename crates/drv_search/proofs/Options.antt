@@ -2,7 +2,7 @@ use Rattle.drv_search.specs.Search.{Adds, ends_with_slash, folders_under, is_dir
 use Rattle.drv_system.specs.Facts.{Facts, kind_of}
 use Rattle.drv_system.specs.Known.{◌>>=◌, Is, Known, Unasked, asked}
 use Rattle.drv_system.specs.declared.event.PathKind.{PathKind}
-use Rattle.std.proofs.Common.{◌≡◌, ◌<◌, ◌+◌, ◌∙◌, List, [], ◌∷◌, ◌++◌, None, Option, Some, ap, append_assoc, codes, drop, false, length, flat_map, refl, sym, true, ℕ}
+use Rattle.std.proofs.Common.{◌≡◌, ◌<◌, ◌+◌, ◌∙◌, List, [], ◌∷◌, ◌++◌, None, OnOk, Err, Ok, Option, Result, Some, ap, append_assoc, codes, drop, false, length, flat_map, refl, sym, true, ℕ}
 use Rattle.std.proofs.lemmas.List.{append-nil, drop_more}
 use Rattle.std.specs.Prelude.{get_or}
 
@@ -50,25 +50,25 @@ pub prefix_options : (F : Facts) (done after : List (List ℕ)) (prefix : List �
 prefix_options F done after prefix others (more, is, grown) = options_more F done after more (folders_under prefix) (flat_map folders_under others) is grown
 
 -- a folder that was asked for
-pub no_option : (F : Facts) (word folder : List ℕ) (kind : PathKind) (options : List (List ℕ)) → word ≡ folder → kind_of F word ≡ Some kind → is_dir kind ≡ false → Adds (options_for F (folder ∷ [])) options options
-no_option F word folder kind options is known bare = ([], ap (λ path. options_for F (path ∷ [])) (sym is) ∙ rw (known, bare) refl, sym (append-nil options))
+pub no_option : (F : Facts) (folder : List ℕ) (kind : PathKind) (options : List (List ℕ)) → kind_of F folder ≡ Some kind → is_dir kind ≡ false → Adds (options_for F (folder ∷ [])) options options
+no_option F folder kind options known bare = ([], rw (known, bare) refl, sym (append-nil options))
 
-pub one_option : (F : Facts) (word folder option : List ℕ) (kind : PathKind) (options after : List (List ℕ)) → word ≡ folder → kind_of F word ≡ Some kind → is_dir kind ≡ true
-    → option ≡ codes "-L" ++ word → after ≡ options ++ option ∷ [] → Adds (options_for F (folder ∷ [])) options after
-one_option F word folder option kind options after is known folds named grown = (option ∷ [], ap (λ path. options_for F (path ∷ [])) (sym is) ∙ rw (known, folds, named) refl, grown)
+pub one_option : (F : Facts) (folder option : List ℕ) (kind : PathKind) (options after : List (List ℕ)) → kind_of F folder ≡ Some kind → is_dir kind ≡ true
+    → option ≡ codes "-L" ++ folder → after ≡ options ++ option ∷ [] → Adds (options_for F (folder ∷ [])) options after
+one_option F folder option kind options after known folds named grown = (option ∷ [], rw (known, folds, named) refl, grown)
 
 -- the folders under a prefix
-pub one_folder : (F : Facts) (prefix machine : List ℕ) (options after : List (List ℕ)) → ends_with_slash prefix ≡ false → machine ≡ prefix ++ machine_folder
-    → Adds (options_for F (without_slash machine ∷ [])) options after → Adds (options_for F (folders_under prefix)) options after
-one_folder F prefix machine options after bare is (more, first, grown) =
-    (more, rw bare (ap (λ path. options_for F (without_slash path ∷ [])) (sym is) ∙ first), grown)
+pub one_folder : (F : Facts) (prefix : List ℕ) (options after : List (List ℕ)) → ends_with_slash prefix ≡ false
+    → Adds (options_for F (without_slash (prefix ++ machine_folder) ∷ [])) options after → Adds (options_for F (folders_under prefix)) options after
+one_folder F prefix options after bare (more, first, grown) = (more, rw bare first, grown)
 
-pub two_folders : (F : Facts) (prefix machine : List ℕ) (options mid after : List (List ℕ)) → ends_with_slash prefix ≡ true → machine ≡ prefix ++ machine_folder
-    → Adds (options_for F (without_slash machine ∷ [])) options mid → Adds (options_for F (without_slash prefix ∷ [])) mid after → Adds (options_for F (folders_under prefix)) options after
-two_folders F prefix machine options mid after ends is (more, first, grown) (others, second, grown') = (
+pub two_folders : {E : Type 0} (F : Facts) (prefix : List ℕ) (options mid after : List (List ℕ)) (result : Result (Unit {0}) E) → ends_with_slash prefix ≡ true
+    → Adds (options_for F (without_slash (prefix ++ machine_folder) ∷ [])) options mid → OnOk result (Adds (options_for F (without_slash prefix ∷ [])) mid after)
+    → OnOk result (Adds (options_for F (folders_under prefix)) options after)
+two_folders F prefix options mid after (Err e) ends added rest = tt
+two_folders F prefix options mid after (Ok u) ends (more, first, grown) (others, second, grown') = (
   more ++ others,
-  rw ends (ap (λ path. options_for F (without_slash path ∷ without_slash prefix ∷ [])) (sym is)
-      ∙ options-append F (without_slash machine ∷ []) (without_slash prefix ∷ [])
+  rw ends (options-append F (without_slash (prefix ++ machine_folder) ∷ []) (without_slash prefix ∷ [])
       ∙ ap (λ known. known >>= λ options. behind_options options (options_for F (without_slash prefix ∷ []))) first ∙ ap (behind_options more) second),
   grown' ∙ ap (λ os. os ++ others) grown ∙ append_assoc options more others,
 )
@@ -82,7 +82,17 @@ prefix_done F prefixes i prefix bytes done after all below here is (more, given,
     ∙ ap (λ ps. behind_options done (options_for F (flat_map folders_under ps))) (sym (drop_more prefixes i prefix below ∙ ap (λ p. p ∷ drop (i + 1) prefixes) (sym here)))
     ∙ so_far
 
-pub all_options : (F : Facts) (prefixes options : List (List ℕ)) (i : ℕ) → drop i prefixes ≡ []
-    → behind_options options (options_for F (flat_map folders_under (drop i prefixes))) ≡ options_for F (flat_map folders_under prefixes)
+added : (all : Known (List (List ℕ))) (before after : List (List ℕ)) → Is after ≡ behind_options before all → Adds all before after
+added Unasked before after is = absurd cc
+added (Is more) before after is = (more, refl, cc)
+
+pub all_added : (F : Facts) (prefixes before after : List (List ℕ)) (i : ℕ) → drop i prefixes ≡ []
+    → behind_options after (options_for F (flat_map folders_under (drop i prefixes))) ≡ behind_options before (options_for F (flat_map folders_under prefixes))
+    → Adds (options_for F (flat_map folders_under prefixes)) before after
+all_added F prefixes before after i none so_far =
+    added (options_for F (flat_map folders_under prefixes)) before after
+    (ap Is (sym (append-nil after)) ∙ ap (λ ps. behind_options after (options_for F (flat_map folders_under ps))) (sym none) ∙ so_far)
+
+pub all_options : (F : Facts) (prefixes start options : List (List ℕ)) → start ≡ [] → Adds (options_for F (flat_map folders_under prefixes)) start options
     → options_for F (flat_map folders_under prefixes) ≡ Is options
-all_options F prefixes options i none so_far = sym so_far ∙ ap (λ ps. behind_options options (options_for F (flat_map folders_under ps))) none ∙ ap Is (append-nil options)
+all_options F prefixes start options none (more, is, grown) = is ∙ ap Is (sym (grown ∙ ap (λ s. s ++ more) none))

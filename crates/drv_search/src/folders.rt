@@ -1,9 +1,10 @@
 //! The folders of libraries.
 
-ghost use Rattle.drv_search.specs.Search.{Adds, folder_options, folders_under, is_dir, options_for, without_slash};
+ghost use Rattle.drv_search.specs.Search.{Adds, folder_options, folders_under, is_dir, machine_folder, options_for, without_slash};
 ghost use Rattle.drv_system.specs.Asking.{Asks, Extends};
 ghost use Rattle.drv_system.specs.Facts.{Facts};
 ghost use Rattle.drv_system.specs.Known.{Is};
+ghost use Rattle.std.specs.List.{flat_map};
 ghost use Rattle.std.specs.Prelude.{◌≡◌, ◌∷◌, ◌++◌, [], IfOk, OnOk, codes};
 
 use crate::Prefixes;
@@ -38,6 +39,25 @@ fn folder_option(alloc: Global, folder: &Word) -> Result<Word, AllocError>
     Ok(option)
 }
 
+/// Adds the option for a path, if it is that of a folder.
+fn push_if_folder<S: System>(
+    alloc: Global,
+    options: &mut Listing<Word>,
+    path: &Word,
+    sys: &mut S,
+    facts: &mut FactTable,
+) -> Result<(), AllocError>
+    ensures asks { Asks (S.events sys.old) (S.events sys.new) facts.old facts.new }
+    ensures option { (F : Facts) → Extends facts.new F → OnOk result (Adds (options_for F (path.now ∷ [])) options.old options.new) }
+{
+    let kind = facts.kind(sys, path)?;
+    if !is_dir(kind) {
+        return Ok(());
+    }
+    options.push(folder_option(alloc, path)?)?;
+    Ok(())
+}
+
 /// Adds the option for a path without the slash at its end, if it is that of a folder.
 fn push_option<S: System>(
     alloc: Global,
@@ -50,12 +70,22 @@ fn push_option<S: System>(
     ensures option { (F : Facts) → Extends facts.new F → OnOk result (Adds (options_for F (without_slash path.now ∷ [])) options.old options.new) }
 {
     let folder = Word::from_bytes(alloc, without_slash(path))?;
-    let kind = facts.kind(sys, &folder)?;
-    if !is_dir(kind) {
-        return Ok(());
-    }
-    options.push(folder_option(alloc, &folder)?)?;
-    Ok(())
+    push_if_folder(alloc, options, &folder, sys, facts)
+}
+
+/// Adds the option for the machine's folder under a prefix.
+fn push_machine_option<S: System>(
+    alloc: Global,
+    options: &mut Listing<Word>,
+    prefix: &[u8],
+    sys: &mut S,
+    facts: &mut FactTable,
+) -> Result<(), AllocError>
+    ensures asks { Asks (S.events sys.old) (S.events sys.new) facts.old facts.new }
+    ensures option { (F : Facts) → Extends facts.new F → OnOk result (Adds (options_for F (without_slash (prefix.now ++ machine_folder) ∷ [])) options.old options.new) }
+{
+    let machine = machine_folder_under(alloc, prefix)?;
+    push_option(alloc, options, machine.as_bytes(), sys, facts)
 }
 
 /// Adds the options for the folders under a prefix.
@@ -70,18 +100,34 @@ fn push_options<S: System>(
     ensures asks { Asks (S.events sys.old) (S.events sys.new) facts.old facts.new }
     ensures options { (F : Facts) → Extends facts.new F → OnOk result (Adds (options_for F (folders_under prefix.now)) options.old options.new) }
 {
-    let machine = machine_folder_under(alloc, prefix)?;
-    push_option(alloc, options, machine.as_bytes(), sys, facts)?;
+    push_machine_option(alloc, options, prefix, sys, facts)?;
     if !ends_with_slash(prefix) {
         return Ok(());
     }
-    push_option(alloc, options, prefix, sys, facts)?;
+    push_option(alloc, options, prefix, sys, facts)
+}
+
+/// Adds the options for the folders under prefixes.
+#[tactic(auto, using(crate::proofs::Asked::asks_further, crate::proofs::Options::all_added))]
+fn push_all<S: System>(
+    alloc: Global,
+    options: &mut Listing<Word>,
+    prefixes: &[Word],
+    sys: &mut S,
+    facts: &mut FactTable,
+) -> Result<(), AllocError>
+    ensures asks { Asks (S.events sys.old) (S.events sys.new) facts.old facts.new }
+    ensures options { (F : Facts) → Extends facts.new F → OnOk result (Adds (options_for F (flat_map folders_under prefixes.now)) options.old options.new) }
+{
+    for prefix in prefixes {
+        push_options(alloc, options, prefix.as_bytes(), sys, facts)?;
+    }
     Ok(())
 }
 
 /// The options `-L` for the folders of libraries: under each prefix the machine's folder, and the prefix itself where
 /// it ends with a slash. Want of memory is the only error.
-#[tactic(auto, using(crate::proofs::Asked::asks_further, crate::proofs::Options::all_options))]
+#[tactic(auto, using(crate::proofs::Options::all_options))]
 pub fn dir_options<S: System>(
     alloc: Global,
     prefixes: &Prefixes,
@@ -92,8 +138,7 @@ pub fn dir_options<S: System>(
     ensures options { (F : Facts) → Extends facts.new F → IfOk result (λ options. folder_options F prefixes.now ≡ Is options) }
 {
     let mut options = Listing::new(alloc);
-    for prefix in prefixes.libraries.as_slice() {
-        push_options(alloc, &mut options, prefix.as_bytes(), sys, facts)?;
-    }
+    let libraries = prefixes.libraries.as_slice();
+    push_all(alloc, &mut options, libraries, sys, facts)?;
     Ok(options)
 }

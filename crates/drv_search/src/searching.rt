@@ -54,6 +54,36 @@ fn plain_at<S: System>(
     Ok(if is_plain(kind) { Some(path) } else { None })
 }
 
+/// What is found in the machine's folder under a prefix.
+fn machine_hit<S: System>(
+    alloc: Global,
+    prefix: &[u8],
+    name: &[u8],
+    sys: &mut S,
+    facts: &mut FactTable,
+) -> Result<Option<Word>, AllocError>
+    ensures asks { Asks (S.events sys.old) (S.events sys.new) facts.old facts.new }
+    ensures hit { (F : Facts) → Extends facts.new F → IfOk result (λ hit. found F ((prefix.now ++ machine_folder ++ name.now) ∷ []) ≡ Is hit) }
+{
+    let path = machine_path(alloc, prefix, name)?;
+    plain_at(path, sys, facts)
+}
+
+/// What is found in a prefix itself.
+fn bare_hit<S: System>(
+    alloc: Global,
+    prefix: &[u8],
+    name: &[u8],
+    sys: &mut S,
+    facts: &mut FactTable,
+) -> Result<Option<Word>, AllocError>
+    ensures asks { Asks (S.events sys.old) (S.events sys.new) facts.old facts.new }
+    ensures hit { (F : Facts) → Extends facts.new F → IfOk result (λ hit. found F ((prefix.now ++ name.now) ∷ []) ≡ Is hit) }
+{
+    let path = bare_path(alloc, prefix, name)?;
+    plain_at(path, sys, facts)
+}
+
 /// What is found under one prefix: in the machine's folder, or else in the prefix itself.
 #[tactic(auto, using(crate::proofs::Asked::asks_further))]
 fn found_under<S: System>(
@@ -66,12 +96,10 @@ fn found_under<S: System>(
     ensures asks { Asks (S.events sys.old) (S.events sys.new) facts.old facts.new }
     ensures hit { (F : Facts) → Extends facts.new F → IfOk result (λ hit. found F (candidates_under name.now prefix.now) ≡ Is hit) }
 {
-    let path = machine_path(alloc, prefix, name)?;
-    if let Some(hit) = plain_at(path, sys, facts)? {
+    if let Some(hit) = machine_hit(alloc, prefix, name, sys, facts)? {
         return Ok(Some(hit));
     }
-    let path = bare_path(alloc, prefix, name)?;
-    plain_at(path, sys, facts)
+    bare_hit(alloc, prefix, name, sys, facts)
 }
 
 /// What is found under prefixes. Behind the first hit nothing is asked.

@@ -5,11 +5,11 @@ use Rattle.std.proofs.Common.{◌∙◌, sym}
 
 pub returns-then-not-ends_with_slash-clause-options : goal.returns-then-not-ends_with_slash-clause-options
 returns-then-not-ends_with_slash-clause-options g c F e =
-    one_folder F c.args.prefix.now c.as_bytes.result.now c.args.options.now c.push_option.new.options
-    (sym c.ends_with_slash.ensures ∙ c.if-not-ends_with_slash.true) (c.as_bytes.ensures ∙ c.in_ok-machine.ensures) (c.in_ok-push_option.ensures.option F e)
+    one_folder F c.args.prefix.now c.args.options.now c.push_machine_option.new.options
+    (sym c.ends_with_slash.ensures ∙ c.if-not-ends_with_slash.true) (c.in_ok-push_machine_option.ensures.option F e)
 
 pub returns-clause-options : goal.returns-clause-options
 returns-clause-options g c F e =
-    two_folders F c.args.prefix.now c.as_bytes.result.now c.args.options.now c.push_option.new.options c.push_option-2.new.options
-    (sym c.ends_with_slash.ensures ∙ c.if-not-ends_with_slash.false) (c.as_bytes.ensures ∙ c.in_ok-machine.ensures)
-    (c.in_ok-push_option.ensures.option F (extends_then (asks_extends c.push_option-2.ensures.asks) e)) (c.in_ok-push_option-2.ensures.option F e)
+    two_folders F c.args.prefix.now c.args.options.now c.push_machine_option.new.options c.push_option.new.options c.push_option.result
+    (sym c.ends_with_slash.ensures ∙ c.if-not-ends_with_slash.false)
+    (c.in_ok-push_machine_option.ensures.option F (extends_then (asks_extends c.push_option.ensures.asks) e)) (c.push_option.ensures.option F e)

@@ -1,0 +1,13 @@
+use Rattle.drv_search.proofs.Options.{no_option, one_option}
+use Rattle.drv_search.proofs.folders.push_if_folder.Goals as goal
+use Rattle.std.proofs.Common.{◌∙◌, sym}
+
+pub returns-then-not-is_dir-clause-option : goal.returns-then-not-is_dir-clause-option
+returns-then-not-is_dir-clause-option g c F e =
+    no_option F c.args.path.now c.in_ok-kind.kind c.args.options.now (e.kinds c.args.path.now c.in_ok-kind.kind c.in_ok-kind.ensures.known) (sym c.is_dir.ensures ∙ c.if-not-is_dir.true)
+
+pub returns-clause-option : goal.returns-clause-option
+returns-clause-option g c F e =
+    one_option F c.args.path.now c.in_ok-folder_option.field-0 c.in_ok-kind.kind c.args.options.now c.push.new.self
+    (e.kinds c.args.path.now c.in_ok-kind.kind c.in_ok-kind.ensures.known) (sym c.is_dir.ensures ∙ c.if-not-is_dir.false)
+    c.in_ok-folder_option.ensures c.in_ok-push.ensures.ok
