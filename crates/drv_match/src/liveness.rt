@@ -4,7 +4,7 @@ ghost use Rattle.drv_match.specs.Indexed.{IsLast, IsLiveness, positive};
 ghost use Rattle.drv_match.specs.Matching.{cancels, has_negative, is_level, negative};
 ghost use Rattle.drv_match.specs.Order.{IsOrder};
 ghost use Rattle.std.specs.Cmp.Lexicographic.{pointwise};
-ghost use Rattle.std.specs.Prelude.{◌≡◌, IfOk, None, OnOk, Some, if◌then◌else◌, nat_eq};
+ghost use Rattle.std.specs.Prelude.{◌≡◌, IfOk, None, OnOk, Some, if◌then◌else◌, length, nat_eq};
 
 use crate::names::Names;
 use std::alloc::{AllocError, Global};
@@ -15,9 +15,24 @@ pub fn live_flags(alloc: Global, names: &Names, order: &[usize]) -> Result<Vec<b
     requires { IsOrder names.now order.now }
     ensures { IfOk result (λ flags. IsLiveness names.now flags.items) }
 {
+    let mut flags = vec![in alloc; true; names.len()]?;
+    mark_live(alloc, names, order, &mut flags)?;
+    Ok(flags)
+}
+
+/// Marks in as many flags as there are switches which of those are live.
+fn mark_live(
+    alloc: Global,
+    names: &Names,
+    order: &[usize],
+    flags: &mut Vec<bool>,
+) -> Result<(), AllocError>
+    requires in_order { IsOrder names.now order.now }
+    requires as_many { length flags.old.items ≡ length names.now }
+    ensures { OnOk result (IsLiveness names.now flags.new.items) }
+{
     let level = last_level(names);
     let mut form = Vec::new(alloc);
-    let mut flags = vec![in alloc; true; names.len()]?;
     let mut first_live = 0;
     for k in 0..order.len() {
         let place = order[k];
@@ -27,7 +42,7 @@ pub fn live_flags(alloc: Global, names: &Names, order: &[usize]) -> Result<Vec<b
         }
         flags[place] = place >= first_live;
     }
-    Ok(flags)
+    Ok(())
 }
 
 /// The place of the last optimization level, or 0 if there is none.

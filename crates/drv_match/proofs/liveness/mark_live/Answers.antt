@@ -1,7 +1,7 @@
 use Rattle.drv_match.proofs.ByName.{in_range}
 use Rattle.drv_match.proofs.Lasts.{flags_all, flags_next, known_again, unturned}
-use Rattle.drv_match.proofs.liveness.live_flags.Goals as goal
-use Rattle.drv_match.proofs.liveness.live_flags.Goals.{else-k-eq0+else-ne, then-k-eq0+in_ok-first_live}
+use Rattle.drv_match.proofs.liveness.mark_live.Goals as goal
+use Rattle.drv_match.proofs.liveness.mark_live.Goals.{else-k-eq0+else-ne, then-k-eq0+in_ok-first_live}
 use Rattle.drv_match.specs.Indexed.{IsLast}
 use Rattle.drv_match.specs.Matching.{cancels, name_at}
 use Rattle.std.proofs.Common.{◌≡◌, ◌<◌, ◌+◌, ◌-◌, ◌∙◌, arith, get_or, length, nat_eq, refl, sym}
@@ -10,12 +10,12 @@ use Rattle.std.proofs.lemmas.Grind.{common_steps}
 
 pub index_mut-requires : goal.index_mut-requires
 index_mut-requires c =
-    let within : get_or c.args.order.now c.loop-k.k 0 < length c.args.names.now = in_range c.args.names.now c.args.order.now c.requires c.loop-k.k 0 (omega arith) in
+    let within : get_or c.args.order.now c.loop-k.k 0 < length c.args.names.now = in_range c.args.names.now c.args.order.now c.requires.in_order c.loop-k.k 0 (omega arith) in
     grind (arith, common_steps)
 
 pub loop-k-preserved : goal.loop-k-preserved
 loop-k-preserved c =
-    let within : get_or c.args.order.now c.loop-k.k 0 < length c.args.names.now = in_range c.args.names.now c.args.order.now c.requires c.loop-k.k 0 (omega arith) in
+    let within : get_or c.args.order.now c.loop-k.k 0 < length c.args.names.now = in_range c.args.names.now c.args.order.now c.requires.in_order c.loop-k.k 0 (omega arith) in
     let known : IsLast (λ later. cancels later (name_at c.args.names.now (get_or c.args.order.now c.loop-k.k 0))) c.args.names.now c.if-k-eq0.first_live = elim c.if-k-eq0.branch [
       | then-k-eq0+in_ok-first_live w ↦ rw (w.first_live-is, ← c.get-name.ensures) w.in_ok-first_live.ensures
       | else-k-eq0+else-ne w ↦
@@ -29,4 +29,4 @@ loop-k-preserved c =
     }
 
 pub returns : goal.returns
-returns c = flags_all c.args.names.now c.args.order.now c.loop-k.flags.items c.loop-k.k c.requires c.loop-k.invariant.as_many (omega arith) c.loop-k.invariant.told
+returns c = flags_all c.args.names.now c.args.order.now c.loop-k.flags.items c.loop-k.k c.requires.in_order c.loop-k.invariant.as_many (omega arith) c.loop-k.invariant.told
