@@ -7,7 +7,7 @@ use Rattle.drv_machine.specs.Working.{Answer}
 use Rattle.drv_machine.specs.declared.fault.MachineFault.TheVariants as machine
 use Rattle.drv_machine.specs.declared.fault.MachineFault.{MachineFault}
 use Rattle.drv_machine.specs.declared.outcome.Outcome.{Outcome}
-use Rattle.drv_plan.specs.Denoted.{Planned, begun, behind_job, behind_text, context_of, denoted, finished, for_link, for_source, lifted, linked, notices, of_text, plan_of, planned, then_by, with_command, with_file, with_input, with_inputs, with_link, with_source, with_text, worked}
+use Rattle.drv_plan.specs.Denoted.{Planned, begun, behind_job, behind_text, context_of, denoted, finished, for_link, for_source, lifted, linked, of_text, plan_of, planned, then_by, with_command, with_file, with_input, with_inputs, with_link, with_source, with_text, worked}
 use Rattle.drv_plan.specs.Languages.{Chosen, language_of}
 use Rattle.drv_plan.specs.declared.fault.PlanFault.TheVariants.{Memory}
 use Rattle.drv_plan.specs.declared.fault.PlanFault.{PlanFault}
@@ -20,6 +20,7 @@ use Rattle.drv_system.specs.Facts.{Facts}
 use Rattle.drv_system.specs.Gives.{GivesKnown}
 use Rattle.drv_system.specs.Known.{◌>>=◌, Is}
 use Rattle.drv_words.specs.declared.plan.Job.{Job}
+use Rattle.drv_words.specs.declared.plan.Plan.{Plan}
 use Rattle.std.proofs.Common.{◌≡◌, ◌<◌, ◌+◌, ◌⊎◌, ◌∙◌, Bool, List, ◌∷◌, ◌++◌, Err, IsErrAnd, None, Ok, Option, Result, Some, ap, drop, false, if◌then◌else◌, inl, inr, length, subst, sym, true, ℕ}
 use Rattle.std.proofs.lemmas.List.{drop_more}
 use Rattle.std.specs.Option.{option_map}
@@ -155,11 +156,11 @@ pub text_kept : (g : Going) (done : Outcome) (C : Context) (notes : List (List �
 text_kept g done C notes told kept =
     ap (λ (D : Context). record g { context = D; notes = g.notes ++ done.notices }) (sym kept) ∙ ap (λ list. record g { context = C; notes = list }) (sym told)
 
-pub text_worked : (F : Facts) (text : List ℕ) (g : Going) (done : Outcome) (C : Context) (notes : List (List ℕ)) → outcome F g.context (tree_of text) ≡ Is (Ok done)
-    → notes ≡ g.notes ++ done.notices → C ≡ record g.context { options = done.accumulated; number = done.next_number }
-    → worked F text g ≡ Is (Ok (done.job, record g { context = C; notes = notes }))
-text_worked F text g done C notes works told kept =
-    text_goes done (outcome F g.context (tree_of text)) (λ o. Is (Ok (o.job, behind_text o g))) works ∙ ap (λ (g' : Going). Is (Ok (done.job, g'))) (text_kept g done C notes told kept)
+pub text_worked : (F : Facts) (text : List ℕ) (g after : Going) (done : Outcome) (job : Job) → outcome F g.context (tree_of text) ≡ Is (Ok done)
+    → after ≡ behind_text done g → job ≡ done.job → worked F text g ≡ Is (Ok (job, after))
+text_worked F text g after done job works kept same =
+    text_goes done (outcome F g.context (tree_of text)) (λ o. Is (Ok (o.job, behind_text o g))) works
+    ∙ ap (λ (j : Job). Is (Ok (j, behind_text done g))) (sym same) ∙ ap (λ (g' : Going). Is (Ok (job, g'))) (sym kept)
 
 pub text_refused : (F : Facts) (text : List ℕ) (g : Going) (fault : MachineFault) → (fault ≡ machine.Memory) ⊎ (outcome F g.context (tree_of text) ≡ Is (Err fault))
     → (lifted fault ≡ Memory) ⊎ (worked F text g ≡ Is (Err (lifted fault)))
@@ -196,10 +197,10 @@ pub link_refused : (F : Facts) (text : List ℕ) (g : Going) (fault : PlanFault)
 link_refused F text g fault refused = stops fault (worked F text (for_link g)) (λ done. Is (Ok (linked done))) refused
 
 -- the plan, once the link is known
-pub plan_finished : (F : Facts) (set : Set) (g after : Going) (link : Option Job) (told : List (List ℕ)) → with_link F set g ≡ Is (Ok (link, after)) → told ≡ notices link after
-    → finished F set g ≡ Is (Ok (record { notices = told; jobs = after.jobs; link = link }))
-plan_finished F set g after link told works are =
-    goes (link, after) (with_link F set g) (λ done. Is (Ok (plan_of done))) works ∙ ap (λ list. Is (Ok (record { notices = list; jobs = after.jobs; link = link }))) (sym are)
+pub plan_finished : (F : Facts) (set : Set) (g after : Going) (link : Option Job) (plan : Plan) → with_link F set g ≡ Is (Ok (link, after)) → plan ≡ plan_of (link, after)
+    → finished F set g ≡ Is (Ok plan)
+plan_finished F set g after link plan works is =
+    goes (link, after) (with_link F set g) (λ done. Is (Ok (plan_of done))) works ∙ ap (λ (p : Plan). Is (Ok p)) (sym is)
 
 pub plan_refused : (F : Facts) (set : Set) (g : Going) (fault : PlanFault) → (fault ≡ Memory) ⊎ (with_link F set g ≡ Is (Err fault)) → (fault ≡ Memory) ⊎ (finished F set g ≡ Is (Err fault))
 plan_refused F set g fault refused = stops fault (with_link F set g) (λ done. Is (Ok (plan_of done))) refused

@@ -1,18 +1,19 @@
 //! What goes on from one input of a line to the next.
 
 ghost use Rattle.drv_machine.specs.declared.fault.MachineFault.TheVariants as machine;
-ghost use Rattle.drv_plan.specs.Denoted.{begun, behind_job, behind_object, behind_word, for_link, output_list, with_source, worked};
+ghost use Rattle.drv_plan.specs.Denoted.{begun, behind_job, behind_object, behind_text, behind_word, for_link, output_list, with_source, worked};
 ghost use Rattle.drv_system.specs.Asking.{Asks, Extends};
 ghost use Rattle.drv_system.specs.Facts.{Facts};
 ghost use Rattle.drv_system.specs.Gives.{GivesKnown};
 ghost use Rattle.std.specs.Prelude.{◌≡◌, ◌≢◌, ◌++◌, IfErr, OnOk};
 
 use crate::PlanFault;
-use drv_machine::{Context, Source, run};
+use drv_machine::{Context, Outcome, Source, run};
 use drv_syntax::SpecTree;
 use drv_system::{FactTable, System};
 use drv_words::{Job, Listing, Word};
 use std::alloc::{AllocError, Global};
+use std::mem;
 
 /// What goes on from one input to the next, and what they have given so far.
 #[derive(Drop)]
@@ -89,6 +90,17 @@ impl<'a> Going<'a> {
         Ok(())
     }
 
+    /// Keeps what goes on from a text to the next one. The options are moved out of its outcome.
+    fn go_on(&mut self, alloc: Global, done: &mut Outcome) -> Result<(), AllocError>
+        ensures keeps { OnOk result (self.new ≡ behind_text done.old self.old) }
+        ensures job { done.new.job ≡ done.old.job }
+    {
+        push_words(&mut self.notes, done.notices.as_slice())?;
+        let options = mem::replace(&mut done.accumulated, Listing::new(alloc));
+        self.context.go_on(options, done.next_number);
+        Ok(())
+    }
+
     /// Works a text for what the context has, and keeps what goes on to the next one. It asks the system only where the
     /// table has no answer.
     ///
@@ -105,9 +117,8 @@ impl<'a> Going<'a> {
         ensures works { (F : Facts) → Extends facts.new F → GivesKnown PlanFault.Memory (λ job. (job, self.new)) result (worked F text.now self.old) }
         ensures apart { IfErr result (λ fault. fault ≢ PlanFault.Machine machine.Memory) }
     {
-        let done = run(alloc, text, &self.context, sys, facts)?;
-        push_words(&mut self.notes, done.notices.as_slice())?;
-        self.context.go_on(done.accumulated, done.next_number);
+        let mut done = run(alloc, text, &self.context, sys, facts)?;
+        self.go_on(alloc, &mut done)?;
         Ok(done.job)
     }
 

@@ -1,11 +1,11 @@
 //! The plan of a line.
 
 ghost use Rattle.drv_machine.specs.declared.fault.MachineFault.TheVariants as machine;
-ghost use Rattle.drv_plan.specs.Denoted.{denoted, finished, planned, with_command, with_link, with_text};
+ghost use Rattle.drv_plan.specs.Denoted.{denoted, finished, plan_of, planned, with_command, with_link, with_text};
 ghost use Rattle.drv_system.specs.Asking.{Asks, Extends};
 ghost use Rattle.drv_system.specs.Facts.{Facts};
 ghost use Rattle.drv_system.specs.Gives.{GivesKnown};
-ghost use Rattle.std.specs.Prelude.{◌≡◌, ◌==◌, ◌≢◌, IfErr, Some, length};
+ghost use Rattle.std.specs.Prelude.{◌≡◌, ◌==◌, ◌≢◌, IfErr, IfOk, Some, length};
 
 use crate::PlanFault;
 use crate::going::Going;
@@ -17,8 +17,9 @@ use drv_search::Prefixes;
 use drv_specs::SpecSet;
 use drv_syntax::SpecTree;
 use drv_system::{FactTable, System};
-use drv_words::{Job, Plan, Word};
-use std::alloc::Global;
+use drv_words::{Job, Listing, Plan, Word};
+use std::alloc::{AllocError, Global};
+use std::mem;
 
 /// The name of the link's text.
 const LINK_COMMAND: &[u8] = b"link_command";
@@ -78,26 +79,32 @@ fn link_of<S: System>(
     }
 }
 
-/// The plan, once all inputs were worked.
+/// The plan with this link. The jobs are moved out of what the inputs have given.
+fn plan_of(alloc: Global, link: Option<Job>, going: &mut Going<'_>) -> Result<Plan, AllocError>
+    ensures { IfOk result (λ plan. plan ≡ plan_of (link, going.old)) }
+{
+    let notices = notices_of(alloc, &link, going)?;
+    Ok(Plan {
+        notices,
+        jobs: mem::replace(&mut going.jobs, Listing::new(alloc)),
+        link,
+    })
+}
+
+/// The plan, once all inputs were worked. The jobs are moved out of what they have given.
 fn finish<S: System>(
     alloc: Global,
     set: &SpecSet,
-    going: Going<'_>,
+    going: &mut Going<'_>,
     sys: &mut S,
     facts: &mut FactTable,
 ) -> Result<Plan, PlanFault>
     ensures asks { Asks (S.events sys.old) (S.events sys.new) facts.old facts.new }
-    ensures works { (F : Facts) → Extends facts.new F → GivesKnown PlanFault.Memory (λ plan. plan) result (finished F set.now going.entry) }
+    ensures works { (F : Facts) → Extends facts.new F → GivesKnown PlanFault.Memory (λ plan. plan) result (finished F set.now going.old) }
     ensures apart { IfErr result (λ fault. fault ≢ PlanFault.Machine machine.Memory) }
 {
-    let mut going = going;
-    let link = link_of(alloc, set, &mut going, sys, facts)?;
-    let notices = notices_of(alloc, &link, &going)?;
-    Ok(Plan {
-        notices,
-        jobs: going.jobs,
-        link,
-    })
+    let link = link_of(alloc, set, going, sys, facts)?;
+    Ok(plan_of(alloc, link, going)?)
 }
 
 /// The plan of inputs, in this context.
@@ -116,7 +123,7 @@ fn planned<'a, S: System>(
 {
     let mut going = Going::new(alloc, context);
     add_inputs(alloc, set, inputs, &mut going, sys, facts)?;
-    finish(alloc, set, going, sys, facts)
+    finish(alloc, set, &mut going, sys, facts)
 }
 
 /// The plan of a line over its specs: each source worked with the text of its language, in the order of the line, and the
