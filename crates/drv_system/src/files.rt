@@ -2,12 +2,25 @@
 
 use crate::reading::is_absent;
 use drv_words::{ClaimAnswer, RemoveAnswer};
-use std::fs::{self, File};
-use std::io::{ErrorKind, Write};
+use std::fs::{self, File, OpenOptions};
+use std::io::{self, ErrorKind, Write};
+use std::os::unix::fs::OpenOptionsExt;
 
-/// Makes a new file of these bytes. One that could not be written whole is taken away again.
+/// Reading and writing, for the file's owner alone.
+const OWNERS: u32 = 0o600;
+
+/// Opens a new file, which nobody but its owner may read or write, whatever the umask is.
+fn create_private(rt: &HostRuntime, path: &str) -> io::Result<File> {
+    OpenOptions::new()
+        .write(true)
+        .create_new(true)
+        .mode(OWNERS)
+        .open(rt, path)
+}
+
+/// Makes a new private file of these bytes. One that could not be written whole is taken away again.
 pub fn make_file(rt: &HostRuntime, path: &str, contents: &[u8]) -> ClaimAnswer {
-    let mut file = match File::create_new(rt, path) {
+    let mut file = match create_private(rt, path) {
         Ok(file) => file,
         Err(e) if e.kind() == ErrorKind::AlreadyExists => return ClaimAnswer::Taken,
         Err(_) => return ClaimAnswer::Failed,
