@@ -19,6 +19,9 @@ from dataclasses import dataclass
 from typing import Callable
 
 MEMORY_OF_ONE = 3_000_000_000
+MOST_JOBS = 4
+# The processor seconds of a crate that was never measured.
+UNKNOWN_COST = 60
 TEXTS = ("src", "specs", "proofs")
 # Programs whose names begin so are no part of the product: benchmarks and tests.
 INNER = "drv_"
@@ -157,11 +160,22 @@ class Task:
     call: Callable
 
 
+def costs(crates):
+    """The processor seconds that each crate took when they were last measured."""
+    with open(f"{os.path.dirname(os.path.realpath(__file__))}/costs", encoding="utf-8") as file:
+        known = {name: float(seconds) for name, seconds in map(str.split, file)}
+    return {it: known.get(it, UNKNOWN_COST) for it in crates.names}
+
+
+def room_for():
+    """How many checks the free memory has room for."""
+    with open("/proc/meminfo", encoding="utf-8") as file:
+        return 1024 * int(re.search(r"MemAvailable: *(\d+)", file.read())[1]) // MEMORY_OF_ONE
+
+
 def lanes():
     """How many checks run side by side: one a processor, as far as memory goes."""
-    with open("/proc/meminfo", encoding="utf-8") as file:
-        free = 1024 * int(re.search(r"MemAvailable: *(\d+)", file.read())[1])
-    return max(1, min(len(os.sched_getaffinity(0)), free // MEMORY_OF_ONE))
+    return max(1, min(len(os.sched_getaffinity(0)), room_for()))
 
 
 def chains(tasks):
@@ -173,18 +187,18 @@ def chains(tasks):
 
 
 def in_lanes(tasks, begun, ended):
-    """Does tasks side by side, those of the longest chain first, and tells whether all were done. A task gets a second job where a lane
-    would be idle. `begun` is told each task, and `ended` each with what it gave; where that answers no, no further task begins."""
+    """Does tasks side by side, those of the longest chain first, and tells whether all were done. Where there are fewer tasks than lanes a
+    task gets several jobs, and that of the longest chain has one more, as far as memory goes. `begun` is told each task, and `ended`
+    each with what it gave; where that answers no, no further task begins."""
     number, length, left = lanes(), chains(tasks), list(tasks)
     running, done, goes_on = {}, set(), True
     with ThreadPoolExecutor(number) as pool:
         while running or (left and goes_on):
             ready = [it for it in left if goes_on and done.issuperset(it.after)]
-            ready.sort(key=lambda it: -length[it.name])
             idle = number - sum(jobs for _, jobs in running.values())
-            for at, it in enumerate(ready[: max(0, idle)]):
-                jobs = 2 if idle > len(ready) - at else 1
-                idle -= jobs
+            chosen = sorted(ready, key=lambda it: -length[it.name])[: max(0, idle)]
+            for at, it in enumerate(chosen):
+                jobs = min(MOST_JOBS, idle // len(chosen) + (at == 0 and room_for() > number))
                 left.remove(it)
                 begun(it)
                 running[pool.submit(it.call, jobs)] = it, jobs

@@ -3,7 +3,7 @@
 import os
 from dataclasses import dataclass
 
-from crates import Clock, Crates, Proof, Room, Task, in_lanes, prove
+from crates import Clock, Crates, Proof, Room, Task, costs, in_lanes, prove
 from edits import Edit, is_read, lost_goals, refused_in, text_of, together
 
 # The most edits that are tried in one check.
@@ -88,7 +88,8 @@ def tried(root, names):
     crates, clock = Crates(root), Clock()
     trials = [Trial(crates, it) for it in crates.names if it in names]
     proved = crates.with_below(it.name for it in trials)
-    tasks = [Task(it, crates.uses[it], 60, lambda jobs, it=it: prove(crates, it, jobs)) for it in proved]
+    known = costs(crates)
+    tasks = [Task(it, crates.uses[it], known[it], lambda jobs, it=it: prove(crates, it, jobs)) for it in proved]
     for trial in trials:
         for at, batch in enumerate(trial.batches(), 1):
             attempt = lambda _, trial=trial, batch=batch: trial.attempt(batch)
