@@ -129,6 +129,29 @@ joined_gives left word bytes argument option ended f fault end result whole some
 joined_gives left word bytes argument option ended f fault end result whole some first same starts (inr refused) is so_far =
     refusal_given fault end result whole is (inr (joined_refused left word bytes argument option ended f fault whole some first same starts refused so_far))
 
+pub memory_goes : (end : Result (List (List ℕ)) C99Fault) (result : Result (Unit {0}) C99Fault) (whole : Result (List (List ℕ)) C99Fault) → IsErrAnd result (λ e. e ≡ Memory) → Goes end result whole
+memory_goes end result whole is = refusal_given Memory end result whole is (inl refl)
+
+wants_refused : (left : List (List ℕ)) (word bytes next next_bytes : List ℕ) (option : Taking) (ended : Bool) (f : Front) (fault : C99Fault) (whole : Result (List (List ℕ)) C99Fault)
+    → 1 ≤ length left → word ≡ get_or left 0 word → bytes ≡ word → Wants option ≡ start_of ended bytes
+    → 1 ≤ length (take (length left - 1) (drop 1 left)) → next ≡ get_or (take (length left - 1) (drop 1 left)) 0 next → next_bytes ≡ next → noted f (given option next_bytes) ≡ Err fault
+    → front_with f (items_of ended left) ≡ whole → whole ≡ Err fault
+wants_refused [] word bytes next next_bytes option ended f fault whole some first same starts more second alike refused so_far = absurd (omega arith)
+wants_refused (w ∷ []) word bytes next next_bytes option ended f fault whole some first same starts more second alike refused so_far = absurd (omega arith)
+wants_refused (w ∷ n ∷ words) word bytes next next_bytes option ended f fault whole some first same starts more second alike refused so_far =
+    let is_next : next_bytes ≡ n = alike ∙ second ∙ ap (λ l. get_or l 0 next) (behind_first w (n ∷ words)) in
+    sym so_far
+    ∙ ap (front_with f) (wants_first ended option w n words (ap (start_of ended) (sym (same ∙ first)) ∙ sym starts))
+    ∙ refused_rest f (given option n) fault (items_of ended words) (ap (λ b. noted f (given option b)) (sym is_next) ∙ refused)
+
+pub wants_gives : (left : List (List ℕ)) (word bytes next next_bytes : List ℕ) (option : Taking) (ended : Bool) (f : Front) (fault : C99Fault) (end : Result (List (List ℕ)) C99Fault) (result : Result (Unit {0}) C99Fault) (whole : Result (List (List ℕ)) C99Fault)
+    → 1 ≤ length left → word ≡ get_or left 0 word → bytes ≡ word → Wants option ≡ start_of ended bytes
+    → 1 ≤ length (take (length left - 1) (drop 1 left)) → next ≡ get_or (take (length left - 1) (drop 1 left)) 0 next → next_bytes ≡ next
+    → (fault ≡ Memory) ⊎ (noted f (given option next_bytes) ≡ Err fault) → IsErrAnd result (λ e. e ≡ fault) → front_with f (items_of ended left) ≡ whole → Goes end result whole
+wants_gives left word bytes next next_bytes option ended f fault end result whole some first same starts more second alike (inl memory) is so_far = refusal_given fault end result whole is (inl memory)
+wants_gives left word bytes next next_bytes option ended f fault end result whole some first same starts more second alike (inr refused) is so_far =
+    refusal_given fault end result whole is (inr (wants_refused left word bytes next next_bytes option ended f fault whole some first same starts more second alike refused so_far))
+
 -- A front without items, with those of a line.
 
 front_begun : (items : Result (List Item) C99Fault) → front_with begun items ≡ front_of_items items

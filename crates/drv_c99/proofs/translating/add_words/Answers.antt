@@ -1,4 +1,4 @@
-use Rattle.drv_c99.proofs.Steps.{ends_next, flag_next, joined_gives, joined_next, operand_next, wants_next}
+use Rattle.drv_c99.proofs.Steps.{ends_next, flag_next, joined_gives, joined_next, memory_goes, operand_next, wants_gives, wants_next}
 use Rattle.drv_c99.proofs.translating.add_words.Goals as goal
 use Rattle.std.proofs.Common.{Ok, ap, sym}
 
@@ -31,3 +31,14 @@ pub returns-in_err-add_option-in-Joined : goal.returns-in_err-add_option-in-Join
 returns-in_err-add_option-in-Joined c =
     joined_gives c.loop-left.left.now c.word-item.result c.as_bytes-bytes.result.now c.in-Joined.argument.now c.in-Joined.option c.loop-left.ended c.loop-left.front c.in_err-add_option-in-Joined.field-0.0 _ c.from_residual-in_err-add_option-in-Joined.result _
     c.in-len1-up.len_at_least c.word-item.is c.as_bytes-bytes.ensures c.in-Joined.ensures c.in_err-add_option-in-Joined.ensures c.from_residual-in_err-add_option-in-Joined.ensures.1 c.loop-left.invariant
+
+pub returns-in_err-add_option-in-Wants : goal.returns-in_err-add_option-in-Wants
+returns-in_err-add_option-in-Wants c =
+    wants_gives c.loop-left.left.now c.word-item.result c.as_bytes-bytes.result.now c.argument-item.result c.as_bytes.result.now c.in-Wants.option c.loop-left.ended c.loop-left.front c.in_err-add_option-in-Wants.field-0.0 _ c.from_residual-in_err-add_option-in-Wants.result _
+    c.in-len1-up.len_at_least c.word-item.is c.as_bytes-bytes.ensures c.in-Wants.ensures c.in-len1-up-behind.len_at_least c.argument-item.is c.as_bytes.ensures c.in_err-add_option-in-Wants.ensures c.from_residual-in_err-add_option-in-Wants.ensures.1 c.loop-left.invariant
+
+pub returns-in_err-add_flag-in-Flag : goal.returns-in_err-add_flag-in-Flag
+returns-in_err-add_flag-in-Flag c = memory_goes _ c.from_residual.result _ c.from_residual.ensures.1
+
+pub returns-in_err-add_operand-in-Operand : goal.returns-in_err-add_operand-in-Operand
+returns-in_err-add_operand-in-Operand c = memory_goes _ c.from_residual-in_err-add_operand-in-Operand.result _ c.from_residual-in_err-add_operand-in-Operand.ensures.1
