@@ -131,16 +131,18 @@ link_tried F set g outputs empty name text are tests some named has =
     ∙ ap (λ t. with_text F t g) (ap (text_of set) (sym named) ∙ has)
 
 -- the inputs first, and then the rest
-pub plan_begun : (F : Facts) (set : Set) (inputs : List Input) (C : Context) (start after : Going) → start ≡ begun C → with_inputs F set 0 inputs start ≡ Is (Ok after)
-    → planned F set inputs C ≡ finished F set after
-plan_begun F set inputs C start after is went =
-    goes after (with_inputs F set 0 inputs (begun C)) (λ g. finished F set g) (ap (with_inputs F set 0 inputs) (sym is) ∙ went)
+abbrev behind_inputs : Facts → Set → List Input → Going → Planned Plan
+behind_inputs F set inputs g = then_by (with_inputs F set 0 inputs g) (λ g'. finished F set g')
 
-pub plan_stopped : (F : Facts) (set : Set) (inputs : List Input) (C : Context) (start : Going) (fault : PlanFault) → start ≡ begun C
-    → (fault ≡ Memory) ⊎ (with_inputs F set 0 inputs start ≡ Is (Err fault)) → (fault ≡ Memory) ⊎ (planned F set inputs C ≡ Is (Err fault))
-plan_stopped F set inputs C start fault is refused =
-    stops fault (with_inputs F set 0 inputs (begun C)) (λ g. finished F set g)
-    (refused_alike fault (with_inputs F set 0 inputs start) (with_inputs F set 0 inputs (begun C)) (ap (with_inputs F set 0 inputs) (sym is)) refused)
+pub inputs_worked : (F : Facts) (set : Set) (inputs : List Input) (g after : Going) → with_inputs F set 0 inputs g ≡ Is (Ok after) → behind_inputs F set inputs g ≡ finished F set after
+inputs_worked F set inputs g after went = goes after (with_inputs F set 0 inputs g) (λ g'. finished F set g') went
+
+pub inputs_refused : (F : Facts) (set : Set) (inputs : List Input) (g : Going) (fault : PlanFault) → (fault ≡ Memory) ⊎ (with_inputs F set 0 inputs g ≡ Is (Err fault))
+    → (fault ≡ Memory) ⊎ (behind_inputs F set inputs g ≡ Is (Err fault))
+inputs_refused F set inputs g fault refused = stops fault (with_inputs F set 0 inputs g) (λ g'. finished F set g') refused
+
+pub plan_begun : (F : Facts) (set : Set) (inputs : List Input) (C : Context) (start : Going) → start ≡ begun C → planned F set inputs C ≡ behind_inputs F set inputs start
+plan_begun F set inputs C start is = ap (behind_inputs F set inputs) (sym is)
 
 -- the prefixes are made first
 pub prefixes_first : (F : Facts) (line : Line) (set : Set) (seed : ℕ) (dirs : List (List ℕ)) (inputs : List Input) (prefixes : Prefixes) (C : Context)

@@ -50,6 +50,13 @@ fn push_output(list: &mut Listing<Word>, output: &Option<Word>) -> Result<(), Al
     Ok(())
 }
 
+/// The job of an outcome.
+fn into_job(done: Outcome) -> Job
+    ensures { result ≡ done.job }
+{
+    done.job
+}
+
 impl<'a> Going<'a> {
     /// Nothing was worked yet.
     pub(crate) fn new(alloc: Global, context: Context<'a>) -> Going<'a>
@@ -119,7 +126,7 @@ impl<'a> Going<'a> {
     {
         let mut done = run(alloc, text, &self.context, sys, facts)?;
         self.go_on(alloc, &mut done)?;
-        Ok(done.job)
+        Ok(into_job(done))
     }
 
     /// Works the text of a source, and adds its job.

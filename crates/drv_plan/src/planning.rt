@@ -1,7 +1,7 @@
 //! The plan of a line.
 
 ghost use Rattle.drv_machine.specs.declared.fault.MachineFault.TheVariants as machine;
-ghost use Rattle.drv_plan.specs.Denoted.{denoted, finished, plan_of, planned, with_command, with_link, with_text};
+ghost use Rattle.drv_plan.specs.Denoted.{denoted, finished, plan_of, planned, then_by, with_command, with_inputs, with_link, with_text};
 ghost use Rattle.drv_system.specs.Asking.{Asks, Extends};
 ghost use Rattle.drv_system.specs.Facts.{Facts};
 ghost use Rattle.drv_system.specs.Gives.{GivesKnown};
@@ -107,8 +107,25 @@ fn finish<S: System>(
     Ok(plan_of(alloc, link, going)?)
 }
 
-/// The plan of inputs, in this context.
+/// The plan of inputs, behind what was worked before them.
 #[tactic(auto, using(crate::proofs::Asked::asks_further))]
+fn plan_inputs<'a, S: System>(
+    alloc: Global,
+    set: &'a SpecSet,
+    inputs: &'a [Input],
+    going: &mut Going<'a>,
+    sys: &mut S,
+    facts: &mut FactTable,
+) -> Result<Plan, PlanFault>
+    ensures asks { Asks (S.events sys.old) (S.events sys.new) facts.old facts.new }
+    ensures works { (F : Facts) → Extends facts.new F → GivesKnown PlanFault.Memory (λ plan. plan) result (then_by (with_inputs F set.now 0 inputs.now going.old) (λ g. finished F set.now g)) }
+    ensures apart { IfErr result (λ fault. fault ≢ PlanFault.Machine machine.Memory) }
+{
+    add_inputs(alloc, set, inputs, going, sys, facts)?;
+    finish(alloc, set, going, sys, facts)
+}
+
+/// The plan of inputs, in this context.
 fn planned<'a, S: System>(
     alloc: Global,
     set: &'a SpecSet,
@@ -122,8 +139,7 @@ fn planned<'a, S: System>(
     ensures apart { IfErr result (λ fault. fault ≢ PlanFault.Machine machine.Memory) }
 {
     let mut going = Going::new(alloc, context);
-    add_inputs(alloc, set, inputs, &mut going, sys, facts)?;
-    finish(alloc, set, &mut going, sys, facts)
+    plan_inputs(alloc, set, inputs, &mut going, sys, facts)
 }
 
 /// The plan of a line over its specs: each source worked with the text of its language, in the order of the line, and the
