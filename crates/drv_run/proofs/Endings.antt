@@ -1,7 +1,7 @@
 use Rattle.drv_run.proofs.Tellings.{pipe_behind_questions}
 use Rattle.drv_run.specs.Calls.{Drove, Ends}
-use Rattle.drv_run.specs.Drives.{Comes, Drives}
-use Rattle.drv_run.specs.Telling.{DoesWork, OnlySays}
+use Rattle.drv_run.specs.Drives.{Comes, Drives, IsApart}
+use Rattle.drv_run.specs.Telling.{DoesWork, EndsWork, OnlySays}
 use Rattle.drv_run.specs.declared.ending.Ending.TheVariants.{Done, OutOfMemory, Refused}
 use Rattle.drv_run.specs.declared.ending.Ending.{Ending}
 use Rattle.drv_run.specs.declared.work.Work.{Work}
@@ -37,7 +37,7 @@ drove_before {journal} {F' = F'} args seed ending empty asks comes = record {
 }
 
 -- with its work done
-pub drove_done : {journal journal' journal'' : List Event} {F F' : Facts} {args : List (List ℕ)} {seed status : ℕ} {work : Work} → F ≡ no_facts
+drove_done : {journal journal' journal'' : List Event} {F F' : Facts} {args : List (List ℕ)} {seed status : ℕ} {work : Work} → F ≡ no_facts
     → Asks journal journal' F F' → ((G : Facts) → Extends F' G → Comes G args seed (Ok work)) → DoesWork journal' journal'' work status
     → Drove journal journal'' args seed (Done status)
 drove_done {F' = F'} {args = args} {seed = seed} {work = work} empty asks comes does = record {
@@ -49,7 +49,7 @@ drove_done {F' = F'} {args = args} {seed = seed} {work = work} empty asks comes 
 }
 
 -- and where memory is wanted for it
-pub drove_short : {journal journal' journal'' : List Event} {F F' : Facts} {args : List (List ℕ)} {seed : ℕ} → F ≡ no_facts
+drove_short : {journal journal' journal'' : List Event} {F F' : Facts} {args : List (List ℕ)} {seed : ℕ} → F ≡ no_facts
     → Asks journal journal' F F' → OnlySays journal' journal'' → Drove journal journal'' args seed OutOfMemory
 drove_short empty asks only = record {
   asked = asks.asked;
@@ -58,6 +58,18 @@ drove_short empty asks only = record {
   journal_grows = only.1 ∙ ap (λ events. events ++ only.0) asks.journal_grows;
   ends = only.2;
 }
+
+-- however its work ends it
+pub drove_with_work : {journal journal' journal'' : List Event} {F F' : Facts} (args : List (List ℕ)) (seed : ℕ) (work : Work) (ending : Ending) → F ≡ no_facts
+    → Asks journal journal' F F' → ((G : Facts) → Extends F' G → Comes G args seed (Ok work)) → EndsWork journal' journal'' work ending → Drove journal journal'' args seed ending
+drove_with_work args seed work (Done status) empty asks comes does = drove_done empty asks comes does
+drove_with_work args seed work (Refused refusal) empty asks comes does = absurd does
+drove_with_work args seed work OutOfMemory empty asks comes only = drove_short empty asks only
+
+pub work_ends_apart : (journal journal' : List Event) (work : Work) (ending : Ending) → EndsWork journal journal' work ending → IsApart ending
+work_ends_apart journal journal' work (Done status) does = tt
+work_ends_apart journal journal' work (Refused refusal) does = absurd does
+work_ends_apart journal journal' work OutOfMemory only = tt
 
 pub no_pipe_behind_questions : {journal journal' : List Event} {F F' : Facts} → Asks journal journal' F F' → pipe_pending (run_of journal) ≡ false → pipe_pending (run_of journal') ≡ false
 no_pipe_behind_questions {journal} {F = F} asks before =

@@ -9,6 +9,7 @@ use Rattle.drv_machine.specs.declared.fault.MachineFault.TheVariants as machine_
 use Rattle.drv_plan.specs.declared.fault.PlanFault.TheVariants as plan_fault
 use Rattle.drv_plan.specs.declared.fault.PlanFault.{PlanFault}
 use Rattle.drv_run.specs.Drives.{Comes, Refuses, Words, manner_of, not_expanded, not_fronted, not_loaded, not_planned, not_read, planned, specs_of, stopped_by_args, stopped_by_plan, stopped_by_specs, work_of, work_with, worked}
+use Rattle.drv_run.specs.Planning.{ComesOfSpecs}
 use Rattle.drv_run.specs.Telling.{HasWindow}
 use Rattle.drv_run.specs.Wording.{GivesWords}
 use Rattle.drv_run.specs.declared.ending.Ending.TheVariants.{Done, OutOfMemory, Refused}
@@ -23,7 +24,7 @@ use Rattle.drv_specs.specs.declared.fault.SpecsFault.TheVariants as specs_fault
 use Rattle.drv_specs.specs.declared.fault.SpecsFault.{SpecsFault}
 use Rattle.drv_syntax.specs.declared.fault.SyntaxFault.TheVariants as syntax_fault
 use Rattle.drv_system.specs.Facts.{Facts}
-use Rattle.drv_system.specs.Known.{Is}
+use Rattle.drv_system.specs.Known.{Is, Known}
 use Rattle.drv_words.specs.declared.plan.Plan.{Plan}
 use Rattle.std.proofs.Common.{◌≡◌, ◌≤◌, ◌⊎◌, ◌∙◌, Bool, Err, IsErrAnd, List, Ok, Result, ap, false, inl, inr, subst, sym, true, ℕ}
 use Rattle.std.specs.Prelude.{if◌then◌else◌}
@@ -61,26 +62,26 @@ refused_args F args seed args_fault.StdinNeedsLanguage refused = refused
 refused_args F args seed args_fault.OutputWithMany refused = refused
 refused_args F args seed (args_fault.OutputIsInput input) refused = refused
 
-refused_plan : (F : Facts) (args : List (List ℕ)) (seed : ℕ) (fault : PlanFault) → Refuses F args seed (NoPlan fault) → Comes F args seed (Err (stopped_by_plan fault))
-refused_plan F args seed plan_fault.Memory refused = tt
-refused_plan F args seed (plan_fault.Machine machine_fault.Memory) refused = refused
-refused_plan F args seed (plan_fault.Machine (machine_fault.UserError text)) refused = refused
-refused_plan F args seed (plan_fault.Machine machine_fault.SpecTooDeep) refused = refused
-refused_plan F args seed (plan_fault.Machine machine_fault.TooManySteps) refused = refused
-refused_plan F args seed (plan_fault.Machine machine_fault.NoInput) refused = refused
-refused_plan F args seed (plan_fault.Machine machine_fault.NotInLink) refused = refused
-refused_plan F args seed (plan_fault.Machine machine_fault.StrayPipe) refused = refused
-refused_plan F args seed (plan_fault.Machine machine_fault.PipeTooLong) refused = refused
-refused_plan F args seed (plan_fault.Machine (machine_fault.Search search_fault.Memory)) refused = tt
-refused_plan F args seed (plan_fault.Machine (machine_fault.Search (search_fault.ScriptMissing name))) refused = refused
-refused_plan F args seed (plan_fault.Machine (machine_fault.Funcs funcs_fault.Memory)) refused = tt
-refused_plan F args seed (plan_fault.Machine (machine_fault.Funcs (funcs_fault.VariableMissing name))) refused = refused
-refused_plan F args seed (plan_fault.Machine (machine_fault.Funcs (funcs_fault.WrongCount function))) refused = refused
-refused_plan F args seed (plan_fault.Machine (machine_fault.Funcs (funcs_fault.BadVersion word))) refused = refused
-refused_plan F args seed (plan_fault.Machine (machine_fault.Funcs (funcs_fault.NotInLink function))) refused = refused
-refused_plan F args seed (plan_fault.Machine (machine_fault.Funcs (funcs_fault.BadOperator word))) refused = refused
-refused_plan F args seed (plan_fault.UnknownLanguage name) refused = refused
-refused_plan F args seed (plan_fault.NotInstalled name) refused = refused
+refused_plan : (given : Known (Result Work PlanFault)) (fault : PlanFault) → given ≡ Is (Err fault) → ComesOfSpecs given (Err (stopped_by_plan fault))
+refused_plan given plan_fault.Memory refused = tt
+refused_plan given (plan_fault.Machine machine_fault.Memory) refused = refused
+refused_plan given (plan_fault.Machine (machine_fault.UserError text)) refused = refused
+refused_plan given (plan_fault.Machine machine_fault.SpecTooDeep) refused = refused
+refused_plan given (plan_fault.Machine machine_fault.TooManySteps) refused = refused
+refused_plan given (plan_fault.Machine machine_fault.NoInput) refused = refused
+refused_plan given (plan_fault.Machine machine_fault.NotInLink) refused = refused
+refused_plan given (plan_fault.Machine machine_fault.StrayPipe) refused = refused
+refused_plan given (plan_fault.Machine machine_fault.PipeTooLong) refused = refused
+refused_plan given (plan_fault.Machine (machine_fault.Search search_fault.Memory)) refused = tt
+refused_plan given (plan_fault.Machine (machine_fault.Search (search_fault.ScriptMissing name))) refused = refused
+refused_plan given (plan_fault.Machine (machine_fault.Funcs funcs_fault.Memory)) refused = tt
+refused_plan given (plan_fault.Machine (machine_fault.Funcs (funcs_fault.VariableMissing name))) refused = refused
+refused_plan given (plan_fault.Machine (machine_fault.Funcs (funcs_fault.WrongCount function))) refused = refused
+refused_plan given (plan_fault.Machine (machine_fault.Funcs (funcs_fault.BadVersion word))) refused = refused
+refused_plan given (plan_fault.Machine (machine_fault.Funcs (funcs_fault.NotInLink function))) refused = refused
+refused_plan given (plan_fault.Machine (machine_fault.Funcs (funcs_fault.BadOperator word))) refused = refused
+refused_plan given (plan_fault.UnknownLanguage name) refused = refused
+refused_plan given (plan_fault.NotInstalled name) refused = refused
 
 refused_specs : (F : Facts) (args : List (List ℕ)) (seed : ℕ) (fault : SpecsFault) → Refuses F args seed (NoSpecs fault) → Comes F args seed (Err (stopped_by_specs fault))
 refused_specs F args seed specs_fault.Memory refused = tt
@@ -113,10 +114,6 @@ by_specs : (F : Facts) (args : List (List ℕ)) (seed : ℕ) (fault : SpecsFault
 by_specs F args seed fault (inl memory) = subst (λ f. Comes F args seed (Err (stopped_by_specs f))) (sym memory) tt
 by_specs F args seed fault (inr refused) = refused_specs F args seed fault refused
 
-by_plan : (F : Facts) (args : List (List ℕ)) (seed : ℕ) (fault : PlanFault) → (fault ≡ plan_fault.Memory) ⊎ Refuses F args seed (NoPlan fault) → Comes F args seed (Err (stopped_by_plan fault))
-by_plan F args seed fault (inl memory) = subst (λ f. Comes F args seed (Err (stopped_by_plan f))) (sym memory) tt
-by_plan F args seed fault (inr refused) = refused_plan F args seed fault refused
-
 -- the steps behind the words
 
 pub reading_ends : (F : Facts) (args : List (List ℕ)) (seed : ℕ) (words : Expanded) (fault : ArgsFault) (result : Result Work Ending)
@@ -130,11 +127,22 @@ pub loading_ends : (F : Facts) (args : List (List ℕ)) (seed : ℕ) (words : Ex
 loading_ends F args seed words line fault result is gives reads (inl memory) = ended_as F args seed (stopped_by_specs fault) result is (by_specs F args seed fault (inl memory))
 loading_ends F args seed words line fault result is gives reads (inr loads) = ended_as F args seed (stopped_by_specs fault) result is (by_specs F args seed fault (inr (not_loaded gives reads loads)))
 
-pub working_ends : (F : Facts) (args : List (List ℕ)) (seed : ℕ) (words : Expanded) (line : Line) (set : Set) (fault : PlanFault) (result : Result Work Ending)
-    → IsErrAnd result (λ e. e ≡ stopped_by_plan fault) → Words F args words → line_read words ≡ Ok line → specs_of F line.settings ≡ Is (Ok set)
-    → (fault ≡ plan_fault.Memory) ⊎ (work_of F line set seed ≡ Is (Err fault)) → Comes F args seed result
-working_ends F args seed words line set fault result is gives reads loads (inl memory) = ended_as F args seed (stopped_by_plan fault) result is (by_plan F args seed fault (inl memory))
-working_ends F args seed words line set fault result is gives reads loads (inr works) = ended_as F args seed (stopped_by_plan fault) result is (by_plan F args seed fault (inr (not_planned gives reads loads works)))
+pub line_comes : (F : Facts) (args : List (List ℕ)) (seed : ℕ) (words : Expanded) (line : Line) (set : Set) (result : Result Work Ending)
+    → Words F args words → line_read words ≡ Ok line → specs_of F line.settings ≡ Is (Ok set) → ComesOfSpecs (work_of F line set seed) result → Comes F args seed result
+line_comes F args seed words line set (Ok work) gives reads loads works = record { words = words; line = line; set = set; gives = gives; reads = reads; loads = loads; works = works }
+line_comes F args seed words line set (Err (Done status)) gives reads loads works = absurd works
+line_comes F args seed words line set (Err OutOfMemory) gives reads loads works = tt
+line_comes F args seed words line set (Err (Refused (Args fault))) gives reads loads works = absurd works
+line_comes F args seed words line set (Err (Refused (NoFront fault))) gives reads loads works = absurd works
+line_comes F args seed words line set (Err (Refused (NoSpecs fault))) gives reads loads works = absurd works
+line_comes F args seed words line set (Err (Refused (NoPlan fault))) gives reads loads works = not_planned gives reads loads works
+
+-- a fault of the plan that is want of memory, or what is given
+pub planning_ends : (given : Known (Result Work PlanFault)) (fault : PlanFault) (result : Result Work Ending)
+    → IsErrAnd result (λ e. e ≡ stopped_by_plan fault) → (fault ≡ plan_fault.Memory) ⊎ (given ≡ Is (Err fault)) → ComesOfSpecs given result
+planning_ends given fault (Ok work) is refused = absurd is
+planning_ends given fault (Err ending) is (inl memory) = subst (λ e. ComesOfSpecs given (Err e)) (sym (is ∙ ap stopped_by_plan memory)) tt
+planning_ends given fault (Err ending) is (inr refused) = subst (λ e. ComesOfSpecs given (Err e)) (sym is) (refused_plan given fault refused)
 
 -- what is done for a line
 

@@ -2,6 +2,7 @@ pub mod Calls
 pub mod Drives
 pub mod Executed
 pub mod Making
+pub mod Planning
 pub mod Started
 pub mod Telling
 pub mod Texts

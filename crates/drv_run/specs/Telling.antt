@@ -1,4 +1,6 @@
 use Rattle.drv_run.specs.Calls.{Announces, AreSaid, Does, Says, Shows}
+use Rattle.drv_run.specs.declared.ending.Ending.TheVariants.{Done, OutOfMemory, Refused}
+use Rattle.drv_run.specs.declared.ending.Ending.{Ending}
 use Rattle.drv_run.specs.declared.work.Work.TheVariants.{CarryOut, Dump, Show}
 use Rattle.drv_run.specs.declared.work.Work.{Work}
 use Rattle.drv_system.specs.declared.event.Event.{Event}
@@ -25,6 +27,12 @@ DoesWork journal journal' work status = (said : List Event) × (journal' ≡ jou
 -- nothing but texts was said
 abbrev pub OnlySays : List Event → List Event → Type 0
 OnlySays journal journal' = (said : List Event) × (journal' ≡ journal ++ said) × AreSaid said
+
+-- a call that does this work ends so
+abbrev pub EndsWork : List Event → List Event → Work → Ending → Type 0
+EndsWork journal journal' work (Done status) = DoesWork journal journal' work status
+EndsWork journal journal' work (Refused refusal) = ⊥
+EndsWork journal journal' work OutOfMemory = OnlySays journal journal'
 
 -- a window that a run may have
 abbrev pub IsWindow : ℕ → Type 0

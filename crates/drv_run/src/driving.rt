@@ -2,7 +2,7 @@
 
 ghost use Rattle.drv_run.specs.Calls.{Drove};
 ghost use Rattle.drv_run.specs.Drives.{IsApart};
-ghost use Rattle.drv_run.specs.Telling.{DoesWork, HasWindow, OnlySays};
+ghost use Rattle.drv_run.specs.Telling.{DoesWork, EndsWork, HasWindow, OnlySays};
 ghost use Rattle.drv_run.specs.declared.work.Work.TheVariants.{CarryOut, Dump};
 ghost use Rattle.drv_system.specs.Running.{run_of};
 ghost use Rattle.drv_words.specs.Stepping.{pipe_pending};
@@ -57,13 +57,25 @@ fn carry_out<S: System>(alloc: Global, sys: &mut S, work: &Work) -> Result<u8, A
     }
 }
 
+/// Does a work, and gives how that ends the call.
+fn ending_of<S: System>(alloc: Global, sys: &mut S, work: &Work) -> Ending
+    requires pipe { pipe_pending (run_of (S.events sys.old)) ≡ false }
+    requires window { HasWindow work.now }
+    ensures { EndsWork (S.events sys.old) (S.events sys.new) work.now result }
+{
+    match carry_out(alloc, sys, work) {
+        Ok(status) => Ending::Done(status),
+        Err(_) => Ending::OutOfMemory,
+    }
+}
+
 /// A call of the driver with these arguments (GCC manual, "Overall Options"; behind a first argument `--c99`, POSIX c99).
 ///
 /// With `-dumpspecs` it writes the specs. Otherwise it plans the commands of the line, says the plan's notices, and with `-v` or
 /// `-###` its commands too; with `-###` it starts nothing, and otherwise it carries the plan out, with as many sources under way
 /// as `--jobs` says. The seed is for the names of temporaries. A refused call, and one that lacks memory, makes and starts
 /// nothing.
-#[tactic(auto, using(crate::proofs::Endings::drove_done, crate::proofs::Endings::drove_short, crate::proofs::Endings::no_pipe_behind_questions))]
+#[tactic(auto, using(crate::proofs::Endings::no_pipe_behind_questions))]
 pub fn drive<S: System>(alloc: Global, sys: &mut S, args: Listing<Word>, seed: u32) -> Ending
     requires pipe { pipe_pending (run_of (S.events sys.old)) ≡ false }
     ensures drove { Drove (S.events sys.old) (S.events sys.new) args seed result }
@@ -71,10 +83,7 @@ pub fn drive<S: System>(alloc: Global, sys: &mut S, args: Listing<Word>, seed: u
 {
     let mut facts = FactTable::new(alloc);
     match work_of(alloc, args, seed, sys, &mut facts) {
-        Ok(work) => match carry_out(alloc, sys, &work) {
-            Ok(status) => Ending::Done(status),
-            Err(_) => Ending::OutOfMemory,
-        },
+        Ok(work) => ending_of(alloc, sys, &work),
         Err(ending) => ending,
     }
 }

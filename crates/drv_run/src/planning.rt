@@ -1,7 +1,8 @@
 //! What arguments come to.
 
-ghost use Rattle.drv_run.specs.Drives.{Comes, IsApart, files_loaded, specs_of};
-ghost use Rattle.drv_run.specs.Telling.{HasWindow};
+ghost use Rattle.drv_run.specs.Drives.{Comes, IsApart, files_loaded, specs_of, work_of};
+ghost use Rattle.drv_run.specs.Planning.{ComesOfLine, ComesOfSpecs};
+ghost use Rattle.drv_run.specs.Telling.{HasWindow, IsWindow};
 ghost use Rattle.drv_specs.specs.declared.fault.SpecsFault.TheVariants as specs_fault;
 ghost use Rattle.drv_system.specs.Asking.{Asks, Extends};
 ghost use Rattle.drv_system.specs.Facts.{Facts};
@@ -11,7 +12,7 @@ ghost use Rattle.std.specs.Prelude.{IfErr, IfOk};
 use crate::ending::Ending;
 use crate::fronting::words_of;
 use crate::work::{Work, work_with};
-use drv_args::{Settings, read};
+use drv_args::{Line, Settings, read};
 use drv_plan::plan;
 use drv_search::Prefixes;
 use drv_specs::{SpecSet, SpecsFault, builtin};
@@ -54,6 +55,54 @@ fn specs_of<S: System>(
     Ok(set)
 }
 
+/// What a line with these specs comes to: their dump, or its plan with what is done with it. It asks the system only where the
+/// table has no answer.
+///
+/// # Errors
+/// The refusal of the plan.
+fn work_with_specs<S: System>(
+    alloc: Global,
+    line: &Line,
+    set: &SpecSet,
+    seed: u32,
+    sys: &mut S,
+    facts: &mut FactTable,
+) -> Result<Work, Ending>
+    requires { IsWindow line.now.settings.jobs }
+    ensures asks { Asks (S.events sys.old) (S.events sys.new) facts.old facts.new }
+    ensures comes { (F : Facts) → Extends facts.new F → ComesOfSpecs (work_of F line.now set.now seed) result }
+    ensures apart { IfErr result (λ ending. IsApart ending) }
+    ensures window { IfOk result (λ work. HasWindow work) }
+{
+    if line.settings.dump {
+        return Ok(Work::Dump(set.dump()?));
+    }
+    let plan = plan(alloc, line, set, seed, sys, facts)?;
+    Ok(work_with(&line.settings, plan))
+}
+
+/// What a line comes to: its spec files are loaded first. It asks the system only where the table has no answer.
+///
+/// # Errors
+/// The first refusal: of a spec file, or of the plan.
+#[tactic(auto, using(crate::proofs::Asked::asks_further))]
+fn work_of_line<S: System>(
+    alloc: Global,
+    line: &Line,
+    seed: u32,
+    sys: &mut S,
+    facts: &mut FactTable,
+) -> Result<Work, Ending>
+    requires { IsWindow line.now.settings.jobs }
+    ensures asks { Asks (S.events sys.old) (S.events sys.new) facts.old facts.new }
+    ensures comes { (F : Facts) → Extends facts.new F → ComesOfLine F line.now seed result }
+    ensures apart { IfErr result (λ ending. IsApart ending) }
+    ensures window { IfOk result (λ work. HasWindow work) }
+{
+    let set = specs_of(alloc, &line.settings, sys, facts)?;
+    work_with_specs(alloc, line, &set, seed, sys, facts)
+}
+
 /// What arguments come to: the words of the line read, spec files loaded, and then the dump of the specs, or the plan of the line
 /// with what is done with it. It asks the system only where the table has no answer.
 ///
@@ -74,10 +123,5 @@ pub(crate) fn work_of<S: System>(
 {
     let words = words_of(alloc, args, sys, facts)?;
     let line = read(alloc, &words)?;
-    let set = specs_of(alloc, &line.settings, sys, facts)?;
-    if line.settings.dump {
-        return Ok(Work::Dump(set.dump()?));
-    }
-    let plan = plan(alloc, &line, &set, seed, sys, facts)?;
-    Ok(work_with(&line.settings, plan))
+    work_of_line(alloc, &line, seed, sys, facts)
 }
