@@ -3,14 +3,14 @@ use Rattle.drv_specs.proofs.Changes.{name_keeps, pair_keeps, text_keeps}
 use Rattle.drv_specs.proofs.GoodBodies.{IsGood, directives_good}
 use Rattle.drv_specs.specs.Directives.{directives_of}
 use Rattle.drv_specs.specs.Kept.{Each, Kept}
-use Rattle.drv_specs.specs.Loading.{Carried, Including, all_carried, carried, changed, file_carried, file_loaded, file_text, including, loaded, most_files, set_in, then_by}
+use Rattle.drv_specs.specs.Loading.{Carried, Including, all_carried, carried, changed, file_carried, file_loaded, file_text, including, loaded, most_files, set_in, then_by, worked}
 use Rattle.drv_specs.specs.Sets.{Set, with_name, with_pair_body, with_text}
 use Rattle.drv_specs.specs.declared.directive.Directive.TheVariants.{Bad, Include, Pair, Rename, Text}
 use Rattle.drv_specs.specs.declared.directive.Directive.{Directive}
 use Rattle.drv_specs.specs.declared.fault.SpecsFault.{SpecsFault}
 use Rattle.drv_system.specs.Facts.{Facts}
 use Rattle.drv_system.specs.Known.{Is, Known, Unasked}
-use Rattle.std.proofs.Common.{◌≡◌, Bool, Err, List, [], ◌∷◌, Ok, Result, false, refl, subst, suc, sym, zero, ℕ}
+use Rattle.std.proofs.Common.{◌≡◌, Bool, Err, List, [], ◌∷◌, Ok, Result, false, refl, subst, suc, zero, ℕ}
 
 -- Loading keeps what every set keeps.
 
@@ -58,20 +58,18 @@ module _ (F : Facts) (prefixes : Prefixes) where
   set_by (Is (Err fault)) set' is kept = absurd cc
   set_by (Is (Ok c)) set' is kept = let same : c.set ≡ set' = cc in subst Kept same (kept c refl)
 
+  -- a text that was worked
+  pub worked_keeps : (set set' : Set) (files : ℕ) (text : List ℕ) → Kept set → worked F prefixes set files text ≡ Is (Ok set') → Kept set'
+  worked_keeps set set' files text kept is =
+      set_by (all_carried (including F prefixes 15) (record { set = set; files = files }) (directives_of text)) set' is
+      (λ c given. all_keep (including F prefixes 15) (including_keeps 15) (directives_of text) (record { set = set; files = files }) c (directives_good text) given kept)
+
   pub loaded_keeps : (set set' : Set) (text : List ℕ) → Kept set → loaded F prefixes set text ≡ Is (Ok set') → Kept set'
   unfolding loaded
-  loaded_keeps set set' text kept is =
-      set_by (all_carried (including F prefixes 15) (record { set = set; files = most_files }) (directives_of text)) set' is
-      (λ c given. all_keep (including F prefixes 15) (including_keeps 15) (directives_of text) (record { set = set; files = most_files }) c (directives_good text) given kept)
+  loaded_keeps set set' text kept is = worked_keeps set set' most_files text kept is
 
   pub file_loaded_keeps : (set set' : Set) (name : List ℕ) → Kept set → file_loaded F prefixes set name ≡ Is (Ok set') → Kept set'
   unfolding file_loaded
   file_loaded_keeps set set' name kept is =
       set_by (including F prefixes 16 (record { set = set; files = most_files }) false name) set' is
       (λ c given. including_keeps 16 (record { set = set; files = most_files }) false name c given kept)
-
-  -- a draft that was worked
-  pub worked_kept : (draft set after : Set) (files left : ℕ) (text : List ℕ) → draft ≡ set → Kept set
-      → all_carried (including F prefixes 15) (record { set = draft; files = files }) (directives_of text) ≡ Is (Ok (record { set = after; files = left })) → Kept after
-  worked_kept draft set after files left text same kept is =
-      all_keep (including F prefixes 15) (including_keeps 15) (directives_of text) (record { set = draft; files = files }) (record { set = after; files = left }) (directives_good text) is (subst Kept (sym same) kept)

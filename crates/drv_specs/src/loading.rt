@@ -103,6 +103,26 @@ fn carry_out<S: System>(
     Ok(())
 }
 
+/// A copy of entries, on which the directives of a text are carried out, in which so many more files may be read.
+#[tactic(auto, using(crate::proofs::Asked::asks_further))]
+fn draft_of<S: System>(
+    entries: &Entries,
+    files: usize,
+    text: &[u8],
+    prefixes: &Prefixes,
+    sys: &mut S,
+    facts: &mut FactTable,
+) -> Result<Entries, SpecsFault>
+    ensures asks { Asks (S.events sys.old) (S.events sys.new) facts.old facts.new }
+    ensures works { (F : Facts) → Extends facts.new F → GivesKnown fault.Memory (λ draft. draft) result (worked F prefixes.now entries.now files text.now) }
+{
+    let mut draft = entries.copied()?;
+    let mut files = files;
+    let levels = MOST_LEVELS - 1;
+    carry_out(&mut draft, &mut files, levels, text, prefixes, sys, facts)?;
+    Ok(draft)
+}
+
 impl SpecSet {
     /// Carries out the directives of a text, in which so many more files may be read, on a copy that then takes the place of
     /// the set.
@@ -119,10 +139,7 @@ impl SpecSet {
         ensures works { (F : Facts) → Extends facts.new F → GivesKnown fault.Memory (λ _. self.new) result (worked F prefixes.now self.old files text.now) }
         ensures kept { OnErr result (self.new ≡ self.old) }
     {
-        let mut draft = self.entries.copied()?;
-        let mut files = files;
-        let levels = MOST_LEVELS - 1;
-        carry_out(&mut draft, &mut files, levels, text, prefixes, sys, facts)?;
+        let draft = draft_of(&self.entries, files, text, prefixes, sys, facts)?;
         self.entries = draft;
         Ok(())
     }
