@@ -1,5 +1,6 @@
 use Rattle.drv_machine.specs.Context.{Context, is_piping}
 use Rattle.drv_machine.specs.Cutting.{Cut, Line}
+use Rattle.drv_machine.specs.Grouping.{ahead, grouped}
 use Rattle.drv_machine.specs.Held.{made}
 use Rattle.drv_machine.specs.Outcome.{add_command, command, ends_piped, finished, groups, job, most_piped, once}
 use Rattle.drv_machine.specs.Working.{◌>>-◌, Answer, World, is_among}
@@ -28,11 +29,6 @@ ends_piped_from (line ∷ other ∷ lines) (suc n) last long is = ends_piped_fro
 pub ends_piped_last : (lines : List Line) (last : Line) → 1 ≤ length lines → last ≡ get_or lines (length lines - 1) last → last.piped ≡ ends_piped lines
 ends_piped_last lines last some is = ends_piped_from lines (length lines - 1) last (omega (arith, some)) is
 
--- commands of a group that is begun, and the groups behind them
-abbrev pub ahead : List Command → List (List Command) → List (List Command)
-ahead [] gs = gs
-ahead (c ∷ begun) gs = add_command true c (ahead begun gs)
-
 joined : (begun : List Command) (c : Command) (gs : List (List Command)) → ahead begun (add_command true c gs) ≡ ahead (begun ++ c ∷ []) gs
 joined [] c gs = refl
 joined (d ∷ begun) c gs = ap (add_command true d) (joined begun c gs)
@@ -49,10 +45,6 @@ pub nothing_ahead : (begun : List Command) → ahead begun [] ≡ made begun
 nothing_ahead [] = refl
 nothing_ahead (c ∷ []) = refl
 nothing_ahead (c ∷ d ∷ begun) = ap (add_command true c) (nothing_ahead (d ∷ begun))
-
--- groups that are made, commands of one that is begun, and what the lines behind them give
-abbrev pub grouped : List (List Command) → List Command → Answer (List (List Command)) → Answer (List (List Command))
-grouped done begun others = others >>- λ gs. Is (Ok (done ++ ahead begun gs))
 
 pub grouped_none : (done : List (List Command)) (begun : List Command) (a : Answer (List (List Command))) → done ≡ [] → begun ≡ [] → a ≡ grouped done begun a
 grouped_none done begun a e f = rw (e, f) (by a)

@@ -25,6 +25,7 @@ pub mod Onward
 pub mod Opened
 pub mod Parts
 pub mod Rows
+pub mod Settling
 pub mod Standing
 pub mod Steps
 pub mod Tables

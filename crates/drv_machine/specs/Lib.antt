@@ -3,6 +3,7 @@ pub mod Atoms
 pub mod ByKind
 pub mod Context
 pub mod Cutting
+pub mod Grouping
 pub mod Held
 pub mod Names
 pub mod Outcome

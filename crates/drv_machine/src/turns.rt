@@ -162,8 +162,26 @@ fn turn<'w, S: System>(
     }
 }
 
+/// Works the items of a walk that are left, up to its end.
+fn work_items<'w, S: System>(
+    context: &'w Context<'_>,
+    walk: &mut Walk<'w>,
+    machine: &mut Machine,
+    outside: &mut Outside<'_, S>,
+) -> Result<(), MachineFault>
+    requires lain { Lain walk.old.text.now walk.old }
+    requires framed { HasFrames context.now walk.old.text.now walk.old }
+    requires sized { length machine.old.world.hidden ≡ length context.now.switches }
+    ensures asks { Asked S.events outside.old outside.new }
+    ensures does { (F : Facts) → Extends outside.new.facts.now F → (given : Answer (Unit {0} × running.Machine)) → Left F context.now walk.old.text.now walk.old machine.old given → GivesKnown MachineFault.Memory (λ u. (tt, machine.new)) result given }
+{
+    while settle(context, walk, machine, outside)? {
+        turn(context, walk, machine, outside)?;
+    }
+    Ok(())
+}
+
 /// Works a whole text.
-#[tactic(auto, using(crate::proofs::AskedCalls::asked_further))]
 pub(crate) fn work_text<'w, S: System>(
     text: &'w SpecTree,
     context: &'w Context<'_>,
@@ -175,8 +193,5 @@ pub(crate) fn work_text<'w, S: System>(
     ensures does { (F : Facts) → Extends outside.new.facts.now F → GivesKnown MachineFault.Memory (λ u. (tt, machine.new)) result (run F context.now machine.old (items_step F context.now (tree_of text.now) (levels_left F context.now most_open) [])) }
 {
     let mut walk = Walk::new(machine.alloc(), text, text.tokens().len());
-    while settle(context, &mut walk, machine, outside)? {
-        turn(context, &mut walk, machine, outside)?;
-    }
-    Ok(())
+    work_items(context, &mut walk, machine, outside)
 }

@@ -2,8 +2,9 @@
 
 ghost use Rattle.drv_machine.specs.Asked.{Asked};
 ghost use Rattle.drv_machine.specs.Atoms.{whole_text};
-ghost use Rattle.drv_machine.specs.Outcome.{outcome};
-ghost use Rattle.drv_machine.specs.Running.{begun, run};
+ghost use Rattle.drv_machine.specs.Outcome.{finished, outcome};
+ghost use Rattle.drv_machine.specs.Running.{run};
+ghost use Rattle.drv_machine.specs.Working.{◌>>-◌};
 ghost use Rattle.drv_syntax.specs.Parsed.{tree_of};
 ghost use Rattle.drv_system.specs.Asking.{Asks, Extends};
 ghost use Rattle.drv_system.specs.Facts.{Facts};
@@ -34,23 +35,23 @@ fn work_whole<S: System>(
     machine.end_line(context, outside)
 }
 
-/// The whole text cut.
-fn cut<S: System>(
-    alloc: Global,
+/// Works the whole text, and judges what was cut.
+#[tactic(auto, using(crate::proofs::AskedCalls::asked_further))]
+fn finish<S: System>(
     text: &SpecTree,
     context: &Context<'_>,
+    machine: &mut Machine,
     outside: &mut Outside<'_, S>,
-) -> Result<Machine, MachineFault>
+) -> Result<Outcome, MachineFault>
+    requires { length machine.old.world.hidden ≡ length context.now.switches }
     ensures asks { Asked S.events outside.old outside.new }
-    ensures does { (F : Facts) → Extends outside.new.facts.now F → GivesKnown MachineFault.Memory (λ machine. (tt, machine)) result (run F context.now (begun F context.now) (whole_text F context.now (tree_of text.now))) }
+    ensures does { (F : Facts) → Extends outside.new.facts.now F → GivesKnown MachineFault.Memory (λ o. o) result (run F context.now machine.old (whole_text F context.now (tree_of text.now)) >>- λ r. finished F context.now r.1.world r.1.cut) }
 {
-    let mut machine = Machine::new(alloc, context)?;
-    work_whole(text, context, &mut machine, outside)?;
-    Ok(machine)
+    work_whole(text, context, machine, outside)?;
+    outcome_of(machine, context, outside)
 }
 
 /// A spec text worked to its end.
-#[tactic(auto, using(crate::proofs::AskedCalls::asked_further))]
 fn worked<S: System>(
     alloc: Global,
     text: &SpecTree,
@@ -60,8 +61,8 @@ fn worked<S: System>(
     ensures asks { Asked S.events outside.old outside.new }
     ensures does { (F : Facts) → Extends outside.new.facts.now F → GivesKnown MachineFault.Memory (λ o. o) result (outcome F context.now (tree_of text.now)) }
 {
-    let mut machine = cut(alloc, text, context, outside)?;
-    outcome_of(&mut machine, context, outside)
+    let mut machine = Machine::new(alloc, context)?;
+    finish(text, context, &mut machine, outside)
 }
 
 /// Works a spec text: its job, and what it cost. It asks the system only where the table has no answer.

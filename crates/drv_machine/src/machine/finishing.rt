@@ -2,6 +2,8 @@
 
 ghost use Rattle.drv_machine.specs.Asked.{Asked};
 ghost use Rattle.drv_machine.specs.Context.{is_piping};
+ghost use Rattle.drv_machine.specs.Cutting as cutting;
+ghost use Rattle.drv_machine.specs.Grouping.{grouped};
 ghost use Rattle.drv_machine.specs.Held.{made};
 ghost use Rattle.drv_machine.specs.Outcome.{command, ends_piped, finished, groups, job, lasting, most_piped, once};
 ghost use Rattle.drv_machine.specs.Working.{is_among};
@@ -10,7 +12,7 @@ ghost use Rattle.drv_system.specs.Facts.{Facts};
 ghost use Rattle.drv_system.specs.Gives.{GivesKnown};
 ghost use Rattle.drv_system.specs.Known.{Is};
 ghost use Rattle.std.specs.List.{list_any};
-ghost use Rattle.std.specs.Prelude.{◌≡◌, ◌&&◌, ◌||◌, ◌++◌, [], IfOk, Ok, OnOk, length, map, nat_lt};
+ghost use Rattle.std.specs.Prelude.{◌≡◌, ◌&&◌, ◌||◌, ◌∷◌, ◌++◌, [], IfOk, List, Ok, OnOk, length, map, nat_lt};
 
 use super::lists::is_among;
 use super::{Drawn, Line, Machine};
@@ -92,15 +94,16 @@ fn job_around(
     ensures items { machine.new.world.items ≡ machine.old.world.items }
 {
     let alloc = machine.alloc;
-    let drawn = mem::replace(&mut machine.drawn, Listing::new(alloc));
     let removed = mem::replace(&mut machine.removed, Listing::new(alloc));
+    let marked = lasting(alloc, machine.drawn.as_slice(), removed)?;
     let failing = mem::replace(&mut machine.on_failure, Listing::new(alloc));
-    let marked = lasting(alloc, drawn.as_slice(), removed)?;
-    let on_failure = lasting(alloc, drawn.as_slice(), failing)?;
+    let on_failure = lasting(alloc, machine.drawn.as_slice(), failing)?;
+    let drawn = mem::replace(&mut machine.drawn, Listing::new(alloc));
+    let temps = temps_of(alloc, drawn)?;
     Ok(Job {
         source: context.place(),
         groups,
-        temps: temps_of(alloc, drawn)?,
+        temps,
         marked,
         on_failure,
         output: machine.output.take(),
@@ -151,15 +154,33 @@ fn groups_of<S: System>(
     let mut groups = Listing::new(alloc);
     let mut begun = Vec::new(alloc);
     for line in lines.into_vec() {
-        let is_joined = is_joined(context, &line);
-        begun.push(command_of(alloc, line.words, context, outside)?)?;
-        if is_joined {
-            continue;
-        }
-        push_group(&mut groups, mem::replace(&mut begun, Vec::new(alloc)))?;
+        add_line(alloc, &mut groups, &mut begun, line, context, outside)?;
     }
     push_group(&mut groups, begun)?;
     Ok(groups)
+}
+
+/// The command of one line more goes behind those of the group that is begun, which then goes behind those that have ended,
+/// unless the next one is joined to it. Want of memory is the only error.
+#[tactic(auto, using(crate::proofs::AskedCalls::asked_none))]
+fn add_line<S: System>(
+    alloc: Global,
+    ended: &mut Listing<Group>,
+    begun: &mut Vec<Command>,
+    line: Line,
+    context: &Context<'_>,
+    outside: &mut Outside<'_, S>,
+) -> Result<(), AllocError>
+    ensures asks { Asked S.events outside.old outside.new }
+    ensures added { (F : Facts) → Extends outside.new.facts.now F → OnOk result ((lines : List cutting.Line) → grouped ended.old begun.old.items (groups F context.now (line ∷ lines)) ≡ grouped ended.new begun.new.items (groups F context.now lines)) }
+{
+    let is_joined = is_joined(context, &line);
+    begun.push(command_of(alloc, line.words, context, outside)?)?;
+    if is_joined {
+        return Ok(());
+    }
+    push_group(ended, mem::replace(begun, Vec::new(alloc)))?;
+    Ok(())
 }
 
 /// Whether the command of a line goes into one group with the next one.

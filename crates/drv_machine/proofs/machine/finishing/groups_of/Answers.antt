@@ -1,35 +1,22 @@
 use Rattle.drv_machine.proofs.AskedCalls.{asked_further, asked_none, extends_before}
-use Rattle.drv_machine.proofs.Finished.{all_grouped, grouped_none, one_ended, one_joined}
+use Rattle.drv_machine.proofs.Finished.{all_grouped, grouped_none}
 use Rattle.drv_machine.proofs.machine.finishing.groups_of.Goals as goal
-use Rattle.drv_machine.specs.Cutting.{Line}
-use Rattle.drv_machine.specs.Held.{made}
-use Rattle.drv_machine.specs.Outcome.{command, groups}
-use Rattle.drv_words.specs.declared.plan.Command.{Command}
-use Rattle.std.specs.Global.{Vec}
+use Rattle.drv_machine.specs.Outcome.{groups}
 use Rattle.std.proofs.lemmas.Iterator.Adapters.{YieldsList-from_vec}
 use Rattle.std.proofs.lemmas.Iterator.Consumers.{YieldsList-end}
 use Rattle.std.proofs.lemmas.List.{map-id}
-use Rattle.std.proofs.Common.{arith, [], ◌∷◌, ◌++◌, ◌≡◌, ◌∙◌, ap, append-nil, append_assoc, rules, sym}
+use Rattle.std.proofs.Common.{arith, [], ◌∷◌, ◌≡◌, ◌∙◌, ap, append-nil, append_assoc, rules, sym}
 
 pub loop-line-init : goal.loop-line-init
 loop-line-init g c = record { asks = asked_none c.args.outside.now; made = λ F e rest. grouped_none c.new-groups.result c.new-begun.result.items (groups F c.args.context.now rest) c.new-groups.ensures (search rules) }
 
-pub loop-line-preserved-then-is_joined : goal.loop-line-preserved-then-is_joined
-loop-line-preserved-then-is_joined g c = record {
-  asks = asked_further c.loop-line.invariant.asks c.command_of.ensures.asks;
-  made = λ F e rest.
-      ap (groups F c.args.context.now) (append_assoc c.loop-line.yielded (c.in-Some.line ∷ []) rest)
-      ∙ c.loop-line.invariant.made F (extends_before c.command_of.ensures.asks e) (c.in-Some.line ∷ rest)
-      ∙ one_joined F c.args.context.now c.loop-line.groups c.loop-line.begun.items c.push.new.self.items c.in-Some.line c.in_ok-command_of.field-0 rest (sym c.is_joined-is_joined.ensures ∙ c.if-is_joined.true) (ap (λ (l : Line). command F c.args.context.now l.words) (sym c.line.view_is) ∙ c.in_ok-command_of.ensures.made F e) c.in_ok-push.ensures.items;
-}
-
 pub loop-line-preserved : goal.loop-line-preserved
 loop-line-preserved g c = record {
-  asks = asked_further c.loop-line.invariant.asks c.command_of.ensures.asks;
+  asks = asked_further c.loop-line.invariant.asks c.add_line.ensures.asks;
   made = λ F e rest.
       ap (groups F c.args.context.now) (append_assoc c.loop-line.yielded (c.in-Some.line ∷ []) rest)
-      ∙ c.loop-line.invariant.made F (extends_before c.command_of.ensures.asks e) (c.in-Some.line ∷ rest)
-      ∙ one_ended F c.args.context.now c.loop-line.groups c.push_group.new.groups c.loop-line.begun.items c.push.new.self.items c.replace.new.dest.items c.in-Some.line c.in_ok-command_of.field-0 rest (sym c.is_joined-is_joined.ensures ∙ c.if-is_joined.false) (ap (λ (l : Line). command F c.args.context.now l.words) (sym c.line.view_is) ∙ c.in_ok-command_of.ensures.made F e) c.in_ok-push.ensures.items (c.in_ok-push_group.ensures ∙ ap (λ (begun : Vec Command). c.loop-line.groups ++ made begun.items) c.replace.ensures.value) (ap (λ (begun : Vec Command). begun.items) c.replace.ensures.after ∙ c.new.ensures.items);
+      ∙ c.loop-line.invariant.made F (extends_before c.add_line.ensures.asks e) (c.in-Some.line ∷ rest)
+      ∙ c.in_ok-add_line.ensures.added F e rest;
 }
 
 pub returns-clause-made : goal.returns-clause-made
@@ -39,4 +26,4 @@ returns-clause-made g c F e =
     YieldsList-end (YieldsList-from_vec {s = c.into_iter-line-iterator.result} c.into_vec-line-items.result.items given.0 (omega (arith, given.1, c.into_vec-line-items.result.ok.0))) c.loop-line.yielded c.loop-line.line-iterator c.loop-line.yielded_by c.next.result c.next.new.self c.in-None.is c.next.ensures.steps in
     let all : c.loop-line.yielded ≡ c.args.lines = sym (map-id c.loop-line.yielded) ∙ ended.0 ∙ c.into_vec-line-items.ensures in
     ap (groups F c.args.context.now) (sym all ∙ sym (append-nil c.loop-line.yielded)) ∙ c.loop-line.invariant.made F e []
-    ∙ all_grouped F c.args.context.now c.loop-line.groups c.push_group-2.new.groups c.loop-line.begun.items c.in_ok-push_group-2.ensures
+    ∙ all_grouped F c.args.context.now c.loop-line.groups c.push_group.new.groups c.loop-line.begun.items c.in_ok-push_group.ensures

@@ -1,0 +1,20 @@
+use Rattle.drv_machine.specs.Context.{Context}
+use Rattle.drv_machine.specs.Running.{Machine}
+use Rattle.drv_machine.specs.Walking.{Left, Settled}
+use Rattle.drv_machine.specs.Working.{Answer}
+use Rattle.drv_machine.specs.declared.walk.Walk.{Walk}
+use Rattle.drv_system.specs.Facts.{Facts}
+use Rattle.drv_system.specs.Known.{Is}
+use Rattle.std.proofs.Common.{◌≡◌, Bool, List, Ok, false, sym, true, ℕ}
+use Rattle.std.proofs.lemmas.Bool.{false≢true}
+
+-- Open parts were closed, and it was asked whether an item is left.
+
+module _ (F : Facts) (C : Context) (text : List ℕ) (w : Walk) (s : Machine) (given : Answer (Unit {0} × Machine)) where
+  pub settled_more : (more : Bool) → more ≡ true → Settled F C text w s given (Ok more) → Left F C text w s given
+  settled_more true e left = left
+  settled_more false e same = absurd (false≢true e)
+
+  pub settled_none : (more : Bool) → more ≡ false → Settled F C text w s given (Ok more) → given ≡ Is (Ok (tt, s))
+  settled_none true e left = absurd (false≢true (sym e))
+  settled_none false e same = same
