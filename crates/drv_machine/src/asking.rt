@@ -1,6 +1,5 @@
 //! Tests of an alternative: the first that is true, or that is by a function.
 
-ghost use Rattle.drv_machine.specs.Asked.{Asked};
 ghost use Rattle.drv_machine.specs.ByKind.{Found, Within, asked_step, is_call};
 ghost use Rattle.drv_machine.specs.Running.{run};
 ghost use Rattle.drv_machine.specs.Standing.{Spans, Stands};
@@ -9,44 +8,31 @@ ghost use Rattle.drv_syntax.specs.Labels.{label_at, test_nodes};
 ghost use Rattle.drv_syntax.specs.Parsed.{tree_of};
 ghost use Rattle.drv_syntax.specs.Tokens.{tokens_of};
 ghost use Rattle.drv_syntax.specs.Tree.{Tests};
-ghost use Rattle.drv_system.specs.Asking.{Extends};
 ghost use Rattle.drv_system.specs.Facts.{Facts};
-ghost use Rattle.drv_system.specs.Gives.{GivesKnown};
-ghost use Rattle.std.specs.Prelude.{◌≡◌, ◌<◌, IfOk, List, OnOk, false, length, ℕ};
+ghost use Rattle.drv_system.specs.Known.{Is};
+ghost use Rattle.std.specs.Prelude.{◌≡◌, ◌<◌, List, Ok, false, length, ℕ};
 
+use crate::Context;
 use crate::machine::Machine;
 use crate::names::{has_language, has_suffix};
-use crate::outside::Outside;
 use crate::places::{pattern_at, token_at};
-use crate::{Context, MachineFault};
 use drv_syntax::{SpecTree, TestKind};
-use drv_system::System;
 
 /// Whether what the test at a place asks, which is no function, is so, its `!` aside.
-#[tactic(auto, using(crate::proofs::AskedCalls::asked_none))]
-fn truth<S: System>(
-    text: &SpecTree,
-    context: &Context<'_>,
-    at: usize,
-    machine: &mut Machine,
-    outside: &mut Outside<'_, S>,
-) -> Result<bool, MachineFault>
+fn truth(text: &SpecTree, context: &Context<'_>, at: usize, machine: &Machine) -> bool
     requires in_list { at < length (tokens_of (tree_of text.now)) }
     requires no_result { is_call (label_at (tree_of text.now) at) ≡ false }
-    requires sized { length machine.old.world.hidden ≡ length context.now.switches }
-    ensures asks { Asked S.events outside.old outside.new }
-    ensures does { (F : Facts) → Extends outside.new.facts.now F → GivesKnown MachineFault.Memory (λ holds. (holds, machine.new)) result (run F context.now machine.old (asked_step context.now (label_at (tree_of text.now) at))) }
-    ensures sized { length machine.new.world.hidden ≡ length machine.old.world.hidden }
-    ensures uncounted { OnOk result (machine.new.world.items ≡ machine.old.world.items) }
+    requires sized { length machine.now.world.hidden ≡ length context.now.switches }
+    ensures { (F : Facts) → run F context.now machine.now (asked_step context.now (label_at (tree_of text.now) at)) ≡ Is (Ok (result, machine.now)) }
 {
     match text.asks(at) {
         TestKind::Switch => {
             let pattern = pattern_at(text, at);
-            Ok(context.switches().has_hit(&pattern, machine.hidden()))
+            context.switches().has_hit(&pattern, machine.hidden())
         }
-        TestKind::Suffix => Ok(has_suffix(context.input(), text.word(at))),
-        TestKind::Language => Ok(has_language(context.input(), text.word(at))),
-        TestKind::Result => Ok(false),
+        TestKind::Suffix => has_suffix(context.input(), text.word(at)),
+        TestKind::Language => has_language(context.input(), text.word(at)),
+        TestKind::Result => false,
     }
 }
 
@@ -72,32 +58,27 @@ pub(crate) enum Judged {
 }
 
 /// What is found first among the tests that stand from one place up to another.
-#[tactic(auto, using(crate::proofs::AskedCalls::asked_further))]
-pub(crate) fn first_true<S: System>(
+pub(crate) fn first_true(
     text: &SpecTree,
     context: &Context<'_>,
     start: usize,
     end: usize,
-    machine: &mut Machine,
-    outside: &mut Outside<'_, S>,
-) -> Result<Judged, MachineFault>
+    machine: &Machine,
+) -> Judged
     requires spans { Spans text.now start end }
-    requires sized { length machine.old.world.hidden ≡ length context.now.switches }
-    ensures asks { Asked S.events outside.old outside.new }
-    ensures within { IfOk result (λ found. Within start end (length (tokens_of (tree_of text.now))) found) }
-    ensures does { (F : Facts) → Extends outside.new.facts.now F → (tests : Tests) (levels : Levels) (star : List ℕ) → Stands text.now start (test_nodes tests) end → Found F context.now text.now end machine.old machine.new result tests levels star }
-    ensures sized { length machine.new.world.hidden ≡ length machine.old.world.hidden }
-    ensures uncounted { OnOk result (machine.new.world.items ≡ machine.old.world.items) }
+    requires sized { length machine.now.world.hidden ≡ length context.now.switches }
+    ensures within { Within start end (length (tokens_of (tree_of text.now))) result }
+    ensures does { (F : Facts) (tests : Tests) (levels : Levels) (star : List ℕ) → Stands text.now start (test_nodes tests) end → Found F context.now text.now end machine.now machine.now (Ok result) tests levels star }
 {
     let mut at = start;
     while at < end {
         if is_call(text, at) {
-            return Ok(Judged::Asks(at));
+            return Judged::Asks(at);
         }
-        if truth(text, context, at, machine, outside)? != text.negated(at) {
-            return Ok(Judged::True(at));
+        if truth(text, context, at, machine) != text.negated(at) {
+            return Judged::True(at);
         }
         at = token_at(text, at).next as usize;
     }
-    Ok(Judged::Neither)
+    Judged::Neither
 }

@@ -1,6 +1,5 @@
 //! Braces with alternatives.
 
-ghost use Rattle.drv_machine.specs.Asked.{Asked};
 ghost use Rattle.drv_machine.specs.Atoms.{choices_step, items_step, worked};
 ghost use Rattle.drv_machine.specs.ByKind.{asks_switch};
 ghost use Rattle.drv_machine.specs.Running as running;
@@ -12,7 +11,6 @@ ghost use Rattle.drv_syntax.specs.Parsed.{tree_of};
 ghost use Rattle.drv_syntax.specs.Stars.{has_star};
 ghost use Rattle.drv_syntax.specs.Tokens.{tokens_of};
 ghost use Rattle.drv_syntax.specs.Tree as tree;
-ghost use Rattle.drv_system.specs.Asking.{Extends};
 ghost use Rattle.drv_system.specs.Facts.{Facts};
 ghost use Rattle.std.specs.Prelude.{◌≡◌, ◌&&◌, ◌+◌, ◌-◌, ◌<◌, ◌≤◌, Bool, OnOk, Some, length};
 
@@ -20,12 +18,10 @@ use crate::asking::{Judged, first_true};
 use crate::calling::open_test;
 use crate::hits::enter_next;
 use crate::machine::Machine;
-use crate::outside::Outside;
 use crate::places::{tests_end, token_at};
 use crate::walk::{Asking, Each, Walk};
 use crate::{Context, MachineFault};
 use drv_syntax::{SpecTree, TestKind};
-use drv_system::System;
 
 /// Whether an X is worked for each hit: the test at a place asks for a switch, and X has a `%*` of its own.
 fn is_for_each(text: &SpecTree, test: usize, own: bool) -> bool
@@ -63,20 +59,17 @@ fn enter_alternative(
 
 /// A test by a function was answered: its X is reached or opened, or the tests behind it are judged, and then the
 /// alternatives behind them.
-#[tactic(auto, using(crate::proofs::AskedCalls::asked_further))]
-pub(crate) fn answer<S: System>(
+pub(crate) fn answer(
     text: &SpecTree,
     context: &Context<'_>,
     asking: Asking,
     holds: bool,
     walk: &mut Walk<'_>,
     machine: &mut Machine,
-    outside: &mut Outside<'_, S>,
 ) -> Result<(), MachineFault>
     requires fits { (items : tree.Items) × (kept : Kept) × AskFits text.now asking items kept }
     requires sized { length machine.old.world.hidden ≡ length context.now.switches }
-    ensures asks { Asked S.events outside.old outside.new }
-    ensures does { (F : Facts) → Extends outside.new.facts.now F → (items : tree.Items) (kept : Kept) (given : Answer (Unit {0} × running.Machine)) → AskFits text.now asking items kept → Behind F context.now text.now walk.old asking.end (λ levels star. decided_on F context.now items kept levels star holds) machine.old given → Went F context.now text.now walk.new machine.new given result }
+    ensures does { (F : Facts) (items : tree.Items) (kept : Kept) (given : Answer (Unit {0} × running.Machine)) → AskFits text.now asking items kept → Behind F context.now text.now walk.old asking.end (λ levels star. decided_on F context.now items kept levels star holds) machine.old given → Went F context.now text.now walk.new machine.new given result }
     ensures lighter { OnOk result (weight (length context.now.switches) walk.new.frames ≤ weight (length context.now.switches) walk.old.frames + (length context.now.switches + (asking.end - asking.test))) }
     ensures sized { length machine.new.world.hidden ≡ length machine.old.world.hidden }
     ensures uncounted { OnOk result (machine.new.world.items ≡ machine.old.world.items) }
@@ -90,7 +83,7 @@ pub(crate) fn answer<S: System>(
     if holds != text.negated(asking.test) {
         return enter_alternative(text, context, each, asking.own, walk, machine);
     }
-    match first_true(text, context, asking.from, asking.start, machine, outside)? {
+    match first_true(text, context, asking.from, asking.start, machine) {
         Judged::True(test) => {
             each.test = test;
             enter_alternative(text, context, each, asking.own, walk, machine)
@@ -103,34 +96,23 @@ pub(crate) fn answer<S: System>(
             };
             open_test(later, walk, machine)
         }
-        Judged::Neither => choose(
-            text,
-            context,
-            asking.next,
-            asking.end,
-            walk,
-            machine,
-            outside,
-        ),
+        Judged::Neither => choose(text, context, asking.next, asking.end, walk, machine),
     }
 }
 
 /// The first of the alternatives with a true test that stand from one place up to another is reached or opened, or the
 /// default, or the place behind them.
-#[tactic(auto, using(crate::proofs::AskedCalls::asked_further))]
-pub(crate) fn choose<S: System>(
+pub(crate) fn choose(
     text: &SpecTree,
     context: &Context<'_>,
     start: usize,
     end: usize,
     walk: &mut Walk<'_>,
     machine: &mut Machine,
-    outside: &mut Outside<'_, S>,
 ) -> Result<(), MachineFault>
     requires spans { Spans text.now start end }
     requires sized { length machine.old.world.hidden ≡ length context.now.switches }
-    ensures asks { Asked S.events outside.old outside.new }
-    ensures does { (F : Facts) → Extends outside.new.facts.now F → (choices : tree.Choices) (given : Answer (Unit {0} × running.Machine)) → Stands text.now start (choice_nodes choices) end → Behind F context.now text.now walk.old end (λ levels star. choices_step F context.now choices levels star) machine.old given → Went F context.now text.now walk.new machine.new given result }
+    ensures does { (F : Facts) (choices : tree.Choices) (given : Answer (Unit {0} × running.Machine)) → Stands text.now start (choice_nodes choices) end → Behind F context.now text.now walk.old end (λ levels star. choices_step F context.now choices levels star) machine.old given → Went F context.now text.now walk.new machine.new given result }
     ensures sized { length machine.new.world.hidden ≡ length machine.old.world.hidden }
     ensures uncounted { OnOk result (machine.new.world.items ≡ machine.old.world.items) }
     ensures lighter { OnOk result (weight (length context.now.switches) walk.new.frames ≤ weight (length context.now.switches) walk.old.frames + (length context.now.switches + (end - start))) }
@@ -145,7 +127,7 @@ pub(crate) fn choose<S: System>(
             return Ok(());
         }
         let own = text.holds_star(at);
-        match first_true(text, context, at + 1, items, machine, outside)? {
+        match first_true(text, context, at + 1, items, machine) {
             Judged::True(test) => {
                 let each = Each {
                     test,

@@ -61,7 +61,7 @@ pub(crate) fn work_brace<S: System>(
         walk.at = end;
         return emit(text, context, start, end, machine, outside);
     }
-    choose(text, context, start, end, walk, machine, outside)
+    choose(text, context, start, end, walk, machine)
 }
 
 /// A `%W` whose inside ends at a place is opened.

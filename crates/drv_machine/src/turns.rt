@@ -76,7 +76,7 @@ fn close<'w, S: System>(
         Opened::Asks(asking, outer) => {
             let name = text.word(asking.test);
             let holds = machine.has_value(name, Box::into_inner(outer), context, outside)?;
-            answer(text, context, asking, holds, walk, machine, outside)
+            answer(text, context, asking, holds, walk, machine)
         }
     }
 }
@@ -134,7 +134,7 @@ fn turn<'w, S: System>(
     machine.count()?;
     let next = token.next as usize;
     match token.kind {
-        TokenKind::Choose => choose(text, context, at + 1, next, walk, machine, outside),
+        TokenKind::Choose => choose(text, context, at + 1, next, walk, machine),
         TokenKind::NamedText => {
             walk.at = next;
             open_text(context, text.word(at), walk)

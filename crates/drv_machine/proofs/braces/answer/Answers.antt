@@ -1,5 +1,4 @@
-use Rattle.drv_machine.proofs.AskedCalls.{extends_before}
-use Rattle.drv_machine.proofs.Judging.{answer_false, answer_true, later_asks, later_refused, later_true, none_later}
+use Rattle.drv_machine.proofs.Judging.{answer_false, answer_true, later_asks, later_true, none_later}
 use Rattle.drv_machine.proofs.Standing.{stand_grows}
 use Rattle.drv_machine.proofs.Steps.{ok_as}
 use Rattle.drv_machine.proofs.TrueTests.{negated_kept}
@@ -10,71 +9,64 @@ use Rattle.drv_machine.specs.declared.asking.Judged.{Judged}
 use Rattle.drv_syntax.specs.Labels.{test_nodes}
 use Rattle.drv_syntax.specs.Parsed.{tree_of}
 use Rattle.drv_syntax.specs.Tokens.{tokens_of}
-use Rattle.std.proofs.Common.{Ok, arith, false, length, rules, subst, true}
+use Rattle.std.proofs.Common.{Ok, arith, false, length, subst, true}
 
 pub negated-requires : goal.negated-requires
-negated-requires g c = c.requires.fits.2.in_list
+negated-requires c = c.requires.fits.2.in_list
 
 pub enter_alternative-requires-clause-in_list : goal.enter_alternative-requires-clause-in_list
-enter_alternative-requires-clause-in_list g c = c.requires.fits.2.in_list
+enter_alternative-requires-clause-in_list c = c.requires.fits.2.in_list
 
 pub first_true-requires-clause-spans : goal.first_true-requires-clause-spans
-first_true-requires-clause-spans g c = record { nodes = test_nodes c.requires.fits.1.tests; stands = c.requires.fits.2.tests_stand }
+first_true-requires-clause-spans c = record { nodes = test_nodes c.requires.fits.1.tests; stands = c.requires.fits.2.tests_stand }
 
 pub returns-then-holds-negated-clause-does : goal.returns-then-holds-negated-clause-does
-returns-then-holds-negated-clause-does g c F e items kept given fits b =
+returns-then-holds-negated-clause-does c F items kept given fits b =
     c.enter_alternative.ensures.does F kept.negated kept.asked items _ given fits.own_is fits.label_is fits.items_stand
     (answer_true F c.args.context.now c.args.text.now c.args.walk.now items kept given c.args.asking fits c.args.holds c.args.machine.now b (negated_kept kept.negated kept.asked c.args.text.now c.args.asking.test c.args.holds c.negated.result true c.negated.ensures fits.label_is c.if-holds-negated.true))
 
-pub returns-in_err-test-clause-does : goal.returns-in_err-test-clause-does
-returns-in_err-test-clause-does g c F e items kept given fits b =
-    let behind = answer_false F c.args.context.now c.args.text.now c.args.walk.now items kept given c.args.asking fits c.args.holds c.args.machine.now b (negated_kept kept.negated kept.asked c.args.text.now c.args.asking.test c.args.holds c.negated.result false c.negated.ensures fits.label_is c.if-holds-negated.false) in
-    let failed = later_refused F c.args.context.now c.args.text.now c.args.walk.now items kept given c.args.asking fits c.args.holds c.args.machine.now b behind c.in_err-test.field-0.0 (λ levels star. c.in_err-test.ensures.does F e kept.tests levels star fits.tests_stand) in
-    let f = c.from_residual.ensures in
-    search rules
-
 pub returns-in-True-clause-does : goal.returns-in-True-clause-does
-returns-in-True-clause-does g c F e items kept given fits b =
+returns-in-True-clause-does c F items kept given fits b =
     let behind = answer_false F c.args.context.now c.args.text.now c.args.walk.now items kept given c.args.asking fits c.args.holds c.args.machine.now b (negated_kept kept.negated kept.asked c.args.text.now c.args.asking.test c.args.holds c.negated.result false c.negated.ensures fits.label_is c.if-holds-negated.false) in
-    later_true F c.args.context.now c.args.text.now c.args.walk.now items kept given c.args.asking fits c.args.holds c.args.machine.now b behind c.first_true.new.machine c.in-True.test (λ levels star. subst (λ (f : Judged). Found F c.args.context.now c.args.text.now c.args.asking.start c.args.machine.now c.first_true.new.machine (Ok f) kept.tests levels star) c.in-True.is (c.in_ok-test.ensures.does F e kept.tests levels star fits.tests_stand))
-    (Went F c.args.context.now c.args.text.now c.enter_alternative-in-True.new.walk c.first_true.new.machine given c.enter_alternative-in-True.result)
+    later_true F c.args.context.now c.args.text.now c.args.walk.now items kept given c.args.asking fits c.args.holds c.args.machine.now b behind c.args.machine.now c.in-True.test (λ levels star. subst (λ (f : Judged). Found F c.args.context.now c.args.text.now c.args.asking.start c.args.machine.now c.args.machine.now (Ok f) kept.tests levels star) c.in-True.is (c.first_true.ensures.does F kept.tests levels star fits.tests_stand))
+    (Went F c.args.context.now c.args.text.now c.enter_alternative-in-True.new.walk c.args.machine.now given c.enter_alternative-in-True.result)
     (λ negated asked others label stands. c.enter_alternative-in-True.ensures.does F negated asked items others given fits.own_is label fits.items_stand stands)
 
 pub returns-in-Asks-clause-does : goal.returns-in-Asks-clause-does
-returns-in-Asks-clause-does g c F e items kept given fits b =
+returns-in-Asks-clause-does c F items kept given fits b =
     let behind = answer_false F c.args.context.now c.args.text.now c.args.walk.now items kept given c.args.asking fits c.args.holds c.args.machine.now b (negated_kept kept.negated kept.asked c.args.text.now c.args.asking.test c.args.holds c.negated.result false c.negated.ensures fits.label_is c.if-holds-negated.false) in
-    later_asks F c.args.context.now c.args.text.now c.args.walk.now items kept given c.args.asking fits c.args.holds c.args.machine.now b behind c.first_true.new.machine c.in-Asks.test c.token_at.result c.token_at.ensures (λ levels star. subst (λ (f : Judged). Found F c.args.context.now c.args.text.now c.args.asking.start c.args.machine.now c.first_true.new.machine (Ok f) kept.tests levels star) c.in-Asks.is (c.in_ok-test.ensures.does F e kept.tests levels star fits.tests_stand))
+    later_asks F c.args.context.now c.args.text.now c.args.walk.now items kept given c.args.asking fits c.args.holds c.args.machine.now b behind c.args.machine.now c.in-Asks.test c.token_at.result c.token_at.ensures (λ levels star. subst (λ (f : Judged). Found F c.args.context.now c.args.text.now c.args.asking.start c.args.machine.now c.args.machine.now (Ok f) kept.tests levels star) c.in-Asks.is (c.first_true.ensures.does F kept.tests levels star fits.tests_stand))
     (Went F c.args.context.now c.args.text.now c.open_test.new.walk c.open_test.new.machine given c.open_test.result)
     (λ arguments later others stands after. c.open_test.ensures.does F c.args.context.now c.args.text.now items arguments later given others stands after)
 
 pub returns-in-Neither-clause-does : goal.returns-in-Neither-clause-does
-returns-in-Neither-clause-does g c F e items kept given fits b =
+returns-in-Neither-clause-does c F items kept given fits b =
     let behind = answer_false F c.args.context.now c.args.text.now c.args.walk.now items kept given c.args.asking fits c.args.holds c.args.machine.now b (negated_kept kept.negated kept.asked c.args.text.now c.args.asking.test c.args.holds c.negated.result false c.negated.ensures fits.label_is c.if-holds-negated.false) in
-    c.choose.ensures.does F e kept.choices given fits.choices_stand
-    (none_later F c.args.context.now c.args.text.now c.args.walk.now items kept given c.args.asking fits c.args.holds c.args.machine.now b behind c.first_true.new.machine (λ levels star. subst (λ (f : Judged). Found F c.args.context.now c.args.text.now c.args.asking.start c.args.machine.now c.first_true.new.machine (Ok f) kept.tests levels star) c.in-Neither.is (c.in_ok-test.ensures.does F (extends_before c.choose.ensures.asks e) kept.tests levels star fits.tests_stand)))
+    c.choose.ensures.does F kept.choices given fits.choices_stand
+    (none_later F c.args.context.now c.args.text.now c.args.walk.now items kept given c.args.asking fits c.args.holds c.args.machine.now b behind c.args.machine.now (λ levels star. subst (λ (f : Judged). Found F c.args.context.now c.args.text.now c.args.asking.start c.args.machine.now c.args.machine.now (Ok f) kept.tests levels star) c.in-Neither.is (c.first_true.ensures.does F kept.tests levels star fits.tests_stand)))
 
 pub open_test-requires : goal.open_test-requires
-open_test-requires g c =
-    let found = subst (λ (f : Judged). Within c.args.asking.from c.args.asking.start (length (tokens_of (tree_of c.args.text.now))) f) c.in-Asks.is c.in_ok-test.ensures.within in
+open_test-requires c =
+    let found = subst (λ (f : Judged). Within c.args.asking.from c.args.asking.start (length (tokens_of (tree_of c.args.text.now))) f) c.in-Asks.is c.first_true.ensures.within in
     found.1
 
 pub returns-then-holds-negated-clause-lighter : goal.returns-then-holds-negated-clause-lighter
-returns-then-holds-negated-clause-lighter g c = ok_as c.enter_alternative.result (λ l. omega (arith, l)) c.enter_alternative.ensures.lighter
+returns-then-holds-negated-clause-lighter c = ok_as c.enter_alternative.result (λ l. omega (arith, l)) c.enter_alternative.ensures.lighter
 
 pub returns-in-True-clause-lighter : goal.returns-in-True-clause-lighter
-returns-in-True-clause-lighter g c = ok_as c.enter_alternative-in-True.result (λ l. omega (arith, l)) c.enter_alternative-in-True.ensures.lighter
+returns-in-True-clause-lighter c = ok_as c.enter_alternative-in-True.result (λ l. omega (arith, l)) c.enter_alternative-in-True.ensures.lighter
 
 pub returns-in-Asks-clause-lighter : goal.returns-in-Asks-clause-lighter
-returns-in-Asks-clause-lighter g c =
+returns-in-Asks-clause-lighter c =
     let fits = c.requires.fits.2 in
     let tests = stand_grows _ _ c.args.asking.from _ c.args.asking.start fits.tests_stand in
     let items = stand_grows _ _ c.args.asking.start _ c.args.asking.next fits.items_stand in
     let choices = stand_grows _ _ c.args.asking.next _ c.args.asking.end fits.choices_stand in
-    let found = subst (λ (f : Judged). Within c.args.asking.from c.args.asking.start (length (tokens_of (tree_of c.args.text.now))) f) c.in-Asks.is c.in_ok-test.ensures.within in
+    let found = subst (λ (f : Judged). Within c.args.asking.from c.args.asking.start (length (tokens_of (tree_of c.args.text.now))) f) c.in-Asks.is c.first_true.ensures.within in
     ok_as c.open_test.result (λ l. omega (arith, fits.later, tests, items, choices, found.0, l)) (c.open_test.ensures.lighter (length c.args.context.now.switches))
 
 pub returns-in-Neither-clause-lighter : goal.returns-in-Neither-clause-lighter
-returns-in-Neither-clause-lighter g c =
+returns-in-Neither-clause-lighter c =
     let fits = c.requires.fits.2 in
     let tests = stand_grows _ _ c.args.asking.from _ c.args.asking.start fits.tests_stand in
     let items = stand_grows _ _ c.args.asking.start _ c.args.asking.next fits.items_stand in

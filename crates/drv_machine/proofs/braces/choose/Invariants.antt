@@ -1,26 +1,23 @@
 use Rattle.drv_machine.proofs.ChoiceSteps.{ChoicesLeft}
 use Rattle.drv_machine.proofs.braces.choose.Given as goal
-use Rattle.drv_machine.specs.Asked.{Asked}
 use Rattle.drv_machine.specs.Standing.{Spans, Stands}
 use Rattle.drv_machine.specs.Working.{Levels}
 use Rattle.drv_syntax.specs.Labels.{choice_nodes}
 use Rattle.drv_syntax.specs.Tree.{Choices}
-use Rattle.drv_system.specs.Asking.{Extends}
 use Rattle.drv_system.specs.Facts.{Facts}
 use Rattle.std.proofs.Common.{List, length, ◌-◌, ◌≡◌, ◌≤◌, ℕ}
 
 abbrev pub invariant-loop-at : goal.invariant-loop-at
-invariant-loop-at g l = record {
-  asks : Asked g.S.System.events l.fn.outside l.outside;
+invariant-loop-at l = record {
   walk : l.walk ≡ l.fn.walk;
   low : l.start ≤ l.at;
   spans : Spans l.text l.at l.end;
   sized : length l.machine.world.hidden ≡ length l.context.switches;
   uncounted : l.machine.world.items ≡ l.fn.machine.world.items;
   same_text : l.walk.text.now ≡ l.fn.walk.text.now;
-  left : (F : Facts) → Extends l.outside.facts.now F → (choices : Choices) (levels : Levels) (star : List ℕ) → Stands l.text l.start (choice_nodes choices) l.end
+  left : (F : Facts) (choices : Choices) (levels : Levels) (star : List ℕ) → Stands l.text l.start (choice_nodes choices) l.end
       → ChoicesLeft F l.context l.text l.fn.machine l.machine l.at l.end choices levels star;
 }
 
 abbrev pub decreases-loop-at : goal.decreases-loop-at
-decreases-loop-at g l = l.end - l.at
+decreases-loop-at l = l.end - l.at

@@ -20,7 +20,7 @@ returns-then-has_patterns-clause-does g c F e brace given s b =
 pub returns-clause-does : goal.returns-clause-does
 returns-clause-does g c F e brace given s b =
     let ch = c.has_patterns.ensures.choices c.if-has_patterns.false brace s in
-    c.choose.ensures.does F e ch.choices given ch.stands
+    c.choose.ensures.does F ch.choices given ch.stands
     (same_step F c.args.context.now c.args.text.now c.args.walk.now c.args.machine.now given c.args.end (λ levels star. brace_step F c.args.context.now brace levels star) b
     (λ levels star. choices_step F c.args.context.now ch.choices levels star) c.args.machine.now
     (ch.same F c.args.context.now c.args.machine.now (levels_in F c.args.context.now b.arounds) (star_of c.args.context.now c.args.walk.now.star)))

@@ -116,9 +116,9 @@ pub returns-in_ok-holds-in-Asks-clause-does : goal.returns-in_ok-holds-in-Asks-c
 returns-in_ok-holds-in-Asks-clause-does g c F e p items kept given fits a =
     let ask = subst (λ (o : Opened). OpenedFits c.args.walk.now.text.now c.args.context.now o p items kept) c.in-Asks.is fits in
     went_in F c.args.context.now c.args.walk.now.text.now c.answer.new.walk.text.now c.answer.new.walk c.answer.new.machine given c.answer.result c.answer.ensures.same_text
-    (c.answer.ensures.does F e items kept given ask
+    (c.answer.ensures.does F items kept given ask
     (answered F c.args.context.now c.args.walk.now.text.now (record c.args.walk.now { end = c.args.frame.end; star = c.args.frame.star }) items kept given c.in-Asks.asking.end c.in-Asks.outer.value c.args.machine.now
     (subst (λ (o : Opened). After F c.args.context.now (text_around c.args.walk.now.text.now o) (record c.args.walk.now { end = c.args.frame.end; star = c.args.frame.star }) (back_of o) (λ levels star s. closing F c.args.context.now levels star o p items kept s) c.args.machine.now given) c.in-Asks.is a) c.in_ok-holds-in-Asks.holds c.has_value.new.self
     (subst (λ (name : List ℕ). behind_arguments F c.args.context.now c.in-Asks.outer.value (has_value F c.args.context.now name) c.args.machine.now ≡ Is (Ok (c.in_ok-holds-in-Asks.holds, c.has_value.new.self))) (c.word-name.ensures ∙ ask.name_is)
     (subst (λ (cut : Cut). behind_arguments F c.args.context.now cut (has_value F c.args.context.now c.word-name.result.now) c.args.machine.now ≡ Is (Ok (c.in_ok-holds-in-Asks.holds, c.has_value.new.self))) (let same : c.into_inner-in-Asks.result ≡ c.in-Asks.outer.value = search rules in same)
-    (c.in_ok-holds-in-Asks.ensures.does F (extends_before c.answer.ensures.asks e))))))
+    (c.in_ok-holds-in-Asks.ensures.does F e)))))

@@ -34,7 +34,7 @@ returns-in-Choose-clause-does g c F e given left =
     went_in F c.args.context.now c.args.walk.now.text.now c.choose.new.walk.text.now c.choose.new.walk c.choose.new.machine given c.choose.result c.choose.ensures.same_text
     (turn_choose c.args.walk.now.text.now c.args.walk.now c.requires.at_item c.token_at-token.result c.token_at-token.ensures F c.args.context.now c.args.machine.now given left c.count.new.self
     (c.in_ok-count.ensures.does F c.args.context.now) c.in-Choose.is (Went F c.args.context.now c.args.walk.now.text.now c.choose.new.walk c.choose.new.machine given c.choose.result)
-    (λ choices stands behind. c.choose.ensures.does F e choices given stands behind))
+    (λ choices stands behind. c.choose.ensures.does F choices given stands behind))
 
 pub returns-in_default-clause-does : goal.returns-in_default-clause-does
 returns-in_default-clause-does g c F e given left =
