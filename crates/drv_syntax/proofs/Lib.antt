@@ -39,5 +39,5 @@ pub mod WalkStars
 pub mod WalkTests
 pub mod Unrefused
 pub mod Wanted
-pub mod WholeItems
+pub mod Runs
 pub mod Words

@@ -1,11 +1,11 @@
-use Rattle.drv_syntax.specs.Labels.{Label, no_label, part_label, star_label}
-use Rattle.drv_syntax.specs.Reader.Marks.{Within, marked_label, marked_labels}
+use Rattle.drv_syntax.specs.Labels.{Label, no_label, part_label, star_label, word_label}
+use Rattle.drv_syntax.specs.Reader.Marks.{Within, byte_labels, byte_marks, marked_label, marked_labels}
 use Rattle.drv_syntax.specs.declared.labels.Mark.{Mark}
 use Rattle.drv_syntax.specs.declared.token.TestKind.TheVariants as asking
 use Rattle.drv_syntax.specs.declared.token.TestKind.{TestKind}
-use Rattle.std.proofs.Common.{◌≡◌, ℕ, ◌-◌, ◌<◌, ◌≤◌, Bool, false, List, [], ◌∷◌, ◌++◌, length, take, drop, get_or, set, refl, subst, suc, sym, zero, ap, ◌∙◌, arith, append_assoc, length-append}
+use Rattle.std.proofs.Common.{◌≡◌, ℕ, ◌+◌, ◌-◌, ◌<◌, ◌≤◌, Bool, false, List, [], ◌∷◌, ◌++◌, length, take, drop, get_or, set, refl, subst, suc, sym, zero, ap, ◌∙◌, arith, append_assoc, length-append}
 use Rattle.std.proofs.Math.Seq.{drop-append_seam, take-length}
-use Rattle.std.proofs.lemmas.List.{drop-append-le, length-drop, length-map, map-append, map-set, take-append-le, take-map}
+use Rattle.std.proofs.lemmas.List.{drop-append-le, drop_more, length-drop, length-map, map-append, map-set, take-append-le, take-map}
 
 -- Labels whose words stand one behind another.
 
@@ -120,3 +120,52 @@ labels_take words n marks = sym (take-map (λ m. marked_label words m) n marks)
 pub labels_set : (words : List ℕ) (place : ℕ) (holds : Bool) (marks : List Mark)
     → marked_labels words (set marks place (record { start = 0; end = 0; starred = false; negated = false; asks = asking.Switch; holds_star = holds })) ≡ set (marked_labels words marks) place (star_label holds)
 labels_set words place holds marks = map-set (λ m. marked_label words m) marks place (record { start = 0; end = 0; starred = false; negated = false; asks = asking.Switch; holds_star = holds })
+
+-- bytes that name themselves
+within_on : (n start : ℕ) (run : List ℕ) → start + length run ≤ n → Within n (byte_marks start run)
+within_on n start [] h = tt
+within_on n start (b ∷ run) h = ((omega arith, omega (arith, h)), within_on n (start + 1) run (omega (arith, h)))
+
+within_both : (n : ℕ) (marks others : List Mark) → Within n marks → Within n others → Within n (marks ++ others)
+within_both n [] others w h = h
+within_both n (m ∷ marks) others w h = (w.0, within_both n marks others w.1 h)
+
+pub within_run : (words second run : List ℕ) (start : ℕ) (marks all : List Mark) → second ≡ words ++ run → start ≡ length words → all ≡ marks ++ byte_marks start run → Within (length words) marks
+    → Within (length second) all
+within_run words second run start marks all e f a w =
+    subst (λ (ms : List Mark). Within (length second) ms) (sym a)
+    (within_both (length second) marks (byte_marks start run) (within_more (length words) (length second) marks (omega (arith, size)) w) (within_on (length second) start run (omega (arith, size, f))))
+  where
+    size : length second ≡ length words + length run
+    size = ap (λ xs. length xs) e ∙ length-append words run
+
+run_at : (words run : List ℕ) (start : ℕ) → start ≡ length words → marked_labels (words ++ run) (byte_marks start run) ≡ byte_labels run
+run_at words [] start h = refl
+run_at words (b ∷ run) start h =
+    ap (λ word. word_label word ∷ marked_labels (words ++ b ∷ run) (byte_marks (start + 1) run)) first
+    ∙ ap (λ ls. word_label (b ∷ []) ∷ ls) (ap (λ ws. marked_labels ws (byte_marks (start + 1) run)) (sym (append_assoc words (b ∷ []) run)) ∙ run_at (words ++ b ∷ []) run (start + 1) (omega (arith, h, length-append words (b ∷ []))))
+  where
+    first : take (start + 1 - start) (drop start (words ++ b ∷ run)) ≡ b ∷ []
+    first = ap (λ n. take n (drop start (words ++ b ∷ run))) one ∙ ap (λ n. take 1 (drop n (words ++ b ∷ run))) h ∙ ap (λ xs. take 1 xs) (drop-append_seam words (b ∷ run))
+      where
+        one : start + 1 - start ≡ 1
+        one = omega arith
+
+pub labels_run : (words second run : List ℕ) (start : ℕ) (marks all : List Mark) (now : List Label) → now ≡ marked_labels words marks → Within (length words) marks → second ≡ words ++ run → start ≡ length words
+    → all ≡ marks ++ byte_marks start run → now ++ byte_labels run ≡ marked_labels second all
+labels_run words second run start marks all now e w f h a =
+    ap (λ ls. ls ++ byte_labels run) e
+    ∙ ap (λ ls. ls ++ byte_labels run) (sym (labels_kept words run marks w))
+    ∙ ap (λ ls. marked_labels (words ++ run) marks ++ ls) (sym (run_at words run start h))
+    ∙ sym (map-append (λ m. marked_label (words ++ run) m) marks (byte_marks start run))
+    ∙ ap (λ ws. marked_labels ws (marks ++ byte_marks start run)) (sym f)
+    ∙ ap (λ ms. marked_labels second ms) (sym a)
+
+pub marks_step : (old new all : List Mark) (place i : ℕ) (run : List ℕ) → i < length run
+    → new ≡ old ++ record { start = place; end = place + 1; starred = false; negated = false; asks = asking.Switch; holds_star = false } ∷ []
+    → old ++ byte_marks place (drop i run) ≡ all → new ++ byte_marks (place + 1) (drop (i + 1) run) ≡ all
+marks_step old new all place i run h e f =
+    ap (λ ms. ms ++ byte_marks (place + 1) (drop (i + 1) run)) e
+    ∙ append_assoc old (record { start = place; end = place + 1; starred = false; negated = false; asks = asking.Switch; holds_star = false } ∷ []) (byte_marks (place + 1) (drop (i + 1) run))
+    ∙ ap (λ bs. old ++ byte_marks place bs) (sym (drop_more run i 0 h))
+    ∙ f

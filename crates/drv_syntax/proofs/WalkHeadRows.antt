@@ -8,12 +8,11 @@ use Rattle.drv_syntax.specs.Reader.Turns.{leaf_kind, leaf_label, list_turn, star
 use Rattle.drv_syntax.specs.Reader.Steps.{form_at}
 use Rattle.drv_syntax.specs.declared.reader.stages.Behind.TheVariants as behinds
 use Rattle.drv_syntax.specs.declared.reader.stages.Behind.{Behind}
-use Rattle.drv_syntax.specs.declared.reader.actions.ChoiceAction.{ChoiceAction}
 use Rattle.drv_syntax.specs.declared.reader.stages.Context.{Context}
 use Rattle.drv_syntax.specs.declared.reader.stages.Form.{Form}
 use Rattle.drv_syntax.specs.declared.reader.stages.Head.{Head}
-use Rattle.drv_syntax.specs.declared.reader.actions.HeadAction.TheVariants as heads
-use Rattle.drv_syntax.specs.declared.reader.actions.HeadAction.{HeadAction}
+use Rattle.drv_syntax.specs.Reader.HeadActions as heads
+use Rattle.drv_syntax.specs.Reader.HeadActions.{ChoiceAction, HeadAction}
 use Rattle.drv_syntax.specs.declared.reader.stages.HeadStage.TheVariants as places
 use Rattle.drv_syntax.specs.declared.reader.stages.HeadStage.{HeadStage}
 use Rattle.std.proofs.Common.{◌≡◌, ℕ, ◌+◌, ◌-◌, Bool, true, false, List, [], ◌∷◌, ◌++◌, refl, if◌then◌else◌}

@@ -10,14 +10,12 @@ use Rattle.drv_syntax.specs.Reader.Steps as s
 use Rattle.drv_syntax.specs.Reader.Steps.{Walk, open_token}
 use Rattle.drv_syntax.specs.declared.fault.SyntaxFault.{SyntaxFault}
 use Rattle.drv_syntax.specs.declared.reader.stages.BraceKind.{BraceKind}
-use Rattle.drv_syntax.specs.declared.reader.actions.ChoiceAction.TheVariants as choosing
-use Rattle.drv_syntax.specs.declared.reader.actions.ChoiceAction.{ChoiceAction}
 use Rattle.drv_syntax.specs.declared.reader.stages.Context.{Context}
 use Rattle.drv_syntax.specs.declared.reader.stages.Form.{Form}
 use Rattle.drv_syntax.specs.declared.reader.stages.Frame.TheVariants as frames
 use Rattle.drv_syntax.specs.declared.reader.stages.Frame.{Frame}
-use Rattle.drv_syntax.specs.declared.reader.actions.HeadAction.TheVariants as heads
-use Rattle.drv_syntax.specs.declared.reader.actions.HeadAction.{HeadAction}
+use Rattle.drv_syntax.specs.Reader.HeadActions as heads
+use Rattle.drv_syntax.specs.Reader.HeadActions.{ChoiceAction, HeadAction}
 use Rattle.drv_syntax.specs.declared.reader.stages.HeadStage.{HeadStage}
 use Rattle.drv_syntax.specs.declared.reader.stages.ListStage.TheVariants as stages
 use Rattle.drv_syntax.specs.declared.reader.stages.Stage.TheVariants as staged
@@ -149,8 +147,8 @@ pub choice_action_leads : (later : Bool) (action : ChoiceAction) (k : Context) {
     (word : List ℕ) (kept trail : ℕ) (n b : ℕ) → Fits (s.form_at later) choices tree.no_test [] → Waits fs ws
     → Leads (s.act_choice (the_head ws before kind at) later action n b (hw (staged.Choice (the_head ws before kind at) later) k fs ws before kind at choices tree.no_test [] word kept trail))
     (λ again. after (meant_choice (hd ws k before kind at choices tree.no_test []) word n b action) ws again n)
-choice_action_leads later choosing.Stays k {fs} {ws} before kind at choices word kept trail n b fits h = (ws, (_, (shows_choice later k before kind at choices word kept trail fits h, λ again. refl)))
-choice_action_leads later choosing.Defaults k {fs} {ws} before kind at choices word kept trail n b fits h = (
+choice_action_leads later heads.Stays k {fs} {ws} before kind at choices word kept trail n b fits h = (ws, (_, (shows_choice later k before kind at choices word kept trail fits h, λ again. refl)))
+choice_action_leads later heads.Defaults k {fs} {ws} before kind at choices word kept trail n b fits h = (
   o.WaitsX hh n ∷ ws,
   (
     _,
@@ -166,9 +164,9 @@ choice_action_leads later choosing.Defaults k {fs} {ws} before kind at choices w
   where
     hh : o.Head
     hh = hd ws k before kind at choices tree.no_test []
-choice_action_leads false (choosing.Begins action) k {fs} {ws} before kind at choices word kept trail n b fits_fresh h =
+choice_action_leads false (heads.Tests action) k {fs} {ws} before kind at choices word kept trail n b fits_fresh h =
     head_action_leads action (staged.Choice (the_head ws before kind at) false) k before kind at tree.no_choice tree.no_test [] word kept trail n b held_fresh h
-choice_action_leads true (choosing.Begins action) k {fs} {ws} before kind at choices word kept trail n b (fits_later {s = q} {tests = ts} {items = xs} {choices = cs}) h =
+choice_action_leads true (heads.Tests action) k {fs} {ws} before kind at choices word kept trail n b (fits_later {s = q} {tests = ts} {items = xs} {choices = cs}) h =
     head_action_leads action (staged.Choice (the_head ws before kind at) true) k before kind at (tree.choice q ts xs cs) tree.no_test [] word kept trail n b held_later h
 
 pub choice_leads : (later : Bool) (k : Context) {fs : List Frame} {ws : List o.Waiting} (before : Items) (kind : BraceKind) (at : ℕ) (choices : Choices)

@@ -11,12 +11,11 @@ use Rattle.drv_syntax.specs.declared.reader.stages.Context.{Context}
 use Rattle.drv_syntax.specs.declared.reader.actions.Goes.TheVariants as goes
 use Rattle.drv_syntax.specs.declared.reader.actions.Goes.{Goes}
 use Rattle.drv_syntax.specs.declared.reader.actions.Leaf.TheVariants as leaves
-use Rattle.drv_syntax.specs.declared.reader.actions.ListAction.{ListAction}
+use Rattle.drv_syntax.specs.Reader.ListActions.{ListAction, ListTurn}
 use Rattle.drv_syntax.specs.declared.reader.stages.ListKind.TheVariants as lists
 use Rattle.drv_syntax.specs.declared.reader.stages.ListKind.{ListKind}
 use Rattle.drv_syntax.specs.declared.reader.stages.ListStage.TheVariants as stages
 use Rattle.drv_syntax.specs.declared.reader.stages.ListStage.{ListStage}
-use Rattle.drv_syntax.specs.declared.reader.actions.ListTurn.{ListTurn}
 use Rattle.drv_syntax.specs.declared.reader.stages.SayKind.TheVariants as sayings
 use Rattle.drv_syntax.specs.declared.reader.stages.SayKind.{SayKind}
 use Rattle.drv_syntax.specs.declared.reader.stages.StarOwner.TheVariants as owners

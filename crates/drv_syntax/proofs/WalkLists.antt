@@ -17,11 +17,10 @@ use Rattle.drv_syntax.specs.declared.reader.stages.Context.{Context}
 use Rattle.drv_syntax.specs.declared.reader.stages.Form.TheVariants as forms
 use Rattle.drv_syntax.specs.declared.reader.stages.Frame.TheVariants as frames
 use Rattle.drv_syntax.specs.declared.reader.stages.Frame.{Frame}
-use Rattle.drv_syntax.specs.declared.reader.actions.ListAction.TheVariants as acts
-use Rattle.drv_syntax.specs.declared.reader.actions.ListAction.{ListAction}
+use Rattle.drv_syntax.specs.Reader.ListActions as acts
+use Rattle.drv_syntax.specs.Reader.ListActions.{ListAction, ListTurn}
 use Rattle.drv_syntax.specs.declared.reader.stages.ListStage.TheVariants as stages
 use Rattle.drv_syntax.specs.declared.reader.stages.ListStage.{ListStage}
-use Rattle.drv_syntax.specs.declared.reader.actions.ListTurn.{ListTurn}
 use Rattle.drv_syntax.specs.declared.reader.actions.Part.{Part}
 use Rattle.drv_syntax.specs.declared.reader.stages.Stage.TheVariants as staged
 use Rattle.drv_syntax.specs.declared.reader.stages.Stage.{Stage}

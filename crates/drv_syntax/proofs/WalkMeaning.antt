@@ -14,25 +14,22 @@ use Rattle.drv_syntax.specs.declared.reader.stages.Behind.TheVariants as behinds
 use Rattle.drv_syntax.specs.declared.reader.stages.Behind.{Behind}
 use Rattle.drv_syntax.specs.declared.reader.stages.BraceKind.TheVariants as braces
 use Rattle.drv_syntax.specs.declared.reader.stages.BraceKind.{BraceKind}
-use Rattle.drv_syntax.specs.declared.reader.actions.ChoiceAction.TheVariants as choosing
-use Rattle.drv_syntax.specs.declared.reader.actions.ChoiceAction.{ChoiceAction}
 use Rattle.drv_syntax.specs.declared.reader.stages.Context.{Context}
 use Rattle.drv_syntax.specs.declared.reader.stages.Form.TheVariants as forms
 use Rattle.drv_syntax.specs.declared.reader.stages.Form.{Form}
 use Rattle.drv_syntax.specs.declared.reader.stages.Head.{Head}
-use Rattle.drv_syntax.specs.declared.reader.actions.HeadAction.TheVariants as heads
-use Rattle.drv_syntax.specs.declared.reader.actions.HeadAction.{HeadAction}
+use Rattle.drv_syntax.specs.Reader.HeadActions as heads
+use Rattle.drv_syntax.specs.Reader.HeadActions.{ChoiceAction, HeadAction}
 use Rattle.drv_syntax.specs.declared.reader.stages.HeadStage.TheVariants as places
 use Rattle.drv_syntax.specs.declared.reader.stages.HeadStage.{HeadStage}
 use Rattle.drv_syntax.specs.declared.reader.actions.Leaf.TheVariants as leaves
 use Rattle.drv_syntax.specs.declared.reader.actions.Leaf.{Leaf}
-use Rattle.drv_syntax.specs.declared.reader.actions.ListAction.TheVariants as acts
-use Rattle.drv_syntax.specs.declared.reader.actions.ListAction.{ListAction}
+use Rattle.drv_syntax.specs.Reader.ListActions as acts
+use Rattle.drv_syntax.specs.Reader.ListActions.{ListAction, ListTurn}
 use Rattle.drv_syntax.specs.declared.reader.stages.ListKind.TheVariants as lists
 use Rattle.drv_syntax.specs.declared.reader.stages.ListKind.{ListKind}
 use Rattle.drv_syntax.specs.declared.reader.stages.ListStage.TheVariants as stages
 use Rattle.drv_syntax.specs.declared.reader.stages.ListStage.{ListStage}
-use Rattle.drv_syntax.specs.declared.reader.actions.ListTurn.{ListTurn}
 use Rattle.drv_syntax.specs.declared.reader.stages.Open.{Open}
 use Rattle.drv_syntax.specs.declared.reader.actions.Part.{Part}
 use Rattle.drv_syntax.specs.declared.reader.stages.SayKind.TheVariants as sayings
@@ -327,6 +324,6 @@ meant_head h word n b (heads.Bars behind) = o.turn_bar h (tests_of behind word h
 meant_head h word n b (heads.Refused fault) = o.Refused fault
 
 abbrev pub meant_choice : o.Head → List ℕ → ℕ → ℕ → ChoiceAction → Turn
-meant_choice h word n b choosing.Stays = o.Goes (o.ChoiceStart h)
-meant_choice h word n b choosing.Defaults = o.turn_colon h (Some tree.no_test) false n
-meant_choice h word n b (choosing.Begins action) = meant_head h word n b action
+meant_choice h word n b heads.Stays = o.Goes (o.ChoiceStart h)
+meant_choice h word n b heads.Defaults = o.turn_colon h (Some tree.no_test) false n
+meant_choice h word n b (heads.Tests action) = meant_head h word n b action

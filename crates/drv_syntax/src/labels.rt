@@ -1,7 +1,8 @@
 //! What the parts of a text name.
 
 ghost use Rattle.drv_syntax.specs.Labels.{no_label, part_label, star_label, word_label};
-ghost use Rattle.std.specs.Prelude.{◌≡◌, ◌<◌, ◌++◌, ◌∷◌, [], false, get_or, length, Ok, slice_set, take};
+ghost use Rattle.drv_syntax.specs.Reader.Marks.{byte_labels, byte_marks};
+ghost use Rattle.std.specs.Prelude.{◌≡◌, ◌<◌, ◌≤◌, ◌+◌, ◌^◌, ◌++◌, ◌∷◌, [], false, get_or, length, Ok, slice_set, take, vec_capacity, vec_len};
 ghost use Rattle.drv_words.specs.Gives.{Gives};
 
 use crate::fault::SyntaxFault;
@@ -43,6 +44,26 @@ impl Model for Labels {
     ghost view = { λ l. marked_labels l.words.items l.marks.items };
 
     ghost invariant = { λ l. Within (length l.words.items) l.marks.items };
+}
+
+/// The marks of bytes that stand one behind another from this place on.
+fn push_marks(start: u32, run: &[u8], marks: &mut Vec<Mark>)
+    requires place { start + length run.now < 2 ^ 32 }
+    requires reserved { vec_len marks.old + length run.now ≤ vec_capacity marks.old }
+    ensures { marks.new.items ≡ marks.old.items ++ byte_marks start run.now }
+{
+    let mut place = start;
+    for _byte in run {
+        marks.push_reserved(Mark {
+            start: place,
+            end: place + 1,
+            starred: false,
+            negated: false,
+            asks: TestKind::Switch,
+            holds_star: false,
+        });
+        place += 1;
+    }
 }
 
 impl Labels {
@@ -129,6 +150,22 @@ impl Labels {
             asks: TestKind::Switch,
             holds_star: false,
         })?;
+        Ok(())
+    }
+
+    /// One more for each of these bytes, which names it.
+    #[tactic(auto, using(crate::proofs::MarkedWords::within_more, crate::proofs::MarkedWords::within_run, crate::proofs::MarkedWords::labels_run))]
+    pub fn push_bytes(&mut self, run: &[u8]) -> Result<(), SyntaxFault>
+        ensures { Gives SyntaxFault.Memory (λ _. self.new) result (Ok (self.old ++ byte_labels run.now)) }
+    {
+        self.marks.reserve(run.len())?;
+        let start = self.words.len();
+        self.words.extend_from_slice(run)?;
+        let end = self.words.len();
+        if end > u32::MAX as usize {
+            return Err(SyntaxFault::Memory);
+        }
+        push_marks(start as u32, run, &mut self.marks);
         Ok(())
     }
 

@@ -4,13 +4,13 @@ mod actions;
 mod acts;
 mod bytes;
 mod edits;
-mod head_turns;
-mod list_turns;
+mod head_steps;
+mod list_steps;
 mod naming;
 mod reading;
+mod runs;
 mod stages;
 mod steps;
-mod turns;
 mod walk;
 
 pub use reading::read_parts;

@@ -1,32 +1,31 @@
 use Rattle.drv_words.specs.Bytes as ascii
-use Rattle.drv_syntax.specs.Bytes.{is_space}
+use Rattle.drv_syntax.specs.Bytes.{is_of, is_space}
 use Rattle.drv_syntax.specs.Labels.{Label, no_label, star_label, word_label}
-use Rattle.drv_syntax.specs.Reader.Turns.{behind_pattern, behind_test, called_label, chooses, choice_action, emits, head_action, leaf_kind, leaf_label, list_turn, taken_word}
+use Rattle.drv_syntax.specs.Reader.Marks.{byte_labels}
+use Rattle.drv_syntax.specs.Reader.Turns.{behind_pattern, behind_test, called_label, chooses, choice_action, emits, head_action, leaf_kind, leaf_label, list_turn, percent_action, start_action, taken_word}
 use Rattle.drv_syntax.specs.declared.fault.SyntaxFault.TheVariants.{BadDirective, EmptyTest, Unclosed}
 use Rattle.drv_syntax.specs.declared.fault.SyntaxFault.{SyntaxFault}
 use Rattle.drv_syntax.specs.declared.reader.stages.Behind.TheVariants as behinds
 use Rattle.drv_syntax.specs.declared.reader.stages.Behind.{Behind}
 use Rattle.drv_syntax.specs.declared.reader.stages.BraceKind.TheVariants as braces
 use Rattle.drv_syntax.specs.declared.reader.stages.BraceKind.{BraceKind}
-use Rattle.drv_syntax.specs.declared.reader.actions.ChoiceAction.TheVariants as choices
-use Rattle.drv_syntax.specs.declared.reader.actions.ChoiceAction.{ChoiceAction}
 use Rattle.drv_syntax.specs.declared.reader.stages.Context.{Context}
 use Rattle.drv_syntax.specs.declared.reader.stages.Form.TheVariants as forms
 use Rattle.drv_syntax.specs.declared.reader.stages.Form.{Form}
 use Rattle.drv_syntax.specs.declared.reader.stages.Frame.TheVariants as frames
 use Rattle.drv_syntax.specs.declared.reader.stages.Frame.{Frame}
 use Rattle.drv_syntax.specs.declared.reader.stages.Head.{Head}
-use Rattle.drv_syntax.specs.declared.reader.actions.HeadAction.TheVariants as heads
-use Rattle.drv_syntax.specs.declared.reader.actions.HeadAction.{HeadAction}
+use Rattle.drv_syntax.specs.Reader.HeadActions as heads
+use Rattle.drv_syntax.specs.Reader.HeadActions.{ChoiceAction, HeadAction}
 use Rattle.drv_syntax.specs.declared.reader.stages.HeadStage.TheVariants as places
 use Rattle.drv_syntax.specs.declared.reader.actions.Leaf.TheVariants as leaves
 use Rattle.drv_syntax.specs.declared.reader.actions.Leaf.{Leaf}
-use Rattle.drv_syntax.specs.declared.reader.actions.ListAction.TheVariants as acts
-use Rattle.drv_syntax.specs.declared.reader.actions.ListAction.{ListAction}
+use Rattle.drv_syntax.specs.Reader.ListActions as acts
+use Rattle.drv_syntax.specs.Reader.ListActions.{ListAction, ListTurn}
 use Rattle.drv_syntax.specs.declared.reader.stages.ListKind.TheVariants as lists
+use Rattle.drv_syntax.specs.declared.reader.stages.ListKind.{ListKind}
 use Rattle.drv_syntax.specs.declared.reader.stages.ListStage.TheVariants as stages
 use Rattle.drv_syntax.specs.declared.reader.stages.ListStage.{ListStage}
-use Rattle.drv_syntax.specs.declared.reader.actions.ListTurn.{ListTurn}
 use Rattle.drv_syntax.specs.declared.reader.stages.Open.{Open}
 use Rattle.drv_syntax.specs.declared.reader.actions.Part.{Part}
 use Rattle.drv_syntax.specs.declared.reader.stages.Stage.TheVariants as at
@@ -38,7 +37,7 @@ use Rattle.drv_syntax.specs.declared.reader.actions.Taken.{Taken}
 use Rattle.drv_syntax.specs.declared.token.Token.{Token}
 use Rattle.drv_syntax.specs.declared.token.TokenKind.TheVariants as kinds
 use Rattle.drv_syntax.specs.declared.token.TokenKind.{TokenKind}
-use Rattle.std.specs.Prelude.{◌+◌, ◌-◌, ◌==◌, Bool, false, true, if◌then◌else◌, ◌&&◌, ◌||◌, List, [], ◌∷◌, ◌++◌, length, take, slice_set, Option, None, Some, Result, Err, Ok, ℕ}
+use Rattle.std.specs.Prelude.{◌+◌, ◌-◌, ◌==◌, Bool, false, true, if◌then◌else◌, ◌&&◌, ◌||◌, not, List, [], ◌∷◌, ◌++◌, length, take, slice_set, Option, None, Some, Result, Err, Ok, ℕ}
 
 -- The state of the code that reads a text, and what each byte makes of it (this project's profile). For the clauses of
 -- the code alone.
@@ -96,6 +95,34 @@ with_part p w =
       kept = if is_white p.leaf then w.kept else p.end;
       trailing = if is_white p.leaf then w.trailing + 1 else 0;
       holds_star = is_star p.leaf || w.holds_star;
+    }
+
+-- the bytes that do more in such a list than stand for themselves
+abbrev pub stops : ListKind → List ℕ
+stops lists.Top = ascii.backslash ∷ ascii.percent ∷ ascii.bar ∷ ascii.space ∷ ascii.tab ∷ ascii.newline ∷ []
+stops lists.InX = ascii.backslash ∷ ascii.percent ∷ ascii.bar ∷ ascii.space ∷ ascii.tab ∷ ascii.newline ∷ ascii.semicolon ∷ ascii.closing_brace ∷ []
+stops lists.InArguments = ascii.backslash ∷ ascii.percent ∷ ascii.bar ∷ ascii.space ∷ ascii.tab ∷ ascii.newline ∷ ascii.closing_parenthesis ∷ []
+
+abbrev pub runs : ListKind → ℕ → Bool
+runs kind b = not (is_of (stops kind) b)
+
+-- the tokens of bytes that stand for themselves, the first at the place n, with the place in the list behind it
+abbrev pub plain_tokens : ℕ → ℕ → List ℕ → List Token
+plain_tokens n next [] = []
+plain_tokens n next (b ∷ run) = record { kind = kinds.Plain; start = n; end = n + 1; next = next } ∷ plain_tokens (n + 1) (next + 1) run
+
+abbrev pub with_plains : ℕ → List ℕ → Walk → Walk
+with_plains n run w =
+    record {
+      stage = at.List stages.Start;
+      context = w.context;
+      waiting = w.waiting;
+      tokens = w.tokens ++ plain_tokens n (length w.tokens + 1) run;
+      labels = w.labels ++ byte_labels run;
+      word = [];
+      kept = n + length run;
+      trailing = 0;
+      holds_star = w.holds_star;
     }
 
 abbrev pub at_stage : Stage → Walk → Walk
@@ -216,27 +243,12 @@ with_test form behind w =
 abbrev pub close_braces : Head → Bool → ℕ → Context → Walk → Walk
 close_braces head emitted end c w = behind_item c end (close_token (brace_token head.kind emitted) head.part end w)
 
--- braces that open here
-abbrev pub opened_head : ℕ → BraceKind → Walk → Head
-opened_head start kind w = record { kind = kind; part = next_open w start }
-
--- braces of this pattern alone, up to this place
-abbrev pub emitted : ℕ → BraceKind → Behind → List ℕ → ℕ → Walk → Walk
-emitted start kind behind word end w =
-    close_braces (opened_head start kind w) true end w.context (with_pattern behind (record (open_braces start kind w) { word = word }))
-
 abbrev pub with_star : Bool → Walk → Walk
 with_star holds w = record w { holds_star = holds }
 
 abbrev pub ask : Head → Open → Bool → Bool → ℕ → Walk → Walk
 ask head part tested starred colon w =
     with_star false (enter (frames.X w.context head colon part tested w.holds_star) (x_context w.context (if starred then owners.Starred else owners.Mixed)) (colon + 1) w)
-
--- braces whose first alternative has this test alone, up to the colon at this place
-abbrev pub asked : ℕ → BraceKind → Behind → List ℕ → ℕ → Walk → Walk
-asked start kind behind word colon w =
-    ask (opened_head start kind w) (next_open (open_braces start kind w) (first_of behind)) true (starred_of behind) colon
-    (with_test forms.Fresh behind (record (open_braces start kind w) { word = word }))
 
 abbrev pub act_ends : Head → Form → Behind → ℕ → Walk → Result Walk SyntaxFault
 act_ends head form behind n w =
@@ -304,9 +316,9 @@ form_at false = forms.Fresh
 form_at true = forms.Later
 
 abbrev pub act_choice : Head → Bool → ChoiceAction → ℕ → ℕ → Walk → Result Walk SyntaxFault
-act_choice head later choices.Stays n b w = Ok w
-act_choice head later choices.Defaults n b w = Ok (ask head (next_open w n) false false n (open_alternative n w))
-act_choice head later (choices.Begins action) n b w = act_head head (form_at later) action n b w
+act_choice head later heads.Stays n b w = Ok w
+act_choice head later heads.Defaults n b w = Ok (ask head (next_open w n) false false n (open_alternative n w))
+act_choice head later (heads.Tests action) n b w = act_head head (form_at later) action n b w
 
 abbrev pub act_list : ListAction → ℕ → ℕ → Walk → Result Walk SyntaxFault
 act_list (acts.Keeps stage) n b w = Ok (at_stage (at.List stage) w)
@@ -318,6 +330,14 @@ act_list acts.Closes n b w = close w.waiting n b w
 act_list (acts.OpensBraces start kind) n b w = Ok (open_braces start kind w)
 act_list (acts.OpensCall start) n b w = Ok (open_call start w)
 act_list (acts.Refused fault) n b w = Err fault
+
+-- where an item begins
+abbrev pub start : ℕ → ℕ → Walk → Result Walk SyntaxFault
+start n b w = act_list (start_action w.context n b) n b w
+
+-- behind the % of an item
+abbrev pub percent : ℕ → ℕ → ℕ → Walk → Result Walk SyntaxFault
+percent at n b w = act_list (percent_action w.context at n b) n b w
 
 abbrev pub with_first : Option Part → Walk → Walk
 with_first None w = w

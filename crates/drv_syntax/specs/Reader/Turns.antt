@@ -8,26 +8,23 @@ use Rattle.drv_syntax.specs.declared.reader.stages.Behind.{Behind}
 use Rattle.drv_syntax.specs.declared.reader.stages.BraceKind.TheVariants as braces
 use Rattle.drv_syntax.specs.declared.reader.actions.BuiltinName.TheVariants as names
 use Rattle.drv_syntax.specs.declared.reader.actions.BuiltinName.{BuiltinName}
-use Rattle.drv_syntax.specs.declared.reader.actions.ChoiceAction.TheVariants as choices
-use Rattle.drv_syntax.specs.declared.reader.actions.ChoiceAction.{ChoiceAction}
 use Rattle.drv_syntax.specs.declared.reader.stages.Context.{Context}
 use Rattle.drv_syntax.specs.declared.reader.stages.Form.TheVariants as forms
 use Rattle.drv_syntax.specs.declared.reader.stages.Form.{Form}
 use Rattle.drv_syntax.specs.declared.reader.actions.Goes.TheVariants as goes
 use Rattle.drv_syntax.specs.declared.reader.actions.Goes.{Goes}
-use Rattle.drv_syntax.specs.declared.reader.actions.HeadAction.TheVariants as heads
-use Rattle.drv_syntax.specs.declared.reader.actions.HeadAction.{HeadAction}
+use Rattle.drv_syntax.specs.Reader.HeadActions as heads
+use Rattle.drv_syntax.specs.Reader.HeadActions.{ChoiceAction, HeadAction}
 use Rattle.drv_syntax.specs.declared.reader.stages.HeadStage.TheVariants as places
 use Rattle.drv_syntax.specs.declared.reader.stages.HeadStage.{HeadStage}
 use Rattle.drv_syntax.specs.declared.reader.actions.Leaf.TheVariants as leaves
 use Rattle.drv_syntax.specs.declared.reader.actions.Leaf.{Leaf}
-use Rattle.drv_syntax.specs.declared.reader.actions.ListAction.TheVariants as acts
-use Rattle.drv_syntax.specs.declared.reader.actions.ListAction.{ListAction}
+use Rattle.drv_syntax.specs.Reader.ListActions as acts
+use Rattle.drv_syntax.specs.Reader.ListActions.{ListAction, ListTurn}
 use Rattle.drv_syntax.specs.declared.reader.stages.ListKind.TheVariants as lists
 use Rattle.drv_syntax.specs.declared.reader.stages.ListKind.{ListKind}
 use Rattle.drv_syntax.specs.declared.reader.stages.ListStage.TheVariants as stages
 use Rattle.drv_syntax.specs.declared.reader.stages.ListStage.{ListStage}
-use Rattle.drv_syntax.specs.declared.reader.actions.ListTurn.{ListTurn}
 use Rattle.drv_syntax.specs.declared.reader.actions.Part.{Part}
 use Rattle.drv_syntax.specs.declared.reader.stages.SayKind.TheVariants as sayings
 use Rattle.drv_syntax.specs.declared.reader.stages.SayKind.{SayKind}
@@ -423,5 +420,5 @@ head_action (places.BehindTest behind) levels at form word n b = behind_action a
 
 -- where an alternative begins
 abbrev pub choice_action : Bool → ℕ → ℕ → ℕ → ℕ → ChoiceAction
-choice_action false levels at n b = if is_space b then choices.Stays else choices.Begins (due_action levels at n b)
-choice_action true levels at n b = if b == ascii.colon then choices.Defaults else if is_space b then choices.Stays else choices.Begins (due_action levels at n b)
+choice_action false levels at n b = if is_space b then heads.Stays else heads.Tests (due_action levels at n b)
+choice_action true levels at n b = if b == ascii.colon then heads.Defaults else if is_space b then heads.Stays else heads.Tests (due_action levels at n b)

@@ -1,7 +1,6 @@
-//! What a byte does where it stands.
+//! The items without parts inside them, and what directives go on with.
 
-use crate::fault::SyntaxFault;
-use crate::reader::stages::{Behind, BraceKind, HeadStage, ListStage, SayKind};
+use crate::reader::stages::{BraceKind, SayKind};
 use crate::token::TempKind;
 
 /// The named texts that one letter stands for.
@@ -137,72 +136,4 @@ pub enum Goes {
     WithBraces,
     /// A brace and the inside of braces.
     WithMarkedBraces(BraceKind),
-}
-
-/// What a byte does in a list of items.
-#[derive(Drop)]
-pub enum ListAction {
-    /// The word stays.
-    Keeps(ListStage),
-    /// A word begins, without a byte.
-    Clears(ListStage),
-    /// A word begins with the byte.
-    Begins(ListStage),
-    /// The byte goes to the word's end.
-    Adds(ListStage),
-    /// An item.
-    Item(Part),
-    /// The list ends.
-    Closes,
-    /// Braces are opened by the `%` at this place.
-    OpensBraces(u32, BraceKind),
-    /// A function's arguments are opened, by the `%` at this place.
-    OpensCall(u32),
-    /// The byte doesn't fit.
-    Refused(SyntaxFault),
-}
-
-/// What a byte does in a list of items: an item may end before it.
-#[derive(Drop)]
-pub struct ListTurn {
-    /// The item that ends before the byte.
-    pub first: Option<Part>,
-    /// What the byte does.
-    pub then: ListAction,
-}
-
-/// What a byte does in braces, to the left of a colon.
-#[derive(Drop)]
-pub enum HeadAction {
-    /// The word stays.
-    Keeps(HeadStage),
-    /// A word begins, without a byte.
-    Clears(HeadStage),
-    /// A word begins with the byte.
-    Begins(HeadStage),
-    /// The byte goes to the word's end.
-    Adds(HeadStage),
-    /// A function's arguments are opened in the test that starts here, with a `!` or without.
-    OpensTest(u32, bool),
-    /// `}` behind a pattern.
-    Ends(Behind),
-    /// `&` behind a pattern.
-    Joins(Behind),
-    /// `:` behind a test.
-    Asks(Behind),
-    /// `|` behind a test.
-    Bars(Behind),
-    /// The byte doesn't fit.
-    Refused(SyntaxFault),
-}
-
-/// What a byte does where an alternative begins.
-#[derive(Drop)]
-pub enum ChoiceAction {
-    /// All stays.
-    Stays,
-    /// The X of a default.
-    Defaults,
-    /// The first test begins.
-    Begins(HeadAction),
 }

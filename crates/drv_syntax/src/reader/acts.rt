@@ -1,4 +1,4 @@
-//! What the actions of bytes make of the state in which a text is read.
+//! What ends a test, braces or a list.
 
 ghost use Rattle.drv_syntax.specs.Reader.States.{Fits, state};
 ghost use Rattle.drv_syntax.specs.Reader.Steps as steps;
@@ -6,14 +6,11 @@ ghost use Rattle.drv_words.specs.Gives.{Gives};
 ghost use Rattle.std.specs.Prelude.{◌≡◌, ◌<◌, ◌≤◌, ◌^◌, ◌+◌, length, OnOk, Ok};
 
 use crate::fault::SyntaxFault;
-use crate::reader::actions::{ChoiceAction, HeadAction, ListAction, ListTurn};
 use crate::reader::bytes::is_space;
 use crate::reader::edits::{
-    alternative_of, ask, behind_item, close_braces, close_token, first_of, negates, next_open,
-    open_alternative, open_braces, open_call, open_test, starred_of, stars, tests, untested,
-    with_part, with_pattern, with_test,
+    alternative_of, ask, behind_item, chooses, close_braces, close_token, emits, first_of, negates,
+    starred_of, stars, tests, untested, with_pattern, with_test,
 };
-use crate::reader::head_turns::{chooses, emits};
 use crate::reader::stages::{Behind, Context, Form, Frame, Head, HeadStage, Open, Stage};
 use crate::reader::walk::Walk;
 use crate::token::TokenKind;
@@ -105,82 +102,6 @@ pub fn act_bars(head: Head, form: Form, behind: Behind, w: &mut Walk) -> Result<
         stage: HeadStage::TestDue,
     };
     Ok(())
-}
-
-/// What an action in braces makes of the state.
-pub fn act_head(
-    head: Head,
-    form: Form,
-    action: HeadAction,
-    n: u32,
-    b: u8,
-    w: &mut Walk,
-) -> Result<(), SyntaxFault>
-    requires room { length w.old.tokens.items < 2 ^ 31 }
-    requires place { n < 2 ^ 31 }
-    ensures does { Gives SyntaxFault.Memory (λ _. state w.new) result (steps.act_head head form action n b (state w.old)) }
-    ensures fits { OnOk result (Fits w.old w.new) }
-{
-    match action {
-        HeadAction::Keeps(stage) => {
-            w.stage = Stage::Braces { head, form, stage };
-            Ok(())
-        }
-        HeadAction::Clears(stage) => {
-            w.stage = Stage::Braces { head, form, stage };
-            w.word.clear();
-            Ok(())
-        }
-        HeadAction::Begins(stage) => {
-            w.stage = Stage::Braces { head, form, stage };
-            w.word.clear();
-            w.word.push(b)?;
-            Ok(())
-        }
-        HeadAction::Adds(stage) => {
-            w.stage = Stage::Braces { head, form, stage };
-            w.word.push(b)?;
-            Ok(())
-        }
-        HeadAction::OpensTest(start, negated) => open_test(head, form, start, negated, w),
-        HeadAction::Ends(behind) => act_ends(head, form, behind, n, w),
-        HeadAction::Joins(behind) => act_joins(head, form, behind, w),
-        HeadAction::Asks(behind) => act_asks(head, form, behind, n, w),
-        HeadAction::Bars(behind) => act_bars(head, form, behind, w),
-        HeadAction::Refused(fault) => Err(fault),
-    }
-}
-
-/// What braces hold so far where an alternative begins.
-pub fn form_at(later: bool) -> Form
-    ensures { result ≡ steps.form_at later }
-{
-    if later { Form::Later } else { Form::Fresh }
-}
-
-/// What an action where an alternative begins makes of the state.
-pub fn act_choice(
-    head: Head,
-    later: bool,
-    action: ChoiceAction,
-    n: u32,
-    b: u8,
-    w: &mut Walk,
-) -> Result<(), SyntaxFault>
-    requires room { length w.old.tokens.items < 2 ^ 31 }
-    requires place { n < 2 ^ 31 }
-    ensures does { Gives SyntaxFault.Memory (λ _. state w.new) result (steps.act_choice head later action n b (state w.old)) }
-    ensures fits { OnOk result (Fits w.old w.new) }
-{
-    match action {
-        ChoiceAction::Stays => Ok(()),
-        ChoiceAction::Defaults => {
-            let part = next_open(w, n);
-            open_alternative(n, w)?;
-            ask(head, part, false, false, n, w)
-        }
-        ChoiceAction::Begins(action) => act_head(head, form_at(later), action, n, b, w),
-    }
 }
 
 fn trim(w: &mut Walk)
@@ -285,58 +206,6 @@ pub fn close(n: u32, b: u8, w: &mut Walk) -> Result<(), SyntaxFault>
         Some(frame) => close_frame(frame, n, b, w),
         None => Err(SyntaxFault::Unclosed(n as usize)),
     }
-}
-
-/// What an action in a list of items makes of the state.
-pub fn act_list(action: ListAction, n: u32, b: u8, w: &mut Walk) -> Result<(), SyntaxFault>
-    requires room { length w.old.tokens.items < 2 ^ 31 }
-    requires place { n < 2 ^ 31 }
-    requires trail { w.old.trailing < 2 ^ 31 }
-    ensures does { Gives SyntaxFault.Memory (λ _. state w.new) result (steps.act_list action n b (state w.old)) }
-    ensures fits { OnOk result (Fits w.old w.new) }
-{
-    match action {
-        ListAction::Keeps(stage) => {
-            w.stage = Stage::List(stage);
-            Ok(())
-        }
-        ListAction::Clears(stage) => {
-            w.stage = Stage::List(stage);
-            w.word.clear();
-            Ok(())
-        }
-        ListAction::Begins(stage) => {
-            w.stage = Stage::List(stage);
-            w.word.clear();
-            w.word.push(b)?;
-            Ok(())
-        }
-        ListAction::Adds(stage) => {
-            w.stage = Stage::List(stage);
-            w.word.push(b)?;
-            Ok(())
-        }
-        ListAction::Item(part) => with_part(part, w),
-        ListAction::Closes => close(n, b, w),
-        ListAction::OpensBraces(start, kind) => open_braces(start, kind, w),
-        ListAction::OpensCall(start) => open_call(start, w),
-        ListAction::Refused(fault) => Err(fault),
-    }
-}
-
-/// What a turn in a list of items makes of the state.
-pub fn act_turn(turn: ListTurn, n: u32, b: u8, w: &mut Walk) -> Result<(), SyntaxFault>
-    requires room { length w.old.tokens.items < 2 ^ 30 }
-    requires place { n < 2 ^ 31 }
-    requires trail { w.old.trailing < 2 ^ 30 }
-    ensures does { Gives SyntaxFault.Memory (λ _. state w.new) result (steps.act_turn turn n b (state w.old)) }
-    ensures size { OnOk result (length w.new.tokens.items ≤ length w.old.tokens.items + 4) }
-    ensures trail { OnOk result (w.new.trailing ≤ w.old.trailing + 4) }
-{
-    if let Some(part) = turn.first {
-        with_part(part, w)?;
-    }
-    act_list(turn.then, n, b, w)
 }
 
 /// What a byte behind a test of a function's result makes of the state.

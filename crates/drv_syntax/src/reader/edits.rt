@@ -4,18 +4,117 @@ ghost use Rattle.drv_syntax.specs.Reader.Steps as steps;
 ghost use Rattle.drv_syntax.specs.Reader.Turns as turns;
 ghost use Rattle.drv_syntax.specs.Reader.States.{Fits, state};
 ghost use Rattle.drv_words.specs.Gives.{Gives};
-ghost use Rattle.std.specs.Prelude.{◌≡◌, ◌<◌, ◌≤◌, ◌^◌, ◌+◌, false, length, OnOk, Ok};
+ghost use Rattle.std.specs.Prelude.{◌≡◌, ◌<◌, ◌≤◌, ◌^◌, ◌+◌, ◌++◌, ◌∷◌, [], length, OnOk, Ok, vec_capacity, vec_len};
 
 use crate::fault::SyntaxFault;
 use crate::reader::actions::{Leaf, Part, Taken};
-use crate::reader::head_turns::chooses;
-use crate::reader::list_turns::leaf_kind;
 use crate::reader::naming::{name_call, name_leaf, name_pattern, name_test, name_word, taken_word};
 use crate::reader::stages::{
-    Behind, BraceKind, Context, Form, Frame, Head, ListKind, ListStage, Open, Stage, StarOwner,
+    Behind, BraceKind, Context, Form, Frame, Head, ListKind, ListStage, Open, SayKind, Stage,
+    StarOwner,
 };
 use crate::reader::walk::Walk;
 use crate::token::{Token, TokenKind};
+
+/// The braces can still hold patterns alone.
+pub fn emits(form: Form, negated: bool) -> bool
+    ensures { result ≡ turns.emits form negated }
+{
+    match form {
+        Form::Fresh | Form::Patterns => !negated,
+        Form::Later | Form::Tests { .. } => false,
+    }
+}
+
+/// The braces can still hold alternatives.
+pub fn chooses(form: Form) -> bool
+    ensures { result ≡ turns.chooses form }
+{
+    match form {
+        Form::Patterns => false,
+        Form::Fresh | Form::Later | Form::Tests { .. } => true,
+    }
+}
+
+/// The kind of the token of an item.
+pub fn leaf_kind(leaf: Leaf) -> TokenKind
+    ensures { result ≡ turns.leaf_kind leaf }
+{
+    match leaf {
+        Leaf::Plain(_) => TokenKind::Plain,
+        Leaf::Escape(_) => TokenKind::Escape,
+        Leaf::Blank => TokenKind::Blank,
+        Leaf::Newline => TokenKind::Newline,
+        Leaf::Pipe => TokenKind::Pipe,
+        Leaf::Percent => TokenKind::Percent,
+        Leaf::InputName => TokenKind::InputName,
+        Leaf::BaseStem => TokenKind::BaseStem,
+        Leaf::BaseName => TokenKind::BaseName,
+        Leaf::ObjectSuffix => TokenKind::ObjectSuffix,
+        Leaf::TempName(kind) => TokenKind::TempName(kind),
+        Leaf::Removed => TokenKind::Removed,
+        Leaf::Output => TokenKind::Output,
+        Leaf::NoOutput => TokenKind::NoOutput,
+        Leaf::FoundFile => TokenKind::FoundFile,
+        Leaf::FoundScript => TokenKind::FoundScript,
+        Leaf::Directories => TokenKind::Directories,
+        Leaf::Outputs => TokenKind::Outputs,
+        Leaf::AddOption => TokenKind::AddOption,
+        Leaf::LinkerOptions => TokenKind::LinkerOptions,
+        Leaf::AssemblerOptions => TokenKind::AssemblerOptions,
+        Leaf::PreprocessorOptions => TokenKind::PreprocessorOptions,
+        Leaf::Said(SayKind::AsError) => TokenKind::UserError,
+        Leaf::Said(SayKind::AsNotice) => TokenKind::Notice,
+        Leaf::NamedText => TokenKind::NamedText,
+        Leaf::BuiltinText(_) => TokenKind::BuiltinText,
+        Leaf::Hide(_) => TokenKind::Hide,
+        Leaf::Star => TokenKind::Star,
+    }
+}
+
+/// The next byte stands here, and the word stays.
+#[inline]
+pub fn keep(stage: Stage, w: &mut Walk) -> Result<(), SyntaxFault>
+    ensures does { Gives SyntaxFault.Memory (λ _. state w.new) result (Ok (steps.at_stage stage (state w.old))) }
+    ensures fits { OnOk result (Fits w.old w.new) }
+{
+    w.stage = stage;
+    Ok(())
+}
+
+/// The next byte stands here, and a word begins without a byte.
+#[inline]
+pub fn clear(stage: Stage, w: &mut Walk) -> Result<(), SyntaxFault>
+    ensures does { Gives SyntaxFault.Memory (λ _. state w.new) result (Ok (steps.at_stage stage (steps.with_word [] (state w.old)))) }
+    ensures fits { OnOk result (Fits w.old w.new) }
+{
+    w.stage = stage;
+    w.word.clear();
+    Ok(())
+}
+
+/// The next byte stands here, and a word begins with this one.
+#[inline]
+pub fn begin(stage: Stage, b: u8, w: &mut Walk) -> Result<(), SyntaxFault>
+    ensures does { Gives SyntaxFault.Memory (λ _. state w.new) result (Ok (steps.at_stage stage (steps.with_word (b ∷ []) (state w.old)))) }
+    ensures fits { OnOk result (Fits w.old w.new) }
+{
+    w.stage = stage;
+    w.word.clear();
+    w.word.push(b)?;
+    Ok(())
+}
+
+/// The next byte stands here, and this one goes to the word's end.
+#[inline]
+pub fn add(stage: Stage, b: u8, w: &mut Walk) -> Result<(), SyntaxFault>
+    ensures does { Gives SyntaxFault.Memory (λ _. state w.new) result (Ok (steps.at_stage stage (steps.with_word (w.old.word.items ++ b ∷ []) (state w.old)))) }
+    ensures fits { OnOk result (Fits w.old w.new) }
+{
+    w.stage = stage;
+    w.word.push(b)?;
+    Ok(())
+}
 
 /// Where the next token goes.
 pub fn next_open(w: &Walk, start: u32) -> Open
@@ -116,29 +215,6 @@ pub fn with_part(p: Part, w: &mut Walk) -> Result<(), SyntaxFault>
     Ok(())
 }
 
-/// An item without parts inside it, with this word.
-pub fn with_taken(
-    leaf: Leaf,
-    start: u32,
-    end: u32,
-    word: &[u8],
-    w: &mut Walk,
-) -> Result<(), SyntaxFault>
-    requires room { length w.old.tokens.items + 1 < 2 ^ 32 }
-    requires black { steps.is_white leaf ≡ false }
-    requires plain { steps.is_star leaf ≡ false }
-    ensures does { Gives SyntaxFault.Memory (λ _. state w.new) result (Ok (steps.with_part (turns.part leaf Taken.Word start end) (steps.with_word word.now (state w.old)))) }
-    ensures fits { OnOk result (Fits w.old w.new) }
-{
-    with_leaf(leaf_kind(leaf), start, end, w)?;
-    name_leaf(leaf, word, &mut w.labels)?;
-    w.stage = Stage::List(ListStage::Start);
-    w.word.clear();
-    w.kept = end;
-    w.trailing = 0;
-    Ok(())
-}
-
 /// A byte that stands for itself.
 #[inline]
 pub fn with_plain(n: u32, b: u8, w: &mut Walk) -> Result<(), SyntaxFault>
@@ -152,6 +228,46 @@ pub fn with_plain(n: u32, b: u8, w: &mut Walk) -> Result<(), SyntaxFault>
     w.stage = Stage::List(ListStage::Start);
     w.word.clear();
     w.kept = n + 1;
+    w.trailing = 0;
+    Ok(())
+}
+
+/// The tokens of bytes that stand for themselves, the first of them at this place.
+fn push_plains(n: u32, run: &[u8], tokens: &mut Vec<Token>)
+    requires room { length tokens.old.items + length run.now < 2 ^ 31 }
+    requires place { n + length run.now < 2 ^ 31 }
+    requires reserved { vec_len tokens.old + length run.now ≤ vec_capacity tokens.old }
+    ensures does { tokens.new.items ≡ tokens.old.items ++ steps.plain_tokens n (length tokens.old.items + 1) run.now }
+    ensures size { length tokens.new.items ≡ length tokens.old.items + length run.now }
+{
+    let mut place = n;
+    let mut next = tokens.len() as u32;
+    for _byte in run {
+        next += 1;
+        tokens.push_reserved(Token {
+            kind: TokenKind::Plain,
+            start: place,
+            end: place + 1,
+            next,
+        });
+        place += 1;
+    }
+}
+
+/// Bytes that stand for themselves, the first of them at this place.
+pub fn with_plains(n: u32, run: &[u8], w: &mut Walk) -> Result<(), SyntaxFault>
+    requires room { length w.old.tokens.items + length run.now < 2 ^ 31 }
+    requires place { n + length run.now < 2 ^ 31 }
+    ensures does { Gives SyntaxFault.Memory (λ _. state w.new) result (Ok (steps.with_plains n run.now (state w.old))) }
+    ensures size { OnOk result (length w.new.tokens.items ≤ length w.old.tokens.items + length run.now) }
+    ensures trail { OnOk result (w.new.trailing ≡ 0) }
+{
+    w.tokens.reserve(run.len())?;
+    push_plains(n, run, &mut w.tokens);
+    w.labels.push_bytes(run)?;
+    w.stage = Stage::List(ListStage::Start);
+    w.word.clear();
+    w.kept = n + run.len() as u32;
     w.trailing = 0;
     Ok(())
 }
@@ -491,54 +607,4 @@ pub fn ask(
     )?;
     w.holds_star = false;
     Ok(())
-}
-
-/// Braces that hold this pattern alone, with this word.
-pub fn emit_braces(
-    start: u32,
-    kind: BraceKind,
-    behind: Behind,
-    word: &[u8],
-    end: u32,
-    w: &mut Walk,
-) -> Result<(), SyntaxFault>
-    requires room { length w.old.tokens.items < 2 ^ 30 }
-    ensures does { Gives SyntaxFault.Memory (λ _. state w.new) result (Ok (steps.emitted start kind behind word.now end (state w.old))) }
-    ensures fits { OnOk result (Fits w.old w.new) }
-{
-    let head = Head {
-        kind,
-        part: next_open(w, start),
-    };
-    open_braces(start, kind, w)?;
-    with_leaf(TokenKind::Pattern, first_of(behind), last_of(behind), w)?;
-    name_pattern(behind, word, &mut w.labels)?;
-    close_braces(head, true, end, w.context, w);
-    Ok(())
-}
-
-/// Braces whose first alternative has this test alone, with this word, up to its colon.
-pub fn ask_braces(
-    start: u32,
-    kind: BraceKind,
-    behind: Behind,
-    word: &[u8],
-    colon: u32,
-    w: &mut Walk,
-) -> Result<(), SyntaxFault>
-    requires room { length w.old.tokens.items < 2 ^ 30 }
-    requires place { colon < 2 ^ 31 }
-    ensures does { Gives SyntaxFault.Memory (λ _. state w.new) result (Ok (steps.asked start kind behind word.now colon (state w.old))) }
-    ensures fits { OnOk result (Fits w.old w.new) }
-{
-    let head = Head {
-        kind,
-        part: next_open(w, start),
-    };
-    open_braces(start, kind, w)?;
-    let alternative = next_open(w, first_of(behind));
-    open_alternative(first_of(behind), w)?;
-    with_leaf(TokenKind::Test, first_of(behind), last_of(behind), w)?;
-    name_test(behind, word, &mut w.labels)?;
-    ask(head, alternative, true, starred_of(behind), colon, w)
 }

@@ -9,8 +9,8 @@ use crate::fault::SyntaxFault;
 use crate::labels::Labels;
 use crate::reader::actions::{Leaf, Part, Taken};
 use crate::reader::edits::with_part;
+use crate::reader::runs::turn;
 use crate::reader::stages::{Context, Frame, ListKind, ListStage, Stage, StarOwner};
-use crate::reader::turns::turn;
 use crate::reader::walk::Walk;
 use crate::token::Token;
 use std::alloc::Global;
@@ -44,8 +44,6 @@ fn finish_list(stage: ListStage, n: u32, w: &mut Walk) -> Result<(), SyntaxFault
 {
     match stage {
         ListStage::Start => Ok(()),
-        ListStage::Backslash { backslash } => unclosed(backslash),
-        ListStage::Percent { at } => unclosed(at),
         ListStage::SuffixStart { at, kind } => end_part(
             Leaf::TempName(kind),
             Taken::Nothing,
@@ -54,18 +52,20 @@ fn finish_list(stage: ListStage, n: u32, w: &mut Walk) -> Result<(), SyntaxFault
             w,
         ),
         ListStage::SuffixRun { at, kind } => end_part(Leaf::TempName(kind), Taken::Word, at, n, w),
-        ListStage::SuffixPercent { percent, .. } => unclosed(percent),
-        ListStage::OptionOpen { at } => unclosed(at),
-        ListStage::OptionText { at } => unclosed(at),
-        ListStage::OptionEscape { at } => unclosed(at),
         ListStage::SayingText { at, kind } => end_part(Leaf::Said(kind), Taken::Word, at, n, w),
-        ListStage::SayingEscape { backslash, .. } => unclosed(backslash),
-        ListStage::NameText { at } => unclosed(at),
-        ListStage::HideStart { at } => unclosed(at),
         ListStage::HideWord { at } => end_part(Leaf::Hide(false), Taken::Word, at, n, w),
-        ListStage::HideEscape { at } => unclosed(at),
-        ListStage::FunctionName { at } => unclosed(at),
-        ListStage::BraceOpen { at, .. } => unclosed(at),
+        ListStage::OptionOpen { at }
+        | ListStage::Backslash { backslash: at }
+        | ListStage::SayingEscape { backslash: at, .. }
+        | ListStage::SuffixPercent { percent: at, .. }
+        | ListStage::Percent { at }
+        | ListStage::OptionText { at }
+        | ListStage::OptionEscape { at }
+        | ListStage::NameText { at }
+        | ListStage::HideStart { at }
+        | ListStage::HideEscape { at }
+        | ListStage::FunctionName { at }
+        | ListStage::BraceOpen { at, .. } => unclosed(at),
     }
 }
 
@@ -100,7 +100,7 @@ fn finish(n: u32, w: &mut Walk) -> Result<(), SyntaxFault>
 fn started(alloc: Global, size: usize) -> Result<Walk, SyntaxFault>
     ensures { Gives SyntaxFault.Memory state result (Ok steps.started) }
 {
-    let count = if size < 128 { size } else { 128 };
+    let count = if size < 4096 { size } else { 4096 };
     Ok(Walk {
         stage: Stage::List(ListStage::Start),
         context: Context {
@@ -119,19 +119,29 @@ fn started(alloc: Global, size: usize) -> Result<Walk, SyntaxFault>
     })
 }
 
+/// What a whole text makes of the state in which it begins.
+fn read(text: &[u8], w: &mut Walk) -> Result<(), SyntaxFault>
+    requires short { length text.now ≤ 1048576 }
+    requires none { length w.old.tokens.items ≡ 0 }
+    requires bare { w.old.trailing ≡ 0 }
+    ensures { Gives SyntaxFault.Memory (λ _. state w.new) result (steps.walk (state w.old) 0 text.now) }
+{
+    let mut n = 0;
+    let mut left = text;
+    while let [b, behind @ ..] = left {
+        let taken = turn(n, *b, behind, w)?;
+        left = &behind[taken..];
+        n += 1 + taken as u32;
+    }
+    finish(text.len() as u32, w)
+}
+
 /// The tokens of a text, and their labels.
 pub fn read_parts(alloc: Global, text: &[u8]) -> Result<(Vec<Token>, Labels), SyntaxFault>
     requires { length text.now ≤ 1048576 }
     ensures { Gives SyntaxFault.Memory (λ v. (v.0.items, v.1)) result (parts_in (steps.walk steps.started 0 text.now)) }
 {
     let mut w = started(alloc, text.len())?;
-    let mut n = 0;
-    let mut left = text;
-    while let [b, behind @ ..] = left {
-        let taken = turn(n, *b, behind, &mut w)?;
-        left = &behind[taken..];
-        n += 1 + taken as u32;
-    }
-    finish(text.len() as u32, &mut w)?;
+    read(text, &mut w)?;
     Ok((w.tokens, w.labels))
 }

@@ -1,4 +1,4 @@
-use Rattle.drv_syntax.proofs.reader.turns.suffix_length.Given as goal
+use Rattle.drv_syntax.proofs.reader.runs.suffix_length.Given as goal
 use Rattle.drv_syntax.specs.Bytes.{is_suffix}
 use Rattle.std.proofs.Common.{◌≡◌, ◌≤◌, ◌+◌, ◌-◌, drop, length}
 use Rattle.std.specs.List.{prefix_len}

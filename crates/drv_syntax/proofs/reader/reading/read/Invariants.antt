@@ -1,12 +1,12 @@
 use Rattle.std.proofs.Common.{◌≡◌, ◌≤◌, ◌+◌, ◌*◌, length}
 use Rattle.drv_syntax.specs.Reader.Steps as steps
 use Rattle.drv_syntax.specs.Reader.States.{state}
-use Rattle.drv_syntax.proofs.reader.reading.read_parts.Given as goal
+use Rattle.drv_syntax.proofs.reader.reading.read.Given as goal
 
 abbrev pub invariant-loop-left : goal.invariant-loop-left
 invariant-loop-left l =
     record {
-      same : steps.walk (state l.w) l.n l.left ≡ steps.walk steps.started 0 l.text;
+      same : steps.walk (state l.w) l.n l.left ≡ steps.walk (state l.fn.w) 0 l.text;
       place : l.n + length l.left ≡ length l.text;
       room : length l.w.tokens.items ≤ 4 * l.n;
       trail : l.w.trailing ≤ 4 * l.n;

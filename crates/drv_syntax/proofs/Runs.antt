@@ -1,0 +1,163 @@
+use Rattle.drv_syntax.proofs.Leads.{none_of, other}
+use Rattle.drv_syntax.proofs.WalkReads.{within}
+use Rattle.drv_syntax.specs.Bytes.{is_name, is_suffix, is_word}
+use Rattle.drv_syntax.specs.Labels.{Label, word_label}
+use Rattle.drv_syntax.specs.Reader.Marks.{byte_labels}
+use Rattle.drv_syntax.specs.Reader.Steps.{Walk, at_stage, plain_tokens, runs, step, then_walk, walk, with_part, with_plains, with_word}
+use Rattle.drv_syntax.specs.Reader.Turns.{part}
+use Rattle.drv_syntax.specs.declared.fault.SyntaxFault.{SyntaxFault}
+use Rattle.drv_syntax.specs.declared.reader.actions.Leaf.TheVariants as leaves
+use Rattle.drv_syntax.specs.declared.reader.actions.Taken.TheVariants as takes
+use Rattle.drv_syntax.specs.declared.reader.stages.Context.{Context}
+use Rattle.drv_syntax.specs.declared.reader.stages.Form.{Form}
+use Rattle.drv_syntax.specs.declared.reader.stages.Frame.{Frame}
+use Rattle.drv_syntax.specs.declared.reader.stages.Head.{Head}
+use Rattle.drv_syntax.specs.declared.reader.stages.HeadStage.TheVariants as places
+use Rattle.drv_syntax.specs.declared.reader.stages.ListKind.TheVariants as lists
+use Rattle.drv_syntax.specs.declared.reader.stages.ListKind.{ListKind}
+use Rattle.drv_syntax.specs.declared.reader.stages.ListStage.TheVariants as stages
+use Rattle.drv_syntax.specs.declared.reader.stages.Stage.TheVariants as at
+use Rattle.drv_syntax.specs.declared.reader.stages.Stage.{Stage}
+use Rattle.drv_syntax.specs.declared.token.TempKind.{TempKind}
+use Rattle.drv_syntax.specs.declared.token.Token.{Token}
+use Rattle.drv_syntax.specs.declared.token.TokenKind.TheVariants as kinds
+use Rattle.std.proofs.Common.{◌≡◌, ◌∙◌, ◌+◌, ◌++◌, ◌<◌, ◌≤◌, Bool, true, false, List, [], ◌∷◌, ap, append-nil, append_assoc, arith, drop, if◌then◌else◌, length, length-append, refl, suc, sym, take, zero, ℕ}
+use Rattle.std.proofs.lemmas.List.{drop_more, length-take-le}
+use Rattle.std.specs.List.{prefix_len}
+use Rattle.std.specs.Prelude.{◌==◌, Result, Ok}
+
+-- Several bytes of a text at once, that go on as the byte before them did.
+
+abbrev pub walked : Walk → Result Walk SyntaxFault
+walked v = Ok v
+
+-- a place where each byte of a class goes to the word's end, while the word is shorter than this
+module _ (f : ℕ → Bool) (m : ℕ) (place : List ℕ → Walk) (adds : (p : List ℕ) (n b : ℕ) → length p < m → f b ≡ true → step (place p) n b ≡ Ok (place (p ++ b ∷ []))) where
+  word_on : (k : ℕ) (p : List ℕ) (n : ℕ) (text : List ℕ) → k ≤ prefix_len f text → length p + k ≤ m → walk (place p) n text ≡ walk (place (p ++ take k text)) (n + k) (drop k text)
+  word_on zero p n text h l = ap (λ (q : List ℕ). walk (place q) n text) (sym (append-nil p)) ∙ ap (λ (i : ℕ). walk (place (p ++ [])) i text) (omega arith)
+  word_on (suc k) p n [] h l = absurd (omega (arith, h))
+  word_on (suc k) p n (b ∷ text) h l = by (f b) refl h (λ x y. word_on k (p ++ b ∷ []) (n + 1) text x y)
+    where
+      by : (t : Bool) → f b ≡ t → suc k ≤ (if t then 1 + prefix_len f text else 0)
+          → (k ≤ prefix_len f text → length (p ++ b ∷ []) + k ≤ m → walk (place (p ++ b ∷ [])) (n + 1) text ≡ walk (place ((p ++ b ∷ []) ++ take k text)) (n + 1 + k) (drop k text))
+          → walk (place p) n (b ∷ text) ≡ walk (place (p ++ b ∷ take k text)) (n + suc k) (drop k text)
+      by false e g ih = absurd (omega (arith, g))
+      by true e g ih =
+          ap (λ (r : Result Walk SyntaxFault). then_walk r (λ x. walk x (n + 1) text)) (adds p n b (omega (arith, l)) e)
+          ∙ ih (omega (arith, g)) (omega (arith, l, length-append p (b ∷ [])))
+          ∙ ap (λ (q : List ℕ). walk (place q) (n + 1 + k) (drop k text)) (append_assoc p (b ∷ []) (take k text))
+          ∙ ap (λ (i : ℕ). walk (place (p ++ b ∷ take k text)) i (drop k text)) (omega arith)
+
+-- the same of a state at that place
+module _ (v : Walk) (stage : Stage) (here : v.stage ≡ stage) (f : ℕ → Bool) (m : ℕ)
+    (adds : (p : List ℕ) (n b : ℕ) → length p < m → f b ≡ true → step (at_stage stage (with_word p v)) n b ≡ Ok (at_stage stage (with_word (p ++ b ∷ []) v))) where
+  word_take : (k n : ℕ) (text : List ℕ) → k ≤ prefix_len f text → length v.word + k ≤ m → walk v n text ≡ walk (with_word (v.word ++ take k text) v) (n + k) (drop k text)
+  word_take k n text h l =
+      ap (λ (s : Stage). walk (at_stage s v) n text) here
+      ∙ word_on f m (λ p. at_stage stage (with_word p v)) adds k v.word n text h l
+      ∙ ap (λ (s : Stage). walk (at_stage s (with_word (v.word ++ take k text) v)) (n + k) (drop k text)) (sym here)
+
+-- in the word of a test
+pub word_takes : (v u : Walk) (head : Head) (form : Form) (start : ℕ) (negated : Bool) (k n : ℕ) (text : List ℕ) → v.stage ≡ at.Braces head form (places.TestWord start negated)
+    → k ≡ prefix_len is_word text → walked (with_word (v.word ++ take k text) v) ≡ walked u → walk v n text ≡ walk u (n + k) (drop k text)
+word_takes v u head form start negated k n text h e d =
+    word_take v (at.Braces head form (places.TestWord start negated)) h is_word (length v.word + k) (λ p i b l g. rw (other is_word b 92 g refl, g) refl) k n text (omega (arith, e)) (omega arith)
+    ∙ ap (λ (r : Result Walk SyntaxFault). then_walk r (λ x. walk x (n + k) (drop k text))) d
+
+-- in a suffix
+pub suffix_takes : (v u : Walk) (start : ℕ) (kind : TempKind) (k n : ℕ) (text : List ℕ) → v.stage ≡ at.List (stages.SuffixRun start kind)
+    → k ≡ prefix_len is_suffix text → walked (with_word (v.word ++ take k text) v) ≡ walked u → walk v n text ≡ walk u (n + k) (drop k text)
+suffix_takes v u start kind k n text h e d =
+    word_take v (at.List (stages.SuffixRun start kind)) h is_suffix (length v.word + k) (λ p i b l g. rw g refl) k n text (omega (arith, e)) (omega arith)
+    ∙ ap (λ (r : Result Walk SyntaxFault). then_walk r (λ x. walk x (n + k) (drop k text))) d
+
+-- in the name of a text
+pub name_takes : (v u : Walk) (start k n : ℕ) (text : List ℕ) → v.stage ≡ at.List (stages.NameText start)
+    → k ≡ prefix_len is_name text → length v.word + k ≤ 255 → walked (with_word (v.word ++ take k text) v) ≡ walked u → walk v n text ≡ walk u (n + k) (drop k text)
+name_takes v u start k n text h e l d =
+    word_take v (at.List (stages.NameText start)) h is_name 255 (λ p i b m g. rw (g, within (length p + 1) 255 (omega (arith, m))) refl) k n text (omega (arith, e)) l
+    ∙ ap (λ (r : Result Walk SyntaxFault). then_walk r (λ x. walk x (n + k) (drop k text))) d
+
+-- a byte that stands for itself
+run_step : (kind : ListKind) (n b : ℕ) (v : Walk) → v.stage ≡ at.List stages.Start → v.context.kind ≡ kind → runs kind b ≡ true
+    → step v n b ≡ Ok (with_part (part (leaves.Plain b) takes.Nothing n (n + 1)) v)
+run_step lists.Top n b v h k g =
+    rw (h, k, other (runs lists.Top) b 92 g refl, other (runs lists.Top) b 37 g refl, other (runs lists.Top) b 32 g refl, other (runs lists.Top) b 9 g refl, other (runs lists.Top) b 10 g refl, other (runs lists.Top) b 124 g refl) refl
+run_step lists.InX n b v h k g =
+    rw (h, k, other (runs lists.InX) b 92 g refl, other (runs lists.InX) b 37 g refl, other (runs lists.InX) b 59 g refl, other (runs lists.InX) b 125 g refl, other (runs lists.InX) b 32 g refl, other (runs lists.InX) b 9 g refl, other (runs lists.InX) b 10 g refl, other (runs lists.InX) b 124 g refl) refl
+run_step lists.InArguments n b v h k g =
+    rw (h, k, other (runs lists.InArguments) b 92 g refl, other (runs lists.InArguments) b 37 g refl, other (runs lists.InArguments) b 41 g refl, other (runs lists.InArguments) b 32 g refl, other (runs lists.InArguments) b 9 g refl, other (runs lists.InArguments) b 10 g refl, other (runs lists.InArguments) b 124 g refl) refl
+
+-- behind such a byte
+module _ (c : Context) (waiting : List Frame) (holds : Bool) where
+  abbrev behind_plain : List Token → List Label → ℕ → Walk
+  behind_plain tokens labels kept =
+      record { stage = at.List stages.Start; context = c; waiting = waiting; tokens = tokens; labels = labels; word = []; kept = kept; trailing = 0; holds_star = holds }
+
+  plains_on : (k : ℕ) (tokens : List Token) (labels : List Label) (n : ℕ) (text : List ℕ) → k ≤ prefix_len (runs c.kind) text
+      → walk (behind_plain tokens labels n) n text
+      ≡ walk (behind_plain (tokens ++ plain_tokens n (length tokens + 1) (take k text)) (labels ++ byte_labels (take k text)) (n + k)) (n + k) (drop k text)
+  plains_on zero tokens labels n text h =
+      ap (λ (ts : List Token). walk (behind_plain ts labels n) n text) (sym (append-nil tokens))
+      ∙ ap (λ (ls : List Label). walk (behind_plain (tokens ++ []) ls n) n text) (sym (append-nil labels))
+      ∙ ap (λ (i : ℕ). walk (behind_plain (tokens ++ []) (labels ++ []) i) i text) (omega arith)
+  plains_on (suc k) tokens labels n [] h = absurd (omega (arith, h))
+  plains_on (suc k) tokens labels n (b ∷ text) h = by (runs c.kind b) refl h (λ x. plains_on k (tokens ++ token ∷ []) (labels ++ word_label (b ∷ []) ∷ []) (n + 1) text x)
+    where
+      token : Token
+      token = record { kind = kinds.Plain; start = n; end = n + 1; next = length tokens + 1 }
+
+      by : (t : Bool) → runs c.kind b ≡ t → suc k ≤ (if t then 1 + prefix_len (runs c.kind) text else 0)
+          → (k ≤ prefix_len (runs c.kind) text → walk (behind_plain (tokens ++ token ∷ []) (labels ++ word_label (b ∷ []) ∷ []) (n + 1)) (n + 1) text
+          ≡ walk (behind_plain ((tokens ++ token ∷ []) ++ plain_tokens (n + 1) (length (tokens ++ token ∷ []) + 1) (take k text)) ((labels ++ word_label (b ∷ []) ∷ []) ++ byte_labels (take k text)) (n + 1 + k)) (n + 1 + k) (drop k text))
+          → walk (behind_plain tokens labels n) n (b ∷ text)
+          ≡ walk (behind_plain (tokens ++ token ∷ plain_tokens (n + 1) (length tokens + 1 + 1) (take k text)) (labels ++ word_label (b ∷ []) ∷ byte_labels (take k text)) (n + suc k)) (n + suc k) (drop k text)
+      by false e g ih = absurd (omega (arith, g))
+      by true e g ih =
+          ap (λ (r : Result Walk SyntaxFault). then_walk r (λ x. walk x (n + 1) text)) (run_step c.kind n b (behind_plain tokens labels n) refl refl e)
+          ∙ ih (omega (arith, g))
+          ∙ ap (λ (m : ℕ). walk (behind_plain ((tokens ++ token ∷ []) ++ plain_tokens (n + 1) (m + 1) (take k text)) ((labels ++ word_label (b ∷ []) ∷ []) ++ byte_labels (take k text)) (n + 1 + k)) (n + 1 + k) (drop k text)) (length-append tokens (token ∷ []))
+          ∙ ap (λ (ts : List Token). walk (behind_plain ts ((labels ++ word_label (b ∷ []) ∷ []) ++ byte_labels (take k text)) (n + 1 + k)) (n + 1 + k) (drop k text)) (append_assoc tokens (token ∷ []) (plain_tokens (n + 1) (length tokens + 1 + 1) (take k text)))
+          ∙ ap (λ (ls : List Label). walk (behind_plain (tokens ++ token ∷ plain_tokens (n + 1) (length tokens + 1 + 1) (take k text)) ls (n + 1 + k)) (n + 1 + k) (drop k text)) (append_assoc labels (word_label (b ∷ []) ∷ []) (byte_labels (take k text)))
+          ∙ ap (λ (i : ℕ). walk (behind_plain (tokens ++ token ∷ plain_tokens (n + 1) (length tokens + 1 + 1) (take k text)) (labels ++ word_label (b ∷ []) ∷ byte_labels (take k text)) i) i (drop k text)) (omega arith)
+
+-- their tokens, one after another
+pub tokens_step : (old new all : List Token) (n next i : ℕ) (run : List ℕ) → i < length run → new ≡ old ++ record { kind = kinds.Plain; start = n; end = n + 1; next = next + 1 } ∷ []
+    → old ++ plain_tokens n (next + 1) (drop i run) ≡ all → new ++ plain_tokens (n + 1) (next + 1 + 1) (drop (i + 1) run) ≡ all
+tokens_step old new all n next i run h e f =
+    ap (λ (ts : List Token). ts ++ plain_tokens (n + 1) (next + 1 + 1) (drop (i + 1) run)) e
+    ∙ append_assoc old (record { kind = kinds.Plain; start = n; end = n + 1; next = next + 1 } ∷ []) (plain_tokens (n + 1) (next + 1 + 1) (drop (i + 1) run))
+    ∙ ap (λ (bs : List ℕ). old ++ plain_tokens n (next + 1) bs) (sym (drop_more run i 0 h))
+    ∙ f
+
+-- where an item begins
+pub plains_take : (v u : Walk) (k n : ℕ) (text run : List ℕ) → v.stage ≡ at.List stages.Start → k ≡ prefix_len (runs v.context.kind) text → 0 < k → run ≡ take k text → k ≤ length text
+    → walked (with_plains n run v) ≡ walked u → walk v n text ≡ walk u (n + k) (drop k text)
+plains_take v u zero n text run h e positive f w d = absurd (omega (arith, positive))
+plains_take v u (suc k) n [] run h e positive f w d = absurd (omega (arith, w))
+plains_take v u (suc k) n (b ∷ text) run h e positive f w d = by (runs v.context.kind b) refl e
+  where
+    token : Token
+    token = record { kind = kinds.Plain; start = n; end = n + 1; next = length v.tokens + 1 }
+
+    whole : walk (with_plains n (b ∷ take k text) v) (n + suc k) (drop k text) ≡ walk u (n + suc k) (drop k text)
+    whole = ap (λ (r : List ℕ). walk (with_plains n r v) (n + suc k) (drop k text)) (sym f) ∙ ap (λ (r : Result Walk SyntaxFault). then_walk r (λ x. walk x (n + suc k) (drop k text))) d
+
+    by : (t : Bool) → runs v.context.kind b ≡ t → suc k ≡ (if t then 1 + prefix_len (runs v.context.kind) text else 0) → walk v n (b ∷ text) ≡ walk u (n + suc k) (drop k text)
+    by false g e = absurd (omega (arith, e))
+    by true g e =
+        ap (λ (r : Result Walk SyntaxFault). then_walk r (λ x. walk x (n + 1) text)) (run_step v.context.kind n b v h refl g)
+        ∙ plains_on v.context v.waiting v.holds_star k (v.tokens ++ token ∷ []) (v.labels ++ word_label (b ∷ []) ∷ []) (n + 1) text (omega (arith, e))
+        ∙ ap (λ (m : ℕ). walk (behind_plain v.context v.waiting v.holds_star ((v.tokens ++ token ∷ []) ++ plain_tokens (n + 1) (m + 1) (take k text)) ((v.labels ++ word_label (b ∷ []) ∷ []) ++ byte_labels (take k text)) (n + 1 + k)) (n + 1 + k) (drop k text)) (length-append v.tokens (token ∷ []))
+        ∙ ap (λ (ts : List Token). walk (behind_plain v.context v.waiting v.holds_star ts ((v.labels ++ word_label (b ∷ []) ∷ []) ++ byte_labels (take k text)) (n + 1 + k)) (n + 1 + k) (drop k text)) (append_assoc v.tokens (token ∷ []) (plain_tokens (n + 1) (length v.tokens + 1 + 1) (take k text)))
+        ∙ ap (λ (ls : List Label). walk (behind_plain v.context v.waiting v.holds_star (v.tokens ++ token ∷ plain_tokens (n + 1) (length v.tokens + 1 + 1) (take k text)) ls (n + 1 + k)) (n + 1 + k) (drop k text)) (append_assoc v.labels (word_label (b ∷ []) ∷ []) (byte_labels (take k text)))
+        ∙ ap (λ (i : ℕ). walk (behind_plain v.context v.waiting v.holds_star (v.tokens ++ token ∷ plain_tokens (n + 1) (length v.tokens + 1 + 1) (take k text)) (v.labels ++ word_label (b ∷ []) ∷ byte_labels (take k text)) i) (n + 1 + k) (drop k text)) kept
+        ∙ ap (λ (i : ℕ). walk (with_plains n (b ∷ take k text) v) i (drop k text)) (omega arith)
+        ∙ whole
+      where
+        kept : n + 1 + k ≡ n + length (b ∷ take k text)
+        kept = omega (arith, length-take-le k text (omega (arith, w)))
+
+-- a byte, and those behind it
+pub turn_takes : (v x u : Walk) (n b taken : ℕ) (text : List ℕ) → step v n b ≡ Ok x → walk x (n + 1) text ≡ walk u (n + 1 + taken) (drop taken text) → walk v n (b ∷ text) ≡ walk u (n + 1 + taken) (drop taken text)
+turn_takes v x u n b taken text h g = ap (λ (r : Result Walk SyntaxFault). then_walk r (λ y. walk y (n + 1) text)) h ∙ g

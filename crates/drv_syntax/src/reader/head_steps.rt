@@ -1,0 +1,458 @@
+//! What a byte does in braces, to the left of a colon.
+
+ghost use Rattle.drv_syntax.specs.Reader.States.{Fits, state};
+ghost use Rattle.drv_syntax.specs.Reader.Steps as steps;
+ghost use Rattle.drv_syntax.specs.Reader.Turns as turns;
+ghost use Rattle.drv_words.specs.Gives.{Gives};
+ghost use Rattle.std.specs.Prelude.{◌≡◌, ◌<◌, ◌^◌, ◌+◌, length, OnOk};
+
+use crate::fault::SyntaxFault;
+use crate::reader::acts::{act_asks, act_bars, act_ends, act_joins};
+use crate::reader::bytes::{is_function, is_function_front, is_mark, is_space, is_word};
+use crate::reader::edits::{
+    add, ask, begin, clear, emits, keep, next_open, open_alternative, open_test,
+};
+use crate::reader::stages::{Behind, Form, Head, HeadStage, Stage};
+use crate::reader::walk::Walk;
+
+fn bad(at: u32) -> Result<(), SyntaxFault>
+    ensures { result ≡ Err (SyntaxFault.BadDirective at) }
+{
+    Err(SyntaxFault::BadDirective(at as usize))
+}
+
+fn empty(at: u32) -> Result<(), SyntaxFault>
+    ensures { result ≡ Err (SyntaxFault.EmptyTest at) }
+{
+    Err(SyntaxFault::EmptyTest(at as usize))
+}
+
+fn at(head: Head, form: Form, stage: HeadStage) -> Stage
+    ensures { result ≡ Stage.Braces head form stage }
+{
+    Stage::Braces { head, form, stage }
+}
+
+/// Behind a test or a pattern.
+fn behind_test(
+    head: Head,
+    form: Form,
+    behind: Behind,
+    n: u32,
+    b: u8,
+    w: &mut Walk,
+) -> Result<(), SyntaxFault>
+    requires room { length w.old.tokens.items < 2 ^ 31 }
+    requires place { n < 2 ^ 31 }
+    ensures does { Gives SyntaxFault.Memory (λ _. state w.new) result (steps.act_head head form (turns.behind_action head.part.start behind b) n b (state w.old)) }
+    ensures fits { OnOk result (Fits w.old w.new) }
+{
+    if is_space(b) {
+        keep(at(head, form, HeadStage::BehindTest(behind)), w)
+    } else if b == b'}' {
+        act_ends(head, form, behind, n, w)
+    } else if b == b'&' {
+        act_joins(head, form, behind, w)
+    } else if b == b':' {
+        act_asks(head, form, behind, n, w)
+    } else if b == b'|' {
+        act_bars(head, form, behind, w)
+    } else {
+        bad(head.part.start)
+    }
+}
+
+/// In a word, with a `!` or without.
+fn test_word(
+    head: Head,
+    form: Form,
+    start: u32,
+    negated: bool,
+    n: u32,
+    b: u8,
+    w: &mut Walk,
+) -> Result<(), SyntaxFault>
+    requires room { length w.old.tokens.items < 2 ^ 31 }
+    requires place { n < 2 ^ 31 }
+    ensures does { Gives SyntaxFault.Memory (λ _. state w.new) result (steps.act_head head form (turns.word_action head.part.start start negated n b) n b (state w.old)) }
+    ensures fits { OnOk result (Fits w.old w.new) }
+{
+    if b == b'\\' {
+        keep(
+            at(head, form, HeadStage::TestWordEscape { start, negated }),
+            w,
+        )
+    } else if is_word(b) {
+        add(at(head, form, HeadStage::TestWord { start, negated }), b, w)
+    } else if b == b'*' {
+        let behind = Behind::Switch {
+            start,
+            end: n + 1,
+            negated,
+            starred: true,
+        };
+        keep(at(head, form, HeadStage::BehindTest(behind)), w)
+    } else {
+        let behind = Behind::Switch {
+            start,
+            end: n,
+            negated,
+            starred: false,
+        };
+        behind_test(head, form, behind, n, b, w)
+    }
+}
+
+/// Behind a `.` or `,` that no word follows.
+fn bare_mark(
+    head: Head,
+    form: Form,
+    start: u32,
+    negated: bool,
+    mark: u8,
+    n: u32,
+    b: u8,
+    w: &mut Walk,
+) -> Result<(), SyntaxFault>
+    requires room { length w.old.tokens.items < 2 ^ 31 }
+    requires place { n < 2 ^ 31 }
+    ensures does { Gives SyntaxFault.Memory (λ _. state w.new) result (steps.act_head head form (turns.bare_action head.part.start start negated mark n b) n b (state w.old)) }
+    ensures fits { OnOk result (Fits w.old w.new) }
+{
+    let bare = Behind::Bare {
+        start,
+        end: n,
+        negated,
+        mark,
+    };
+    if b == b'*' {
+        let behind = Behind::StarredMark {
+            start,
+            end: n + 1,
+            negated,
+            mark,
+        };
+        clear(at(head, form, HeadStage::BehindTest(behind)), w)
+    } else if b == b'}' {
+        act_ends(head, form, bare, n, w)
+    } else if b == b'&' {
+        act_joins(head, form, bare, w)
+    } else if is_space(b) {
+        keep(at(head, form, HeadStage::BehindTest(bare)), w)
+    } else {
+        empty(head.part.start)
+    }
+}
+
+/// Behind the `.` or `,` that begins a test.
+fn test_mark(
+    head: Head,
+    form: Form,
+    start: u32,
+    negated: bool,
+    mark: u8,
+    n: u32,
+    b: u8,
+    w: &mut Walk,
+) -> Result<(), SyntaxFault>
+    requires room { length w.old.tokens.items < 2 ^ 31 }
+    requires place { n < 2 ^ 31 }
+    ensures does { Gives SyntaxFault.Memory (λ _. state w.new) result (steps.act_head head form (turns.mark_action head.part.start form start negated mark n b) n b (state w.old)) }
+    ensures fits { OnOk result (Fits w.old w.new) }
+{
+    if b == b'\\' {
+        let stage = HeadStage::MarkedEscape {
+            start,
+            negated,
+            mark,
+        };
+        clear(at(head, form, stage), w)
+    } else if is_word(b) {
+        let stage = HeadStage::MarkedWord {
+            start,
+            negated,
+            mark,
+        };
+        begin(at(head, form, stage), b, w)
+    } else if emits(form, negated) {
+        bare_mark(head, form, start, negated, mark, n, b, w)
+    } else {
+        empty(head.part.start)
+    }
+}
+
+/// In the word behind it.
+fn marked_word(
+    head: Head,
+    form: Form,
+    start: u32,
+    negated: bool,
+    mark: u8,
+    n: u32,
+    b: u8,
+    w: &mut Walk,
+) -> Result<(), SyntaxFault>
+    requires room { length w.old.tokens.items < 2 ^ 31 }
+    requires place { n < 2 ^ 31 }
+    ensures does { Gives SyntaxFault.Memory (λ _. state w.new) result (steps.act_head head form (turns.marked_action head.part.start form start negated mark n b) n b (state w.old)) }
+    ensures fits { OnOk result (Fits w.old w.new) }
+{
+    if b == b'\\' {
+        let stage = HeadStage::MarkedEscape {
+            start,
+            negated,
+            mark,
+        };
+        keep(at(head, form, stage), w)
+    } else if is_word(b) {
+        let stage = HeadStage::MarkedWord {
+            start,
+            negated,
+            mark,
+        };
+        add(at(head, form, stage), b, w)
+    } else if b != b'*' {
+        let behind = Behind::Marked {
+            start,
+            end: n,
+            negated,
+            mark,
+        };
+        behind_test(head, form, behind, n, b, w)
+    } else if emits(form, negated) {
+        let behind = Behind::StarredMark {
+            start,
+            end: n + 1,
+            negated,
+            mark,
+        };
+        keep(at(head, form, HeadStage::BehindTest(behind)), w)
+    } else {
+        bad(head.part.start)
+    }
+}
+
+/// Where what a test asks begins, behind a `!` or not.
+fn asked(
+    head: Head,
+    form: Form,
+    start: u32,
+    negated: bool,
+    n: u32,
+    b: u8,
+    w: &mut Walk,
+) -> Result<(), SyntaxFault>
+    requires room { length w.old.tokens.items < 2 ^ 31 }
+    requires place { n < 2 ^ 31 }
+    ensures does { Gives SyntaxFault.Memory (λ _. state w.new) result (steps.act_head head form (turns.asked_action w.old.context.levels head.part.start start negated n b) n b (state w.old)) }
+    ensures fits { OnOk result (Fits w.old w.new) }
+{
+    if b == b'\\' {
+        clear(
+            at(head, form, HeadStage::TestWordEscape { start, negated }),
+            w,
+        )
+    } else if is_mark(b) {
+        let stage = HeadStage::TestMark {
+            start,
+            negated,
+            mark: b,
+        };
+        keep(at(head, form, stage), w)
+    } else if is_word(b) {
+        begin(at(head, form, HeadStage::TestWord { start, negated }), b, w)
+    } else if b == b'*' {
+        let behind = Behind::Switch {
+            start,
+            end: n + 1,
+            negated,
+            starred: true,
+        };
+        clear(at(head, form, HeadStage::BehindTest(behind)), w)
+    } else if b != b'%' {
+        empty(head.part.start)
+    } else if w.context.levels.saturating_sub(1) == 0 {
+        Err(SyntaxFault::TooNested(n as usize))
+    } else {
+        let stage = HeadStage::TestPercent {
+            start,
+            negated,
+            percent: n,
+        };
+        keep(at(head, form, stage), w)
+    }
+}
+
+/// Where a test begins.
+fn due(head: Head, form: Form, n: u32, b: u8, w: &mut Walk) -> Result<(), SyntaxFault>
+    requires room { length w.old.tokens.items < 2 ^ 31 }
+    requires place { n < 2 ^ 31 }
+    ensures does { Gives SyntaxFault.Memory (λ _. state w.new) result (steps.act_head head form (turns.due_action w.old.context.levels head.part.start n b) n b (state w.old)) }
+    ensures fits { OnOk result (Fits w.old w.new) }
+{
+    if b == b'!' {
+        keep(at(head, form, HeadStage::TestNegated { start: n }), w)
+    } else {
+        asked(head, form, n, false, n, b, w)
+    }
+}
+
+/// Where a pattern begins.
+fn pattern_due(head: Head, form: Form, n: u32, b: u8, w: &mut Walk) -> Result<(), SyntaxFault>
+    requires room { length w.old.tokens.items < 2 ^ 31 }
+    requires place { n < 2 ^ 31 }
+    ensures does { Gives SyntaxFault.Memory (λ _. state w.new) result (steps.act_head head form (turns.pattern_action head.part.start n b) n b (state w.old)) }
+    ensures fits { OnOk result (Fits w.old w.new) }
+{
+    let start = n;
+    let negated = false;
+    if is_space(b) {
+        keep(at(head, form, HeadStage::PatternDue), w)
+    } else if b == b'\\' {
+        clear(
+            at(head, form, HeadStage::TestWordEscape { start, negated }),
+            w,
+        )
+    } else if is_word(b) {
+        begin(at(head, form, HeadStage::TestWord { start, negated }), b, w)
+    } else if b == b'*' {
+        let behind = Behind::Switch {
+            start,
+            end: n + 1,
+            negated,
+            starred: true,
+        };
+        clear(at(head, form, HeadStage::BehindTest(behind)), w)
+    } else {
+        empty(head.part.start)
+    }
+}
+
+/// In the name of a function in a test, whose `%` has this place.
+fn test_function(
+    head: Head,
+    form: Form,
+    start: u32,
+    negated: bool,
+    percent: u32,
+    n: u32,
+    b: u8,
+    w: &mut Walk,
+) -> Result<(), SyntaxFault>
+    requires room { length w.old.tokens.items < 2 ^ 31 }
+    requires place { n < 2 ^ 31 }
+    ensures does { Gives SyntaxFault.Memory (λ _. state w.new) result (steps.act_head head form (turns.test_call_action start negated percent w.old.word.items b) n b (state w.old)) }
+    ensures fits { OnOk result (Fits w.old w.new) }
+{
+    if is_function_front(&w.word, b) {
+        let stage = HeadStage::TestFunction {
+            start,
+            negated,
+            percent,
+        };
+        add(at(head, form, stage), b, w)
+    } else if b == b'(' && is_function(&w.word) {
+        open_test(head, form, start, negated, w)
+    } else {
+        Err(SyntaxFault::UnknownFunction(percent as usize))
+    }
+}
+
+/// What this byte at this place makes of the state.
+pub fn head_step(
+    head: Head,
+    form: Form,
+    stage: HeadStage,
+    n: u32,
+    b: u8,
+    w: &mut Walk,
+) -> Result<(), SyntaxFault>
+    requires room { length w.old.tokens.items < 2 ^ 31 }
+    requires place { n < 2 ^ 31 }
+    ensures does { Gives SyntaxFault.Memory (λ _. state w.new) result (steps.act_head head form (turns.head_action stage w.old.context.levels head.part.start form w.old.word.items n b) n b (state w.old)) }
+    ensures fits { OnOk result (Fits w.old w.new) }
+{
+    match stage {
+        HeadStage::TestDue if is_space(b) => keep(at(head, form, stage), w),
+        HeadStage::TestDue => due(head, form, n, b, w),
+        HeadStage::TestNegated { .. } if is_space(b) => keep(at(head, form, stage), w),
+        HeadStage::TestNegated { start } => asked(head, form, start, true, n, b, w),
+        HeadStage::PatternDue => pattern_due(head, form, n, b, w),
+        HeadStage::TestWord { start, negated } => test_word(head, form, start, negated, n, b, w),
+        HeadStage::TestWordEscape { start, negated } => add(
+            at(head, form, HeadStage::TestWord { start, negated }),
+            b,
+            w,
+        ),
+        HeadStage::TestMark {
+            start,
+            negated,
+            mark,
+        } => test_mark(head, form, start, negated, mark, n, b, w),
+        HeadStage::MarkedWord {
+            start,
+            negated,
+            mark,
+        } => marked_word(head, form, start, negated, mark, n, b, w),
+        HeadStage::MarkedEscape {
+            start,
+            negated,
+            mark,
+        } => add(
+            at(
+                head,
+                form,
+                HeadStage::MarkedWord {
+                    start,
+                    negated,
+                    mark,
+                },
+            ),
+            b,
+            w,
+        ),
+        HeadStage::TestPercent {
+            start,
+            negated,
+            percent,
+        } if b == b':' => clear(
+            at(
+                head,
+                form,
+                HeadStage::TestFunction {
+                    start,
+                    negated,
+                    percent,
+                },
+            ),
+            w,
+        ),
+        HeadStage::TestPercent { percent, .. } => bad(percent),
+        HeadStage::TestFunction {
+            start,
+            negated,
+            percent,
+        } => test_function(head, form, start, negated, percent, n, b, w),
+        HeadStage::BehindTest(behind) => behind_test(head, form, behind, n, b, w),
+    }
+}
+
+/// What this byte does where an alternative begins, with others before it or none.
+pub fn choice_step(head: Head, later: bool, n: u32, b: u8, w: &mut Walk) -> Result<(), SyntaxFault>
+    requires room { length w.old.tokens.items < 2 ^ 31 }
+    requires place { n < 2 ^ 31 }
+    ensures does { Gives SyntaxFault.Memory (λ _. state w.new) result (steps.act_choice head later (turns.choice_action later w.old.context.levels head.part.start n b) n b (state w.old)) }
+    ensures fits { OnOk result (Fits w.old w.new) }
+{
+    if later && b == b':' {
+        let part = next_open(w, n);
+        open_alternative(n, w)?;
+        ask(head, part, false, false, n, w)
+    } else if is_space(b) {
+        Ok(())
+    } else if later {
+        due(head, Form::Later, n, b, w)
+    } else {
+        due(head, Form::Fresh, n, b, w)
+    }
+}

@@ -1,0 +1,428 @@
+//! What a byte does in a list of items.
+
+ghost use Rattle.drv_syntax.specs.Reader.States.{Fits, state};
+ghost use Rattle.drv_syntax.specs.Reader.Steps as steps;
+ghost use Rattle.drv_syntax.specs.Reader.Turns as turns;
+ghost use Rattle.drv_words.specs.Gives.{Gives};
+ghost use Rattle.std.specs.Prelude.{◌≡◌, ◌<◌, ◌≤◌, ◌^◌, ◌+◌, length, OnOk};
+
+use crate::fault::SyntaxFault;
+use crate::reader::actions::{BuiltinName, Goes, Leaf, Part, Taken};
+use crate::reader::acts::close;
+use crate::reader::bytes::{is_blank, is_function, is_function_front, is_name, is_suffix, is_word};
+use crate::reader::edits::{
+    add, begin, clear, keep, open_braces, open_call, with_blank, with_part, with_plain,
+};
+use crate::reader::stages::{BraceKind, ListKind, ListStage, SayKind, Stage, StarOwner};
+use crate::reader::walk::Walk;
+use crate::token::TempKind;
+
+/// The byte ends a list.
+pub fn ends(kind: ListKind, b: u8) -> bool
+    ensures { result ≡ turns.ends kind b }
+{
+    match kind {
+        ListKind::Top => false,
+        ListKind::InX => b == b';' || b == b'}',
+        ListKind::InArguments => b == b')',
+    }
+}
+
+fn says(kind: ListKind, b: u8) -> bool
+    ensures { result ≡ turns.says kind b }
+{
+    match kind {
+        ListKind::Top => b != b'\n',
+        ListKind::InX => !(b == b'\n' || b == b';' || b == b'}'),
+        ListKind::InArguments => b != b'\n',
+    }
+}
+
+fn refused(at: u32) -> Result<(), SyntaxFault>
+    ensures { result ≡ Err (SyntaxFault.BadDirective at) }
+{
+    Err(SyntaxFault::BadDirective(at as usize))
+}
+
+/// An item ends.
+#[inline]
+fn item(leaf: Leaf, taken: Taken, start: u32, end: u32, w: &mut Walk) -> Result<(), SyntaxFault>
+    requires room { length w.old.tokens.items < 2 ^ 31 }
+    requires trail { w.old.trailing < 2 ^ 31 }
+    ensures does { Gives SyntaxFault.Memory (λ _. state w.new) result (Ok (steps.with_part (turns.part leaf taken start end) (state w.old))) }
+    ensures size { OnOk result (length w.new.tokens.items ≤ length w.old.tokens.items + 1) }
+    ensures trail { OnOk result (w.new.trailing ≤ w.old.trailing + 1) }
+{
+    with_part(
+        Part {
+            leaf,
+            taken,
+            start,
+            end,
+        },
+        w,
+    )
+}
+
+/// Where an item begins.
+pub fn start(n: u32, b: u8, w: &mut Walk) -> Result<(), SyntaxFault>
+    requires room { length w.old.tokens.items < 2 ^ 31 }
+    requires place { n < 2 ^ 31 }
+    requires trail { w.old.trailing < 2 ^ 31 }
+    ensures does { Gives SyntaxFault.Memory (λ _. state w.new) result (steps.start n b (state w.old)) }
+    ensures fits { OnOk result (Fits w.old w.new) }
+{
+    if b == b'\\' {
+        keep(Stage::List(ListStage::Backslash { backslash: n }), w)
+    } else if b == b'%' {
+        keep(Stage::List(ListStage::Percent { at: n }), w)
+    } else if ends(w.context.kind, b) {
+        close(n, b, w)
+    } else if is_blank(b) {
+        with_blank(n, w)
+    } else if b == b'\n' && !w.context.in_arguments {
+        item(Leaf::Newline, Taken::Nothing, n, n + 1, w)
+    } else if b == b'\n' {
+        with_blank(n, w)
+    } else if b == b'|' && !w.context.in_arguments {
+        item(Leaf::Pipe, Taken::Nothing, n, n + 1, w)
+    } else {
+        with_plain(n, b, w)
+    }
+}
+
+/// What the directive of this byte goes on with.
+pub fn goes_of(b: u8) -> Goes
+    ensures { result ≡ turns.goes_of b }
+{
+    match b {
+        b'%' => Goes::Whole(Leaf::Percent),
+        b'i' => Goes::Whole(Leaf::InputName),
+        b'b' => Goes::Whole(Leaf::BaseStem),
+        b'B' => Goes::Whole(Leaf::BaseName),
+        b'O' => Goes::Whole(Leaf::ObjectSuffix),
+        b'g' => Goes::WithSuffix(TempKind::Shared),
+        b'u' => Goes::WithSuffix(TempKind::New),
+        b'U' => Goes::WithSuffix(TempKind::Last),
+        b'|' => Goes::WithSuffix(TempKind::PipedOut),
+        b'm' => Goes::WithSuffix(TempKind::PipedIn),
+        b'd' => Goes::Whole(Leaf::Removed),
+        b'w' => Goes::Whole(Leaf::Output),
+        b'V' => Goes::Whole(Leaf::NoOutput),
+        b's' => Goes::Whole(Leaf::FoundFile),
+        b'T' => Goes::Whole(Leaf::FoundScript),
+        b'D' => Goes::Whole(Leaf::Directories),
+        b'o' => Goes::Whole(Leaf::Outputs),
+        b'x' => Goes::WithOption,
+        b'X' => Goes::Whole(Leaf::LinkerOptions),
+        b'Y' => Goes::Whole(Leaf::AssemblerOptions),
+        b'Z' => Goes::Whole(Leaf::PreprocessorOptions),
+        b'e' => Goes::WithSaying(SayKind::AsError),
+        b'n' => Goes::WithSaying(SayKind::AsNotice),
+        b'(' => Goes::WithName,
+        b'a' => Goes::Whole(Leaf::BuiltinText(BuiltinName::Assembler)),
+        b'A' => Goes::Whole(Leaf::BuiltinText(BuiltinName::AssemblerFinal)),
+        b'l' => Goes::Whole(Leaf::BuiltinText(BuiltinName::Linker)),
+        b'L' => Goes::Whole(Leaf::BuiltinText(BuiltinName::Libraries)),
+        b'G' => Goes::Whole(Leaf::BuiltinText(BuiltinName::Support)),
+        b'S' => Goes::Whole(Leaf::BuiltinText(BuiltinName::StartFiles)),
+        b'E' => Goes::Whole(Leaf::BuiltinText(BuiltinName::EndFiles)),
+        b'C' => Goes::Whole(Leaf::BuiltinText(BuiltinName::Preprocessor)),
+        b'1' => Goes::Whole(Leaf::BuiltinText(BuiltinName::Compiler)),
+        b'2' => Goes::Whole(Leaf::BuiltinText(BuiltinName::CompilerPlus)),
+        b'<' => Goes::WithPattern,
+        b'>' => Goes::WithPattern,
+        b':' => Goes::WithCall,
+        b'{' => Goes::WithBraces,
+        b'*' => Goes::OfStar,
+        b'W' => Goes::WithMarkedBraces(BraceKind::IntoFailureFile),
+        b'@' => Goes::WithMarkedBraces(BraceKind::IntoArgumentsFile),
+        _ => Goes::Nowhere,
+    }
+}
+
+/// The directive of this byte may stand here.
+pub fn allows(in_arguments: bool, b: u8) -> bool
+    ensures { result ≡ turns.allows in_arguments b }
+{
+    if in_arguments {
+        b == b'%'
+            || b == b'i'
+            || b == b'b'
+            || b == b'B'
+            || b == b'O'
+            || b == b's'
+            || b == b'*'
+            || b == b'{'
+            || b == b':'
+    } else {
+        true
+    }
+}
+
+/// Behind the `%` at a place.
+fn percent(at: u32, n: u32, b: u8, w: &mut Walk) -> Result<(), SyntaxFault>
+    requires room { length w.old.tokens.items < 2 ^ 31 }
+    requires place { n < 2 ^ 31 }
+    requires trail { w.old.trailing < 2 ^ 31 }
+    ensures does { Gives SyntaxFault.Memory (λ _. state w.new) result (steps.percent at n b (state w.old)) }
+    ensures fits { OnOk result (Fits w.old w.new) }
+{
+    if !allows(w.context.in_arguments, b) {
+        return refused(at);
+    }
+    match goes_of(b) {
+        Goes::Nowhere => refused(at),
+        Goes::Whole(leaf) => item(leaf, Taken::Nothing, at, n + 1, w),
+        Goes::WithSuffix(kind) => keep(Stage::List(ListStage::SuffixStart { at, kind }), w),
+        Goes::WithOption => keep(Stage::List(ListStage::OptionOpen { at }), w),
+        Goes::WithSaying(kind) => clear(Stage::List(ListStage::SayingText { at, kind }), w),
+        Goes::WithName => clear(Stage::List(ListStage::NameText { at }), w),
+        Goes::WithPattern => keep(Stage::List(ListStage::HideStart { at }), w),
+        Goes::OfStar => match w.context.owner {
+            StarOwner::Nobody => Err(SyntaxFault::StarOutside(at as usize)),
+            StarOwner::Mixed => Err(SyntaxFault::MixedStar(at as usize)),
+            StarOwner::Starred => item(Leaf::Star, Taken::Nothing, at, n + 1, w),
+        },
+        Goes::WithCall | Goes::WithBraces | Goes::WithMarkedBraces(_) if w.context.levels == 0 => {
+            Err(SyntaxFault::TooNested(at as usize))
+        }
+        Goes::WithCall => clear(Stage::List(ListStage::FunctionName { at }), w),
+        Goes::WithBraces => open_braces(at, BraceKind::InPlace, w),
+        Goes::WithMarkedBraces(kind) => keep(Stage::List(ListStage::BraceOpen { at, kind }), w),
+    }
+}
+
+/// Behind `%g`.
+fn suffix_start(at: u32, kind: TempKind, n: u32, b: u8, w: &mut Walk) -> Result<(), SyntaxFault>
+    requires room { length w.old.tokens.items < 2 ^ 30 }
+    requires place { n < 2 ^ 31 }
+    requires trail { w.old.trailing < 2 ^ 30 }
+    ensures does { Gives SyntaxFault.Memory (λ _. state w.new) result (steps.act_turn (turns.suffix_start w.old.context at kind n b) n b (state w.old)) }
+    ensures size { OnOk result (length w.new.tokens.items ≤ length w.old.tokens.items + 4) }
+    ensures trail { OnOk result (w.new.trailing ≤ w.old.trailing + 4) }
+{
+    if is_suffix(b) {
+        return begin(Stage::List(ListStage::SuffixRun { at, kind }), b, w);
+    }
+    if b == b'%' {
+        let percent = n;
+        return keep(
+            Stage::List(ListStage::SuffixPercent { at, kind, percent }),
+            w,
+        );
+    }
+    item(Leaf::TempName(kind), Taken::Nothing, at, n, w)?;
+    start(n, b, w)
+}
+
+/// In its suffix.
+fn suffix_run(at: u32, kind: TempKind, n: u32, b: u8, w: &mut Walk) -> Result<(), SyntaxFault>
+    requires room { length w.old.tokens.items < 2 ^ 30 }
+    requires place { n < 2 ^ 31 }
+    requires trail { w.old.trailing < 2 ^ 30 }
+    ensures does { Gives SyntaxFault.Memory (λ _. state w.new) result (steps.act_turn (turns.suffix_run w.old.context at kind n b) n b (state w.old)) }
+    ensures size { OnOk result (length w.new.tokens.items ≤ length w.old.tokens.items + 4) }
+    ensures trail { OnOk result (w.new.trailing ≤ w.old.trailing + 4) }
+{
+    if is_suffix(b) {
+        return add(Stage::List(ListStage::SuffixRun { at, kind }), b, w);
+    }
+    item(Leaf::TempName(kind), Taken::Word, at, n, w)?;
+    start(n, b, w)
+}
+
+/// Behind `%g%`.
+fn suffix_percent(
+    at: u32,
+    kind: TempKind,
+    second: u32,
+    n: u32,
+    b: u8,
+    w: &mut Walk,
+) -> Result<(), SyntaxFault>
+    requires room { length w.old.tokens.items < 2 ^ 30 }
+    requires place { n < 2 ^ 31 }
+    requires trail { w.old.trailing < 2 ^ 30 }
+    ensures does { Gives SyntaxFault.Memory (λ _. state w.new) result (steps.act_turn (turns.suffix_percent w.old.context at kind second n b) n b (state w.old)) }
+    ensures size { OnOk result (length w.new.tokens.items ≤ length w.old.tokens.items + 4) }
+    ensures trail { OnOk result (w.new.trailing ≤ w.old.trailing + 4) }
+{
+    if b == b'O' {
+        return item(Leaf::TempName(kind), Taken::Object, at, n + 1, w);
+    }
+    item(Leaf::TempName(kind), Taken::Nothing, at, second, w)?;
+    percent(second, n, b, w)
+}
+
+/// In the text of `%x{..}`.
+fn option_text(at: u32, n: u32, b: u8, w: &mut Walk) -> Result<(), SyntaxFault>
+    requires room { length w.old.tokens.items < 2 ^ 31 }
+    requires place { n < 2 ^ 31 }
+    requires trail { w.old.trailing < 2 ^ 31 }
+    ensures does { Gives SyntaxFault.Memory (λ _. state w.new) result (steps.act_list (turns.option_action at w.old.word.items n b) n b (state w.old)) }
+    ensures fits { OnOk result (Fits w.old w.new) }
+{
+    if b == b'\\' {
+        keep(Stage::List(ListStage::OptionEscape { at }), w)
+    } else if b != b'}' {
+        add(Stage::List(ListStage::OptionText { at }), b, w)
+    } else if w.word.is_empty() {
+        refused(at)
+    } else {
+        item(Leaf::AddOption, Taken::Word, at, n + 1, w)
+    }
+}
+
+/// In the text of `%e`.
+fn saying_text(at: u32, kind: SayKind, n: u32, b: u8, w: &mut Walk) -> Result<(), SyntaxFault>
+    requires room { length w.old.tokens.items < 2 ^ 30 }
+    requires place { n < 2 ^ 31 }
+    requires trail { w.old.trailing < 2 ^ 30 }
+    ensures does { Gives SyntaxFault.Memory (λ _. state w.new) result (steps.act_turn (turns.saying_turn w.old.context at kind n b) n b (state w.old)) }
+    ensures size { OnOk result (length w.new.tokens.items ≤ length w.old.tokens.items + 4) }
+    ensures trail { OnOk result (w.new.trailing ≤ w.old.trailing + 4) }
+{
+    if b == b'\\' {
+        let backslash = n;
+        return keep(
+            Stage::List(ListStage::SayingEscape {
+                at,
+                kind,
+                backslash,
+            }),
+            w,
+        );
+    }
+    if says(w.context.kind, b) {
+        return add(Stage::List(ListStage::SayingText { at, kind }), b, w);
+    }
+    if b == b'\n' {
+        return item(Leaf::Said(kind), Taken::Word, at, n + 1, w);
+    }
+    item(Leaf::Said(kind), Taken::Word, at, n, w)?;
+    start(n, b, w)
+}
+
+/// In the name of a text.
+fn name_text(at: u32, n: u32, b: u8, w: &mut Walk) -> Result<(), SyntaxFault>
+    requires room { length w.old.tokens.items < 2 ^ 31 }
+    requires place { n < 2 ^ 31 }
+    requires trail { w.old.trailing < 2 ^ 31 }
+    ensures does { Gives SyntaxFault.Memory (λ _. state w.new) result (steps.act_list (turns.name_action at w.old.word.items n b) n b (state w.old)) }
+    ensures fits { OnOk result (Fits w.old w.new) }
+{
+    if is_name(b) {
+        if w.word.len() < 255 {
+            add(Stage::List(ListStage::NameText { at }), b, w)
+        } else {
+            refused(at)
+        }
+    } else if b == b')' && !w.word.is_empty() {
+        item(Leaf::NamedText, Taken::Word, at, n + 1, w)
+    } else {
+        refused(at)
+    }
+}
+
+/// Behind `%<`.
+fn hide_start(at: u32, n: u32, b: u8, w: &mut Walk) -> Result<(), SyntaxFault>
+    requires room { length w.old.tokens.items < 2 ^ 31 }
+    requires place { n < 2 ^ 31 }
+    requires trail { w.old.trailing < 2 ^ 31 }
+    ensures does { Gives SyntaxFault.Memory (λ _. state w.new) result (steps.act_list (turns.hide_action at n b) n b (state w.old)) }
+    ensures fits { OnOk result (Fits w.old w.new) }
+{
+    if b == b'\\' {
+        clear(Stage::List(ListStage::HideEscape { at }), w)
+    } else if is_word(b) {
+        begin(Stage::List(ListStage::HideWord { at }), b, w)
+    } else if b == b'*' {
+        item(Leaf::Hide(true), Taken::Nothing, at, n + 1, w)
+    } else {
+        Err(SyntaxFault::EmptyTest(at as usize))
+    }
+}
+
+/// In its word.
+fn hide_word(at: u32, n: u32, b: u8, w: &mut Walk) -> Result<(), SyntaxFault>
+    requires room { length w.old.tokens.items < 2 ^ 30 }
+    requires place { n < 2 ^ 31 }
+    requires trail { w.old.trailing < 2 ^ 30 }
+    ensures does { Gives SyntaxFault.Memory (λ _. state w.new) result (steps.act_turn (turns.hide_word w.old.context at n b) n b (state w.old)) }
+    ensures size { OnOk result (length w.new.tokens.items ≤ length w.old.tokens.items + 4) }
+    ensures trail { OnOk result (w.new.trailing ≤ w.old.trailing + 4) }
+{
+    if b == b'\\' {
+        return keep(Stage::List(ListStage::HideEscape { at }), w);
+    }
+    if is_word(b) {
+        return add(Stage::List(ListStage::HideWord { at }), b, w);
+    }
+    if b == b'*' {
+        return item(Leaf::Hide(true), Taken::Word, at, n + 1, w);
+    }
+    item(Leaf::Hide(false), Taken::Word, at, n, w)?;
+    start(n, b, w)
+}
+
+/// In the name of a function.
+fn function_name(at: u32, n: u32, b: u8, w: &mut Walk) -> Result<(), SyntaxFault>
+    requires room { length w.old.tokens.items < 2 ^ 31 }
+    requires place { n < 2 ^ 31 }
+    requires trail { w.old.trailing < 2 ^ 31 }
+    ensures does { Gives SyntaxFault.Memory (λ _. state w.new) result (steps.act_list (turns.call_action at w.old.word.items b) n b (state w.old)) }
+    ensures fits { OnOk result (Fits w.old w.new) }
+{
+    if is_function_front(&w.word, b) {
+        add(Stage::List(ListStage::FunctionName { at }), b, w)
+    } else if b == b'(' && is_function(&w.word) {
+        open_call(at, w)
+    } else {
+        Err(SyntaxFault::UnknownFunction(at as usize))
+    }
+}
+
+/// What this byte at this place makes of the state.
+pub fn list_step(stage: ListStage, n: u32, b: u8, w: &mut Walk) -> Result<(), SyntaxFault>
+    requires room { length w.old.tokens.items < 2 ^ 30 }
+    requires place { n < 2 ^ 31 }
+    requires trail { w.old.trailing < 2 ^ 30 }
+    ensures does { Gives SyntaxFault.Memory (λ _. state w.new) result (steps.act_turn (turns.list_turn stage w.old.context w.old.word.items n b) n b (state w.old)) }
+    ensures size { OnOk result (length w.new.tokens.items ≤ length w.old.tokens.items + 4) }
+    ensures trail { OnOk result (w.new.trailing ≤ w.old.trailing + 4) }
+{
+    match stage {
+        ListStage::Start => start(n, b, w),
+        ListStage::Backslash { backslash } => item(
+            Leaf::Escape(b),
+            Taken::Nothing,
+            backslash,
+            n + 1,
+            w,
+        ),
+        ListStage::Percent { at } => percent(at, n, b, w),
+        ListStage::SuffixStart { at, kind } => suffix_start(at, kind, n, b, w),
+        ListStage::SuffixRun { at, kind } => suffix_run(at, kind, n, b, w),
+        ListStage::SuffixPercent { at, kind, percent } => suffix_percent(
+            at, kind, percent, n, b, w,
+        ),
+        ListStage::OptionOpen { at } if b == b'{' => {
+            clear(Stage::List(ListStage::OptionText { at }), w)
+        }
+        ListStage::OptionText { at } => option_text(at, n, b, w),
+        ListStage::OptionEscape { at } => add(Stage::List(ListStage::OptionText { at }), b, w),
+        ListStage::SayingText { at, kind } => saying_text(at, kind, n, b, w),
+        ListStage::SayingEscape { at, kind, .. } => {
+            add(Stage::List(ListStage::SayingText { at, kind }), b, w)
+        }
+        ListStage::NameText { at } => name_text(at, n, b, w),
+        ListStage::HideStart { at } => hide_start(at, n, b, w),
+        ListStage::HideWord { at } => hide_word(at, n, b, w),
+        ListStage::HideEscape { at } => add(Stage::List(ListStage::HideWord { at }), b, w),
+        ListStage::FunctionName { at } => function_name(at, n, b, w),
+        ListStage::BraceOpen { at, kind } if b == b'{' => open_braces(at, kind, w),
+        ListStage::OptionOpen { at } => refused(at),
+        ListStage::BraceOpen { at, .. } => refused(at),
+    }
+}
