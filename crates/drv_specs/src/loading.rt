@@ -42,7 +42,6 @@ fn text_read(
 }
 
 /// The text that a spec file gives.
-#[tactic(auto, using(crate::proofs::Asked::asks_further))]
 fn file_text<S: System>(
     alloc: Global,
     pass_missing: bool,
@@ -169,7 +168,6 @@ impl SpecSet {
     ///
     /// # Errors
     /// Those of `load`. The file counts as one that is read, and is the first of those that stand in one another.
-    #[tactic(auto, using(crate::proofs::Asked::asks_further))]
     pub fn load_file<S: System>(
         &mut self,
         name: &Word,

@@ -5,6 +5,18 @@ use Rattle.drv_specs.specs.Loading.{all_carried, including}
 use Rattle.drv_system.proofs.Asking.{asks_extends, asks_then, extends_then}
 use Rattle.std.proofs.Common.{◌-◌, arith, inr}
 
+pub returns-then-levels-eq0-clause-asks : goal.returns-then-levels-eq0-clause-asks
+returns-then-levels-eq0-clause-asks g n c = c.loop-directive.invariant.asks
+
+pub returns-then-files-eq0-clause-asks : goal.returns-then-files-eq0-clause-asks
+returns-then-files-eq0-clause-asks g n c = c.loop-directive.invariant.asks
+
+pub returns-in_err-text-in-Include-clause-asks : goal.returns-in_err-text-in-Include-clause-asks
+returns-in_err-text-in-Include-clause-asks g n c = asks_then c.loop-directive.invariant.asks c.file_text.ensures.asks
+
+pub returns-in_err-carry_out-in-Include-clause-asks : goal.returns-in_err-carry_out-in-Include-clause-asks
+returns-in_err-carry_out-in-Include-clause-asks g n c = asks_then c.loop-directive.invariant.asks (asks_then c.file_text.ensures.asks c.carry_out.ensures.asks)
+
 pub returns-then-levels-eq0-clause-carried : goal.returns-then-levels-eq0-clause-carried
 returns-then-levels-eq0-clause-carried g n c F e =
     inr (deep_refused F c.args.prefixes.now c.loop-directive.entries c.loop-directive.files c.args.levels c.loop-directive.left.items c.pop.new.self.items c.in-Some.directive c.in-Include.pass_missing c.in-Include.file

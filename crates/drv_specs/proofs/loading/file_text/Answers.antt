@@ -1,6 +1,15 @@
 use Rattle.drv_specs.proofs.Carrying.{text_given}
 use Rattle.drv_specs.proofs.loading.file_text.Goals as goal
-use Rattle.drv_system.proofs.Asking.{asks_extends, extends_then}
+use Rattle.drv_system.proofs.Asking.{asks_extends, asks_then, extends_then}
+
+pub returns-in_err-path-clause-asks : goal.returns-in_err-path-clause-asks
+returns-in_err-path-clause-asks g c = c.find_file.ensures.asks
+
+pub returns-in_err-read-clause-asks : goal.returns-in_err-read-clause-asks
+returns-in_err-read-clause-asks g c = asks_then c.find_file.ensures.asks c.read.ensures.asks
+
+pub returns-clause-asks : goal.returns-clause-asks
+returns-clause-asks g c = asks_then c.find_file.ensures.asks c.read.ensures.asks
 
 pub returns-clause-text : goal.returns-clause-text
 returns-clause-text g c F e =

@@ -1,7 +1,13 @@
 use Rattle.drv_specs.proofs.Carrying.{file_read, file_unread, given_alike, refusal_given}
 use Rattle.drv_specs.proofs.set.SpecSet.load_file.Goals as goal
 use Rattle.drv_specs.specs.Loading.{file_loaded, worked}
-use Rattle.drv_system.proofs.Asking.{asks_extends, extends_then}
+use Rattle.drv_system.proofs.Asking.{asks_extends, asks_then, extends_then}
+
+pub returns-in_err-text-clause-asks : goal.returns-in_err-text-clause-asks
+returns-in_err-text-clause-asks g c = c.file_text.ensures.asks
+
+pub returns-clause-asks : goal.returns-clause-asks
+returns-clause-asks g c = asks_then c.file_text.ensures.asks c.work.ensures.asks
 
 pub returns-in_err-text-clause-loads : goal.returns-in_err-text-clause-loads
 returns-in_err-text-clause-loads g c F e =
