@@ -73,7 +73,6 @@ fn has_any_hit(context: &Context<'_>, hidden: &Hidden, patterns: &[Pattern<'_>])
 }
 
 /// Puts each switch that one of the patterns hits.
-#[tactic(auto, using(crate::proofs::AskedCalls::asked_further))]
 fn put_hits<S: System>(
     context: &Context<'_>,
     patterns: &[Pattern<'_>],

@@ -72,7 +72,6 @@ fn open_filed<S: System>(
 }
 
 /// A `%@` is opened, and what stands in it from one place up to another is worked, or reached.
-#[tactic(auto, using(crate::proofs::AskedCalls::asked_further))]
 pub(crate) fn work_filed<S: System>(
     text: &SpecTree,
     context: &Context<'_>,

@@ -272,7 +272,6 @@ impl Machine {
     }
 
     /// The open word ends, and the argument of the switch at a place, if it has one, is a word behind it.
-    #[tactic(auto, using(crate::proofs::AskedCalls::asked_further))]
     pub(crate) fn put_argument<S: System>(
         &mut self,
         context: &Context<'_>,

@@ -82,7 +82,6 @@ fn close<'w, S: System>(
 }
 
 /// Closes the open parts that have ended. Whether an item is left.
-#[tactic(auto, using(crate::proofs::AskedCalls::asked_further))]
 fn settle<S: System>(
     context: &Context<'_>,
     walk: &mut Walk<'_>,

@@ -20,7 +20,6 @@ use drv_system::{FactTable, System};
 use std::alloc::Global;
 
 /// Works the whole text, whose end ends its last command.
-#[tactic(auto, using(crate::proofs::AskedCalls::asked_further))]
 fn work_whole<S: System>(
     text: &SpecTree,
     context: &Context<'_>,
@@ -36,7 +35,6 @@ fn work_whole<S: System>(
 }
 
 /// Works the whole text, and judges what was cut.
-#[tactic(auto, using(crate::proofs::AskedCalls::asked_further))]
 fn finish<S: System>(
     text: &SpecTree,
     context: &Context<'_>,

@@ -68,7 +68,6 @@ impl Machine {
     }
 
     /// The name of a file with these words is put, if there are any.
-    #[tactic(auto, using(crate::proofs::AskedCalls::asked_further))]
     fn put_file<S: System>(
         &mut self,
         words: &[Word],
@@ -90,7 +89,6 @@ impl Machine {
     }
 
     /// The open word ends, and with it the file: its name is put, if it has words.
-    #[tactic(auto, using(crate::proofs::AskedCalls::asked_further))]
     pub(crate) fn end_file<S: System>(
         &mut self,
         context: &Context<'_>,

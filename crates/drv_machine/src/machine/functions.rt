@@ -53,7 +53,6 @@ impl Machine {
     }
 
     /// Arguments have been cut, and what was cut before them goes on: what the function of a name gives for them.
-    #[tactic(auto, using(crate::proofs::AskedCalls::asked_further))]
     fn call_behind<S: System>(
         &mut self,
         name: &[u8],

@@ -79,7 +79,7 @@ impl Machine {
     }
 
     /// Whole words are put.
-    #[tactic(auto, using(crate::proofs::AskedCalls::asked_none, crate::proofs::AskedCalls::asked_further))]
+    #[tactic(auto, using(crate::proofs::AskedCalls::asked_none))]
     pub(crate) fn put_words<S: System>(
         &mut self,
         list: &[Word],
@@ -116,7 +116,7 @@ impl Machine {
     ///
     /// # Errors
     /// `NotInLink` in a text other than the link's.
-    #[tactic(auto, using(crate::proofs::AskedCalls::asked_none, crate::proofs::AskedCalls::asked_further))]
+    #[tactic(auto, using(crate::proofs::AskedCalls::asked_none))]
     pub(crate) fn put_outputs<S: System>(
         &mut self,
         context: &Context<'_>,
@@ -136,7 +136,7 @@ impl Machine {
     }
 
     /// Lists of bytes are put, with a break behind each.
-    #[tactic(auto, using(crate::proofs::AskedCalls::asked_none, crate::proofs::AskedCalls::asked_further))]
+    #[tactic(auto, using(crate::proofs::AskedCalls::asked_none))]
     fn put_all_broken<S: System>(
         &mut self,
         list: &[Word],

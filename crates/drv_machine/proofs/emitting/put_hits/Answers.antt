@@ -51,3 +51,9 @@ returns-in_err-put_switch-clause-does g c F e =
     let whole = fails_as _ (run F c.args.context.now c.args.machine.now (puts (emitted_from F c.args.context.now c.args.patterns.now c.args.machine.now.world.hidden 0))) failed (λ x. sym (c.loop-i.invariant.left F (extends_before c.put_switch.ensures.asks e)) ∙ x) in
     let f = c.from_residual.ensures in
     search rules
+
+pub returns-in_err-put_switch-clause-asks : goal.returns-in_err-put_switch-clause-asks
+returns-in_err-put_switch-clause-asks g c = asked_further c.loop-i.invariant.asks c.put_switch.ensures.asks
+
+pub returns-clause-asks : goal.returns-clause-asks
+returns-clause-asks g c = c.loop-i.invariant.asks

@@ -111,3 +111,12 @@ returns-clause-reached g c t = c.loop-walk.invariant.reached (omega (arith, c.lo
 
 pub returns-clause-does : goal.returns-clause-does
 returns-clause-does g c F e given left = c.loop-walk.invariant.left F e given left
+
+pub returns-in_default-clause-asks : goal.returns-in_default-clause-asks
+returns-in_default-clause-asks g c = c.loop-walk.invariant.asks
+
+pub returns-in_err-close-clause-asks : goal.returns-in_err-close-clause-asks
+returns-in_err-close-clause-asks g c = asked_further c.loop-walk.invariant.asks c.close.ensures.asks
+
+pub returns-clause-asks : goal.returns-clause-asks
+returns-clause-asks g c = c.loop-walk.invariant.asks

@@ -1,4 +1,4 @@
-use Rattle.drv_machine.proofs.AskedCalls.{extends_before}
+use Rattle.drv_machine.proofs.AskedCalls.{asked_further, extends_before}
 use Rattle.drv_machine.proofs.Steps.{fails_as}
 use Rattle.drv_machine.proofs.whole.finish.Goals as goal
 use Rattle.drv_machine.specs.Atoms.{whole_text}
@@ -24,3 +24,9 @@ returns-clause-does g c F e =
     subst (λ given. GivesKnown Memory (λ o. o) c.outcome_of.result given)
     (sym (ap (λ (a : Answer (Unit {0} × Machine)). a >>- λ r. finished F c.args.context.now r.1.world r.1.cut) (c.in_ok-work_whole.ensures.does F (extends_before c.outcome_of.ensures.asks e))))
     (c.outcome_of.ensures.does F e)
+
+pub returns-in_err-work_whole-clause-asks : goal.returns-in_err-work_whole-clause-asks
+returns-in_err-work_whole-clause-asks g c = c.work_whole.ensures.asks
+
+pub returns-clause-asks : goal.returns-clause-asks
+returns-clause-asks g c = asked_further c.work_whole.ensures.asks c.outcome_of.ensures.asks

@@ -1,4 +1,4 @@
-use Rattle.drv_machine.proofs.AskedCalls.{extends_before}
+use Rattle.drv_machine.proofs.AskedCalls.{asked_further, extends_before}
 use Rattle.drv_machine.proofs.Steps.{then_fails, then_ok}
 use Rattle.drv_machine.proofs.whole.work_whole.Goals as goal
 use Rattle.drv_machine.specs.Atoms.{items_step, levels_left}
@@ -22,3 +22,9 @@ returns-clause-does g c F e =
     then_ok F c.args.context.now c.args.machine.now (items_step F c.args.context.now (tree_of c.args.text.now) (levels_left F c.args.context.now most_open) []) (λ u. puts (Break ∷ End ∷ [])) tt
     c.work_text.new.machine (c.in_ok-work_text.ensures.does F (extends_before c.end_line.ensures.asks e)) in
     subst (λ given. GivesKnown Memory (λ u. (tt, c.end_line.new.self)) c.end_line.result given) (sym went) (c.end_line.ensures.does F e)
+
+pub returns-in_err-work_text-clause-asks : goal.returns-in_err-work_text-clause-asks
+returns-in_err-work_text-clause-asks g c = c.work_text.ensures.asks
+
+pub returns-clause-asks : goal.returns-clause-asks
+returns-clause-asks g c = asked_further c.work_text.ensures.asks c.end_line.ensures.asks

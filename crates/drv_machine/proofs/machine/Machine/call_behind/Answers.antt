@@ -1,5 +1,5 @@
 use Rattle.drv_machine.proofs.Arguments.{behind_fails, behind_is}
-use Rattle.drv_machine.proofs.AskedCalls.{extends_before}
+use Rattle.drv_machine.proofs.AskedCalls.{asked_further, extends_before}
 use Rattle.drv_machine.proofs.machine.Machine.call_behind.Goals as goal
 use Rattle.drv_machine.specs.Atoms.{call_step}
 use Rattle.drv_machine.specs.Running.{run}
@@ -19,3 +19,9 @@ returns-clause-does g c F e =
     (ap (λ args. run F C c.take_back-args.new.self (call_step F C c.args.name.now args)) (c.as_slice.ensures ∙ c.take_back-args.ensures.words)
     ∙ behind_is F C c.args.outer (call_step F C c.args.name.now) c.args.self.now c.end_word.new.self c.take_back-args.new.self (c.in_ok-end_word.ensures.does F (extends_before c.call.ensures.asks e)) c.take_back-args.ensures.back)
     (c.call.ensures.does F e)
+
+pub returns-in_err-end_word-clause-asks : goal.returns-in_err-end_word-clause-asks
+returns-in_err-end_word-clause-asks g c = c.end_word.ensures.asks
+
+pub returns-clause-asks : goal.returns-clause-asks
+returns-clause-asks g c = asked_further c.end_word.ensures.asks c.call.ensures.asks

@@ -1,4 +1,4 @@
-use Rattle.drv_machine.proofs.AskedCalls.{extends_before}
+use Rattle.drv_machine.proofs.AskedCalls.{asked_further, extends_before}
 use Rattle.drv_machine.proofs.Files.{file_ends, no_end}
 use Rattle.drv_machine.proofs.Steps.{gives_as}
 use Rattle.drv_machine.proofs.machine.Machine.end_file.Goals as goal
@@ -15,3 +15,9 @@ returns-clause-does g c F e =
     (file_ends F c.args.context.now c.args.self.now c.end_word.new.self c.leave_file-words.new.self c.as_slice.result.now (c.in_ok-end_word.ensures.does F (extends_before c.put_file.ensures.asks e))
     (c.as_slice.ensures ∙ c.leave_file-words.ensures.words) c.leave_file-words.ensures.left)
     (c.put_file.ensures.does F e)
+
+pub returns-in_err-end_word-clause-asks : goal.returns-in_err-end_word-clause-asks
+returns-in_err-end_word-clause-asks g c = c.end_word.ensures.asks
+
+pub returns-clause-asks : goal.returns-clause-asks
+returns-clause-asks g c = asked_further c.end_word.ensures.asks c.put_file.ensures.asks

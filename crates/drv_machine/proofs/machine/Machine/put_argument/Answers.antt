@@ -1,4 +1,4 @@
-use Rattle.drv_machine.proofs.AskedCalls.{extends_before}
+use Rattle.drv_machine.proofs.AskedCalls.{asked_further, extends_before}
 use Rattle.drv_machine.proofs.Cutter.{argument_none, argument_open, put_failed, put_last, whole_failed, whole_last}
 use Rattle.drv_machine.proofs.machine.Machine.put_argument.Goals as goal
 use Rattle.drv_machine.specs.Context.{argument}
@@ -27,3 +27,15 @@ returns-clause-does g c F e =
     (sym c.argument.ensures ∙ c.in-Some.is ∙ ap Some (sym c.as_bytes.ensures)) (c.in_ok-end_word.ensures.does F (extends_before c.end_word-2.ensures.asks e)) (c.open.ensures.does F c.args.context.now) in
     whole_last F c.args.context.now c.end_word-2.new.self c.end_word-2.result whole
     (put_last F c.args.context.now c.open.new.self c.put.new.self c.end_word-2.new.self (map Put c.as_bytes.result.now) (Break ∷ []) c.end_word-2.result (c.in_ok-put.ensures.does F c.args.context.now) (c.end_word-2.ensures.does F e))
+
+pub returns-in_err-end_word-clause-asks : goal.returns-in_err-end_word-clause-asks
+returns-in_err-end_word-clause-asks g c = c.end_word.ensures.asks
+
+pub returns-in_default-clause-asks : goal.returns-in_default-clause-asks
+returns-in_default-clause-asks g c = c.end_word.ensures.asks
+
+pub returns-in_err-put-clause-asks : goal.returns-in_err-put-clause-asks
+returns-in_err-put-clause-asks g c = c.end_word.ensures.asks
+
+pub returns-clause-asks : goal.returns-clause-asks
+returns-clause-asks g c = asked_further c.end_word.ensures.asks c.end_word-2.ensures.asks

@@ -1,4 +1,4 @@
-use Rattle.drv_machine.proofs.AskedCalls.{extends_before}
+use Rattle.drv_machine.proofs.AskedCalls.{asked_further, extends_before}
 use Rattle.drv_machine.proofs.Cutter.{put_failed, put_last, whole_failed, whole_last}
 use Rattle.drv_machine.proofs.Files.{file_drawn, none_filed, not_drawn}
 use Rattle.drv_machine.proofs.machine.Machine.put_file.Goals as goal
@@ -25,3 +25,9 @@ returns-clause-does g c F e =
     let whole = file_drawn F c.args.context.now c.args.self.now c.args.words.now (sym c.if-is_empty.false ∙ c.is_empty.ensures) c.in_ok-contents.contents c.in_ok-contents.ensures.text c.in_ok-path.path c.as_bytes.result.now c.draw_with.new.self c.as_bytes.ensures (c.in_ok-path.ensures.does F (extends_before c.put_broken.ensures.asks e)) in
     whole_last F c.args.context.now c.put_broken.new.self c.put_broken.result whole
     (put_last F c.args.context.now c.draw_with.new.self c.put.new.self c.put_broken.new.self (Put at_sign ∷ []) (map Put c.as_bytes.result.now ++ Break ∷ []) c.put_broken.result (c.in_ok-put.ensures.does F c.args.context.now) (c.put_broken.ensures.does F e))
+
+pub returns-in_err-put-clause-asks : goal.returns-in_err-put-clause-asks
+returns-in_err-put-clause-asks g c = c.draw_with.ensures.asks
+
+pub returns-clause-asks : goal.returns-clause-asks
+returns-clause-asks g c = asked_further c.draw_with.ensures.asks c.put_broken.ensures.asks

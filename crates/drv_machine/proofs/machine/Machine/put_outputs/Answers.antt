@@ -1,4 +1,4 @@
-use Rattle.drv_machine.proofs.AskedCalls.{extends_before}
+use Rattle.drv_machine.proofs.AskedCalls.{asked_further, extends_before}
 use Rattle.drv_machine.proofs.Cutter.{put_last}
 use Rattle.drv_machine.proofs.Lists.{link_outputs, no_input}
 use Rattle.drv_machine.proofs.Steps.{gives_as}
@@ -16,3 +16,6 @@ returns-clause-does g c F e =
     gives_as c.put_words.new.self c.put_words.result _ _
     (ap (λ list. run F C s (puts (Break ∷ words list))) all ∙ sym (link_outputs F C s (sym c.input.ensures ∙ none)))
     (put_last F C s c.end_word.new.self c.put_words.new.self (Break ∷ []) (words c.as_slice-2.result.now) c.put_words.result (c.in_ok-end_word.ensures.does F (extends_before c.put_words.ensures.asks e)) (c.put_words.ensures.does F e))
+
+pub returns-clause-asks : goal.returns-clause-asks
+returns-clause-asks g c = asked_further c.end_word.ensures.asks c.put_words.ensures.asks

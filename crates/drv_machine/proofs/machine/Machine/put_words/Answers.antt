@@ -24,3 +24,9 @@ returns-in_err-put_word-clause-does g c F e =
     let whole = fails_as _ (run F c.args.context.now c.args.self.now (puts (flat_map whole_word c.args.list.now))) failed (λ x. sym (c.loop-word.invariant.left F (extends_before c.put_word.ensures.asks e)) ∙ x) in
     let f = c.from_residual.ensures in
     search rules
+
+pub returns-in_err-put_word-clause-asks : goal.returns-in_err-put_word-clause-asks
+returns-in_err-put_word-clause-asks g c = asked_further c.loop-word.invariant.asks c.put_word.ensures.asks
+
+pub returns-clause-asks : goal.returns-clause-asks
+returns-clause-asks g c = c.loop-word.invariant.asks
