@@ -40,4 +40,5 @@ pub mod WalkTests
 pub mod Unrefused
 pub mod Wanted
 pub mod Runs
+pub mod WholeItems
 pub mod Words

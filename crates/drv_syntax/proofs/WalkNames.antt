@@ -21,7 +21,16 @@ use Rattle.std.specs.Cmp.Lexicographic.{pointwise}
 use Rattle.std.proofs.lemmas.List.{reverse-append}
 use Rattle.std.specs.Prelude.{◌==◌, ◌&&◌, nat_eq, Result, Ok, Err, if◌then◌else◌}
 
--- Names of functions, the outermost of the directives that wait, and what a tree lists.
+-- Names of functions, the first byte of a word, and the outermost of the directives that wait.
+
+pub begun_word : (head : Head) (later : Bool) (n b : ℕ) (w : Walk) → (b == 92) ≡ false → is_word b ≡ true → is_mark b ≡ false
+    → act_choice head later (choice_action later w.context.levels head.part.start n b) n b w ≡ Ok (at_stage (at.Braces head (form_at later) (places.TestWord n false)) (with_word (b ∷ []) w))
+begun_word head false n b w e f m = rw (none_of is_word (32 ∷ 9 ∷ 10 ∷ []) b f (refl, (refl, (refl, tt))), other is_word b 33 f refl, e, m, f) refl
+begun_word head true n b w e f m = rw (other is_word b 58 f refl, none_of is_word (32 ∷ 9 ∷ 10 ∷ []) b f (refl, (refl, (refl, tt))), other is_word b 33 f refl, e, m, f) refl
+
+pub negated_word : (head : Head) (form : Form) (start n b : ℕ) (word : List ℕ) (w : Walk) → (b == 92) ≡ false → is_word b ≡ true → is_mark b ≡ false
+    → act_head head form (head_action (places.TestNegated start) w.context.levels head.part.start form word n b) n b w ≡ Ok (at_stage (at.Braces head form (places.TestWord start true)) (with_word (b ∷ []) w))
+negated_word head form start n b word w e f m = rw (none_of is_word (32 ∷ 9 ∷ 10 ∷ []) b f (refl, (refl, (refl, tt))), e, m, f) refl
 
 both : (t : Bool) (u : Bool) → (t && u) ≡ (if t then u else false)
 both true u = refl

@@ -11,6 +11,7 @@ mod reading;
 mod runs;
 mod stages;
 mod steps;
+mod turns;
 mod walk;
 
 pub use reading::read_parts;

@@ -1,8 +1,9 @@
 use Rattle.drv_syntax.specs.Labels.{Label}
-use Rattle.drv_syntax.specs.Reader.Steps.{Walk, walk}
+use Rattle.drv_syntax.specs.Reader.Steps.{Walk, open_braces, walk}
 use Rattle.drv_syntax.specs.declared.fault.SyntaxFault.TheVariants.{Memory}
 use Rattle.drv_syntax.specs.declared.fault.SyntaxFault.{SyntaxFault}
 use Rattle.drv_syntax.specs.declared.token.Token.{Token}
+use Rattle.drv_syntax.specs.declared.reader.stages.BraceKind.{BraceKind}
 use Rattle.drv_syntax.specs.declared.reader.walk.Walk as code
 use Rattle.std.specs.Prelude.{◌≡◌, ◌⊎◌, ◌+◌, ◌≤◌, drop, length, reverse, List, ◌∷◌, Result, Err, Ok, ℕ}
 
@@ -29,3 +30,8 @@ Turns n b behind old new (Err fault) = (fault ≡ Memory) ⊎ (walk old n (b ∷
 abbrev pub Runs : ℕ → List ℕ → Walk → Walk → Result ℕ SyntaxFault → Type 0
 Runs n text old new (Ok taken) = (taken ≤ length text) × (walk old n text ≡ walk new (n + taken) (drop taken text))
 Runs n text old new (Err fault) = fault ≡ Memory
+
+-- the same of the inside of braces that open, which begins at the place n; it is never refused here
+abbrev pub Opens : ℕ → List ℕ → ℕ → BraceKind → Walk → Walk → Result ℕ SyntaxFault → Type 0
+Opens n inside start kind old new (Ok taken) = (taken ≤ length inside) × (walk (open_braces start kind old) n inside ≡ walk new (n + taken) (drop taken inside))
+Opens n inside start kind old new (Err fault) = fault ≡ Memory

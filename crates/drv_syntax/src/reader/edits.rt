@@ -4,7 +4,7 @@ ghost use Rattle.drv_syntax.specs.Reader.Steps as steps;
 ghost use Rattle.drv_syntax.specs.Reader.Turns as turns;
 ghost use Rattle.drv_syntax.specs.Reader.States.{Fits, state};
 ghost use Rattle.drv_words.specs.Gives.{Gives};
-ghost use Rattle.std.specs.Prelude.{◌≡◌, ◌<◌, ◌≤◌, ◌^◌, ◌+◌, ◌++◌, ◌∷◌, [], length, OnOk, Ok, vec_capacity, vec_len};
+ghost use Rattle.std.specs.Prelude.{◌≡◌, ◌<◌, ◌≤◌, ◌^◌, ◌+◌, ◌++◌, ◌∷◌, [], false, length, OnOk, Ok, vec_capacity, vec_len};
 
 use crate::fault::SyntaxFault;
 use crate::reader::actions::{Leaf, Part, Taken};
@@ -212,6 +212,29 @@ pub fn with_part(p: Part, w: &mut Walk) -> Result<(), SyntaxFault>
         w.kept = p.end;
         w.trailing = 0;
     }
+    Ok(())
+}
+
+/// An item without parts inside it, with this word.
+pub fn with_taken(
+    leaf: Leaf,
+    start: u32,
+    end: u32,
+    word: &[u8],
+    w: &mut Walk,
+) -> Result<(), SyntaxFault>
+    requires room { length w.old.tokens.items + 1 < 2 ^ 32 }
+    requires black { steps.is_white leaf ≡ false }
+    requires plain { steps.is_star leaf ≡ false }
+    ensures does { Gives SyntaxFault.Memory (λ _. state w.new) result (Ok (steps.with_part (turns.part leaf Taken.Word start end) (steps.with_word word.now (state w.old)))) }
+    ensures fits { OnOk result (Fits w.old w.new) }
+{
+    with_leaf(leaf_kind(leaf), start, end, w)?;
+    name_leaf(leaf, word, &mut w.labels)?;
+    w.stage = Stage::List(ListStage::Start);
+    w.word.clear();
+    w.kept = end;
+    w.trailing = 0;
     Ok(())
 }
 
@@ -607,4 +630,54 @@ pub fn ask(
     )?;
     w.holds_star = false;
     Ok(())
+}
+
+/// Braces that hold this pattern alone, with this word.
+pub fn emit_braces(
+    start: u32,
+    kind: BraceKind,
+    behind: Behind,
+    word: &[u8],
+    end: u32,
+    w: &mut Walk,
+) -> Result<(), SyntaxFault>
+    requires room { length w.old.tokens.items < 2 ^ 30 }
+    ensures does { Gives SyntaxFault.Memory (λ _. state w.new) result (Ok (steps.emitted start kind behind word.now end (state w.old))) }
+    ensures fits { OnOk result (Fits w.old w.new) }
+{
+    let head = Head {
+        kind,
+        part: next_open(w, start),
+    };
+    open_braces(start, kind, w)?;
+    with_leaf(TokenKind::Pattern, first_of(behind), last_of(behind), w)?;
+    name_pattern(behind, word, &mut w.labels)?;
+    close_braces(head, true, end, w.context, w);
+    Ok(())
+}
+
+/// Braces whose first alternative has this test alone, with this word, up to its colon.
+pub fn ask_braces(
+    start: u32,
+    kind: BraceKind,
+    behind: Behind,
+    word: &[u8],
+    colon: u32,
+    w: &mut Walk,
+) -> Result<(), SyntaxFault>
+    requires room { length w.old.tokens.items < 2 ^ 30 }
+    requires place { colon < 2 ^ 31 }
+    ensures does { Gives SyntaxFault.Memory (λ _. state w.new) result (Ok (steps.asked start kind behind word.now colon (state w.old))) }
+    ensures fits { OnOk result (Fits w.old w.new) }
+{
+    let head = Head {
+        kind,
+        part: next_open(w, start),
+    };
+    open_braces(start, kind, w)?;
+    let alternative = next_open(w, first_of(behind));
+    open_alternative(first_of(behind), w)?;
+    with_leaf(TokenKind::Test, first_of(behind), last_of(behind), w)?;
+    name_test(behind, word, &mut w.labels)?;
+    ask(head, alternative, true, starred_of(behind), colon, w)
 }

@@ -28,7 +28,7 @@ fn run_length(kind: ListKind, text: &[u8]) -> usize
 }
 
 /// How many bytes of a name a text begins with.
-fn name_length(text: &[u8]) -> usize
+pub fn name_length(text: &[u8]) -> usize
     ensures run { result ≡ prefix_len bytes.is_name text.now }
     ensures within { result ≤ length text.now }
 {
@@ -40,7 +40,7 @@ fn name_length(text: &[u8]) -> usize
 }
 
 /// How many bytes of a suffix a text begins with.
-fn suffix_length(text: &[u8]) -> usize
+pub fn suffix_length(text: &[u8]) -> usize
     ensures run { result ≡ prefix_len bytes.is_suffix text.now }
     ensures within { result ≤ length text.now }
 {
@@ -52,7 +52,7 @@ fn suffix_length(text: &[u8]) -> usize
 }
 
 /// How many bytes of a word of a test a text begins with.
-fn word_length(text: &[u8]) -> usize
+pub fn word_length(text: &[u8]) -> usize
     ensures run { result ≡ prefix_len bytes.is_word text.now }
     ensures within { result ≤ length text.now }
 {
@@ -65,7 +65,7 @@ fn word_length(text: &[u8]) -> usize
 
 /// The first bytes of a text, so many.
 #[inline]
-fn front(text: &[u8], size: usize) -> &[u8]
+pub fn front(text: &[u8], size: usize) -> &[u8]
     requires { size ≤ length text.now }
     ensures bytes { result.now ≡ take size text.now }
     ensures size { length result.now ≡ size }
@@ -175,8 +175,8 @@ fn run(n: u32, text: &[u8], w: &mut Walk) -> Result<usize, SyntaxFault>
     }
 }
 
-/// What the byte at this place and some of those behind it make of the state: how many of those behind it.
-pub fn turn(n: u32, b: u8, behind: &[u8], w: &mut Walk) -> Result<usize, SyntaxFault>
+/// What the byte at this place and those that go on as it did make of the state: how many of those behind it.
+pub fn byte_turn(n: u32, b: u8, behind: &[u8], w: &mut Walk) -> Result<usize, SyntaxFault>
     requires room { length w.old.tokens.items + length behind.now < 2 ^ 30 }
     requires place { n + length behind.now < 2 ^ 30 }
     requires trail { w.old.trailing < 2 ^ 30 }
