@@ -13,7 +13,7 @@ use Rattle.drv_machine.specs.declared.walk.Walk.{Walk}
 use Rattle.drv_syntax.specs.Parsed.{tree_of}
 use Rattle.drv_syntax.specs.Stars.{has_star}
 use Rattle.drv_syntax.specs.Tokens.{tokens_of}
-use Rattle.std.proofs.Common.{Ok, Some, ap, arith, length, rules, subst, sym, ◌+◌, ◌∙◌}
+use Rattle.std.proofs.Common.{Ok, Some, ap, arith, length, subst, sym, ◌+◌, ◌∙◌}
 
 pub token_at-next-requires : goal.token_at-next-requires
 token_at-next-requires c = front_in c.args.text.now c.loop-at.at c.args.end c.loop-at-test.true c.loop-at.invariant.spans

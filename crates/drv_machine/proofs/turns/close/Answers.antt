@@ -1,4 +1,3 @@
-use Rattle.drv_machine.proofs.AskedCalls.{extends_before}
 use Rattle.drv_machine.proofs.Judging.{answer_refused, answered}
 use Rattle.drv_machine.proofs.Onward.{after_leaf, as_behind, behind_in, leaf, once_lighter, went_in}
 use Rattle.drv_machine.proofs.turns.close.Goals as goal
