@@ -1,0 +1,134 @@
+//! Single calls of the library. Behind what a call gives stands how many questions it asked.
+//!
+//! ```text
+//! read | kind PATH..                     what the system answers: a file's bytes, what a path leads to
+//! variable NAME..                        the same: the value of a variable
+//! c99 WORD..                             the driver's words for a line of c99
+//! specs STEP..                           what steps give from the empty set of specs on; a step is NAME or NAME=ARGUMENT
+//! program | library | script NAME DIR..  a search, with these arguments of -B
+//! folders DIR..                          the options for the folders of libraries
+//! function SWITCHES NAME ARG..           a function of spec texts, where these switches are given
+//! in-link SWITCHES OUTPUTS NAME ARG..    the same in the link's text, where these are its outputs
+//! versions ONE OTHER                     how two versions compare
+//! lines TEXT                             how many lines the text of a plan shows
+//! ```
+
+mod c99;
+mod functions;
+mod outside;
+mod reading_back;
+mod searching;
+mod specs;
+
+use crate::names::named;
+use crate::script::read_system;
+use crate::transcript::Transcript;
+use c99::try_front;
+use drv_system::{HostSystem, System};
+use drv_words::Word;
+use functions::{Site, try_called, try_versions};
+use outside::{Question, try_questions};
+use reading_back::try_read_back;
+use searching::{Wanted, try_folders, try_search};
+use specs::try_steps;
+use std::alloc::{AllocError, Global};
+use std::io;
+
+/// A call that can be made.
+#[derive(Clone, Copy)]
+enum Call {
+    Ask(Question),
+    Front,
+    Specs,
+    Search(Wanted),
+    Folders,
+    Function(Site),
+    Versions,
+    ReadBack,
+}
+
+/// The names of calls.
+const CALLS: [(&[u8], Call); 13] = [
+    (b"read", Call::Ask(Question::Read)),
+    (b"kind", Call::Ask(Question::Kind)),
+    (b"variable", Call::Ask(Question::Variable)),
+    (b"c99", Call::Front),
+    (b"specs", Call::Specs),
+    (b"program", Call::Search(Wanted::Program)),
+    (b"library", Call::Search(Wanted::Library)),
+    (b"script", Call::Search(Wanted::Script)),
+    (b"folders", Call::Folders),
+    (b"function", Call::Function(Site::Elsewhere)),
+    (b"in-link", Call::Function(Site::Link)),
+    (b"versions", Call::Versions),
+    (b"lines", Call::ReadBack),
+];
+
+/// What is printed where words are no call.
+const NO_CALL: &[u8] = b"no such call";
+
+/// Makes a call, on this machine if it says so, or else over the script of standard input.
+pub fn try_call(rt: &HostRuntime, call: &[Word], out: &mut Transcript) -> io::Result<()> {
+    match call {
+        [host, call @ ..] if host.as_bytes() == b"host".as_slice() => on_host(rt, call, out),
+        _ => over_script(rt, call, out),
+    }
+}
+
+fn on_host(rt: &HostRuntime, call: &[Word], out: &mut Transcript) -> io::Result<()> {
+    let mut sys = HostSystem::new(rt.clone()?);
+    Ok(answer(rt.alloc(), &mut sys, call, out)?)
+}
+
+fn over_script(rt: &HostRuntime, call: &[Word], out: &mut Transcript) -> io::Result<()> {
+    let mut sys = read_system(rt)?;
+    Ok(answer(rt.alloc(), &mut sys, call, out)?)
+}
+
+/// What a call gives, and how many questions it asked.
+fn answer<S: System>(
+    alloc: Global,
+    sys: &mut S,
+    call: &[Word],
+    out: &mut Transcript,
+) -> Result<(), AllocError> {
+    try_named(alloc, sys, call, out)?;
+    out.add(b"\n")?;
+    out.add_count(sys.journal().len())?;
+    out.add(b" asked\n")
+}
+
+/// Makes the call that the first of the words names.
+fn try_named<S: System>(
+    alloc: Global,
+    sys: &mut S,
+    words: &[Word],
+    out: &mut Transcript,
+) -> Result<(), AllocError> {
+    let [name, rest @ ..] = words else {
+        return out.add(NO_CALL);
+    };
+    match named(&CALLS, name.as_bytes()) {
+        Some(call) => make(alloc, sys, call, rest, out),
+        None => out.add(NO_CALL),
+    }
+}
+
+fn make<S: System>(
+    alloc: Global,
+    sys: &mut S,
+    call: Call,
+    words: &[Word],
+    out: &mut Transcript,
+) -> Result<(), AllocError> {
+    match call {
+        Call::Ask(question) => try_questions(sys, question, words, out),
+        Call::Front => try_front(alloc, words, out),
+        Call::Specs => try_steps(alloc, sys, words, out),
+        Call::Search(wanted) => try_search(alloc, sys, wanted, words, out),
+        Call::Folders => try_folders(alloc, sys, words, out),
+        Call::Function(site) => try_called(alloc, sys, site, words, out),
+        Call::Versions => try_versions(words, out),
+        Call::ReadBack => try_read_back(alloc, words, out),
+    }
+}

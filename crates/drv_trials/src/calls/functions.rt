@@ -1,0 +1,208 @@
+//! Functions of spec texts: what one gives, and the outputs of the link behind it.
+
+use super::NO_CALL;
+use crate::transcript::Transcript;
+use drv_args::Switch;
+use drv_funcs::{FuncsFault, Function, call, compare_versions};
+use drv_match::{Hidden, Switches};
+use drv_system::{FactTable, System};
+use drv_words::{Listing, Word, split};
+use std::alloc::{AllocError, Global};
+use std::cmp::Ordering;
+
+/// A call of a function.
+#[derive(Clone, Copy)]
+pub struct Called<'a> {
+    /// The names of the switches that are given.
+    switches: &'a Word,
+    /// The outputs of the link, where the function stands in its text.
+    outputs: Option<&'a Word>,
+    name: &'a Word,
+    args: &'a [Word],
+}
+
+/// Switches of these names, without arguments.
+fn named(alloc: Global, names: &[Word]) -> Result<Vec<Switch>, AllocError> {
+    let mut switches = Vec::new(alloc);
+    for name in names {
+        let name = name.clone()?;
+        switches.push(Switch { name, arg: None })?;
+    }
+    Ok(switches)
+}
+
+/// The switches that a text names.
+fn switches_of(alloc: Global, names: &Word) -> Result<Switches, AllocError> {
+    let names = split(alloc, names.as_bytes())?;
+    let switches = named(alloc, names.as_slice())?;
+    Switches::new(alloc, &switches)
+}
+
+/// The outputs that a text names, if there is one.
+fn outputs_of(alloc: Global, outputs: Option<&Word>) -> Result<Listing<Word>, AllocError> {
+    match outputs {
+        Some(outputs) => split(alloc, outputs.as_bytes()),
+        None => Ok(Listing::new(alloc)),
+    }
+}
+
+/// A refusal's name, and behind it its value in parentheses.
+fn add_named(name: &[u8], value: &[u8], out: &mut Transcript) -> Result<(), AllocError> {
+    out.add(name)?;
+    out.add(b"(")?;
+    out.add(value)?;
+    out.add(b")")
+}
+
+fn add_refusal(fault: &FuncsFault, out: &mut Transcript) -> Result<(), AllocError> {
+    match fault {
+        FuncsFault::Memory => Err(AllocError),
+        FuncsFault::VariableMissing(name) => add_named(b"VariableMissing", name.as_bytes(), out),
+        FuncsFault::WrongCount(function) => add_named(b"WrongCount", function.name(), out),
+        FuncsFault::BadVersion(text) => add_named(b"BadVersion", text.as_bytes(), out),
+        FuncsFault::NotInLink(function) => add_named(b"NotInLink", function.name(), out),
+        FuncsFault::BadOperator(text) => add_named(b"BadOperator", text.as_bytes(), out),
+    }
+}
+
+/// The word that is given; a dash for nothing; or the refusal.
+fn add_given(
+    given: &Result<Option<Word>, FuncsFault>,
+    out: &mut Transcript,
+) -> Result<(), AllocError> {
+    match given {
+        Ok(Some(given)) => out.add_quoted(given),
+        Ok(None) => out.add(b"-"),
+        Err(fault) => add_refusal(fault, out),
+    }
+}
+
+/// Outputs of the link, with a bar in front of each.
+fn add_outputs(outputs: &[Word], out: &mut Transcript) -> Result<(), AllocError> {
+    for output in outputs {
+        out.add(b" | ")?;
+        out.add_quoted(output)?;
+    }
+    Ok(())
+}
+
+/// The call that words say: the names of switches, the function's, and its arguments.
+fn outside_link(words: &[Word]) -> Option<Called<'_>> {
+    match words {
+        [switches, name, args @ ..] => Some(Called {
+            switches,
+            outputs: None,
+            name,
+            args,
+        }),
+        _ => None,
+    }
+}
+
+/// The call in the link's text that words say: the same, with the outputs of the link behind the switches.
+fn in_link(words: &[Word]) -> Option<Called<'_>> {
+    match words {
+        [switches, outputs, name, args @ ..] => Some(Called {
+            switches,
+            outputs: Some(outputs),
+            name,
+            args,
+        }),
+        _ => None,
+    }
+}
+
+impl Called<'_> {
+    /// What the function gives with these switches. It may change the outputs.
+    fn given<S: System>(
+        &self,
+        alloc: Global,
+        sys: &mut S,
+        function: Function,
+        switches: &Switches,
+        outputs: &mut Listing<Word>,
+    ) -> Result<Option<Word>, FuncsFault> {
+        let hidden = Hidden::new(alloc, switches)?;
+        let mut facts = FactTable::new(alloc);
+        call(
+            alloc,
+            function,
+            self.args,
+            switches,
+            &hidden,
+            self.outputs.is_some(),
+            outputs,
+            sys,
+            &mut facts,
+        )
+    }
+
+    /// What the function gives with these switches, and behind it the outputs.
+    fn try_with<S: System>(
+        &self,
+        alloc: Global,
+        sys: &mut S,
+        function: Function,
+        switches: &Switches,
+        out: &mut Transcript,
+    ) -> Result<(), AllocError> {
+        let mut outputs = outputs_of(alloc, self.outputs)?;
+        add_given(
+            &self.given(alloc, sys, function, switches, &mut outputs),
+            out,
+        )?;
+        add_outputs(outputs.as_slice(), out)
+    }
+
+    /// What the function gives, and behind it the outputs.
+    fn try_function<S: System>(
+        &self,
+        alloc: Global,
+        sys: &mut S,
+        out: &mut Transcript,
+    ) -> Result<(), AllocError> {
+        let Some(function) = Function::named(self.name.as_bytes()) else {
+            return out.add(b"no function");
+        };
+        let switches = switches_of(alloc, self.switches)?;
+        self.try_with(alloc, sys, function, &switches, out)
+    }
+}
+
+/// Where a function is called.
+#[derive(Clone, Copy)]
+pub enum Site {
+    Link,
+    Elsewhere,
+}
+
+/// What a function gives that words call.
+pub fn try_called<S: System>(
+    alloc: Global,
+    sys: &mut S,
+    site: Site,
+    words: &[Word],
+    out: &mut Transcript,
+) -> Result<(), AllocError> {
+    let called = match site {
+        Site::Link => in_link(words),
+        Site::Elsewhere => outside_link(words),
+    };
+    match called {
+        Some(called) => called.try_function(alloc, sys, out),
+        None => out.add(NO_CALL),
+    }
+}
+
+/// How two versions compare.
+pub fn try_versions(words: &[Word], out: &mut Transcript) -> Result<(), AllocError> {
+    let [one, other] = words else {
+        return out.add(NO_CALL);
+    };
+    match compare_versions(one.as_bytes(), other.as_bytes()) {
+        Some(Ordering::Less) => out.add(b"less"),
+        Some(Ordering::Equal) => out.add(b"equal"),
+        Some(Ordering::Greater) => out.add(b"greater"),
+        None => out.add(b"no version"),
+    }
+}

@@ -1,0 +1,83 @@
+//! Trials of parts of the driver, for tables of worked ones. The first word says what is tried, and what came of it is printed:
+//!
+//! ```text
+//! call CALL ARG..         a single call of the library, as `calls` says, over a script
+//! call host CALL ARG..    the same on this machine
+//! steps FILE              the steps of a run that a file names, as `steps` says, on this machine
+//! plan WINDOW [pass]      a plan that standard input says, as `runs` does, over a script; with `pass` exit codes are passed on
+//! choose WINDOW [pass]    the run of such a plan, where it is said which source goes on
+//! drive WORD..            a whole call of the driver with these arguments and the seed 42, over a script
+//! ```
+//!
+//! Standard input says what the script has, as `script` says.
+#![tactic(auto)]
+
+mod answers;
+mod calls;
+mod lists;
+mod names;
+mod runs;
+mod script;
+mod steps;
+mod transcript;
+
+use calls::try_call;
+use drv_system::arguments;
+use drv_words::Word;
+use names::named;
+use runs::{Manner, try_drive, try_plan};
+use std::io::{self, Write};
+use steps::try_file;
+use transcript::Transcript;
+
+const USAGE: &[u8] =
+    b"usage: drv_trials call [host] CALL ARG.. | steps FILE | plan WINDOW [pass] | choose WINDOW [pass] | drive WORD..\n";
+
+/// What is tried.
+#[derive(Clone, Copy)]
+enum Part {
+    Call,
+    Steps,
+    Plan(Manner),
+    Drive,
+}
+
+/// The names of parts.
+const PARTS: [(&[u8], Part); 5] = [
+    (b"call", Part::Call),
+    (b"steps", Part::Steps),
+    (b"plan", Part::Plan(Manner::CarriedOut)),
+    (b"choose", Part::Plan(Manner::Chosen)),
+    (b"drive", Part::Drive),
+];
+
+/// Tries a part.
+fn try_part(rt: &HostRuntime, part: Part, words: &[Word], out: &mut Transcript) -> io::Result<()> {
+    match (part, words) {
+        (Part::Call, call) => try_call(rt, call, out),
+        (Part::Steps, [path]) => try_file(rt, path, out),
+        (Part::Plan(manner), [window, pass @ ..]) => {
+            try_plan(rt, manner, window, !pass.is_empty(), out)
+        }
+        (Part::Drive, args) => try_drive(rt, args, out),
+        _ => Ok(out.add(USAGE)?),
+    }
+}
+
+/// Tries what words say.
+fn try_words(rt: &HostRuntime, words: &[Word], out: &mut Transcript) -> io::Result<()> {
+    let [name, rest @ ..] = words else {
+        return Ok(out.add(USAGE)?);
+    };
+    match named(&PARTS, name.as_bytes()) {
+        Some(part) => try_part(rt, part, rest, out),
+        None => Ok(out.add(USAGE)?),
+    }
+}
+
+fn main(rt: HostRuntime) -> io::Result<()> {
+    let words = arguments(&rt)?;
+    let mut out = Transcript::new(rt.alloc());
+    try_words(&rt, words.as_slice(), &mut out)?;
+    io::writer(&rt).write_all(out.as_bytes())
+}

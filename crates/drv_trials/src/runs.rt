@@ -1,0 +1,192 @@
+//! Runs over the script of standard input: of a plan, and of whole calls of the driver. What is printed are the steps with their
+//! answers, and the status; of a plan also how many events it needs at most; of a call also what was said, and how it ended.
+
+ghost use Rattle.std.specs.Prelude.{◌≡◌, ◌≤◌, [], IfSome};
+
+mod choosing;
+mod planning;
+mod showing;
+
+use crate::lists::copied;
+use crate::script::{read_lines, system};
+use crate::transcript::Transcript;
+use choosing::choose_blocks;
+use drv_core::events_needed;
+use drv_run::{Ending, Refusal, drive, execute, fault_line};
+use drv_system::{Event, ScriptSystem, System};
+use drv_words::{Listing, Plan, Word};
+use planning::plan;
+use showing::{add_event, add_line};
+use std::alloc::{AllocError, Global};
+use std::io;
+use std::str::from_utf8;
+
+/// The seed of the names of temporaries: they begin with `cc0000002a_`.
+const SEED: u32 = 42;
+
+/// How many sources may be under way at once, as a word says.
+fn window_of(word: &Word) -> Option<usize>
+    ensures some { IfSome result (λ window. 1 ≤ window) }
+    ensures most { IfSome result (λ window. window ≤ 64) }
+{
+    let window: usize = from_utf8(word.as_bytes()).ok()?.parse().ok()?;
+    if 1 <= window && window <= 64 {
+        return Some(window);
+    }
+    None
+}
+
+/// What was said, and the steps with their answers. Parts of a plan that isn't known are named by their numbers.
+fn add_events(
+    events: &[Event],
+    plan: Option<&Plan>,
+    out: &mut Transcript,
+) -> Result<(), AllocError> {
+    for event in events {
+        add_event(event, plan, out)?;
+    }
+    Ok(())
+}
+
+/// Carries out a plan on a system that was asked nothing yet.
+fn carry_out_on(
+    alloc: Global,
+    sys: &mut ScriptSystem,
+    plan: &Plan,
+    window: usize,
+    pass_codes: bool,
+    out: &mut Transcript,
+) -> Result<(), AllocError>
+    requires new { sys.old.journal ≡ [] }
+    requires some { 1 ≤ window }
+    requires most { window ≤ 64 }
+{
+    let status = execute(alloc, sys, plan, pass_codes, window)?;
+    add_events(sys.journal(), Some(plan), out)?;
+    add_line(b"status ", usize::from(status), out)?;
+    add_line(b"needed ", events_needed(plan).unwrap_or(0), out)
+}
+
+/// Carries out a plan over what lines say.
+fn carry_out(
+    alloc: Global,
+    plan: &Plan,
+    lines: &[Listing<Word>],
+    window: usize,
+    pass_codes: bool,
+    out: &mut Transcript,
+) -> Result<(), AllocError>
+    requires some { 1 ≤ window }
+    requires most { window ≤ 64 }
+{
+    let mut sys = system(alloc, lines)?;
+    carry_out_on(alloc, &mut sys, plan, window, pass_codes, out)
+}
+
+/// How the run of a plan is made.
+#[derive(Clone, Copy)]
+pub enum Manner {
+    /// Carried out over the script.
+    CarriedOut,
+    /// Block by block, as it is chosen.
+    Chosen,
+}
+
+/// Makes the run of the plan that lines say.
+fn run_lines(
+    alloc: Global,
+    lines: &[Listing<Word>],
+    manner: Manner,
+    window: usize,
+    pass_codes: bool,
+    out: &mut Transcript,
+) -> Result<(), AllocError>
+    requires some { 1 ≤ window }
+    requires most { window ≤ 64 }
+{
+    let plan = plan(alloc, lines)?;
+    match manner {
+        Manner::CarriedOut => carry_out(alloc, &plan, lines, window, pass_codes, out),
+        Manner::Chosen => choose_blocks(alloc, &plan, lines, window, pass_codes, out),
+    }
+}
+
+/// Makes the run of the plan that standard input says, with at most so many sources under way at once.
+pub fn try_plan(
+    rt: &HostRuntime,
+    manner: Manner,
+    window: &Word,
+    pass_codes: bool,
+    out: &mut Transcript,
+) -> io::Result<()> {
+    let Some(window) = window_of(window) else {
+        return Ok(out.add(b"a window is 1 to 64\n")?);
+    };
+    let lines = read_lines(rt)?;
+    Ok(run_lines(
+        rt.alloc(),
+        lines.as_slice(),
+        manner,
+        window,
+        pass_codes,
+        out,
+    )?)
+}
+
+fn add_refusal(alloc: Global, refusal: &Refusal, out: &mut Transcript) -> Result<(), AllocError> {
+    let line = fault_line(alloc, refusal)?;
+    out.add(line.as_bytes())
+}
+
+/// How a call ended.
+fn add_ending(alloc: Global, ending: &Ending, out: &mut Transcript) -> Result<(), AllocError> {
+    match ending {
+        Ending::Done(status) => add_line(b"status ", usize::from(*status), out),
+        Ending::Refused(refusal) => add_refusal(alloc, refusal, out),
+        Ending::OutOfMemory => out.add(b"out of memory\n"),
+    }
+}
+
+/// Whether an event is a step of a run.
+fn is_step(event: &Event) -> bool {
+    matches!(event, Event::Run(_))
+}
+
+/// What a call did and how it ended.
+///
+/// # Errors
+/// Want of memory, also where the call ended so, unless it made a step before: that is printed, and is wrong.
+fn add_call(
+    alloc: Global,
+    events: &[Event],
+    ending: &Ending,
+    out: &mut Transcript,
+) -> Result<(), AllocError> {
+    if matches!(ending, Ending::OutOfMemory) && !events.iter().any(is_step) {
+        return Err(AllocError);
+    }
+    if events.is_empty() {
+        out.add(b"no event\n")?;
+    }
+    add_events(events, None, out)?;
+    add_ending(alloc, ending, out)
+}
+
+/// Makes a call of the driver over what lines say.
+fn drive_over(
+    alloc: Global,
+    lines: &[Listing<Word>],
+    args: Listing<Word>,
+    out: &mut Transcript,
+) -> Result<(), AllocError> {
+    let mut sys = system(alloc, lines)?;
+    let ending = drive(alloc, &mut sys, args, SEED);
+    add_call(alloc, sys.journal(), &ending, out)
+}
+
+/// Makes a call of the driver with these arguments.
+pub fn try_drive(rt: &HostRuntime, args: &[Word], out: &mut Transcript) -> io::Result<()> {
+    let lines = read_lines(rt)?;
+    let args = copied(rt.alloc(), args)?;
+    Ok(drive_over(rt.alloc(), lines.as_slice(), args, out)?)
+}

@@ -1,0 +1,152 @@
+//! The script that answers in a machine's place. Standard input says what it has, a line each, words written as in a response file:
+//!
+//! ```text
+//! file PATH TEXT         a file of these bytes; without a text it cannot be read
+//! folder PATH            a folder
+//! variable NAME VALUE    a variable of the environment
+//! mute                   nothing can be told
+//! answers WORDS          what steps are answered, as `answers` says
+//! ```
+
+ghost use Rattle.std.specs.Prelude.{◌≡◌, [], IfOk};
+
+use crate::answers::answer_of;
+use crate::names::named;
+use drv_system::ScriptSystem;
+use drv_words::{Answer, Listing, Word, split};
+use std::alloc::{AllocError, Global};
+use std::io;
+
+/// The lines of standard input, as words.
+pub fn read_lines(rt: &HostRuntime) -> io::Result<Vec<Listing<Word>>> {
+    let mut lines = Vec::new(rt.alloc());
+    for line in rt.lines(rt.alloc()) {
+        lines.push(split(rt.alloc(), line?.as_bytes())?)?;
+    }
+    Ok(lines)
+}
+
+/// What a line adds to a script.
+#[derive(Clone, Copy)]
+enum Entry {
+    File,
+    Folder,
+    Variable,
+    Mute,
+    Answers,
+}
+
+/// The words that lines begin with.
+const ENTRIES: [(&[u8], Entry); 5] = [
+    (b"file", Entry::File),
+    (b"folder", Entry::Folder),
+    (b"variable", Entry::Variable),
+    (b"mute", Entry::Mute),
+    (b"answers", Entry::Answers),
+];
+
+/// What a script has.
+#[derive(Drop)]
+struct Script {
+    files: Listing<(Word, Option<Word>)>,
+    folders: Listing<Word>,
+    variables: Listing<(Word, Word)>,
+    answers: Listing<Answer>,
+    is_mute: bool,
+}
+
+impl Script {
+    /// The script that has nothing.
+    fn new(alloc: Global) -> Script {
+        Script {
+            files: Listing::new(alloc),
+            folders: Listing::new(alloc),
+            variables: Listing::new(alloc),
+            answers: Listing::new(alloc),
+            is_mute: false,
+        }
+    }
+
+    /// Adds what a line says; a line of a plan says nothing here.
+    fn add(&mut self, line: &[Word]) -> Result<(), AllocError> {
+        let [what, words @ ..] = line else {
+            return Ok(());
+        };
+        match named(&ENTRIES, what.as_bytes()) {
+            Some(Entry::File) => self.add_file(words),
+            Some(Entry::Folder) => self.add_folder(words),
+            Some(Entry::Variable) => self.add_variable(words),
+            Some(Entry::Mute) => {
+                self.is_mute = true;
+                Ok(())
+            }
+            Some(Entry::Answers) => self.add_answers(words),
+            None => Ok(()),
+        }
+    }
+
+    fn add_file(&mut self, words: &[Word]) -> Result<(), AllocError> {
+        match words {
+            [path] => Ok(self.files.push((path.clone()?, None))?),
+            [path, text] => Ok(self.files.push((path.clone()?, Some(text.clone()?)))?),
+            _ => Ok(()),
+        }
+    }
+
+    fn add_folder(&mut self, words: &[Word]) -> Result<(), AllocError> {
+        match words {
+            [path] => Ok(self.folders.push(path.clone()?)?),
+            _ => Ok(()),
+        }
+    }
+
+    fn add_variable(&mut self, words: &[Word]) -> Result<(), AllocError> {
+        match words {
+            [name, value] => Ok(self.variables.push((name.clone()?, value.clone()?))?),
+            _ => Ok(()),
+        }
+    }
+
+    fn add_answers(&mut self, words: &[Word]) -> Result<(), AllocError> {
+        for word in words {
+            if let Some(answer) = answer_of(word.as_bytes()) {
+                self.answers.push(answer)?;
+            }
+        }
+        Ok(())
+    }
+}
+
+/// The script that lines say.
+fn script_of(alloc: Global, lines: &[Listing<Word>]) -> Result<Script, AllocError> {
+    let mut script = Script::new(alloc);
+    for line in lines {
+        script.add(line.as_slice())?;
+    }
+    Ok(script)
+}
+
+/// A system that answers as lines say.
+pub fn system(alloc: Global, lines: &[Listing<Word>]) -> Result<ScriptSystem, AllocError>
+    ensures { IfOk result (λ sys. sys.journal ≡ []) }
+{
+    let script = script_of(alloc, lines)?;
+    let is_mute = script.is_mute;
+    let mut sys = ScriptSystem::new(
+        alloc,
+        script.files,
+        script.folders,
+        script.variables,
+        script.answers,
+    );
+    if is_mute {
+        sys.mute();
+    }
+    Ok(sys)
+}
+
+/// A system that answers as standard input says.
+pub fn read_system(rt: &HostRuntime) -> io::Result<ScriptSystem> {
+    let lines = read_lines(rt)?;
+    Ok(system(rt.alloc(), lines.as_slice())?)
+}
