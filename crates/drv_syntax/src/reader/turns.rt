@@ -293,6 +293,59 @@ fn marked_turn(
     Ok(taken + 2)
 }
 
+/// A directive of two bytes.
+fn whole_turn(
+    n: u32,
+    leaf: Leaf,
+    b: u8,
+    behind: &[u8],
+    inside: &[u8],
+    w: &mut Walk,
+) -> Result<usize, SyntaxFault>
+    requires here { w.old.stage ≡ Stage.List ListStage.Start }
+    requires allowed { turns.allows w.old.context.in_arguments b ≡ true }
+    requires form { turns.goes_of b ≡ Goes.Whole leaf }
+    requires inside { behind.now ≡ b ∷ inside.now }
+    requires room { length w.old.tokens.items < 2 ^ 30 }
+    requires place { n + length behind.now < 2 ^ 30 }
+    requires trail { w.old.trailing < 2 ^ 30 }
+    ensures does { Turns n ascii.percent behind.now (state w.old) (state w.new) result }
+    ensures fits { OnOk result (Fits w.old w.new) }
+{
+    with_part(
+        Part {
+            leaf,
+            taken: Taken::Nothing,
+            start: n,
+            end: n + 2,
+        },
+        w,
+    )?;
+    Ok(1)
+}
+
+/// `%{`.
+fn braces_turn(
+    n: u32,
+    b: u8,
+    behind: &[u8],
+    inside: &[u8],
+    w: &mut Walk,
+) -> Result<usize, SyntaxFault>
+    requires here { w.old.stage ≡ Stage.List ListStage.Start }
+    requires allowed { turns.allows w.old.context.in_arguments b ≡ true }
+    requires form { turns.goes_of b ≡ Goes.WithBraces }
+    requires levels { w.old.context.levels ≡ 0 → ⊥ }
+    requires inside { behind.now ≡ b ∷ inside.now }
+    requires room { length w.old.tokens.items < 2 ^ 30 }
+    requires place { n + 2 + length inside.now < 2 ^ 31 }
+    ensures does { Turns n ascii.percent behind.now (state w.old) (state w.new) result }
+    ensures fits { OnOk result (Fits w.old w.new) }
+{
+    let taken = brace_turn(n, BraceKind::InPlace, n + 2, inside, w)?;
+    Ok(taken + 1)
+}
+
 /// The `%` of an item, and what stands behind it.
 #[tactic(auto, using(crate::proofs::WholeItems::first_of, crate::proofs::WholeItems::room_behind))]
 fn directive_turn(n: u32, behind: &[u8], w: &mut Walk) -> Result<usize, SyntaxFault>
@@ -312,24 +365,10 @@ fn directive_turn(n: u32, behind: &[u8], w: &mut Walk) -> Result<usize, SyntaxFa
         return percent_turn(n, behind, w);
     }
     match goes_of(b) {
-        Goes::Whole(leaf) => {
-            with_part(
-                Part {
-                    leaf,
-                    taken: Taken::Nothing,
-                    start: n,
-                    end: n + 2,
-                },
-                w,
-            )?;
-            Ok(1)
-        }
+        Goes::Whole(leaf) => whole_turn(n, leaf, b, behind, inside, w),
         Goes::WithName => name_turn(n, b, behind, inside, w),
         Goes::WithSuffix(kind) => suffix_turn(n, kind, b, behind, inside, w),
-        Goes::WithBraces if w.context.levels != 0 => {
-            let taken = brace_turn(n, BraceKind::InPlace, n + 2, inside, w)?;
-            Ok(taken + 1)
-        }
+        Goes::WithBraces if w.context.levels != 0 => braces_turn(n, b, behind, inside, w),
         Goes::WithMarkedBraces(kind) if w.context.levels != 0 => marked_turn(n, kind, b, inside, w),
         _ => percent_turn(n, behind, w),
     }
