@@ -21,7 +21,7 @@ use Rattle.drv_syntax.specs.declared.reader.stages.Stage.{Stage}
 use Rattle.drv_syntax.specs.declared.token.TempKind.{TempKind}
 use Rattle.drv_syntax.specs.declared.token.Token.{Token}
 use Rattle.drv_syntax.specs.declared.token.TokenKind.TheVariants as kinds
-use Rattle.std.proofs.Common.{◌≡◌, ◌∙◌, ◌+◌, ◌++◌, ◌<◌, ◌≤◌, Bool, true, false, List, [], ◌∷◌, ap, append-nil, append_assoc, arith, drop, if◌then◌else◌, length, length-append, refl, suc, sym, take, zero, ℕ}
+use Rattle.std.proofs.Common.{◌≡◌, ◌∙◌, ◌+◌, ◌-◌, ◌++◌, ◌<◌, ◌≤◌, Bool, true, false, List, [], ◌∷◌, ap, append-nil, append_assoc, arith, drop, if◌then◌else◌, length, length-append, refl, suc, sym, take, zero, ℕ}
 use Rattle.std.proofs.lemmas.List.{drop_more, length-take-le}
 use Rattle.std.specs.List.{prefix_len}
 use Rattle.std.specs.Prelude.{◌==◌, Result, Ok}
@@ -161,3 +161,17 @@ plains_take v u (suc k) n (b ∷ text) run h e positive f w d = by (runs v.conte
 -- a byte, and those behind it
 pub turn_takes : (v x u : Walk) (n b taken : ℕ) (text : List ℕ) → step v n b ≡ Ok x → walk x (n + 1) text ≡ walk u (n + 1 + taken) (drop taken text) → walk v n (b ∷ text) ≡ walk u (n + 1 + taken) (drop taken text)
 turn_takes v x u n b taken text h g = ap (λ (r : Result Walk SyntaxFault). then_walk r (λ y. walk y (n + 1) text)) h ∙ g
+
+-- a byte that stands for itself, and those behind it that do
+pub run_takes : (v u : Walk) (n b : ℕ) (text behind run : List ℕ) (k : ℕ) → text ≡ b ∷ behind → v.stage ≡ at.List stages.Start → k ≡ prefix_len (runs v.context.kind) text → 0 < k → run ≡ take k text → k ≤ length text
+    → walked (with_plains n run v) ≡ walked u → (k - 1 ≤ length behind) × (walk v n (b ∷ behind) ≡ walk u (n + 1 + (k - 1)) (drop (k - 1) behind))
+run_takes v u n b text behind run k f h e positive g w d =
+    by k positive (omega (arith, w, ap (λ (xs : List ℕ). length xs) f))
+    (ap (λ (t : List ℕ). walk v n t) (sym f) ∙ plains_take v u k n text run h e positive g w d ∙ ap (λ (t : List ℕ). walk u (n + k) (drop k t)) f)
+  where
+    by : (k : ℕ) → 0 < k → k ≤ 1 + length behind → walk v n (b ∷ behind) ≡ walk u (n + k) (drop k (b ∷ behind))
+        → (k - 1 ≤ length behind) × (walk v n (b ∷ behind) ≡ walk u (n + 1 + (k - 1)) (drop (k - 1) behind))
+    by zero positive l x = absurd (omega (arith, positive))
+    by (suc j) positive l x =
+        let less : suc j - 1 ≡ j = omega arith in
+        (omega (arith, l), x ∙ ap (λ (i : ℕ). walk u i (drop j behind)) (omega arith) ∙ ap (λ (z : ℕ). walk u (n + 1 + z) (drop z behind)) (sym less))

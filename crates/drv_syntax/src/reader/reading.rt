@@ -129,7 +129,7 @@ fn read(text: &[u8], w: &mut Walk) -> Result<(), SyntaxFault>
     let mut n = 0;
     let mut left = text;
     while let [b, behind @ ..] = left {
-        let taken = turn(n, *b, behind, w)?;
+        let taken = turn(n, *b, left, behind, w)?;
         left = &behind[taken..];
         n += 1 + taken as u32;
     }

@@ -10,6 +10,7 @@ ghost use Rattle.std.specs.Prelude.{◌≡◌, ◌<◌, ◌≤◌, ◌^◌, ◌+
 use crate::fault::SyntaxFault;
 use crate::reader::bytes::{is_name, is_run, is_suffix, is_word};
 use crate::reader::edits::with_plains;
+use crate::reader::list_steps::start;
 use crate::reader::stages::{Form, Head, HeadStage, ListKind, ListStage, Stage};
 use crate::reader::steps::step;
 use crate::reader::walk::Walk;
@@ -173,6 +174,34 @@ fn run(n: u32, text: &[u8], w: &mut Walk) -> Result<usize, SyntaxFault>
         } => word_run(head, form, start, negated, n, text, w),
         _ => Ok(0),
     }
+}
+
+/// Where an item begins, at a byte that is no `%`: what this byte and those behind it that stand for themselves make of the
+/// state: how many of those behind it.
+pub fn start_turn(
+    n: u32,
+    b: u8,
+    text: &[u8],
+    behind: &[u8],
+    w: &mut Walk,
+) -> Result<usize, SyntaxFault>
+    requires here { w.old.stage ≡ Stage.List ListStage.Start }
+    requires text { text.now ≡ b ∷ behind.now }
+    requires longer { length text.now ≡ 1 + length behind.now }
+    requires room { length w.old.tokens.items + length behind.now < 2 ^ 30 }
+    requires place { n + length behind.now < 2 ^ 30 }
+    requires trail { w.old.trailing < 2 ^ 30 }
+    ensures does { Turns n b behind.now (state w.old) (state w.new) result }
+    ensures size { IfOk result (λ taken. length w.new.tokens.items ≤ length w.old.tokens.items + 4 + taken) }
+    ensures trail { OnOk result (w.new.trailing ≤ w.old.trailing + 4) }
+{
+    let size = run_length(w.context.kind, text);
+    if size == 0 {
+        start(n, b, w)?;
+        return Ok(0);
+    }
+    with_plains(n, front(text, size), w)?;
+    Ok(size - 1)
 }
 
 /// What the byte at this place and those that go on as it did make of the state: how many of those behind it.

@@ -12,7 +12,7 @@ use crate::reader::actions::{Goes, Leaf, Part, Taken};
 use crate::reader::bytes::is_mark;
 use crate::reader::edits::{ask_braces, emit_braces, open_braces, with_part, with_taken};
 use crate::reader::list_steps::{allows, goes_of};
-use crate::reader::runs::{byte_turn, front, name_length, suffix_length, word_length};
+use crate::reader::runs::{byte_turn, front, name_length, start_turn, suffix_length, word_length};
 use crate::reader::stages::{Behind, BraceKind, ListStage, Stage};
 use crate::reader::walk::Walk;
 use crate::token::TempKind;
@@ -374,8 +374,11 @@ fn directive_turn(n: u32, behind: &[u8], w: &mut Walk) -> Result<usize, SyntaxFa
     }
 }
 
-/// What the byte at this place and some of those behind it make of the state: how many of those behind it.
-pub fn turn(n: u32, b: u8, behind: &[u8], w: &mut Walk) -> Result<usize, SyntaxFault>
+/// What the first byte of a text, at this place, and some of those behind it make of the state: how many of those behind
+/// it.
+pub fn turn(n: u32, b: u8, text: &[u8], behind: &[u8], w: &mut Walk) -> Result<usize, SyntaxFault>
+    requires text { text.now ≡ b ∷ behind.now }
+    requires longer { length text.now ≡ 1 + length behind.now }
     requires room { length w.old.tokens.items + length behind.now < 2 ^ 30 }
     requires place { n + length behind.now < 2 ^ 30 }
     requires trail { w.old.trailing < 2 ^ 30 }
@@ -388,6 +391,7 @@ pub fn turn(n: u32, b: u8, behind: &[u8], w: &mut Walk) -> Result<usize, SyntaxF
             let taken = directive_turn(n, behind, w)?;
             Ok(taken)
         }
+        Stage::List(ListStage::Start) => start_turn(n, b, text, behind, w),
         _ => byte_turn(n, b, behind, w),
     }
 }
