@@ -2,8 +2,8 @@
 
 ghost use Rattle.std.specs.Prelude.{◌≡◌, IfOk, replicate};
 
-use drv_args::{Expanded, Line, expand, read};
-use drv_machine::Context;
+use drv_args::{ArgsFault, Expanded, Line, expand, read};
+use drv_machine::{Context, MachineFault, Outcome};
 use drv_search::Prefixes;
 use drv_specs::{SpecSet, builtin};
 use drv_syntax::{SpecTree, parse};
@@ -27,26 +27,49 @@ fn words(alloc: Global, count: usize) -> Result<Listing<Word>, AllocError> {
     Ok(words)
 }
 
-/// A plan of one command with so many words.
-fn plan(alloc: Global, count: usize) -> Result<Plan, AllocError> {
-    let mut commands = Vec::new(alloc);
-    commands.push(Command {
+/// The words of these texts.
+fn words_of(alloc: Global, texts: &[&[u8]]) -> Result<Listing<Word>, AllocError> {
+    let mut words = Listing::new(alloc);
+    for text in texts {
+        words.push(Word::from_bytes(alloc, text)?)?;
+    }
+    Ok(words)
+}
+
+/// A command with so many words.
+fn command(alloc: Global, count: usize) -> Result<Command, AllocError> {
+    Ok(Command {
         program: letters(alloc, 7)?,
         words: words(alloc, count)?,
-    })?;
+    })
+}
+
+/// The groups of one command.
+fn groups(alloc: Global, command: Command) -> Result<Listing<Group>, AllocError> {
+    let commands = vec![in alloc; command]?;
     let mut groups = Listing::new(alloc);
     if let Some(group) = Group::from_vec(commands) {
         groups.push(group)?;
     }
-    let mut jobs = Listing::new(alloc);
-    jobs.push(Job {
+    Ok(groups)
+}
+
+/// A job of one command with so many words.
+fn job(alloc: Global, count: usize) -> Result<Job, AllocError> {
+    Ok(Job {
         source: Some(0),
-        groups,
+        groups: groups(alloc, command(alloc, count)?)?,
         temps: Listing::new(alloc),
         marked: Listing::new(alloc),
         on_failure: Listing::new(alloc),
         output: None,
-    })?;
+    })
+}
+
+/// A plan of one command with so many words.
+fn plan(alloc: Global, count: usize) -> Result<Plan, AllocError> {
+    let mut jobs = Listing::new(alloc);
+    jobs.push(job(alloc, count)?)?;
     Ok(Plan {
         notices: Listing::new(alloc),
         jobs,
@@ -61,15 +84,20 @@ fn rendered(alloc: Global, count: usize) -> Result<usize, AllocError> {
     Ok(text.len())
 }
 
+/// Adds an option of so many bytes, and a newline.
+fn add_option(text: &mut Word, length: usize) -> Result<(), AllocError> {
+    text.extend_from_slice(b"-D")?;
+    for _ in 2..length {
+        text.push(b'x')?;
+    }
+    text.push(b'\n')
+}
+
 /// A response text of so many options, each with a newline behind it.
 fn response(alloc: Global, count: usize, length: usize) -> Result<Word, AllocError> {
     let mut text = Word::empty(alloc);
     for _ in 0..count {
-        text.extend_from_slice(b"-D")?;
-        for _ in 2..length {
-            text.push(b'x')?;
-        }
-        text.push(b'\n')?;
+        add_option(&mut text, length)?;
     }
     Ok(text)
 }
@@ -92,25 +120,33 @@ fn system(alloc: Global, files: Listing<(Word, Option<Word>)>) -> ScriptSystem {
     )
 }
 
+/// The file `f`, which holds a text.
+fn file_of(alloc: Global, text: Word) -> Result<Listing<(Word, Option<Word>)>, AllocError> {
+    let path = Word::from_bytes(alloc, b"f")?;
+    let mut files = Listing::new(alloc);
+    files.push((path, Some(text)))?;
+    Ok(files)
+}
+
+/// How many switches words have; none where they are refused.
+fn switches_of(alloc: Global, expanded: &Result<Expanded, ArgsFault>) -> usize {
+    match expanded {
+        Ok(expanded) => read(alloc, expanded).map_or(0, |line| line.switches.len()),
+        Err(_) => 0,
+    }
+}
+
+/// How many switches arguments have on a system.
+fn switches_on(alloc: Global, sys: &mut ScriptSystem, arguments: Listing<Word>) -> usize {
+    let mut facts = FactTable::new(alloc);
+    switches_of(alloc, &expand(alloc, arguments, sys, &mut facts))
+}
+
 /// How many switches one response file of so many options gives.
 fn switches(alloc: Global, count: usize, length: usize) -> Result<usize, AllocError> {
-    let mut files = Listing::new(alloc);
-    files.push((
-        Word::from_bytes(alloc, b"f")?,
-        Some(response(alloc, count, length)?),
-    ))?;
-    let mut sys = system(alloc, files);
-    let mut args = Listing::new(alloc);
-    args.push(Word::from_bytes(alloc, b"a.c")?)?;
-    args.push(Word::from_bytes(alloc, b"@f")?)?;
-    let mut facts = FactTable::new(alloc);
-    let Ok(expanded) = expand(alloc, args, &mut sys, &mut facts) else {
-        return Ok(0);
-    };
-    match read(alloc, &expanded) {
-        Ok(line) => Ok(line.switches.len()),
-        Err(_) => Ok(0),
-    }
+    let arguments = words_of(alloc, &[b"a.c", b"@f"])?;
+    let mut sys = system(alloc, file_of(alloc, response(alloc, count, length)?)?);
+    Ok(switches_on(alloc, &mut sys, arguments))
 }
 
 /// How many items a spec text of so many plain bytes has.
@@ -186,17 +222,28 @@ fn text_bytes(alloc: Global, count: usize) -> Result<usize, AllocError> {
     Ok(bytes)
 }
 
+/// No folder is searched.
+fn nowhere(alloc: Global) -> Prefixes {
+    Prefixes {
+        programs: Listing::new(alloc),
+        libraries: Listing::new(alloc),
+    }
+}
+
 /// A line of one file.
-fn line_of_file(alloc: Global) -> Result<Option<Line>, AllocError> {
-    let mut words = Listing::new(alloc);
-    words.push(Word::from_bytes(alloc, b"a.c")?)?;
+fn line_of_file(alloc: Global) -> Result<Line, ArgsFault> {
     let expanded = Expanded {
-        words,
+        words: words_of(alloc, &[b"a.c"])?,
         from_file: false,
     };
-    match read(alloc, &expanded) {
-        Ok(line) => Ok(Some(line)),
-        Err(_) => Ok(None),
+    read(alloc, &expanded)
+}
+
+/// What it cost to work a text; nothing where it was refused.
+fn cost(worked: &Result<Outcome, MachineFault>) -> usize {
+    match worked {
+        Ok(outcome) => outcome.cost,
+        Err(_) => 0,
     }
 }
 
@@ -204,18 +251,12 @@ fn line_of_file(alloc: Global) -> Result<Option<Line>, AllocError> {
 fn cost_in(alloc: Global, tree: &SpecTree, context: &Context<'_>) -> usize {
     let mut sys = system(alloc, Listing::new(alloc));
     let mut facts = FactTable::new(alloc);
-    match drv_machine::run(alloc, tree, context, &mut sys, &mut facts) {
-        Ok(outcome) => outcome.cost,
-        Err(_) => 0,
-    }
+    cost(&drv_machine::run(alloc, tree, context, &mut sys, &mut facts))
 }
 
 /// What it costs to work a text for a line.
 fn cost_for(alloc: Global, tree: &SpecTree, line: &Line) -> Result<usize, AllocError> {
-    let prefixes = Prefixes {
-        programs: Listing::new(alloc),
-        libraries: Listing::new(alloc),
-    };
+    let prefixes = nowhere(alloc);
     let texts = SpecSet::empty(alloc);
     let context = Context::new(alloc, line, &texts, &prefixes, 0)?;
     Ok(cost_in(alloc, tree, &context))
@@ -223,9 +264,9 @@ fn cost_for(alloc: Global, tree: &SpecTree, line: &Line) -> Result<usize, AllocE
 
 /// What it costs to work a text for a line of one file.
 fn cost_of(alloc: Global, tree: &SpecTree) -> Result<usize, AllocError> {
-    match line_of_file(alloc)? {
-        Some(line) => cost_for(alloc, tree, &line),
-        None => Ok(0),
+    match line_of_file(alloc) {
+        Ok(line) => cost_for(alloc, tree, &line),
+        Err(_) => Ok(0),
     }
 }
 
@@ -246,43 +287,65 @@ fn hostile_path(alloc: Global, number: u32) -> Result<Word, AllocError> {
     Ok(path)
 }
 
+/// Asks for the kinds of so many paths.
+fn ask(
+    alloc: Global,
+    sys: &mut ScriptSystem,
+    facts: &mut FactTable,
+    count: u32,
+) -> Result<(), AllocError> {
+    for number in 0..count {
+        facts.kind(sys, &hostile_path(alloc, number)?)?;
+    }
+    Ok(())
+}
+
+/// Asks for the kinds of so many paths twice.
+fn ask_twice(alloc: Global, sys: &mut ScriptSystem, count: u32) -> Result<(), AllocError> {
+    let mut facts = FactTable::new(alloc);
+    ask(alloc, sys, &mut facts, count)?;
+    ask(alloc, sys, &mut facts, count)
+}
+
 /// How many questions it takes to learn the kinds of so many paths, each asked for twice.
 fn asked(alloc: Global, count: u32) -> Result<usize, AllocError> {
     let mut sys = system(alloc, Listing::new(alloc));
-    let mut facts = FactTable::new(alloc);
-    for _ in 0..2 {
-        for number in 0..count {
-            facts.kind(&mut sys, &hostile_path(alloc, number)?)?;
-        }
-    }
+    ask_twice(alloc, &mut sys, count)?;
     Ok(sys.journal().len())
+}
+
+/// Adds a named text with this number.
+fn add_named_text(file: &mut Word, number: usize) -> Result<(), AllocError> {
+    file.extend_from_slice(b"*name")?;
+    file.extend_from_slice(itoa::Buffer::new().format(number).as_bytes())?;
+    file.extend_from_slice(b":\n%{O*} -lx\n\n")
 }
 
 /// A spec file of so many named texts.
 fn spec_file(alloc: Global, count: usize) -> Result<Word, AllocError> {
-    let mut text = Word::empty(alloc);
+    let mut file = Word::empty(alloc);
     for number in 0..count {
-        text.extend_from_slice(b"*name")?;
-        text.extend_from_slice(itoa::Buffer::new().format(number).as_bytes())?;
-        text.extend_from_slice(b":\n%{O*} -lx\n\n")?;
+        add_named_text(&mut file, number)?;
     }
-    Ok(text)
+    Ok(file)
+}
+
+/// Loads a spec file into a set, and tells whether the set took it.
+fn load(alloc: Global, set: &mut SpecSet, file: &[u8]) -> bool {
+    let mut sys = system(alloc, Listing::new(alloc));
+    let mut facts = FactTable::new(alloc);
+    set.load(file, &nowhere(alloc), &mut sys, &mut facts)
+        .is_ok()
 }
 
 /// How many bytes the first text has that a spec file of so many named texts puts into the empty set.
 fn loaded(alloc: Global, count: usize) -> Result<usize, AllocError> {
-    let nowhere = Prefixes {
-        programs: Listing::new(alloc),
-        libraries: Listing::new(alloc),
-    };
-    let mut sys = system(alloc, Listing::new(alloc));
-    let mut facts = FactTable::new(alloc);
-    let mut set = SpecSet::empty(alloc);
     let file = spec_file(alloc, count)?;
-    match set.load(file.as_bytes(), &nowhere, &mut sys, &mut facts) {
-        Ok(()) => Ok(set.text(b"name0").map_or(0, |text| text.len())),
-        Err(_) => Ok(0),
+    let mut set = SpecSet::empty(alloc);
+    if load(alloc, &mut set, file.as_bytes()) {
+        return Ok(set.text(b"name0").map_or(0, |text| text.len()));
     }
+    Ok(0)
 }
 
 /// How many pairs the built-in set has, which is made so many times.
