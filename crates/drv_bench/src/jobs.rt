@@ -77,11 +77,17 @@ fn plan(alloc: Global, count: usize) -> Result<Plan, AllocError> {
     })
 }
 
-/// The bytes of the text of a plan of so many words.
-fn rendered(alloc: Global, count: usize) -> Result<usize, AllocError> {
-    let lines = plan_lines(alloc, &plan(alloc, count)?)?;
+/// The bytes of the text of a plan.
+fn text_length(alloc: Global, plan: &Plan) -> Result<usize, AllocError> {
+    let lines = plan_lines(alloc, plan)?;
     let text = render(alloc, lines.as_slice())?;
     Ok(text.len())
+}
+
+/// The bytes of the text of a plan of so many words.
+fn rendered(alloc: Global, count: usize) -> Result<usize, AllocError> {
+    let plan = plan(alloc, count)?;
+    text_length(alloc, &plan)
 }
 
 /// Adds an option of so many bytes, and a newline.
@@ -247,11 +253,16 @@ fn cost(worked: &Result<Outcome, MachineFault>) -> usize {
     }
 }
 
+/// What it costs to work a text in a context, on a system.
+fn cost_on(alloc: Global, tree: &SpecTree, context: &Context<'_>, sys: &mut ScriptSystem) -> usize {
+    let mut facts = FactTable::new(alloc);
+    cost(&drv_machine::run(alloc, tree, context, sys, &mut facts))
+}
+
 /// What it costs to work a text in a context.
 fn cost_in(alloc: Global, tree: &SpecTree, context: &Context<'_>) -> usize {
     let mut sys = system(alloc, Listing::new(alloc));
-    let mut facts = FactTable::new(alloc);
-    cost(&drv_machine::run(alloc, tree, context, &mut sys, &mut facts))
+    cost_on(alloc, tree, context, &mut sys)
 }
 
 /// What it costs to work a text for a line.
@@ -330,12 +341,16 @@ fn spec_file(alloc: Global, count: usize) -> Result<Word, AllocError> {
     Ok(file)
 }
 
+/// Loads a spec file into a set on a system, and tells whether the set took it.
+fn load_on(alloc: Global, sys: &mut ScriptSystem, set: &mut SpecSet, file: &[u8]) -> bool {
+    let mut facts = FactTable::new(alloc);
+    set.load(file, &nowhere(alloc), sys, &mut facts).is_ok()
+}
+
 /// Loads a spec file into a set, and tells whether the set took it.
 fn load(alloc: Global, set: &mut SpecSet, file: &[u8]) -> bool {
     let mut sys = system(alloc, Listing::new(alloc));
-    let mut facts = FactTable::new(alloc);
-    set.load(file, &nowhere(alloc), &mut sys, &mut facts)
-        .is_ok()
+    load_on(alloc, &mut sys, set, file)
 }
 
 /// How many bytes the first text has that a spec file of so many named texts puts into the empty set.
