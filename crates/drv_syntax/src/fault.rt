@@ -21,7 +21,7 @@ pub enum SyntaxFault {
     #[error("%* outside of braces")]
     StarOutside(usize),
     /// A `%*` whose alternative has a test that is no starred pattern, or no test.
-    #[error("%* behind a test that is no starred pattern")]
+    #[error("%* behind a condition that is no starred pattern")]
     MixedStar(usize),
     /// More than 64 braces and arguments stand in one another.
     #[error("more than 64 braces and arguments in one another")]
@@ -30,7 +30,7 @@ pub enum SyntaxFault {
     #[error("no such function")]
     UnknownFunction(usize),
     /// A test or pattern without a word and a star, or an alternative without tests that is the only one or not the last.
-    #[error("test without a word")]
+    #[error("condition without a word")]
     EmptyTest(usize),
     /// The text has more than 1,048,576 bytes.
     #[error("spec text too long")]
