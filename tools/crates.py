@@ -50,7 +50,9 @@ class Crates:
         return set(self.uses[name]).union(*(self.below(it) for it in self.uses[name]))
 
     def with_below(self, names):
-        found = set(names).union(*(self.below(it) for it in names))
+        """These crates and all that they stand on, lowest first."""
+        found = set(names)
+        found = found.union(*(self.below(it) for it in found))
         return [it for it in self.names if it in found]
 
     def programs(self):
@@ -193,7 +195,7 @@ def in_lanes(tasks, begun, ended):
     number, length, left = lanes(), chains(tasks), list(tasks)
     running, done, goes_on = {}, set(), True
     with ThreadPoolExecutor(number) as pool:
-        while running or (left and goes_on):
+        while True:
             ready = [it for it in left if goes_on and done.issuperset(it.after)]
             idle = number - sum(jobs for _, jobs in running.values())
             chosen = sorted(ready, key=lambda it: -length[it.name])[: max(0, idle)]
@@ -202,11 +204,12 @@ def in_lanes(tasks, begun, ended):
                 left.remove(it)
                 begun(it)
                 running[pool.submit(it.call, jobs)] = it, jobs
+            if not running:
+                return goes_on and not left
             for future in wait(running, return_when=FIRST_COMPLETED).done:
                 it, _ = running.pop(future)
                 done.add(it.name)
                 goes_on = ended(it, future.result()) and goes_on
-    return not left
 
 
 class Clock:
