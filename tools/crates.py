@@ -153,13 +153,14 @@ def prove(crates, name, jobs):
 
 @dataclass
 class Task:
-    """A piece of work for a lane: the names of tasks that it waits for, its processor seconds as far as they are known, and a call
-    that takes a number of jobs."""
+    """A piece of work for a lane: the names of tasks that it waits for, its processor seconds as far as they are known, a call that
+    takes a number of jobs, and the most jobs that it can use."""
 
     name: str
     after: list
     seconds: float
     call: Callable
+    most: int = MOST_JOBS
 
 
 def costs(crates):
@@ -200,7 +201,7 @@ def in_lanes(tasks, begun, ended):
             idle = number - sum(jobs for _, jobs in running.values())
             chosen = sorted(ready, key=lambda it: -length[it.name])[: max(0, idle)]
             for at, it in enumerate(chosen):
-                jobs = min(MOST_JOBS, idle // len(chosen) + (at == 0 and room_for() > number))
+                jobs = min(it.most, idle // len(chosen) + (at == 0 and room_for() > number))
                 left.remove(it)
                 begun(it)
                 running[pool.submit(it.call, jobs)] = it, jobs

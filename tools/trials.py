@@ -8,6 +8,8 @@ from edits import Edit, is_read, lost_goals, refused_in, text_of, together
 
 # The most edits that are tried in one check.
 MOST = 40
+# The processor seconds that an edit of a check takes, about.
+SECONDS_OF_ONE = 10
 
 
 @dataclass
@@ -93,7 +95,7 @@ def tried(root, names):
     for trial in trials:
         for at, batch in enumerate(trial.batches(), 1):
             attempt = lambda _, trial=trial, batch=batch: trial.attempt(batch)
-            tasks.append(Task(f"{trial.name}, check {at} of edits", [trial.name], 30, attempt))
+            tasks.append(Task(f"{trial.name}, check {at} of edits", [trial.name], SECONDS_OF_ONE * len(batch.edits), attempt, most=1))
 
     def ended(task, given):
         clock.say(f"{task.name}: {given.seconds:.0f} processor seconds")
