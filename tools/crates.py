@@ -19,7 +19,8 @@ from dataclasses import dataclass
 from typing import Callable
 
 MEMORY_OF_ONE = 3_000_000_000
-MOST_JOBS = 4
+# (each further job of a check costs processor time of its own)
+MOST_JOBS = 2
 # The processor seconds of a crate that was never measured.
 UNKNOWN_COST = 60
 TEXTS = ("src", "specs", "proofs")
@@ -190,9 +191,9 @@ def chains(tasks):
 
 
 def in_lanes(tasks, begun, ended):
-    """Does tasks side by side, those of the longest chain first, and tells whether all were done. Where there are fewer tasks than lanes a
-    task gets several jobs, and that of the longest chain has one more, as far as memory goes. `begun` is told each task, and `ended`
-    each with what it gave; where that answers no, no further task begins."""
+    """Does tasks side by side, those of the longest chain first, and tells whether all were done. That of the longest chain has one job
+    more, where memory allows. `begun` is told each task, and `ended` each with what it gave; where that answers no, no further task
+    begins."""
     number, length, left = lanes(), chains(tasks), list(tasks)
     running, done, goes_on = {}, set(), True
     with ThreadPoolExecutor(number) as pool:
@@ -200,8 +201,9 @@ def in_lanes(tasks, begun, ended):
             ready = [it for it in left if goes_on and done.issuperset(it.after)]
             idle = number - sum(jobs for _, jobs in running.values())
             chosen = sorted(ready, key=lambda it: -length[it.name])[: max(0, idle)]
-            for at, it in enumerate(chosen):
-                jobs = min(it.most, idle // len(chosen) + (at == 0 and room_for() > number))
+            for it in chosen:
+                is_longest = all(length[it.name] > length[other.name] for other, _ in running.values())
+                jobs = min(it.most, 1 + (is_longest and room_for() > number))
                 left.remove(it)
                 begun(it)
                 running[pool.submit(it.call, jobs)] = it, jobs
