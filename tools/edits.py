@@ -138,13 +138,18 @@ def is_read(said, texts):
 
 @dataclass
 class Lost:
-    """A goal of a function that is not proved: where it stands, which is a line of a file, or of an error the folder of the function's
-    proof and line 0; and what it is."""
+    """A goal of a function that is not proved: the function, the file and line where the goal stands (none of an error in what was
+    written of the proof), and what it is."""
 
     function: str
-    place: str
+    file: str
     line: int
     why: str
+
+    def is_of(self, function):
+        """Whether it is that function's, by its name or by its place. (The goal of a trait's clause stands in the trait.)"""
+        named = "/".join(self.function.split("::")[1:]) == function.proof()
+        return named or self.file == function.file and function.has(self.line)
 
     def __str__(self):
         return f"{self.function}: {self.why}"[:200]
@@ -158,11 +163,12 @@ def lost_goals(said):
         if goal:
             goals.append((goal[1], int(goal[2]), goal[3]))
         elif error and not OF_NAMES.search(error[2]):
-            errors[error[1]] = error[2]
+            # (the folder of a function that calls itself begins with +)
+            errors[error[1].replace("+", "")] = error[2]
         elif re.match(r"(fn|struct|enum|impl) ", line):
             if ended:
                 proof = "/".join(ended[1].split("::")[1:])
-                goals += [(proof, 0, errors[proof])] if proof in errors else []
+                goals += [("", 0, errors[proof])] if proof in errors else []
                 found += [Lost(ended[1], *it) for it in goals]
             goals = []
     return found
@@ -171,7 +177,7 @@ def lost_goals(said):
 def refused_in(said, texts, places):
     """A goal that a check of these texts says is lost by one of the functions at these places, where there is one."""
     functions = [it for file in {file for file, _, _ in places} for it in functions_of(file, texts[file]) if (file, it.owner, it.name) in places]
-    hits = [it for it in lost_goals(said) for of in functions if (it.place == of.file and of.has(it.line)) or it.place == of.proof()]
+    hits = [it for it in lost_goals(said) for function in functions if it.is_of(function)]
     return hits[0] if hits else None
 
 
