@@ -164,7 +164,7 @@ def lost_goals(said):
             goals.append((goal[1], int(goal[2]), goal[3]))
         elif error and not OF_NAMES.search(error[2]):
             # (the folder of a function that calls itself begins with +)
-            errors[error[1].replace("+", "")] = error[2]
+            errors.setdefault(error[1].replace("+", ""), error[2])
         elif re.match(r"(fn|struct|enum|impl) ", line):
             if ended:
                 proof = "/".join(ended[1].split("::")[1:])
