@@ -86,23 +86,31 @@ def functions_of(file, text):
 
 
 class Edit:
-    """Pairs of texts, each with its file: what stands there once, and what stands there in its place."""
+    """The public calls whose meaning it turns, and pairs of texts, each with its file: what stands there once, and what stands there in
+    its place."""
 
     def __init__(self, path, folder):
-        self.path, self.folder, self.pairs = path, folder, []
-        file = old = None
-        for line in text_of(path).split("\n"):
-            key, _, rest = line.partition(":")
-            rest = rest.removeprefix(" ")
-            if key == "file":
-                file = rest.strip()
-            elif key == "old":
-                old = rest
-            elif key == "new" and old is not None:
-                self.pairs.append((file, old, rest))
-                old = None
+        self.path, self.folder, self.calls, self.pairs = path, folder, [], []
+        self.read()
         self.texts, self.why = self.applied({})
         self.places = None if self.why else self.found()
+
+    def read(self):
+        """Takes the lines of its file; those of one kind that follow each other are the lines of one text."""
+        file = last = None
+        for line in text_of(self.path).split("\n"):
+            key, _, rest = line.partition(":")
+            rest = rest.removeprefix(" ")
+            if key == "of":
+                self.calls += rest.replace(",", " ").split()
+            elif key == "file":
+                file = rest.strip()
+            elif key == "old":
+                self.pairs.append((file, f"{self.pairs.pop()[1]}\n{rest}" if last == "old" else rest, ""))
+            elif key == "new" and last in ("old", "new"):
+                file, old, new = self.pairs.pop()
+                self.pairs.append((file, old, f"{new}\n{rest}" if last == "new" else rest))
+            last = key
 
     def applied(self, texts):
         """The texts with the edit, beside those that are given; or why it can't be applied."""
