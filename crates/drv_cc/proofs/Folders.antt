@@ -1,0 +1,15 @@
+use Rattle.drv_cc.specs.Front.{named_folder}
+use Rattle.std.proofs.Common.{◌≡◌, ◌∙◌, List, [], ◌∷◌, ◌++◌, ap, append-nil, map, sym, ℕ}
+use Rattle.std.proofs.lemmas.List.{flat_map_more, map-append}
+use Rattle.std.specs.List.{flat_map}
+
+-- The folders of a path, each of which gives words.
+
+pub no_folder : (f : List ℕ → List (List ℕ)) (words : List (List ℕ)) → words ≡ words ++ flat_map f (map named_folder [])
+no_folder f words = sym (append-nil words)
+
+pub next_folder : (f : List ℕ → List (List ℕ)) (old words words' done after : List (List ℕ)) (folder : List ℕ)
+    → words ≡ old ++ flat_map f (map named_folder done) → words' ≡ words ++ f (named_folder folder) → after ≡ done ++ folder ∷ [] → words' ≡ old ++ flat_map f (map named_folder after)
+next_folder f old words words' done after folder so_far added more =
+    added ∙ ap (λ w. w ++ f (named_folder folder)) so_far ∙ flat_map_more f old (map named_folder done) (named_folder folder)
+    ∙ ap (λ names. old ++ flat_map f names) (sym (map-append named_folder done (folder ∷ []))) ∙ ap (λ names. old ++ flat_map f (map named_folder names)) (sym more)

@@ -1,0 +1,307 @@
+use Rattle.drv_cc.specs.Front.{front_of, quoted_line}
+use Rattle.drv_cc.specs.Levels.{debugged_by}
+use Rattle.drv_cc.specs.Table.{ignored, sections, texts, unpaired}
+use Rattle.drv_cc.specs.declared.answer.Answer.TheVariants.{Ask, Refuse, Run}
+use Rattle.drv_cc.specs.declared.answer.Answer.{Answer}
+use Rattle.drv_cc.specs.declared.answer.Surroundings.{Surroundings}
+use Rattle.drv_cc.specs.declared.answer.Variable.{Variable}
+use Rattle.drv_cc.specs.declared.refusal.Refusal.TheVariants.{NoArgument, NoInput, NotTaken, UnknownOption}
+use Rattle.std.proofs.Common.{◌≡◌, List, [], ◌∷◌, codes, refl, ℕ}
+use Rattle.std.specs.Prelude.{None, Option, Some}
+
+-- Worked lines of gcc, by computation. What stays of each was compared with COLLECT_GCC_OPTIONS of gcc 12 and with the words that it
+-- hands to the compiler.
+
+abbrev known : List (List ℕ)
+known = texts (codes "-Wno-unused -fno-inline -msse3 -gstrict-dwarf -fvisibility=")
+
+abbrev nowhere : Surroundings
+nowhere = record { compiler = codes "/usr/bin/gcc"; folders = codes "/g/" ∷ []; compiler_path = None; library_path = None }
+
+abbrev front : List ℕ → Answer
+front line = front_of known nowhere (texts line)
+
+abbrev words_given : Answer → Option (List (List ℕ))
+words_given (Run call) = Some call.words
+words_given _ = None
+
+abbrev children_given : Answer → List Variable
+children_given (Run call) = call.children
+children_given _ = []
+
+abbrev line : List ℕ → Option (List (List ℕ))
+line text = words_given (front text)
+
+abbrev gives : List ℕ → Option (List (List ℕ))
+gives text = Some (texts text)
+
+one_source : line (codes "-c a.c") ≡ gives (codes "-c a.c --gdrv-base=a.c --gdrv-ext=.c -pipe")
+unfolding sections ignored unpaired debugged_by
+one_source = refl
+
+output : line (codes "-c a.c -o d/x.o") ≡ gives (codes "-c a.c -o d/x.o --gdrv-dir=d/ --gdrv-base=x.c --gdrv-ext=.c -pipe")
+unfolding sections ignored unpaired debugged_by
+output = refl
+
+linked : line (codes "a.c -o foo") ≡ gives (codes "a.c -o foo --gdrv-dir=foo- --gdrv-base=a.c --gdrv-ext=.c -pipe")
+unfolding sections ignored unpaired debugged_by
+linked = refl
+
+named_as_source : line (codes "a.c -o a") ≡ gives (codes "a.c -o a --gdrv-base=a.c --gdrv-ext=.c -pipe")
+unfolding sections ignored unpaired debugged_by
+named_as_source = refl
+
+two_sources : line (codes "a.c b.c") ≡ gives (codes "a.c b.c --gdrv-dir=a- -pipe")
+unfolding sections ignored unpaired debugged_by
+two_sources = refl
+
+two_dependencies : line (codes "a.c b.c -o d/foo -MD") ≡ gives (codes "a.c b.c -o d/foo -MD --gdrv-dir=d/foo- --gdrv-dep=d/foo.d -pipe")
+unfolding sections ignored unpaired debugged_by
+two_dependencies = refl
+
+dependencies : line (codes "-c a.c -MD -o d/x.y.o") ≡ gives (codes "-c a.c -MD -o d/x.y.o --gdrv-dir=d/ --gdrv-base=x.y.c --gdrv-ext=.c --gdrv-dep=d/x.y.d -pipe")
+unfolding sections ignored unpaired debugged_by
+dependencies = refl
+
+dependencies_named : line (codes "-c a.c -MMD -MF f -MT t") ≡ gives (codes "-c a.c -MMD -MF f -MT t --gdrv-base=a.c --gdrv-ext=.c -pipe")
+unfolding sections ignored unpaired debugged_by
+dependencies_named = refl
+
+dump_folder : line (codes "a.c -dumpdir p- -o foo") ≡ gives (codes "a.c -o foo --gdrv-dir=p- --gdrv-base=a.c --gdrv-ext=.c -pipe")
+unfolding sections ignored unpaired debugged_by
+dump_folder = refl
+
+saved : line (codes "-c a.c -save-temps=cwd -o d/x.o") ≡ gives (codes "-c a.c -save-temps=cwd -o d/x.o --gdrv-base=x.c --gdrv-ext=.c --gdrv-aux=x")
+unfolding sections ignored unpaired debugged_by
+saved = refl
+
+long_names : line (codes "--compile a.c --output=x.o --define-macro A=1 --include-directory d") ≡ gives (codes "-c a.c -o x.o -D A=1 -I d --gdrv-base=x.c --gdrv-ext=.c -pipe")
+unfolding sections ignored unpaired debugged_by
+long_names = refl
+
+preprocessed : line (codes "--preprocess --no-line-commands a.c") ≡ gives (codes "-E -P a.c --gdrv-base=a.c --gdrv-ext=.c")
+unfolding sections ignored unpaired debugged_by
+preprocessed = refl
+
+static_link : line (codes "--static --library-directory=d o.o -l m") ≡ gives (codes "-static -Ld o.o -lm")
+unfolding sections ignored unpaired debugged_by
+static_link = refl
+
+renamed_options : line (codes "-c a.c --std=c99 --warn-no-unused --no-inline --machine-sse3") ≡ gives (codes "-c a.c -std=c99 -Wno-unused -fno-inline -msse3 --gdrv-base=a.c --gdrv-ext=.c -pipe")
+unfolding sections ignored unpaired debugged_by
+renamed_options = refl
+
+parameter : line (codes "-c --param ssp-buffer-size=4 a.c") ≡ gives (codes "-c --param=ssp-buffer-size=4 a.c --gdrv-base=a.c --gdrv-ext=.c -pipe")
+unfolding sections ignored unpaired debugged_by
+parameter = refl
+
+extra_warnings : line (codes "-c a.c -W -Wno-extra -Wextra") ≡ gives (codes "-c a.c -Wextra --gdrv-base=a.c --gdrv-ext=.c -pipe")
+unfolding sections ignored unpaired debugged_by
+extra_warnings = refl
+
+formats : line (codes "-c a.c -Wformat -Wno-format") ≡ gives (codes "-c a.c -Wformat=1 -Wformat=0 --gdrv-base=a.c --gdrv-ext=.c -pipe")
+unfolding sections ignored unpaired debugged_by
+formats = refl
+
+old_standard : line (codes "-c a.c -pedantic -std=c9x") ≡ gives (codes "-c a.c -Wpedantic -std=c99 --gdrv-base=a.c --gdrv-ext=.c -pipe")
+unfolding sections ignored unpaired debugged_by
+old_standard = refl
+
+tuned : line (codes "-c a.c -mcpu=k8 -mtune=nocona") ≡ gives (codes "-c a.c -mtune=nocona --gdrv-base=a.c --gdrv-ext=.c -pipe")
+unfolding sections ignored unpaired debugged_by
+tuned = refl
+
+pie_last : line (codes "o.o -no-pie -pie") ≡ gives (codes "o.o -pie")
+unfolding sections ignored unpaired debugged_by
+pie_last = refl
+
+no_pie_last : line (codes "o.o -static-pie -no-pie") ≡ gives (codes "o.o -no-pie")
+unfolding sections ignored unpaired debugged_by
+no_pie_last = refl
+
+shared_then_pie : line (codes "o.o -shared -static -pie") ≡ gives (codes "o.o -static -pie")
+unfolding sections ignored unpaired debugged_by
+shared_then_pie = refl
+
+static_twice : line (codes "o.o -static -static-pie") ≡ gives (codes "o.o -static -static-pie")
+unfolding sections ignored unpaired debugged_by
+static_twice = refl
+
+code_models : line (codes "-c a.c -fPIC -fpie -fno-pic") ≡ gives (codes "-c a.c -fno-pic --gdrv-base=a.c --gdrv-ext=.c -pipe")
+unfolding sections ignored unpaired debugged_by
+code_models = refl
+
+widths : line (codes "-c a.c -m32 -mx32 -m64") ≡ gives (codes "-c a.c -m64 --gdrv-base=a.c --gdrv-ext=.c -pipe")
+unfolding sections ignored unpaired debugged_by
+widths = refl
+
+machines : line (codes "-c a.c -march=k8 -march=nocona") ≡ gives (codes "-c a.c -march=nocona --gdrv-base=a.c --gdrv-ext=.c -pipe")
+unfolding sections ignored unpaired debugged_by
+machines = refl
+
+levels_and_lto : line (codes "-c a.c -O3 -O0 -flto -fno-lto") ≡ gives (codes "-c a.c -O3 -O0 -fno-lto --gdrv-base=a.c --gdrv-ext=.c -pipe")
+unfolding sections ignored unpaired debugged_by
+levels_and_lto = refl
+
+debug_again : line (codes "-c a.c -g0 -g") ≡ gives (codes "-c a.c -g0 -g --gdrv-base=a.c --gdrv-ext=.c --gdrv-level=2 --gdrv-dwarf=5 -pipe")
+unfolding sections ignored unpaired debugged_by
+debug_again = refl
+
+assembler_versions : line (codes "-c s.s -gdwarf-2 -gdwarf-5") ≡ gives (codes "-c s.s -gdwarf-2 -gdwarf-5 --gdrv-level=2 --gdrv-dwarf=5 -pipe")
+unfolding sections ignored unpaired debugged_by
+assembler_versions = refl
+
+strict_alone : line (codes "-c s.s -gstrict-dwarf") ≡ gives (codes "-c s.s -gstrict-dwarf -pipe")
+unfolding sections ignored unpaired debugged_by
+strict_alone = refl
+
+level_set : line (codes "-c a.c -g3 -g1") ≡ gives (codes "-c a.c -g3 -g1 --gdrv-base=a.c --gdrv-ext=.c --gdrv-level=1 --gdrv-dwarf=5 -pipe")
+unfolding sections ignored unpaired debugged_by
+level_set = refl
+
+toggled_off : line (codes "-c a.c -g -gtoggle") ≡ gives (codes "-c a.c -g -gtoggle --gdrv-base=a.c --gdrv-ext=.c -pipe")
+unfolding sections ignored unpaired debugged_by
+toggled_off = refl
+
+checks_taken_back : line (codes "a.c -fsanitize=address,undefined -fno-sanitize=address") ≡ gives (codes "a.c -fsanitize=address,undefined -fno-sanitize=address --gdrv-base=a.c --gdrv-ext=.c --gdrv-san=ubsan -pipe")
+unfolding sections ignored unpaired debugged_by
+checks_taken_back = refl
+
+leaks_and_threads : line (codes "a.c -fsanitize=leak -fsanitize=thread") ≡ gives (codes "a.c -fsanitize=leak -fsanitize=thread --gdrv-base=a.c --gdrv-ext=.c --gdrv-san=tsan -pipe")
+unfolding sections ignored unpaired debugged_by
+leaks_and_threads = refl
+
+no_check : line (codes "o.o -fsanitize=shift -fno-sanitize=all") ≡ gives (codes "o.o -fsanitize=shift -fno-sanitize=all")
+unfolding sections ignored unpaired debugged_by
+no_check = refl
+
+trapping : line (codes "o.o -fsanitize=undefined -fsanitize-undefined-trap-on-error") ≡ gives (codes "o.o -fsanitize=undefined -fsanitize-undefined-trap-on-error")
+unfolding sections ignored unpaired debugged_by
+trapping = refl
+
+threads : line (codes "-c a.c -fopenmp --coverage") ≡ gives (codes "-c a.c -fopenmp -coverage -pthread --gdrv-base=a.c --gdrv-ext=.c -pipe")
+unfolding sections ignored unpaired debugged_by
+threads = refl
+
+parallel_loops : line (codes "a.c -ftree-parallelize-loops=4") ≡ gives (codes "a.c -ftree-parallelize-loops=4 -pthread --gdrv-base=a.c --gdrv-ext=.c -pipe")
+unfolding sections ignored unpaired debugged_by
+parallel_loops = refl
+
+colours : line (codes "-c a.c -fdiagnostics-color=always -Wall -fno-diagnostics-color") ≡ gives (codes "-c a.c -Wall -fdiagnostics-color=never --gdrv-base=a.c --gdrv-ext=.c -pipe")
+unfolding sections ignored unpaired debugged_by
+colours = refl
+
+visibilities : line (codes "-c a.c -fvisibility=hidden -fvisibility=default") ≡ gives (codes "-c a.c -fvisibility=hidden -fvisibility=default --gdrv-base=a.c --gdrv-ext=.c -pipe")
+unfolding sections ignored unpaired debugged_by
+visibilities = refl
+
+standard_input : line (codes "-E - -x c") ≡ gives (codes "-E - -x c")
+unfolding sections ignored unpaired debugged_by
+standard_input = refl
+
+syntax_only : line (codes "-fsyntax-only a.c") ≡ gives (codes "-fsyntax-only a.c --gdrv-base=a.c --gdrv-ext=.c")
+unfolding sections ignored unpaired debugged_by
+syntax_only = refl
+
+unknown_warning : line (codes "-c a.c -Wno-such-thing -fstack-usage -o x.o") ≡ gives (codes "-c a.c -Wno-such-thing -fstack-usage -o x.o --gdrv-base=x.c --gdrv-ext=.c -pipe")
+unfolding sections ignored unpaired debugged_by
+unknown_warning = refl
+
+language_given : line (codes "-x c foo -c -o x.o") ≡ gives (codes "-x c foo -c -o x.o --gdrv-base=x -pipe")
+unfolding sections ignored unpaired debugged_by
+language_given = refl
+
+ignored_names : line (codes "-c a.c -fforce-addr -fno-zee -R d") ≡ gives (codes "-c a.c --gdrv-base=a.c --gdrv-ext=.c -pipe")
+unfolding sections ignored unpaired debugged_by
+ignored_names = refl
+
+vendors : line (codes "-c a.c -specs=v.specs -mfoo") ≡ gives (codes "-c a.c -specs=v.specs -mfoo --gdrv-base=a.c --gdrv-ext=.c -pipe")
+unfolding sections ignored unpaired debugged_by
+vendors = refl
+
+split : line (codes "-c a.c -gsplit-dwarf -g -o d/x.o") ≡ gives (codes "-c a.c -gsplit-dwarf -g -o d/x.o --gdrv-dir=d/ --gdrv-base=x.c --gdrv-ext=.c --gdrv-aux=d/x --gdrv-level=2 --gdrv-dwarf=5 -pipe")
+unfolding sections ignored unpaired debugged_by
+split = refl
+
+spelled_wrong : front (codes "-c a.c -fvisibilty=hidden -foo") ≡ Refuse (UnknownOption (codes "-fvisibilty=hidden") ∷ UnknownOption (codes "-foo") ∷ [])
+unfolding sections ignored unpaired debugged_by
+spelled_wrong = refl
+
+unknown : front (codes "-c a.c -shred") ≡ Refuse (UnknownOption (codes "-shred") ∷ [])
+unfolding sections ignored unpaired debugged_by
+unknown = refl
+
+no_argument : front (codes "a.c -o") ≡ Refuse (NoArgument (codes "-o") ∷ [])
+unfolding sections ignored unpaired debugged_by
+no_argument = refl
+
+no_input : front (codes "-c") ≡ Refuse (NoInput ∷ [])
+unfolding sections ignored unpaired debugged_by
+no_input = refl
+
+linkers : front (codes "-fuse-ld=foo o.o") ≡ Refuse (UnknownOption (codes "-fuse-ld=foo") ∷ [])
+unfolding sections ignored unpaired debugged_by
+linkers = refl
+
+own_words : front (codes "a.c -specs=v --gdrv-dir=x -q") ≡ Refuse (UnknownOption (codes "--gdrv-dir=x") ∷ [])
+unfolding sections ignored unpaired debugged_by
+own_words = refl
+
+bases : front (codes "-S a.c -dumpbase zz.c -foo") ≡ Refuse (NotTaken (codes "-dumpbase") ∷ UnknownOption (codes "-foo") ∷ [])
+unfolding sections ignored unpaired debugged_by
+bases = refl
+
+version : front (codes "--version a.c") ≡ Ask
+unfolding sections ignored unpaired debugged_by
+version = refl
+
+verbose_alone : front (codes "-v") ≡ Ask
+unfolding sections ignored unpaired debugged_by
+verbose_alone = refl
+
+named_file : front (codes "-print-file-name=libc.so -m32") ≡ Ask
+unfolding sections ignored unpaired debugged_by
+named_file = refl
+
+version_before_unknown : front (codes "-dumpversion -foo") ≡ Ask
+unfolding sections ignored unpaired debugged_by
+version_before_unknown = refl
+
+verbose_run : line (codes "-v o.o") ≡ gives (codes "-v o.o")
+unfolding sections ignored unpaired debugged_by
+verbose_run = refl
+
+-- folders of the environment
+abbrev found : Option (List (List ℕ))
+found = words_given (front_of known (record { compiler = codes "gcc"; folders = codes "/g/" ∷ codes "/h" ∷ []; compiler_path = Some (codes "/p:"); library_path = Some (codes "/l") }) (texts (codes "o.o -B q")))
+
+found_folders : found ≡ gives (codes "o.o -B q -B /p -B ./ -B /g/ -B /h --gdrv-dirs --gdrv-lib=/l")
+unfolding sections ignored unpaired debugged_by
+found_folders = refl
+
+given_folder : line (codes "o.o -B q") ≡ gives (codes "o.o -B q -B /g/ --gdrv-dirs")
+unfolding sections ignored unpaired debugged_by
+given_folder = refl
+
+-- the files that the line names
+abbrev inputs_given : Answer → List (List ℕ)
+inputs_given (Run call) = call.inputs
+inputs_given _ = []
+
+inputs : inputs_given (front (codes "b.c -x c - -lm a.o -o c.o -Wl,-O1")) ≡ codes "b.c" ∷ codes "a.o" ∷ []
+unfolding sections ignored unpaired debugged_by
+inputs = refl
+
+-- variables of the children
+no_children : children_given (front (codes "-c a.c")) ≡ []
+unfolding sections ignored unpaired debugged_by
+no_children = refl
+
+options_of_a_link : children_given (front (codes "a.c -B x -Lfoo -l m -x c -fopenmp -o d/foo"))
+    ≡ record { name = codes "COLLECT_GCC"; value = codes "/usr/bin/gcc" }
+    ∷ record { name = codes "COLLECT_GCC_OPTIONS"; value = codes "'-B' 'x' '-Lfoo' '-fopenmp' '-o' 'd/foo' '-pthread' '-dumpdir' 'd/foo.'" } ∷ []
+unfolding sections ignored unpaired debugged_by
+options_of_a_link = refl
+
+quotes : quoted_line (codes "a'b" ∷ [] ∷ []) ≡ codes "'a'\\''b' ''"
+quotes = refl

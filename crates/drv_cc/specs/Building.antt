@@ -1,0 +1,75 @@
+use Rattle.drv_cc.specs.Items as items
+use Rattle.drv_cc.specs.Items.{Start, items_of}
+use Rattle.drv_cc.specs.Table.{OptionRow, Section, section}
+use Rattle.drv_cc.specs.declared.item.Item.{Item}
+use Rattle.drv_cc.specs.declared.reading.Start.TheVariants as code
+use Rattle.drv_cc.specs.declared.reading.Start.{Start as CodeStart}
+use Rattle.drv_cc.specs.declared.renaming.Rename.{Rename}
+use Rattle.drv_cc.specs.SideFiles.{compiled, worked}
+use Rattle.drv_cc.specs.declared.sources.Count.TheVariants as count
+use Rattle.drv_cc.specs.declared.sources.Count.{Count}
+use Rattle.drv_cc.specs.declared.sources.Kinds.TheVariants as kinds
+use Rattle.drv_cc.specs.declared.sources.Kinds.{Kinds}
+use Rattle.drv_cc.specs.declared.table.Row.{Row}
+use Rattle.drv_cc.specs.declared.table.Section.{Section as CodeSection}
+use Rattle.std.specs.Option.{option_map}
+use Rattle.std.specs.Prelude.{◌≡◌, Bool, List, [], ◌∷◌, ◌++◌, None, Option, Some, false, true, ℕ}
+
+-- The code's values without their references, and how the code goes over a line. Private clauses alone cite them.
+
+abbrev pub shown : Row → OptionRow
+shown r = record { option = r.option.now; takes = r.takes; name = r.name.now; form = r.form; part = r.part }
+
+abbrev pub section_shown : CodeSection → Section
+section_shown s = section s.takes s.form s.part s.entries.now
+
+abbrev pub row_shown : Option Row → Option OptionRow
+row_shown found = option_map shown found
+
+abbrev pub start_shown : CodeStart → Start
+start_shown (code.Whole i) = items.Whole i
+start_shown (code.Wants r) = items.Wants (shown r)
+
+abbrev pub pair_shown : Rename → List ℕ × List ℕ
+pair_shown r = (r.from.now, r.to.now)
+
+-- a word is noted: what is there and what the rest of the line gives is what it would have been
+abbrev pub Notes : List (List ℕ) → List Item → List Item → Option OptionRow → List ℕ → Option Row → Type 0
+Notes known old new wanting word next = (rest : List (List ℕ)) → new ++ items_of known (row_shown next) rest ≡ old ++ items_of known wanting (word ∷ rest)
+
+abbrev pub kinds_shown : Kinds → List ℕ × List ℕ
+kinds_shown kinds.Compiled = compiled
+kinds_shown kinds.Worked = worked
+
+-- what there is of something: none, one alone, or more
+pub data Counted : Type 0 where
+  Zero : Counted
+  Single : List ℕ → Counted
+  Many : Counted
+
+abbrev pub count_shown : Count → Counted
+count_shown count.Nothing = Zero
+count_shown (count.One name) = Single name.now
+count_shown count.Several = Many
+
+abbrev pub counted : Counted → List ℕ → Counted
+counted Zero name = Single name
+counted (Single other) name = Many
+counted Many name = Many
+
+abbrev pub all_counted : Counted → List (List ℕ) → Counted
+all_counted so_far [] = so_far
+all_counted so_far (name ∷ names) = all_counted (counted so_far name) names
+
+abbrev pub count_of : List (List ℕ) → Counted
+count_of names = all_counted Zero names
+
+abbrev pub is_counted : Counted → Bool
+is_counted Zero = false
+is_counted (Single name) = true
+is_counted Many = true
+
+abbrev pub counted_only : Counted → Option (List ℕ)
+counted_only Zero = None
+counted_only (Single name) = Some name
+counted_only Many = None

@@ -1,0 +1,122 @@
+use Rattle.drv_cc.specs.Items.{is_among, items_of, words_of}
+use Rattle.drv_cc.specs.Kept.{has, is_asked, kept, last_argument, refusals}
+use Rattle.drv_cc.specs.Levels.{check_words, debug_words}
+use Rattle.drv_cc.specs.SideFiles.{inputs, is_some, link_beginning, saves, side_words, sources, stops, worked}
+use Rattle.drv_cc.specs.Table.{texts}
+use Rattle.drv_cc.specs.declared.answer.Answer.TheVariants.{Ask, Refuse, Run}
+use Rattle.drv_cc.specs.declared.answer.Answer.{Answer}
+use Rattle.drv_cc.specs.declared.answer.Call.{Call}
+use Rattle.drv_cc.specs.declared.answer.Surroundings.{Surroundings}
+use Rattle.drv_cc.specs.declared.answer.Variable.{Variable}
+use Rattle.drv_cc.specs.declared.item.Item.{Item}
+use Rattle.drv_cc.specs.declared.refusal.Refusal.{Refusal}
+use Rattle.drv_cc.specs.declared.table.Part.TheVariants as part
+use Rattle.drv_cc.specs.declared.table.Part.{Part}
+use Rattle.drv_words.specs.Bytes.{colon, comma, single_quote, space}
+use Rattle.std.specs.List.{filter, flat_map, list_any, slice_split}
+use Rattle.std.specs.Prelude.{◌==◌, ◌&&◌, ◌||◌, Bool, List, [], ◌∷◌, ◌++◌, None, Option, Some, codes, drop, false, if◌then◌else◌, length, map, nat_lt, not, true, ℕ}
+
+-- A line of gcc as words of the driver: a question for the compiler, refusals, or the words of what stays of the line and what gcc's
+-- driver adds to it (GCC manual, "Invoking GCC").
+
+-- Added: threads, where an option needs them ("C Dialect Options", -fopenmp; "Optimize Options", -ftree-parallelize-loops).
+abbrev pub is_several : Option (List ℕ) → Bool
+is_several None = false
+is_several (Some number) = not (is_among ([] ∷ codes "0" ∷ codes "1" ∷ []) number)
+
+abbrev pub needs_threads : List Item → Bool
+needs_threads items =
+    has (codes "-fopenmp") items || has (codes "-fopenacc") items || has (codes "-fgnu-tm") items
+    || is_several (last_argument (codes "-ftree-parallelize-loops=") items)
+
+abbrev pub thread_words : List Item → List (List ℕ)
+thread_words items = if needs_threads items then codes "-pthread" ∷ [] else []
+
+-- Added: the folders of COMPILER_PATH and LIBRARY_PATH ("Environment Variables"); an empty one is the folder of the call.
+abbrev pub named_folder : List ℕ → List ℕ
+named_folder [] = codes "./"
+named_folder (b ∷ folder) = b ∷ folder
+
+abbrev pub folders : Option (List ℕ) → List (List ℕ)
+folders None = []
+folders (Some path) = map named_folder (slice_split (λ b. b == colon) path)
+
+abbrev pub prefix_words : List ℕ → List (List ℕ)
+prefix_words folder = codes "-B" ∷ folder ∷ []
+
+abbrev pub is_set : Option (List ℕ) → Bool
+is_set None = false
+is_set (Some value) = true
+
+abbrev pub library_words : List ℕ → List (List ℕ)
+library_words folder = (codes "--gdrv-lib=" ++ folder) ∷ []
+
+-- programs and start files are looked for in the compiler's own folders last
+abbrev pub all_prefixes : Surroundings → List (List ℕ)
+all_prefixes around = flat_map prefix_words (folders around.compiler_path) ++ flat_map prefix_words around.folders ++ codes "--gdrv-dirs" ∷ []
+
+abbrev pub program_words : Surroundings → List Item → List (List ℕ)
+program_words around items = if has (codes "-B") items || is_set around.compiler_path then all_prefixes around else []
+
+abbrev pub folder_words : Surroundings → List Item → List (List ℕ)
+folder_words around items = program_words around items ++ flat_map library_words (folders around.library_path)
+
+-- Added: pipes, where a source is worked and nothing speaks against them ("Overall Options", -pipe).
+abbrev pub unpiped : List (List ℕ)
+unpiped = texts (codes "-pipe -save-temps -save-temps=cwd -save-temps=obj -S -E -M -MM -fsyntax-only -no-integrated-cpp")
+
+abbrev pub is_piped : List Item → Bool
+is_piped items = is_some (sources worked items) && not (list_any (λ i. is_among unpiped i.name) items)
+
+abbrev pub pipe_words : List Item → List (List ℕ)
+pipe_words items = if is_piped items then codes "-pipe" ∷ [] else []
+
+abbrev pub added : Surroundings → List Item → List (List ℕ)
+added around items =
+    thread_words items ++ folder_words around items ++ side_words items ++ debug_words items ++ check_words items ++ pipe_words items
+
+-- For the children of a link: the linker's plugin calls the compiler again, with the switches of the line (GCC Internals, "LTO",
+-- "lto-wrapper"). Each word stands between single quotes.
+abbrev pub quoted_byte : ℕ → List ℕ
+quoted_byte b = if b == single_quote then codes "'\\''" else b ∷ []
+
+abbrev pub quoted : List ℕ → List ℕ
+quoted word = single_quote ∷ flat_map quoted_byte word ++ single_quote ∷ []
+
+abbrev pub quoted_line : List (List ℕ) → List ℕ
+quoted_line words = drop 1 (flat_map (λ word. space ∷ quoted word) words)
+
+abbrev pub is_switch : Part → Bool
+is_switch part.Switch = true
+is_switch part.Unknown = true
+is_switch _ = false
+
+abbrev pub switch_words : List Item → List (List ℕ)
+switch_words items = flat_map words_of (filter (λ i. is_switch i.part) items)
+
+abbrev pub collected : List Item → List (List ℕ)
+collected items = switch_words items ++ thread_words items ++ codes "-dumpdir" ∷ link_beginning items ∷ []
+
+abbrev pub variable : List ℕ → List ℕ → Variable
+variable name value = record { name = name; value = value }
+
+abbrev pub children : Surroundings → List Item → List Variable
+children around items =
+    if stops items || has (codes "-fno-lto") items then []
+    else variable (codes "COLLECT_GCC") around.compiler ∷ variable (codes "COLLECT_GCC_OPTIONS") (quoted_line (collected items)) ∷ []
+
+-- The answer.
+abbrev pub run_words : Surroundings → List Item → List (List ℕ)
+run_words around items = flat_map words_of items ++ added around items
+
+abbrev pub run_of : Surroundings → List Item → Answer
+run_of around items = Run (record { words = run_words around items; inputs = inputs items; children = children around items })
+
+abbrev pub refused_or_run : Surroundings → List Item → List Refusal → Answer
+refused_or_run around items faults = if nat_lt 0 (length faults) then Refuse faults else run_of around (kept items)
+
+abbrev pub answer_of : Surroundings → List Item → Answer
+answer_of around items = if is_asked items then Ask else refused_or_run around items (refusals items)
+
+abbrev pub front_of : List (List ℕ) → Surroundings → List (List ℕ) → Answer
+front_of known around words = answer_of around (items_of known None words)

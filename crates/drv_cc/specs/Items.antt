@@ -1,0 +1,157 @@
+use Rattle.drv_cc.specs.Table.{OptionRow, ignored, renames, rings, table, texts, unpaired}
+use Rattle.drv_cc.specs.declared.item.Item.{Item}
+use Rattle.drv_cc.specs.declared.table.Form.TheVariants.{Alone, Joined, Nowhere, Separate}
+use Rattle.drv_cc.specs.declared.table.Form.{Form}
+use Rattle.drv_cc.specs.declared.table.Part.TheVariants.{Input, Lacking, Switch, Unknown}
+use Rattle.drv_cc.specs.declared.table.Part.{Part}
+use Rattle.drv_cc.specs.declared.table.Takes.TheVariants.{Behind, Either, Next, Nothing, Rest}
+use Rattle.drv_cc.specs.declared.table.Takes.{Takes}
+use Rattle.drv_words.specs.Bytes.{equals, hyphen}
+use Rattle.std.specs.Cmp.Lexicographic.{pointwise}
+use Rattle.std.specs.List.{list_any, starts_with}
+use Rattle.std.specs.Prelude.{◌==◌, ◌&&◌, ◌||◌, Bool, List, [], ◌∷◌, ◌++◌, None, Option, Some, codes, drop, false, find, if◌then◌else◌, length, nat_eq, nat_lt, not, true, ℕ}
+
+-- A line of gcc as a list of items (GCC manual, "Invoking GCC"; "Option Summary").
+
+abbrev pub same : List ℕ → List ℕ → Bool
+same = pointwise nat_eq
+
+abbrev pub begins : List ℕ → List ℕ → Bool
+begins beginning word = starts_with nat_eq word beginning
+
+abbrev pub is_among : List (List ℕ) → List ℕ → Bool
+is_among names name = list_any (same name) names
+
+-- Classes: of each one the last item of the line stays. A class is the text of its ring, or the option; no text is no class.
+
+-- the positive form of an option: -Wno-X is of the class -WX
+abbrev pub paired : List ℕ → List ℕ
+paired (dash ∷ letter ∷ rest) = dash ∷ letter ∷ (if begins (codes "no-") rest then drop 3 rest else rest)
+paired word = word
+
+abbrev pub has_two_signs : List ℕ → Bool
+has_two_signs (dash ∷ letter ∷ rest) = list_any (nat_eq letter) (codes "Wfgm")
+has_two_signs word = false
+
+-- an option that takes no argument is of a class with that of the other sign
+abbrev pub class_alone : List ℕ → List ℕ
+class_alone name =
+    if not (has_two_signs name) then []
+    else if list_any (nat_eq equals) name then []
+    else if is_among (texts unpaired) name then [] else paired name
+
+abbrev pub class_by : Form → List ℕ → List ℕ
+class_by Alone name = class_alone name
+class_by Joined name = []
+class_by Separate name = []
+class_by Nowhere name = []
+
+abbrev pub ring_or : List ℕ → Option (List ℕ) → List ℕ
+ring_or class None = class
+ring_or class (Some ring) = ring
+
+abbrev pub class_of : Form → List ℕ → List ℕ
+class_of form name = ring_or (class_by form name) (find (λ ring. is_among (texts ring) name) rings)
+
+-- Items.
+
+abbrev pub item : List ℕ → List ℕ → Form → Part → Item
+item name argument form part = record { name = name; argument = argument; form = form; part = part; class = class_of form name }
+
+-- a word that is no option
+abbrev pub plain : Part → List ℕ → Item
+plain part word = record { name = word; argument = []; form = Alone; part = part; class = [] }
+
+abbrev pub by_row : OptionRow → List ℕ → Item
+by_row r argument = item r.name argument r.form r.part
+
+-- how a word begins: an item, or an option that wants the next word
+pub data Start : Type 0 where
+  Whole : Item → Start
+  Wants : OptionRow → Start
+
+abbrev pub with_rest : Takes → OptionRow → List ℕ → Start
+with_rest Nothing r rest = Whole (by_row r [])
+with_rest Next r rest = Wants r
+with_rest Behind r [] = Whole (plain Lacking r.option)
+with_rest Behind r (b ∷ rest) = Whole (by_row r (b ∷ rest))
+with_rest Rest r rest = Whole (by_row r rest)
+with_rest Either r [] = Wants r
+with_rest Either r (b ∷ rest) = Whole (by_row r (b ∷ rest))
+
+abbrev pub takes_rest : Takes → Bool
+takes_rest Nothing = false
+takes_rest Next = false
+takes_rest Behind = true
+takes_rest Rest = true
+takes_rest Either = true
+
+abbrev pub option_fits : Takes → List ℕ → List ℕ → Bool
+option_fits takes word option = if takes_rest takes then begins option word else same option word
+
+abbrev pub fits : List ℕ → OptionRow → Bool
+fits word r = option_fits r.takes word r.option
+
+abbrev pub first_row : List ℕ → Option OptionRow
+first_row word = find (fits word) table
+
+-- what a word stands for that no row fits
+abbrev pub is_longer : List ℕ → List ℕ × List ℕ → Bool
+is_longer word rename = begins rename.0 word && nat_lt (length rename.0) (length word)
+
+abbrev pub renamed_by : List ℕ → Option (List ℕ × List ℕ) → List ℕ
+renamed_by word None = word
+renamed_by word (Some rename) = rename.1 ++ drop (length rename.0) word
+
+abbrev pub renamed : List ℕ → List ℕ
+renamed word = renamed_by word (find (is_longer word) renames)
+
+-- a word up to its first =, and that too
+abbrev pub head_of : List ℕ → List ℕ
+head_of [] = []
+head_of (b ∷ rest) = if b == equals then b ∷ [] else b ∷ head_of rest
+
+-- a word that no row fits: names that are known beyond the table are taken as they are, and so is -Wno-X, of which the compiler
+-- speaks where it speaks at all
+abbrev pub beyond : List (List ℕ) → List ℕ → List ℕ → Item
+beyond known word name =
+    if is_among (texts ignored) (paired name) then item name [] Nowhere Switch
+    else if begins (codes "-Wno-") name || is_among known name || is_among known (head_of name) then item name [] Alone Switch
+    else plain Unknown word
+
+abbrev pub is_file : List ℕ → Bool
+is_file [] = true
+is_file (b ∷ []) = true
+is_file (b ∷ c ∷ rest) = not (b == hyphen)
+
+abbrev pub start_renamed : List (List ℕ) → List ℕ → List ℕ → Option OptionRow → Start
+start_renamed known word name (Some r) = with_rest r.takes r (drop (length r.option) name)
+start_renamed known word name None = Whole (beyond known word name)
+
+abbrev pub start_option : List (List ℕ) → List ℕ → Option OptionRow → Start
+start_option known word (Some r) = with_rest r.takes r (drop (length r.option) word)
+start_option known word None = start_renamed known word (renamed word) (first_row (renamed word))
+
+abbrev pub start_of : List (List ℕ) → List ℕ → Start
+start_of known word = if is_file word then Whole (plain Input word) else start_option known word (first_row word)
+
+-- the items of words, where the option of a row waits for its argument or none does
+abbrev pub with_start : Start → (Option OptionRow → List Item) → List Item
+with_start (Whole i) behind = i ∷ behind None
+with_start (Wants r) behind = behind (Some r)
+
+abbrev pub items_of : List (List ℕ) → Option OptionRow → List (List ℕ) → List Item
+items_of known None [] = []
+items_of known (Some r) [] = plain Lacking r.option ∷ []
+items_of known None (word ∷ words) = with_start (start_of known word) (λ wanting. items_of known wanting words)
+items_of known (Some r) (word ∷ words) = by_row r word ∷ items_of known None words
+
+-- what an item is spelled as
+abbrev pub spelled_by : Form → List ℕ → List ℕ → List (List ℕ)
+spelled_by Alone name argument = name ∷ []
+spelled_by Joined name argument = (name ++ argument) ∷ []
+spelled_by Separate name argument = name ∷ argument ∷ []
+spelled_by Nowhere name argument = []
+
+abbrev pub words_of : Item → List (List ℕ)
+words_of i = spelled_by i.form i.name i.argument

@@ -1,0 +1,7 @@
+pub mod Building
+pub mod Front
+pub mod Items
+pub mod Kept
+pub mod Levels
+pub mod SideFiles
+pub mod Table

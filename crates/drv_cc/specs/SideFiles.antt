@@ -1,0 +1,190 @@
+use Rattle.drv_cc.specs.Items.{is_among, same}
+use Rattle.drv_cc.specs.Kept.{has, is_file_part, last_argument}
+use Rattle.drv_cc.specs.Table.{texts}
+use Rattle.drv_cc.specs.declared.item.Item.{Item}
+use Rattle.drv_words.specs.Bytes.{period, slash}
+use Rattle.std.specs.List.{filter, list_any}
+use Rattle.std.specs.Prelude.{◌==◌, ◌&&◌, ◌||◌, Bool, List, [], ◌∷◌, ◌++◌, ◌-◌, None, Option, Some, codes, drop, false, if◌then◌else◌, length, map, nat_lt, not, take, true, ℕ}
+
+-- The names of side files (GCC manual, "Overall Options", -dumpdir, -dumpbase; "Preprocessor Options", -MD; "Developer Options",
+-- -save-temps).
+
+-- Parts of a name.
+
+-- the bytes before the last one of a kind, and those behind it, if there is one
+abbrev pub parted : ℕ → List ℕ → Option (List ℕ × List ℕ)
+parted mark [] = None
+parted mark (b ∷ bs) = by (parted mark bs)
+  where
+    by : Option (List ℕ × List ℕ) → Option (List ℕ × List ℕ)
+    by (Some parts) = Some (b ∷ parts.0, parts.1)
+    by None = if b == mark then Some ([], bs) else None
+
+-- what stands behind the last slash of a name, and its folder with that slash
+abbrev pub base : List ℕ → List ℕ
+base name = by (parted slash name)
+  where
+    by : Option (List ℕ × List ℕ) → List ℕ
+    by None = name
+    by (Some parts) = parts.1
+
+abbrev pub folder : List ℕ → List ℕ
+folder name = take (length name - length (base name)) name
+
+-- what stands before the last period of a base name, where that doesn't count in first place, and the suffix with its period
+abbrev pub stem : List ℕ → List ℕ
+stem name = by (parted period (base name))
+  where
+    by : Option (List ℕ × List ℕ) → List ℕ
+    by None = base name
+    by (Some ([], rest)) = base name
+    by (Some (b ∷ bs, rest)) = b ∷ bs
+
+abbrev pub suffix : List ℕ → List ℕ
+suffix name = drop (length (stem name)) (base name)
+
+-- Files and sources.
+
+-- the only one, if there is one alone
+abbrev pub only : List (List ℕ) → Option (List ℕ)
+only (name ∷ []) = Some name
+only _ = None
+
+abbrev pub files : List Item → List (List ℕ)
+files items = map (λ i. i.name) (filter (λ i. is_file_part i.part) items)
+
+-- those that are looked for: - is the standard input
+abbrev pub is_looked_for : Item → Bool
+is_looked_for i = is_file_part i.part && not (same i.name (codes "-"))
+
+abbrev pub inputs : List Item → List (List ℕ)
+inputs items = map (λ i. i.name) (filter is_looked_for items)
+
+-- the suffixes and languages of C, and of C and assembler
+abbrev pub compiled : List ℕ × List ℕ
+compiled = (codes ".c .i .h", codes "c c-header cpp-output")
+
+abbrev pub worked : List ℕ × List ℕ
+worked = (codes ".c .i .h .s .S .sx", codes "c c-header cpp-output assembler assembler-with-cpp")
+
+-- a file is one by its language, which -x gives, or by its suffix
+abbrev pub is_source : List ℕ × List ℕ → List ℕ → List ℕ → Bool
+is_source kinds language name = if nat_lt 0 (length language) then is_among (texts kinds.1) language else is_among (texts kinds.0) (suffix name)
+
+abbrev pub language_by : List ℕ → Item → List ℕ
+language_by language i = if same i.name (codes "-x") then (if same i.argument (codes "none") then [] else i.argument) else language
+
+abbrev pub source_by : List ℕ × List ℕ → List ℕ → Item → List (List ℕ)
+source_by kinds language i = if is_file_part i.part && is_source kinds language i.name then i.name ∷ [] else []
+
+abbrev pub sources_from : List ℕ × List ℕ → List ℕ → List Item → List (List ℕ)
+sources_from kinds language [] = []
+sources_from kinds language (i ∷ items) = source_by kinds language i ++ sources_from kinds (language_by language i) items
+
+abbrev pub sources : List ℕ × List ℕ → List Item → List (List ℕ)
+sources kinds items = sources_from kinds [] items
+
+-- Where side files stand.
+
+abbrev pub stops : List Item → Bool
+stops items = has (codes "-c") items || has (codes "-S") items || has (codes "-E") items
+
+-- the output, where it is a file
+abbrev pub real : Option (List ℕ) → Option (List ℕ)
+real None = None
+real (Some output) = if same output (codes "-") || same output (codes "/dev/null") then None else Some output
+
+abbrev pub output : List Item → Option (List ℕ)
+output items = real (last_argument (codes "-o") items)
+
+abbrev pub folder_of : Option (List ℕ) → List ℕ
+folder_of None = []
+folder_of (Some output) = folder output
+
+abbrev pub own_folder : List Item → List ℕ
+own_folder items = if has (codes "-save-temps=cwd") items then [] else folder_of (output items)
+
+-- the name of the program
+abbrev pub program_of : Option (List ℕ) → List ℕ
+program_of None = codes "a"
+program_of (Some output) = if same (base output) (codes "a.out") || same (suffix output) (codes ".exe") then stem output else base output
+
+abbrev pub program : List Item → List ℕ
+program items = program_of (output items)
+
+-- whether the only file is named as the program is
+abbrev pub is_named : List ℕ → Option (List ℕ) → Bool
+is_named program None = false
+is_named program (Some file) = same program (stem file) && nat_lt 0 (length (suffix file))
+
+abbrev pub own_beginning : List Item → List ℕ
+own_beginning items =
+    if stops items then own_folder items
+    else if is_named (program items) (only (files items)) then own_folder items
+    else own_folder items ++ program items ++ codes "-"
+
+abbrev pub given_or : List ℕ → Option (List ℕ) → List ℕ
+given_or own None = own
+given_or own (Some given) = given
+
+-- what their names begin with, and for the link's
+abbrev pub beginning : List Item → List ℕ
+beginning items = given_or (own_beginning items) (last_argument (codes "-dumpdir") items)
+
+abbrev pub link_beginning : List Item → List ℕ
+link_beginning items = given_or (own_folder items ++ program items ++ codes ".") (last_argument (codes "-dumpdir") items)
+
+-- the name of a source's side files: the output's where there is one and no link, else its own
+abbrev pub stem_by : Bool → Option (List ℕ) → List ℕ → List ℕ
+stem_by true (Some output) name = stem output
+stem_by true None name = stem name
+stem_by false output name = stem name
+
+abbrev pub stem_of : List Item → List ℕ → List ℕ
+stem_of items name = stem_by (stops items) (output items) name
+
+-- the file of dependencies of an output
+abbrev pub dependencies : List ℕ → List ℕ
+dependencies output = by (parted period (base output))
+  where
+    by : Option (List ℕ × List ℕ) → List ℕ
+    by None = output ++ codes ".d"
+    by (Some parts) = folder output ++ parts.0 ++ codes ".d"
+
+-- Words.
+
+abbrev pub with_value : List ℕ → List ℕ → List (List ℕ)
+with_value word value = if nat_lt 0 (length value) then (word ++ value) ∷ [] else []
+
+abbrev pub base_words : List Item → Option (List ℕ) → List (List ℕ)
+base_words items None = []
+base_words items (Some name) = (codes "--gdrv-base=" ++ (stem_of items name ++ suffix name)) ∷ with_value (codes "--gdrv-ext=") (suffix name)
+
+abbrev pub dependency_words : Option (List ℕ) → List (List ℕ)
+dependency_words None = []
+dependency_words (Some output) = (codes "--gdrv-dep=" ++ dependencies output) ∷ []
+
+abbrev pub aux_words : List Item → Option (List ℕ) → List (List ℕ)
+aux_words items None = []
+aux_words items (Some name) = (codes "--gdrv-aux=" ++ (beginning items ++ stem_of items name)) ∷ []
+
+abbrev pub saves : List Item → Bool
+saves items =
+    has (codes "-save-temps") items || has (codes "-save-temps=cwd") items || has (codes "-save-temps=obj") items
+
+abbrev pub dependencies_asked : List Item → List (List ℕ)
+dependencies_asked items = if has (codes "-MD") items || has (codes "-MMD") items then dependency_words (last_argument (codes "-o") items) else []
+
+abbrev pub aux_asked : List Item → List (List ℕ)
+aux_asked items = if saves items || has (codes "-gsplit-dwarf") items then aux_words items (only (sources worked items)) else []
+
+abbrev pub is_some : List (List ℕ) → Bool
+is_some [] = false
+is_some (name ∷ names) = true
+
+abbrev pub named_words : List Item → List (List ℕ)
+named_words items =
+    with_value (codes "--gdrv-dir=") (beginning items) ++ base_words items (only (sources compiled items)) ++ dependencies_asked items ++ aux_asked items
+
+abbrev pub side_words : List Item → List (List ℕ)
+side_words items = if is_some (sources worked items) then named_words items else []

@@ -1,0 +1,266 @@
+use Rattle.drv_cc.specs.declared.table.Form.TheVariants.{Alone, Joined, Nowhere, Separate}
+use Rattle.drv_cc.specs.declared.table.Form.{Form}
+use Rattle.drv_cc.specs.declared.table.Part.TheVariants.{Library, Piece, Question, Refused, Switch, Tells}
+use Rattle.drv_cc.specs.declared.table.Part.{Part}
+use Rattle.drv_cc.specs.declared.table.Takes.TheVariants.{Behind, Either, Next, Nothing, Rest}
+use Rattle.drv_cc.specs.declared.table.Takes.{Takes}
+use Rattle.drv_words.specs.Bytes.{greater_than, space}
+use Rattle.std.specs.List.{flat_map, slice_split}
+use Rattle.std.specs.Prelude.{◌==◌, List, [], ◌∷◌, ◌++◌, codes, if◌then◌else◌, map, ℕ}
+
+-- The option table (GCC manual, the section that each part names; "GCC Internals", "Option Files": which forms an option has and
+-- for which other it stands). The first row that fits a word decides.
+
+-- an option, how it takes its argument, the name that it is called by, how that is spelled, and what it is on the line
+pub record OptionRow : Type 0 where
+  pub option : List ℕ
+  pub takes : Takes
+  pub name : List ℕ
+  pub form : Form
+  pub part : Part
+
+-- options that are alike, in one text: between blanks an option, or an option, a > and the name that it is called by
+pub record Section : Type 0 where
+  pub takes : Takes
+  pub form : Form
+  pub part : Part
+  pub entries : List ℕ
+
+abbrev pub section : Takes → Form → Part → List ℕ → Section
+section takes form part entries = record { takes = takes; form = form; part = part; entries = entries }
+
+-- in a text of names each blank stands between two
+abbrev pub texts : List ℕ → List (List ℕ)
+texts text = slice_split (λ b. b == space) text
+
+abbrev pub option_of : List ℕ → List ℕ
+option_of [] = []
+option_of (b ∷ entry) = if b == greater_than then [] else b ∷ option_of entry
+
+abbrev pub name_behind : List ℕ → List ℕ
+name_behind [] = []
+name_behind (b ∷ entry) = if b == greater_than then entry else name_behind entry
+
+abbrev pub or_itself : List ℕ → List ℕ → List ℕ
+or_itself [] entry = entry
+or_itself (b ∷ name) entry = b ∷ name
+
+abbrev pub row_of : Section → List ℕ → OptionRow
+row_of s entry = record { option = option_of entry; takes = s.takes; name = or_itself (name_behind entry) entry; form = s.form; part = s.part }
+
+abbrev pub section_rows : Section → List OptionRow
+section_rows s = map (row_of s) (texts s.entries)
+
+-- an option that takes the rest of a word stands behind those that begin with it
+unfoldable pub sections : List Section
+sections =
+    section Nothing Alone Switch
+    (codes "-c -S -E -pipe -save-temps -save-temps=cwd -save-temps=obj -ansi -fopenmp -fno-openmp -fopenacc -fno-openacc -fgnu-tm "
+    ++ codes "-fno-gnu-tm -w -Wall -Wextra -Wno-extra -Wpedantic -Wno-pedantic -pedantic-errors -g -g0 -g1 -g2 -g3 -ggdb -ggdb0 "
+    ++ codes "-ggdb1 -ggdb2 -ggdb3 -gdwarf -gdwarf-2 -gdwarf-3 -gdwarf-4 -gdwarf-5 -gstabs -gstabs+ -gbtf -gctf -gvms -gxcoff "
+    ++ codes "-gxcoff+ -gtoggle -gno-toggle -gsplit-dwarf -gno-split-dwarf -gpubnames -ggnu-pubnames -gno-pubnames -gdwarf32 "
+    ++ codes "-gdwarf64 -gen-decls -flto -fno-lto -fpic -fPIC -fpie -fPIE -fno-pic -fno-PIC -fno-pie -fno-PIE -fsyntax-only "
+    ++ codes "-fstack-usage -fsanitize-undefined-trap-on-error")
+    ∷ section Nothing Alone Switch
+    (codes "-fno-sanitize-undefined-trap-on-error -fstack-protector-all -fstack-protector-explicit -fstack-protector-strong "
+    ++ codes "-fcallgraph-info -fprofile-info-section -m32 -m64 -mx32 -m16 -mlong-double-64 -mlong-double-80 -mlong-double-128 "
+    ++ codes "-mbionic -mglibc -muclibc -mmusl -mred-zone -mno-red-zone -mhard-float -msse4 -mno-sse4 -mfancy-math-387 "
+    ++ codes "-mno-fancy-math-387 -mpc32 -mpc64 -mpc80 -mgeneral-regs-only -mno-push-args -m96bit-long-double -m128bit-long-double "
+    ++ codes "-malign-stringops -mno-align-stringops -mno-default -mdispatch-scheduler -mdump-tune-features -msseregparm -M -MM -MD "
+    ++ codes "-MMD -MG -MP -C -CC -P -H -undef -trigraphs -remap -traditional")
+    ∷ section Nothing Alone Switch
+    (codes "-traditional-cpp -no-integrated-cpp -nostdinc -pie -no-pie -static-pie -static -shared -static-libgcc -shared-libgcc "
+    ++ codes "-nostdlib -nodefaultlibs -nostartfiles -nolibc -pthread -r -s -rdynamic -export-dynamic -symbolic -p -pg -profile -Q "
+    ++ codes "-Qn -Qy -coverage -fuse-ld=bfd -fuse-ld=gold -fuse-ld=lld -fuse-ld=mold")
+    ∷ section Nothing Alone Piece
+    (codes "-pass-exit-codes")
+    ∷ section Nothing Alone Tells
+    (codes "-v -###")
+    ∷ section Nothing Alone Question
+    (codes "-dumpspecs -dumpversion -dumpfullversion -dumpmachine --help --version --target-help -fhelp -fversion -ftarget-help "
+    ++ codes "-print-search-dirs -print-libgcc-file-name -print-multi-lib -print-multi-directory -print-multiarch -print-sysroot "
+    ++ codes "-print-multi-os-directory -print-sysroot-headers-suffix --print-search-dirs --print-libgcc-file-name --print-multi-lib "
+    ++ codes "--print-multi-directory --print-multiarch --print-sysroot --print-multi-os-directory --print-sysroot-headers-suffix")
+    ∷ section Nothing Alone Refused
+    (codes "-time --time -canonical-prefixes -no-canonical-prefixes --no-canonical-prefixes -quiet -version -lang-asm -list "
+    ++ codes "-objects -fcompare-debug -fno-compare-debug")
+    ∷ section Next Separate Refused
+    (codes "-wrapper -dumpbase --dumpbase -dumpbase-ext --dumpbase-ext --sysroot")
+    ∷ section Next Joined Switch
+    (codes "-specs>-specs= --specs>-specs= --dump>-d --library-directory>-L --param>--param=")
+    ∷ section Next Separate Question
+    (codes "--print-file-name --print-prog-name")
+    ∷ section Next Nowhere Switch
+    (codes "-dumpdir -gnatO")
+    ∷ section Next Nowhere Switch
+    (codes "--dumpdir>-dumpdir")
+    ∷ section Nothing Alone Switch
+    (codes "-fdump-final-insns>-fdump-final-insns=. -std=c89>-std=c90 -std=iso9899:1990>-std=c90 -std=c9x>-std=c99 "
+    ++ codes "-std=iso9899:1999>-std=c99 -std=iso9899:199x>-std=c99 -std=c1x>-std=c11 -std=iso9899:2011>-std=c11 -std=c18>-std=c17 "
+    ++ codes "-std=iso9899:2017>-std=c17 -std=iso9899:2018>-std=c17 -std=gnu89>-std=gnu90 -std=gnu9x>-std=gnu99 "
+    ++ codes "-std=gnu1x>-std=gnu11 -std=gnu18>-std=gnu17 -W>-Wextra -pedantic>-Wpedantic -Wcomments>-Wcomment "
+    ++ codes "-Wno-comments>-Wno-comment -Wmissing-noreturn>-Wsuggest-attribute=noreturn "
+    ++ codes "-Wno-missing-noreturn>-Wno-suggest-attribute=noreturn -Wmissing-format-attribute>-Wsuggest-attribute=format")
+    ∷ section Nothing Alone Switch
+    (codes "-Wno-missing-format-attribute>-Wno-suggest-attribute=format -Wshadow-local>-Wshadow=local "
+    ++ codes "-Wno-shadow-local>-Wno-shadow=local -Wshadow-compatible-local>-Wshadow=compatible-local "
+    ++ codes "-Wno-shadow-compatible-local>-Wno-shadow=compatible-local -Wshadow=global>-Wshadow -Wno-shadow=global>-Wno-shadow "
+    ++ codes "-Werror-implicit-function-declaration>-Werror=implicit-function-declaration -Wformat>-Wformat=1 -Wno-format>-Wformat=0 "
+    ++ codes "-Wshift-overflow>-Wshift-overflow=1 -Wno-shift-overflow>-Wshift-overflow=0 -Wformat-overflow>-Wformat-overflow=1 "
+    ++ codes "-Wno-format-overflow>-Wformat-overflow=0 -Wformat-truncation>-Wformat-truncation=1")
+    ∷ section Nothing Alone Switch
+    (codes "-Wno-format-truncation>-Wformat-truncation=0 -Wattribute-alias>-Wattribute-alias=1 "
+    ++ codes "-Wno-attribute-alias>-Wattribute-alias=0 -Warray-parameter>-Warray-parameter=2 "
+    ++ codes "-Wno-array-parameter>-Warray-parameter=0 -Wdangling-pointer>-Wdangling-pointer=2 "
+    ++ codes "-Wno-dangling-pointer>-Wdangling-pointer=0 -Wstringop-overflow>-Wstringop-overflow=2 "
+    ++ codes "-Wno-stringop-overflow>-Wstringop-overflow=0 -Wunused-const-variable>-Wunused-const-variable=2 "
+    ++ codes "-Wno-unused-const-variable>-Wunused-const-variable=0 -Wimplicit-fallthrough>-Wimplicit-fallthrough=3 "
+    ++ codes "-Wno-implicit-fallthrough>-Wimplicit-fallthrough=0 -Wbidi-chars>-Wbidi-chars=any -Wno-bidi-chars>-Wbidi-chars=none")
+    ∷ section Nothing Alone Switch
+    (codes "-Wnormalized>-Wnormalized=nfc -Wno-normalized>-Wnormalized=none "
+    ++ codes "-Wno-frame-larger-than>-Wframe-larger-than=18446744073709551615EiB "
+    ++ codes "-Wno-larger-than>-Wlarger-than=18446744073709551615EiB -Wno-stack-usage>-Wstack-usage=18446744073709551615EiB "
+    ++ codes "-Wno-vla-larger-than>-Wvla-larger-than=18446744073709551615EiB "
+    ++ codes "-Wno-alloca-larger-than>-Walloca-larger-than=18446744073709551615EiB "
+    ++ codes "-Wno-alloc-size-larger-than>-Walloc-size-larger-than=18446744073709551615EiB "
+    ++ codes "-fdiagnostics-color>-fdiagnostics-color=always -fno-diagnostics-color>-fdiagnostics-color=never "
+    ++ codes "-fcf-protection>-fcf-protection=full -flive-patching>-flive-patching=inline-clone")
+    ∷ section Nothing Alone Switch
+    (codes "-fstack-check>-fstack-check=specific -fno-stack-check>-fstack-check=no -fvect-cost-model>-fvect-cost-model=dynamic "
+    ++ codes "-fno-vect-cost-model>-fvect-cost-model=unlimited -floop-block>-floop-nest-optimize "
+    ++ codes "-fno-loop-block>-fno-loop-nest-optimize -floop-strip-mine>-floop-nest-optimize "
+    ++ codes "-fno-loop-strip-mine>-fno-loop-nest-optimize -ftree-loop-linear>-floop-nest-optimize "
+    ++ codes "-fno-tree-loop-linear>-fno-loop-nest-optimize -mfused-madd>-ffp-contract=fast -mno-fused-madd>-ffp-contract=off "
+    ++ codes "-mprefer-avx128>-mprefer-vector-width=128 -mno-prefer-avx128>-mprefer-vector-width=256 -mintel-syntax>-masm=intel "
+    ++ codes "-mno-intel-syntax>-masm=att -msse5>-mavx")
+    ∷ section Nothing Alone Switch
+    (codes "-mno-sse5>-mno-avx --all-warnings>-Wall --ansi>-ansi --assemble>-S --comments>-C --comments-in-macros>-CC --compile>-c "
+    ++ codes "--coverage>-coverage --debug>-g --dependencies>-M --extra-warnings>-Wextra --no-integrated-cpp>-no-integrated-cpp "
+    ++ codes "--no-line-commands>-P --no-standard-includes>-nostdinc --no-standard-libraries>-nostdlib --no-warnings>-w "
+    ++ codes "--optimize>-O --pedantic>-Wpedantic --pedantic-errors>-pedantic-errors --pie>-pie --pipe>-pipe --preprocess>-E "
+    ++ codes "--print-missing-file-dependencies>-MG --profile>-p --save-temps>-save-temps --shared>-shared --static>-static "
+    ++ codes "--static-pie>-static-pie --symbolic>-symbolic --traditional>-traditional")
+    ∷ section Nothing Alone Switch
+    (codes "--traditional-cpp>-traditional-cpp --trace-includes>-H --trigraphs>-trigraphs --user-dependencies>-MM "
+    ++ codes "--write-dependencies>-MD --write-user-dependencies>-MMD")
+    ∷ section Nothing Alone Piece
+    (codes "--pass-exit-codes>-pass-exit-codes")
+    ∷ section Nothing Alone Tells
+    (codes "--verbose>-v")
+    ∷ section Next Separate Switch
+    (codes "--assert>-A --define-macro>-D --entry>-e --force-link>-u --imacros>-imacros --include>-include --include-directory>-I "
+    ++ codes "--include-directory-after>-idirafter --include-prefix>-iprefix --include-with-prefix>-iwithprefix "
+    ++ codes "--include-with-prefix-after>-iwithprefix --include-with-prefix-before>-iwithprefixbefore --output>-o --prefix>-B "
+    ++ codes "--undefine-macro>-U")
+    ∷ section Next Separate Piece
+    (codes "--for-assembler>-Xassembler --language>-x")
+    ∷ section Next Separate Library
+    (codes "--for-linker>-Xlinker")
+    ∷ section Next Separate Switch
+    (codes "-aux-info -Tbss -Tdata -Ttext")
+    ∷ section Next Separate Piece
+    (codes "-Xassembler -Xpreprocessor")
+    ∷ section Next Separate Library
+    (codes "-Xlinker")
+    ∷ section Behind Separate Switch
+    (codes "--assert=>-A --define-macro=>-D")
+    ∷ section Behind Joined Switch
+    (codes "--dump=>-d")
+    ∷ section Behind Separate Switch
+    (codes "--entry=>-e --force-link=>-u")
+    ∷ section Behind Separate Piece
+    (codes "--for-assembler=>-Xassembler")
+    ∷ section Behind Separate Library
+    (codes "--for-linker=>-Xlinker")
+    ∷ section Behind Separate Switch
+    (codes "--imacros=>-imacros --include=>-include --include-directory=>-I --include-directory-after=>-idirafter "
+    ++ codes "--include-prefix=>-iprefix --include-with-prefix=>-iwithprefix --include-with-prefix-after=>-iwithprefix "
+    ++ codes "--include-with-prefix-before=>-iwithprefixbefore")
+    ∷ section Behind Separate Piece
+    (codes "--language=>-x")
+    ∷ section Behind Joined Switch
+    (codes "--library-directory=>-L")
+    ∷ section Behind Separate Switch
+    (codes "--output=>-o --prefix=>-B --undefine-macro=>-U")
+    ∷ section Behind Separate Refused
+    (codes "--sysroot=>--sysroot")
+    ∷ section Behind Joined Question
+    (codes "--help= --completion= -fhelp= -print-file-name= --print-file-name= -print-prog-name= --print-prog-name=")
+    ∷ section Behind Joined Refused
+    (codes "-time= -fcompare-debug= --output-pch=")
+    ∷ section Behind Joined Switch
+    (codes "-specs= --specs=>-specs= --param=")
+    ∷ section Behind Separate Switch
+    (codes "-aux-info=>-aux-info")
+    ∷ section Behind Joined Switch
+    (codes "-Tbss= -Tdata= -Ttext= -std= -march= -mtune= -mcpu=>-mtune= -fsanitize= -fno-sanitize= -ftree-parallelize-loops= "
+    ++ codes "-fdiagnostics-color= -flto= -Wlarger-than->-Wlarger-than= -finline-limit->-finline-limit= -fno-builtin- -fbuiltin- "
+    ++ codes "-fcall-saved- -fcall-used- -fdisable- -fdump- -fenable- -ffixed- -fopt-info- -fplugin-arg-")
+    ∷ section Rest Joined Piece
+    (codes "-Wa, -Wp,")
+    ∷ section Rest Joined Library
+    (codes "-Wl,")
+    ∷ section Either Separate Switch
+    (codes "-MF -MT -MQ -include -imacros -idirafter -iprefix -iquote -isysroot -isystem -iwithprefixbefore -iwithprefix")
+    ∷ section Either Separate Refused
+    (codes "-imultilib -imultiarch")
+    ∷ section Rest Joined Switch
+    (codes "-O -d")
+    ∷ section Either Separate Switch
+    (codes "-A -D -U -I -B -T -e -o -u -z")
+    ∷ section Either Joined Switch
+    (codes "-L -F")
+    ∷ section Either Separate Piece
+    (codes "-x")
+    ∷ section Either Joined Library
+    (codes "-l")
+    ∷ section Either Nowhere Switch
+    (codes "-R -h -J")
+    ∷ []
+
+abbrev pub table : List OptionRow
+table = flat_map section_rows sections
+
+-- what other long names stand for: their beginnings, and those of the options (GCC, "opts-common.cc", the map of options)
+abbrev pub renames : List (List ℕ × List ℕ)
+renames =
+    (codes "--debug=", codes "-g") ∷ (codes "--machine-", codes "-m") ∷ (codes "--machine=", codes "-m") ∷ (codes "--optimize=", codes "-O")
+    ∷ (codes "--std=", codes "-std=") ∷ (codes "--warn-", codes "-W") ∷ (codes "--", codes "-f") ∷ []
+
+-- options that gcc takes and does nothing for, in both signs
+unfoldable pub ignored : List ℕ
+ignored =
+    codes "-Wargument-mismatch -Wchkp -Whsa -Wimport -Wmudflap -Wunreachable-code -Wunsafe-loop-optimizations -fall-virtual "
+    ++ codes "-falt-external-templates -fargument-alias -fargument-noalias -fargument-noalias-anything -fargument-noalias-global "
+    ++ codes "-fbranch-target-load-optimize -fbranch-target-load-optimize2 -fbtr-bb-exclusive -fcheck-data-deps "
+    ++ codes "-fcheck-pointer-bounds -fchkp-check-incomplete-type -fchkp-check-read -fchkp-check-write "
+    ++ codes "-fchkp-first-field-has-own-bounds -fchkp-flexible-struct-trailing-arrays -fchkp-instrument-calls "
+    ++ codes "-fchkp-instrument-marked-only -fchkp-narrow-bounds -fchkp-narrow-to-innermost-array -fchkp-optimize "
+    ++ codes "-fchkp-store-bounds -fchkp-treat-zero-dynamic-size-as-infinite -fchkp-use-fast-string-functions "
+    ++ codes "-fchkp-use-nochk-string-functions -fchkp-use-static-bounds -fchkp-use-static-const-bounds -fchkp-use-wrappers "
+    ++ codes "-fchkp-zero-input-bounds-for-main -fcilkplus -fconserve-space -fcse-skip-blocks -fdeduce-init-list -fdefault-inline "
+    ++ codes "-fdump-core -feliminate-dwarf2-dups -fenum-int-equiv -fexternal-templates -ffor-scope -fforce-addr -ffriend-injection "
+    ++ codes "-fguiding-decls -fhonor-std -fhuge-objects -fipa-cp-alignment -fipa-matrix-reorg -fipa-struct-reorg -flabels-ok "
+    ++ codes "-floop-flatten -floop-optimize -flto-odr-type-merging -fmudflap -fmudflapir -fmudflapth -fname-mangling-version- "
+    ++ codes "-fnew-abi -fnonnull-objects -foptimize-register-move -foptional-diags -fregmove -frepo -frerun-loop-opt "
+    ++ codes "-fsched2-use-traces -fsee -fsquangle -fstrength-reduce -fstrict-prototype -fthis-is-variable "
+    ++ codes "-ftree-coalesce-inlined-vars -ftree-copyrename -ftree-loop-if-convert-stores -ftree-salias -ftree-store-ccp "
+    ++ codes "-ftree-store-copy-prop -ftree-vect-loop-version -funsafe-loop-optimizations -fvtable-gc -fvtable-thunks -fwhole-file "
+    ++ codes "-fxref -fzee -gcoff -gcoff1 -gcoff2 -gcoff3 -mmitigate-rop -mmpx -mpcommit"
+
+-- of each ring the last option of the line counts (GCC Internals, "Option Properties", Negative)
+abbrev pub rings : List (List ℕ)
+rings =
+    codes "-pie -no-pie -static-pie -shared" ∷ codes "-fpic -fPIC -fpie -fPIE -fno-pic -fno-PIC -fno-pie -fno-PIE" ∷ codes "-m32 -m64 -mx32 -m16"
+    ∷ codes "-march=" ∷ codes "-mtune=" ∷ codes "-mlong-double-64 -mlong-double-80 -mlong-double-128" ∷ codes "-mbionic -mglibc -muclibc -mmusl"
+    ∷ codes "-fuse-ld=bfd -fuse-ld=gold" ∷ codes "-gpubnames -ggnu-pubnames -gno-pubnames" ∷ codes "-Qy -Qn" ∷ codes "-fdiagnostics-color= -fdiagnostics-color=always -fdiagnostics-color=never" ∷ []
+
+-- options that no other sign of theirs takes back (GCC Internals, "Option Properties", RejectNegative)
+unfoldable pub unpaired : List ℕ
+unpaired =
+    codes "-g -g0 -g1 -g2 -g3 -ggdb -ggdb0 -ggdb1 -ggdb2 -ggdb3 -gdwarf -gdwarf-2 -gdwarf-3 -gdwarf-4 -gdwarf-5 -gstabs -gstabs+ "
+    ++ codes "-gbtf -gctf -gvms -gxcoff -gxcoff+ -gdwarf32 -gdwarf64 -gen-decls -fstack-protector-all -fstack-protector-explicit "
+    ++ codes "-fstack-protector-strong -fstack-usage -fcallgraph-info -fprofile-info-section -mred-zone -mno-red-zone -mhard-float "
+    ++ codes "-msse4 -mno-sse4 -mfancy-math-387 -mno-fancy-math-387 -mpc32 -mpc64 -mpc80 -mgeneral-regs-only -mno-push-args "
+    ++ codes "-m96bit-long-double -m128bit-long-double -malign-stringops -mno-align-stringops -mno-default -mdispatch-scheduler "
+    ++ codes "-mdump-tune-features -msseregparm"

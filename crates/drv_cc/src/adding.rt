@@ -1,0 +1,223 @@
+//! What is added to a line.
+
+ghost use Rattle.drv_cc.specs.Front.{added, all_prefixes, folder_words, folders, is_piped, is_several, library_words, named_folder, needs_threads, pipe_words, prefix_words, program_words, thread_words, unpiped};
+ghost use Rattle.drv_cc.specs.Items.{is_among};
+ghost use Rattle.std.specs.List.{flat_map, list_any};
+ghost use Rattle.std.specs.Option.{option_map};
+ghost use Rattle.std.specs.Prelude.{◌≡◌, ◌++◌, OnOk, Some};
+
+use crate::Surroundings;
+use crate::checks::add_check_words;
+use crate::classes::stands_in;
+use crate::item::Item;
+use crate::keeping::{has, last_argument};
+use crate::levels::add_debug_words;
+use crate::sides::add_side_words;
+use crate::sources::has_source;
+use crate::words::{add_joined, add_word};
+use drv_words::{Listing, Word};
+use std::alloc::{AllocError, Global};
+
+/// Whether an option needs threads (GCC manual, "C Dialect Options", "Optimize Options").
+fn needs_threads(items: &[Item]) -> bool
+    ensures { result ≡ needs_threads items.now }
+{
+    has(items, b"-fopenmp")
+        || has(items, b"-fopenacc")
+        || has(items, b"-fgnu-tm")
+        || is_several(last_argument(items, b"-ftree-parallelize-loops="))
+}
+
+/// Whether a number of threads is given, and is more than one.
+fn is_several(number: Option<&[u8]>) -> bool
+    ensures { result ≡ is_several (option_map (λ bytes. bytes.now) number.entry) }
+{
+    !matches!(number, None | Some(b"" | b"0" | b"1"))
+}
+
+/// Adds the option for threads, where one needs them.
+pub(crate) fn add_thread_words(
+    alloc: Global,
+    items: &[Item],
+    words: &mut Listing<Word>,
+) -> Result<(), AllocError>
+    ensures { OnOk result (words.new ≡ words.old ++ thread_words items.now) }
+{
+    if needs_threads(items) {
+        add_word(alloc, words, b"-pthread")?;
+    }
+    Ok(())
+}
+
+/// A folder of a path; an empty one is the folder of the call.
+fn named_folder(folder: &[u8]) -> &[u8]
+    ensures { result.now ≡ named_folder folder.now }
+{
+    if folder.is_empty() { b"./" } else { folder }
+}
+
+/// Adds a folder as a prefix.
+fn add_prefix(alloc: Global, folder: &[u8], words: &mut Listing<Word>) -> Result<(), AllocError>
+    ensures { OnOk result (words.new ≡ words.old ++ prefix_words (named_folder folder.now)) }
+{
+    add_word(alloc, words, b"-B")?;
+    add_word(alloc, words, named_folder(folder))
+}
+
+/// Adds a folder of libraries.
+fn add_library(alloc: Global, folder: &[u8], words: &mut Listing<Word>) -> Result<(), AllocError>
+    ensures { OnOk result (words.new ≡ words.old ++ library_words (named_folder folder.now)) }
+{
+    add_joined(alloc, words, b"--gdrv-lib=", named_folder(folder))?;
+    Ok(())
+}
+
+/// Adds a prefix for each folder of `COMPILER_PATH`.
+fn add_prefixes(alloc: Global, path: &[u8], words: &mut Listing<Word>) -> Result<(), AllocError>
+    ensures { OnOk result (words.new ≡ words.old ++ flat_map prefix_words (folders (Some path.now))) }
+{
+    for folder in path.split(|byte| *byte == b':') {
+        add_prefix(alloc, folder, words)?;
+    }
+    Ok(())
+}
+
+/// Adds a word for each folder of `LIBRARY_PATH`.
+fn add_libraries(alloc: Global, path: &[u8], words: &mut Listing<Word>) -> Result<(), AllocError>
+    ensures { OnOk result (words.new ≡ words.old ++ flat_map library_words (folders (Some path.now))) }
+{
+    for folder in path.split(|byte| *byte == b':') {
+        add_library(alloc, folder, words)?;
+    }
+    Ok(())
+}
+
+/// Adds the compiler's own folders, each as a prefix.
+fn add_own_prefixes(
+    alloc: Global,
+    folders: &[Word],
+    words: &mut Listing<Word>,
+) -> Result<(), AllocError>
+    ensures { OnOk result (words.new ≡ words.old ++ flat_map prefix_words folders.now) }
+{
+    for folder in folders {
+        add_word(alloc, words, b"-B")?;
+        add_word(alloc, words, folder.as_bytes())?;
+    }
+    Ok(())
+}
+
+/// Adds a prefix for each folder of `COMPILER_PATH`, if that is set.
+fn add_path_prefixes(
+    alloc: Global,
+    path: &Option<Word>,
+    words: &mut Listing<Word>,
+) -> Result<(), AllocError>
+    ensures { OnOk result (words.new ≡ words.old ++ flat_map prefix_words (folders path.now)) }
+{
+    match path {
+        Some(path) => add_prefixes(alloc, path.as_bytes(), words),
+        None => Ok(()),
+    }
+}
+
+/// Adds all folders of programs behind those of the line.
+fn add_all_prefixes(
+    alloc: Global,
+    around: &Surroundings,
+    words: &mut Listing<Word>,
+) -> Result<(), AllocError>
+    ensures { OnOk result (words.new ≡ words.old ++ all_prefixes around.now) }
+{
+    add_path_prefixes(alloc, &around.compiler_path, words)?;
+    add_own_prefixes(alloc, around.folders.as_slice(), words)?;
+    add_word(alloc, words, b"--gdrv-dirs")
+}
+
+/// Adds the folders of programs, where a folder is given.
+fn add_program_words(
+    alloc: Global,
+    around: &Surroundings,
+    items: &[Item],
+    words: &mut Listing<Word>,
+) -> Result<(), AllocError>
+    ensures { OnOk result (words.new ≡ words.old ++ program_words around.now items.now) }
+{
+    if has(items, b"-B") || around.compiler_path.is_some() {
+        add_all_prefixes(alloc, around, words)
+    } else {
+        Ok(())
+    }
+}
+
+/// Adds the folders of the surroundings.
+fn add_folder_words(
+    alloc: Global,
+    around: &Surroundings,
+    items: &[Item],
+    words: &mut Listing<Word>,
+) -> Result<(), AllocError>
+    ensures { OnOk result (words.new ≡ words.old ++ folder_words around.now items.now) }
+{
+    add_program_words(alloc, around, items, words)?;
+    match &around.library_path {
+        Some(path) => add_libraries(alloc, path.as_bytes(), words),
+        None => Ok(()),
+    }
+}
+
+/// Whether an option speaks against pipes, or has them already (GCC manual, "Overall Options", -pipe).
+fn is_unpiped(item: &Item) -> bool
+    ensures { result ≡ is_among unpiped item.now.name }
+{
+    stands_in(
+        b"-pipe -save-temps -save-temps=cwd -save-temps=obj -S -E -M -MM -fsyntax-only -no-integrated-cpp",
+        item.name.as_bytes(),
+    )
+}
+
+/// Whether an option speaks against pipes, or has them already.
+fn has_unpiped(items: &[Item]) -> bool
+    ensures { result ≡ list_any (λ i. is_among unpiped i.name) items.now }
+{
+    items.iter().any(is_unpiped)
+}
+
+/// Whether pipes are added.
+fn is_piped(items: &[Item]) -> bool
+    ensures { result ≡ is_piped items.now }
+{
+    has_source(items) & !has_unpiped(items)
+}
+
+/// Adds the option for pipes, where a source is worked and nothing speaks against them.
+fn add_pipe_words(
+    alloc: Global,
+    items: &[Item],
+    words: &mut Listing<Word>,
+) -> Result<(), AllocError>
+    ensures { OnOk result (words.new ≡ words.old ++ pipe_words items.now) }
+{
+    if is_piped(items) {
+        add_word(alloc, words, b"-pipe")?;
+    }
+    Ok(())
+}
+
+/// Adds all that gcc's driver adds.
+pub(crate) fn add_words(
+    alloc: Global,
+    around: &Surroundings,
+    items: &[Item],
+    words: &mut Listing<Word>,
+) -> Result<(), AllocError>
+    ensures { OnOk result (words.new ≡ words.old ++ added around.now items.now) }
+{
+    add_thread_words(alloc, items, words)?;
+    add_folder_words(alloc, around, items, words)?;
+    add_side_words(alloc, items, words)?;
+    add_debug_words(alloc, items, words)?;
+    add_check_words(alloc, items, words)?;
+    add_pipe_words(alloc, items, words)?;
+    Ok(())
+}

@@ -1,0 +1,48 @@
+//! What a line of `gcc` comes to.
+
+use crate::Refusal;
+use drv_words::{Listing, Word};
+
+/// What a front takes from its surroundings.
+#[derive(Drop)]
+pub struct Surroundings {
+    /// The compiler's name with its path.
+    pub compiler: Word,
+    /// The folders of the compiler's own programs and start files.
+    pub folders: Listing<Word>,
+    /// The value of `COMPILER_PATH`, if it is set.
+    pub compiler_path: Option<Word>,
+    /// The value of `LIBRARY_PATH`, if it is set.
+    pub library_path: Option<Word>,
+}
+
+/// A variable of the environment.
+#[derive(Drop)]
+pub struct Variable {
+    /// Its name.
+    pub name: Word,
+    /// Its value.
+    pub value: Word,
+}
+
+/// A call of the driver.
+#[derive(Drop)]
+pub struct Call {
+    /// The driver's words.
+    pub words: Listing<Word>,
+    /// The files that the line names, in its order; `-` is none.
+    pub inputs: Listing<Word>,
+    /// The variables that are set for the driver's children.
+    pub children: Listing<Variable>,
+}
+
+/// What a line of `gcc` comes to.
+#[derive(Drop)]
+pub enum Answer {
+    /// The line is a question: the compiler is asked with the same words.
+    Ask,
+    /// The line is refused, for each of these reasons in the order of the line.
+    Refuse(Listing<Refusal>),
+    /// The line is carried out.
+    Run(Call),
+}

@@ -1,0 +1,124 @@
+//! The libraries of checks.
+
+ghost use Rattle.drv_cc.specs.Levels.{check_words, checked_by, is_checked, library_word, needs_leak_library, needs_undefined_library, speaks_of, stands_for, ubsan_checks};
+ghost use Rattle.drv_cc.specs.Table.{texts};
+ghost use Rattle.std.specs.List.{list_any};
+ghost use Rattle.std.specs.Prelude.{◌≡◌, ◌++◌, OnOk};
+
+use crate::classes::{is, stands_in};
+use crate::item::Item;
+use crate::keeping::has;
+use crate::words::add_joined;
+use drv_words::{Listing, Word};
+use std::alloc::{AllocError, Global};
+
+/// The checks that `undefined` stands for (GCC manual, "Instrumentation Options", -fsanitize=undefined).
+const UNDEFINED: &[u8] =
+    b"shift-base shift-exponent integer-divide-by-zero unreachable vla-bound return null signed-integer-overflow bool enum bounds alignment nonnull-attribute returns-nonnull-attribute object-size vptr pointer-overflow builtin";
+
+/// The checks that need the library of undefined behaviour.
+const UBSAN: &[u8] =
+    b"float-divide-by-zero float-cast-overflow bounds-strict shift-base shift-exponent integer-divide-by-zero unreachable vla-bound return null signed-integer-overflow bool enum bounds alignment nonnull-attribute returns-nonnull-attribute object-size vptr pointer-overflow builtin";
+
+/// Whether a name stands for a check.
+fn stands_for(check: &[u8], name: &[u8]) -> bool
+    ensures { result ≡ stands_for check.now name.now }
+{
+    is(name, check)
+        | is(name, b"all")
+        | (is(name, b"undefined") & stands_in(UNDEFINED, check))
+        | (is(name, b"shift") & stands_in(b"shift-base shift-exponent", check))
+        | (is(name, b"bounds-strict") & is(check, b"bounds"))
+}
+
+/// Whether one of the names between commas stands for a check.
+fn speaks_of(check: &[u8], names: &[u8]) -> bool
+    ensures { result ≡ speaks_of check.now names.now }
+{
+    names
+        .split(|byte| *byte == b',')
+        .any(|name| stands_for(check, name))
+}
+
+/// Whether a check is on after an item.
+fn checked_by(check: &[u8], item: &Item, before: bool) -> bool
+    ensures { result ≡ checked_by check.now item.now before }
+{
+    let name = item.name.as_bytes();
+    let speaks = speaks_of(check, item.argument.as_bytes());
+    if is(name, b"-fsanitize=") & speaks {
+        true
+    } else if is(name, b"-fno-sanitize=") & speaks {
+        false
+    } else {
+        before
+    }
+}
+
+/// Whether a check is on.
+fn is_checked(items: &[Item], check: &[u8]) -> bool
+    ensures { result ≡ is_checked items.now check.now }
+{
+    let mut checked = false;
+    for item in items {
+        checked = checked_by(check, item, checked);
+    }
+    checked
+}
+
+/// Whether the library that finds leaks is needed by itself.
+fn needs_leak_library(items: &[Item]) -> bool
+    ensures { result ≡ needs_leak_library items.now }
+{
+    is_checked(items, b"leak")
+        & !(is_checked(items, b"address")
+            | is_checked(items, b"kernel-address")
+            | is_checked(items, b"thread"))
+}
+
+/// Whether one of the checks of undefined behaviour is on.
+fn is_undefined_checked(items: &[Item]) -> bool
+    ensures { result ≡ list_any (is_checked items.now) (texts ubsan_checks) }
+{
+    UBSAN
+        .split(|byte| *byte == b' ')
+        .any(|check| is_checked(items, check))
+}
+
+/// Whether the library of undefined behaviour is needed.
+fn needs_undefined_library(items: &[Item]) -> bool
+    ensures { result ≡ needs_undefined_library items.now }
+{
+    is_undefined_checked(items) & !has(items, b"-fsanitize-undefined-trap-on-error")
+}
+
+/// Adds the word of a library, where it is needed.
+fn add_library(
+    alloc: Global,
+    words: &mut Listing<Word>,
+    is_needed: bool,
+    library: &[u8],
+) -> Result<(), AllocError>
+    ensures { OnOk result (words.new ≡ words.old ++ library_word is_needed library.now) }
+{
+    if is_needed {
+        add_joined(alloc, words, b"--gdrv-san=", library)?;
+    }
+    Ok(())
+}
+
+/// Adds the words of the libraries that checks need.
+pub(crate) fn add_check_words(
+    alloc: Global,
+    items: &[Item],
+    words: &mut Listing<Word>,
+) -> Result<(), AllocError>
+    ensures { OnOk result (words.new ≡ words.old ++ check_words items.now) }
+{
+    add_library(alloc, words, is_checked(items, b"address"), b"asan")?;
+    add_library(alloc, words, is_checked(items, b"hwaddress"), b"hwasan")?;
+    add_library(alloc, words, is_checked(items, b"thread"), b"tsan")?;
+    add_library(alloc, words, needs_leak_library(items), b"lsan")?;
+    add_library(alloc, words, needs_undefined_library(items), b"ubsan")?;
+    Ok(())
+}

@@ -1,0 +1,112 @@
+//! A line of `gcc` turned into a question, refusals, or a call of the driver.
+
+ghost use Rattle.drv_cc.specs.Front.{answer_of, front_of, refused_or_run, run_of, run_words};
+ghost use Rattle.drv_cc.specs.Items.{words_of};
+ghost use Rattle.drv_cc.specs.Kept.{kept, refusals};
+ghost use Rattle.std.specs.List.{flat_map};
+ghost use Rattle.std.specs.Prelude.{◌≡◌, ◌++◌, IfOk, OnOk};
+
+use crate::adding::add_words;
+use crate::item::Item;
+use crate::judging::refusals;
+use crate::keeping::{is_asked, kept};
+use crate::quoting::children;
+use crate::reading::items_of;
+use crate::sources::inputs;
+use crate::{Answer, Call, Surroundings};
+use drv_words::{Listing, Word};
+use std::alloc::{AllocError, Global};
+
+/// Adds the words that items are spelled as.
+fn add_spelled(items: &[Item], words: &mut Listing<Word>) -> Result<(), AllocError>
+    ensures { OnOk result (words.new ≡ words.old ++ flat_map words_of items.now) }
+{
+    for item in items {
+        item.add_words(words)?;
+    }
+    Ok(())
+}
+
+/// The driver's words for a line whose items these are.
+fn run_words(
+    alloc: Global,
+    around: &Surroundings,
+    items: &[Item],
+) -> Result<Listing<Word>, AllocError>
+    ensures { IfOk result (λ words. words ≡ run_words around.now items.now) }
+{
+    let mut words = Listing::new(alloc);
+    add_spelled(items, &mut words)?;
+    add_words(alloc, around, items, &mut words)?;
+    Ok(words)
+}
+
+/// The call of a line whose items these are.
+fn call_of(alloc: Global, around: &Surroundings, items: &[Item]) -> Result<Answer, AllocError>
+    ensures { IfOk result (λ answer. answer ≡ run_of around.now items.now) }
+{
+    let words = run_words(alloc, around, items)?;
+    let inputs = inputs(alloc, items)?;
+    let children = children(alloc, around, items)?;
+    Ok(Answer::Run(Call {
+        words,
+        inputs,
+        children,
+    }))
+}
+
+/// The call of a line with these items, of which some may go.
+fn run(alloc: Global, around: &Surroundings, items: &[Item]) -> Result<Answer, AllocError>
+    ensures { IfOk result (λ answer. answer ≡ run_of around.now (kept items.now)) }
+{
+    let kept = kept(alloc, items)?;
+    call_of(alloc, around, kept.as_slice())
+}
+
+/// What a line comes to that is no question.
+fn refused_or_run(
+    alloc: Global,
+    around: &Surroundings,
+    items: &[Item],
+) -> Result<Answer, AllocError>
+    ensures { IfOk result (λ answer. answer ≡ refused_or_run around.now items.now (refusals items.now)) }
+{
+    let refused = refusals(alloc, items)?;
+    if 0 < refused.len() {
+        Ok(Answer::Refuse(refused))
+    } else {
+        run(alloc, around, items)
+    }
+}
+
+/// What a line with these items comes to.
+fn answer_of(alloc: Global, around: &Surroundings, items: &[Item]) -> Result<Answer, AllocError>
+    ensures { IfOk result (λ answer. answer ≡ answer_of around.now items.now) }
+{
+    if is_asked(items) {
+        Ok(Answer::Ask)
+    } else {
+        refused_or_run(alloc, around, items)
+    }
+}
+
+/// What a line of `gcc` comes to (GCC manual, "Invoking GCC"): a question for the compiler, refusals, or words for the driver.
+///
+/// `args` are the words of the line without the program's name, response files expanded; `known` are the names of options beyond
+/// this crate's table, as `gcc --completion=-` says them, those that end with `=` with any argument. Of the words each is spelled
+/// as gcc's driver hands it on, of options of one class the last stays, and behind them stands what gcc's driver adds: words that
+/// begin with `--gdrv-` are for the spec file.
+///
+/// # Errors
+/// An allocation was refused.
+pub fn front(
+    alloc: Global,
+    known: &[Word],
+    around: &Surroundings,
+    args: &[Word],
+) -> Result<Answer, AllocError>
+    ensures { IfOk result (λ answer. answer ≡ front_of known.now around.now args.now) }
+{
+    let items = items_of(alloc, known, args)?;
+    answer_of(alloc, around, items.as_slice())
+}

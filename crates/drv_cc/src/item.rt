@@ -1,0 +1,100 @@
+//! What a word of the line gives.
+
+ghost use Rattle.drv_cc.specs.Building.{shown};
+ghost use Rattle.drv_cc.specs.Items.{by_row, item, plain, words_of};
+ghost use Rattle.std.specs.Prelude.{◌≡◌, ◌++◌, IfOk, OnOk};
+
+use crate::classes::class_of;
+use crate::table::{Form, Part, Row};
+use drv_words::{Listing, Word};
+use std::alloc::{AllocError, Global};
+
+/// An item of the line.
+#[derive(Drop)]
+pub(crate) struct Item {
+    /// The name that the option is called by, or the word.
+    pub(crate) name: Word,
+    /// The option's argument.
+    pub(crate) argument: Word,
+    /// How it is spelled.
+    pub(crate) form: Form,
+    /// What it is on the line.
+    pub(crate) part: Part,
+    /// The class of which the last item stays; empty where it has none.
+    pub(crate) class: Word,
+}
+
+impl Clone for Item {
+    ghost is_clone = { λ item copy. copy ≡ item };
+
+    fn clone(&self) -> Result<Item, AllocError> {
+        Ok(Item {
+            name: self.name.clone()?,
+            argument: self.argument.clone()?,
+            form: self.form,
+            part: self.part,
+            class: self.class.clone()?,
+        })
+    }
+}
+
+impl Item {
+    /// An option with its argument.
+    pub(crate) fn new(
+        alloc: Global,
+        name: &[u8],
+        argument: &[u8],
+        form: Form,
+        part: Part,
+    ) -> Result<Item, AllocError>
+        ensures { IfOk result (λ made. made ≡ item name.now argument.now form part) }
+    {
+        Ok(Item {
+            name: Word::from_bytes(alloc, name)?,
+            argument: Word::from_bytes(alloc, argument)?,
+            form,
+            part,
+            class: class_of(alloc, form, name)?,
+        })
+    }
+
+    /// A word that is no option.
+    pub(crate) fn plain(alloc: Global, part: Part, word: &[u8]) -> Result<Item, AllocError>
+        ensures { IfOk result (λ made. made ≡ plain part word.now) }
+    {
+        Ok(Item {
+            name: Word::from_bytes(alloc, word)?,
+            argument: Word::empty(alloc),
+            form: Form::Alone,
+            part,
+            class: Word::empty(alloc),
+        })
+    }
+
+    /// The option of a row with its argument.
+    pub(crate) fn by_row(alloc: Global, row: Row, argument: &[u8]) -> Result<Item, AllocError>
+        ensures { IfOk result (λ made. made ≡ by_row (shown row) argument.now) }
+    {
+        Item::new(alloc, row.name, argument, row.form, row.part)
+    }
+
+    /// Adds the words that it is spelled as.
+    pub(crate) fn add_words(&self, words: &mut Listing<Word>) -> Result<(), AllocError>
+        ensures { OnOk result (words.new ≡ words.old ++ words_of self.now) }
+    {
+        match self.form {
+            Form::Alone => words.push(self.name.clone()?)?,
+            Form::Joined => {
+                let mut word = self.name.clone()?;
+                word.extend_from_slice(self.argument.as_bytes())?;
+                words.push(word)?;
+            }
+            Form::Separate => {
+                words.push(self.name.clone()?)?;
+                words.push(self.argument.clone()?)?;
+            }
+            Form::Nowhere => {}
+        }
+        Ok(())
+    }
+}

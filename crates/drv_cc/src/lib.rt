@@ -1,0 +1,26 @@
+//! A line of `gcc` as words of the driver.
+#![tactic(auto)]
+
+mod adding;
+mod answer;
+mod checks;
+mod classes;
+mod fronting;
+mod item;
+mod judging;
+mod keeping;
+mod levels;
+mod names;
+mod quoting;
+mod reading;
+mod refusal;
+mod renaming;
+mod rows;
+mod sides;
+mod sources;
+mod table;
+mod words;
+
+pub use answer::{Answer, Call, Surroundings, Variable};
+pub use fronting::front;
+pub use refusal::Refusal;

@@ -1,0 +1,158 @@
+//! A line read as a list of items.
+
+ghost use Rattle.drv_cc.specs.Building.{Notes, row_shown, shown, start_shown};
+ghost use Rattle.drv_cc.specs.Items.{beyond, first_row, head_of, is_among, is_file, items_of, renamed, start_of, start_renamed, with_rest};
+ghost use Rattle.std.specs.Prelude.{◌≡◌, IfOk, None, drop, length};
+
+use crate::classes::{ignored, paired, stands_in};
+use crate::item::Item;
+use crate::renaming::renamed;
+use crate::table::{Form, Part, Row, Takes, first_row};
+use drv_words::{Listing, Word};
+use std::alloc::{AllocError, Global};
+
+/// How a word begins.
+#[derive(Drop)]
+enum Start {
+    /// It is an item.
+    Whole(Item),
+    /// It is an option that wants the next word.
+    Wants(Row),
+}
+
+/// The rest of a word behind an option.
+pub(crate) fn rest_behind<'a>(word: &'a [u8], option: &[u8]) -> &'a [u8]
+    ensures { result.now ≡ drop (length option.now) word.now }
+{
+    if option.len() <= word.len() {
+        &word[option.len()..]
+    } else {
+        &[]
+    }
+}
+
+/// An option with what stands behind it in its word.
+fn with_rest(alloc: Global, row: Row, rest: &[u8]) -> Result<Start, AllocError>
+    ensures { IfOk result (λ start. start_shown start ≡ with_rest row.takes (shown row) rest.now) }
+{
+    match row.takes {
+        Takes::Nothing => Ok(Start::Whole(Item::by_row(alloc, row, b"")?)),
+        Takes::Next => Ok(Start::Wants(row)),
+        Takes::Either if rest.is_empty() => Ok(Start::Wants(row)),
+        Takes::Behind if rest.is_empty() => {
+            Ok(Start::Whole(Item::plain(alloc, Part::Lacking, row.option)?))
+        }
+        Takes::Behind | Takes::Rest | Takes::Either => {
+            Ok(Start::Whole(Item::by_row(alloc, row, rest)?))
+        }
+    }
+}
+
+/// Whether a name is one of these words.
+fn knows(known: &[Word], name: &[u8]) -> bool
+    ensures { result ≡ is_among known.now name.now }
+{
+    known.iter().any(|other| name == other.as_bytes())
+}
+
+/// A word up to its first `=`, and that too.
+fn head_of(word: &[u8]) -> &[u8]
+    ensures { result.now ≡ head_of word.now }
+{
+    let mut i = 0;
+    while i < word.len() {
+        if word[i] == b'=' {
+            return &word[..i + 1];
+        }
+        i += 1;
+    }
+    word
+}
+
+/// A word that no row fits, by the name that it stands for.
+fn beyond(alloc: Global, known: &[Word], word: &[u8], name: &[u8]) -> Result<Item, AllocError>
+    ensures { IfOk result (λ item. item ≡ beyond known.now word.now name.now) }
+{
+    let positive = paired(alloc, name)?;
+    if stands_in(ignored(), positive.as_bytes()) {
+        return Item::new(alloc, name, b"", Form::Nowhere, Part::Switch);
+    }
+    if name.starts_with(b"-Wno-") || knows(known, name) || knows(known, head_of(name)) {
+        return Item::new(alloc, name, b"", Form::Alone, Part::Switch);
+    }
+    Item::plain(alloc, Part::Unknown, word)
+}
+
+/// How a word begins that no row fits.
+fn start_renamed(alloc: Global, known: &[Word], word: &[u8]) -> Result<Start, AllocError>
+    ensures { IfOk result (λ start. start_shown start ≡ start_renamed known.now word.now (renamed word.now) (first_row (renamed word.now))) }
+{
+    let name = renamed(alloc, word)?;
+    match first_row(name.as_bytes()) {
+        Some(row) => with_rest(alloc, row, rest_behind(name.as_bytes(), row.option)),
+        None => Ok(Start::Whole(beyond(alloc, known, word, name.as_bytes())?)),
+    }
+}
+
+/// Whether a word is no option.
+fn is_file(word: &[u8]) -> bool
+    ensures { result ≡ is_file word.now }
+{
+    !matches!(word, [b'-', _, ..])
+}
+
+/// How a word begins.
+fn start_of(alloc: Global, known: &[Word], word: &[u8]) -> Result<Start, AllocError>
+    ensures { IfOk result (λ start. start_shown start ≡ start_of known.now word.now) }
+{
+    if is_file(word) {
+        return Ok(Start::Whole(Item::plain(alloc, Part::Input, word)?));
+    }
+    match first_row(word) {
+        Some(row) => with_rest(alloc, row, rest_behind(word, row.option)),
+        None => start_renamed(alloc, known, word),
+    }
+}
+
+/// Notes a word, where the option of a row wants its argument or none does; what it gives is the row that wants the next word.
+#[tactic(auto, using(crate::proofs::Noted::wanted_noted, crate::proofs::Noted::wants_noted, crate::proofs::Noted::whole_noted))]
+fn note_word(
+    alloc: Global,
+    known: &[Word],
+    items: &mut Listing<Item>,
+    wanting: Option<Row>,
+    word: &[u8],
+) -> Result<Option<Row>, AllocError>
+    ensures { IfOk result (Notes known.now items.old items.new (row_shown wanting) word.now) }
+{
+    if let Some(row) = wanting {
+        items.push(Item::by_row(alloc, row, word)?)?;
+        return Ok(None);
+    }
+    match start_of(alloc, known, word)? {
+        Start::Wants(row) => Ok(Some(row)),
+        Start::Whole(item) => {
+            items.push(item)?;
+            Ok(None)
+        }
+    }
+}
+
+/// The items of a line.
+pub(crate) fn items_of(
+    alloc: Global,
+    known: &[Word],
+    words: &[Word],
+) -> Result<Listing<Item>, AllocError>
+    ensures { IfOk result (λ items. items ≡ items_of known.now None words.now) }
+{
+    let mut items = Listing::new(alloc);
+    let mut wanting = None;
+    for word in words {
+        wanting = note_word(alloc, known, &mut items, wanting, word.as_bytes())?;
+    }
+    if let Some(row) = wanting {
+        items.push(Item::plain(alloc, Part::Lacking, row.option)?)?;
+    }
+    Ok(items)
+}

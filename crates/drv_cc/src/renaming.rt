@@ -1,0 +1,76 @@
+//! What other long names stand for.
+
+ghost use Rattle.drv_cc.specs.Building.{pair_shown};
+ghost use Rattle.drv_cc.specs.Items.{is_longer, renamed};
+ghost use Rattle.drv_cc.specs.Table.{renames};
+ghost use Rattle.std.specs.Option.{option_map};
+ghost use Rattle.std.specs.Prelude.{◌≡◌, IfOk, find, map};
+
+use crate::reading::rest_behind;
+use drv_words::Word;
+use std::alloc::{AllocError, Global};
+
+/// The beginning of long names, and that of the options that they stand for.
+#[derive(Clone, Copy)]
+pub(crate) struct Rename {
+    /// The beginning of the long name.
+    pub(crate) from: &'static [u8],
+    /// The beginning of the option.
+    pub(crate) to: &'static [u8],
+}
+
+/// Beginnings of long names.
+macro_rules! renames {
+    ($($from:literal => $to:literal;)+) => { [$(Rename { from: $from, to: $to }),+] };
+}
+
+/// The beginnings of long names (GCC, "opts-common.cc", the map of options).
+const RENAMES: [Rename; 7] = renames! {
+    b"--debug=" => b"-g";
+    b"--machine-" => b"-m";
+    b"--machine=" => b"-m";
+    b"--optimize=" => b"-O";
+    b"--std=" => b"-std=";
+    b"--warn-" => b"-W";
+    b"--" => b"-f";
+};
+
+/// All of them.
+fn renames() -> &'static [Rename]
+    ensures { map pair_shown result.now ≡ renames }
+{
+    &RENAMES
+}
+
+impl Rename {
+    /// Whether a word begins so, and goes on behind it.
+    fn fits(&self, word: &[u8]) -> bool
+        ensures { result ≡ is_longer word.now (pair_shown self.now) }
+    {
+        word.starts_with(self.from) && self.from.len() < word.len()
+    }
+}
+
+/// The first that fits a word.
+fn rename_of(word: &[u8]) -> Option<Rename>
+    ensures { option_map pair_shown result ≡ find (is_longer word.now) renames }
+{
+    for rename in renames() {
+        if rename.fits(word) {
+            return Some(*rename);
+        }
+    }
+    None
+}
+
+/// The option that a long name stands for.
+pub(crate) fn renamed(alloc: Global, word: &[u8]) -> Result<Word, AllocError>
+    ensures { IfOk result (λ name. name ≡ renamed word.now) }
+{
+    let Some(rename) = rename_of(word) else {
+        return Word::from_bytes(alloc, word);
+    };
+    let mut name = Word::from_bytes(alloc, rename.to)?;
+    name.extend_from_slice(rest_behind(word, rename.from))?;
+    Ok(name)
+}

@@ -1,0 +1,187 @@
+//! The files and the sources of a line.
+
+ghost use Rattle.drv_cc.specs.Building.{count_of, count_shown, counted, counted_only, is_counted, kinds_shown};
+ghost use Rattle.drv_cc.specs.Kept.{is_file_part};
+ghost use Rattle.drv_cc.specs.SideFiles.{files, inputs, is_looked_for, is_some, is_source, language_by, only, sources, worked};
+ghost use Rattle.std.specs.Option.{option_map};
+ghost use Rattle.std.specs.Prelude.{◌≡◌, IfOk};
+
+use crate::classes::{is, stands_in};
+use crate::item::Item;
+use crate::names::suffix;
+use crate::table::Part;
+use drv_words::{Listing, Word};
+use std::alloc::{AllocError, Global};
+
+/// Kinds of sources: their suffixes and their languages (GCC manual, "Overall Options").
+#[derive(Clone, Copy)]
+pub(crate) enum Kinds {
+    /// C.
+    Compiled,
+    /// C and assembler.
+    Worked,
+}
+
+impl Kinds {
+    /// Their suffixes, with blanks between.
+    fn suffixes(self) -> &'static [u8]
+        ensures { result.now ≡ (kinds_shown self).0 }
+    {
+        match self {
+            Kinds::Compiled => b".c .i .h",
+            Kinds::Worked => b".c .i .h .s .S .sx",
+        }
+    }
+
+    /// Their languages, with blanks between.
+    fn languages(self) -> &'static [u8]
+        ensures { result.now ≡ (kinds_shown self).1 }
+    {
+        match self {
+            Kinds::Compiled => b"c c-header cpp-output",
+            Kinds::Worked => b"c c-header cpp-output assembler assembler-with-cpp",
+        }
+    }
+
+    /// Whether a file of a language, or of none, is one.
+    fn is_source(self, language: &[u8], name: &[u8]) -> bool
+        ensures { result ≡ is_source (kinds_shown self) language.now name.now }
+    {
+        if 0 < language.len() {
+            stands_in(self.languages(), language)
+        } else {
+            stands_in(self.suffixes(), suffix(name))
+        }
+    }
+}
+
+/// What there is of something.
+#[derive(Clone, Copy)]
+pub(crate) enum Count<'a> {
+    /// There is none.
+    Nothing,
+    /// There is this one alone.
+    One(&'a [u8]),
+    /// There are more.
+    Several,
+}
+
+impl<'a> Count<'a> {
+    /// With one more.
+    fn with(self, name: &'a [u8]) -> Count<'a>
+        ensures { count_shown result ≡ counted (count_shown self.entry) name.now }
+    {
+        match self {
+            Count::Nothing => Count::One(name),
+            Count::One(_) | Count::Several => Count::Several,
+        }
+    }
+
+    /// Whether there is one.
+    fn is_some(self) -> bool
+        ensures { result ≡ is_counted (count_shown self.entry) }
+    {
+        !matches!(self, Count::Nothing)
+    }
+
+    /// The only one, if there is one alone.
+    fn only(self) -> Option<&'a [u8]>
+        ensures { option_map (λ name. name.now) result ≡ counted_only (count_shown self.entry) }
+    {
+        match self {
+            Count::One(name) => Some(name),
+            Count::Nothing | Count::Several => None,
+        }
+    }
+}
+
+/// Whether an item is a file.
+fn is_file(item: &Item) -> bool
+    ensures { result ≡ is_file_part item.now.part }
+{
+    matches!(item.part, Part::Input)
+}
+
+/// Whether an item is a file that is looked for; `-` is the standard input.
+fn is_looked_for(item: &Item) -> bool
+    ensures { result ≡ is_looked_for item.now }
+{
+    is_file(item) && !is(item.name.as_bytes(), b"-")
+}
+
+/// The files that are looked for.
+pub(crate) fn inputs(alloc: Global, items: &[Item]) -> Result<Listing<Word>, AllocError>
+    ensures { IfOk result (λ names. names ≡ inputs items.now) }
+{
+    let mut names = Listing::new(alloc);
+    for item in items {
+        if is_looked_for(item) {
+            names.push(item.name.clone()?)?;
+        }
+    }
+    Ok(names)
+}
+
+/// The files.
+fn files(items: &[Item]) -> Count<'_>
+    ensures { count_shown result ≡ count_of (files items.now) }
+{
+    let mut count = Count::Nothing;
+    for item in items {
+        if is_file(item) {
+            count = count.with(item.name.as_bytes());
+        }
+    }
+    count
+}
+
+/// The language of the files behind an item.
+fn language_by<'a>(language: &'a [u8], item: &'a Item) -> &'a [u8]
+    ensures { result.now ≡ language_by language.now item.now }
+{
+    if !is(item.name.as_bytes(), b"-x") {
+        return language;
+    }
+    let argument = item.argument.as_bytes();
+    if is(argument, b"none") { &[] } else { argument }
+}
+
+/// The sources of these kinds.
+fn sources(kinds: Kinds, items: &[Item]) -> Count<'_>
+    ensures { count_shown result ≡ count_of (sources (kinds_shown kinds) items.now) }
+{
+    let mut count = Count::Nothing;
+    let mut language: &[u8] = &[];
+    for item in items {
+        let name = item.name.as_bytes();
+        if is_file(item) && kinds.is_source(language, name) {
+            count = count.with(name);
+        }
+        language = language_by(language, item);
+    }
+    count
+}
+
+/// The only file, if there is one alone.
+#[tactic(auto, using(crate::proofs::Counts::only_of))]
+pub(crate) fn only_file(items: &[Item]) -> Option<&[u8]>
+    ensures { option_map (λ name. name.now) result ≡ only (files items.now) }
+{
+    files(items).only()
+}
+
+/// The only source of these kinds, if there is one alone.
+#[tactic(auto, using(crate::proofs::Counts::only_of))]
+pub(crate) fn only_source(kinds: Kinds, items: &[Item]) -> Option<&[u8]>
+    ensures { option_map (λ name. name.now) result ≡ only (sources (kinds_shown kinds) items.now) }
+{
+    sources(kinds, items).only()
+}
+
+/// Whether there is a source.
+#[tactic(auto, using(crate::proofs::Counts::some_of))]
+pub(crate) fn has_source(items: &[Item]) -> bool
+    ensures { result ≡ is_some (sources worked items.now) }
+{
+    sources(Kinds::Worked, items).is_some()
+}
