@@ -39,6 +39,7 @@ pub mod WalkStars
 pub mod WalkTests
 pub mod Unrefused
 pub mod Wanted
+pub mod RunLengths
 pub mod Runs
 pub mod WholeItems
 pub mod Words

@@ -1,10 +1,7 @@
 //! What the bytes of spec texts can be.
 
 ghost use Rattle.drv_syntax.specs.Bytes as bytes;
-ghost use Rattle.drv_syntax.specs.Reader.Steps as steps;
 ghost use Rattle.std.specs.Prelude.{◌≡◌, ◌++◌, ◌∷◌, []};
-
-use crate::reader::stages::ListKind;
 
 /// In a word of a test.
 pub fn is_word(b: u8) -> bool
@@ -25,18 +22,6 @@ pub fn is_suffix(b: u8) -> bool
     ensures { result ≡ bytes.is_suffix b }
 {
     b == b'.' || b.is_ascii_alphabetic()
-}
-
-/// Stands for itself in such a list, and does nothing else there.
-pub fn is_run(kind: ListKind, b: u8) -> bool
-    ensures { result ≡ steps.runs kind b }
-{
-    let plain = !matches!(b, b'\\' | b'%' | b'|' | b' ' | b'\t' | b'\n');
-    match kind {
-        ListKind::Top => plain,
-        ListKind::InX => plain && b != b';' && b != b'}',
-        ListKind::InArguments => plain && b != b')',
-    }
 }
 
 /// A space or a tab.

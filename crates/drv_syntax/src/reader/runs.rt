@@ -1,5 +1,7 @@
 //! Bytes that go on as the byte before them did, taken at once.
 
+ghost use Rattle.bstr.specs.Bytes.{is_in};
+ghost use Rattle.bstr.specs.Find.{IsFirstByte};
 ghost use Rattle.drv_syntax.specs.Bytes as bytes;
 ghost use Rattle.drv_syntax.specs.Reader.States.{Runs, Turns, state};
 ghost use Rattle.drv_syntax.specs.Reader.Steps as steps;
@@ -8,24 +10,33 @@ ghost use Rattle.std.specs.List.{prefix_len};
 ghost use Rattle.std.specs.Prelude.{◌≡◌, ◌<◌, ◌≤◌, ◌^◌, ◌+◌, ◌-◌, ◌++◌, ◌∷◌, IfOk, OnOk, Ok, length, take};
 
 use crate::fault::SyntaxFault;
-use crate::reader::bytes::{is_name, is_run, is_suffix, is_word};
+use crate::reader::bytes::{is_name, is_suffix, is_word};
 use crate::reader::edits::with_plains;
 use crate::reader::list_steps::start;
 use crate::reader::stages::{Form, Head, HeadStage, ListKind, ListStage, Stage};
 use crate::reader::steps::step;
 use crate::reader::walk::Walk;
 use crate::token::TempKind;
+use bstr::ByteSlice;
+
+/// Where the first byte of a text is that does more in such a list than stand for itself.
+fn first_stop(kind: ListKind, text: &[u8]) -> Option<usize>
+    ensures { IsFirstByte (is_in (steps.stops kind)) text.now result }
+{
+    match kind {
+        ListKind::Top => text.find_byteset(b"\\%| \t\n"),
+        ListKind::InX => text.find_byteset(b"\\%| \t\n;}"),
+        ListKind::InArguments => text.find_byteset(b"\\%| \t\n)"),
+    }
+}
 
 /// How many bytes a text begins with that stand for themselves in such a list.
+#[tactic(auto, using(crate::proofs::RunLengths::run_found, crate::proofs::RunLengths::run_within))]
 fn run_length(kind: ListKind, text: &[u8]) -> usize
     ensures run { result ≡ prefix_len (steps.runs kind) text.now }
     ensures within { result ≤ length text.now }
 {
-    let mut length = 0;
-    while length < text.len() && is_run(kind, text[length]) {
-        length += 1;
-    }
-    length
+    first_stop(kind, text).unwrap_or(text.len())
 }
 
 /// How many bytes of a name a text begins with.
