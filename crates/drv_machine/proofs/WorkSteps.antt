@@ -1,4 +1,5 @@
 use Rattle.drv_machine.proofs.ItemKinds.{inner_step}
+use Rattle.drv_machine.specs.Atoms.{leaf_step}
 use Rattle.drv_machine.specs.ByKind.{Means, kind_step}
 use Rattle.drv_machine.specs.Context.{Context}
 use Rattle.drv_machine.specs.Running.{Machine, run}
@@ -9,6 +10,7 @@ use Rattle.drv_syntax.specs.Parsed.{tree_of}
 use Rattle.drv_syntax.specs.Tokens.{kind_of}
 use Rattle.drv_syntax.specs.Tree as tree
 use Rattle.drv_syntax.specs.Tree.{Item}
+use Rattle.drv_syntax.specs.declared.token.Leaf.{Leaf}
 use Rattle.drv_syntax.specs.declared.token.TokenKind.{TokenKind}
 use Rattle.drv_system.specs.Facts.{Facts}
 use Rattle.std.proofs.Common.{◌≡◌, List, ap, refl, sym, ℕ}
@@ -23,23 +25,9 @@ item_means F C text at end levels star (tree.Escape b) s = tt
 item_means F C text at end levels star tree.Blank s = tt
 item_means F C text at end levels star tree.Newline s = tt
 item_means F C text at end levels star tree.Pipe s = tt
-item_means F C text at end levels star tree.Percent s = tt
-item_means F C text at end levels star tree.InputName s = tt
-item_means F C text at end levels star tree.BaseStem s = tt
-item_means F C text at end levels star tree.BaseName s = tt
-item_means F C text at end levels star tree.ObjectSuffix s = tt
+item_means F C text at end levels star (tree.Leaf leaf) s = tt
 item_means F C text at end levels star (tree.TempName kind suffix) s = tt
-item_means F C text at end levels star tree.Removed s = tt
-item_means F C text at end levels star tree.Output s = tt
-item_means F C text at end levels star tree.NoOutput s = tt
-item_means F C text at end levels star tree.FoundFile s = tt
-item_means F C text at end levels star tree.FoundScript s = tt
-item_means F C text at end levels star tree.Directories s = tt
-item_means F C text at end levels star tree.Outputs s = tt
 item_means F C text at end levels star (tree.AddOption option) s = tt
-item_means F C text at end levels star tree.LinkerOptions s = tt
-item_means F C text at end levels star tree.AssemblerOptions s = tt
-item_means F C text at end levels star tree.PreprocessorOptions s = tt
 item_means F C text at end levels star (tree.UserError words) s = tt
 item_means F C text at end levels star (tree.Notice words) s = tt
 item_means F C text at end levels star (tree.NamedText name) s = tt
@@ -55,3 +43,6 @@ item_means F C text at end levels star (tree.ArgumentsFile brace) s = tt
 pub by_kind : (F : Facts) (C : Context) (s : Machine) (kind k : TokenKind) (text : List ℕ) (at : ℕ) (star : List ℕ) (inner : Step (Unit {0})) → kind ≡ k
     → run F C s (kind_step F C k (label_at (tree_of text) at) star inner) ≡ run F C s (kind_step F C kind (label_at (tree_of text) at) star inner)
 by_kind F C s kind k text at star inner e = ap (λ x. run F C s (kind_step F C x (label_at (tree_of text) at) star inner)) (sym e)
+
+pub by_leaf : (F : Facts) (C : Context) (s : Machine) (leaf l : Leaf) → leaf ≡ l → run F C s (leaf_step F C l) ≡ run F C s (leaf_step F C leaf)
+by_leaf F C s leaf l e = ap (λ x. run F C s (leaf_step F C x)) (sym e)

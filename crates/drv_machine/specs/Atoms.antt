@@ -16,7 +16,10 @@ use Rattle.drv_syntax.specs.declared.token.TempKind.TheVariants.{Last, New, Pipe
 use Rattle.drv_syntax.specs.declared.token.TempKind.{TempKind}
 use Rattle.drv_syntax.specs.Parsed.{tree_of}
 use Rattle.drv_syntax.specs.Stars.{has_star}
-use Rattle.drv_syntax.specs.Tree.{AddOption, ArgumentsFile, Asked, AssemblerOptions, BaseName, BaseStem, Blank, Brace, Braces, BuiltinText, Choices, Choose, Directories, Emit, Escape, FailureFile, FoundFile, FoundScript, Function, HasLanguage, HasResult, HasSuffix, HasSwitch, Hide, InputName, Item, Items, LinkerOptions, NamedText, Newline, NoOutput, Notice, ObjectSuffix, Output, Outputs, Pattern, Percent, Pipe, Plain, PreprocessorOptions, Removed, Span, Star, TempName, Tests, UserError, choice, more, no_choice, no_test, none, pattern, test}
+use Rattle.drv_syntax.specs.Tree as tree
+use Rattle.drv_syntax.specs.Tree.{AddOption, ArgumentsFile, Asked, Blank, Brace, Braces, BuiltinText, Choices, Choose, Emit, Escape, FailureFile, Function, HasLanguage, HasResult, HasSuffix, HasSwitch, Hide, Item, Items, NamedText, Newline, Notice, Pattern, Pipe, Plain, Span, Star, TempName, Tests, UserError, choice, more, no_choice, no_test, none, pattern, test}
+use Rattle.drv_syntax.specs.declared.token.Leaf.TheVariants.{AssemblerOptions, BaseName, BaseStem, Directories, FoundFile, FoundScript, InputName, LinkerOptions, NoOutput, ObjectSuffix, Output, Outputs, Percent, PreprocessorOptions, Removed}
+use Rattle.drv_syntax.specs.declared.token.Leaf.{Leaf}
 use Rattle.drv_system.specs.Facts.{Facts}
 use Rattle.drv_system.specs.Known.{Is, Unasked}
 use Rattle.drv_words.specs.Bytes.{at_sign, hyphen, percent}
@@ -183,6 +186,24 @@ module _ (F : Facts) (C : Context) where
   worked (Some (HasSwitch p)) true X levels star others = each_hit p X levels places
   worked (Some asked) own X levels star others = X star levels
 
+  -- the directives that are whole with their byte
+  abbrev pub leaf_step : Leaf → Step (Unit {0})
+  leaf_step Percent = puts (Put percent ∷ [])  -- %%
+  leaf_step InputName = input_name >>= bytes  -- %i
+  leaf_step BaseStem = input_name >>= λ name. bytes (stem name)  -- %b
+  leaf_step BaseName = input_name >>= λ name. bytes (base name)  -- %B
+  leaf_step Removed = puts (Marked AsRemoved ∷ [])  -- %d
+  leaf_step Output = puts (Marked AsOutput ∷ [])  -- %w
+  leaf_step NoOutput = puts (Without ∷ [])  -- %V
+  leaf_step Outputs = outputs_step  -- %o
+  leaf_step ObjectSuffix = bytes (codes ".o")  -- %O
+  leaf_step FoundFile = puts (Marked AsFile ∷ [])  -- %s
+  leaf_step FoundScript = puts (Marked AsScript ∷ [])  -- %T
+  leaf_step LinkerOptions = options_step  -- %X
+  leaf_step AssemblerOptions = puts (words C.assembler)  -- %Y
+  leaf_step PreprocessorOptions = puts (words C.preprocessor)  -- %Z
+  leaf_step Directories = folders_step  -- %D
+
   -- the rows. `star` is what %* stands for; `levels` has a place for each part that may still be opened
   abbrev mutual
     pub item_step : Item → Levels → List ℕ → Step (Unit {0})
@@ -191,36 +212,22 @@ module _ (F : Facts) (C : Context) where
     item_step Blank levels star = puts (Break ∷ [])
     item_step Newline levels star = puts (Break ∷ End ∷ [])
     item_step Pipe levels star = puts (Piped ∷ [])
-    item_step Percent levels star = puts (Put percent ∷ [])
-    item_step InputName levels star = input_name >>= bytes
-    item_step BaseStem levels star = input_name >>= λ name. bytes (stem name)
-    item_step BaseName levels star = input_name >>= λ name. bytes (base name)
-    item_step ObjectSuffix levels star = bytes (codes ".o")
-    item_step (TempName kind suffix) levels star = temp_step kind suffix
-    item_step Removed levels star = puts (Marked AsRemoved ∷ [])
-    item_step Output levels star = puts (Marked AsOutput ∷ [])
-    item_step NoOutput levels star = puts (Without ∷ [])
-    item_step FoundFile levels star = puts (Marked AsFile ∷ [])
-    item_step FoundScript levels star = puts (Marked AsScript ∷ [])
-    item_step Directories levels star = folders_step
-    item_step Outputs levels star = outputs_step
-    item_step (AddOption option) levels star = change (λ w. record w { options = added option w.options })
-    item_step LinkerOptions levels star = options_step
-    item_step AssemblerOptions levels star = puts (words C.assembler)
-    item_step PreprocessorOptions levels star = puts (words C.preprocessor)
-    item_step (UserError text) levels star = refuse (fault.UserError text)
-    item_step (Notice text) levels star = change (λ w. record w { notices = w.notices ++ text ∷ [] })
-    item_step (NamedText name) levels star = named (tree_named name) levels
-    item_step (BuiltinText name) levels star = named (tree_named name) levels
-    item_step (Hide p) levels star = change (λ w. record w { hidden = hidden_by (matching p) (names C) w.hidden })
+    item_step (tree.Leaf leaf) levels star = leaf_step leaf
+    item_step (TempName kind suffix) levels star = temp_step kind suffix  -- %g %u %U %| %m
+    item_step (AddOption option) levels star = change (λ w. record w { options = added option w.options })  -- %x{..}
+    item_step (UserError text) levels star = refuse (fault.UserError text)  -- %e
+    item_step (Notice text) levels star = change (λ w. record w { notices = w.notices ++ text ∷ [] })  -- %n
+    item_step (NamedText name) levels star = named (tree_named name) levels  -- %(..)
+    item_step (BuiltinText name) levels star = named (tree_named name) levels  -- %a %A %l %L %G %S %E %C %1 %2
+    item_step (Hide p) levels star = change (λ w. record w { hidden = hidden_by (matching p) (names C) w.hidden })  -- %< %>
     item_step (Function name items) levels star =
-        opened levels (λ deeper inside. arguments (items_step items inside star) >>= value_step name)
-    item_step (Braces brace) levels star = brace_step brace levels star
-    item_step Star levels star = bytes star
+        opened levels (λ deeper inside. arguments (items_step items inside star) >>= value_step name)  -- %:NAME(..)
+    item_step (Braces brace) levels star = brace_step brace levels star  -- %{..}
+    item_step Star levels star = bytes star  -- %*
     item_step (FailureFile brace) levels star =
-        opened levels (λ deeper inside. puts (From ∷ []) >> brace_step brace inside star >> puts (Break ∷ To ∷ []))
+        opened levels (λ deeper inside. puts (From ∷ []) >> brace_step brace inside star >> puts (Break ∷ To ∷ []))  -- %W{..}
     item_step (ArgumentsFile brace) levels star =
-        opened levels (λ deeper inside. look starts_file >>= λ starts. if starts then file_step (brace_step brace inside star) else brace_step brace inside star)
+        opened levels (λ deeper inside. look starts_file >>= λ starts. if starts then file_step (brace_step brace inside star) else brace_step brace inside star)  -- %@{..}
 
     -- items one after another, each counted before it is worked
     pub items_step : Items → Levels → List ℕ → Step (Unit {0})

@@ -1,15 +1,14 @@
-use Rattle.drv_machine.specs.Atoms.{added, choices_step, emitted, first_true, folders_step, input_name, judged, options_step, outputs_step, switch_atoms, temp_step, truth}
+use Rattle.drv_machine.specs.Atoms.{added, choices_step, emitted, first_true, judged, leaf_step, switch_atoms, temp_step, truth}
 use Rattle.drv_machine.specs.Context.{Context, names}
-use Rattle.drv_machine.specs.Names.{base, is_word, language_of, stem, suffix_of}
+use Rattle.drv_machine.specs.Names.{is_word, language_of, suffix_of}
 use Rattle.drv_machine.specs.Running.{Machine, run}
 use Rattle.drv_machine.specs.Standing.{Part, Stands}
-use Rattle.drv_machine.specs.Working.{◌>>=◌, Atom, Break, End, Levels, Marked, Piped, Step, Without, bytes, change, give, look, nothing, puts, refuse, words}
+use Rattle.drv_machine.specs.Working.{◌>>=◌, Atom, Break, End, Levels, Piped, Step, bytes, change, give, look, nothing, puts, refuse}
 use Rattle.drv_machine.specs.declared.asking.Judged.TheVariants as found
 use Rattle.drv_machine.specs.declared.asking.Judged.{Judged}
 use Rattle.drv_machine.specs.declared.fault.MachineFault.TheVariants as fault
 use Rattle.drv_machine.specs.declared.fault.MachineFault.TheVariants.{Memory}
 use Rattle.drv_machine.specs.declared.fault.MachineFault.{MachineFault}
-use Rattle.drv_machine.specs.declared.machine.marking.Mark.TheVariants.{AsFile, AsOutput, AsRemoved, AsScript}
 use Rattle.drv_match.specs.Matching.{hidden_by, hits, is_hit}
 use Rattle.drv_match.specs.Pattern as switches
 use Rattle.drv_syntax.specs.Labels.{Label, choice_nodes, label_at, labels_of, nodes_of, pattern_nodes, test_label, test_nodes}
@@ -22,9 +21,8 @@ use Rattle.drv_syntax.specs.declared.token.TokenKind.TheVariants as kinds
 use Rattle.drv_syntax.specs.declared.token.TokenKind.{TokenKind}
 use Rattle.drv_system.specs.Facts.{Facts}
 use Rattle.drv_system.specs.Known.{Is}
-use Rattle.drv_words.specs.Bytes.{percent}
 use Rattle.std.specs.List.{filter, flat_map, list_any, range_with_len}
-use Rattle.std.specs.Prelude.{◌≡◌, ◌⊎◌, ◌+◌, ◌-◌, ◌<◌, ◌≤◌, Bool, List, [], ◌∷◌, ◌++◌, Option, None, Some, Result, Err, Ok, codes, false, length, nat_lt, true, ⊤, ℕ}
+use Rattle.std.specs.Prelude.{◌≡◌, ◌⊎◌, ◌+◌, ◌-◌, ◌<◌, ◌≤◌, Bool, List, [], ◌∷◌, ◌++◌, Option, None, Some, Result, Err, Ok, false, length, nat_lt, true, ⊤, ℕ}
 
 -- What an item means, by its kind and its label (this project's profile). For the clauses of the code alone.
 
@@ -117,11 +115,7 @@ kind_step F C kinds.Escape label star inner = bytes label.word
 kind_step F C kinds.Blank label star inner = puts (Break ∷ [])
 kind_step F C kinds.Newline label star inner = puts (Break ∷ End ∷ [])
 kind_step F C kinds.Pipe label star inner = puts (Piped ∷ [])
-kind_step F C kinds.Percent label star inner = bytes (percent ∷ [])
-kind_step F C kinds.InputName label star inner = input_name F C >>= bytes
-kind_step F C kinds.BaseStem label star inner = input_name F C >>= λ name. bytes (stem name)
-kind_step F C kinds.BaseName label star inner = input_name F C >>= λ name. bytes (base name)
-kind_step F C kinds.ObjectSuffix label star inner = bytes (codes ".o")
+kind_step F C (kinds.Leaf leaf) label star inner = leaf_step F C leaf
 kind_step F C kinds.Hide label star inner = hide_step C label
 kind_step F C kinds.Emit label star inner = inner
 kind_step F C kinds.Choose label star inner = inner
@@ -132,17 +126,7 @@ kind_step F C kinds.Function label star inner = inner
 kind_step F C kinds.ArgumentsFile label star inner = inner
 kind_step F C kinds.Star label star inner = bytes star
 kind_step F C (kinds.TempName kind) label star inner = temp_step F C kind label.word
-kind_step F C kinds.Removed label star inner = puts (Marked AsRemoved ∷ [])
-kind_step F C kinds.Output label star inner = puts (Marked AsOutput ∷ [])
-kind_step F C kinds.NoOutput label star inner = puts (Without ∷ [])
-kind_step F C kinds.FoundFile label star inner = puts (Marked AsFile ∷ [])
-kind_step F C kinds.FoundScript label star inner = puts (Marked AsScript ∷ [])
-kind_step F C kinds.Directories label star inner = folders_step F C
-kind_step F C kinds.Outputs label star inner = outputs_step F C
 kind_step F C kinds.AddOption label star inner = change (λ w. record w { options = added label.word w.options })
-kind_step F C kinds.LinkerOptions label star inner = options_step
-kind_step F C kinds.AssemblerOptions label star inner = puts (words C.assembler)
-kind_step F C kinds.PreprocessorOptions label star inner = puts (words C.preprocessor)
 kind_step F C kinds.UserError label star inner = refuse (fault.UserError label.word)
 kind_step F C kinds.Notice label star inner = change (λ w. record w { notices = w.notices ++ label.word ∷ [] })
 kind_step F C _ label star inner = nothing  -- no item

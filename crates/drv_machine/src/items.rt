@@ -1,7 +1,7 @@
 //! Items of a text that open no part.
 
 ghost use Rattle.drv_machine.specs.Asked.{Asked};
-ghost use Rattle.drv_machine.specs.Atoms.{input_name};
+ghost use Rattle.drv_machine.specs.Atoms.{input_name, leaf_step};
 ghost use Rattle.drv_machine.specs.ByKind.{Means, hide_step, kind_step};
 ghost use Rattle.drv_machine.specs.Context as specs;
 ghost use Rattle.drv_machine.specs.Running as running;
@@ -26,7 +26,7 @@ use crate::outside::Outside;
 use crate::places::pattern_at;
 use crate::walk::{Rest, star_of};
 use crate::{Context, MachineFault};
-use drv_syntax::{SpecTree, Token, TokenKind};
+use drv_syntax::{Leaf, SpecTree, Token, TokenKind};
 use drv_system::System;
 use drv_words::Word;
 use std::alloc::Global;
@@ -57,6 +57,54 @@ fn user_error(alloc: Global, text: &[u8]) -> Result<(), MachineFault>
     ensures { (F : Facts) (C : specs.Context) (s : running.Machine) → GivesKnown MachineFault.Memory (λ u. (tt, s)) result (run F C {X = Unit {0}} s (refuse (MachineFault.UserError text.now))) }
 {
     Err(MachineFault::UserError(Word::from_bytes(alloc, text)?))
+}
+
+/// Works a directive that is whole with its byte.
+#[tactic(auto, using(crate::proofs::AskedCalls::asked_none))]
+fn work_leaf<S: System>(
+    leaf: Leaf,
+    context: &Context<'_>,
+    machine: &mut Machine,
+    outside: &mut Outside<'_, S>,
+) -> Result<(), MachineFault>
+    requires sized { length machine.old.world.hidden ≡ length context.now.switches }
+    ensures asks { Asked S.events outside.old outside.new }
+    ensures does { (F : Facts) → Extends outside.new.facts.now F → GivesKnown MachineFault.Memory (λ u. (tt, machine.new)) result (run F context.now machine.old (leaf_step F context.now leaf)) }
+    ensures sized { length machine.new.world.hidden ≡ length machine.old.world.hidden }
+    ensures uncounted { OnOk result (machine.new.world.items ≡ machine.old.world.items) }
+{
+    match leaf {
+        Leaf::Percent => machine.put(b"%"),
+        Leaf::InputName => machine.put(input_name(context)?),
+        Leaf::BaseStem => machine.put(stem(input_name(context)?)),
+        Leaf::BaseName => machine.put(base(input_name(context)?)),
+        Leaf::Removed => {
+            machine.mark(Mark::AsRemoved);
+            Ok(())
+        }
+        Leaf::Output => {
+            machine.mark(Mark::AsOutput);
+            Ok(())
+        }
+        Leaf::NoOutput => {
+            machine.bar_output();
+            Ok(())
+        }
+        Leaf::Outputs => machine.put_outputs(context, outside),
+        Leaf::ObjectSuffix => machine.put(b".o"),
+        Leaf::FoundFile => {
+            machine.mark(Mark::AsFile);
+            Ok(())
+        }
+        Leaf::FoundScript => {
+            machine.mark(Mark::AsScript);
+            Ok(())
+        }
+        Leaf::LinkerOptions => machine.put_options(context, outside),
+        Leaf::AssemblerOptions => machine.put_words(context.assembler(), context, outside),
+        Leaf::PreprocessorOptions => { machine.put_words(context.preprocessor(), context, outside) }
+        Leaf::Directories => machine.put_folders(context, outside),
+    }
 }
 
 /// Works the item at a place, which is this token, and opens no part and has no alternatives; `star` is what `%*` stands
@@ -91,11 +139,7 @@ pub(crate) fn work_item<S: System>(
         TokenKind::Blank => machine.end_word(context, outside),
         TokenKind::Newline => machine.end_line(context, outside),
         TokenKind::Pipe => machine.pipe(context, outside),
-        TokenKind::Percent => machine.put(b"%"),
-        TokenKind::InputName => machine.put(input_name(context)?),
-        TokenKind::BaseStem => machine.put(stem(input_name(context)?)),
-        TokenKind::BaseName => machine.put(base(input_name(context)?)),
-        TokenKind::ObjectSuffix => machine.put(b".o"),
+        TokenKind::Leaf(leaf) => work_leaf(leaf, context, machine, outside),
         TokenKind::Hide => {
             hide(text, context, at, machine);
             Ok(())
@@ -103,34 +147,7 @@ pub(crate) fn work_item<S: System>(
         TokenKind::Emit => emit(text, context, at + 1, next, machine, outside),
         TokenKind::Star => machine.put(star_of(context, star)),
         TokenKind::TempName(kind) => machine.put_temp(kind, text.word(at), context, outside),
-        TokenKind::Removed => {
-            machine.mark(Mark::AsRemoved);
-            Ok(())
-        }
-        TokenKind::Output => {
-            machine.mark(Mark::AsOutput);
-            Ok(())
-        }
-        TokenKind::NoOutput => {
-            machine.bar_output();
-            Ok(())
-        }
-        TokenKind::FoundFile => {
-            machine.mark(Mark::AsFile);
-            Ok(())
-        }
-        TokenKind::FoundScript => {
-            machine.mark(Mark::AsScript);
-            Ok(())
-        }
-        TokenKind::Directories => machine.put_folders(context, outside),
-        TokenKind::Outputs => machine.put_outputs(context, outside),
         TokenKind::AddOption => machine.add_option(text.word(at)),
-        TokenKind::LinkerOptions => machine.put_options(context, outside),
-        TokenKind::AssemblerOptions => machine.put_words(context.assembler(), context, outside),
-        TokenKind::PreprocessorOptions => {
-            machine.put_words(context.preprocessor(), context, outside)
-        }
         TokenKind::UserError => user_error(machine.alloc(), text.word(at)),
         TokenKind::Notice => machine.add_notice(text.word(at)),
         TokenKind::NamedText

@@ -4,7 +4,11 @@ use Rattle.drv_syntax.proofs.Parts.{HasChoice, bar_turn, behind_asked, blank_tur
 use Rattle.drv_syntax.proofs.Patterns.{Asks, asks_words, behind_space, choosing, due_asks, due_space, negated_asks, negated_space, pattern_read, spaces_read, start_asks, start_space}
 use Rattle.drv_syntax.proofs.Leads.{Leads, and_then, closes, further, goes, one, opens, same_place, stays, to}
 use Rattle.drv_syntax.proofs.Words.{hide_read, option_read, suffix_read}
-use Rattle.drv_syntax.specs.Bytes.{BraceKind, Form, InPlace, braced, form_of, is_allowed, is_space}
+use Rattle.drv_syntax.specs.Bytes.{is_space}
+use Rattle.drv_syntax.specs.Directives.{braced, directive_of, is_allowed}
+use Rattle.drv_syntax.specs.declared.directives.BraceKind.{BraceKind}
+use Rattle.drv_syntax.specs.declared.directives.BraceKind.TheVariants.{InPlace}
+use Rattle.drv_syntax.specs.declared.directives.Directive.{Directive}
 use Rattle.drv_syntax.specs.Contexts.{Context, in_arguments, in_braces, in_x}
 use Rattle.drv_syntax.specs.Outcome as o
 use Rattle.drv_syntax.specs.Outcome.{Goes, Got, Head, Here, Opens, Place, WaitsCall, WaitsTest, WaitsX, Waiting, fresh, join, join_choices, join_tests, list_in, placed, read, tested, turn}
@@ -69,9 +73,10 @@ mutual
   item_read {c = c} s.pipe ws past n a = one (bar_turn (list c past) n)
   item_read {size} {c} (s.directive {b} {text} e d) ws past n a = goes refl (directive_read b e refl d ws past n (n + 1) (omega arith))
 
-  directive_read : {size : ℕ} {c : Context} {f : Form} {text rest : List ℕ} {item : Item} (b : ℕ) → is_allowed c.in_arguments b ≡ true → form_of b ≡ f → IsDirective size c f text item rest
+  directive_read : {size : ℕ} {c : Context} {f : Directive} {text rest : List ℕ} {item : Item} (b : ℕ) → is_allowed c.in_arguments b ≡ true → directive_of b ≡ f → IsDirective size c f text item rest
       → (ws : List Waiting) (past : Items) (at n : ℕ) → At size n (b ∷ text) → Leads ws (o.BehindPercent (list c past) at) n (b ∷ text) ws (λ m. o.AtItem (placed (list c past) at m item)) rest
   directive_read b e f s.whole ws past at n a = one (rw (e, f) refl)
+  directive_read b e f s.named ws past at n a = one (rw (e, f) refl)
   directive_read {c = c} b e f (s.temp_name {kind} q) ws past at n a = goes (rw (e, f) refl) (suffix_read ws (list c past) at kind (n + 1) q)
   directive_read {c = c} b e f (s.add_option q) ws past at n a = goes {p' = o.OptionOpen (list c past) at} (rw (e, f) refl) (goes refl (option_read ws (list c past) at (n + 1 + 1) q))
   directive_read {c = c} b e f (s.saying {kind} q r) ws past at n a = goes (rw (e, f) refl) (saying_read ws (list c past) at kind (n + 1) q r)

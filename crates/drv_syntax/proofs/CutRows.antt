@@ -4,7 +4,13 @@ use Rattle.drv_syntax.proofs.Rows.{ends_at, when}
 use Rattle.drv_syntax.proofs.RowsBraces.{on_same}
 use Rattle.drv_syntax.proofs.RowsDue.{function_row}
 use Rattle.drv_syntax.proofs.Wanted.{After, Inside, Outside, Wanted, WantsList, rest_unstarred}
-use Rattle.drv_syntax.specs.Bytes.{BraceKind, Form, InPlace, NoForm, OfStar, SayKind, Whole, WithBraces, WithCall, WithMarkedBraces, WithName, WithOption, WithPattern, WithSaying, WithSuffix, form_of, is_allowed, is_blank, is_function, is_function_front, is_name, is_option, is_suffix, is_word, said}
+use Rattle.drv_syntax.specs.Bytes.{is_blank, is_function, is_function_front, is_name, is_option, is_suffix, is_word}
+use Rattle.drv_syntax.specs.Directives.{directive_of, is_allowed, said}
+use Rattle.drv_syntax.specs.declared.directives.BraceKind.{BraceKind}
+use Rattle.drv_syntax.specs.declared.directives.BraceKind.TheVariants.{InPlace}
+use Rattle.drv_syntax.specs.declared.directives.Directive.{Directive}
+use Rattle.drv_syntax.specs.declared.directives.Directive.TheVariants.{Named, Nowhere, OfStar, Whole, WithBraces, WithCall, WithMarkedBraces, WithName, WithOption, WithPattern, WithSaying, WithSuffix}
+use Rattle.drv_syntax.specs.declared.directives.SayKind.{SayKind}
 use Rattle.drv_syntax.specs.Contexts.{Context, Mixed, Nobody, Owner, Starred, in_arguments, is_end, is_said}
 use Rattle.drv_syntax.specs.Fronts as cuts
 use Rattle.drv_syntax.specs.Fronts.{AreFrontItems, CutsBrace, CutsCall, CutsChoices, CutsDirective, CutsItem, RunsOut}
@@ -109,20 +115,21 @@ module _ (size : ℕ) (K : Outside) (ending : (c : Context) (all : Items) (rest 
   star_cut_row here at m b text Mixed g = absurd g
   star_cut_row here at m b text Starred g = absurd g
 
-  form_cut_row : (here : Here) (at m b : ℕ) (text : List ℕ) (f : Form) → CutAfter size K b text (o.turn_form here at m f) → CutsDirective size here.context f text
-  form_cut_row here at m b text NoForm g = absurd g
-  form_cut_row here at m b text (Whole item) g = absurd g
-  form_cut_row here at m b text (WithSuffix kind) g = rw g cuts.cut_suffix
-  form_cut_row here at m b text WithOption g = g
-  form_cut_row here at m b text (WithSaying kind) g = cuts.cut_saying g
-  form_cut_row here at m b text WithName g = let r = g (omega arith) in cuts.cut_name r.1 r.2
-  form_cut_row here at m b text WithPattern g = cuts.cut_hide g
-  form_cut_row here at m b text OfStar g = star_cut_row here at m b text here.context.owner g
-  form_cut_row here at m b text WithCall g =
+  directive_cut_row : (here : Here) (at m b : ℕ) (text : List ℕ) (f : Directive) → CutAfter size K b text (o.turn_directive here at m f) → CutsDirective size here.context f text
+  directive_cut_row here at m b text Nowhere g = absurd g
+  directive_cut_row here at m b text (Whole leaf) g = absurd g
+  directive_cut_row here at m b text (Named name) g = absurd g
+  directive_cut_row here at m b text (WithSuffix kind) g = rw g cuts.cut_suffix
+  directive_cut_row here at m b text WithOption g = g
+  directive_cut_row here at m b text (WithSaying kind) g = cuts.cut_saying g
+  directive_cut_row here at m b text WithName g = let r = g (omega arith) in cuts.cut_name r.1 r.2
+  directive_cut_row here at m b text WithPattern g = cuts.cut_hide g
+  directive_cut_row here at m b text OfStar g = star_cut_row here at m b text here.context.owner g
+  directive_cut_row here at m b text WithCall g =
       when (CutAfter size K b text) (here.context.levels == 0) _ _ g (λ e g. absurd g) (λ e g. cuts.cut_function (call_of size here.context text e (g refl)))
-  form_cut_row here at m b text WithBraces g =
+  directive_cut_row here at m b text WithBraces g =
       when (CutAfter size K b text) (here.context.levels == 0) _ _ g (λ e g. absurd g) (λ e g. cuts.cut_braces (brace_cut size here at InPlace text e (g refl)))
-  form_cut_row here at m b text (WithMarkedBraces kind) g = when (CutAfter size K b text) (here.context.levels == 0) _ _ g (λ e g. absurd g) (λ e g. by e g)
+  directive_cut_row here at m b text (WithMarkedBraces kind) g = when (CutAfter size K b text) (here.context.levels == 0) _ _ g (λ e g. absurd g) (λ e g. by e g)
     where
       by : (here.context.levels == 0) ≡ false → (text ≡ []) ⊎ ((rest : List ℕ) × (text ≡ 123 ∷ rest) × start_cut size (fresh here at kind) rest) → CutsDirective size here.context (WithMarkedBraces kind) text
       by e (inl x) = rw x (cuts.cut_mark e)
@@ -130,7 +137,7 @@ module _ (size : ℕ) (K : Outside) (ending : (c : Context) (all : Items) (rest 
 
   pub percent_cut_row : (here : Here) (at n b : ℕ) (text : List ℕ) → CutAfter size K b text (o.turn_percent here at n b) → CutsItem size here.context (37 ∷ b ∷ text)
   percent_cut_row here at n b text g =
-      when (CutAfter size K b text) (is_allowed here.context.in_arguments b) _ _ g (λ e g. cuts.cut_directive e (form_cut_row here at (n + 1) b text (form_of b) g)) (λ e g. absurd g)
+      when (CutAfter size K b text) (is_allowed here.context.in_arguments b) _ _ g (λ e g. cuts.cut_directive e (directive_cut_row here at (n + 1) b text (directive_of b) g)) (λ e g. absurd g)
 
   -- suffixes
 

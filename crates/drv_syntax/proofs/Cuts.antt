@@ -1,6 +1,7 @@
 use Rattle.drv_syntax.proofs.Parts.{HasChoice}
 use Rattle.drv_syntax.proofs.Wanted.{IsPatternRest, IsTestsRest, Of, Outside, Wanted}
-use Rattle.drv_syntax.specs.Bytes.{WithOption, is_function, is_function_front, is_name, is_option, is_word}
+use Rattle.drv_syntax.specs.Bytes.{is_function, is_function_front, is_name, is_option, is_word}
+use Rattle.drv_syntax.specs.declared.directives.Directive.TheVariants.{WithOption}
 use Rattle.drv_syntax.specs.Contexts.{Context, Top, in_arguments, in_braces, in_x, is_end, is_said}
 use Rattle.drv_syntax.specs.Fronts.{AreFrontItems, CutsAsked, CutsDirective, CutsItem, CutsLater, CutsPatterns, CutsTests, RunsOut}
 use Rattle.drv_syntax.specs.Outcome as o

@@ -2,7 +2,8 @@ use Rattle.drv_syntax.proofs.Patterns.{Closing, asks_mark, asks_words, behind_cl
 use Rattle.drv_syntax.proofs.FrontLeads.{IsFrontFrom, ended, on}
 use Rattle.drv_syntax.proofs.Leads.{Leads, and_then, differs, each, further, goes, one, same_place, same_run, to}
 use Rattle.drv_syntax.proofs.Words.{alike, at_front, marked_word, no_word, quoted_from, stops, stops_at}
-use Rattle.drv_syntax.specs.Bytes.{BraceKind, is_mark, is_space, is_word}
+use Rattle.drv_syntax.specs.Bytes.{is_mark, is_space, is_word}
+use Rattle.drv_syntax.specs.declared.directives.BraceKind.{BraceKind}
 use Rattle.drv_syntax.specs.Outcome as o
 use Rattle.drv_syntax.specs.Outcome.{Goes, Here, Place, Waiting, behind_pattern, emitted_item, fresh, run, turn}
 use Rattle.drv_syntax.specs.Spelling as s

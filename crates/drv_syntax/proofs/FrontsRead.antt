@@ -7,7 +7,11 @@ use Rattle.drv_syntax.proofs.Parts.{HasChoice, behind_asked, default_turn, has_c
 use Rattle.drv_syntax.proofs.Patterns.{Asks, asks_escape, asks_mark, asks_word, behind_space, choosing, due_asks, due_space, emitting, negated_asks, negated_space, pattern_space, spaces_read, start_asks, start_space}
 use Rattle.drv_syntax.proofs.Shortest.{IsFront, not_bad, shortest}
 use Rattle.drv_syntax.proofs.Words.{hide_word, marked_word, option_text, saying_text, test_word}
-use Rattle.drv_syntax.specs.Bytes.{BraceKind, Form, InPlace, form_of, is_allowed, is_function_front, is_mark, is_space, is_word}
+use Rattle.drv_syntax.specs.Bytes.{is_function_front, is_mark, is_space, is_word}
+use Rattle.drv_syntax.specs.Directives.{directive_of, is_allowed}
+use Rattle.drv_syntax.specs.declared.directives.BraceKind.{BraceKind}
+use Rattle.drv_syntax.specs.declared.directives.BraceKind.TheVariants.{InPlace}
+use Rattle.drv_syntax.specs.declared.directives.Directive.{Directive}
 use Rattle.drv_syntax.specs.Contexts.{Context, in_arguments, in_braces, in_x}
 use Rattle.drv_syntax.specs.Fronts as cuts
 use Rattle.drv_syntax.specs.Fronts.{AreFrontItems, CutsAsked, CutsBrace, CutsChoices, CutsDirective, CutsItem, CutsLater, CutsPatterns, CutsTests, Front, RunsOut}
@@ -124,7 +128,7 @@ mutual
   item_front {c = c} cuts.cut_percent ws past n a = on refl (ended ws (o.BehindPercent (list c past) n) (n + 1))
   item_front {c = c} (cuts.cut_directive {b} e d) ws past n a = on refl (directive_front b e refl d ws past n (n + 1) (omega (arith, a)))
 
-  directive_front : {size : ℕ} {c : Context} {f : Form} {text : List ℕ} (b : ℕ) → is_allowed c.in_arguments b ≡ true → form_of b ≡ f → CutsDirective size c f text → (ws : List Waiting) (past : Items) (at n : ℕ)
+  directive_front : {size : ℕ} {c : Context} {f : Directive} {text : List ℕ} (b : ℕ) → is_allowed c.in_arguments b ≡ true → directive_of b ≡ f → CutsDirective size c f text → (ws : List Waiting) (past : Items) (at n : ℕ)
       → At size n (b ∷ text) → IsFrontFrom ws (o.BehindPercent (list c past) at) n (b ∷ text)
   directive_front {c = c} b e f (cuts.cut_suffix {kind = kind}) ws past at n a =
       on {q = o.SuffixStart (list c past) at kind} (rw (e, f) refl) (on refl (ended ws (o.SuffixPercent (list c past) at kind (n + 1)) (n + 1 + 1)))

@@ -1,7 +1,9 @@
 use Rattle.drv_syntax.proofs.Patterns.{Asks, asks_mark}
 use Rattle.drv_syntax.proofs.Leads.{Leads, and_then, goes, none_of, one, other, same_run, to}
 use Rattle.drv_syntax.proofs.Words.{alike, at_front, marked_word, quoted, quoted_from, saying_text, stops, stops_at}
-use Rattle.drv_syntax.specs.Bytes.{SayKind, is_blank, is_mark, is_name, is_plain, is_space, is_word, said}
+use Rattle.drv_syntax.specs.Bytes.{is_blank, is_mark, is_name, is_plain, is_space, is_word}
+use Rattle.drv_syntax.specs.Directives.{said}
+use Rattle.drv_syntax.specs.declared.directives.SayKind.{SayKind}
 use Rattle.drv_syntax.specs.Contexts.{Context, InArguments, InX, Kind, Top, bar_in, is_end, is_said, newline_in}
 use Rattle.drv_syntax.specs.Outcome as o
 use Rattle.drv_syntax.specs.Outcome.{Goes, Head, Here, On, Place, Waiting, emitted, join, join_choices, join_tests, placed, resume_x, run, tested, then_item, turn, turn_item}

@@ -1,7 +1,8 @@
 use Rattle.drv_syntax.proofs.FrontLeads.{IsFrontFrom, ended, onto}
 use Rattle.drv_syntax.proofs.Leads.{Leads, and_then, goes, none_of, one, other, same_run, stays}
 use Rattle.drv_syntax.proofs.Words.{alike, at_front, no_word, quoted, stops, stops_at, test_word}
-use Rattle.drv_syntax.specs.Bytes.{BraceKind, is_mark, is_space, is_word}
+use Rattle.drv_syntax.specs.Bytes.{is_mark, is_space, is_word}
+use Rattle.drv_syntax.specs.declared.directives.BraceKind.{BraceKind}
 use Rattle.drv_syntax.specs.Outcome as o
 use Rattle.drv_syntax.specs.Outcome.{Goes, Head, Here, Place, Waiting, behind_pattern, emitted, emitted_item, fresh, run, tested, turn, turn_asked, turn_due, with_patterns}
 use Rattle.drv_syntax.specs.Spelling as s

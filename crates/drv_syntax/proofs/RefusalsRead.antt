@@ -3,8 +3,12 @@ use Rattle.drv_syntax.proofs.Leads.{Leads, closes, differs, each, further, goes,
 use Rattle.drv_syntax.proofs.Names.{bracket_ends, front_front, name_end, name_read}
 use Rattle.drv_syntax.proofs.Parts.{HasChoice, behind_asked, default_turn, has_choice, join_tests_assoc, next_resumes, no_star, patterns_of, start_sign}
 use Rattle.drv_syntax.proofs.Patterns.{Asks, behind_space, choosing, due_asks, due_space, negated_asks, negated_space, spaces_read, start_asks, start_space}
-use Rattle.drv_syntax.specs.Bytes as bytes
-use Rattle.drv_syntax.specs.Bytes.{BraceKind, Form, InPlace, NoForm, WithBraces, WithCall, WithMarkedBraces, WithPattern, form_of, is_allowed, is_function, is_function_front, is_mark, is_space, is_word}
+use Rattle.drv_syntax.specs.Bytes.{is_function, is_function_front, is_mark, is_space, is_word}
+use Rattle.drv_syntax.specs.Directives.{directive_of, is_allowed}
+use Rattle.drv_syntax.specs.declared.directives.BraceKind.{BraceKind}
+use Rattle.drv_syntax.specs.declared.directives.BraceKind.TheVariants.{InPlace}
+use Rattle.drv_syntax.specs.declared.directives.Directive.{Directive}
+use Rattle.drv_syntax.specs.declared.directives.Directive.TheVariants.{Named, Nowhere, OfStar, Whole, WithBraces, WithCall, WithMarkedBraces, WithName, WithOption, WithPattern, WithSaying, WithSuffix}
 use Rattle.drv_syntax.specs.Contexts.{Context, Mixed, Nobody, Owner, in_arguments, in_braces, in_x}
 use Rattle.drv_syntax.specs.Outcome as o
 use Rattle.drv_syntax.specs.Outcome.{Bad, Goes, Head, Here, Opens, Out, Place, Refused, Turn, WaitsCall, WaitsTest, WaitsX, Waiting, fresh, join, join_choices, join_tests, list_in, read, run, tested, turn, turn_asked}
@@ -110,7 +114,7 @@ mutual
       (subst (λ (k : ℕ). Comes size ws (o.BehindPercent (list c past) k) (n + 1) (b ∷ text) due rest) (same_place size i n (37 ∷ b ∷ text) ai a)
       (directive_reached b e refl d ws past (n + 1) (omega (arith, a))))
 
-  directive_reached : {size : ℕ} {c : Context} {f : Form} {at : ℕ} {text rest : List ℕ} {due : Due} (b : ℕ) → is_allowed c.in_arguments b ≡ true → form_of b ≡ f → ReachesIn size c at f text due rest
+  directive_reached : {size : ℕ} {c : Context} {f : Directive} {at : ℕ} {text rest : List ℕ} {due : Due} (b : ℕ) → is_allowed c.in_arguments b ≡ true → directive_of b ≡ f → ReachesIn size c at f text due rest
       → (ws : List Waiting) (past : Items) (n : ℕ) → At size n (b ∷ text) → Comes size ws (o.BehindPercent (list c past) at) n (b ∷ text) due rest
   directive_reached {size} {c} {at = at} {rest = rest} {due} b e f (r.in_call {text = text} name lv fn d) ws past n a =
       on size rest due (rw (e, f, lv) refl)
@@ -209,18 +213,19 @@ star_nobody here at end owner e = ap (λ (x : Owner). o.turn_star here at end x)
 star_mixed : (here : Here) (at end : ℕ) (owner : Owner) → owner ≡ Mixed → o.turn_star here at end owner ≡ Refused (MixedStar at)
 star_mixed here at end owner e = ap (λ (x : Owner). o.turn_star here at end x) e
 
-nested_form : (here : Here) (at end : ℕ) (f : Form) → nests f ≡ true → (here.context.levels == 0) ≡ true → o.turn_form here at end f ≡ Refused (TooNested at)
-nested_form here at end NoForm e lv = differs (sym e)
-nested_form here at end (bytes.Whole item) e lv = differs (sym e)
-nested_form here at end (bytes.WithSuffix kind) e lv = differs (sym e)
-nested_form here at end bytes.WithOption e lv = differs (sym e)
-nested_form here at end (bytes.WithSaying kind) e lv = differs (sym e)
-nested_form here at end bytes.WithName e lv = differs (sym e)
-nested_form here at end WithPattern e lv = differs (sym e)
-nested_form here at end bytes.OfStar e lv = differs (sym e)
-nested_form here at end WithCall e lv = rw lv refl
-nested_form here at end WithBraces e lv = rw lv refl
-nested_form here at end (WithMarkedBraces kind) e lv = rw lv refl
+nested_directive : (here : Here) (at end : ℕ) (f : Directive) → nests f ≡ true → (here.context.levels == 0) ≡ true → o.turn_directive here at end f ≡ Refused (TooNested at)
+nested_directive here at end Nowhere e lv = differs (sym e)
+nested_directive here at end (Whole leaf) e lv = differs (sym e)
+nested_directive here at end (Named name) e lv = differs (sym e)
+nested_directive here at end (WithSuffix kind) e lv = differs (sym e)
+nested_directive here at end WithOption e lv = differs (sym e)
+nested_directive here at end (WithSaying kind) e lv = differs (sym e)
+nested_directive here at end WithName e lv = differs (sym e)
+nested_directive here at end WithPattern e lv = differs (sym e)
+nested_directive here at end OfStar e lv = differs (sym e)
+nested_directive here at end WithCall e lv = rw lv refl
+nested_directive here at end WithBraces e lv = rw lv refl
+nested_directive here at end (WithMarkedBraces kind) e lv = rw lv refl
 
 not_mark : (b : ℕ) → is_word b ≡ false → is_mark b ≡ false
 not_mark b e = by (is_mark b) refl
@@ -265,7 +270,7 @@ module _ (size : ℕ) (c : Context) (ws : List Waiting) (past : Items) (m : ℕ)
       (rw (allowed_star c.in_arguments, star_mixed (list c past) m (m + 1 + 1) c.owner f) refl)
   item_refused (refused.too_nested {n = i} {b} {rest} ai e f lv) a =
       subst (λ (j : ℕ). Gives (37 ∷ b ∷ rest) (j + 1) (TooNested j)) (same_place size m i (37 ∷ b ∷ rest) a ai)
-      (rw (e, nested_form (list c past) m (m + 1 + 1) (form_of b) f lv) refl)
+      (rw (e, nested_directive (list c past) m (m + 1 + 1) (directive_of b) f lv) refl)
   item_refused (refused.no_pattern {n = i} {b} {x} {rest} ai e f (x1, x2, x3)) a =
       subst (λ (j : ℕ). Gives (37 ∷ b ∷ x ∷ rest) (j + 1 + 1) (EmptyTest j)) (same_place size m i (37 ∷ b ∷ x ∷ rest) a ai) (rw (e, f, x1, x2, x3) refl)
   item_refused (refused.no_function {n = i} name b rest ai lv f g k) a =

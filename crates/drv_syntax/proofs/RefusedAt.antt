@@ -1,5 +1,7 @@
 use Rattle.drv_words.specs.Bytes as ascii
-use Rattle.drv_syntax.specs.Bytes.{NoForm, WithPattern, form_of, is_allowed, is_function, is_function_front, is_space}
+use Rattle.drv_syntax.specs.Bytes.{is_function, is_function_front, is_space}
+use Rattle.drv_syntax.specs.Directives.{directive_of, is_allowed}
+use Rattle.drv_syntax.specs.declared.directives.Directive.TheVariants.{Nowhere, WithPattern}
 use Rattle.drv_syntax.specs.Contexts.{Context, Mixed, Nobody, top}
 use Rattle.drv_syntax.specs.Refusals.{AFirstTest, ATest, AnItem, Due, Empty, NoMore, Reaches, nests}
 use Rattle.drv_syntax.specs.Spelling.{At}
@@ -15,7 +17,7 @@ pub data Refuses (size : ℕ) : Due → List ℕ → ℕ → SyntaxFault → Typ
   -- no such directive, or not allowed here
   not_allowed : {c : Context} {n b : ℕ} {rest : List ℕ} → At size n (ascii.percent ∷ b ∷ rest) → is_allowed c.in_arguments b ≡ false
       → Refuses size (AnItem c) (ascii.percent ∷ b ∷ rest) (n + 1) (BadDirective n)
-  no_directive : {c : Context} {n b : ℕ} {rest : List ℕ} → At size n (ascii.percent ∷ b ∷ rest) → is_allowed c.in_arguments b ≡ true → form_of b ≡ NoForm
+  no_directive : {c : Context} {n b : ℕ} {rest : List ℕ} → At size n (ascii.percent ∷ b ∷ rest) → is_allowed c.in_arguments b ≡ true → directive_of b ≡ Nowhere
       → Refuses size (AnItem c) (ascii.percent ∷ b ∷ rest) (n + 1) (BadDirective n)
   -- %* in no X, and in an X without tests or with one that is no starred pattern
   star_outside : {c : Context} {n : ℕ} {rest : List ℕ} → At size n (ascii.percent ∷ ascii.asterisk ∷ rest) → c.owner ≡ Nobody
@@ -23,11 +25,11 @@ pub data Refuses (size : ℕ) : Due → List ℕ → ℕ → SyntaxFault → Typ
   mixed_star : {c : Context} {n : ℕ} {rest : List ℕ} → At size n (ascii.percent ∷ ascii.asterisk ∷ rest) → c.owner ≡ Mixed
       → Refuses size (AnItem c) (ascii.percent ∷ ascii.asterisk ∷ rest) (n + 1) (MixedStar n)
   -- no further braces or arguments may stand here
-  too_nested : {c : Context} {n b : ℕ} {rest : List ℕ} → At size n (ascii.percent ∷ b ∷ rest) → is_allowed c.in_arguments b ≡ true → nests (form_of b) ≡ true → (c.levels == 0) ≡ true
+  too_nested : {c : Context} {n b : ℕ} {rest : List ℕ} → At size n (ascii.percent ∷ b ∷ rest) → is_allowed c.in_arguments b ≡ true → nests (directive_of b) ≡ true → (c.levels == 0) ≡ true
       → Refuses size (AnItem c) (ascii.percent ∷ b ∷ rest) (n + 1) (TooNested n)
   test_too_nested : {c : Context} {at n : ℕ} {rest : List ℕ} → At size n (ascii.percent ∷ rest) → (c.levels == 0) ≡ true → Refuses size (ATest c at) (ascii.percent ∷ rest) n (TooNested n)
   -- no pattern behind %< or %>, and no test
-  no_pattern : {c : Context} {n b x : ℕ} {rest : List ℕ} → At size n (ascii.percent ∷ b ∷ x ∷ rest) → is_allowed c.in_arguments b ≡ true → form_of b ≡ WithPattern → Empty x
+  no_pattern : {c : Context} {n b x : ℕ} {rest : List ℕ} → At size n (ascii.percent ∷ b ∷ x ∷ rest) → is_allowed c.in_arguments b ≡ true → directive_of b ≡ WithPattern → Empty x
       → Refuses size (AnItem c) (ascii.percent ∷ b ∷ x ∷ rest) (n + 1 + 1) (EmptyTest n)
   no_test_there : {c : Context} {at n b : ℕ} {rest : List ℕ} → At size n (b ∷ rest) → Empty b → is_space b ≡ false → (b == ascii.exclamation_mark) ≡ false → (b == ascii.colon) ≡ false
       → (b == ascii.percent) ≡ false → Refuses size (ATest c at) (b ∷ rest) n (EmptyTest at)

@@ -1,7 +1,9 @@
 use Rattle.drv_syntax.proofs.Parts.{join_assoc, join_none}
 use Rattle.drv_syntax.proofs.Leads.{differs, same}
 use Rattle.drv_syntax.proofs.Wanted.{After, Ended, IsChoiceRest, IsPatternRest, Outside, Wanted, WantsList, choice_last, choice_next, hide_rest, name_rest, option_rest, percent_rest, rest_starred, rest_unstarred, saying_rest, suffix_rest}
-use Rattle.drv_syntax.specs.Bytes.{SayKind, is_blank, is_name, is_of, is_option, is_plain, is_suffix, is_word, said}
+use Rattle.drv_syntax.specs.Bytes.{is_blank, is_name, is_of, is_option, is_plain, is_suffix, is_word}
+use Rattle.drv_syntax.specs.Directives.{said}
+use Rattle.drv_syntax.specs.declared.directives.SayKind.{SayKind}
 use Rattle.drv_syntax.specs.Contexts.{Context, bar_in, is_end, is_said, newline_in}
 use Rattle.drv_syntax.specs.Fronts.{whole_item}
 use Rattle.drv_syntax.specs.Outcome as o

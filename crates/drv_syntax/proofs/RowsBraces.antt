@@ -2,7 +2,8 @@ use Rattle.drv_syntax.proofs.Parts.{HasChoice, brace_resumes, has_choice, join_c
 use Rattle.drv_syntax.proofs.Rows.{choices_of}
 use Rattle.drv_syntax.proofs.Leads.{differs, each, same}
 use Rattle.drv_syntax.proofs.Wanted.{After, Ended, Inside, IsChoiceRest, IsEmitsRest, IsTestsRest, Of, Outside, Wanted, WantsList, choice_last, choice_next, chooses, emits_and, emits_end, start, tests_bar, tests_colon}
-use Rattle.drv_syntax.specs.Bytes.{braced, is_space}
+use Rattle.drv_syntax.specs.Bytes.{is_space}
+use Rattle.drv_syntax.specs.Directives.{braced}
 use Rattle.drv_syntax.specs.Contexts.{Context, in_arguments, in_braces, in_x}
 use Rattle.drv_syntax.specs.Outcome as o
 use Rattle.drv_syntax.specs.Outcome.{Head, Here, On, Opens, Place, Resumed, Turn, Waiting, WaitsX, emitted, emitted_by, join_choices, join_tests, list_in, resume, tested, tested_by, turn, turn_colon, with_patterns, with_tests}

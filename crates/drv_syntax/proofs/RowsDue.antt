@@ -3,7 +3,8 @@ use Rattle.drv_syntax.proofs.Rows.{one_byte, pattern_from, when}
 use Rattle.drv_syntax.proofs.RowsBraces.{arguments_closed, default_row, emitted_only, later_space, on_same, patterns_of, patterns_space, some_pattern, some_test, tested_only, tests_of, tests_space, unsigned}
 use Rattle.drv_syntax.proofs.Leads.{each, other, same}
 use Rattle.drv_syntax.proofs.Wanted.{After, Ended, IsChoiceRest, Of, Outside, Wanted, asked_rest, behind_test, call_rest, due, form_1, form_2, mark_rest, patterns_due, start, test_call}
-use Rattle.drv_syntax.specs.Bytes.{braced, is_function, is_function_front, is_mark, is_space, is_word}
+use Rattle.drv_syntax.specs.Bytes.{is_function, is_function_front, is_mark, is_space, is_word}
+use Rattle.drv_syntax.specs.Directives.{braced}
 use Rattle.drv_syntax.specs.Contexts.{Context, in_arguments, in_braces}
 use Rattle.drv_syntax.specs.Outcome as o
 use Rattle.drv_syntax.specs.Outcome.{Head, Here, On, Opens, Place, Turn, Waiting, WaitsCall, WaitsTest, emitted, join_tests, list_in, tested, turn}

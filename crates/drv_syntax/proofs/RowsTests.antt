@@ -3,7 +3,8 @@ use Rattle.drv_syntax.proofs.Rows.{ends_at, one_byte, pattern_longer, when}
 use Rattle.drv_syntax.proofs.RowsBraces.{colon_row, emits_space, rest_space}
 use Rattle.drv_syntax.proofs.Leads.{each, same}
 use Rattle.drv_syntax.proofs.Wanted.{After, IsChoiceRest, Of, Outside, WantsList, behind_test, emits_and, emits_end, form_1, form_2, mark_rest, marked_plain, marked_rest, marked_starred, rest_starred, rest_unstarred, tests_bar, tests_colon, word_rest}
-use Rattle.drv_syntax.specs.Bytes.{braced, is_mark, is_space, is_word}
+use Rattle.drv_syntax.specs.Bytes.{is_mark, is_space, is_word}
+use Rattle.drv_syntax.specs.Directives.{braced}
 use Rattle.drv_syntax.specs.Contexts.{in_braces}
 use Rattle.drv_syntax.specs.Outcome as o
 use Rattle.drv_syntax.specs.Outcome.{Head, On, Opens, Place, Turn, Waiting, WaitsTest, emitted, join_tests, list_in, tested, with_patterns, with_tests}

@@ -3,7 +3,7 @@ use Rattle.bstr.specs.Find.{IsFirstByte}
 use Rattle.drv_syntax.specs.Bytes.{is_of}
 use Rattle.drv_syntax.specs.Reader.Steps.{runs, stops}
 use Rattle.drv_syntax.specs.declared.reader.stages.ListKind.{ListKind}
-use Rattle.std.proofs.Common.{◌≡◌, ◌∙◌, ◌≤◌, Bool, true, false, List, [], ◌∷◌, ap, arith, if◌then◌else◌, length, refl, subst, sym, ℕ}
+use Rattle.std.proofs.Common.{◌≡◌, ◌∙◌, ◌≤◌, Bool, true, false, List, [], ◌∷◌, ap, arith, if◌then◌else◌, length, refl, sym, ℕ}
 use Rattle.std.proofs.lemmas.List.Sums.{prefix_len_is}
 use Rattle.std.specs.List.{prefix_len}
 use Rattle.std.specs.Prelude.{◌==◌, ◌||◌, Option, None, Some, not, unwrap_or}

@@ -6,7 +6,7 @@ use Rattle.drv_syntax.specs.Reader.Marks.{byte_labels}
 use Rattle.drv_syntax.specs.Reader.Steps.{Walk, at_stage, plain_tokens, runs, step, then_walk, walk, with_part, with_plains, with_word}
 use Rattle.drv_syntax.specs.Reader.Turns.{part}
 use Rattle.drv_syntax.specs.declared.fault.SyntaxFault.{SyntaxFault}
-use Rattle.drv_syntax.specs.declared.reader.actions.Leaf.TheVariants as leaves
+use Rattle.drv_syntax.specs.declared.reader.actions.Single.TheVariants as singles
 use Rattle.drv_syntax.specs.declared.reader.actions.Taken.TheVariants as takes
 use Rattle.drv_syntax.specs.declared.reader.stages.Context.{Context}
 use Rattle.drv_syntax.specs.declared.reader.stages.Form.{Form}
@@ -80,7 +80,7 @@ name_takes v u start k n text h e l d =
 
 -- a byte that stands for itself
 run_step : (kind : ListKind) (n b : ℕ) (v : Walk) → v.stage ≡ at.List stages.Start → v.context.kind ≡ kind → runs kind b ≡ true
-    → step v n b ≡ Ok (with_part (part (leaves.Plain b) takes.Nothing n (n + 1)) v)
+    → step v n b ≡ Ok (with_part (part (singles.Plain b) takes.Nothing n (n + 1)) v)
 run_step lists.Top n b v h k g =
     rw (h, k, other (runs lists.Top) b 92 g refl, other (runs lists.Top) b 37 g refl, other (runs lists.Top) b 32 g refl, other (runs lists.Top) b 9 g refl, other (runs lists.Top) b 10 g refl, other (runs lists.Top) b 124 g refl) refl
 run_step lists.InX n b v h k g =

@@ -1,7 +1,8 @@
 use Rattle.drv_syntax.specs.Outcome.{Bad, Cut, Got, Out, read}
 use Rattle.drv_syntax.specs.Spelling.{span}
 use Rattle.drv_syntax.specs.Tokens.{tokens_of}
-use Rattle.drv_syntax.specs.Tree.{AddOption, ArgumentsFile, AssemblerOptions, BaseName, BaseStem, Blank, Braces, BuiltinText, Choose, Directories, Emit, Escape, FailureFile, FoundFile, FoundScript, Function, Hide, HasLanguage, HasResult, HasSuffix, HasSwitch, InputName, LinkerOptions, NamedText, Newline, NoOutput, Notice, ObjectSuffix, Output, Outputs, Percent, Pipe, Plain, PreprocessorOptions, Removed, Star, TempName, UserError, choice, more, no_choice, no_test, none, pattern, test}
+use Rattle.drv_syntax.specs.Tree.{AddOption, ArgumentsFile, Blank, Braces, BuiltinText, Choose, Emit, Escape, FailureFile, Function, HasLanguage, HasResult, HasSuffix, HasSwitch, Hide, Leaf, NamedText, Newline, Notice, Pipe, Plain, Star, TempName, UserError, choice, more, no_choice, no_test, none, pattern, test}
+use Rattle.drv_syntax.specs.declared.token.Leaf.TheVariants.{AssemblerOptions, BaseName, BaseStem, Directories, FoundFile, FoundScript, InputName, LinkerOptions, NoOutput, ObjectSuffix, Output, Outputs, Percent, PreprocessorOptions, Removed}
 use Rattle.drv_syntax.specs.declared.fault.SyntaxFault.TheVariants.{BadDirective, EmptyTest, MixedStar, StarOutside, TooNested, UnknownFunction}
 use Rattle.drv_syntax.specs.declared.token.TempKind.TheVariants.{Last, New, PipedIn, PipedOut, Shared}
 use Rattle.drv_syntax.specs.declared.token.Token.{Token}
@@ -54,10 +55,10 @@ row_12 = refl
 row_13 : read (codes "\\ \\%") ≡ Got (more (span 0 2) (Escape 32) (more (span 2 4) (Escape 37) none))
 row_13 = refl
 
-row_14 : read (codes "%%%i%b%B%O") ≡ Got (more (span 0 2) Percent (more (span 2 4) InputName (more (span 4 6) BaseStem (more (span 6 8) BaseName (more (span 8 10) ObjectSuffix none)))))
+row_14 : read (codes "%%%i%b%B%O") ≡ Got (more (span 0 2) (Leaf Percent) (more (span 2 4) (Leaf InputName) (more (span 4 6) (Leaf BaseStem) (more (span 6 8) (Leaf BaseName) (more (span 8 10) (Leaf ObjectSuffix) none)))))
 row_14 = refl
 
-row_15 : read (codes "%d%w%V%s%T%D%o%X%Y%Z") ≡ Got (more (span 0 2) Removed (more (span 2 4) Output (more (span 4 6) NoOutput (more (span 6 8) FoundFile (more (span 8 10) FoundScript (more (span 10 12) Directories (more (span 12 14) Outputs (more (span 14 16) LinkerOptions (more (span 16 18) AssemblerOptions (more (span 18 20) PreprocessorOptions none))))))))))
+row_15 : read (codes "%d%w%V%s%T%D%o%X%Y%Z") ≡ Got (more (span 0 2) (Leaf Removed) (more (span 2 4) (Leaf Output) (more (span 4 6) (Leaf NoOutput) (more (span 6 8) (Leaf FoundFile) (more (span 8 10) (Leaf FoundScript) (more (span 10 12) (Leaf Directories) (more (span 12 14) (Leaf Outputs) (more (span 14 16) (Leaf LinkerOptions) (more (span 16 18) (Leaf AssemblerOptions) (more (span 18 20) (Leaf PreprocessorOptions) none))))))))))
 row_15 = refl
 
 row_16 : read (codes "%a%A%l%L%G%S%E%C%1%2") ≡ Got (more (span 0 2) (BuiltinText (codes "asm")) (more (span 2 4) (BuiltinText (codes "asm_final")) (more (span 4 6) (BuiltinText (codes "link")) (more (span 6 8) (BuiltinText (codes "lib")) (more (span 8 10) (BuiltinText (codes "libgcc")) (more (span 10 12) (BuiltinText (codes "startfile")) (more (span 12 14) (BuiltinText (codes "endfile")) (more (span 14 16) (BuiltinText (codes "cpp")) (more (span 16 18) (BuiltinText (codes "cc1")) (more (span 18 20) (BuiltinText (codes "cc1plus")) none))))))))))
@@ -144,10 +145,10 @@ row_42 = refl
 row_43 : read (codes "%m.s%A") ≡ Got (more (span 0 4) (TempName PipedIn (codes ".s")) (more (span 4 6) (BuiltinText (codes "asm_final")) none))
 row_43 = refl
 
-row_44 : read (codes "%g%i") ≡ Got (more (span 0 2) (TempName Shared []) (more (span 2 4) InputName none))
+row_44 : read (codes "%g%i") ≡ Got (more (span 0 2) (TempName Shared []) (more (span 2 4) (Leaf InputName) none))
 row_44 = refl
 
-row_45 : read (codes "%g.s%O") ≡ Got (more (span 0 4) (TempName Shared (codes ".s")) (more (span 4 6) ObjectSuffix none))
+row_45 : read (codes "%g.s%O") ≡ Got (more (span 0 4) (TempName Shared (codes ".s")) (more (span 4 6) (Leaf ObjectSuffix) none))
 row_45 = refl
 
 row_46 : read (codes "%g%") ≡ Cut 2
@@ -433,7 +434,7 @@ tokens_2 = refl
 tokens_3 : tokens_from (codes "%{%:getenv(H):x}") ≡ (token_at kinds.Choose 0 16 5) ∷ (token_at kinds.Alternative 2 15 5) ∷ (token_at kinds.Test 2 13 4) ∷ (token_at kinds.Plain 11 12 4) ∷ (token_at kinds.Plain 14 15 5) ∷ []
 tokens_3 = refl
 
-tokens_4 : tokens_from (codes "%g%i") ≡ (token_at (kinds.TempName Shared) 0 2 1) ∷ (token_at kinds.InputName 2 4 2) ∷ []
+tokens_4 : tokens_from (codes "%g%i") ≡ (token_at (kinds.TempName Shared) 0 2 1) ∷ (token_at (kinds.Leaf InputName) 2 4 2) ∷ []
 tokens_4 = refl
 
 tokens_5 : tokens_from (codes "%W{o*}") ≡ (token_at kinds.FailureFile 0 6 2) ∷ (token_at kinds.Pattern 3 5 2) ∷ []

@@ -4,13 +4,18 @@ use Rattle.drv_syntax.proofs.RowsDue.{function_row, negated_row, pattern_row, st
 use Rattle.drv_syntax.proofs.RowsTests.{behind_row, mark_row, marked_row, word_row}
 use Rattle.drv_syntax.proofs.Leads.{same}
 use Rattle.drv_syntax.proofs.Wanted.{After, Around, Ended, Outside, Wanted, WantsList, percent_rest, rest_unstarred, start, suffix_rest}
-use Rattle.drv_syntax.specs.Bytes.{BraceKind, Form, InPlace, NoForm, OfStar, Whole, WithBraces, WithCall, WithMarkedBraces, WithName, WithOption, WithPattern, WithSaying, WithSuffix, braced, form_of, is_allowed, is_name, is_option, said}
+use Rattle.drv_syntax.specs.Bytes.{is_name, is_option}
+use Rattle.drv_syntax.specs.Directives.{braced, directive_of, is_allowed, said, text_of}
+use Rattle.drv_syntax.specs.declared.directives.BraceKind.{BraceKind}
+use Rattle.drv_syntax.specs.declared.directives.BraceKind.TheVariants.{InPlace}
+use Rattle.drv_syntax.specs.declared.directives.Directive.{Directive}
+use Rattle.drv_syntax.specs.declared.directives.Directive.TheVariants.{Named, Nowhere, OfStar, Whole, WithBraces, WithCall, WithMarkedBraces, WithName, WithOption, WithPattern, WithSaying, WithSuffix}
 use Rattle.drv_syntax.specs.Contexts.{Mixed, Nobody, Owner, Starred, top}
 use Rattle.drv_syntax.specs.Outcome as o
 use Rattle.drv_syntax.specs.Outcome.{Closes, Goes, Got, Here, Not, On, Opens, Out, Place, Refused, Resumed, Turn, Waiting, finish, placed, read, resume, run, turn}
 use Rattle.drv_syntax.specs.Spelling as s
 use Rattle.drv_syntax.specs.Spelling.{AreItems, At, IsBrace, IsDirective, IsQuoted, IsRun, Spells}
-use Rattle.drv_syntax.specs.Tree.{AddOption, Brace, Choose, Emit, Escape, Function, Hide, Item, Items, NamedText, Star, TempName, none, pattern}
+use Rattle.drv_syntax.specs.Tree.{AddOption, Brace, BuiltinText, Choose, Emit, Escape, Function, Hide, Item, Items, Leaf, NamedText, Star, TempName, none, pattern}
 use Rattle.drv_syntax.specs.declared.token.TempKind.{TempKind}
 use Rattle.std.proofs.Common.{◌≡◌, ◌≤◌, ◌∙◌, ◌+◌, ◌++◌, false, List, [], ◌∷◌, append-nil, arith, inl, inr, length, refl, subst, sym, ℕ}
 use Rattle.std.specs.Prelude.{◌==◌}
@@ -27,7 +32,7 @@ module _ (size : ℕ) (K : Outside) where
   brace_of here at kind text e (inr (x, g)) = absurd x
 
   -- behind a directive's byte
-  abbrev Directed : Here → ℕ → Form → List ℕ → Type 0
+  abbrev Directed : Here → ℕ → Directive → List ℕ → Type 0
   Directed here at f text = (item : Item) × (rest : List ℕ) × IsDirective size here.context f text item rest × Ended size K here at item rest
 
   star_row : (here : Here) (at m b : ℕ) (text : List ℕ) → At size m text → (owner : Owner) → here.context.owner ≡ owner → After size K b text (o.turn_star here at m owner) → Directed here at OfStar text
@@ -35,19 +40,20 @@ module _ (size : ℕ) (K : Outside) where
   star_row here at m b text a Mixed e g = absurd g
   star_row here at m b text a Starred e g = (Star, text, s.star e, ends_at size K here at m text Star a g)
 
-  form_row : (here : Here) (at m b : ℕ) (text : List ℕ) → At size m text → (f : Form) → After size K b text (o.turn_form here at m f) → Directed here at f text
-  form_row here at m b text a NoForm g = absurd g
-  form_row here at m b text a (Whole item) g = (item, text, s.whole, ends_at size K here at m text item a g)
-  form_row here at m b text a (WithSuffix kind) (suffix, rest, q, w) = (TempName kind suffix, rest, s.temp_name q, w)
-  form_row here at m b text a WithOption (c, mid, x, (y, (run, rest, d, others, q, z, w))) = (
+  directive_row : (here : Here) (at m b : ℕ) (text : List ℕ) → At size m text → (f : Directive) → After size K b text (o.turn_directive here at m f) → Directed here at f text
+  directive_row here at m b text a Nowhere g = absurd g
+  directive_row here at m b text a (Whole leaf) g = (Leaf leaf, text, s.whole, ends_at size K here at m text (Leaf leaf) a g)
+  directive_row here at m b text a (Named name) g = (BuiltinText (text_of name), text, s.named, ends_at size K here at m text (BuiltinText (text_of name)) a g)
+  directive_row here at m b text a (WithSuffix kind) (suffix, rest, q, w) = (TempName kind suffix, rest, s.temp_name q, w)
+  directive_row here at m b text a WithOption (c, mid, x, (y, (run, rest, d, others, q, z, w))) = (
     AddOption run,
     rest,
     rw (x, y) (subst (λ (v : List ℕ). IsDirective size here.context WithOption (123 ∷ mid) (AddOption v) rest) (sym z)
         (s.add_option (subst (λ (v : List ℕ). IsQuoted is_option mid v (125 ∷ rest)) z q))),
     w,
   )
-  form_row here at m b text a (WithSaying kind) (run, mid, rest, q, e, w) = (said kind run, rest, s.saying q e, w)
-  form_row here at m b text a WithName g =
+  directive_row here at m b text a (WithSaying kind) (run, mid, rest, q, e, w) = (said kind run, rest, s.saying q e, w)
+  directive_row here at m b text a WithName g =
       let r = g (omega arith) in (
         NamedText r.0,
         r.1,
@@ -55,22 +61,22 @@ module _ (size : ℕ) (K : Outside) where
             (s.named_text (subst (λ (v : List ℕ). IsRun is_name text v (41 ∷ r.1)) r.6 r.4) (subst (λ (v : List ℕ). length v ≤ 255) r.6 r.5)),
         r.7,
       )
-  form_row here at m b text a WithPattern (p, rest, q, w) = (Hide p, rest, s.hide q, w)
-  form_row here at m b text a OfStar g = star_row here at m b text a here.context.owner refl g
-  form_row here at m b text a WithCall g =
+  directive_row here at m b text a WithPattern (p, rest, q, w) = (Hide p, rest, s.hide q, w)
+  directive_row here at m b text a OfStar g = star_row here at m b text a here.context.owner refl g
+  directive_row here at m b text a WithCall g =
       when (After size K b text) (here.context.levels == 0) _ _ g (λ e g. absurd g)
       (λ e g. (Function g.0 g.2, g.3, rw g.4 (s.function (s.call e g.5 g.6)), g.7))
-  form_row here at m b text a WithBraces g =
+  directive_row here at m b text a WithBraces g =
       when (After size K b text) (here.context.levels == 0) _ _ g (λ e g. absurd g)
       (λ e g. let r = brace_of here at InPlace text e g in (braced InPlace r.0, r.1, s.braces r.2, r.3))
-  form_row here at m b text a (WithMarkedBraces kind) g =
+  directive_row here at m b text a (WithMarkedBraces kind) g =
       when (After size K b text) (here.context.levels == 0) _ _ g (λ e g. absurd g)
       (λ e g. let r = brace_of here at kind g.1 e g.3.1 in (braced kind r.0, r.1, rw (g.2, g.3.0) (s.marked_braces r.2), r.3))
 
   percent_row : (here : Here) (at n b : ℕ) (text : List ℕ) → At size n (b ∷ text) → After size K b text (o.turn_percent here at n b) → percent_rest size K here at (b ∷ text)
   percent_row here at n b text a g =
       when (After size K b text) (is_allowed here.context.in_arguments b) _ _ g
-      (λ e g. let r = form_row here at (n + 1) b text (one_byte size n b text a) (form_of b) g in (b, text, r.0, r.1, refl, e, r.2, r.3)) (λ e g. absurd g)
+      (λ e g. let r = directive_row here at (n + 1) b text (one_byte size n b text a) (directive_of b) g in (b, text, r.0, r.1, refl, e, r.2, r.3)) (λ e g. absurd g)
 
   suffix_percent_row : (here : Here) (at : ℕ) (kind : TempKind) (percent n b : ℕ) (text : List ℕ) → At size n (b ∷ text) → After size K b text (o.turn_suffix_percent here at kind percent n b)
       → At size percent (37 ∷ b ∷ text) → suffix_rest size K here at kind (37 ∷ b ∷ text)

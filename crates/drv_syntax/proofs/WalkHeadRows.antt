@@ -4,7 +4,7 @@ use Rattle.drv_syntax.specs.Outcome.{Here, Place, Turn, join, placed, turn, turn
 use Rattle.drv_syntax.specs.Tree as tree
 use Rattle.drv_syntax.specs.Tree.{Asked, Choices, Item, Items, Pattern, Span, Tests}
 use Rattle.drv_syntax.specs.Reader.Turns as w
-use Rattle.drv_syntax.specs.Reader.Turns.{leaf_kind, leaf_label, list_turn, start_action, percent_action, goes_of, goes_action, head_action, choice_action}
+use Rattle.drv_syntax.specs.Reader.Turns.{single_kind, single_label, list_turn, start_action, percent_action, head_action, choice_action}
 use Rattle.drv_syntax.specs.Reader.Steps.{form_at}
 use Rattle.drv_syntax.specs.declared.reader.stages.Behind.TheVariants as behinds
 use Rattle.drv_syntax.specs.declared.reader.stages.Behind.{Behind}

@@ -9,7 +9,7 @@ use Rattle.drv_syntax.specs.Reader.Turns as w
 use Rattle.drv_syntax.specs.Reader.Steps as s
 use Rattle.drv_syntax.specs.Reader.Steps.{Walk, open_token}
 use Rattle.drv_syntax.specs.declared.fault.SyntaxFault.{SyntaxFault}
-use Rattle.drv_syntax.specs.declared.reader.stages.BraceKind.{BraceKind}
+use Rattle.drv_syntax.specs.declared.directives.BraceKind.{BraceKind}
 use Rattle.drv_syntax.specs.declared.reader.stages.Context.{Context}
 use Rattle.drv_syntax.specs.declared.reader.stages.Form.{Form}
 use Rattle.drv_syntax.specs.declared.reader.stages.Frame.TheVariants as frames

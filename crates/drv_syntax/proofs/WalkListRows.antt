@@ -1,23 +1,24 @@
 use Rattle.drv_syntax.specs.Bytes as bytes
+use Rattle.drv_syntax.specs.Directives.{directive_of, is_allowed}
 use Rattle.drv_syntax.specs.Contexts as c
 use Rattle.drv_syntax.specs.Outcome as o
 use Rattle.drv_syntax.specs.Outcome.{Here, Place, Turn, join, placed, turn, turn_item, turn_percent}
 use Rattle.drv_syntax.specs.Tree as tree
 use Rattle.drv_syntax.specs.Tree.{Asked, Choices, Item, Items, Pattern, Span, Tests}
 use Rattle.drv_syntax.specs.Reader.Turns as w
-use Rattle.drv_syntax.specs.Reader.Turns.{leaf_kind, leaf_label, list_turn, start_action, percent_action, goes_of, goes_action, head_action, choice_action}
+use Rattle.drv_syntax.specs.Reader.Turns.{single_kind, single_label, list_turn, start_action, percent_action, directive_action, head_action, choice_action}
 use Rattle.drv_syntax.specs.declared.fault.SyntaxFault.TheVariants.{BadDirective}
 use Rattle.drv_syntax.specs.declared.reader.stages.Context.{Context}
-use Rattle.drv_syntax.specs.declared.reader.actions.Goes.TheVariants as goes
-use Rattle.drv_syntax.specs.declared.reader.actions.Goes.{Goes}
-use Rattle.drv_syntax.specs.declared.reader.actions.Leaf.TheVariants as leaves
+use Rattle.drv_syntax.specs.declared.directives.Directive.TheVariants as directives
+use Rattle.drv_syntax.specs.declared.directives.Directive.{Directive}
+use Rattle.drv_syntax.specs.declared.reader.actions.Single.TheVariants as singles
 use Rattle.drv_syntax.specs.Reader.ListActions.{ListAction, ListTurn}
 use Rattle.drv_syntax.specs.declared.reader.stages.ListKind.TheVariants as lists
 use Rattle.drv_syntax.specs.declared.reader.stages.ListKind.{ListKind}
 use Rattle.drv_syntax.specs.declared.reader.stages.ListStage.TheVariants as stages
 use Rattle.drv_syntax.specs.declared.reader.stages.ListStage.{ListStage}
-use Rattle.drv_syntax.specs.declared.reader.stages.SayKind.TheVariants as sayings
-use Rattle.drv_syntax.specs.declared.reader.stages.SayKind.{SayKind}
+use Rattle.drv_syntax.specs.declared.directives.SayKind.TheVariants as sayings
+use Rattle.drv_syntax.specs.declared.directives.SayKind.{SayKind}
 use Rattle.drv_syntax.specs.declared.reader.stages.StarOwner.TheVariants as owners
 use Rattle.drv_syntax.specs.declared.reader.stages.StarOwner.{StarOwner}
 use Rattle.drv_syntax.specs.declared.reader.actions.Taken.TheVariants as takes
@@ -25,7 +26,7 @@ use Rattle.std.proofs.Common.{◌≡◌, ℕ, ◌+◌, Bool, true, false, List, 
 use Rattle.drv_syntax.specs.declared.token.TempKind.{TempKind}
 use Rattle.std.proofs.lemmas.Bool.Decides.{nat_tests}
 use Rattle.std.specs.Prelude.{◌==◌, nat_le}
-use Rattle.drv_syntax.proofs.WalkMeaning.{shown_kind, shown_owner, shown_brace, shown_saying, here, item_of, list_place, meant, with_item, meant_turn, either, switch}
+use Rattle.drv_syntax.proofs.WalkMeaning.{shown_kind, shown_owner, here, item_of, list_place, meant, with_item, meant_turn, either, switch}
 
 -- The table of the code in a list of items is that of the places.
 
@@ -39,11 +40,7 @@ says_same lists.Top b = refl
 says_same lists.InX b = refl
 says_same lists.InArguments b = refl
 
-pub allows_same : (x : Bool) (b : ℕ) → w.allows x b ≡ bytes.is_allowed x b
-allows_same true b = refl
-allows_same false b = refl
-
-pub newline_same : (x : Bool) (word : List ℕ) → item_of (w.newline_leaf x) word ≡ c.newline_in x
+pub newline_same : (x : Bool) (word : List ℕ) → item_of (w.newline_single x) word ≡ c.newline_in x
 newline_same true word = refl
 newline_same false word = refl
 
@@ -54,7 +51,7 @@ pub either_if : {A B : Type 0} (f : A → B) (t : Bool) {a a' : A} {x x' : B} �
 either_if f true p q = p refl
 either_if f false p q = q
 
-pub bar_same : (x : Bool) (b : ℕ) → b ≡ 124 → item_of (w.bar_leaf b x) [] ≡ c.bar_in x
+pub bar_same : (x : Bool) (b : ℕ) → b ≡ 124 → item_of (w.bar_single b x) [] ≡ c.bar_in x
 bar_same true b e = ap (λ z. tree.Plain z) e
 bar_same false b e = refl
 
@@ -76,83 +73,23 @@ star_row k before word at end b owners.Nobody = refl
 star_row k before word at end b owners.Mixed = refl
 star_row k before word at end b owners.Starred = refl
 
-abbrev pub shown_form : Goes → bytes.Form
-shown_form goes.Nowhere = bytes.NoForm
-shown_form (goes.Whole leaf) = bytes.Whole (item_of leaf [])
-shown_form (goes.WithSuffix kind) = bytes.WithSuffix kind
-shown_form goes.WithOption = bytes.WithOption
-shown_form (goes.WithSaying kind) = bytes.WithSaying (shown_saying kind)
-shown_form goes.WithName = bytes.WithName
-shown_form goes.WithPattern = bytes.WithPattern
-shown_form goes.OfStar = bytes.OfStar
-shown_form goes.WithCall = bytes.WithCall
-shown_form goes.WithBraces = bytes.WithBraces
-shown_form (goes.WithMarkedBraces kind) = bytes.WithMarkedBraces (shown_brace kind)
-
-pub form_row : (b : ℕ) → shown_form (goes_of b) ≡ bytes.form_of b
-form_row b =
-    either F (b == 37) refl
-    (either F (b == 105) refl
-    (either F (b == 98) refl
-    (either F (b == 66) refl
-    (either F (b == 79) refl
-    (either F (b == 103) refl
-    (either F (b == 117) refl
-    (either F (b == 85) refl
-    (either F (b == 124) refl
-    (either F (b == 109) refl
-    (either F (b == 100) refl
-    (either F (b == 119) refl
-    (either F (b == 86) refl
-    (either F (b == 115) refl
-    (either F (b == 84) refl
-    (either F (b == 68) refl
-    (either F (b == 111) refl
-    (either F (b == 120) refl
-    (either F (b == 88) refl
-    (either F (b == 89) refl
-    (either F (b == 90) refl
-    (either F (b == 101) refl
-    (either F (b == 110) refl
-    (either F (b == 40) refl
-    (either F (b == 97) refl
-    (either F (b == 65) refl
-    (either F (b == 108) refl
-    (either F (b == 76) refl
-    (either F (b == 71) refl
-    (either F (b == 83) refl
-    (either F (b == 69) refl
-    (either F (b == 67) refl
-    (either F (b == 49) refl
-    (either F (b == 50) refl
-    (either F (b == 60) refl
-    (either F (b == 62) refl
-    (either F (b == 58) refl
-    (either F (b == 123) refl
-    (either F (b == 42) refl
-    (either F (b == 87) refl
-    (either F (b == 64) refl refl))))))))))))))))))))))))))))))))))))))))
-  where
-    F : Goes → bytes.Form
-    F g = shown_form g
-
-pub goes_row : (k : Context) (before : Items) (word : List ℕ) (at end b : ℕ) (g : Goes) → meant k before word b (goes_action k at end g) ≡ o.turn_form (here k before) at end (shown_form g)
-goes_row k before word at end b goes.Nowhere = refl
-goes_row k before word at end b (goes.Whole leaf) = refl
-goes_row k before word at end b (goes.WithSuffix kind) = refl
-goes_row k before word at end b goes.WithOption = refl
-goes_row k before word at end b (goes.WithSaying kind) = refl
-goes_row k before word at end b goes.WithName = refl
-goes_row k before word at end b goes.WithPattern = refl
-goes_row k before word at end b goes.OfStar = star_row k before word at end b k.owner
-goes_row k before word at end b goes.WithCall = either (λ a. meant k before word b a) (k.levels == 0) refl refl
-goes_row k before word at end b goes.WithBraces = either (λ a. meant k before word b a) (k.levels == 0) refl refl
-goes_row k before word at end b (goes.WithMarkedBraces kind) = either (λ a. meant k before word b a) (k.levels == 0) refl refl
+pub directive_row : (k : Context) (before : Items) (word : List ℕ) (at end b : ℕ) (d : Directive) → meant k before word b (directive_action k at end d) ≡ o.turn_directive (here k before) at end d
+directive_row k before word at end b directives.Nowhere = refl
+directive_row k before word at end b (directives.Whole leaf) = refl
+directive_row k before word at end b (directives.Named name) = refl
+directive_row k before word at end b (directives.WithSuffix kind) = refl
+directive_row k before word at end b directives.WithOption = refl
+directive_row k before word at end b (directives.WithSaying kind) = refl
+directive_row k before word at end b directives.WithName = refl
+directive_row k before word at end b directives.WithPattern = refl
+directive_row k before word at end b directives.OfStar = star_row k before word at end b k.owner
+directive_row k before word at end b directives.WithCall = either (λ a. meant k before word b a) (k.levels == 0) refl refl
+directive_row k before word at end b directives.WithBraces = either (λ a. meant k before word b a) (k.levels == 0) refl refl
+directive_row k before word at end b (directives.WithMarkedBraces kind) = either (λ a. meant k before word b a) (k.levels == 0) refl refl
 
 pub percent_row : (k : Context) (before : Items) (word : List ℕ) (at n b : ℕ) → meant k before word b (percent_action k at n b) ≡ turn_percent (here k before) at n b
 percent_row k before word at n b =
-    either (λ a. meant k before word b a) (w.allows k.in_arguments b) (goes_row k before word at (n + 1) b (goes_of b) ∙ ap (λ f. o.turn_form (here k before) at (n + 1) f) (form_row b)) refl
-    ∙ switch _ _ (allows_same k.in_arguments b)
+    either (λ a. meant k before word b a) (is_allowed k.in_arguments b) (directive_row k before word at (n + 1) b (directive_of b)) refl
 
 pub not_empty : (x : ℕ) (xs : List ℕ) → (length (x ∷ xs) == 0) ≡ false
 not_empty x xs = grind (arith, nat_tests)
@@ -161,10 +98,10 @@ pub option_row : (k : Context) (before : Items) (at : ℕ) (word : List ℕ) (n 
 option_row k before at [] n b = either (λ a. meant k before [] b a) (b == 92) refl (either (λ a. meant k before [] b a) (b == 125) refl refl)
 option_row k before at (x ∷ xs) n b = either (λ a. meant k before (x ∷ xs) b a) (b == 92) refl (either (λ a. meant k before (x ∷ xs) b a) (b == 125) (nonempty x xs) refl)
   where
-    nonempty : (x : ℕ) (xs : List ℕ) → meant k before (x ∷ xs) b (if length (x ∷ xs) == 0 then w.refused at else w.item leaves.AddOption takes.Word at (n + 1)) ≡ o.then_item (here k before) at (n + 1) (tree.AddOption (x ∷ xs))
-    nonempty x xs = ap (λ t. meant k before (x ∷ xs) b (if t then w.refused at else w.item leaves.AddOption takes.Word at (n + 1))) (not_empty x xs)
+    nonempty : (x : ℕ) (xs : List ℕ) → meant k before (x ∷ xs) b (if length (x ∷ xs) == 0 then w.refused at else w.item singles.AddOption takes.Word at (n + 1)) ≡ o.then_item (here k before) at (n + 1) (tree.AddOption (x ∷ xs))
+    nonempty x xs = ap (λ t. meant k before (x ∷ xs) b (if t then w.refused at else w.item singles.AddOption takes.Word at (n + 1))) (not_empty x xs)
 
-pub saying_row : (k : Context) (before : Items) (at : ℕ) (kind : SayKind) (word : List ℕ) (n b : ℕ) → meant_turn k before word b (w.saying_turn k at kind n b) ≡ o.turn_saying (here k before) at (shown_saying kind) word n b
+pub saying_row : (k : Context) (before : Items) (at : ℕ) (kind : SayKind) (word : List ℕ) (n b : ℕ) → meant_turn k before word b (w.saying_turn k at kind n b) ≡ o.turn_saying (here k before) at kind word n b
 saying_row k before at sayings.AsError word n b =
     either F (b == 92) refl
     (either F (w.says k.kind b) refl (either F (b == 10) refl (start_row k (with_item before at n (tree.UserError word)) [] n b)) ∙ switch _ _ (says_same k.kind b))
@@ -216,8 +153,8 @@ name_row k before at (x ∷ xs) n b = either F (bytes.is_name b) (either F (nat_
     longer : (x : ℕ) (xs : List ℕ) → nat_le (length (x ∷ xs) + 1) 255 ≡ nat_le (length (x ∷ xs ++ b ∷ [])) 255
     longer x xs = ap (λ m. nat_le m 255) (sym (length-append (x ∷ xs) (b ∷ [])))
 
-    nonempty : (x : ℕ) (xs : List ℕ) → meant k before (x ∷ xs) b (if length (x ∷ xs) == 0 then w.refused at else w.item leaves.NamedText takes.Word at (n + 1)) ≡ o.then_item (here k before) at (n + 1) (tree.NamedText (x ∷ xs))
-    nonempty x xs = ap (λ t. meant k before (x ∷ xs) b (if t then w.refused at else w.item leaves.NamedText takes.Word at (n + 1))) (not_empty x xs)
+    nonempty : (x : ℕ) (xs : List ℕ) → meant k before (x ∷ xs) b (if length (x ∷ xs) == 0 then w.refused at else w.item singles.NamedText takes.Word at (n + 1)) ≡ o.then_item (here k before) at (n + 1) (tree.NamedText (x ∷ xs))
+    nonempty x xs = ap (λ t. meant k before (x ∷ xs) b (if t then w.refused at else w.item singles.NamedText takes.Word at (n + 1))) (not_empty x xs)
 
 pub suffix_row : (k : Context) (before : Items) (at : ℕ) (kind : TempKind) (word : List ℕ) (n b : ℕ) → meant_turn k before word b (w.suffix_start k at kind n b) ≡ o.turn_suffix (here k before) at kind n b
 suffix_row k before at kind word n b = either F (bytes.is_suffix b) refl (either F (b == 37) refl (start_row k (with_item before at n (tree.TempName kind [])) [] n b))

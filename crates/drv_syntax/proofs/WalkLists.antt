@@ -1,4 +1,4 @@
-use Rattle.drv_syntax.specs.Bytes as bytes
+use Rattle.drv_syntax.specs.Directives.{braced}
 use Rattle.drv_syntax.specs.Contexts as c
 use Rattle.drv_syntax.specs.Labels.{Label, Nodes, both, choice_nodes, inner_nodes, label_of, no_label, no_node, node, nodes_of, pattern_nodes, test_nodes, word_label}
 use Rattle.drv_syntax.specs.Outcome as o
@@ -11,8 +11,8 @@ use Rattle.drv_syntax.specs.Reader.Turns as w
 use Rattle.drv_syntax.specs.Reader.Steps as s
 use Rattle.drv_syntax.specs.Reader.Steps.{Walk, open_token}
 use Rattle.drv_syntax.specs.declared.fault.SyntaxFault.TheVariants.{EmptyTest}
-use Rattle.drv_syntax.specs.declared.reader.stages.BraceKind.TheVariants as braces
-use Rattle.drv_syntax.specs.declared.reader.stages.BraceKind.{BraceKind}
+use Rattle.drv_syntax.specs.declared.directives.BraceKind.TheVariants as braces
+use Rattle.drv_syntax.specs.declared.directives.BraceKind.{BraceKind}
 use Rattle.drv_syntax.specs.declared.reader.stages.Context.{Context}
 use Rattle.drv_syntax.specs.declared.reader.stages.Form.TheVariants as forms
 use Rattle.drv_syntax.specs.declared.reader.stages.Frame.TheVariants as frames
@@ -27,9 +27,9 @@ use Rattle.drv_syntax.specs.declared.reader.stages.Stage.{Stage}
 use Rattle.drv_syntax.specs.declared.token.TokenKind.TheVariants as kinds
 use Rattle.drv_syntax.specs.declared.token.TokenKind.{TokenKind}
 use Rattle.drv_syntax.proofs.WalkNodes.{Parts, all, all_close, all_leaf, all_open, all_star, ended, starred, opened, shortened, both_assoc, both_none, choices_join, items_join, last_join, tests_join, trailing, trailing_plain, trailing_white, trim_all, trimmed_plain, trimmed_white, white}
-use Rattle.drv_syntax.proofs.WalkMeaning.{Fits, fits_fresh, fits_later, here, leaf_inner, leaf_kind_is, leaf_label_is, leaf_white, list_place, meant, meant_first, meant_turn, part_item, shown, shown_brace, with_item}
+use Rattle.drv_syntax.proofs.WalkMeaning.{Fits, fits_fresh, fits_later, here, single_inner, single_kind_is, single_label_is, single_white, list_place, meant, meant_first, meant_turn, part_item, shown, with_item}
 use Rattle.drv_syntax.proofs.WalkListRows.{list_row}
-use Rattle.drv_syntax.proofs.WalkStars.{choice_star, choose_star, emit_star, item_star, label_star, leaf_star, test_star}
+use Rattle.drv_syntax.proofs.WalkStars.{choice_star, choose_star, emit_star, item_star, label_star, single_star, test_star}
 use Rattle.drv_syntax.specs.Stars.{has_star, item_has_star, choices_have_star}
 use Rattle.std.proofs.Common.{◌≡◌, ℕ, ◌+◌, Bool, true, false, List, [], ◌∷◌, ◌++◌, length, refl, sym, ap, subst, ◌∙◌, if◌then◌else◌}
 use Rattle.std.specs.Prelude.{◌==◌, ◌&&◌, ◌||◌, Option, None, Some, Ok, Err}
@@ -71,37 +71,37 @@ shows_item k {fs} {ws} before start end item kind label inner own h e d f i g =
     (sym (ap (λ z. placed_walk k fs z end) (item_parts_are ws before start end item kind label inner own e d f i) ∙ plain_walk k fs ws before start end item g))
     (shows_list stages.Start k (with_item before start end item) [] h)
 
-pub white_braced : (kind : BraceKind) (brace : Brace) → white (bytes.braced (shown_brace kind) brace) ≡ false
+pub white_braced : (kind : BraceKind) (brace : Brace) → white (braced kind brace) ≡ false
 white_braced braces.InPlace brace = refl
 white_braced braces.IntoFailureFile brace = refl
 white_braced braces.IntoArgumentsFile brace = refl
 
-pub label_braced : (kind : BraceKind) (brace : Brace) → label_of (bytes.braced (shown_brace kind) brace) ≡ no_label
+pub label_braced : (kind : BraceKind) (brace : Brace) → label_of (braced kind brace) ≡ no_label
 label_braced braces.InPlace brace = refl
 label_braced braces.IntoFailureFile brace = refl
 label_braced braces.IntoArgumentsFile brace = refl
 
-pub inner_emit : (kind : BraceKind) (patterns : List (Span × Pattern)) → inner_nodes (bytes.braced (shown_brace kind) (tree.Emit patterns)) ≡ pattern_nodes patterns
+pub inner_emit : (kind : BraceKind) (patterns : List (Span × Pattern)) → inner_nodes (braced kind (tree.Emit patterns)) ≡ pattern_nodes patterns
 inner_emit braces.InPlace patterns = refl
 inner_emit braces.IntoFailureFile patterns = refl
 inner_emit braces.IntoArgumentsFile patterns = refl
 
-pub inner_choose : (kind : BraceKind) (choices : Choices) → inner_nodes (bytes.braced (shown_brace kind) (tree.Choose choices)) ≡ choice_nodes choices
+pub inner_choose : (kind : BraceKind) (choices : Choices) → inner_nodes (braced kind (tree.Choose choices)) ≡ choice_nodes choices
 inner_choose braces.InPlace choices = refl
 inner_choose braces.IntoFailureFile choices = refl
 inner_choose braces.IntoArgumentsFile choices = refl
 
-pub kind_emit : (kind : BraceKind) (patterns : List (Span × Pattern)) → kind_of (bytes.braced (shown_brace kind) (tree.Emit patterns)) ≡ s.brace_token kind true
+pub kind_emit : (kind : BraceKind) (patterns : List (Span × Pattern)) → kind_of (braced kind (tree.Emit patterns)) ≡ s.brace_token kind true
 kind_emit braces.InPlace patterns = refl
 kind_emit braces.IntoFailureFile patterns = refl
 kind_emit braces.IntoArgumentsFile patterns = refl
 
-pub kind_choose : (kind : BraceKind) (choices : Choices) → kind_of (bytes.braced (shown_brace kind) (tree.Choose choices)) ≡ s.brace_token kind false
+pub kind_choose : (kind : BraceKind) (choices : Choices) → kind_of (braced kind (tree.Choose choices)) ≡ s.brace_token kind false
 kind_choose braces.InPlace choices = refl
 kind_choose braces.IntoFailureFile choices = refl
 kind_choose braces.IntoArgumentsFile choices = refl
 
-pub brace_opened : (kind : BraceKind) → s.brace_token kind false ≡ opened_kind (shown_brace kind)
+pub brace_opened : (kind : BraceKind) → s.brace_token kind false ≡ opened_kind kind
 brace_opened braces.InPlace = refl
 brace_opened braces.IntoFailureFile = refl
 brace_opened braces.IntoArgumentsFile = refl
@@ -120,19 +120,19 @@ pub part_walk : (stage : ListStage) (k : Context) (fs : List Frame) (ws : List o
     → s.with_part p (list_walk stage k fs ws before word) ≡ list_walk stages.Start k fs ws (with_item before p.start p.end (part_item p word)) []
 part_walk stage k fs ws before word p =
     ap (λ z. made (staged.List stages.Start) k fs z [] kept trail)
-    (all_leaf own (levels_of ws) (both (prefix_of ws) (nodes_of before)) (w.leaf_kind p.leaf) label p.start p.end
-    ∙ item_parts_are ws before p.start p.end item (w.leaf_kind p.leaf) label no_node own (leaf_kind_is p.leaf v) (leaf_label_is p.leaf v) (leaf_inner p.leaf v) (ap (λ z. z || list_star ws before) (sym (leaf_star p.leaf v))))
-    ∙ ap (λ z. made (staged.List stages.Start) k fs parts [] z trail) (part_kept before p.start p.end item (begin_of ws) (s.is_white p.leaf) (leaf_white p.leaf v))
-    ∙ ap (λ z. made (staged.List stages.Start) k fs parts [] (last_place (trimmed (with_item before p.start p.end item)) (begin_of ws)) z) (part_trail before p.start p.end item (s.is_white p.leaf) (leaf_white p.leaf v))
+    (all_leaf own (levels_of ws) (both (prefix_of ws) (nodes_of before)) (w.single_kind p.single) label p.start p.end
+    ∙ item_parts_are ws before p.start p.end item (w.single_kind p.single) label no_node own (single_kind_is p.single v) (single_label_is p.single v) (single_inner p.single v) (ap (λ z. z || list_star ws before) (sym (single_star p.single v))))
+    ∙ ap (λ z. made (staged.List stages.Start) k fs parts [] z trail) (part_kept before p.start p.end item (begin_of ws) (s.is_white p.single) (single_white p.single v))
+    ∙ ap (λ z. made (staged.List stages.Start) k fs parts [] (last_place (trimmed (with_item before p.start p.end item)) (begin_of ws)) z) (part_trail before p.start p.end item (s.is_white p.single) (single_white p.single v))
   where
     v : List ℕ
     v = w.taken_word p.taken word
 
     own : Bool
-    own = s.is_star p.leaf || list_star ws before
+    own = s.is_star p.single || list_star ws before
 
     label : Label
-    label = w.leaf_label p.leaf (w.taken_word p.taken word)
+    label = w.single_label p.single (w.taken_word p.taken word)
 
     item : Item
     item = part_item p word
@@ -141,10 +141,10 @@ part_walk stage k fs ws before word p =
     parts = list_parts ws (with_item before p.start p.end (part_item p word))
 
     kept : ℕ
-    kept = if s.is_white p.leaf then last_place (trimmed before) (begin_of ws) else p.end
+    kept = if s.is_white p.single then last_place (trimmed before) (begin_of ws) else p.end
 
     trail : ℕ
-    trail = if s.is_white p.leaf then trailing before + 1 else 0
+    trail = if s.is_white p.single then trailing before + 1 else 0
 
 pub starred_join : (ts xs : Tests) → c.all_starred (join_tests ts xs) ≡ (c.all_starred ts && c.all_starred xs)
 starred_join tree.no_test xs = refl
@@ -223,20 +223,20 @@ x_parts ws k before kind at choices tests colon items around =
 pub shows_braces : (k : Context) {fs : List Frame} {ws : List o.Waiting} (before : Items) (kind : BraceKind) (at end : ℕ) (choices : Choices) (own : Bool) → own ≡ (choices_have_star choices || list_star ws before) → Waits fs ws
     → Shows (placed_walk k fs
     (ended (length (list_parts ws before).tokens) (s.brace_token kind false) at end (all own (brace_level ws (hd ws k before kind at tree.no_choice tree.no_test []) ∷ levels_of ws) (choice_nodes choices))) end) ws
-    (o.AtItem (o.placed (here k before) at end (bytes.braced (shown_brace kind) (tree.Choose choices))))
+    (o.AtItem (o.placed (here k before) at end (braced kind (tree.Choose choices))))
 shows_braces k {fs} {ws} before kind at end choices own e h =
-    subst (λ (z : Parts). Shows (placed_walk k fs z end) ws (o.AtItem (o.placed (here k before) at end (bytes.braced (shown_brace kind) (tree.Choose choices)))))
-    (sym (all_close own (levels_of ws) (both (prefix_of ws) (nodes_of before)) (choice_nodes choices) (opened_kind (shown_brace kind)) (s.brace_token kind false) no_label at end))
-    (shows_item k before at end (bytes.braced (shown_brace kind) (tree.Choose choices)) (s.brace_token kind false) no_label (choice_nodes choices) own h (kind_choose kind choices) (label_braced kind (tree.Choose choices)) (inner_choose kind choices) (e ∙ ap (λ z. z || list_star ws before) (sym (choose_star kind choices))) (white_braced kind (tree.Choose choices)))
+    subst (λ (z : Parts). Shows (placed_walk k fs z end) ws (o.AtItem (o.placed (here k before) at end (braced kind (tree.Choose choices)))))
+    (sym (all_close own (levels_of ws) (both (prefix_of ws) (nodes_of before)) (choice_nodes choices) (opened_kind kind) (s.brace_token kind false) no_label at end))
+    (shows_item k before at end (braced kind (tree.Choose choices)) (s.brace_token kind false) no_label (choice_nodes choices) own h (kind_choose kind choices) (label_braced kind (tree.Choose choices)) (inner_choose kind choices) (e ∙ ap (λ z. z || list_star ws before) (sym (choose_star kind choices))) (white_braced kind (tree.Choose choices)))
 
 pub shows_emit : (k : Context) {fs : List Frame} {ws : List o.Waiting} (before : Items) (kind : BraceKind) (at end : ℕ) (patterns : List (Span × Pattern)) → Waits fs ws
     → Shows (placed_walk k fs
     (ended (length (list_parts ws before).tokens) (s.brace_token kind true) at end (all (list_star ws before) (brace_level ws (hd ws k before kind at tree.no_choice tree.no_test []) ∷ levels_of ws) (pattern_nodes patterns))) end) ws
-    (o.AtItem (o.placed (here k before) at end (bytes.braced (shown_brace kind) (tree.Emit patterns))))
+    (o.AtItem (o.placed (here k before) at end (braced kind (tree.Emit patterns))))
 shows_emit k {fs} {ws} before kind at end patterns h =
-    subst (λ (z : Parts). Shows (placed_walk k fs z end) ws (o.AtItem (o.placed (here k before) at end (bytes.braced (shown_brace kind) (tree.Emit patterns)))))
-    (sym (all_close (list_star ws before) (levels_of ws) (both (prefix_of ws) (nodes_of before)) (pattern_nodes patterns) (opened_kind (shown_brace kind)) (s.brace_token kind true) no_label at end))
-    (shows_item k before at end (bytes.braced (shown_brace kind) (tree.Emit patterns)) (s.brace_token kind true) no_label (pattern_nodes patterns) (list_star ws before) h (kind_emit kind patterns) (label_braced kind (tree.Emit patterns)) (inner_emit kind patterns) (ap (λ z. z || list_star ws before) (sym (emit_star kind patterns))) (white_braced kind (tree.Emit patterns)))
+    subst (λ (z : Parts). Shows (placed_walk k fs z end) ws (o.AtItem (o.placed (here k before) at end (braced kind (tree.Emit patterns)))))
+    (sym (all_close (list_star ws before) (levels_of ws) (both (prefix_of ws) (nodes_of before)) (pattern_nodes patterns) (opened_kind kind) (s.brace_token kind true) no_label at end))
+    (shows_item k before at end (braced kind (tree.Emit patterns)) (s.brace_token kind true) no_label (pattern_nodes patterns) (list_star ws before) h (kind_emit kind patterns) (label_braced kind (tree.Emit patterns)) (inner_emit kind patterns) (ap (λ z. z || list_star ws before) (sym (emit_star kind patterns))) (white_braced kind (tree.Emit patterns)))
 
 pub shows_next : (k : Context) {fs : List Frame} {ws : List o.Waiting} (before : Items) (kind : BraceKind) (at : ℕ) (choices : Choices) (tests : Tests) (colon : ℕ) (items : Items) → Waits fs ws
     → Shows (made (staged.Choice (the_head ws before kind at) true) k fs (all (head_star ws (hd ws k before kind at choices tests [])) (brace_level ws (hd ws k before kind at choices tests []) ∷ levels_of ws) (choice_nodes (o.with_choice (hd ws k before kind at choices tests []) colon items))) [] 0 0) ws
@@ -346,7 +346,7 @@ action_leads (acts.OpensBraces start kind) stage k {fs} {ws} before word n b h =
     (
       subst (λ (z : Parts). Shows (made (staged.Choice (the_head ws before kind start) false) k fs z [] (last_place (trimmed before) (begin_of ws)) (trailing before)) ws
           (o.ChoiceStart (hd ws k before kind start tree.no_choice tree.no_test [])))
-          (sym (ap (λ z. opened z no_label start (list_parts ws before)) (brace_opened kind) ∙ all_open (list_star ws before) (levels_of ws) (both (prefix_of ws) (nodes_of before)) (opened_kind (shown_brace kind)) no_label start))
+          (sym (ap (λ z. opened z no_label start (list_parts ws before)) (brace_opened kind) ∙ all_open (list_star ws before) (levels_of ws) (both (prefix_of ws) (nodes_of before)) (opened_kind kind) no_label start))
           (shows_choice false k before kind start tree.no_choice [] (last_place (trimmed before) (begin_of ws)) (trailing before) fits_fresh h),
       λ again. refl,
     ),

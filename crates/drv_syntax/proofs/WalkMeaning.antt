@@ -1,5 +1,5 @@
-use Rattle.drv_syntax.specs.Bytes as bytes
 use Rattle.drv_syntax.specs.Contexts as c
+use Rattle.drv_syntax.specs.Directives.{text_of}
 use Rattle.drv_syntax.specs.Labels.{inner_nodes, label_of, no_node}
 use Rattle.drv_syntax.specs.Outcome as o
 use Rattle.drv_syntax.specs.Outcome.{Here, Place, Turn, join, placed, turn, turn_item, turn_percent}
@@ -8,12 +8,11 @@ use Rattle.drv_syntax.specs.Tokens.{kind_of}
 use Rattle.drv_syntax.specs.Tree as tree
 use Rattle.drv_syntax.specs.Tree.{Asked, Choices, Item, Items, Pattern, Span, Tests}
 use Rattle.drv_syntax.specs.Reader.Turns as w
-use Rattle.drv_syntax.specs.Reader.Turns.{leaf_kind, leaf_label, list_turn, start_action, percent_action, goes_of, goes_action, head_action, choice_action}
+use Rattle.drv_syntax.specs.Reader.Turns.{single_kind, single_label, list_turn, start_action, percent_action, head_action, choice_action}
 use Rattle.drv_syntax.specs.Reader.Steps.{is_white}
 use Rattle.drv_syntax.specs.declared.reader.stages.Behind.TheVariants as behinds
 use Rattle.drv_syntax.specs.declared.reader.stages.Behind.{Behind}
-use Rattle.drv_syntax.specs.declared.reader.stages.BraceKind.TheVariants as braces
-use Rattle.drv_syntax.specs.declared.reader.stages.BraceKind.{BraceKind}
+use Rattle.drv_syntax.specs.declared.directives.BraceKind.{BraceKind}
 use Rattle.drv_syntax.specs.declared.reader.stages.Context.{Context}
 use Rattle.drv_syntax.specs.declared.reader.stages.Form.TheVariants as forms
 use Rattle.drv_syntax.specs.declared.reader.stages.Form.{Form}
@@ -22,8 +21,8 @@ use Rattle.drv_syntax.specs.Reader.HeadActions as heads
 use Rattle.drv_syntax.specs.Reader.HeadActions.{ChoiceAction, HeadAction}
 use Rattle.drv_syntax.specs.declared.reader.stages.HeadStage.TheVariants as places
 use Rattle.drv_syntax.specs.declared.reader.stages.HeadStage.{HeadStage}
-use Rattle.drv_syntax.specs.declared.reader.actions.Leaf.TheVariants as leaves
-use Rattle.drv_syntax.specs.declared.reader.actions.Leaf.{Leaf}
+use Rattle.drv_syntax.specs.declared.reader.actions.Single.TheVariants as singles
+use Rattle.drv_syntax.specs.declared.reader.actions.Single.{Single}
 use Rattle.drv_syntax.specs.Reader.ListActions as acts
 use Rattle.drv_syntax.specs.Reader.ListActions.{ListAction, ListTurn}
 use Rattle.drv_syntax.specs.declared.reader.stages.ListKind.TheVariants as lists
@@ -32,8 +31,8 @@ use Rattle.drv_syntax.specs.declared.reader.stages.ListStage.TheVariants as stag
 use Rattle.drv_syntax.specs.declared.reader.stages.ListStage.{ListStage}
 use Rattle.drv_syntax.specs.declared.reader.stages.Open.{Open}
 use Rattle.drv_syntax.specs.declared.reader.actions.Part.{Part}
-use Rattle.drv_syntax.specs.declared.reader.stages.SayKind.TheVariants as sayings
-use Rattle.drv_syntax.specs.declared.reader.stages.SayKind.{SayKind}
+use Rattle.drv_syntax.specs.declared.directives.SayKind.TheVariants as sayings
+use Rattle.drv_syntax.specs.declared.directives.SayKind.{SayKind}
 use Rattle.drv_syntax.specs.declared.reader.stages.StarOwner.TheVariants as owners
 use Rattle.drv_syntax.specs.declared.reader.stages.StarOwner.{StarOwner}
 use Rattle.drv_syntax.proofs.WalkNodes.{white}
@@ -55,167 +54,88 @@ shown_owner owners.Starred = c.Starred
 abbrev pub shown : Context → c.Context
 shown k = record { kind = shown_kind k.kind; in_arguments = k.in_arguments; owner = shown_owner k.owner; levels = k.levels }
 
-abbrev pub shown_brace : BraceKind → bytes.BraceKind
-shown_brace braces.InPlace = bytes.InPlace
-shown_brace braces.IntoFailureFile = bytes.IntoFailureFile
-shown_brace braces.IntoArgumentsFile = bytes.IntoArgumentsFile
-
-abbrev pub shown_saying : SayKind → bytes.SayKind
-shown_saying sayings.AsError = bytes.AsError
-shown_saying sayings.AsNotice = bytes.AsNotice
-
 abbrev pub here : Context → Items → Here
 here k before = record { context = shown k; done = before }
 
-abbrev pub item_of : Leaf → List ℕ → Item
-item_of (leaves.Plain b) w = tree.Plain b
-item_of (leaves.Escape b) w = tree.Escape b
-item_of leaves.Blank w = tree.Blank
-item_of leaves.Newline w = tree.Newline
-item_of leaves.Pipe w = tree.Pipe
-item_of leaves.Percent w = tree.Percent
-item_of leaves.InputName w = tree.InputName
-item_of leaves.BaseStem w = tree.BaseStem
-item_of leaves.BaseName w = tree.BaseName
-item_of leaves.ObjectSuffix w = tree.ObjectSuffix
-item_of (leaves.TempName kind) w = tree.TempName kind w
-item_of leaves.Removed w = tree.Removed
-item_of leaves.Output w = tree.Output
-item_of leaves.NoOutput w = tree.NoOutput
-item_of leaves.FoundFile w = tree.FoundFile
-item_of leaves.FoundScript w = tree.FoundScript
-item_of leaves.Directories w = tree.Directories
-item_of leaves.Outputs w = tree.Outputs
-item_of leaves.AddOption w = tree.AddOption w
-item_of leaves.LinkerOptions w = tree.LinkerOptions
-item_of leaves.AssemblerOptions w = tree.AssemblerOptions
-item_of leaves.PreprocessorOptions w = tree.PreprocessorOptions
-item_of (leaves.Said sayings.AsError) w = tree.UserError w
-item_of (leaves.Said sayings.AsNotice) w = tree.Notice w
-item_of leaves.NamedText w = tree.NamedText w
-item_of (leaves.BuiltinText name) word = tree.BuiltinText (w.builtin_word name)
-item_of (leaves.Hide starred) w = tree.Hide (tree.pattern w starred)
-item_of leaves.Star w = tree.Star
+abbrev pub item_of : Single → List ℕ → Item
+item_of (singles.Plain b) w = tree.Plain b
+item_of (singles.Escape b) w = tree.Escape b
+item_of singles.Blank w = tree.Blank
+item_of singles.Newline w = tree.Newline
+item_of singles.Pipe w = tree.Pipe
+item_of (singles.Directive leaf) w = tree.Leaf leaf
+item_of (singles.TempName kind) w = tree.TempName kind w
+item_of singles.AddOption w = tree.AddOption w
+item_of (singles.Said sayings.AsError) w = tree.UserError w
+item_of (singles.Said sayings.AsNotice) w = tree.Notice w
+item_of singles.NamedText w = tree.NamedText w
+item_of (singles.BuiltinText name) w = tree.BuiltinText (text_of name)
+item_of (singles.Hide starred) w = tree.Hide (tree.pattern w starred)
+item_of singles.Star w = tree.Star
 
-pub leaf_kind_is : (leaf : Leaf) (w : List ℕ) → kind_of (item_of leaf w) ≡ leaf_kind leaf
-leaf_kind_is (leaves.Plain b) w = refl
-leaf_kind_is (leaves.Escape b) w = refl
-leaf_kind_is leaves.Blank w = refl
-leaf_kind_is leaves.Newline w = refl
-leaf_kind_is leaves.Pipe w = refl
-leaf_kind_is leaves.Percent w = refl
-leaf_kind_is leaves.InputName w = refl
-leaf_kind_is leaves.BaseStem w = refl
-leaf_kind_is leaves.BaseName w = refl
-leaf_kind_is leaves.ObjectSuffix w = refl
-leaf_kind_is (leaves.TempName kind) w = refl
-leaf_kind_is leaves.Removed w = refl
-leaf_kind_is leaves.Output w = refl
-leaf_kind_is leaves.NoOutput w = refl
-leaf_kind_is leaves.FoundFile w = refl
-leaf_kind_is leaves.FoundScript w = refl
-leaf_kind_is leaves.Directories w = refl
-leaf_kind_is leaves.Outputs w = refl
-leaf_kind_is leaves.AddOption w = refl
-leaf_kind_is leaves.LinkerOptions w = refl
-leaf_kind_is leaves.AssemblerOptions w = refl
-leaf_kind_is leaves.PreprocessorOptions w = refl
-leaf_kind_is (leaves.Said sayings.AsError) w = refl
-leaf_kind_is (leaves.Said sayings.AsNotice) w = refl
-leaf_kind_is leaves.NamedText w = refl
-leaf_kind_is (leaves.BuiltinText name) w = refl
-leaf_kind_is (leaves.Hide starred) w = refl
-leaf_kind_is leaves.Star w = refl
+pub single_kind_is : (single : Single) (w : List ℕ) → kind_of (item_of single w) ≡ single_kind single
+single_kind_is (singles.Plain b) w = refl
+single_kind_is (singles.Escape b) w = refl
+single_kind_is singles.Blank w = refl
+single_kind_is singles.Newline w = refl
+single_kind_is singles.Pipe w = refl
+single_kind_is (singles.Directive leaf) w = refl
+single_kind_is (singles.TempName kind) w = refl
+single_kind_is singles.AddOption w = refl
+single_kind_is (singles.Said sayings.AsError) w = refl
+single_kind_is (singles.Said sayings.AsNotice) w = refl
+single_kind_is singles.NamedText w = refl
+single_kind_is (singles.BuiltinText name) w = refl
+single_kind_is (singles.Hide starred) w = refl
+single_kind_is singles.Star w = refl
 
-pub leaf_inner : (leaf : Leaf) (w : List ℕ) → inner_nodes (item_of leaf w) ≡ no_node
-leaf_inner (leaves.Plain b) w = refl
-leaf_inner (leaves.Escape b) w = refl
-leaf_inner leaves.Blank w = refl
-leaf_inner leaves.Newline w = refl
-leaf_inner leaves.Pipe w = refl
-leaf_inner leaves.Percent w = refl
-leaf_inner leaves.InputName w = refl
-leaf_inner leaves.BaseStem w = refl
-leaf_inner leaves.BaseName w = refl
-leaf_inner leaves.ObjectSuffix w = refl
-leaf_inner (leaves.TempName kind) w = refl
-leaf_inner leaves.Removed w = refl
-leaf_inner leaves.Output w = refl
-leaf_inner leaves.NoOutput w = refl
-leaf_inner leaves.FoundFile w = refl
-leaf_inner leaves.FoundScript w = refl
-leaf_inner leaves.Directories w = refl
-leaf_inner leaves.Outputs w = refl
-leaf_inner leaves.AddOption w = refl
-leaf_inner leaves.LinkerOptions w = refl
-leaf_inner leaves.AssemblerOptions w = refl
-leaf_inner leaves.PreprocessorOptions w = refl
-leaf_inner (leaves.Said sayings.AsError) w = refl
-leaf_inner (leaves.Said sayings.AsNotice) w = refl
-leaf_inner leaves.NamedText w = refl
-leaf_inner (leaves.BuiltinText name) w = refl
-leaf_inner (leaves.Hide starred) w = refl
-leaf_inner leaves.Star w = refl
+pub single_inner : (single : Single) (w : List ℕ) → inner_nodes (item_of single w) ≡ no_node
+single_inner (singles.Plain b) w = refl
+single_inner (singles.Escape b) w = refl
+single_inner singles.Blank w = refl
+single_inner singles.Newline w = refl
+single_inner singles.Pipe w = refl
+single_inner (singles.Directive leaf) w = refl
+single_inner (singles.TempName kind) w = refl
+single_inner singles.AddOption w = refl
+single_inner (singles.Said sayings.AsError) w = refl
+single_inner (singles.Said sayings.AsNotice) w = refl
+single_inner singles.NamedText w = refl
+single_inner (singles.BuiltinText name) w = refl
+single_inner (singles.Hide starred) w = refl
+single_inner singles.Star w = refl
 
-pub leaf_label_is : (leaf : Leaf) (w : List ℕ) → label_of (item_of leaf w) ≡ leaf_label leaf w
-leaf_label_is (leaves.Plain b) w = refl
-leaf_label_is (leaves.Escape b) w = refl
-leaf_label_is leaves.Blank w = refl
-leaf_label_is leaves.Newline w = refl
-leaf_label_is leaves.Pipe w = refl
-leaf_label_is leaves.Percent w = refl
-leaf_label_is leaves.InputName w = refl
-leaf_label_is leaves.BaseStem w = refl
-leaf_label_is leaves.BaseName w = refl
-leaf_label_is leaves.ObjectSuffix w = refl
-leaf_label_is (leaves.TempName kind) w = refl
-leaf_label_is leaves.Removed w = refl
-leaf_label_is leaves.Output w = refl
-leaf_label_is leaves.NoOutput w = refl
-leaf_label_is leaves.FoundFile w = refl
-leaf_label_is leaves.FoundScript w = refl
-leaf_label_is leaves.Directories w = refl
-leaf_label_is leaves.Outputs w = refl
-leaf_label_is leaves.AddOption w = refl
-leaf_label_is leaves.LinkerOptions w = refl
-leaf_label_is leaves.AssemblerOptions w = refl
-leaf_label_is leaves.PreprocessorOptions w = refl
-leaf_label_is (leaves.Said sayings.AsError) w = refl
-leaf_label_is (leaves.Said sayings.AsNotice) w = refl
-leaf_label_is leaves.NamedText w = refl
-leaf_label_is (leaves.BuiltinText name) w = refl
-leaf_label_is (leaves.Hide starred) w = refl
-leaf_label_is leaves.Star w = refl
+pub single_label_is : (single : Single) (w : List ℕ) → label_of (item_of single w) ≡ single_label single w
+single_label_is (singles.Plain b) w = refl
+single_label_is (singles.Escape b) w = refl
+single_label_is singles.Blank w = refl
+single_label_is singles.Newline w = refl
+single_label_is singles.Pipe w = refl
+single_label_is (singles.Directive leaf) w = refl
+single_label_is (singles.TempName kind) w = refl
+single_label_is singles.AddOption w = refl
+single_label_is (singles.Said sayings.AsError) w = refl
+single_label_is (singles.Said sayings.AsNotice) w = refl
+single_label_is singles.NamedText w = refl
+single_label_is (singles.BuiltinText name) w = refl
+single_label_is (singles.Hide starred) w = refl
+single_label_is singles.Star w = refl
 
-pub leaf_white : (leaf : Leaf) (w : List ℕ) → white (item_of leaf w) ≡ is_white leaf
-leaf_white (leaves.Plain b) w = refl
-leaf_white (leaves.Escape b) w = refl
-leaf_white leaves.Blank w = refl
-leaf_white leaves.Newline w = refl
-leaf_white leaves.Pipe w = refl
-leaf_white leaves.Percent w = refl
-leaf_white leaves.InputName w = refl
-leaf_white leaves.BaseStem w = refl
-leaf_white leaves.BaseName w = refl
-leaf_white leaves.ObjectSuffix w = refl
-leaf_white (leaves.TempName kind) w = refl
-leaf_white leaves.Removed w = refl
-leaf_white leaves.Output w = refl
-leaf_white leaves.NoOutput w = refl
-leaf_white leaves.FoundFile w = refl
-leaf_white leaves.FoundScript w = refl
-leaf_white leaves.Directories w = refl
-leaf_white leaves.Outputs w = refl
-leaf_white leaves.AddOption w = refl
-leaf_white leaves.LinkerOptions w = refl
-leaf_white leaves.AssemblerOptions w = refl
-leaf_white leaves.PreprocessorOptions w = refl
-leaf_white (leaves.Said sayings.AsError) w = refl
-leaf_white (leaves.Said sayings.AsNotice) w = refl
-leaf_white leaves.NamedText w = refl
-leaf_white (leaves.BuiltinText name) w = refl
-leaf_white (leaves.Hide starred) w = refl
-leaf_white leaves.Star w = refl
+pub single_white : (single : Single) (w : List ℕ) → white (item_of single w) ≡ is_white single
+single_white (singles.Plain b) w = refl
+single_white (singles.Escape b) w = refl
+single_white singles.Blank w = refl
+single_white singles.Newline w = refl
+single_white singles.Pipe w = refl
+single_white (singles.Directive leaf) w = refl
+single_white (singles.TempName kind) w = refl
+single_white singles.AddOption w = refl
+single_white (singles.Said sayings.AsError) w = refl
+single_white (singles.Said sayings.AsNotice) w = refl
+single_white singles.NamedText w = refl
+single_white (singles.BuiltinText name) w = refl
+single_white (singles.Hide starred) w = refl
+single_white singles.Star w = refl
 
 abbrev pub list_place : ListStage → List ℕ → Here → Place
 list_place stages.Start word h = o.AtItem h
@@ -227,17 +147,17 @@ list_place (stages.SuffixPercent at kind percent) word h = o.SuffixPercent h at 
 list_place (stages.OptionOpen at) word h = o.OptionOpen h at
 list_place (stages.OptionText at) word h = o.OptionText h at word
 list_place (stages.OptionEscape at) word h = o.OptionEscape h at word
-list_place (stages.SayingText at kind) word h = o.SayingText h at (shown_saying kind) word
-list_place (stages.SayingEscape at kind back) word h = o.SayingEscape h at (shown_saying kind) word back
+list_place (stages.SayingText at kind) word h = o.SayingText h at kind word
+list_place (stages.SayingEscape at kind back) word h = o.SayingEscape h at kind word back
 list_place (stages.NameText at) word h = o.NameText h at word
 list_place (stages.HideStart at) word h = o.HideStart h at
 list_place (stages.HideWord at) word h = o.HideWord h at word
 list_place (stages.HideEscape at) word h = o.HideEscape h at word
 list_place (stages.FunctionName at) word h = o.FunctionName h at word
-list_place (stages.BraceOpen at kind) word h = o.BraceOpen h at (shown_brace kind)
+list_place (stages.BraceOpen at kind) word h = o.BraceOpen h at kind
 
 abbrev pub part_item : Part → List ℕ → Item
-part_item p word = item_of p.leaf (w.taken_word p.taken word)
+part_item p word = item_of p.single (w.taken_word p.taken word)
 
 abbrev pub meant : Context → Items → List ℕ → ℕ → ListAction → Turn
 meant k before word b (acts.Keeps stage) = o.Goes (list_place stage word (here k before))
@@ -246,7 +166,7 @@ meant k before word b (acts.Begins stage) = o.Goes (list_place stage (b ∷ []) 
 meant k before word b (acts.Adds stage) = o.Goes (list_place stage (word ++ b ∷ []) (here k before))
 meant k before word b (acts.Item p) = o.then_item (here k before) p.start p.end (part_item p word)
 meant k before word b acts.Closes = o.Closes before b
-meant k before word b (acts.OpensBraces at kind) = o.Goes (o.ChoiceStart (o.fresh (here k before) at (shown_brace kind)))
+meant k before word b (acts.OpensBraces at kind) = o.Goes (o.ChoiceStart (o.fresh (here k before) at kind))
 meant k before word b (acts.OpensCall at) = o.Opens (o.list_in (c.in_arguments (shown k))) (o.WaitsCall (here k before) at word)
 meant k before word b (acts.Refused fault) = o.Refused fault
 
@@ -270,7 +190,7 @@ switch x y e = ap (λ t. if t then x else y) e
 -- braces to the left of a colon, with the trees read so far
 abbrev pub headed : Context → Items → Head → Choices → Tests → List (Span × Pattern) → o.Head
 headed k before head choices tests patterns =
-    record { here = here k before; at = head.part.start; kind = shown_brace head.kind; choices = choices; tests = tests; patterns = patterns }
+    record { here = here k before; at = head.part.start; kind = head.kind; choices = choices; tests = tests; patterns = patterns }
 
 -- which trees braces of this form hold
 pub data Fits : Form → Choices → Tests → List (Span × Pattern) → Type 0 where

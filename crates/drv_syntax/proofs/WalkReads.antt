@@ -15,12 +15,12 @@ use Rattle.drv_syntax.specs.declared.reader.stages.Context.{Context}
 use Rattle.drv_syntax.specs.declared.reader.stages.Frame.{Frame}
 use Rattle.drv_syntax.specs.declared.reader.stages.HeadStage.TheVariants as places
 use Rattle.drv_syntax.specs.declared.reader.stages.HeadStage.{HeadStage}
-use Rattle.drv_syntax.specs.declared.reader.actions.Leaf.TheVariants as leaves
-use Rattle.drv_syntax.specs.declared.reader.actions.Leaf.{Leaf}
+use Rattle.drv_syntax.specs.declared.reader.actions.Single.TheVariants as singles
+use Rattle.drv_syntax.specs.declared.reader.actions.Single.{Single}
 use Rattle.drv_syntax.specs.declared.reader.stages.ListKind.TheVariants as lists
 use Rattle.drv_syntax.specs.declared.reader.stages.ListStage.TheVariants as stages
 use Rattle.drv_syntax.specs.declared.reader.stages.ListStage.{ListStage}
-use Rattle.drv_syntax.specs.declared.reader.stages.SayKind.TheVariants as sayings
+use Rattle.drv_syntax.specs.declared.directives.SayKind.TheVariants as sayings
 use Rattle.drv_syntax.specs.declared.reader.stages.StarOwner.TheVariants as owners
 use Rattle.drv_syntax.specs.declared.reader.actions.Taken.TheVariants as takes
 use Rattle.drv_syntax.specs.declared.reader.actions.Taken.{Taken}
@@ -81,14 +81,14 @@ ended_by n v place (f ∷ fs) (x ∷ ws) outer e = ap (λ z. failed z) outer
 abbrev pub given : Items → List Token → Result (List Token × List Label) SyntaxFault
 given items tokens = Ok (tokens, labels_of items)
 
-pub part_end : (stage : ListStage) (k : Context) (fs : List Frame) (before : Items) (word : List ℕ) (leaf : Leaf) (taken : Taken) (start n : ℕ)
-    → Same (s.end_part leaf taken start n (list_walk stage k fs [] before word)) (o.Got (with_item before start n (item_of leaf (w.taken_word taken word))))
-part_end stage k fs before word leaf taken start n =
-    ap (λ z. walked z) (part_walk stage k fs [] before word (record { leaf = leaf; taken = taken; start = start; end = n }))
-    ∙ ap (λ z. given items z) (sym (items_flat 0 (with_item before start n (item_of leaf (w.taken_word taken word)))))
+pub part_end : (stage : ListStage) (k : Context) (fs : List Frame) (before : Items) (word : List ℕ) (single : Single) (taken : Taken) (start n : ℕ)
+    → Same (s.end_part single taken start n (list_walk stage k fs [] before word)) (o.Got (with_item before start n (item_of single (w.taken_word taken word))))
+part_end stage k fs before word single taken start n =
+    ap (λ z. walked z) (part_walk stage k fs [] before word (record { single = single; taken = taken; start = start; end = n }))
+    ∙ ap (λ z. given items z) (sym (items_flat 0 (with_item before start n (item_of single (w.taken_word taken word)))))
   where
     items : Items
-    items = with_item before start n (item_of leaf (w.taken_word taken word))
+    items = with_item before start n (item_of single (w.taken_word taken word))
 
     walked : Walk → Result (List Token × List Label) SyntaxFault
     walked z = Ok (z.tokens, z.labels)
@@ -99,18 +99,18 @@ list_end stage k fs (x ∷ ws) before word n h = absurd h
 list_end stages.Start k fs [] before word n h = ap (λ z. given before z) (sym (items_flat 0 before))
 list_end (stages.Backslash back) k fs [] before word n h = refl
 list_end (stages.Percent at) k fs [] before word n h = refl
-list_end (stages.SuffixStart at kind) k fs [] before word n h = part_end (stages.SuffixStart at kind) k fs before word (leaves.TempName kind) takes.Nothing at n
-list_end (stages.SuffixRun at kind) k fs [] before word n h = part_end (stages.SuffixRun at kind) k fs before word (leaves.TempName kind) takes.Word at n
+list_end (stages.SuffixStart at kind) k fs [] before word n h = part_end (stages.SuffixStart at kind) k fs before word (singles.TempName kind) takes.Nothing at n
+list_end (stages.SuffixRun at kind) k fs [] before word n h = part_end (stages.SuffixRun at kind) k fs before word (singles.TempName kind) takes.Word at n
 list_end (stages.SuffixPercent at kind percent) k fs [] before word n h = refl
 list_end (stages.OptionOpen at) k fs [] before word n h = refl
 list_end (stages.OptionText at) k fs [] before word n h = refl
 list_end (stages.OptionEscape at) k fs [] before word n h = refl
-list_end (stages.SayingText at sayings.AsError) k fs [] before word n h = part_end (stages.SayingText at sayings.AsError) k fs before word (leaves.Said sayings.AsError) takes.Word at n
-list_end (stages.SayingText at sayings.AsNotice) k fs [] before word n h = part_end (stages.SayingText at sayings.AsNotice) k fs before word (leaves.Said sayings.AsNotice) takes.Word at n
+list_end (stages.SayingText at sayings.AsError) k fs [] before word n h = part_end (stages.SayingText at sayings.AsError) k fs before word (singles.Said sayings.AsError) takes.Word at n
+list_end (stages.SayingText at sayings.AsNotice) k fs [] before word n h = part_end (stages.SayingText at sayings.AsNotice) k fs before word (singles.Said sayings.AsNotice) takes.Word at n
 list_end (stages.SayingEscape at kind back) k fs [] before word n h = refl
 list_end (stages.NameText at) k fs [] before word n h = refl
 list_end (stages.HideStart at) k fs [] before word n h = refl
-list_end (stages.HideWord at) k fs [] before word n h = part_end (stages.HideWord at) k fs before word (leaves.Hide false) takes.Word at n
+list_end (stages.HideWord at) k fs [] before word n h = part_end (stages.HideWord at) k fs before word (singles.Hide false) takes.Word at n
 list_end (stages.HideEscape at) k fs [] before word n h = refl
 list_end (stages.FunctionName at) k fs [] before word n h = refl
 list_end (stages.BraceOpen at kind) k fs [] before word n h = refl

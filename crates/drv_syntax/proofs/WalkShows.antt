@@ -1,4 +1,3 @@
-use Rattle.drv_syntax.specs.Bytes as bytes
 use Rattle.drv_syntax.specs.Contexts as c
 use Rattle.drv_syntax.specs.Labels.{Nodes, both, choice_nodes, no_label, no_node, nodes_of, pattern_nodes, test_nodes, word_label}
 use Rattle.drv_syntax.specs.Outcome as o
@@ -10,7 +9,8 @@ use Rattle.drv_syntax.specs.Reader.Turns as w
 use Rattle.drv_syntax.specs.Reader.Steps as s
 use Rattle.drv_syntax.specs.Reader.Steps.{Walk, open_token}
 use Rattle.drv_syntax.specs.declared.fault.SyntaxFault.{SyntaxFault}
-use Rattle.drv_syntax.specs.declared.reader.stages.BraceKind.{BraceKind}
+use Rattle.drv_syntax.specs.declared.directives.BraceKind.TheVariants as braces
+use Rattle.drv_syntax.specs.declared.directives.BraceKind.{BraceKind}
 use Rattle.drv_syntax.specs.declared.reader.stages.Context.{Context}
 use Rattle.drv_syntax.specs.declared.reader.stages.Form.TheVariants as forms
 use Rattle.drv_syntax.specs.declared.reader.stages.Form.{Form}
@@ -32,10 +32,10 @@ use Rattle.std.specs.Prelude.{◌||◌, None, Result, Ok, Err}
 -- Each state of the code stands for a place of the table and for directives that wait, and each byte leads to the next.
 
 -- the tokens and labels of what waits
-abbrev pub opened_kind : bytes.BraceKind → TokenKind
-opened_kind bytes.InPlace = kinds.Choose
-opened_kind bytes.IntoFailureFile = kinds.FailureFile
-opened_kind bytes.IntoArgumentsFile = kinds.ArgumentsFile
+abbrev pub opened_kind : BraceKind → TokenKind
+opened_kind braces.InPlace = kinds.Choose
+opened_kind braces.IntoFailureFile = kinds.FailureFile
+opened_kind braces.IntoArgumentsFile = kinds.ArgumentsFile
 
 abbrev pub held : o.Head → Nodes
 held h = both (choice_nodes h.choices) (pattern_nodes h.patterns)

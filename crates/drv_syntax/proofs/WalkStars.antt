@@ -1,4 +1,4 @@
-use Rattle.drv_syntax.specs.Bytes as bytes
+use Rattle.drv_syntax.specs.Directives.{braced}
 use Rattle.drv_syntax.specs.Labels.{alternative_label, star_label}
 use Rattle.drv_syntax.specs.Outcome as o
 use Rattle.drv_syntax.specs.Outcome.{join, join_choices, join_tests}
@@ -6,12 +6,12 @@ use Rattle.drv_syntax.specs.Reader.Steps as s
 use Rattle.drv_syntax.specs.Stars.{asked_has_star, choices_have_star, has_star, item_has_star, tests_have_star}
 use Rattle.drv_syntax.specs.Tree as tree
 use Rattle.drv_syntax.specs.Tree.{Asked, Choices, Item, Items, Pattern, Span, Tests, trimmed}
-use Rattle.drv_syntax.specs.declared.reader.actions.Leaf.TheVariants as leaves
-use Rattle.drv_syntax.specs.declared.reader.actions.Leaf.{Leaf}
-use Rattle.drv_syntax.specs.declared.reader.stages.BraceKind.TheVariants as braces
-use Rattle.drv_syntax.specs.declared.reader.stages.BraceKind.{BraceKind}
-use Rattle.drv_syntax.specs.declared.reader.stages.SayKind.TheVariants as sayings
-use Rattle.drv_syntax.proofs.WalkMeaning.{item_of, shown_brace, with_item}
+use Rattle.drv_syntax.specs.declared.reader.actions.Single.TheVariants as singles
+use Rattle.drv_syntax.specs.declared.reader.actions.Single.{Single}
+use Rattle.drv_syntax.specs.declared.directives.BraceKind.TheVariants as braces
+use Rattle.drv_syntax.specs.declared.directives.BraceKind.{BraceKind}
+use Rattle.drv_syntax.specs.declared.directives.SayKind.TheVariants as sayings
+use Rattle.drv_syntax.proofs.WalkMeaning.{item_of, with_item}
 use Rattle.drv_syntax.proofs.WalkNodes.{kept_is, kept_white, white}
 use Rattle.drv_syntax.proofs.WalkShows.{list_star}
 use Rattle.std.proofs.Common.{◌≡◌, ℕ, Bool, true, false, List, refl, sym, ap, ◌∙◌, if◌then◌else◌}
@@ -60,42 +60,28 @@ pub choice_star : (choices : Choices) (tests : Tests) (colon : ℕ) (items : Ite
     → (choices_have_star (join_choices choices (tree.alternative colon tests items tree.no_choice)) || others) ≡ (tests_have_star tests || (choices_have_star choices || others))
 choice_star choices tests colon items others = ap (λ z. z || others) (choices_star choices _) ∙ or_moved (choices_have_star choices) (tests_have_star tests) others
 
-pub leaf_star : (leaf : Leaf) (w : List ℕ) → item_has_star (item_of leaf w) ≡ s.is_star leaf
-leaf_star (leaves.Plain b) w = refl
-leaf_star (leaves.Escape b) w = refl
-leaf_star leaves.Blank w = refl
-leaf_star leaves.Newline w = refl
-leaf_star leaves.Pipe w = refl
-leaf_star leaves.Percent w = refl
-leaf_star leaves.InputName w = refl
-leaf_star leaves.BaseStem w = refl
-leaf_star leaves.BaseName w = refl
-leaf_star leaves.ObjectSuffix w = refl
-leaf_star (leaves.TempName kind) w = refl
-leaf_star leaves.Removed w = refl
-leaf_star leaves.Output w = refl
-leaf_star leaves.NoOutput w = refl
-leaf_star leaves.FoundFile w = refl
-leaf_star leaves.FoundScript w = refl
-leaf_star leaves.Directories w = refl
-leaf_star leaves.Outputs w = refl
-leaf_star leaves.AddOption w = refl
-leaf_star leaves.LinkerOptions w = refl
-leaf_star leaves.AssemblerOptions w = refl
-leaf_star leaves.PreprocessorOptions w = refl
-leaf_star (leaves.Said sayings.AsError) w = refl
-leaf_star (leaves.Said sayings.AsNotice) w = refl
-leaf_star leaves.NamedText w = refl
-leaf_star (leaves.BuiltinText name) w = refl
-leaf_star (leaves.Hide starred) w = refl
-leaf_star leaves.Star w = refl
+pub single_star : (single : Single) (w : List ℕ) → item_has_star (item_of single w) ≡ s.is_star single
+single_star (singles.Plain b) w = refl
+single_star (singles.Escape b) w = refl
+single_star singles.Blank w = refl
+single_star singles.Newline w = refl
+single_star singles.Pipe w = refl
+single_star (singles.Directive leaf) w = refl
+single_star (singles.TempName kind) w = refl
+single_star singles.AddOption w = refl
+single_star (singles.Said sayings.AsError) w = refl
+single_star (singles.Said sayings.AsNotice) w = refl
+single_star singles.NamedText w = refl
+single_star (singles.BuiltinText name) w = refl
+single_star (singles.Hide starred) w = refl
+single_star singles.Star w = refl
 
-pub choose_star : (kind : BraceKind) (choices : Choices) → item_has_star (bytes.braced (shown_brace kind) (tree.Choose choices)) ≡ choices_have_star choices
+pub choose_star : (kind : BraceKind) (choices : Choices) → item_has_star (braced kind (tree.Choose choices)) ≡ choices_have_star choices
 choose_star braces.InPlace choices = refl
 choose_star braces.IntoFailureFile choices = refl
 choose_star braces.IntoArgumentsFile choices = refl
 
-pub emit_star : (kind : BraceKind) (patterns : List (Span × Pattern)) → item_has_star (bytes.braced (shown_brace kind) (tree.Emit patterns)) ≡ false
+pub emit_star : (kind : BraceKind) (patterns : List (Span × Pattern)) → item_has_star (braced kind (tree.Emit patterns)) ≡ false
 emit_star braces.InPlace patterns = refl
 emit_star braces.IntoFailureFile patterns = refl
 emit_star braces.IntoArgumentsFile patterns = refl
@@ -113,23 +99,9 @@ white_star (tree.Escape b) e = refl
 white_star tree.Blank e = refl
 white_star tree.Newline e = refl
 white_star tree.Pipe e = refl
-white_star tree.Percent e = refl
-white_star tree.InputName e = refl
-white_star tree.BaseStem e = refl
-white_star tree.BaseName e = refl
-white_star tree.ObjectSuffix e = refl
+white_star (tree.Leaf leaf) e = refl
 white_star (tree.TempName kind suffix) e = refl
-white_star tree.Removed e = refl
-white_star tree.Output e = refl
-white_star tree.NoOutput e = refl
-white_star tree.FoundFile e = refl
-white_star tree.FoundScript e = refl
-white_star tree.Directories e = refl
-white_star tree.Outputs e = refl
 white_star (tree.AddOption option) e = refl
-white_star tree.LinkerOptions e = refl
-white_star tree.AssemblerOptions e = refl
-white_star tree.PreprocessorOptions e = refl
 white_star (tree.UserError text) e = refl
 white_star (tree.Notice text) e = refl
 white_star (tree.NamedText name) e = refl

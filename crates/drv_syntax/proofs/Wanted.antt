@@ -1,5 +1,7 @@
 use Rattle.drv_syntax.proofs.Parts.{HasChoice}
-use Rattle.drv_syntax.specs.Bytes.{SayKind, braced, form_of, is_allowed, is_function, is_name, is_option, is_suffix, is_word, said}
+use Rattle.drv_syntax.specs.Bytes.{is_function, is_name, is_option, is_suffix, is_word}
+use Rattle.drv_syntax.specs.Directives.{braced, directive_of, is_allowed, said}
+use Rattle.drv_syntax.specs.declared.directives.SayKind.{SayKind}
 use Rattle.drv_syntax.specs.Contexts.{Context, in_arguments, in_braces, in_x, is_end, is_said}
 use Rattle.drv_syntax.specs.Fronts.{AreFrontItems}
 use Rattle.drv_syntax.specs.Outcome as o
@@ -135,7 +137,7 @@ module _ (size : ℕ) (K : Outside) where
 
   abbrev pub percent_rest : Here → ℕ → List ℕ → Type 0
   percent_rest here at text = (b : ℕ) × (mid : List ℕ) × (item : Item) × (rest : List ℕ) × (text ≡ b ∷ mid) × (is_allowed here.context.in_arguments b ≡ true)
-      × IsDirective size here.context (form_of b) mid item rest × Ended size K here at item rest
+      × IsDirective size here.context (directive_of b) mid item rest × Ended size K here at item rest
 
   abbrev pub suffix_rest : Here → ℕ → TempKind → List ℕ → Type 0
   suffix_rest here at kind text = (suffix : List ℕ) × (rest : List ℕ) × IsSuffix text suffix rest × Ended size K here at (TempName kind suffix) rest

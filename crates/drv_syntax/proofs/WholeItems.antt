@@ -3,16 +3,17 @@ use Rattle.drv_syntax.proofs.WalkNames.{begun_word, negated_word}
 use Rattle.drv_syntax.proofs.WalkReads.{within}
 use Rattle.drv_syntax.specs.Bytes.{is_mark, is_name, is_suffix, is_word}
 use Rattle.drv_syntax.specs.Reader.Steps.{Walk, asked, at_stage, emitted, finish_in, open_braces, opened_head, then_walk, walk, with_part, with_word}
-use Rattle.drv_syntax.specs.Reader.Turns.{allows, goes_of, part}
+use Rattle.drv_syntax.specs.Directives.{directive_of, is_allowed}
+use Rattle.drv_syntax.specs.Reader.Turns.{part}
 use Rattle.drv_syntax.specs.declared.fault.SyntaxFault.{SyntaxFault}
-use Rattle.drv_syntax.specs.declared.reader.actions.Goes.TheVariants as goes
-use Rattle.drv_syntax.specs.declared.reader.actions.Leaf.TheVariants as leaves
-use Rattle.drv_syntax.specs.declared.reader.actions.Leaf.{Leaf}
+use Rattle.drv_syntax.specs.declared.directives.Directive.TheVariants as directives
+use Rattle.drv_syntax.specs.declared.reader.actions.Single.TheVariants as singles
 use Rattle.drv_syntax.specs.declared.reader.actions.Taken.TheVariants as takes
+use Rattle.drv_syntax.specs.declared.token.Leaf.{Leaf}
 use Rattle.drv_syntax.specs.declared.reader.stages.Behind.TheVariants as behinds
 use Rattle.drv_syntax.specs.declared.reader.stages.Behind.{Behind}
-use Rattle.drv_syntax.specs.declared.reader.stages.BraceKind.TheVariants as braces
-use Rattle.drv_syntax.specs.declared.reader.stages.BraceKind.{BraceKind}
+use Rattle.drv_syntax.specs.declared.directives.BraceKind.TheVariants as braces
+use Rattle.drv_syntax.specs.declared.directives.BraceKind.{BraceKind}
 use Rattle.drv_syntax.specs.declared.reader.stages.Form.TheVariants as forms
 use Rattle.drv_syntax.specs.declared.reader.stages.Frame.{Frame}
 use Rattle.drv_syntax.specs.declared.reader.stages.Head.{Head}
@@ -33,16 +34,16 @@ pub percent_walk : (v : Walk) (n : ℕ) (text : List ℕ) → v.stage ≡ at.Lis
 percent_walk v n text h = rw h refl
 
 -- a directive of two bytes
-pub whole_walk : (v : Walk) (n b : ℕ) (text : List ℕ) (leaf : Leaf) → v.stage ≡ at.List stages.Start → allows v.context.in_arguments b ≡ true → goes_of b ≡ goes.Whole leaf
-    → walk v n (37 ∷ b ∷ text) ≡ walk (with_part (part leaf takes.Nothing n (n + 1 + 1)) v) (n + 1 + 1) text
+pub whole_walk : (v : Walk) (n b : ℕ) (text : List ℕ) (leaf : Leaf) → v.stage ≡ at.List stages.Start → is_allowed v.context.in_arguments b ≡ true → directive_of b ≡ directives.Whole leaf
+    → walk v n (37 ∷ b ∷ text) ≡ walk (with_part (part (singles.Directive leaf) takes.Nothing n (n + 1 + 1)) v) (n + 1 + 1) text
 whole_walk v n b text leaf h a g = percent_walk v n (b ∷ text) h ∙ rw (a, g) refl
 
 -- braces that open
-pub open_walk : (v : Walk) (n b : ℕ) (text : List ℕ) → v.stage ≡ at.List stages.Start → allows v.context.in_arguments b ≡ true → goes_of b ≡ goes.WithBraces → (v.context.levels == 0) ≡ false
+pub open_walk : (v : Walk) (n b : ℕ) (text : List ℕ) → v.stage ≡ at.List stages.Start → is_allowed v.context.in_arguments b ≡ true → directive_of b ≡ directives.WithBraces → (v.context.levels == 0) ≡ false
     → walk v n (37 ∷ b ∷ text) ≡ walk (open_braces n braces.InPlace v) (n + 1 + 1) text
 open_walk v n b text h a g l = percent_walk v n (b ∷ text) h ∙ rw (a, g, l) refl
 
-pub open_marked_walk : (v : Walk) (n b : ℕ) (kind : BraceKind) (text : List ℕ) → v.stage ≡ at.List stages.Start → allows v.context.in_arguments b ≡ true → goes_of b ≡ goes.WithMarkedBraces kind
+pub open_marked_walk : (v : Walk) (n b : ℕ) (kind : BraceKind) (text : List ℕ) → v.stage ≡ at.List stages.Start → is_allowed v.context.in_arguments b ≡ true → directive_of b ≡ directives.WithMarkedBraces kind
     → (v.context.levels == 0) ≡ false → walk v n (37 ∷ b ∷ 123 ∷ text) ≡ walk (open_braces n kind v) (n + 1 + 1 + 1) text
 open_marked_walk v n b kind text h a g l = percent_walk v n (b ∷ 123 ∷ text) h ∙ rw (a, g, l) refl
 
@@ -72,7 +73,7 @@ module _ (v : Walk) (start : ℕ) where
   suffixing kind word = with_word word (at_stage (at.List (stages.SuffixRun start kind)) v)
 
   abbrev suffixed : TempKind → List ℕ → ℕ → Walk
-  suffixed kind word end = with_part (part (leaves.TempName kind) takes.Word start end) (with_word word v)
+  suffixed kind word end = with_part (part (singles.TempName kind) takes.Word start end) (with_word word v)
 
   suffix_finish : (kind : TempKind) (fs : List Frame) (p : List ℕ) (n : ℕ) → finish_in fs n (suffixing kind p) ≡ finish_in fs n (suffixed kind p n)
   suffix_finish kind [] p n = refl
@@ -129,13 +130,13 @@ longer f (suc k) [] h g = absurd (omega (arith, g))
 longer f (suc k) (b ∷ text) h g = grind (arith, nat_tests)
 
 -- %(NAME), whose name has this size
-pub named_walk : (v : Walk) (n b : ℕ) (inside : List ℕ) (size : ℕ) (rest : List ℕ) → v.stage ≡ at.List stages.Start → allows v.context.in_arguments b ≡ true → goes_of b ≡ goes.WithName
+pub named_walk : (v : Walk) (n b : ℕ) (inside : List ℕ) (size : ℕ) (rest : List ℕ) → v.stage ≡ at.List stages.Start → is_allowed v.context.in_arguments b ≡ true → directive_of b ≡ directives.WithName
     → size ≤ prefix_len is_name inside → 0 < size → size ≤ 255 → drop size inside ≡ 41 ∷ rest
-    → walk v n (37 ∷ b ∷ inside) ≡ walk (with_part (part leaves.NamedText takes.Word n (n + 1 + 1 + size + 1)) (with_word (take size inside) v)) (n + 1 + 1 + size + 1) rest
+    → walk v n (37 ∷ b ∷ inside) ≡ walk (with_part (part singles.NamedText takes.Word n (n + 1 + 1 + size + 1)) (with_word (take size inside) v)) (n + 1 + 1 + size + 1) rest
 named_walk v n b inside size rest h a g k positive short d =
     let opens : walk v n (37 ∷ b ∷ inside) ≡ walk (naming v n []) (n + 1 + 1) inside = percent_walk v n (b ∷ inside) h ∙ rw (a, g) refl in
     let closes : walk (naming v n (take size inside)) (n + 1 + 1 + size) (41 ∷ rest)
-    ≡ walk (with_part (part leaves.NamedText takes.Word n (n + 1 + 1 + size + 1)) (with_word (take size inside) v)) (n + 1 + 1 + size + 1) rest
+    ≡ walk (with_part (part singles.NamedText takes.Word n (n + 1 + 1 + size + 1)) (with_word (take size inside) v)) (n + 1 + 1 + size + 1) rest
     = rw (longer is_name size inside positive k) refl in
     opens ∙ name_run v n size [] (n + 1 + 1) inside k (omega (arith, short)) ∙ ap (λ (t : List ℕ). walk (naming v n (take size inside)) (n + 1 + 1 + size) t) d ∙ closes
 
@@ -150,9 +151,9 @@ suffix_first v start kind n (b ∷ text) h = by (is_suffix b) refl h
     by true e g = rw e refl
 
 -- %gSUF, where the suffix has a byte
-pub suffix_walk : (v : Walk) (n b : ℕ) (kind : TempKind) (inside : List ℕ) (size : ℕ) → v.stage ≡ at.List stages.Start → allows v.context.in_arguments b ≡ true → goes_of b ≡ goes.WithSuffix kind
+pub suffix_walk : (v : Walk) (n b : ℕ) (kind : TempKind) (inside : List ℕ) (size : ℕ) → v.stage ≡ at.List stages.Start → is_allowed v.context.in_arguments b ≡ true → directive_of b ≡ directives.WithSuffix kind
     → size ≡ prefix_len is_suffix inside → 0 < size
-    → walk v n (37 ∷ b ∷ inside) ≡ walk (with_part (part (leaves.TempName kind) takes.Word n (n + 1 + 1 + size)) (with_word (take size inside) v)) (n + 1 + 1 + size) (drop size inside)
+    → walk v n (37 ∷ b ∷ inside) ≡ walk (with_part (part (singles.TempName kind) takes.Word n (n + 1 + 1 + size)) (with_word (take size inside) v)) (n + 1 + 1 + size) (drop size inside)
 suffix_walk v n b kind inside size h a g e positive =
     let opens : walk v n (37 ∷ b ∷ inside) ≡ walk (at_stage (at.List (stages.SuffixStart n kind)) v) (n + 1 + 1) inside = percent_walk v n (b ∷ inside) h ∙ rw (a, g) refl in
     opens ∙ suffix_first v n kind (n + 1 + 1) inside (omega (arith, e, positive)) ∙ suffix_run v n kind [] (n + 1 + 1) inside
@@ -352,47 +353,47 @@ module _ (v u : Walk) (n : ℕ) (b : ℕ) (behind inside : List ℕ) where
   abbrev TookOf : ℕ → List ℕ → Type 0
   TookOf taken ys = (taken ≤ length ys) × (walk v n (37 ∷ ys) ≡ walk u (n + 1 + taken) (drop taken ys))
 
-  pub named_takes : (size end : ℕ) (word : List ℕ) → behind ≡ b ∷ inside → goes_of b ≡ goes.WithName → v.stage ≡ at.List stages.Start → allows v.context.in_arguments b ≡ true → size ≡ prefix_len is_name inside → 0 < size → size ≤ 255
-      → get_or inside size 0 ≡ 41 → word ≡ take size inside → end ≡ n + 1 + 1 + size + 1 → walked (with_part (part leaves.NamedText takes.Word n end) (with_word word v)) ≡ walked u → Took (size + 2)
+  pub named_takes : (size end : ℕ) (word : List ℕ) → behind ≡ b ∷ inside → directive_of b ≡ directives.WithName → v.stage ≡ at.List stages.Start → is_allowed v.context.in_arguments b ≡ true → size ≡ prefix_len is_name inside → 0 < size → size ≤ 255
+      → get_or inside size 0 ≡ 41 → word ≡ take size inside → end ≡ n + 1 + 1 + size + 1 → walked (with_part (part singles.NamedText takes.Word n end) (with_word word v)) ≡ walked u → Took (size + 2)
   named_takes size end word t form h a e positive short f g i d =
       subst (λ (ys : List ℕ). TookOf (size + 2) ys) (sym t) (
         (omega (arith, (at_byte inside size 40 f).0)),
         named_walk v n b inside size (drop (size + 1) inside) h a form (omega (arith, e)) positive short (at_byte inside size 40 f).1
-            ∙ ap (λ (x : List ℕ). walk (with_part (part leaves.NamedText takes.Word n (n + 1 + 1 + size + 1)) (with_word x v)) (n + 1 + 1 + size + 1) (drop (size + 1) inside)) (sym g)
-            ∙ ap (λ (x : ℕ). walk (with_part (part leaves.NamedText takes.Word n x) (with_word word v)) (n + 1 + 1 + size + 1) (drop (size + 1) inside)) (sym i)
-            ∙ finished (with_part (part leaves.NamedText takes.Word n end) (with_word word v)) (n + 1 + 1 + size + 1) (n + 1 + (size + 2)) (drop (size + 1) inside) d (omega arith)
+            ∙ ap (λ (x : List ℕ). walk (with_part (part singles.NamedText takes.Word n (n + 1 + 1 + size + 1)) (with_word x v)) (n + 1 + 1 + size + 1) (drop (size + 1) inside)) (sym g)
+            ∙ ap (λ (x : ℕ). walk (with_part (part singles.NamedText takes.Word n x) (with_word word v)) (n + 1 + 1 + size + 1) (drop (size + 1) inside)) (sym i)
+            ∙ finished (with_part (part singles.NamedText takes.Word n end) (with_word word v)) (n + 1 + 1 + size + 1) (n + 1 + (size + 2)) (drop (size + 1) inside) d (omega arith)
             ∙ ap (λ (z : ℕ). walk u (n + 1 + (size + 2)) (drop z (b ∷ inside))) (skip 1),
       )
     where
       skip : (z : ℕ) → suc (size + z) ≡ size + (1 + z)
       skip z = omega arith
 
-  pub suffix_takes : (kind : TempKind) (size end : ℕ) (word : List ℕ) → behind ≡ b ∷ inside → v.stage ≡ at.List stages.Start → allows v.context.in_arguments b ≡ true → goes_of b ≡ goes.WithSuffix kind
+  pub suffix_takes : (kind : TempKind) (size end : ℕ) (word : List ℕ) → behind ≡ b ∷ inside → v.stage ≡ at.List stages.Start → is_allowed v.context.in_arguments b ≡ true → directive_of b ≡ directives.WithSuffix kind
       → size ≡ prefix_len is_suffix inside → size ≤ length inside → 0 < size → word ≡ take size inside → end ≡ n + 1 + 1 + size
-      → walked (with_part (part (leaves.TempName kind) takes.Word n end) (with_word word v)) ≡ walked u → Took (size + 1)
+      → walked (with_part (part (singles.TempName kind) takes.Word n end) (with_word word v)) ≡ walked u → Took (size + 1)
   suffix_takes kind size end word t h a f e within positive g i d =
       subst (λ (ys : List ℕ). TookOf (size + 1) ys) (sym t) (
         (omega (arith, within)),
         suffix_walk v n b kind inside size h a f e positive
-            ∙ ap (λ (x : List ℕ). walk (with_part (part (leaves.TempName kind) takes.Word n (n + 1 + 1 + size)) (with_word x v)) (n + 1 + 1 + size) (drop size inside)) (sym g)
-            ∙ ap (λ (x : ℕ). walk (with_part (part (leaves.TempName kind) takes.Word n x) (with_word word v)) (n + 1 + 1 + size) (drop size inside)) (sym i)
-            ∙ finished (with_part (part (leaves.TempName kind) takes.Word n end) (with_word word v)) (n + 1 + 1 + size) (n + 1 + (size + 1)) (drop size inside) d (omega arith)
+            ∙ ap (λ (x : List ℕ). walk (with_part (part (singles.TempName kind) takes.Word n (n + 1 + 1 + size)) (with_word x v)) (n + 1 + 1 + size) (drop size inside)) (sym g)
+            ∙ ap (λ (x : ℕ). walk (with_part (part (singles.TempName kind) takes.Word n x) (with_word word v)) (n + 1 + 1 + size) (drop size inside)) (sym i)
+            ∙ finished (with_part (part (singles.TempName kind) takes.Word n end) (with_word word v)) (n + 1 + 1 + size) (n + 1 + (size + 1)) (drop size inside) d (omega arith)
             ∙ ap (λ (z : ℕ). walk u (n + 1 + (size + 1)) (drop z (b ∷ inside))) skip,
       )
     where
       skip : suc size ≡ size + 1
       skip = omega arith
 
-  pub whole_takes : (leaf : Leaf) (end : ℕ) → behind ≡ b ∷ inside → v.stage ≡ at.List stages.Start → allows v.context.in_arguments b ≡ true → goes_of b ≡ goes.Whole leaf → end ≡ n + 1 + 1
-      → walked (with_part (part leaf takes.Nothing n end) v) ≡ walked u → Took 1
+  pub whole_takes : (leaf : Leaf) (end : ℕ) → behind ≡ b ∷ inside → v.stage ≡ at.List stages.Start → is_allowed v.context.in_arguments b ≡ true → directive_of b ≡ directives.Whole leaf → end ≡ n + 1 + 1
+      → walked (with_part (part (singles.Directive leaf) takes.Nothing n end) v) ≡ walked u → Took 1
   whole_takes leaf end t h a f i d =
       subst (λ (ys : List ℕ). TookOf 1 ys) (sym t) (
         (omega arith),
-        whole_walk v n b inside leaf h a f ∙ ap (λ (x : ℕ). walk (with_part (part leaf takes.Nothing n x) v) (n + 1 + 1) inside) (sym i)
-            ∙ finished (with_part (part leaf takes.Nothing n end) v) (n + 1 + 1) (n + 1 + 1) inside d refl,
+        whole_walk v n b inside leaf h a f ∙ ap (λ (x : ℕ). walk (with_part (part (singles.Directive leaf) takes.Nothing n x) v) (n + 1 + 1) inside) (sym i)
+            ∙ finished (with_part (part (singles.Directive leaf) takes.Nothing n end) v) (n + 1 + 1) (n + 1 + 1) inside d refl,
       )
 
-  pub braces_take : (taken m : ℕ) → behind ≡ b ∷ inside → v.stage ≡ at.List stages.Start → allows v.context.in_arguments b ≡ true → goes_of b ≡ goes.WithBraces → (v.context.levels ≡ 0 → ⊥) → m ≡ n + 1 + 1
+  pub braces_take : (taken m : ℕ) → behind ≡ b ∷ inside → v.stage ≡ at.List stages.Start → is_allowed v.context.in_arguments b ≡ true → directive_of b ≡ directives.WithBraces → (v.context.levels ≡ 0 → ⊥) → m ≡ n + 1 + 1
       → (taken ≤ length inside) × (walk (open_braces n braces.InPlace v) m inside ≡ walk u (m + taken) (drop taken inside)) → Took (taken + 1)
   braces_take taken m t h a f l i d =
       subst (λ (ys : List ℕ). TookOf (taken + 1) ys) (sym t) (
@@ -407,8 +408,8 @@ module _ (v u : Walk) (n : ℕ) (b : ℕ) (behind inside : List ℕ) where
       place : m + taken ≡ n + 1 + (taken + 1)
       place = omega (arith, i)
 
-pub marked_take : (v u : Walk) (n b : ℕ) (kind : BraceKind) (behind inside : List ℕ) (taken m : ℕ) → behind ≡ 123 ∷ inside → v.stage ≡ at.List stages.Start → allows v.context.in_arguments b ≡ true
-    → goes_of b ≡ goes.WithMarkedBraces kind → (v.context.levels == 0) ≡ false → m ≡ n + 1 + 1 + 1
+pub marked_take : (v u : Walk) (n b : ℕ) (kind : BraceKind) (behind inside : List ℕ) (taken m : ℕ) → behind ≡ 123 ∷ inside → v.stage ≡ at.List stages.Start → is_allowed v.context.in_arguments b ≡ true
+    → directive_of b ≡ directives.WithMarkedBraces kind → (v.context.levels == 0) ≡ false → m ≡ n + 1 + 1 + 1
     → (taken ≤ length inside) × (walk (open_braces n kind v) m inside ≡ walk u (m + taken) (drop taken inside))
     → (taken + 2 ≤ length (b ∷ behind)) × (walk v n (37 ∷ b ∷ behind) ≡ walk u (n + 1 + (taken + 2)) (drop (taken + 2) (b ∷ behind)))
 marked_take v u n b kind behind inside taken m t h a f l i d =

@@ -1,5 +1,6 @@
 use Rattle.drv_syntax.proofs.Leads.{Leads, and_then, goes, one, other, same_run, to}
-use Rattle.drv_syntax.specs.Bytes.{SayKind, is_option, is_word}
+use Rattle.drv_syntax.specs.Bytes.{is_option, is_word}
+use Rattle.drv_syntax.specs.declared.directives.SayKind.{SayKind}
 use Rattle.drv_syntax.specs.Contexts.{is_said}
 use Rattle.drv_syntax.specs.Outcome as o
 use Rattle.drv_syntax.specs.Outcome.{Goes, Head, Here, Place, Waiting, end_of, placed, run, turn}

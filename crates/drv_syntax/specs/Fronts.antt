@@ -1,5 +1,10 @@
 use Rattle.drv_words.specs.Bytes as ascii
-use Rattle.drv_syntax.specs.Bytes.{Form, SayKind, WithBraces, WithCall, WithMarkedBraces, WithName, WithOption, WithPattern, WithSaying, WithSuffix, BraceKind, form_of, is_allowed, is_function, is_function_front, is_mark, is_name, is_option, is_word}
+use Rattle.drv_syntax.specs.Bytes.{is_function, is_function_front, is_mark, is_name, is_option, is_word}
+use Rattle.drv_syntax.specs.Directives.{directive_of, is_allowed}
+use Rattle.drv_syntax.specs.declared.directives.BraceKind.{BraceKind}
+use Rattle.drv_syntax.specs.declared.directives.Directive.{Directive}
+use Rattle.drv_syntax.specs.declared.directives.Directive.TheVariants.{WithBraces, WithCall, WithMarkedBraces, WithName, WithOption, WithPattern, WithSaying, WithSuffix}
+use Rattle.drv_syntax.specs.declared.directives.SayKind.{SayKind}
 use Rattle.drv_syntax.specs.Contexts.{Context, in_arguments, in_braces, in_x, is_said, top}
 use Rattle.drv_syntax.specs.Spelling.{AreItems, AreSpaces, AreTests, IsAsked, IsItem, IsPattern, IsRun, IsSign, Stops}
 use Rattle.drv_syntax.specs.Tree.{Asked, Item, Items, Pattern, Tests, no_test}
@@ -34,10 +39,10 @@ mutual
   pub data CutsItem (size : ℕ) : Context → List ℕ → Type 0 where
     cut_escape : {c : Context} → CutsItem size c (ascii.backslash ∷ [])
     cut_percent : {c : Context} → CutsItem size c (ascii.percent ∷ [])
-    cut_directive : {c : Context} {b : ℕ} {text : List ℕ} → is_allowed c.in_arguments b ≡ true → CutsDirective size c (form_of b) text → CutsItem size c (ascii.percent ∷ b ∷ text)
+    cut_directive : {c : Context} {b : ℕ} {text : List ℕ} → is_allowed c.in_arguments b ≡ true → CutsDirective size c (directive_of b) text → CutsItem size c (ascii.percent ∷ b ∷ text)
 
   -- behind the byte of a directive
-  pub data CutsDirective (size : ℕ) : Context → Form → List ℕ → Type 0 where
+  pub data CutsDirective (size : ℕ) : Context → Directive → List ℕ → Type 0 where
     cut_suffix : {c : Context} {kind : TempKind} → CutsDirective size c (WithSuffix kind) (ascii.percent ∷ [])
     cut_option : {c : Context} → CutsDirective size c WithOption []
     cut_option_text : {c : Context} {text : List ℕ} → RunsOut is_option text → CutsDirective size c WithOption (ascii.opening_brace ∷ text)

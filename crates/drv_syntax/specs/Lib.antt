@@ -1,5 +1,6 @@
 pub mod Bytes
 pub mod Contexts
+pub mod Directives
 pub mod Fronts
 pub mod Labels
 pub mod Outcome

@@ -1,7 +1,13 @@
 use Rattle.drv_words.specs.Bytes as ascii
-use Rattle.drv_syntax.specs.Bytes.{BraceKind, Form, InPlace, NoForm, OfStar, SayKind, Whole, WithBraces, WithCall, WithMarkedBraces, WithName, WithOption, WithPattern, WithSaying, WithSuffix, braced, form_of, is_allowed, is_blank, is_function, is_function_front, is_mark, is_name, is_space, is_suffix, is_word, said}
+use Rattle.drv_syntax.specs.Bytes.{is_blank, is_function, is_function_front, is_mark, is_name, is_space, is_suffix, is_word}
+use Rattle.drv_syntax.specs.Directives.{braced, directive_of, is_allowed, said, text_of}
+use Rattle.drv_syntax.specs.declared.directives.BraceKind.{BraceKind}
+use Rattle.drv_syntax.specs.declared.directives.BraceKind.TheVariants.{InPlace}
+use Rattle.drv_syntax.specs.declared.directives.Directive.{Directive}
+use Rattle.drv_syntax.specs.declared.directives.Directive.TheVariants.{Named, Nowhere, OfStar, Whole, WithBraces, WithCall, WithMarkedBraces, WithName, WithOption, WithPattern, WithSaying, WithSuffix}
+use Rattle.drv_syntax.specs.declared.directives.SayKind.{SayKind}
 use Rattle.drv_syntax.specs.Contexts.{Context, Mixed, Nobody, Owner, Starred, bar_in, in_arguments, in_braces, in_x, is_end, is_said, newline_in, top}
-use Rattle.drv_syntax.specs.Tree.{AddOption, Asked, Blank, Choices, Choose, Emit, Escape, Function, Hide, Item, Items, HasLanguage, NamedText, Pattern, Plain, HasResult, Span, Star, HasSuffix, HasSwitch, TempName, Tests, alternative, choice, more, no_choice, no_test, none, pattern, test}
+use Rattle.drv_syntax.specs.Tree.{AddOption, Asked, Blank, BuiltinText, Choices, Choose, Emit, Escape, Function, Hide, Item, Items, HasLanguage, Leaf, NamedText, Pattern, Plain, HasResult, Span, Star, HasSuffix, HasSwitch, TempName, Tests, alternative, choice, more, no_choice, no_test, none, pattern, test}
 use Rattle.drv_syntax.specs.Spelling.{span}
 use Rattle.drv_syntax.specs.declared.fault.SyntaxFault.{SyntaxFault}
 use Rattle.drv_syntax.specs.declared.fault.SyntaxFault.TheVariants.{BadDirective, EmptyTest, MixedStar, StarOutside, TextTooLong, TooNested, Unclosed, UnknownFunction}
@@ -135,22 +141,23 @@ abbrev pub nested : ℕ → ℕ → Turn → Turn
 nested levels at turn = if levels == 0 then Refused (TooNested at) else turn
 
 -- behind a directive's byte, which ends at this place
-abbrev pub turn_form : Here → ℕ → ℕ → Form → Turn
-turn_form here at end NoForm = Refused (BadDirective at)
-turn_form here at end (Whole item) = then_item here at end item
-turn_form here at end (WithSuffix kind) = Goes (SuffixStart here at kind)
-turn_form here at end WithOption = Goes (OptionOpen here at)
-turn_form here at end (WithSaying kind) = Goes (SayingText here at kind [])
-turn_form here at end WithName = Goes (NameText here at [])
-turn_form here at end WithPattern = Goes (HideStart here at)
-turn_form here at end OfStar = turn_star here at end here.context.owner
-turn_form here at end WithCall = nested here.context.levels at (Goes (FunctionName here at []))
-turn_form here at end WithBraces = nested here.context.levels at (Goes (ChoiceStart (fresh here at InPlace)))
-turn_form here at end (WithMarkedBraces kind) = nested here.context.levels at (Goes (BraceOpen here at kind))
+abbrev pub turn_directive : Here → ℕ → ℕ → Directive → Turn
+turn_directive here at end Nowhere = Refused (BadDirective at)
+turn_directive here at end (Whole leaf) = then_item here at end (Leaf leaf)
+turn_directive here at end (Named name) = then_item here at end (BuiltinText (text_of name))
+turn_directive here at end (WithSuffix kind) = Goes (SuffixStart here at kind)
+turn_directive here at end WithOption = Goes (OptionOpen here at)
+turn_directive here at end (WithSaying kind) = Goes (SayingText here at kind [])
+turn_directive here at end WithName = Goes (NameText here at [])
+turn_directive here at end WithPattern = Goes (HideStart here at)
+turn_directive here at end OfStar = turn_star here at end here.context.owner
+turn_directive here at end WithCall = nested here.context.levels at (Goes (FunctionName here at []))
+turn_directive here at end WithBraces = nested here.context.levels at (Goes (ChoiceStart (fresh here at InPlace)))
+turn_directive here at end (WithMarkedBraces kind) = nested here.context.levels at (Goes (BraceOpen here at kind))
 
 -- behind the % of an item
 abbrev pub turn_percent : Here → ℕ → ℕ → ℕ → Turn
-turn_percent here at n b = if is_allowed here.context.in_arguments b then turn_form here at (n + 1) (form_of b) else Refused (BadDirective at)
+turn_percent here at n b = if is_allowed here.context.in_arguments b then turn_directive here at (n + 1) (directive_of b) else Refused (BadDirective at)
 
 abbrev pub turn_suffix : Here → ℕ → TempKind → ℕ → ℕ → Turn
 turn_suffix here at kind n b =

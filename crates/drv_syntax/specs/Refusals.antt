@@ -1,5 +1,9 @@
 use Rattle.drv_words.specs.Bytes as ascii
-use Rattle.drv_syntax.specs.Bytes.{BraceKind, Form, NoForm, WithBraces, WithCall, WithMarkedBraces, WithPattern, form_of, is_allowed, is_function, is_function_front, is_space, is_word}
+use Rattle.drv_syntax.specs.Bytes.{is_function, is_function_front, is_space, is_word}
+use Rattle.drv_syntax.specs.Directives.{directive_of, is_allowed}
+use Rattle.drv_syntax.specs.declared.directives.BraceKind.{BraceKind}
+use Rattle.drv_syntax.specs.declared.directives.Directive.{Directive}
+use Rattle.drv_syntax.specs.declared.directives.Directive.TheVariants.{Nowhere, WithBraces, WithCall, WithMarkedBraces, WithPattern}
 use Rattle.drv_syntax.specs.Contexts.{Context, Mixed, Nobody, in_arguments, in_braces, in_x, top}
 use Rattle.drv_syntax.specs.Spelling.{AreItems, AreSpaces, AreTests, At, IsAsked, IsItem, IsSign}
 use Rattle.drv_syntax.specs.Tree.{Asked, Item, Items, Tests, no_test}
@@ -20,11 +24,11 @@ mutual
   pub data Reaches (size : ℕ) : Context → List ℕ → Due → List ℕ → Type 0 where
     item_due : {c : Context} {rest : List ℕ} → Reaches size c rest (AnItem c) rest
     behind_item : {c : Context} {text mid rest : List ℕ} {item : Item} {due : Due} → IsItem size c text item mid → Reaches size c mid due rest → Reaches size c text due rest
-    in_directive : {c : Context} {n b : ℕ} {text rest : List ℕ} {due : Due} → At size n (ascii.percent ∷ b ∷ text) → is_allowed c.in_arguments b ≡ true → ReachesIn size c n (form_of b) text due rest
+    in_directive : {c : Context} {n b : ℕ} {text rest : List ℕ} {due : Due} → At size n (ascii.percent ∷ b ∷ text) → is_allowed c.in_arguments b ≡ true → ReachesIn size c n (directive_of b) text due rest
         → Reaches size c (ascii.percent ∷ b ∷ text) due rest
 
   -- behind the byte of a directive, whose % has this place
-  pub data ReachesIn (size : ℕ) : Context → ℕ → Form → List ℕ → Due → List ℕ → Type 0 where
+  pub data ReachesIn (size : ℕ) : Context → ℕ → Directive → List ℕ → Due → List ℕ → Type 0 where
     in_call : {c : Context} {n : ℕ} {text rest : List ℕ} {due : Due} (name : List ℕ) → (c.levels == 0) ≡ false → is_function name ≡ true → Reaches size (in_arguments c) text due rest
         → ReachesIn size c n WithCall (name ++ ascii.opening_parenthesis ∷ text) due rest
     in_place : {c : Context} {n : ℕ} {text rest : List ℕ} {due : Due} → (c.levels == 0) ≡ false → ReachesChoices size (in_braces c) n text due rest → ReachesIn size c n WithBraces text due rest
@@ -59,7 +63,7 @@ mutual
         → AreSpaces w (ascii.bar ∷ x) → ReachesTests size c n x due rest → ReachesTests size c n t due rest
 
 -- a directive that opens braces or arguments
-abbrev pub nests : Form → Bool
+abbrev pub nests : Directive → Bool
 nests WithCall = true
 nests WithBraces = true
 nests (WithMarkedBraces kind) = true
@@ -84,7 +88,7 @@ pub data IsMixedStar (text : List ℕ) (n : ℕ) : Type 0 where
 
 -- braces or arguments within 64 others: the {, W, @ or : behind a %, where that may stand, or the % of a test
 pub data IsTooNested (text : List ℕ) (n : ℕ) : Type 0 where
-  item_within_all : {c : Context} {b : ℕ} → Ends text (AnItem c) n (ascii.percent ∷ b ∷ []) → is_allowed c.in_arguments b ≡ true → nests (form_of b) ≡ true → (c.levels == 0) ≡ true
+  item_within_all : {c : Context} {b : ℕ} → Ends text (AnItem c) n (ascii.percent ∷ b ∷ []) → is_allowed c.in_arguments b ≡ true → nests (directive_of b) ≡ true → (c.levels == 0) ≡ true
       → IsTooNested text n
   test_within_all : {c : Context} {at : ℕ} → Ends text (ATest c at) n (ascii.percent ∷ []) → (c.levels == 0) ≡ true → IsTooNested text n
 
@@ -101,7 +105,7 @@ pub data IsUnknownFunction (text : List ℕ) (n : ℕ) : Type 0 where
 
 -- a pattern or a test without a word and a star, and a default that is first or not last; n is the place of the directive's %
 pub data IsEmptyTest (text : List ℕ) (n : ℕ) : Type 0 where
-  empty_pattern : {c : Context} {b x : ℕ} → Ends text (AnItem c) n (ascii.percent ∷ b ∷ x ∷ []) → is_allowed c.in_arguments b ≡ true → form_of b ≡ WithPattern → Empty x → IsEmptyTest text n
+  empty_pattern : {c : Context} {b x : ℕ} → Ends text (AnItem c) n (ascii.percent ∷ b ∷ x ∷ []) → is_allowed c.in_arguments b ≡ true → directive_of b ≡ WithPattern → Empty x → IsEmptyTest text n
   empty_test : {c : Context} {m b : ℕ} → Ends text (ATest c n) m (b ∷ []) → Empty b → is_space b ≡ false → (b == ascii.exclamation_mark) ≡ false → (b == ascii.colon) ≡ false
       → (b == ascii.percent) ≡ false → IsEmptyTest text n
   first_default : {m : ℕ} → Ends text (AFirstTest n) m (ascii.colon ∷ []) → IsEmptyTest text n
@@ -110,5 +114,5 @@ pub data IsEmptyTest (text : List ℕ) (n : ℕ) : Type 0 where
 -- no such directive, or not allowed where it stands; behind the % of a test, no colon
 pub data IsBadDirective (text : List ℕ) (n : ℕ) : Type 0 where
   not_allowed_here : {c : Context} {b : ℕ} → Ends text (AnItem c) n (ascii.percent ∷ b ∷ []) → is_allowed c.in_arguments b ≡ false → IsBadDirective text n
-  no_such_directive : {c : Context} {b : ℕ} → Ends text (AnItem c) n (ascii.percent ∷ b ∷ []) → is_allowed c.in_arguments b ≡ true → form_of b ≡ NoForm → IsBadDirective text n
+  no_such_directive : {c : Context} {b : ℕ} → Ends text (AnItem c) n (ascii.percent ∷ b ∷ []) → is_allowed c.in_arguments b ≡ true → directive_of b ≡ Nowhere → IsBadDirective text n
   no_call : {c : Context} {at b : ℕ} → Ends text (ATest c at) n (ascii.percent ∷ b ∷ []) → (c.levels == 0) ≡ false → (b == ascii.colon) ≡ false → IsBadDirective text n

@@ -1,7 +1,15 @@
 use Rattle.drv_words.specs.Bytes as ascii
-use Rattle.drv_syntax.specs.Bytes.{BraceKind, Form, InPlace, OfStar, SayKind, Whole, WithBraces, WithCall, WithMarkedBraces, WithName, WithOption, WithPattern, WithSaying, WithSuffix, braced, form_of, is_allowed, is_blank, is_function, is_mark, is_name, is_option, is_plain, is_space, is_suffix, is_word, said}
+use Rattle.drv_syntax.specs.Bytes.{is_blank, is_function, is_mark, is_name, is_option, is_plain, is_space, is_suffix, is_word}
+use Rattle.drv_syntax.specs.Directives.{braced, directive_of, is_allowed, said, text_of}
+use Rattle.drv_syntax.specs.declared.directives.BraceKind.{BraceKind}
+use Rattle.drv_syntax.specs.declared.directives.BraceKind.TheVariants.{InPlace}
+use Rattle.drv_syntax.specs.declared.directives.Directive.{Directive}
+use Rattle.drv_syntax.specs.declared.directives.Directive.TheVariants.{Named, OfStar, Whole, WithBraces, WithCall, WithMarkedBraces, WithName, WithOption, WithPattern, WithSaying, WithSuffix}
+use Rattle.drv_syntax.specs.declared.directives.SayKind.{SayKind}
 use Rattle.drv_syntax.specs.Contexts.{Context, Kind, Starred, Top, bar_in, in_arguments, in_braces, in_x, is_end, is_said, newline_in, top}
-use Rattle.drv_syntax.specs.Tree.{AddOption, Asked, Blank, Brace, Choices, Choose, Emit, Escape, Function, Hide, Item, Items, HasLanguage, NamedText, Pattern, Plain, HasResult, Span, Star, HasSuffix, HasSwitch, TempName, Tests, alternative, more, no_choice, no_test, none, pattern, test}
+use Rattle.drv_syntax.specs.Tree.{AddOption, Asked, Blank, Brace, BuiltinText, Choices, Choose, Emit, Escape, Function, HasLanguage, HasResult, HasSuffix, HasSwitch, Hide, Item, Items, Leaf, NamedText, Pattern, Plain, Span, Star, TempName, Tests, alternative, more, no_choice, no_test, none, pattern, test}
+use Rattle.drv_syntax.specs.declared.directives.BuiltinName.{BuiltinName}
+use Rattle.drv_syntax.specs.declared.token.Leaf as leaf
 use Rattle.drv_syntax.specs.declared.token.TempKind.{TempKind}
 use Rattle.std.specs.Prelude.{◌≡◌, ◌≤◌, ◌+◌, ◌==◌, Bool, false, true, List, [], ◌∷◌, ◌++◌, length, codes, ℕ}
 
@@ -84,12 +92,13 @@ mutual
     blank : {c : Context} {b : ℕ} {rest : List ℕ} → is_blank b ≡ true → IsItem size c (b ∷ rest) Blank rest
     newline : {c : Context} {rest : List ℕ} → IsItem size c (ascii.newline ∷ rest) (newline_in c.in_arguments) rest
     pipe : {c : Context} {rest : List ℕ} → IsItem size c (ascii.bar ∷ rest) (bar_in c.in_arguments) rest
-    directive : {c : Context} {b : ℕ} {text rest : List ℕ} {item : Item} → is_allowed c.in_arguments b ≡ true → IsDirective size c (form_of b) text item rest
+    directive : {c : Context} {b : ℕ} {text rest : List ℕ} {item : Item} → is_allowed c.in_arguments b ≡ true → IsDirective size c (directive_of b) text item rest
         → IsItem size c (ascii.percent ∷ b ∷ text) item rest
 
   -- what stands behind the byte of a directive
-  pub data IsDirective (size : ℕ) : Context → Form → List ℕ → Item → List ℕ → Type 0 where
-    whole : {c : Context} {rest : List ℕ} {item : Item} → IsDirective size c (Whole item) rest item rest
+  pub data IsDirective (size : ℕ) : Context → Directive → List ℕ → Item → List ℕ → Type 0 where
+    whole : {c : Context} {rest : List ℕ} {leaf : leaf.Leaf} → IsDirective size c (Whole leaf) rest (Leaf leaf) rest
+    named : {c : Context} {rest : List ℕ} {name : BuiltinName} → IsDirective size c (Named name) rest (BuiltinText (text_of name)) rest
     temp_name : {c : Context} {kind : TempKind} {text suffix rest : List ℕ} → IsSuffix text suffix rest → IsDirective size c (WithSuffix kind) text (TempName kind suffix) rest
     add_option : {c : Context} {b : ℕ} {text option rest : List ℕ} → IsQuoted is_option text (b ∷ option) (ascii.closing_brace ∷ rest)
         → IsDirective size c WithOption (ascii.opening_brace ∷ text) (AddOption (b ∷ option)) rest

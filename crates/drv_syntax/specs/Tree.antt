@@ -1,3 +1,4 @@
+use Rattle.drv_syntax.specs.declared.token.Leaf as leaf
 use Rattle.drv_syntax.specs.declared.token.TempKind.{TempKind}
 use Rattle.std.specs.Prelude.{ℕ, ◌+◌, Bool, List}
 
@@ -20,23 +21,9 @@ mutual
     Blank : Item  -- a space or a tab
     Newline : Item
     Pipe : Item  -- |
-    Percent : Item  -- %%
-    InputName : Item  -- %i
-    BaseStem : Item  -- %b
-    BaseName : Item  -- %B
-    ObjectSuffix : Item  -- %O
+    Leaf : leaf.Leaf → Item  -- a directive that is whole with its byte
     TempName : TempKind → List ℕ → Item  -- %g, %u, %U, %| or %m and a suffix
-    Removed : Item  -- %d
-    Output : Item  -- %w
-    NoOutput : Item  -- %V
-    FoundFile : Item  -- %s
-    FoundScript : Item  -- %T
-    Directories : Item  -- %D
-    Outputs : Item  -- %o
     AddOption : List ℕ → Item  -- %x{..}
-    LinkerOptions : Item  -- %X
-    AssemblerOptions : Item  -- %Y
-    PreprocessorOptions : Item  -- %Z
     UserError : List ℕ → Item  -- %e and a text
     Notice : List ℕ → Item  -- %n and a text
     NamedText : List ℕ → Item  -- %(..)

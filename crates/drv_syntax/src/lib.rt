@@ -1,6 +1,7 @@
 //! The grammar of spec texts: a text's tree, or its first fault.
 #![tactic(auto)]
 
+mod directives;
 mod fault;
 mod labels;
 mod laws;
@@ -13,5 +14,5 @@ pub use laws::{
     cut_front, front_is_unrefused, front_prefix, one_tree, read_is_spelled, refusal_kinds,
     refused_behind_front, shortest_prefix, spelled_is_read, unrefused_is_front,
 };
-pub use token::{TempKind, TestKind, Token, TokenKind};
+pub use token::{Leaf, TempKind, TestKind, Token, TokenKind};
 pub use tree::{SpecTree, parse};

@@ -28,6 +28,41 @@ pub enum TestKind {
     Result,
 }
 
+/// A directive that is whole with its byte: nothing stands inside it.
+#[derive(Clone, Copy, Debug)]
+pub enum Leaf {
+    /// `%%`.
+    Percent,
+    /// `%i`.
+    InputName,
+    /// `%b`.
+    BaseStem,
+    /// `%B`.
+    BaseName,
+    /// `%d`.
+    Removed,
+    /// `%w`.
+    Output,
+    /// `%V`.
+    NoOutput,
+    /// `%o`.
+    Outputs,
+    /// `%O`.
+    ObjectSuffix,
+    /// `%s`.
+    FoundFile,
+    /// `%T`.
+    FoundScript,
+    /// `%X`.
+    LinkerOptions,
+    /// `%Y`.
+    AssemblerOptions,
+    /// `%Z`.
+    PreprocessorOptions,
+    /// `%D`.
+    Directories,
+}
+
 /// What a part of a spec text is.
 #[derive(Clone, Copy, Debug)]
 pub enum TokenKind {
@@ -41,40 +76,12 @@ pub enum TokenKind {
     Newline,
     /// `|`.
     Pipe,
-    /// `%%`.
-    Percent,
-    /// `%i`.
-    InputName,
-    /// `%b`.
-    BaseStem,
-    /// `%B`.
-    BaseName,
-    /// `%O`.
-    ObjectSuffix,
+    /// A directive that is whole with its byte.
+    Leaf(Leaf),
     /// `%g`, `%u`, `%U`, `%|` or `%m` and a suffix.
     TempName(TempKind),
-    /// `%d`.
-    Removed,
-    /// `%w`.
-    Output,
-    /// `%V`.
-    NoOutput,
-    /// `%s`.
-    FoundFile,
-    /// `%T`.
-    FoundScript,
-    /// `%D`.
-    Directories,
-    /// `%o`.
-    Outputs,
     /// `%x{OPTION}`.
     AddOption,
-    /// `%X`.
-    LinkerOptions,
-    /// `%Y`.
-    AssemblerOptions,
-    /// `%Z`.
-    PreprocessorOptions,
     /// `%eTEXT`.
     UserError,
     /// `%nTEXT`.

@@ -3,7 +3,7 @@ use Rattle.drv_syntax.specs.Reader.Steps.{Walk, open_braces, walk}
 use Rattle.drv_syntax.specs.declared.fault.SyntaxFault.TheVariants.{Memory}
 use Rattle.drv_syntax.specs.declared.fault.SyntaxFault.{SyntaxFault}
 use Rattle.drv_syntax.specs.declared.token.Token.{Token}
-use Rattle.drv_syntax.specs.declared.reader.stages.BraceKind.{BraceKind}
+use Rattle.drv_syntax.specs.declared.directives.BraceKind.{BraceKind}
 use Rattle.drv_syntax.specs.declared.reader.walk.Walk as code
 use Rattle.std.specs.Prelude.{◌≡◌, ◌⊎◌, ◌+◌, ◌≤◌, drop, length, reverse, List, ◌∷◌, Result, Err, Ok, ℕ}
 

@@ -2,13 +2,13 @@ use Rattle.drv_words.specs.Bytes as ascii
 use Rattle.drv_syntax.specs.Bytes.{is_of, is_space}
 use Rattle.drv_syntax.specs.Labels.{Label, no_label, star_label, word_label}
 use Rattle.drv_syntax.specs.Reader.Marks.{byte_labels}
-use Rattle.drv_syntax.specs.Reader.Turns.{behind_pattern, behind_test, called_label, chooses, choice_action, emits, head_action, leaf_kind, leaf_label, list_turn, percent_action, start_action, taken_word}
+use Rattle.drv_syntax.specs.Reader.Turns.{behind_pattern, behind_test, called_label, chooses, choice_action, emits, head_action, single_kind, single_label, list_turn, percent_action, start_action, taken_word}
 use Rattle.drv_syntax.specs.declared.fault.SyntaxFault.TheVariants.{BadDirective, EmptyTest, Unclosed}
 use Rattle.drv_syntax.specs.declared.fault.SyntaxFault.{SyntaxFault}
 use Rattle.drv_syntax.specs.declared.reader.stages.Behind.TheVariants as behinds
 use Rattle.drv_syntax.specs.declared.reader.stages.Behind.{Behind}
-use Rattle.drv_syntax.specs.declared.reader.stages.BraceKind.TheVariants as braces
-use Rattle.drv_syntax.specs.declared.reader.stages.BraceKind.{BraceKind}
+use Rattle.drv_syntax.specs.declared.directives.BraceKind.TheVariants as braces
+use Rattle.drv_syntax.specs.declared.directives.BraceKind.{BraceKind}
 use Rattle.drv_syntax.specs.declared.reader.stages.Context.{Context}
 use Rattle.drv_syntax.specs.declared.reader.stages.Form.TheVariants as forms
 use Rattle.drv_syntax.specs.declared.reader.stages.Form.{Form}
@@ -18,8 +18,8 @@ use Rattle.drv_syntax.specs.declared.reader.stages.Head.{Head}
 use Rattle.drv_syntax.specs.Reader.HeadActions as heads
 use Rattle.drv_syntax.specs.Reader.HeadActions.{ChoiceAction, HeadAction}
 use Rattle.drv_syntax.specs.declared.reader.stages.HeadStage.TheVariants as places
-use Rattle.drv_syntax.specs.declared.reader.actions.Leaf.TheVariants as leaves
-use Rattle.drv_syntax.specs.declared.reader.actions.Leaf.{Leaf}
+use Rattle.drv_syntax.specs.declared.reader.actions.Single.TheVariants as singles
+use Rattle.drv_syntax.specs.declared.reader.actions.Single.{Single}
 use Rattle.drv_syntax.specs.Reader.ListActions as acts
 use Rattle.drv_syntax.specs.Reader.ListActions.{ListAction, ListTurn}
 use Rattle.drv_syntax.specs.declared.reader.stages.ListKind.TheVariants as lists
@@ -73,13 +73,13 @@ with_leaf kind start end w = record w { tokens = w.tokens ++ record { kind = kin
 abbrev pub close_token : TokenKind → Open → ℕ → Walk → Walk
 close_token kind part end w = record w { tokens = slice_set w.tokens part.token (record { kind = kind; start = part.start; end = end; next = length w.tokens }) }
 
-abbrev pub is_white : Leaf → Bool
-is_white leaves.Blank = true
-is_white leaves.Newline = true
+abbrev pub is_white : Single → Bool
+is_white singles.Blank = true
+is_white singles.Newline = true
 is_white _ = false
 
-abbrev pub is_star : Leaf → Bool
-is_star leaves.Star = true
+abbrev pub is_star : Single → Bool
+is_star singles.Star = true
 is_star _ = false
 
 -- an item without parts inside it
@@ -89,12 +89,12 @@ with_part p w =
       stage = at.List stages.Start;
       context = w.context;
       waiting = w.waiting;
-      tokens = w.tokens ++ record { kind = leaf_kind p.leaf; start = p.start; end = p.end; next = length w.tokens + 1 } ∷ [];
-      labels = w.labels ++ leaf_label p.leaf (taken_word p.taken w.word) ∷ [];
+      tokens = w.tokens ++ record { kind = single_kind p.single; start = p.start; end = p.end; next = length w.tokens + 1 } ∷ [];
+      labels = w.labels ++ single_label p.single (taken_word p.taken w.word) ∷ [];
       word = [];
-      kept = if is_white p.leaf then w.kept else p.end;
-      trailing = if is_white p.leaf then w.trailing + 1 else 0;
-      holds_star = is_star p.leaf || w.holds_star;
+      kept = if is_white p.single then w.kept else p.end;
+      trailing = if is_white p.single then w.trailing + 1 else 0;
+      holds_star = is_star p.single || w.holds_star;
     }
 
 -- the bytes that do more in such a list than stand for themselves
@@ -390,25 +390,25 @@ abbrev pub outermost : Frame → List Frame → ℕ
 outermost f [] = place_of f
 outermost f (g ∷ fs) = outermost g fs
 
-abbrev pub end_part : Leaf → Taken → ℕ → ℕ → Walk → Result Walk SyntaxFault
-end_part leaf taken start end w = Ok (with_part (record { leaf = leaf; taken = taken; start = start; end = end }) w)
+abbrev pub end_part : Single → Taken → ℕ → ℕ → Walk → Result Walk SyntaxFault
+end_part single taken start end w = Ok (with_part (record { single = single; taken = taken; start = start; end = end }) w)
 
 -- where the text ends, of this size, and no directive waits
 abbrev pub finish_list : ListStage → ℕ → Walk → Result Walk SyntaxFault
 finish_list stages.Start n w = Ok w
 finish_list (stages.Backslash back) n w = Err (Unclosed back)
 finish_list (stages.Percent start) n w = Err (Unclosed start)
-finish_list (stages.SuffixStart start kind) n w = end_part (leaves.TempName kind) takes.Nothing start n w
-finish_list (stages.SuffixRun start kind) n w = end_part (leaves.TempName kind) takes.Word start n w
+finish_list (stages.SuffixStart start kind) n w = end_part (singles.TempName kind) takes.Nothing start n w
+finish_list (stages.SuffixRun start kind) n w = end_part (singles.TempName kind) takes.Word start n w
 finish_list (stages.SuffixPercent start kind percent) n w = Err (Unclosed percent)
 finish_list (stages.OptionOpen start) n w = Err (Unclosed start)
 finish_list (stages.OptionText start) n w = Err (Unclosed start)
 finish_list (stages.OptionEscape start) n w = Err (Unclosed start)
-finish_list (stages.SayingText start kind) n w = end_part (leaves.Said kind) takes.Word start n w
+finish_list (stages.SayingText start kind) n w = end_part (singles.Said kind) takes.Word start n w
 finish_list (stages.SayingEscape start kind back) n w = Err (Unclosed back)
 finish_list (stages.NameText start) n w = Err (Unclosed start)
 finish_list (stages.HideStart start) n w = Err (Unclosed start)
-finish_list (stages.HideWord start) n w = end_part (leaves.Hide false) takes.Word start n w
+finish_list (stages.HideWord start) n w = end_part (singles.Hide false) takes.Word start n w
 finish_list (stages.HideEscape start) n w = Err (Unclosed start)
 finish_list (stages.FunctionName start) n w = Err (Unclosed start)
 finish_list (stages.BraceOpen start kind) n w = Err (Unclosed start)

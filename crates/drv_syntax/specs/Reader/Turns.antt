@@ -1,24 +1,23 @@
 use Rattle.drv_words.specs.Bytes as ascii
-use Rattle.drv_syntax.specs.Bytes.{found, is_blank, is_function, is_function_front, is_mark, is_name, is_of, is_space, is_suffix, is_word, on}
+use Rattle.drv_syntax.specs.Bytes.{is_blank, is_function, is_function_front, is_mark, is_name, is_of, is_space, is_suffix, is_word}
+use Rattle.drv_syntax.specs.Directives.{directive_of, is_allowed, text_of}
 use Rattle.drv_syntax.specs.Labels.{Label, no_label, part_label, pattern_label, word_label}
 use Rattle.drv_syntax.specs.Tree.{pattern}
 use Rattle.drv_syntax.specs.declared.fault.SyntaxFault.TheVariants.{BadDirective, EmptyTest, MixedStar, StarOutside, TooNested, UnknownFunction}
 use Rattle.drv_syntax.specs.declared.reader.stages.Behind.TheVariants as behinds
 use Rattle.drv_syntax.specs.declared.reader.stages.Behind.{Behind}
-use Rattle.drv_syntax.specs.declared.reader.stages.BraceKind.TheVariants as braces
-use Rattle.drv_syntax.specs.declared.reader.actions.BuiltinName.TheVariants as names
-use Rattle.drv_syntax.specs.declared.reader.actions.BuiltinName.{BuiltinName}
+use Rattle.drv_syntax.specs.declared.directives.BraceKind.TheVariants as braces
 use Rattle.drv_syntax.specs.declared.reader.stages.Context.{Context}
 use Rattle.drv_syntax.specs.declared.reader.stages.Form.TheVariants as forms
 use Rattle.drv_syntax.specs.declared.reader.stages.Form.{Form}
-use Rattle.drv_syntax.specs.declared.reader.actions.Goes.TheVariants as goes
-use Rattle.drv_syntax.specs.declared.reader.actions.Goes.{Goes}
+use Rattle.drv_syntax.specs.declared.directives.Directive.TheVariants as directives
+use Rattle.drv_syntax.specs.declared.directives.Directive.{Directive}
 use Rattle.drv_syntax.specs.Reader.HeadActions as heads
 use Rattle.drv_syntax.specs.Reader.HeadActions.{ChoiceAction, HeadAction}
 use Rattle.drv_syntax.specs.declared.reader.stages.HeadStage.TheVariants as places
 use Rattle.drv_syntax.specs.declared.reader.stages.HeadStage.{HeadStage}
-use Rattle.drv_syntax.specs.declared.reader.actions.Leaf.TheVariants as leaves
-use Rattle.drv_syntax.specs.declared.reader.actions.Leaf.{Leaf}
+use Rattle.drv_syntax.specs.declared.reader.actions.Single.TheVariants as singles
+use Rattle.drv_syntax.specs.declared.reader.actions.Single.{Single}
 use Rattle.drv_syntax.specs.Reader.ListActions as acts
 use Rattle.drv_syntax.specs.Reader.ListActions.{ListAction, ListTurn}
 use Rattle.drv_syntax.specs.declared.reader.stages.ListKind.TheVariants as lists
@@ -26,13 +25,12 @@ use Rattle.drv_syntax.specs.declared.reader.stages.ListKind.{ListKind}
 use Rattle.drv_syntax.specs.declared.reader.stages.ListStage.TheVariants as stages
 use Rattle.drv_syntax.specs.declared.reader.stages.ListStage.{ListStage}
 use Rattle.drv_syntax.specs.declared.reader.actions.Part.{Part}
-use Rattle.drv_syntax.specs.declared.reader.stages.SayKind.TheVariants as sayings
-use Rattle.drv_syntax.specs.declared.reader.stages.SayKind.{SayKind}
+use Rattle.drv_syntax.specs.declared.directives.SayKind.TheVariants as sayings
+use Rattle.drv_syntax.specs.declared.directives.SayKind.{SayKind}
 use Rattle.drv_syntax.specs.declared.reader.stages.StarOwner.TheVariants as owners
 use Rattle.drv_syntax.specs.declared.reader.stages.StarOwner.{StarOwner}
 use Rattle.drv_syntax.specs.declared.reader.actions.Taken.TheVariants as takes
 use Rattle.drv_syntax.specs.declared.reader.actions.Taken.{Taken}
-use Rattle.drv_syntax.specs.declared.token.TempKind.TheVariants as temps
 use Rattle.drv_syntax.specs.declared.token.TempKind.{TempKind}
 use Rattle.drv_syntax.specs.declared.token.TestKind.TheVariants as asking
 use Rattle.drv_syntax.specs.declared.token.TestKind.{TestKind}
@@ -43,48 +41,21 @@ use Rattle.std.specs.Prelude.{◌+◌, ◌-◌, ◌==◌, Bool, false, true, not
 -- What a byte does at each place of a text, as the table of Outcome says it, over numbers and names of places
 -- without the trees (this project's profile). For the clauses of the code alone.
 
-abbrev pub leaf_kind : Leaf → TokenKind
-leaf_kind (leaves.Plain b) = kinds.Plain
-leaf_kind (leaves.Escape b) = kinds.Escape
-leaf_kind leaves.Blank = kinds.Blank
-leaf_kind leaves.Newline = kinds.Newline
-leaf_kind leaves.Pipe = kinds.Pipe
-leaf_kind leaves.Percent = kinds.Percent
-leaf_kind leaves.InputName = kinds.InputName
-leaf_kind leaves.BaseStem = kinds.BaseStem
-leaf_kind leaves.BaseName = kinds.BaseName
-leaf_kind leaves.ObjectSuffix = kinds.ObjectSuffix
-leaf_kind (leaves.TempName kind) = kinds.TempName kind
-leaf_kind leaves.Removed = kinds.Removed
-leaf_kind leaves.Output = kinds.Output
-leaf_kind leaves.NoOutput = kinds.NoOutput
-leaf_kind leaves.FoundFile = kinds.FoundFile
-leaf_kind leaves.FoundScript = kinds.FoundScript
-leaf_kind leaves.Directories = kinds.Directories
-leaf_kind leaves.Outputs = kinds.Outputs
-leaf_kind leaves.AddOption = kinds.AddOption
-leaf_kind leaves.LinkerOptions = kinds.LinkerOptions
-leaf_kind leaves.AssemblerOptions = kinds.AssemblerOptions
-leaf_kind leaves.PreprocessorOptions = kinds.PreprocessorOptions
-leaf_kind (leaves.Said sayings.AsError) = kinds.UserError
-leaf_kind (leaves.Said sayings.AsNotice) = kinds.Notice
-leaf_kind leaves.NamedText = kinds.NamedText
-leaf_kind (leaves.BuiltinText name) = kinds.BuiltinText
-leaf_kind (leaves.Hide starred) = kinds.Hide
-leaf_kind leaves.Star = kinds.Star
-
--- the named text that a letter stands for
-abbrev pub builtin_word : BuiltinName → List ℕ
-builtin_word names.Assembler = codes "asm"
-builtin_word names.AssemblerFinal = codes "asm_final"
-builtin_word names.Linker = codes "link"
-builtin_word names.Libraries = codes "lib"
-builtin_word names.Support = codes "libgcc"
-builtin_word names.StartFiles = codes "startfile"
-builtin_word names.EndFiles = codes "endfile"
-builtin_word names.Preprocessor = codes "cpp"
-builtin_word names.Compiler = codes "cc1"
-builtin_word names.CompilerPlus = codes "cc1plus"
+abbrev pub single_kind : Single → TokenKind
+single_kind (singles.Plain b) = kinds.Plain
+single_kind (singles.Escape b) = kinds.Escape
+single_kind singles.Blank = kinds.Blank
+single_kind singles.Newline = kinds.Newline
+single_kind singles.Pipe = kinds.Pipe
+single_kind (singles.Directive leaf) = kinds.Leaf leaf
+single_kind (singles.TempName kind) = kinds.TempName kind
+single_kind singles.AddOption = kinds.AddOption
+single_kind (singles.Said sayings.AsError) = kinds.UserError
+single_kind (singles.Said sayings.AsNotice) = kinds.Notice
+single_kind singles.NamedText = kinds.NamedText
+single_kind (singles.BuiltinText name) = kinds.BuiltinText
+single_kind (singles.Hide starred) = kinds.Hide
+single_kind singles.Star = kinds.Star
 
 -- the word of an item, where this word was being read
 abbrev pub taken_word : Taken → List ℕ → List ℕ
@@ -93,16 +64,16 @@ taken_word takes.Word word = word
 taken_word takes.Object word = codes ".o"
 
 -- the label of an item with this word
-abbrev pub leaf_label : Leaf → List ℕ → Label
-leaf_label (leaves.Plain b) word = word_label (b ∷ [])
-leaf_label (leaves.Escape b) word = word_label (b ∷ [])
-leaf_label (leaves.TempName kind) word = word_label word
-leaf_label leaves.AddOption word = word_label word
-leaf_label (leaves.Said kind) word = word_label word
-leaf_label leaves.NamedText word = word_label word
-leaf_label (leaves.BuiltinText name) word = word_label (builtin_word name)
-leaf_label (leaves.Hide starred) word = pattern_label (pattern word starred)
-leaf_label _ word = no_label
+abbrev pub single_label : Single → List ℕ → Label
+single_label (singles.Plain b) word = word_label (b ∷ [])
+single_label (singles.Escape b) word = word_label (b ∷ [])
+single_label (singles.TempName kind) word = word_label word
+single_label singles.AddOption word = word_label word
+single_label (singles.Said kind) word = word_label word
+single_label singles.NamedText word = word_label word
+single_label (singles.BuiltinText name) word = word_label (text_of name)
+single_label (singles.Hide starred) word = pattern_label (pattern word starred)
+single_label _ word = no_label
 
 -- the label of a pattern, and of a test, with this word
 abbrev pub behind_pattern : Behind → List ℕ → Label
@@ -124,18 +95,18 @@ behind_test (behinds.Bare start end negated mark) word = part_label word false n
 abbrev pub called_label : Bool → List ℕ → Label
 called_label negated name = part_label name false negated asking.Result
 
-abbrev pub part : Leaf → Taken → ℕ → ℕ → Part
-part leaf taken start end = record { leaf = leaf; taken = taken; start = start; end = end }
+abbrev pub part : Single → Taken → ℕ → ℕ → Part
+part single taken start end = record { single = single; taken = taken; start = start; end = end }
 
-abbrev pub item : Leaf → Taken → ℕ → ℕ → ListAction
-item leaf taken start end = acts.Item (part leaf taken start end)
+abbrev pub item : Single → Taken → ℕ → ℕ → ListAction
+item single taken start end = acts.Item (part single taken start end)
 
 abbrev pub does : ListAction → ListTurn
 does action = record { first = None; then = action }
 
 -- an item ends before the byte
-abbrev pub behind : Leaf → Taken → ℕ → ℕ → ListAction → ListTurn
-behind leaf taken start end action = record { first = Some (part leaf taken start end); then = action }
+abbrev pub behind : Single → Taken → ℕ → ℕ → ListAction → ListTurn
+behind single taken start end action = record { first = Some (part single taken start end); then = action }
 
 abbrev pub refused : ℕ → ListAction
 refused at = acts.Refused (BadDirective at)
@@ -150,148 +121,93 @@ says lists.Top b = if b == ascii.newline then false else true
 says lists.InX b = if is_of (ascii.newline ∷ ascii.semicolon ∷ ascii.closing_brace ∷ []) b then false else true
 says lists.InArguments b = if b == ascii.newline then false else true
 
-abbrev pub newline_leaf : Bool → Leaf
-newline_leaf in_arguments = if in_arguments then leaves.Blank else leaves.Newline
+abbrev pub newline_single : Bool → Single
+newline_single in_arguments = if in_arguments then singles.Blank else singles.Newline
 
-abbrev pub bar_leaf : ℕ → Bool → Leaf
-bar_leaf b in_arguments = if in_arguments then leaves.Plain b else leaves.Pipe
+abbrev pub bar_single : ℕ → Bool → Single
+bar_single b in_arguments = if in_arguments then singles.Plain b else singles.Pipe
 
 abbrev pub start_action : Context → ℕ → ℕ → ListAction
 start_action c n b =
     if b == ascii.backslash then acts.Keeps (stages.Backslash n)
     else if b == ascii.percent then acts.Keeps (stages.Percent n)
     else if ends c.kind b then acts.Closes
-    else if is_blank b then item leaves.Blank takes.Nothing n (n + 1)
-    else if b == ascii.newline then item (newline_leaf c.in_arguments) takes.Nothing n (n + 1)
-    else if b == ascii.bar then item (bar_leaf b c.in_arguments) takes.Nothing n (n + 1)
-    else item (leaves.Plain b) takes.Nothing n (n + 1)
+    else if is_blank b then item singles.Blank takes.Nothing n (n + 1)
+    else if b == ascii.newline then item (newline_single c.in_arguments) takes.Nothing n (n + 1)
+    else if b == ascii.bar then item (bar_single b c.in_arguments) takes.Nothing n (n + 1)
+    else item (singles.Plain b) takes.Nothing n (n + 1)
 
 abbrev pub star_action : ℕ → ℕ → StarOwner → ListAction
 star_action at end owners.Nobody = acts.Refused (StarOutside at)
 star_action at end owners.Mixed = acts.Refused (MixedStar at)
-star_action at end owners.Starred = item leaves.Star takes.Nothing at end
+star_action at end owners.Starred = item singles.Star takes.Nothing at end
 
 abbrev pub deeper : ℕ → ℕ → ListAction → ListAction
 deeper levels at action = if levels == 0 then acts.Refused (TooNested at) else action
 
-abbrev pub builtin : BuiltinName → Goes
-builtin name = goes.Whole (leaves.BuiltinText name)
-
--- the directives, by the byte behind their %
-abbrev pub directives : List (ℕ × Goes)
-directives =
-    on (codes "%") (goes.Whole leaves.Percent) ∷
-    on (codes "i") (goes.Whole leaves.InputName) ∷
-    on (codes "b") (goes.Whole leaves.BaseStem) ∷
-    on (codes "B") (goes.Whole leaves.BaseName) ∷
-    on (codes "O") (goes.Whole leaves.ObjectSuffix) ∷
-    on (codes "g") (goes.WithSuffix temps.Shared) ∷
-    on (codes "u") (goes.WithSuffix temps.New) ∷
-    on (codes "U") (goes.WithSuffix temps.Last) ∷
-    on (codes "|") (goes.WithSuffix temps.PipedOut) ∷
-    on (codes "m") (goes.WithSuffix temps.PipedIn) ∷
-    on (codes "d") (goes.Whole leaves.Removed) ∷
-    on (codes "w") (goes.Whole leaves.Output) ∷
-    on (codes "V") (goes.Whole leaves.NoOutput) ∷
-    on (codes "s") (goes.Whole leaves.FoundFile) ∷
-    on (codes "T") (goes.Whole leaves.FoundScript) ∷
-    on (codes "D") (goes.Whole leaves.Directories) ∷
-    on (codes "o") (goes.Whole leaves.Outputs) ∷
-    on (codes "x") goes.WithOption ∷
-    on (codes "X") (goes.Whole leaves.LinkerOptions) ∷
-    on (codes "Y") (goes.Whole leaves.AssemblerOptions) ∷
-    on (codes "Z") (goes.Whole leaves.PreprocessorOptions) ∷
-    on (codes "e") (goes.WithSaying sayings.AsError) ∷
-    on (codes "n") (goes.WithSaying sayings.AsNotice) ∷
-    on (codes "(") goes.WithName ∷
-    on (codes "a") (builtin names.Assembler) ∷
-    on (codes "A") (builtin names.AssemblerFinal) ∷
-    on (codes "l") (builtin names.Linker) ∷
-    on (codes "L") (builtin names.Libraries) ∷
-    on (codes "G") (builtin names.Support) ∷
-    on (codes "S") (builtin names.StartFiles) ∷
-    on (codes "E") (builtin names.EndFiles) ∷
-    on (codes "C") (builtin names.Preprocessor) ∷
-    on (codes "1") (builtin names.Compiler) ∷
-    on (codes "2") (builtin names.CompilerPlus) ∷
-    on (codes "<") goes.WithPattern ∷
-    on (codes ">") goes.WithPattern ∷
-    on (codes ":") goes.WithCall ∷
-    on (codes "{") goes.WithBraces ∷
-    on (codes "*") goes.OfStar ∷
-    on (codes "W") (goes.WithMarkedBraces braces.IntoFailureFile) ∷
-    on (codes "@") (goes.WithMarkedBraces braces.IntoArgumentsFile) ∷
-    []
-
-abbrev pub goes_of : ℕ → Goes
-goes_of b = found goes.Nowhere directives b
-
-abbrev pub goes_action : Context → ℕ → ℕ → Goes → ListAction
-goes_action c at end goes.Nowhere = refused at
-goes_action c at end (goes.Whole leaf) = item leaf takes.Nothing at end
-goes_action c at end (goes.WithSuffix kind) = acts.Keeps (stages.SuffixStart at kind)
-goes_action c at end goes.WithOption = acts.Keeps (stages.OptionOpen at)
-goes_action c at end (goes.WithSaying kind) = acts.Clears (stages.SayingText at kind)
-goes_action c at end goes.WithName = acts.Clears (stages.NameText at)
-goes_action c at end goes.WithPattern = acts.Keeps (stages.HideStart at)
-goes_action c at end goes.OfStar = star_action at end c.owner
-goes_action c at end goes.WithCall = deeper c.levels at (acts.Clears (stages.FunctionName at))
-goes_action c at end goes.WithBraces = deeper c.levels at (acts.OpensBraces at braces.InPlace)
-goes_action c at end (goes.WithMarkedBraces kind) = deeper c.levels at (acts.Keeps (stages.BraceOpen at kind))
-
-abbrev pub allows : Bool → ℕ → Bool
-allows false b = true
-allows true b = is_of (codes "%ibBOs*{:") b
+abbrev pub directive_action : Context → ℕ → ℕ → Directive → ListAction
+directive_action c at end directives.Nowhere = refused at
+directive_action c at end (directives.Whole leaf) = item (singles.Directive leaf) takes.Nothing at end
+directive_action c at end (directives.Named name) = item (singles.BuiltinText name) takes.Nothing at end
+directive_action c at end (directives.WithSuffix kind) = acts.Keeps (stages.SuffixStart at kind)
+directive_action c at end directives.WithOption = acts.Keeps (stages.OptionOpen at)
+directive_action c at end (directives.WithSaying kind) = acts.Clears (stages.SayingText at kind)
+directive_action c at end directives.WithName = acts.Clears (stages.NameText at)
+directive_action c at end directives.WithPattern = acts.Keeps (stages.HideStart at)
+directive_action c at end directives.OfStar = star_action at end c.owner
+directive_action c at end directives.WithCall = deeper c.levels at (acts.Clears (stages.FunctionName at))
+directive_action c at end directives.WithBraces = deeper c.levels at (acts.OpensBraces at braces.InPlace)
+directive_action c at end (directives.WithMarkedBraces kind) = deeper c.levels at (acts.Keeps (stages.BraceOpen at kind))
 
 abbrev pub percent_action : Context → ℕ → ℕ → ℕ → ListAction
-percent_action c at n b = if allows c.in_arguments b then goes_action c at (n + 1) (goes_of b) else refused at
+percent_action c at n b = if is_allowed c.in_arguments b then directive_action c at (n + 1) (directive_of b) else refused at
 
 abbrev pub suffix_start : Context → ℕ → TempKind → ℕ → ℕ → ListTurn
 suffix_start c at kind n b =
     if is_suffix b then does (acts.Begins (stages.SuffixRun at kind))
     else if b == ascii.percent then does (acts.Keeps (stages.SuffixPercent at kind n))
-    else behind (leaves.TempName kind) takes.Nothing at n (start_action c n b)
+    else behind (singles.TempName kind) takes.Nothing at n (start_action c n b)
 
 abbrev pub suffix_run : Context → ℕ → TempKind → ℕ → ℕ → ListTurn
-suffix_run c at kind n b = if is_suffix b then does (acts.Adds (stages.SuffixRun at kind)) else behind (leaves.TempName kind) takes.Word at n (start_action c n b)
+suffix_run c at kind n b = if is_suffix b then does (acts.Adds (stages.SuffixRun at kind)) else behind (singles.TempName kind) takes.Word at n (start_action c n b)
 
 abbrev pub suffix_percent : Context → ℕ → TempKind → ℕ → ℕ → ℕ → ListTurn
 suffix_percent c at kind percent n b =
-    if b == ascii.capital_o then does (item (leaves.TempName kind) takes.Object at (n + 1))
-    else behind (leaves.TempName kind) takes.Nothing at percent (percent_action c percent n b)
+    if b == ascii.capital_o then does (item (singles.TempName kind) takes.Object at (n + 1))
+    else behind (singles.TempName kind) takes.Nothing at percent (percent_action c percent n b)
 
 abbrev pub option_action : ℕ → List ℕ → ℕ → ℕ → ListAction
 option_action at word n b =
     if b == ascii.backslash then acts.Keeps (stages.OptionEscape at)
-    else if b == ascii.closing_brace then (if length word == 0 then refused at else item leaves.AddOption takes.Word at (n + 1))
+    else if b == ascii.closing_brace then (if length word == 0 then refused at else item singles.AddOption takes.Word at (n + 1))
     else acts.Adds (stages.OptionText at)
 
 abbrev pub saying_turn : Context → ℕ → SayKind → ℕ → ℕ → ListTurn
 saying_turn c at kind n b =
     if b == ascii.backslash then does (acts.Keeps (stages.SayingEscape at kind n))
     else if says c.kind b then does (acts.Adds (stages.SayingText at kind))
-    else if b == ascii.newline then does (item (leaves.Said kind) takes.Word at (n + 1))
-    else behind (leaves.Said kind) takes.Word at n (start_action c n b)
+    else if b == ascii.newline then does (item (singles.Said kind) takes.Word at (n + 1))
+    else behind (singles.Said kind) takes.Word at n (start_action c n b)
 
 abbrev pub name_action : ℕ → List ℕ → ℕ → ℕ → ListAction
 name_action at word n b =
     if is_name b then (if nat_le (length word + 1) 255 then acts.Adds (stages.NameText at) else refused at)
-    else if b == ascii.closing_parenthesis then (if length word == 0 then refused at else item leaves.NamedText takes.Word at (n + 1))
+    else if b == ascii.closing_parenthesis then (if length word == 0 then refused at else item singles.NamedText takes.Word at (n + 1))
     else refused at
 
 abbrev pub hide_action : ℕ → ℕ → ℕ → ListAction
 hide_action at n b =
     if b == ascii.backslash then acts.Clears (stages.HideEscape at)
     else if is_word b then acts.Begins (stages.HideWord at)
-    else if b == ascii.asterisk then item (leaves.Hide true) takes.Nothing at (n + 1)
+    else if b == ascii.asterisk then item (singles.Hide true) takes.Nothing at (n + 1)
     else acts.Refused (EmptyTest at)
 
 abbrev pub hide_word : Context → ℕ → ℕ → ℕ → ListTurn
 hide_word c at n b =
     if b == ascii.backslash then does (acts.Keeps (stages.HideEscape at))
     else if is_word b then does (acts.Adds (stages.HideWord at))
-    else if b == ascii.asterisk then does (item (leaves.Hide true) takes.Word at (n + 1))
-    else behind (leaves.Hide false) takes.Word at n (start_action c n b)
+    else if b == ascii.asterisk then does (item (singles.Hide true) takes.Word at (n + 1))
+    else behind (singles.Hide false) takes.Word at n (start_action c n b)
 
 abbrev pub call_action : ℕ → List ℕ → ℕ → ListAction
 call_action at name b =
@@ -302,7 +218,7 @@ call_action at name b =
 -- in a list of items, where this word is being read: n is the place of the byte b
 abbrev pub list_turn : ListStage → Context → List ℕ → ℕ → ℕ → ListTurn
 list_turn stages.Start c word n b = does (start_action c n b)
-list_turn (stages.Backslash back) c word n b = does (item (leaves.Escape b) takes.Nothing back (n + 1))
+list_turn (stages.Backslash back) c word n b = does (item (singles.Escape b) takes.Nothing back (n + 1))
 list_turn (stages.Percent at) c word n b = does (percent_action c at n b)
 list_turn (stages.SuffixStart at kind) c word n b = suffix_start c at kind n b
 list_turn (stages.SuffixRun at kind) c word n b = suffix_run c at kind n b

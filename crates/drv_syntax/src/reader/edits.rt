@@ -6,12 +6,14 @@ ghost use Rattle.drv_syntax.specs.Reader.States.{Fits, state};
 ghost use Rattle.drv_words.specs.Gives.{Gives};
 ghost use Rattle.std.specs.Prelude.{◌≡◌, ◌<◌, ◌≤◌, ◌^◌, ◌+◌, ◌++◌, ◌∷◌, [], false, length, OnOk, Ok, vec_capacity, vec_len};
 
+use crate::directives::{BraceKind, SayKind};
 use crate::fault::SyntaxFault;
-use crate::reader::actions::{Leaf, Part, Taken};
-use crate::reader::naming::{name_call, name_leaf, name_pattern, name_test, name_word, taken_word};
+use crate::reader::actions::{Part, Single, Taken};
+use crate::reader::naming::{
+    name_call, name_pattern, name_single, name_test, name_word, taken_word,
+};
 use crate::reader::stages::{
-    Behind, BraceKind, Context, Form, Frame, Head, ListKind, ListStage, Open, SayKind, Stage,
-    StarOwner,
+    Behind, Context, Form, Frame, Head, ListKind, ListStage, Open, Stage, StarOwner,
 };
 use crate::reader::walk::Walk;
 use crate::token::{Token, TokenKind};
@@ -37,38 +39,24 @@ pub fn chooses(form: Form) -> bool
 }
 
 /// The kind of the token of an item.
-pub fn leaf_kind(leaf: Leaf) -> TokenKind
-    ensures { result ≡ turns.leaf_kind leaf }
+pub fn single_kind(single: Single) -> TokenKind
+    ensures { result ≡ turns.single_kind single }
 {
-    match leaf {
-        Leaf::Plain(_) => TokenKind::Plain,
-        Leaf::Escape(_) => TokenKind::Escape,
-        Leaf::Blank => TokenKind::Blank,
-        Leaf::Newline => TokenKind::Newline,
-        Leaf::Pipe => TokenKind::Pipe,
-        Leaf::Percent => TokenKind::Percent,
-        Leaf::InputName => TokenKind::InputName,
-        Leaf::BaseStem => TokenKind::BaseStem,
-        Leaf::BaseName => TokenKind::BaseName,
-        Leaf::ObjectSuffix => TokenKind::ObjectSuffix,
-        Leaf::TempName(kind) => TokenKind::TempName(kind),
-        Leaf::Removed => TokenKind::Removed,
-        Leaf::Output => TokenKind::Output,
-        Leaf::NoOutput => TokenKind::NoOutput,
-        Leaf::FoundFile => TokenKind::FoundFile,
-        Leaf::FoundScript => TokenKind::FoundScript,
-        Leaf::Directories => TokenKind::Directories,
-        Leaf::Outputs => TokenKind::Outputs,
-        Leaf::AddOption => TokenKind::AddOption,
-        Leaf::LinkerOptions => TokenKind::LinkerOptions,
-        Leaf::AssemblerOptions => TokenKind::AssemblerOptions,
-        Leaf::PreprocessorOptions => TokenKind::PreprocessorOptions,
-        Leaf::Said(SayKind::AsError) => TokenKind::UserError,
-        Leaf::Said(SayKind::AsNotice) => TokenKind::Notice,
-        Leaf::NamedText => TokenKind::NamedText,
-        Leaf::BuiltinText(_) => TokenKind::BuiltinText,
-        Leaf::Hide(_) => TokenKind::Hide,
-        Leaf::Star => TokenKind::Star,
+    match single {
+        Single::Plain(_) => TokenKind::Plain,
+        Single::Escape(_) => TokenKind::Escape,
+        Single::Blank => TokenKind::Blank,
+        Single::Newline => TokenKind::Newline,
+        Single::Pipe => TokenKind::Pipe,
+        Single::Directive(leaf) => TokenKind::Leaf(leaf),
+        Single::TempName(kind) => TokenKind::TempName(kind),
+        Single::AddOption => TokenKind::AddOption,
+        Single::Said(SayKind::AsError) => TokenKind::UserError,
+        Single::Said(SayKind::AsNotice) => TokenKind::Notice,
+        Single::NamedText => TokenKind::NamedText,
+        Single::BuiltinText(_) => TokenKind::BuiltinText,
+        Single::Hide(_) => TokenKind::Hide,
+        Single::Star => TokenKind::Star,
     }
 }
 
@@ -175,20 +163,20 @@ pub fn close_token(kind: TokenKind, part: Open, end: u32, w: &mut Walk)
     }
 }
 
-fn is_white(leaf: Leaf) -> bool
-    ensures { result ≡ steps.is_white leaf }
+fn is_white(single: Single) -> bool
+    ensures { result ≡ steps.is_white single }
 {
-    match leaf {
-        Leaf::Blank | Leaf::Newline => true,
+    match single {
+        Single::Blank | Single::Newline => true,
         _ => false,
     }
 }
 
-fn is_star(leaf: Leaf) -> bool
-    ensures { result ≡ steps.is_star leaf }
+fn is_star(single: Single) -> bool
+    ensures { result ≡ steps.is_star single }
 {
-    match leaf {
-        Leaf::Star => true,
+    match single {
+        Single::Star => true,
         _ => false,
     }
 }
@@ -201,12 +189,12 @@ pub fn with_part(p: Part, w: &mut Walk) -> Result<(), SyntaxFault>
     ensures size { OnOk result (length w.new.tokens.items ≤ length w.old.tokens.items + 1) }
     ensures trail { OnOk result (w.new.trailing ≤ w.old.trailing + 1) }
 {
-    with_leaf(leaf_kind(p.leaf), p.start, p.end, w)?;
-    name_leaf(p.leaf, taken_word(p.taken, &w.word), &mut w.labels)?;
+    with_leaf(single_kind(p.single), p.start, p.end, w)?;
+    name_single(p.single, taken_word(p.taken, &w.word), &mut w.labels)?;
     w.stage = Stage::List(ListStage::Start);
     w.word.clear();
-    w.holds_star = is_star(p.leaf) || w.holds_star;
-    if is_white(p.leaf) {
+    w.holds_star = is_star(p.single) || w.holds_star;
+    if is_white(p.single) {
         w.trailing += 1;
     } else {
         w.kept = p.end;
@@ -217,20 +205,20 @@ pub fn with_part(p: Part, w: &mut Walk) -> Result<(), SyntaxFault>
 
 /// An item without parts inside it, with this word.
 pub fn with_taken(
-    leaf: Leaf,
+    single: Single,
     start: u32,
     end: u32,
     word: &[u8],
     w: &mut Walk,
 ) -> Result<(), SyntaxFault>
     requires room { length w.old.tokens.items + 1 < 2 ^ 32 }
-    requires black { steps.is_white leaf ≡ false }
-    requires plain { steps.is_star leaf ≡ false }
-    ensures does { Gives SyntaxFault.Memory (λ _. state w.new) result (Ok (steps.with_part (turns.part leaf Taken.Word start end) (steps.with_word word.now (state w.old)))) }
+    requires black { steps.is_white single ≡ false }
+    requires plain { steps.is_star single ≡ false }
+    ensures does { Gives SyntaxFault.Memory (λ _. state w.new) result (Ok (steps.with_part (turns.part single Taken.Word start end) (steps.with_word word.now (state w.old)))) }
     ensures fits { OnOk result (Fits w.old w.new) }
 {
-    with_leaf(leaf_kind(leaf), start, end, w)?;
-    name_leaf(leaf, word, &mut w.labels)?;
+    with_leaf(single_kind(single), start, end, w)?;
+    name_single(single, word, &mut w.labels)?;
     w.stage = Stage::List(ListStage::Start);
     w.word.clear();
     w.kept = end;
@@ -243,7 +231,7 @@ pub fn with_taken(
 pub fn with_plain(n: u32, b: u8, w: &mut Walk) -> Result<(), SyntaxFault>
     requires room { length w.old.tokens.items + 1 < 2 ^ 32 }
     requires place { n < 2 ^ 31 }
-    ensures does { Gives SyntaxFault.Memory (λ _. state w.new) result (Ok (steps.with_part (turns.part (Leaf.Plain b) Taken.Nothing n (n + 1)) (state w.old))) }
+    ensures does { Gives SyntaxFault.Memory (λ _. state w.new) result (Ok (steps.with_part (turns.part (Single.Plain b) Taken.Nothing n (n + 1)) (state w.old))) }
     ensures fits { OnOk result (Fits w.old w.new) }
 {
     with_leaf(TokenKind::Plain, n, n + 1, w)?;
@@ -301,7 +289,7 @@ pub fn with_blank(n: u32, w: &mut Walk) -> Result<(), SyntaxFault>
     requires room { length w.old.tokens.items + 1 < 2 ^ 32 }
     requires place { n < 2 ^ 31 }
     requires trail { w.old.trailing + 1 < 2 ^ 32 }
-    ensures does { Gives SyntaxFault.Memory (λ _. state w.new) result (Ok (steps.with_part (turns.part Leaf.Blank Taken.Nothing n (n + 1)) (state w.old))) }
+    ensures does { Gives SyntaxFault.Memory (λ _. state w.new) result (Ok (steps.with_part (turns.part Single.Blank Taken.Nothing n (n + 1)) (state w.old))) }
     ensures fits { OnOk result (Fits w.old w.new) }
 {
     with_leaf(TokenKind::Blank, n, n + 1, w)?;

@@ -6,14 +6,15 @@ ghost use Rattle.drv_syntax.specs.Reader.Turns as turns;
 ghost use Rattle.drv_words.specs.Gives.{Gives};
 ghost use Rattle.std.specs.Prelude.{◌≡◌, ◌<◌, ◌≤◌, ◌^◌, ◌+◌, length, OnOk};
 
+use crate::directives::{BraceKind, Directive, SayKind, allows, directive_of};
 use crate::fault::SyntaxFault;
-use crate::reader::actions::{BuiltinName, Goes, Leaf, Part, Taken};
+use crate::reader::actions::{Part, Single, Taken};
 use crate::reader::acts::close;
 use crate::reader::bytes::{is_blank, is_function, is_function_front, is_name, is_suffix, is_word};
 use crate::reader::edits::{
     add, begin, clear, keep, open_braces, open_call, with_blank, with_part, with_plain,
 };
-use crate::reader::stages::{BraceKind, ListKind, ListStage, SayKind, Stage, StarOwner};
+use crate::reader::stages::{ListKind, ListStage, Stage, StarOwner};
 use crate::reader::walk::Walk;
 use crate::token::TempKind;
 
@@ -46,16 +47,16 @@ fn refused(at: u32) -> Result<(), SyntaxFault>
 
 /// An item ends.
 #[inline]
-fn item(leaf: Leaf, taken: Taken, start: u32, end: u32, w: &mut Walk) -> Result<(), SyntaxFault>
+fn item(single: Single, taken: Taken, start: u32, end: u32, w: &mut Walk) -> Result<(), SyntaxFault>
     requires room { length w.old.tokens.items < 2 ^ 31 }
     requires trail { w.old.trailing < 2 ^ 31 }
-    ensures does { Gives SyntaxFault.Memory (λ _. state w.new) result (Ok (steps.with_part (turns.part leaf taken start end) (state w.old))) }
+    ensures does { Gives SyntaxFault.Memory (λ _. state w.new) result (Ok (steps.with_part (turns.part single taken start end) (state w.old))) }
     ensures size { OnOk result (length w.new.tokens.items ≤ length w.old.tokens.items + 1) }
     ensures trail { OnOk result (w.new.trailing ≤ w.old.trailing + 1) }
 {
     with_part(
         Part {
-            leaf,
+            single,
             taken,
             start,
             end,
@@ -81,82 +82,13 @@ pub fn start(n: u32, b: u8, w: &mut Walk) -> Result<(), SyntaxFault>
     } else if is_blank(b) {
         with_blank(n, w)
     } else if b == b'\n' && !w.context.in_arguments {
-        item(Leaf::Newline, Taken::Nothing, n, n + 1, w)
+        item(Single::Newline, Taken::Nothing, n, n + 1, w)
     } else if b == b'\n' {
         with_blank(n, w)
     } else if b == b'|' && !w.context.in_arguments {
-        item(Leaf::Pipe, Taken::Nothing, n, n + 1, w)
+        item(Single::Pipe, Taken::Nothing, n, n + 1, w)
     } else {
         with_plain(n, b, w)
-    }
-}
-
-/// What the directive of this byte goes on with.
-pub fn goes_of(b: u8) -> Goes
-    ensures { result ≡ turns.goes_of b }
-{
-    match b {
-        b'%' => Goes::Whole(Leaf::Percent),
-        b'i' => Goes::Whole(Leaf::InputName),
-        b'b' => Goes::Whole(Leaf::BaseStem),
-        b'B' => Goes::Whole(Leaf::BaseName),
-        b'O' => Goes::Whole(Leaf::ObjectSuffix),
-        b'g' => Goes::WithSuffix(TempKind::Shared),
-        b'u' => Goes::WithSuffix(TempKind::New),
-        b'U' => Goes::WithSuffix(TempKind::Last),
-        b'|' => Goes::WithSuffix(TempKind::PipedOut),
-        b'm' => Goes::WithSuffix(TempKind::PipedIn),
-        b'd' => Goes::Whole(Leaf::Removed),
-        b'w' => Goes::Whole(Leaf::Output),
-        b'V' => Goes::Whole(Leaf::NoOutput),
-        b's' => Goes::Whole(Leaf::FoundFile),
-        b'T' => Goes::Whole(Leaf::FoundScript),
-        b'D' => Goes::Whole(Leaf::Directories),
-        b'o' => Goes::Whole(Leaf::Outputs),
-        b'x' => Goes::WithOption,
-        b'X' => Goes::Whole(Leaf::LinkerOptions),
-        b'Y' => Goes::Whole(Leaf::AssemblerOptions),
-        b'Z' => Goes::Whole(Leaf::PreprocessorOptions),
-        b'e' => Goes::WithSaying(SayKind::AsError),
-        b'n' => Goes::WithSaying(SayKind::AsNotice),
-        b'(' => Goes::WithName,
-        b'a' => Goes::Whole(Leaf::BuiltinText(BuiltinName::Assembler)),
-        b'A' => Goes::Whole(Leaf::BuiltinText(BuiltinName::AssemblerFinal)),
-        b'l' => Goes::Whole(Leaf::BuiltinText(BuiltinName::Linker)),
-        b'L' => Goes::Whole(Leaf::BuiltinText(BuiltinName::Libraries)),
-        b'G' => Goes::Whole(Leaf::BuiltinText(BuiltinName::Support)),
-        b'S' => Goes::Whole(Leaf::BuiltinText(BuiltinName::StartFiles)),
-        b'E' => Goes::Whole(Leaf::BuiltinText(BuiltinName::EndFiles)),
-        b'C' => Goes::Whole(Leaf::BuiltinText(BuiltinName::Preprocessor)),
-        b'1' => Goes::Whole(Leaf::BuiltinText(BuiltinName::Compiler)),
-        b'2' => Goes::Whole(Leaf::BuiltinText(BuiltinName::CompilerPlus)),
-        b'<' => Goes::WithPattern,
-        b'>' => Goes::WithPattern,
-        b':' => Goes::WithCall,
-        b'{' => Goes::WithBraces,
-        b'*' => Goes::OfStar,
-        b'W' => Goes::WithMarkedBraces(BraceKind::IntoFailureFile),
-        b'@' => Goes::WithMarkedBraces(BraceKind::IntoArgumentsFile),
-        _ => Goes::Nowhere,
-    }
-}
-
-/// The directive of this byte may stand here.
-pub fn allows(in_arguments: bool, b: u8) -> bool
-    ensures { result ≡ turns.allows in_arguments b }
-{
-    if in_arguments {
-        b == b'%'
-            || b == b'i'
-            || b == b'b'
-            || b == b'B'
-            || b == b'O'
-            || b == b's'
-            || b == b'*'
-            || b == b'{'
-            || b == b':'
-    } else {
-        true
     }
 }
 
@@ -171,25 +103,28 @@ fn percent(at: u32, n: u32, b: u8, w: &mut Walk) -> Result<(), SyntaxFault>
     if !allows(w.context.in_arguments, b) {
         return refused(at);
     }
-    match goes_of(b) {
-        Goes::Nowhere => refused(at),
-        Goes::Whole(leaf) => item(leaf, Taken::Nothing, at, n + 1, w),
-        Goes::WithSuffix(kind) => keep(Stage::List(ListStage::SuffixStart { at, kind }), w),
-        Goes::WithOption => keep(Stage::List(ListStage::OptionOpen { at }), w),
-        Goes::WithSaying(kind) => clear(Stage::List(ListStage::SayingText { at, kind }), w),
-        Goes::WithName => clear(Stage::List(ListStage::NameText { at }), w),
-        Goes::WithPattern => keep(Stage::List(ListStage::HideStart { at }), w),
-        Goes::OfStar => match w.context.owner {
+    match directive_of(b) {
+        Directive::Nowhere => refused(at),
+        Directive::Whole(leaf) => item(Single::Directive(leaf), Taken::Nothing, at, n + 1, w),
+        Directive::Named(name) => item(Single::BuiltinText(name), Taken::Nothing, at, n + 1, w),
+        Directive::WithSuffix(kind) => keep(Stage::List(ListStage::SuffixStart { at, kind }), w),
+        Directive::WithOption => keep(Stage::List(ListStage::OptionOpen { at }), w),
+        Directive::WithSaying(kind) => clear(Stage::List(ListStage::SayingText { at, kind }), w),
+        Directive::WithName => clear(Stage::List(ListStage::NameText { at }), w),
+        Directive::WithPattern => keep(Stage::List(ListStage::HideStart { at }), w),
+        Directive::OfStar => match w.context.owner {
             StarOwner::Nobody => Err(SyntaxFault::StarOutside(at as usize)),
             StarOwner::Mixed => Err(SyntaxFault::MixedStar(at as usize)),
-            StarOwner::Starred => item(Leaf::Star, Taken::Nothing, at, n + 1, w),
+            StarOwner::Starred => item(Single::Star, Taken::Nothing, at, n + 1, w),
         },
-        Goes::WithCall | Goes::WithBraces | Goes::WithMarkedBraces(_) if w.context.levels == 0 => {
-            Err(SyntaxFault::TooNested(at as usize))
-        }
-        Goes::WithCall => clear(Stage::List(ListStage::FunctionName { at }), w),
-        Goes::WithBraces => open_braces(at, BraceKind::InPlace, w),
-        Goes::WithMarkedBraces(kind) => keep(Stage::List(ListStage::BraceOpen { at, kind }), w),
+        Directive::WithCall | Directive::WithBraces | Directive::WithMarkedBraces(_)
+            if w.context.levels == 0 => { Err(SyntaxFault::TooNested(at as usize)) }
+        Directive::WithCall => clear(Stage::List(ListStage::FunctionName { at }), w),
+        Directive::WithBraces => open_braces(at, BraceKind::InPlace, w),
+        Directive::WithMarkedBraces(kind) => keep(
+            Stage::List(ListStage::BraceOpen { at, kind }),
+            w,
+        ),
     }
 }
 
@@ -212,7 +147,7 @@ fn suffix_start(at: u32, kind: TempKind, n: u32, b: u8, w: &mut Walk) -> Result<
             w,
         );
     }
-    item(Leaf::TempName(kind), Taken::Nothing, at, n, w)?;
+    item(Single::TempName(kind), Taken::Nothing, at, n, w)?;
     start(n, b, w)
 }
 
@@ -228,7 +163,7 @@ fn suffix_run(at: u32, kind: TempKind, n: u32, b: u8, w: &mut Walk) -> Result<()
     if is_suffix(b) {
         return add(Stage::List(ListStage::SuffixRun { at, kind }), b, w);
     }
-    item(Leaf::TempName(kind), Taken::Word, at, n, w)?;
+    item(Single::TempName(kind), Taken::Word, at, n, w)?;
     start(n, b, w)
 }
 
@@ -249,9 +184,9 @@ fn suffix_percent(
     ensures trail { OnOk result (w.new.trailing ≤ w.old.trailing + 4) }
 {
     if b == b'O' {
-        return item(Leaf::TempName(kind), Taken::Object, at, n + 1, w);
+        return item(Single::TempName(kind), Taken::Object, at, n + 1, w);
     }
-    item(Leaf::TempName(kind), Taken::Nothing, at, second, w)?;
+    item(Single::TempName(kind), Taken::Nothing, at, second, w)?;
     percent(second, n, b, w)
 }
 
@@ -270,7 +205,7 @@ fn option_text(at: u32, n: u32, b: u8, w: &mut Walk) -> Result<(), SyntaxFault>
     } else if w.word.is_empty() {
         refused(at)
     } else {
-        item(Leaf::AddOption, Taken::Word, at, n + 1, w)
+        item(Single::AddOption, Taken::Word, at, n + 1, w)
     }
 }
 
@@ -298,9 +233,9 @@ fn saying_text(at: u32, kind: SayKind, n: u32, b: u8, w: &mut Walk) -> Result<()
         return add(Stage::List(ListStage::SayingText { at, kind }), b, w);
     }
     if b == b'\n' {
-        return item(Leaf::Said(kind), Taken::Word, at, n + 1, w);
+        return item(Single::Said(kind), Taken::Word, at, n + 1, w);
     }
-    item(Leaf::Said(kind), Taken::Word, at, n, w)?;
+    item(Single::Said(kind), Taken::Word, at, n, w)?;
     start(n, b, w)
 }
 
@@ -319,7 +254,7 @@ fn name_text(at: u32, n: u32, b: u8, w: &mut Walk) -> Result<(), SyntaxFault>
             refused(at)
         }
     } else if b == b')' && !w.word.is_empty() {
-        item(Leaf::NamedText, Taken::Word, at, n + 1, w)
+        item(Single::NamedText, Taken::Word, at, n + 1, w)
     } else {
         refused(at)
     }
@@ -338,7 +273,7 @@ fn hide_start(at: u32, n: u32, b: u8, w: &mut Walk) -> Result<(), SyntaxFault>
     } else if is_word(b) {
         begin(Stage::List(ListStage::HideWord { at }), b, w)
     } else if b == b'*' {
-        item(Leaf::Hide(true), Taken::Nothing, at, n + 1, w)
+        item(Single::Hide(true), Taken::Nothing, at, n + 1, w)
     } else {
         Err(SyntaxFault::EmptyTest(at as usize))
     }
@@ -360,9 +295,9 @@ fn hide_word(at: u32, n: u32, b: u8, w: &mut Walk) -> Result<(), SyntaxFault>
         return add(Stage::List(ListStage::HideWord { at }), b, w);
     }
     if b == b'*' {
-        return item(Leaf::Hide(true), Taken::Word, at, n + 1, w);
+        return item(Single::Hide(true), Taken::Word, at, n + 1, w);
     }
-    item(Leaf::Hide(false), Taken::Word, at, n, w)?;
+    item(Single::Hide(false), Taken::Word, at, n, w)?;
     start(n, b, w)
 }
 
@@ -395,7 +330,7 @@ pub fn list_step(stage: ListStage, n: u32, b: u8, w: &mut Walk) -> Result<(), Sy
     match stage {
         ListStage::Start => start(n, b, w),
         ListStage::Backslash { backslash } => item(
-            Leaf::Escape(b),
+            Single::Escape(b),
             Taken::Nothing,
             backslash,
             n + 1,

@@ -1,18 +1,20 @@
 //! What each part of a text names.
 
+ghost use Rattle.drv_syntax.specs.Directives.{text_of};
 ghost use Rattle.drv_syntax.specs.Labels.{no_label, word_label};
 ghost use Rattle.drv_syntax.specs.Reader.Turns as walk;
 ghost use Rattle.drv_words.specs.Gives.{Gives};
 ghost use Rattle.std.specs.Prelude.{◌≡◌, ◌++◌, ◌∷◌, [], Ok};
 
+use crate::directives::BuiltinName;
 use crate::fault::SyntaxFault;
 use crate::labels::Labels;
-use crate::reader::actions::{BuiltinName, Leaf, Taken};
+use crate::reader::actions::{Single, Taken};
 use crate::reader::stages::Behind;
 use crate::token::TestKind;
 
 fn builtin_word(name: BuiltinName) -> &'static [u8]
-    ensures { result.now ≡ walk.builtin_word name }
+    ensures { result.now ≡ text_of name }
 {
     match name {
         BuiltinName::Assembler => b"asm",
@@ -47,16 +49,16 @@ pub fn name_word(word: &[u8], labels: &mut Labels) -> Result<(), SyntaxFault>
 }
 
 /// An item without parts inside it, with this word.
-pub fn name_leaf(leaf: Leaf, word: &[u8], labels: &mut Labels) -> Result<(), SyntaxFault>
-    ensures { Gives SyntaxFault.Memory (λ _. labels.new) result (Ok (labels.old ++ walk.leaf_label leaf word.now ∷ [])) }
+pub fn name_single(single: Single, word: &[u8], labels: &mut Labels) -> Result<(), SyntaxFault>
+    ensures { Gives SyntaxFault.Memory (λ _. labels.new) result (Ok (labels.old ++ walk.single_label single word.now ∷ [])) }
 {
-    match leaf {
-        Leaf::Plain(b) | Leaf::Escape(b) => labels.push_byte(b),
-        Leaf::TempName(_) | Leaf::AddOption | Leaf::Said(_) | Leaf::NamedText => name_word(
+    match single {
+        Single::Plain(b) | Single::Escape(b) => labels.push_byte(b),
+        Single::TempName(_) | Single::AddOption | Single::Said(_) | Single::NamedText => name_word(
             word, labels,
         ),
-        Leaf::BuiltinText(name) => name_word(builtin_word(name), labels),
-        Leaf::Hide(starred) => labels.push(word, starred, false, TestKind::Switch),
+        Single::BuiltinText(name) => name_word(builtin_word(name), labels),
+        Single::Hide(starred) => labels.push(word, starred, false, TestKind::Switch),
         _ => labels.push_none(),
     }
 }

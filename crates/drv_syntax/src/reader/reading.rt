@@ -7,7 +7,7 @@ ghost use Rattle.std.specs.Prelude.{◌≡◌, ◌<◌, ◌≤◌, ◌^◌, ◌+
 
 use crate::fault::SyntaxFault;
 use crate::labels::Labels;
-use crate::reader::actions::{Leaf, Part, Taken};
+use crate::reader::actions::{Part, Single, Taken};
 use crate::reader::edits::with_part;
 use crate::reader::stages::{Context, Frame, ListKind, ListStage, Stage, StarOwner};
 use crate::reader::turns::turn;
@@ -15,14 +15,20 @@ use crate::reader::walk::Walk;
 use crate::token::Token;
 use std::alloc::Global;
 
-fn end_part(leaf: Leaf, taken: Taken, start: u32, end: u32, w: &mut Walk) -> Result<(), SyntaxFault>
+fn end_part(
+    single: Single,
+    taken: Taken,
+    start: u32,
+    end: u32,
+    w: &mut Walk,
+) -> Result<(), SyntaxFault>
     requires room { length w.old.tokens.items < 2 ^ 30 }
     requires trail { w.old.trailing < 2 ^ 30 }
-    ensures { Gives SyntaxFault.Memory (λ _. state w.new) result (steps.end_part leaf taken start end (state w.old)) }
+    ensures { Gives SyntaxFault.Memory (λ _. state w.new) result (steps.end_part single taken start end (state w.old)) }
 {
     with_part(
         Part {
-            leaf,
+            single,
             taken,
             start,
             end,
@@ -45,15 +51,21 @@ fn finish_list(stage: ListStage, n: u32, w: &mut Walk) -> Result<(), SyntaxFault
     match stage {
         ListStage::Start => Ok(()),
         ListStage::SuffixStart { at, kind } => end_part(
-            Leaf::TempName(kind),
+            Single::TempName(kind),
             Taken::Nothing,
             at,
             n,
             w,
         ),
-        ListStage::SuffixRun { at, kind } => end_part(Leaf::TempName(kind), Taken::Word, at, n, w),
-        ListStage::SayingText { at, kind } => end_part(Leaf::Said(kind), Taken::Word, at, n, w),
-        ListStage::HideWord { at } => end_part(Leaf::Hide(false), Taken::Word, at, n, w),
+        ListStage::SuffixRun { at, kind } => end_part(
+            Single::TempName(kind),
+            Taken::Word,
+            at,
+            n,
+            w,
+        ),
+        ListStage::SayingText { at, kind } => end_part(Single::Said(kind), Taken::Word, at, n, w),
+        ListStage::HideWord { at } => end_part(Single::Hide(false), Taken::Word, at, n, w),
         ListStage::OptionOpen { at }
         | ListStage::Backslash { backslash: at }
         | ListStage::SayingEscape { backslash: at, .. }

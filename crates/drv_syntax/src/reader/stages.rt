@@ -1,5 +1,6 @@
 //! Where the next byte of a text stands, without the trees read so far.
 
+use crate::directives::{BraceKind, SayKind};
 use crate::token::TempKind;
 
 /// What a list of items is.
@@ -35,26 +36,6 @@ pub struct Context {
     pub owner: StarOwner,
     /// So many more braces and arguments may stand in one another.
     pub levels: u8,
-}
-
-/// The three braces.
-#[derive(Clone, Copy)]
-pub enum BraceKind {
-    /// `%{..}`.
-    InPlace,
-    /// `%W{..}`.
-    IntoFailureFile,
-    /// `%@{..}`.
-    IntoArgumentsFile,
-}
-
-/// A text for the user.
-#[derive(Clone, Copy)]
-pub enum SayKind {
-    /// `%e`.
-    AsError,
-    /// `%n`.
-    AsNotice,
 }
 
 /// A place in a list of items. The first number is that of the `%` or of the backslash.

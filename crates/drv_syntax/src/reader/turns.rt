@@ -2,20 +2,20 @@
 
 ghost use Rattle.drv_words.specs.Bytes as ascii;
 ghost use Rattle.drv_syntax.specs.Bytes as bytes;
-ghost use Rattle.drv_syntax.specs.Reader.Turns as turns;
+ghost use Rattle.drv_syntax.specs.Directives as directives;
 ghost use Rattle.drv_syntax.specs.Reader.States.{Fits, Opens, Turns, state};
 ghost use Rattle.std.specs.List.{prefix_len};
 ghost use Rattle.std.specs.Prelude.{◌≡◌, ◌<◌, ◌≤◌, ◌^◌, ◌+◌, ◌∷◌, ◌==◌, drop, false, get_or, IfOk, length, OnOk, Ok, true};
 
+use crate::directives::{BraceKind, Directive, allows, directive_of};
 use crate::fault::SyntaxFault;
-use crate::reader::actions::{Goes, Leaf, Part, Taken};
+use crate::reader::actions::{Part, Single, Taken};
 use crate::reader::bytes::is_mark;
 use crate::reader::edits::{ask_braces, emit_braces, open_braces, with_part, with_taken};
-use crate::reader::list_steps::{allows, goes_of};
 use crate::reader::runs::{byte_turn, front, name_length, start_turn, suffix_length, word_length};
-use crate::reader::stages::{Behind, BraceKind, ListStage, Stage};
+use crate::reader::stages::{Behind, ListStage, Stage};
 use crate::reader::walk::Walk;
-use crate::token::TempKind;
+use crate::token::{Leaf, TempKind};
 
 /// The byte of a text at a place, or 0 where it has none.
 #[inline]
@@ -53,8 +53,8 @@ fn name_turn(
     w: &mut Walk,
 ) -> Result<usize, SyntaxFault>
     requires here { w.old.stage ≡ Stage.List ListStage.Start }
-    requires allowed { turns.allows w.old.context.in_arguments b ≡ true }
-    requires form { turns.goes_of b ≡ Goes.WithName }
+    requires allowed { directives.is_allowed w.old.context.in_arguments b ≡ true }
+    requires form { directives.directive_of b ≡ Directive.WithName }
     requires inside { behind.now ≡ b ∷ inside.now }
     requires room { length w.old.tokens.items < 2 ^ 31 }
     requires place { n + length behind.now < 2 ^ 31 }
@@ -66,7 +66,7 @@ fn name_turn(
         return percent_turn(n, behind, w);
     }
     with_taken(
-        Leaf::NamedText,
+        Single::NamedText,
         n,
         n + 3 + size as u32,
         front(inside, size),
@@ -85,8 +85,8 @@ fn suffix_turn(
     w: &mut Walk,
 ) -> Result<usize, SyntaxFault>
     requires here { w.old.stage ≡ Stage.List ListStage.Start }
-    requires allowed { turns.allows w.old.context.in_arguments b ≡ true }
-    requires form { turns.goes_of b ≡ Goes.WithSuffix kind }
+    requires allowed { directives.is_allowed w.old.context.in_arguments b ≡ true }
+    requires form { directives.directive_of b ≡ Directive.WithSuffix kind }
     requires inside { behind.now ≡ b ∷ inside.now }
     requires room { length w.old.tokens.items < 2 ^ 31 }
     requires place { n + length behind.now < 2 ^ 31 }
@@ -98,7 +98,7 @@ fn suffix_turn(
         return percent_turn(n, behind, w);
     }
     with_taken(
-        Leaf::TempName(kind),
+        Single::TempName(kind),
         n,
         n + 2 + size as u32,
         front(inside, size),
@@ -277,8 +277,8 @@ fn marked_turn(
     w: &mut Walk,
 ) -> Result<usize, SyntaxFault>
     requires here { w.old.stage ≡ Stage.List ListStage.Start }
-    requires allowed { turns.allows w.old.context.in_arguments b ≡ true }
-    requires form { turns.goes_of b ≡ Goes.WithMarkedBraces kind }
+    requires allowed { directives.is_allowed w.old.context.in_arguments b ≡ true }
+    requires form { directives.directive_of b ≡ Directive.WithMarkedBraces kind }
     requires levels { (w.old.context.levels == 0) ≡ false }
     requires room { length w.old.tokens.items < 2 ^ 30 }
     requires place { n + length behind.now < 2 ^ 30 }
@@ -303,8 +303,8 @@ fn whole_turn(
     w: &mut Walk,
 ) -> Result<usize, SyntaxFault>
     requires here { w.old.stage ≡ Stage.List ListStage.Start }
-    requires allowed { turns.allows w.old.context.in_arguments b ≡ true }
-    requires form { turns.goes_of b ≡ Goes.Whole leaf }
+    requires allowed { directives.is_allowed w.old.context.in_arguments b ≡ true }
+    requires form { directives.directive_of b ≡ Directive.Whole leaf }
     requires inside { behind.now ≡ b ∷ inside.now }
     requires room { length w.old.tokens.items < 2 ^ 30 }
     requires place { n + length behind.now < 2 ^ 30 }
@@ -314,7 +314,7 @@ fn whole_turn(
 {
     with_part(
         Part {
-            leaf,
+            single: Single::Directive(leaf),
             taken: Taken::Nothing,
             start: n,
             end: n + 2,
@@ -333,8 +333,8 @@ fn braces_turn(
     w: &mut Walk,
 ) -> Result<usize, SyntaxFault>
     requires here { w.old.stage ≡ Stage.List ListStage.Start }
-    requires allowed { turns.allows w.old.context.in_arguments b ≡ true }
-    requires form { turns.goes_of b ≡ Goes.WithBraces }
+    requires allowed { directives.is_allowed w.old.context.in_arguments b ≡ true }
+    requires form { directives.directive_of b ≡ Directive.WithBraces }
     requires levels { w.old.context.levels ≡ 0 → ⊥ }
     requires inside { behind.now ≡ b ∷ inside.now }
     requires room { length w.old.tokens.items < 2 ^ 30 }
@@ -364,12 +364,14 @@ fn directive_turn(n: u32, behind: &[u8], w: &mut Walk) -> Result<usize, SyntaxFa
     if !allows(w.context.in_arguments, b) {
         return percent_turn(n, behind, w);
     }
-    match goes_of(b) {
-        Goes::Whole(leaf) => whole_turn(n, leaf, b, behind, inside, w),
-        Goes::WithName => name_turn(n, b, behind, inside, w),
-        Goes::WithSuffix(kind) => suffix_turn(n, kind, b, behind, inside, w),
-        Goes::WithBraces if w.context.levels != 0 => braces_turn(n, b, behind, inside, w),
-        Goes::WithMarkedBraces(kind) if w.context.levels != 0 => marked_turn(n, kind, b, inside, w),
+    match directive_of(b) {
+        Directive::Whole(leaf) => whole_turn(n, leaf, b, behind, inside, w),
+        Directive::WithName => name_turn(n, b, behind, inside, w),
+        Directive::WithSuffix(kind) => suffix_turn(n, kind, b, behind, inside, w),
+        Directive::WithBraces if w.context.levels != 0 => braces_turn(n, b, behind, inside, w),
+        Directive::WithMarkedBraces(kind) if w.context.levels != 0 => marked_turn(
+            n, kind, b, inside, w,
+        ),
         _ => percent_turn(n, behind, w),
     }
 }

@@ -1,0 +1,81 @@
+use Rattle.drv_machine.proofs.items.work_leaf.Goals as goal
+use Rattle.drv_machine.proofs.Steps.{fails_as, gives_as, then_fails, then_ok}
+use Rattle.drv_machine.proofs.WorkSteps.{by_leaf}
+use Rattle.drv_machine.specs.Atoms.{input_name, leaf_step}
+use Rattle.drv_machine.specs.Names.{base, stem}
+use Rattle.drv_machine.specs.Running.{run}
+use Rattle.drv_machine.specs.Working.{bytes}
+use Rattle.drv_syntax.specs.declared.token.Leaf.TheVariants as leaves
+use Rattle.std.proofs.Common.{ap, rules, sym, ◌∙◌}
+
+pub returns-in_err-input_name-in-InputName-clause-does : goal.returns-in_err-input_name-in-InputName-clause-does
+returns-in_err-input_name-in-InputName-clause-does g c F e =
+    let failed = then_fails F c.args.context.now c.args.machine.now (input_name F c.args.context.now) (λ name. bytes name) c.in_err-input_name-in-InputName.field-0.0 (c.in_err-input_name-in-InputName.ensures F c.args.machine.now) in
+    let whole =
+    fails_as _ (run F c.args.context.now c.args.machine.now (leaf_step F c.args.context.now c.args.leaf)) failed
+    (λ x. sym (by_leaf F c.args.context.now c.args.machine.now c.args.leaf leaves.InputName c.in-InputName.is) ∙ x) in
+    let f = c.from_residual.ensures in
+    search rules
+
+pub returns-in_err-input_name-in-BaseStem-clause-does : goal.returns-in_err-input_name-in-BaseStem-clause-does
+returns-in_err-input_name-in-BaseStem-clause-does g c F e =
+    let failed = then_fails F c.args.context.now c.args.machine.now (input_name F c.args.context.now) (λ name. bytes (stem name)) c.in_err-input_name-in-BaseStem.field-0.0 (c.in_err-input_name-in-BaseStem.ensures F c.args.machine.now) in
+    let whole =
+    fails_as _ (run F c.args.context.now c.args.machine.now (leaf_step F c.args.context.now c.args.leaf)) failed
+    (λ x. sym (by_leaf F c.args.context.now c.args.machine.now c.args.leaf leaves.BaseStem c.in-BaseStem.is) ∙ x) in
+    let f = c.from_residual-in_err-input_name-in-BaseStem.ensures in
+    search rules
+
+pub returns-in_err-input_name-in-BaseName-clause-does : goal.returns-in_err-input_name-in-BaseName-clause-does
+returns-in_err-input_name-in-BaseName-clause-does g c F e =
+    let failed = then_fails F c.args.context.now c.args.machine.now (input_name F c.args.context.now) (λ name. bytes (base name)) c.in_err-input_name-in-BaseName.field-0.0 (c.in_err-input_name-in-BaseName.ensures F c.args.machine.now) in
+    let whole =
+    fails_as _ (run F c.args.context.now c.args.machine.now (leaf_step F c.args.context.now c.args.leaf)) failed
+    (λ x. sym (by_leaf F c.args.context.now c.args.machine.now c.args.leaf leaves.BaseName c.in-BaseName.is) ∙ x) in
+    let f = c.from_residual-in_err-input_name-in-BaseName.ensures in
+    search rules
+
+pub returns-in-Percent-clause-does : goal.returns-in-Percent-clause-does
+returns-in-Percent-clause-does g c F e =
+    gives_as c.put.new.self c.put.result _ _
+    (by_leaf F c.args.context.now c.args.machine.now c.args.leaf leaves.Percent c.in-Percent.is) (c.put.ensures.does F c.args.context.now)
+
+pub returns-in_ok-input_name-in-InputName-clause-does : goal.returns-in_ok-input_name-in-InputName-clause-does
+returns-in_ok-input_name-in-InputName-clause-does g c F e =
+    gives_as c.put-in-InputName.new.self c.put-in-InputName.result _ _
+    (sym (then_ok F c.args.context.now c.args.machine.now (input_name F c.args.context.now) (λ name. bytes name) c.in_ok-input_name-in-InputName.field-0.now c.args.machine.now (c.in_ok-input_name-in-InputName.ensures F c.args.machine.now)) ∙ by_leaf F c.args.context.now c.args.machine.now c.args.leaf leaves.InputName c.in-InputName.is) (c.put-in-InputName.ensures.does F c.args.context.now)
+
+pub returns-in_ok-input_name-in-BaseStem-clause-does : goal.returns-in_ok-input_name-in-BaseStem-clause-does
+returns-in_ok-input_name-in-BaseStem-clause-does g c F e =
+    gives_as c.put-in-BaseStem.new.self c.put-in-BaseStem.result _ _
+    (ap (λ name. run F c.args.context.now c.args.machine.now (bytes name)) c.stem.ensures ∙ sym (then_ok F c.args.context.now c.args.machine.now (input_name F c.args.context.now) (λ name. bytes (stem name)) c.in_ok-input_name-in-BaseStem.field-0.now c.args.machine.now (c.in_ok-input_name-in-BaseStem.ensures F c.args.machine.now)) ∙ by_leaf F c.args.context.now c.args.machine.now c.args.leaf leaves.BaseStem c.in-BaseStem.is) (c.put-in-BaseStem.ensures.does F c.args.context.now)
+
+pub returns-in_ok-input_name-in-BaseName-clause-does : goal.returns-in_ok-input_name-in-BaseName-clause-does
+returns-in_ok-input_name-in-BaseName-clause-does g c F e =
+    gives_as c.put-in-BaseName.new.self c.put-in-BaseName.result _ _
+    (ap (λ name. run F c.args.context.now c.args.machine.now (bytes name)) c.base.ensures ∙ sym (then_ok F c.args.context.now c.args.machine.now (input_name F c.args.context.now) (λ name. bytes (base name)) c.in_ok-input_name-in-BaseName.field-0.now c.args.machine.now (c.in_ok-input_name-in-BaseName.ensures F c.args.machine.now)) ∙ by_leaf F c.args.context.now c.args.machine.now c.args.leaf leaves.BaseName c.in-BaseName.is) (c.put-in-BaseName.ensures.does F c.args.context.now)
+
+pub returns-in-ObjectSuffix-clause-does : goal.returns-in-ObjectSuffix-clause-does
+returns-in-ObjectSuffix-clause-does g c F e =
+    gives_as c.put-in-ObjectSuffix.new.self c.put-in-ObjectSuffix.result _ _
+    (by_leaf F c.args.context.now c.args.machine.now c.args.leaf leaves.ObjectSuffix c.in-ObjectSuffix.is) (c.put-in-ObjectSuffix.ensures.does F c.args.context.now)
+
+pub returns-in-Removed-clause-does : goal.returns-in-Removed-clause-does
+returns-in-Removed-clause-does g c F e =
+    sym (by_leaf F c.args.context.now c.args.machine.now c.args.leaf leaves.Removed c.in-Removed.is) ∙ c.mark.ensures.does F c.args.context.now
+
+pub returns-in-Output-clause-does : goal.returns-in-Output-clause-does
+returns-in-Output-clause-does g c F e =
+    sym (by_leaf F c.args.context.now c.args.machine.now c.args.leaf leaves.Output c.in-Output.is) ∙ c.mark-in-Output.ensures.does F c.args.context.now
+
+pub returns-in-NoOutput-clause-does : goal.returns-in-NoOutput-clause-does
+returns-in-NoOutput-clause-does g c F e =
+    sym (by_leaf F c.args.context.now c.args.machine.now c.args.leaf leaves.NoOutput c.in-NoOutput.is) ∙ c.bar_output.ensures.does F c.args.context.now
+
+pub returns-in-FoundFile-clause-does : goal.returns-in-FoundFile-clause-does
+returns-in-FoundFile-clause-does g c F e =
+    sym (by_leaf F c.args.context.now c.args.machine.now c.args.leaf leaves.FoundFile c.in-FoundFile.is) ∙ c.mark-in-FoundFile.ensures.does F c.args.context.now
+
+pub returns-in-FoundScript-clause-does : goal.returns-in-FoundScript-clause-does
+returns-in-FoundScript-clause-does g c F e =
+    sym (by_leaf F c.args.context.now c.args.machine.now c.args.leaf leaves.FoundScript c.in-FoundScript.is) ∙ c.mark-in-FoundScript.ensures.does F c.args.context.now
