@@ -7,6 +7,7 @@ mod edits;
 mod head_steps;
 mod list_steps;
 mod naming;
+mod nesting;
 mod reading;
 mod runs;
 mod stages;

@@ -7,9 +7,10 @@ ghost use Rattle.std.specs.Prelude.{◌≡◌, ◌<◌, ◌≤◌, ◌^◌, ◌+
 
 use crate::fault::SyntaxFault;
 use crate::reader::bytes::is_space;
-use crate::reader::edits::{
-    alternative_of, ask, behind_item, chooses, close_braces, close_token, emits, first_of, negates,
-    starred_of, stars, tests, untested, with_pattern, with_test,
+use crate::reader::edits::close_token;
+use crate::reader::nesting::{
+    alternative_of, ask, behind_item, chooses, close_braces, emits, first_of, negates, starred_of,
+    stars, tests, untested, with_pattern, with_test,
 };
 use crate::reader::stages::{Behind, Context, Form, Frame, Head, HeadStage, Open, Stage};
 use crate::reader::walk::Walk;

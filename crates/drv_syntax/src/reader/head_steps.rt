@@ -9,9 +9,8 @@ ghost use Rattle.std.specs.Prelude.{◌≡◌, ◌<◌, ◌^◌, ◌+◌, length
 use crate::fault::SyntaxFault;
 use crate::reader::acts::{act_asks, act_bars, act_ends, act_joins};
 use crate::reader::bytes::{is_function, is_function_front, is_mark, is_space, is_word};
-use crate::reader::edits::{
-    add, ask, begin, clear, emits, keep, next_open, open_alternative, open_test,
-};
+use crate::reader::edits::{add, begin, clear, keep, next_open};
+use crate::reader::nesting::{ask, emits, open_alternative, open_test};
 use crate::reader::stages::{Behind, Form, Head, HeadStage, Stage};
 use crate::reader::walk::Walk;
 

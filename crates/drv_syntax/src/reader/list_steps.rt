@@ -11,9 +11,8 @@ use crate::fault::SyntaxFault;
 use crate::reader::actions::{Part, Single, Taken};
 use crate::reader::acts::close;
 use crate::reader::bytes::{is_blank, is_function, is_function_front, is_name, is_suffix, is_word};
-use crate::reader::edits::{
-    add, begin, clear, keep, open_braces, open_call, with_blank, with_part, with_plain,
-};
+use crate::reader::edits::{add, begin, clear, keep, with_blank, with_part, with_plain};
+use crate::reader::nesting::{open_braces, open_call};
 use crate::reader::stages::{ListKind, ListStage, Stage, StarOwner};
 use crate::reader::walk::Walk;
 use crate::token::TempKind;

@@ -1,0 +1,407 @@
+//! Braces and calls: parts that have an inside, and open and end.
+
+ghost use Rattle.drv_syntax.specs.Reader.Steps as steps;
+ghost use Rattle.drv_syntax.specs.Reader.Turns as turns;
+ghost use Rattle.drv_syntax.specs.Reader.States.{Fits, state};
+ghost use Rattle.drv_words.specs.Gives.{Gives};
+ghost use Rattle.std.specs.Prelude.{◌≡◌, ◌<◌, ◌≤◌, ◌^◌, ◌+◌, length, OnOk, Ok};
+
+use crate::directives::BraceKind;
+use crate::fault::SyntaxFault;
+use crate::reader::edits::{close_token, next_open, with_leaf, with_token};
+use crate::reader::naming::{name_call, name_pattern, name_test, name_word};
+use crate::reader::stages::{
+    Behind, Context, Form, Frame, Head, ListKind, ListStage, Open, Stage, StarOwner,
+};
+use crate::reader::walk::Walk;
+use crate::token::TokenKind;
+
+/// The braces can still hold patterns alone.
+pub fn emits(form: Form, negated: bool) -> bool
+    ensures { result ≡ turns.emits form negated }
+{
+    match form {
+        Form::Fresh | Form::Patterns => !negated,
+        Form::Later | Form::Tests { .. } => false,
+    }
+}
+
+/// The braces can still hold alternatives.
+pub fn chooses(form: Form) -> bool
+    ensures { result ≡ turns.chooses form }
+{
+    match form {
+        Form::Patterns => false,
+        Form::Fresh | Form::Later | Form::Tests { .. } => true,
+    }
+}
+
+/// Behind an item that ends at this place, in a list with this context.
+pub fn behind_item(c: Context, end: u32, w: &mut Walk)
+    ensures { state w.new ≡ steps.behind_item c end (state w.old) }
+{
+    w.stage = Stage::List(ListStage::Start);
+    w.context = c;
+    w.word.clear();
+    w.kept = end;
+    w.trailing = 0;
+}
+
+fn deeper_context(c: Context) -> Context
+    ensures { result ≡ steps.deeper_context c }
+{
+    Context {
+        kind: c.kind,
+        in_arguments: c.in_arguments,
+        owner: c.owner,
+        levels: c.levels.saturating_sub(1),
+    }
+}
+
+fn arguments_context(c: Context) -> Context
+    ensures { result ≡ steps.arguments_context c }
+{
+    Context {
+        kind: ListKind::InArguments,
+        in_arguments: true,
+        owner: c.owner,
+        levels: c.levels.saturating_sub(1),
+    }
+}
+
+fn x_context(c: Context, owner: StarOwner) -> Context
+    ensures { result ≡ steps.x_context c owner }
+{
+    Context {
+        kind: ListKind::InX,
+        in_arguments: c.in_arguments,
+        owner,
+        levels: c.levels.saturating_sub(1),
+    }
+}
+
+fn brace_token(kind: BraceKind, emitted: bool) -> TokenKind
+    ensures { result ≡ steps.brace_token kind emitted }
+{
+    match kind {
+        BraceKind::InPlace if emitted => TokenKind::Emit,
+        BraceKind::InPlace => TokenKind::Choose,
+        BraceKind::IntoFailureFile => TokenKind::FailureFile,
+        BraceKind::IntoArgumentsFile => TokenKind::ArgumentsFile,
+    }
+}
+
+fn enter(frame: Frame, c: Context, kept: u32, w: &mut Walk) -> Result<(), SyntaxFault>
+    ensures does { Gives SyntaxFault.Memory (λ _. state w.new) result (Ok (steps.enter frame c kept (state w.old))) }
+    ensures size { OnOk result (length w.new.tokens.items ≤ length w.old.tokens.items) }
+{
+    w.waiting.push(frame)?;
+    w.stage = Stage::List(ListStage::Start);
+    w.context = c;
+    w.word.clear();
+    w.kept = kept;
+    w.trailing = 0;
+    Ok(())
+}
+
+/// Braces open.
+pub fn open_braces(start: u32, kind: BraceKind, w: &mut Walk) -> Result<(), SyntaxFault>
+    requires room { length w.old.tokens.items < 2 ^ 31 }
+    ensures does { Gives SyntaxFault.Memory (λ _. state w.new) result (Ok (steps.open_braces start kind (state w.old))) }
+    ensures fits { OnOk result (Fits w.old w.new) }
+{
+    let head = Head {
+        kind,
+        part: next_open(w, start),
+    };
+    with_token(brace_token(kind, false), start, w)?;
+    w.labels.push_none()?;
+    w.stage = Stage::Choice { head, later: false };
+    w.word.clear();
+    Ok(())
+}
+
+/// A function's arguments open.
+pub fn open_call(start: u32, w: &mut Walk) -> Result<(), SyntaxFault>
+    requires room { length w.old.tokens.items < 2 ^ 31 }
+    ensures does { Gives SyntaxFault.Memory (λ _. state w.new) result (Ok (steps.open_call start (state w.old))) }
+    ensures fits { OnOk result (Fits w.old w.new) }
+{
+    let part = next_open(w, start);
+    name_word(&w.word, &mut w.labels)?;
+    enter(
+        Frame::Call {
+            context: w.context,
+            part,
+        },
+        arguments_context(w.context),
+        0,
+        w,
+    )?;
+    with_token(TokenKind::Function, start, w)
+}
+
+/// The alternative of the tests so far, which begins here if there are none.
+pub fn alternative_of(form: Form, start: u32, w: &Walk) -> Open
+    requires { length w.now.tokens.items < 2 ^ 31 }
+    ensures { result ≡ steps.alternative_of form start (state w.now) }
+{
+    match form {
+        Form::Tests {
+            alternative: part,
+            ..
+        } => part,
+        Form::Fresh | Form::Patterns | Form::Later => next_open(w, start),
+    }
+}
+
+/// An alternative opens.
+pub fn open_alternative(start: u32, w: &mut Walk) -> Result<(), SyntaxFault>
+    ensures does { Gives SyntaxFault.Memory (λ _. state w.new) result (Ok (steps.open_alternative start (state w.old))) }
+    ensures size { OnOk result (length w.new.tokens.items ≤ length w.old.tokens.items + 1) }
+    ensures trail { OnOk result (w.new.trailing ≤ w.old.trailing) }
+{
+    with_token(TokenKind::Alternative, start, w)?;
+    w.labels.push_none()
+}
+
+fn with_alternative(form: Form, start: u32, w: &mut Walk) -> Result<(), SyntaxFault>
+    ensures does { Gives SyntaxFault.Memory (λ _. state w.new) result (Ok (steps.with_alternative form start (state w.old))) }
+    ensures size { OnOk result (length w.new.tokens.items ≤ length w.old.tokens.items + 1) }
+    ensures trail { OnOk result (w.new.trailing ≤ w.old.trailing) }
+{
+    match form {
+        Form::Tests { .. } => Ok(()),
+        Form::Fresh | Form::Patterns | Form::Later => open_alternative(start, w),
+    }
+}
+
+/// All tests so far are starred patterns without `!`.
+pub fn stars(form: Form) -> bool
+    ensures { result ≡ steps.stars form }
+{
+    match form {
+        Form::Tests { starred, .. } => starred,
+        Form::Fresh | Form::Patterns | Form::Later => true,
+    }
+}
+
+/// A function's arguments open in a test, with a `!` or without.
+pub fn open_test(
+    head: Head,
+    form: Form,
+    start: u32,
+    negated: bool,
+    w: &mut Walk,
+) -> Result<(), SyntaxFault>
+    requires room { length w.old.tokens.items < 2 ^ 31 }
+    ensures does { Gives SyntaxFault.Memory (λ _. state w.new) result (Ok (steps.open_test head form start negated (state w.old))) }
+    ensures fits { OnOk result (Fits w.old w.new) }
+{
+    let alternative = alternative_of(form, start, w);
+    with_alternative(form, start, w)?;
+    let part = next_open(w, start);
+    name_call(negated, &w.word, &mut w.labels)?;
+    let context = arguments_context(deeper_context(w.context));
+    enter(
+        Frame::Test {
+            context: w.context,
+            head,
+            alternative,
+            part,
+            chosen: chooses(form),
+        },
+        context,
+        0,
+        w,
+    )?;
+    with_token(TokenKind::Test, start, w)
+}
+
+/// Where it begins.
+pub fn first_of(behind: Behind) -> u32
+    ensures { result ≡ steps.first_of behind }
+{
+    match behind {
+        Behind::Switch { start, .. } => start,
+        Behind::Marked { start, .. } => start,
+        Behind::StarredMark { start, .. } => start,
+        Behind::Bare { start, .. } => start,
+    }
+}
+
+fn last_of(behind: Behind) -> u32
+    ensures { result ≡ steps.last_of behind }
+{
+    match behind {
+        Behind::Switch { end, .. } => end,
+        Behind::Marked { end, .. } => end,
+        Behind::StarredMark { end, .. } => end,
+        Behind::Bare { end, .. } => end,
+    }
+}
+
+/// It has a `!`.
+pub fn negates(behind: Behind) -> bool
+    ensures { result ≡ steps.negates behind }
+{
+    match behind {
+        Behind::Switch { negated, .. } => negated,
+        Behind::Marked { negated, .. } => negated,
+        Behind::StarredMark { negated, .. } => negated,
+        Behind::Bare { negated, .. } => negated,
+    }
+}
+
+/// It can be a test.
+pub fn tests(behind: Behind) -> bool
+    ensures { result ≡ steps.tests behind }
+{
+    match behind {
+        Behind::Switch { .. } | Behind::Marked { .. } => true,
+        Behind::StarredMark { .. } | Behind::Bare { .. } => false,
+    }
+}
+
+/// It is a starred pattern without `!`.
+pub fn starred_of(behind: Behind) -> bool
+    ensures { result ≡ steps.starred_of behind }
+{
+    match behind {
+        Behind::Switch {
+            negated,
+            starred,
+            ..
+        } => !negated && starred,
+        _ => false,
+    }
+}
+
+/// Why it can be no test.
+pub fn untested(at: u32, behind: Behind) -> SyntaxFault
+    ensures { result ≡ steps.untested at behind }
+{
+    match behind {
+        Behind::Bare { .. } => SyntaxFault::EmptyTest(at as usize),
+        _ => SyntaxFault::BadDirective(at as usize),
+    }
+}
+
+/// The pattern.
+pub fn with_pattern(behind: Behind, w: &mut Walk) -> Result<(), SyntaxFault>
+    requires { length w.old.tokens.items < 2 ^ 31 }
+    ensures does { Gives SyntaxFault.Memory (λ _. state w.new) result (Ok (steps.with_pattern behind (state w.old))) }
+    ensures size { OnOk result (length w.new.tokens.items ≤ length w.old.tokens.items + 1) }
+    ensures trail { OnOk result (w.new.trailing ≤ w.old.trailing) }
+{
+    with_leaf(TokenKind::Pattern, first_of(behind), last_of(behind), w)?;
+    name_pattern(behind, &w.word, &mut w.labels)
+}
+
+/// The test, in its alternative.
+pub fn with_test(form: Form, behind: Behind, w: &mut Walk) -> Result<(), SyntaxFault>
+    requires { length w.old.tokens.items < 2 ^ 31 }
+    ensures does { Gives SyntaxFault.Memory (λ _. state w.new) result (Ok (steps.with_test form behind (state w.old))) }
+    ensures size { OnOk result (length w.new.tokens.items ≤ length w.old.tokens.items + 2) }
+    ensures trail { OnOk result (w.new.trailing ≤ w.old.trailing) }
+{
+    with_alternative(form, first_of(behind), w)?;
+    with_leaf(TokenKind::Test, first_of(behind), last_of(behind), w)?;
+    name_test(behind, &w.word, &mut w.labels)
+}
+
+/// The braces end here.
+pub fn close_braces(head: Head, emitted: bool, end: u32, c: Context, w: &mut Walk)
+    requires { length w.old.tokens.items < 2 ^ 32 }
+    ensures does { state w.new ≡ steps.close_braces head emitted end c (state w.old) }
+    ensures size { length w.new.tokens.items ≡ length w.old.tokens.items }
+    ensures trail { w.new.trailing ≡ 0 }
+{
+    close_token(brace_token(head.kind, emitted), head.part, end, w);
+    behind_item(c, end, w);
+}
+
+/// The X of an alternative opens.
+pub fn ask(
+    head: Head,
+    part: Open,
+    tested: bool,
+    starred: bool,
+    colon: u32,
+    w: &mut Walk,
+) -> Result<(), SyntaxFault>
+    requires { colon < 2 ^ 31 }
+    ensures does { Gives SyntaxFault.Memory (λ _. state w.new) result (Ok (steps.ask head part tested starred colon (state w.old))) }
+    ensures fits { OnOk result (Fits w.old w.new) }
+{
+    let owner = if starred {
+        StarOwner::Starred
+    } else {
+        StarOwner::Mixed
+    };
+    enter(
+        Frame::X {
+            context: w.context,
+            head,
+            colon,
+            alternative: part,
+            tested,
+            around: w.holds_star,
+        },
+        x_context(w.context, owner),
+        colon + 1,
+        w,
+    )?;
+    w.holds_star = false;
+    Ok(())
+}
+
+/// Braces that hold this pattern alone, with this word.
+pub fn emit_braces(
+    start: u32,
+    kind: BraceKind,
+    behind: Behind,
+    word: &[u8],
+    end: u32,
+    w: &mut Walk,
+) -> Result<(), SyntaxFault>
+    requires room { length w.old.tokens.items < 2 ^ 30 }
+    ensures does { Gives SyntaxFault.Memory (λ _. state w.new) result (Ok (steps.emitted start kind behind word.now end (state w.old))) }
+    ensures fits { OnOk result (Fits w.old w.new) }
+{
+    let head = Head {
+        kind,
+        part: next_open(w, start),
+    };
+    open_braces(start, kind, w)?;
+    with_leaf(TokenKind::Pattern, first_of(behind), last_of(behind), w)?;
+    name_pattern(behind, word, &mut w.labels)?;
+    close_braces(head, true, end, w.context, w);
+    Ok(())
+}
+
+/// Braces whose first alternative has this test alone, with this word, up to its colon.
+pub fn ask_braces(
+    start: u32,
+    kind: BraceKind,
+    behind: Behind,
+    word: &[u8],
+    colon: u32,
+    w: &mut Walk,
+) -> Result<(), SyntaxFault>
+    requires room { length w.old.tokens.items < 2 ^ 30 }
+    requires place { colon < 2 ^ 31 }
+    ensures does { Gives SyntaxFault.Memory (λ _. state w.new) result (Ok (steps.asked start kind behind word.now colon (state w.old))) }
+    ensures fits { OnOk result (Fits w.old w.new) }
+{
+    let head = Head {
+        kind,
+        part: next_open(w, start),
+    };
+    open_braces(start, kind, w)?;
+    let alternative = next_open(w, first_of(behind));
+    open_alternative(first_of(behind), w)?;
+    with_leaf(TokenKind::Test, first_of(behind), last_of(behind), w)?;
+    name_test(behind, word, &mut w.labels)?;
+    ask(head, alternative, true, starred_of(behind), colon, w)
+}
