@@ -1,7 +1,7 @@
-use Rattle.drv_cc.specs.Items.{Start, Wants, Whole, by_row, items_of, start_of, with_start}
+use Rattle.drv_cc.specs.Items.{Wants, Whole, by_row, items_of, start_of, with_start}
 use Rattle.drv_cc.specs.Table.{OptionRow}
 use Rattle.drv_cc.specs.declared.item.Item.{Item}
-use Rattle.std.proofs.Common.{◌≡◌, ◌∙◌, List, [], ◌∷◌, ◌++◌, None, Some, ap, append_assoc, refl, ℕ}
+use Rattle.std.proofs.Common.{◌≡◌, ◌∙◌, List, [], ◌∷◌, ◌++◌, None, Some, ap, append_assoc, ℕ}
 
 -- A word of a line is noted.
 

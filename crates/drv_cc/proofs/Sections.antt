@@ -1,6 +1,6 @@
 use Rattle.drv_cc.specs.Building.{section_shown}
 use Rattle.drv_cc.specs.Items.{fits, option_fits}
-use Rattle.drv_cc.specs.Table.{OptionRow, Section, option_of, row_of, section_rows, texts}
+use Rattle.drv_cc.specs.Table.{OptionRow, Section, option_of, row_of, section_rows}
 use Rattle.drv_cc.specs.declared.table.Section.{Section as CodeSection}
 use Rattle.std.proofs.Common.{◌≡◌, ◌∙◌, ◌+◌, ◌<◌, Bool, List, [], ◌∷◌, None, Option, Some, ap, drop, false, find, get_or, length, map, refl, sym, true, ℕ}
 use Rattle.std.proofs.lemmas.List.{drop_more}

@@ -303,5 +303,12 @@ options_of_a_link : children_given (front (codes "a.c -B x -Lfoo -l m -x c -fope
 unfolding sections ignored unpaired debugged_by
 options_of_a_link = refl
 
+pieces : children_given (front (codes "o.o -Wa,--a,b -Xassembler e -Wa,"))
+    ≡ record { name = codes "COLLECT_GCC"; value = codes "/usr/bin/gcc" }
+    ∷ record { name = codes "COLLECT_GCC_OPTIONS"; value = codes "'-dumpdir' 'a.'" }
+    ∷ record { name = codes "COLLECT_AS_OPTIONS"; value = codes "'--a' 'b' 'e' ''" } ∷ []
+unfolding sections ignored unpaired debugged_by
+pieces = refl
+
 quotes : quoted_line (codes "a'b" ∷ [] ∷ []) ≡ codes "'a'\\''b' ''"
 quotes = refl

@@ -1,11 +1,10 @@
-use Rattle.drv_cc.specs.Items.{is_among, items_of, words_of}
+use Rattle.drv_cc.specs.Items.{is_among, items_of, same, words_of}
 use Rattle.drv_cc.specs.Kept.{has, is_asked, kept, last_argument, refusals}
 use Rattle.drv_cc.specs.Levels.{check_words, debug_words}
-use Rattle.drv_cc.specs.SideFiles.{inputs, is_some, link_beginning, saves, side_words, sources, stops, worked}
+use Rattle.drv_cc.specs.SideFiles.{inputs, is_some, link_beginning, side_words, sources, stops, worked}
 use Rattle.drv_cc.specs.Table.{texts}
 use Rattle.drv_cc.specs.declared.answer.Answer.TheVariants.{Ask, Refuse, Run}
 use Rattle.drv_cc.specs.declared.answer.Answer.{Answer}
-use Rattle.drv_cc.specs.declared.answer.Call.{Call}
 use Rattle.drv_cc.specs.declared.answer.Surroundings.{Surroundings}
 use Rattle.drv_cc.specs.declared.answer.Variable.{Variable}
 use Rattle.drv_cc.specs.declared.item.Item.{Item}
@@ -97,13 +96,40 @@ switch_words items = flat_map words_of (filter (λ i. is_switch i.part) items)
 abbrev pub collected : List Item → List (List ℕ)
 collected items = switch_words items ++ thread_words items ++ codes "-dumpdir" ∷ link_beginning items ∷ []
 
+-- The pieces for the assembler, each between quotes: those of -Wa, between commas, and those of -Xassembler ("Assembler Options").
+abbrev pub piece_byte : ℕ → List ℕ
+piece_byte b = if b == comma then codes "' '" else quoted_byte b
+
+abbrev pub quoted_pieces : List ℕ → List ℕ
+quoted_pieces argument = single_quote ∷ flat_map piece_byte argument ++ single_quote ∷ []
+
+abbrev pub piece_text : Item → List ℕ
+piece_text i =
+    if same i.name (codes "-Wa,") then space ∷ quoted_pieces i.argument
+    else if same i.name (codes "-Xassembler") then space ∷ quoted i.argument else []
+
+abbrev pub assembler_line : List Item → List ℕ
+assembler_line items = drop 1 (flat_map piece_text items)
+
 abbrev pub variable : List ℕ → List ℕ → Variable
 variable name value = record { name = name; value = value }
 
+abbrev pub has_pieces : List Item → Bool
+has_pieces items = has (codes "-Wa,") items || has (codes "-Xassembler") items
+
+abbrev pub piece_variables : List Item → List Variable
+piece_variables items = variable (codes "COLLECT_AS_OPTIONS") (assembler_line items) ∷ []
+
+abbrev pub assembler_variables : List Item → List Variable
+assembler_variables items = if has_pieces items then piece_variables items else []
+
+abbrev pub compiler_variables : Surroundings → List Item → List Variable
+compiler_variables around items =
+    variable (codes "COLLECT_GCC") around.compiler ∷ variable (codes "COLLECT_GCC_OPTIONS") (quoted_line (collected items)) ∷ []
+
 abbrev pub children : Surroundings → List Item → List Variable
 children around items =
-    if stops items || has (codes "-fno-lto") items then []
-    else variable (codes "COLLECT_GCC") around.compiler ∷ variable (codes "COLLECT_GCC_OPTIONS") (quoted_line (collected items)) ∷ []
+    if stops items || has (codes "-fno-lto") items then [] else compiler_variables around items ++ assembler_variables items
 
 -- The answer.
 abbrev pub run_words : Surroundings → List Item → List (List ℕ)

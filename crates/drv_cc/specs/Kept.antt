@@ -1,4 +1,4 @@
-use Rattle.drv_cc.specs.Items.{begins, same, words_of}
+use Rattle.drv_cc.specs.Items.{begins, same}
 use Rattle.drv_cc.specs.declared.item.Item.{Item}
 use Rattle.drv_cc.specs.declared.refusal.Refusal.TheVariants as refusal
 use Rattle.drv_cc.specs.declared.refusal.Refusal.{Refusal}

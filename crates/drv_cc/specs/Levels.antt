@@ -5,7 +5,7 @@ use Rattle.drv_cc.specs.declared.item.Item.{Item}
 use Rattle.drv_cc.specs.declared.levels.Debugging.{Debugging}
 use Rattle.drv_words.specs.Bytes.{comma}
 use Rattle.std.specs.List.{list_any, slice_split}
-use Rattle.std.specs.Prelude.{◌==◌, ◌&&◌, ◌||◌, Bool, List, [], ◌∷◌, ◌++◌, None, Option, Some, codes, false, find, if◌then◌else◌, map, nat_lt, not, true, ℕ}
+use Rattle.std.specs.Prelude.{◌==◌, ◌&&◌, ◌||◌, Bool, List, [], ◌∷◌, ◌++◌, codes, false, if◌then◌else◌, nat_lt, not, true, ℕ}
 
 -- The level of debugging information and its version (GCC manual, "Debugging Options"), as digits; and the libraries of checks
 -- ("Instrumentation Options", -fsanitize=). Each is a fold over the items.

@@ -3,7 +3,7 @@ use Rattle.drv_cc.specs.Kept.{has, is_file_part, last_argument}
 use Rattle.drv_cc.specs.Table.{texts}
 use Rattle.drv_cc.specs.declared.item.Item.{Item}
 use Rattle.drv_words.specs.Bytes.{period, slash}
-use Rattle.std.specs.List.{filter, list_any}
+use Rattle.std.specs.List.{filter}
 use Rattle.std.specs.Prelude.{◌==◌, ◌&&◌, ◌||◌, Bool, List, [], ◌∷◌, ◌++◌, ◌-◌, None, Option, Some, codes, drop, false, if◌then◌else◌, length, map, nat_lt, not, take, true, ℕ}
 
 -- The names of side files (GCC manual, "Overall Options", -dumpdir, -dumpbase; "Preprocessor Options", -MD; "Developer Options",

@@ -1,11 +1,14 @@
 //! The switches of a link as one text, for its children.
 
-ghost use Rattle.drv_cc.specs.Front.{children, collected, is_switch, quoted, quoted_byte, quoted_line, switch_words, variable};
-ghost use Rattle.std.specs.Prelude.{◌≡◌, ◌++◌, IfOk, OnOk};
+ghost use Rattle.drv_cc.specs.Front.{assembler_line, assembler_variables, children, collected, compiler_variables, has_pieces, is_switch, piece_byte, piece_text, piece_variables, quoted, quoted_byte, quoted_line, quoted_pieces, switch_words, variable};
+ghost use Rattle.std.specs.List.{flat_map};
+ghost use Rattle.std.specs.Prelude.{◌≡◌, ◌∷◌, ◌++◌, [], IfOk, OnOk};
 
 use crate::adding::add_thread_words;
+use crate::classes::is;
 use crate::item::Item;
 use crate::keeping::has;
+use crate::reading::rest_behind;
 use crate::sides::{link_beginning, stops};
 use crate::table::Part;
 use crate::{Surroundings, Variable};
@@ -91,6 +94,126 @@ fn variable(alloc: Global, name: &[u8], value: Word) -> Result<Variable, AllocEr
     })
 }
 
+/// Adds a byte of pieces that stand between single quotes.
+fn quote_piece_byte(byte: u8, text: &mut Word) -> Result<(), AllocError>
+    ensures { OnOk result (text.new ≡ text.old ++ piece_byte byte) }
+{
+    if byte == b',' {
+        text.extend_from_slice(b"' '")
+    } else {
+        quote_byte(byte, text)
+    }
+}
+
+/// Adds the pieces of an argument, each between single quotes.
+fn quote_pieces(argument: &[u8], text: &mut Word) -> Result<(), AllocError>
+    ensures { OnOk result (text.new ≡ text.old ++ quoted_pieces argument.now) }
+{
+    text.push(b'\'')?;
+    for byte in argument {
+        quote_piece_byte(*byte, text)?;
+    }
+    text.push(b'\'')
+}
+
+/// Adds the pieces for the assembler that an item has, with a blank before each.
+fn add_pieces(item: &Item, text: &mut Word) -> Result<(), AllocError>
+    ensures { OnOk result (text.new ≡ text.old ++ piece_text item.now) }
+{
+    if is(item.name.as_bytes(), b"-Wa,") {
+        text.push(b' ')?;
+        return quote_pieces(item.argument.as_bytes(), text);
+    }
+    if is(item.name.as_bytes(), b"-Xassembler") {
+        text.push(b' ')?;
+        return quote(item.argument.as_bytes(), text);
+    }
+    Ok(())
+}
+
+/// Adds the pieces for the assembler, with a blank before each.
+fn add_all_pieces(items: &[Item], text: &mut Word) -> Result<(), AllocError>
+    ensures { OnOk result (text.new ≡ text.old ++ flat_map piece_text items.now) }
+{
+    for item in items {
+        add_pieces(item, text)?;
+    }
+    Ok(())
+}
+
+/// The pieces for the assembler, each between single quotes, with a blank between two.
+fn assembler_line(alloc: Global, items: &[Item]) -> Result<Word, AllocError>
+    ensures { IfOk result (λ text. text ≡ assembler_line items.now) }
+{
+    let mut text = Word::empty(alloc);
+    add_all_pieces(items, &mut text)?;
+    Word::from_bytes(alloc, rest_behind(text.as_bytes(), b" "))
+}
+
+/// Whether there are pieces for the assembler.
+fn has_pieces(items: &[Item]) -> bool
+    ensures { result ≡ has_pieces items.now }
+{
+    has(items, b"-Wa,") || has(items, b"-Xassembler")
+}
+
+/// Adds a variable.
+fn add_variable(
+    alloc: Global,
+    name: &[u8],
+    value: Word,
+    children: &mut Listing<Variable>,
+) -> Result<(), AllocError>
+    ensures { OnOk result (children.new ≡ children.old ++ variable name.now value ∷ []) }
+{
+    children.push(variable(alloc, name, value)?)?;
+    Ok(())
+}
+
+/// Adds the variable of the pieces for the assembler.
+fn add_piece_variable(
+    alloc: Global,
+    items: &[Item],
+    children: &mut Listing<Variable>,
+) -> Result<(), AllocError>
+    ensures { OnOk result (children.new ≡ children.old ++ piece_variables items.now) }
+{
+    let pieces = assembler_line(alloc, items)?;
+    add_variable(alloc, b"COLLECT_AS_OPTIONS", pieces, children)
+}
+
+/// Adds the variable of the pieces for the assembler, if there are some.
+fn add_assembler_variables(
+    alloc: Global,
+    items: &[Item],
+    children: &mut Listing<Variable>,
+) -> Result<(), AllocError>
+    ensures { OnOk result (children.new ≡ children.old ++ assembler_variables items.now) }
+{
+    if has_pieces(items) {
+        add_piece_variable(alloc, items, children)
+    } else {
+        Ok(())
+    }
+}
+
+/// The variables by which the compiler is called again.
+fn compiler_variables(
+    alloc: Global,
+    around: &Surroundings,
+    items: &[Item],
+) -> Result<Listing<Variable>, AllocError>
+    ensures { IfOk result (λ made. made ≡ compiler_variables around.now items.now) }
+{
+    let mut children = Listing::new(alloc);
+    let compiler = around.compiler.clone()?;
+    children.push(variable(alloc, b"COLLECT_GCC", compiler)?)?;
+    let words = collected(alloc, items)?;
+    let options = quoted_line(alloc, words.as_slice())?;
+    children.push(variable(alloc, b"COLLECT_GCC_OPTIONS", options)?)?;
+    Ok(children)
+}
+
 /// The variables of a link's children.
 pub(crate) fn children(
     alloc: Global,
@@ -99,14 +222,10 @@ pub(crate) fn children(
 ) -> Result<Listing<Variable>, AllocError>
     ensures { IfOk result (λ made. made ≡ children around.now items.now) }
 {
-    let mut children = Listing::new(alloc);
     if stops(items) || has(items, b"-fno-lto") {
-        return Ok(children);
+        return Ok(Listing::new(alloc));
     }
-    let compiler = around.compiler.clone()?;
-    children.push(variable(alloc, b"COLLECT_GCC", compiler)?)?;
-    let words = collected(alloc, items)?;
-    let options = quoted_line(alloc, words.as_slice())?;
-    children.push(variable(alloc, b"COLLECT_GCC_OPTIONS", options)?)?;
+    let mut children = compiler_variables(alloc, around, items)?;
+    add_assembler_variables(alloc, items, &mut children)?;
     Ok(children)
 }

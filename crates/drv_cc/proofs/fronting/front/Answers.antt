@@ -1,6 +1,6 @@
 use Rattle.drv_cc.proofs.fronting.front.Goals as goal
 use Rattle.drv_cc.specs.Front.{answer_of}
-use Rattle.std.proofs.Common.{◌≡◌, ◌∙◌, ap, IfOk, sym}
+use Rattle.std.proofs.Common.{◌≡◌, ◌∙◌, IfOk}
 use Rattle.std.proofs.Math.Path.{subst}
 
 pub returns : goal.returns

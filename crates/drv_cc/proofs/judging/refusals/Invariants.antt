@@ -1,4 +1,4 @@
-use Rattle.drv_cc.specs.Kept.{is_vendors, refused_item}
+use Rattle.drv_cc.specs.Kept.{refused_item}
 use Rattle.std.proofs.Common.{◌≡◌, ◌++◌, drop}
 use Rattle.std.specs.List.{flat_map}
 use Rattle.drv_cc.proofs.judging.refusals.Given as goal

@@ -1,7 +1,5 @@
-use Rattle.drv_cc.specs.Front.{is_switch, switch_words}
-use Rattle.drv_cc.specs.Items.{words_of}
+use Rattle.drv_cc.specs.Front.{switch_words}
 use Rattle.std.proofs.Common.{◌≡◌, ◌++◌, drop}
-use Rattle.std.specs.List.{filter, flat_map}
 use Rattle.drv_cc.proofs.quoting.add_switches.Given as goal
 
 abbrev pub invariant-loop-item : goal.invariant-loop-item

@@ -1,6 +1,6 @@
 use Rattle.drv_cc.specs.Front.{quoted_byte}
 use Rattle.drv_words.specs.Bytes.{single_quote}
-use Rattle.std.proofs.Common.{◌≡◌, [], ◌∷◌, ◌++◌, drop}
+use Rattle.std.proofs.Common.{◌≡◌, ◌∷◌, ◌++◌, drop}
 use Rattle.std.specs.List.{flat_map}
 use Rattle.drv_cc.proofs.quoting.quote.Given as goal
 

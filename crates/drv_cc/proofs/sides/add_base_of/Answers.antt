@@ -7,9 +7,9 @@ pub returns : goal.returns
 returns c =
     on_ok_weaker c.add_value.result
     (λ is.
-      is ∙ ap (λ end. c.add_parts.new.words ++ with_value (codes "--gdrv-ext=") end) c.suffix-2.ensures
-      ∙ ap (λ words. words ++ with_value (codes "--gdrv-ext=") (suffix c.args.name.now))
-        (c.in_ok-add_parts.ensures ∙ ap (λ name. c.args.words.now ++ (codes "--gdrv-base=" ++ name ++ c.suffix.result.now) ∷ []) c.stem_of.ensures
-        ∙ ap (λ end. c.args.words.now ++ (codes "--gdrv-base=" ++ stem_of c.args.items.now c.args.name.now ++ end) ∷ []) c.suffix.ensures)
-      ∙ append_assoc c.args.words.now _ _)
+    is ∙ ap (λ end. c.add_parts.new.words ++ with_value (codes "--gdrv-ext=") end) c.suffix-2.ensures
+    ∙ ap (λ words. words ++ with_value (codes "--gdrv-ext=") (suffix c.args.name.now))
+    (c.in_ok-add_parts.ensures ∙ ap (λ name. c.args.words.now ++ (codes "--gdrv-base=" ++ name ++ c.suffix.result.now) ∷ []) c.stem_of.ensures
+    ∙ ap (λ end. c.args.words.now ++ (codes "--gdrv-base=" ++ stem_of c.args.items.now c.args.name.now ++ end) ∷ []) c.suffix.ensures)
+    ∙ append_assoc c.args.words.now _ _)
     c.add_value.ensures
