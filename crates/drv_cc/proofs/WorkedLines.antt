@@ -107,7 +107,7 @@ old_standard : line (codes "-c a.c -pedantic -std=c9x") ≡ gives (codes "-c a.c
 unfolding sections ignored unpaired debugged_by
 old_standard = refl
 
-tuned : line (codes "-c a.c -mcpu=k8 -mtune=nocona") ≡ gives (codes "-c a.c -mtune=nocona --gdrv-base=a.c --gdrv-ext=.c -pipe")
+tuned : line (codes "-c a.c -mcpu=k8 -mtune=nocona") ≡ gives (codes "-c a.c -mcpu=k8 -mtune=nocona --gdrv-base=a.c --gdrv-ext=.c -pipe")
 unfolding sections ignored unpaired debugged_by
 tuned = refl
 
@@ -215,7 +215,7 @@ ignored_names : line (codes "-c a.c -fforce-addr -fno-zee -R d") ≡ gives (code
 unfolding sections ignored unpaired debugged_by
 ignored_names = refl
 
-vendors : line (codes "-c a.c -specs=v.specs -mfoo") ≡ gives (codes "-c a.c -specs=v.specs -mfoo --gdrv-base=a.c --gdrv-ext=.c -pipe")
+vendors : line (codes "-c a.c -specs=v.specs -mfoo") ≡ gives (codes "-c a.c -specs=v.specs -mfoo -B /g/ --gdrv-dirs --gdrv-base=a.c --gdrv-ext=.c -pipe")
 unfolding sections ignored unpaired debugged_by
 vendors = refl
 

@@ -1,5 +1,5 @@
 use Rattle.drv_cc.specs.Items.{is_among, items_of, same, words_of}
-use Rattle.drv_cc.specs.Kept.{has, is_asked, kept, last_argument, refusals}
+use Rattle.drv_cc.specs.Kept.{has, is_asked, is_vendors, kept, last_argument, refusals}
 use Rattle.drv_cc.specs.Levels.{check_words, debug_words}
 use Rattle.drv_cc.specs.SideFiles.{inputs, is_some, link_beginning, side_words, sources, stops, worked}
 use Rattle.drv_cc.specs.Table.{texts}
@@ -50,12 +50,12 @@ is_set (Some value) = true
 abbrev pub library_words : List ℕ → List (List ℕ)
 library_words folder = (codes "--gdrv-lib=" ++ folder) ∷ []
 
--- programs and start files are looked for in the compiler's own folders last
+-- programs and start files, also those that a vendor's spec file names, are looked for in the compiler's own folders last
 abbrev pub all_prefixes : Surroundings → List (List ℕ)
 all_prefixes around = flat_map prefix_words (folders around.compiler_path) ++ flat_map prefix_words around.folders ++ codes "--gdrv-dirs" ∷ []
 
 abbrev pub program_words : Surroundings → List Item → List (List ℕ)
-program_words around items = if has (codes "-B") items || is_set around.compiler_path then all_prefixes around else []
+program_words around items = if has (codes "-B") items || is_vendors items || is_set around.compiler_path then all_prefixes around else []
 
 abbrev pub folder_words : Surroundings → List Item → List (List ℕ)
 folder_words around items = program_words around items ++ flat_map library_words (folders around.library_path)

@@ -193,7 +193,7 @@ sections =
     ∷ section Behind Separate Switch
     (codes "-aux-info=>-aux-info")
     ∷ section Behind Joined Switch
-    (codes "-Tbss= -Tdata= -Ttext= -std= -march= -mtune= -mcpu=>-mtune= -fsanitize= -fno-sanitize= -ftree-parallelize-loops= "
+    (codes "-Tbss= -Tdata= -Ttext= -std= -march= -mtune= -mcpu= -fsanitize= -fno-sanitize= -ftree-parallelize-loops= "
     ++ codes "-fdiagnostics-color= -flto= -Wlarger-than->-Wlarger-than= -finline-limit->-finline-limit= -fno-builtin- -fbuiltin- "
     ++ codes "-fcall-saved- -fcall-used- -fdisable- -fdump- -fenable- -ffixed- -fopt-info- -fplugin-arg-")
     ∷ section Rest Joined Piece
@@ -253,7 +253,7 @@ abbrev pub rings : List (List ℕ)
 rings =
     codes "-pie -no-pie -static-pie -shared" ∷ codes "-fpic -fPIC -fpie -fPIE -fno-pic -fno-PIC -fno-pie -fno-PIE" ∷ codes "-m32 -m64 -mx32 -m16"
     ∷ codes "-march=" ∷ codes "-mtune=" ∷ codes "-mlong-double-64 -mlong-double-80 -mlong-double-128" ∷ codes "-mbionic -mglibc -muclibc -mmusl"
-    ∷ codes "-fuse-ld=bfd -fuse-ld=gold" ∷ codes "-gpubnames -ggnu-pubnames -gno-pubnames" ∷ codes "-Qy -Qn" ∷ codes "-fdiagnostics-color= -fdiagnostics-color=always -fdiagnostics-color=never" ∷ []
+    ∷ codes "-fuse-ld=bfd -fuse-ld=gold -fuse-ld=lld -fuse-ld=mold" ∷ codes "-gpubnames -ggnu-pubnames -gno-pubnames" ∷ codes "-Qy -Qn" ∷ codes "-fdiagnostics-color= -fdiagnostics-color=always -fdiagnostics-color=never" ∷ []
 
 -- options that no other sign of theirs takes back (GCC Internals, "Option Properties", RejectNegative)
 unfoldable pub unpaired : List ℕ

@@ -10,6 +10,7 @@ use crate::Surroundings;
 use crate::checks::add_check_words;
 use crate::classes::stands_in;
 use crate::item::Item;
+use crate::judging::is_vendors;
 use crate::keeping::{has, last_argument};
 use crate::levels::add_debug_words;
 use crate::sides::add_side_words;
@@ -134,7 +135,7 @@ fn add_all_prefixes(
     add_word(alloc, words, b"--gdrv-dirs")
 }
 
-/// Adds the folders of programs, where a folder is given.
+/// Adds the folders of programs, where a folder or a spec file is given.
 fn add_program_words(
     alloc: Global,
     around: &Surroundings,
@@ -143,7 +144,7 @@ fn add_program_words(
 ) -> Result<(), AllocError>
     ensures { OnOk result (words.new ≡ words.old ++ program_words around.now items.now) }
 {
-    if has(items, b"-B") || around.compiler_path.is_some() {
+    if has(items, b"-B") || is_vendors(items) || around.compiler_path.is_some() {
         add_all_prefixes(alloc, around, words)
     } else {
         Ok(())

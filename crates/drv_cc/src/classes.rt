@@ -18,7 +18,7 @@ const RINGS: [&[u8]; 11] = [
     b"-mtune=",
     b"-mlong-double-64 -mlong-double-80 -mlong-double-128",
     b"-mbionic -mglibc -muclibc -mmusl",
-    b"-fuse-ld=bfd -fuse-ld=gold",
+    b"-fuse-ld=bfd -fuse-ld=gold -fuse-ld=lld -fuse-ld=mold",
     b"-gpubnames -ggnu-pubnames -gno-pubnames",
     b"-Qy -Qn",
     b"-fdiagnostics-color= -fdiagnostics-color=always -fdiagnostics-color=never",

@@ -170,7 +170,7 @@ const SECTIONS: [Section; 52] = [
         Behind,
         Joined,
         Switch,
-        b"-Tbss= -Tdata= -Ttext= -std= -march= -mtune= -mcpu=>-mtune= -fsanitize= -fno-sanitize= -ftree-parallelize-loops= -fdiagnostics-color= -flto= -Wlarger-than->-Wlarger-than= -finline-limit->-finline-limit= -fno-builtin- -fbuiltin- -fcall-saved- -fcall-used- -fdisable- -fdump- -fenable- -ffixed- -fopt-info- -fplugin-arg-"
+        b"-Tbss= -Tdata= -Ttext= -std= -march= -mtune= -mcpu= -fsanitize= -fno-sanitize= -ftree-parallelize-loops= -fdiagnostics-color= -flto= -Wlarger-than->-Wlarger-than= -finline-limit->-finline-limit= -fno-builtin- -fbuiltin- -fcall-saved- -fcall-used- -fdisable- -fdump- -fenable- -ffixed- -fopt-info- -fplugin-arg-"
     ),
     section!(Rest, Joined, Piece, b"-Wa, -Wp,"),
     section!(Rest, Joined, Library, b"-Wl,"),
