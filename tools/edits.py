@@ -26,15 +26,22 @@ def text_of(path):
 
 @dataclass(frozen=True)
 class Function:
-    """A function of a file, with the impl that it stands in, and its lines (from 1) in the layout of rt fmt: those of its body begin
-    behind the contract and end with the first closing brace below the `fn`."""
+    """A function of a file, with the trait and the type of the impl that it stands in, whether it is `pub`, and its lines (from 1) in the
+    layout of rt fmt: those of its body begin behind the contract and end with the first closing brace below the `fn`."""
 
     file: str
-    owner: str
+    trait: str
+    type: str
     name: str
+    is_pub: bool
     head: int
     opens: int
     closes: int
+
+    @property
+    def owner(self):
+        """What proofs/ calls the impl: `Type`, or `TypeTrait`."""
+        return self.type + self.trait
 
     def has(self, line):
         return self.head <= line <= self.closes
@@ -46,13 +53,13 @@ class Function:
         return "/".join(parts)
 
 
-def owner_of(block):
-    """What proofs/ calls an impl: `Type`, or `TypeTrait`."""
+def impl_of(block):
+    """The trait, if there is one, and the type of an impl, without their paths and parameters."""
     words = re.sub(r"\bwhere\b.*|\{.*", "", block)
     while re.search(r"<[^<>]*>", words):
         words = re.sub(r"<[^<>]*>", "", words)
     names = [it.split("::")[-1].lstrip("&") for it in words.split() if it != "for"]
-    return names[1] + names[0] if len(names) == 2 else names[0]
+    return names if len(names) == 2 else ["", names[0]]
 
 
 def closing_line(lines, at, indent):
@@ -68,12 +75,12 @@ def closing_line(lines, at, indent):
 
 
 def functions_of(file, text):
-    lines, found, owner = text.split("\n"), [], ""
+    lines, found, block = text.split("\n"), [], ("", "")
     for at, line in enumerate(lines):
         if line.startswith("impl"):
-            owner = owner_of(line[4:])
+            block = impl_of(line[4:])
         elif line == "}":
-            owner = ""
+            block = "", ""
         head = HEAD.match(line)
         closes = closing_line(lines, at, head[1]) if head else None
         if closes is not None:
@@ -81,7 +88,8 @@ def functions_of(file, text):
             alone = (i for i in range(at, closes + 1) if lines[i].startswith(f"{head[1]}{{"))
             last = next(i for i in range(at, closes + 1) if "{" in lines[i])
             opens = next(alone, last + lines[last].endswith("{"))
-            found.append(Function(file, owner, head[2], at + 1, opens + 1, closes + 1))
+            is_pub = line.lstrip().startswith("pub ")
+            found.append(Function(file, *block, head[2], is_pub, at + 1, opens + 1, closes + 1))
     return found
 
 

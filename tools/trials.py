@@ -1,8 +1,9 @@
 """Crates with wrong bodies: each crate proved as it stands, and its edits tried over that work."""
 
 import os
-from dataclasses import dataclass
+from dataclasses import dataclass, replace
 
+from calls import public_calls
 from crates import Clock, Crates, Proof, Room, Task, costs, in_lanes, prove
 from edits import Edit, is_read, lost_goals, refused_in, text_of, together
 
@@ -27,14 +28,16 @@ class Trial:
         self.crates, self.name, self.told = crates, name, {}
         folder, crate = f"{crates.root}/tests/edits/{name}", crates.folder(name)
         self.edits = [Edit(f"{folder}/{it}", crate) for it in sorted(os.listdir(folder)) if it.endswith(".edit")]
-        self.told.update({it: Verdict(False, f"BAD EDIT: {it.why}") for it in self.edits if it.why})
+        calls = public_calls(crate, name)
+        bad = {it: it.why or misnamed(it, calls) for it in self.edits}
+        self.told.update({it: Verdict(False, f"BAD EDIT: {why}") for it, why in bad.items() if why})
 
     def batches(self):
         """The edits such that no two of a batch stand in one function, in functions that can call each other, or on one text."""
         folder = f"{self.crates.folder(self.name)}/src"
         cycles = together(text_of(f"{at}/{it}") for at, _, names in os.walk(folder) for it in names)
         made = []
-        for edit in [it for it in self.edits if not it.why]:
+        for edit in [it for it in self.edits if it not in self.told]:
             names = {name for _, _, name in edit.places or ()}
             near = names.union(*(cycles[it] for it in names))
             place = next((it for it in made if edit.places and it.takes(edit, near)), None)
@@ -57,6 +60,13 @@ class Trial:
                 if it not in self.told:
                     self.told[it] = alone(room, it)
         return Proof("", room.seconds)
+
+
+def misnamed(edit, calls):
+    """Why an edit isn't one of a public call, if it isn't."""
+    if not edit.calls:
+        return "it doesn't say of which public call it is"
+    return next((f"there is no public call {it}" for it in edit.calls if it not in calls), "")
 
 
 def alone(room, edit):
@@ -105,4 +115,5 @@ def tried(root, names):
     with crates.held(proved):
         in_lanes(tasks, lambda task: None, ended)
     told = {it: trial.told.get(it, Verdict(False, "NOT TRIED, since a crate is not proved as it stands")) for trial in trials for it in trial.edits}
+    told = {it: replace(verdict, text=f"of {', '.join(it.calls)}: {verdict.text}" if it.calls else verdict.text) for it, verdict in told.items()}
     return {os.path.relpath(it.path, f"{crates.root}/tests/edits"): verdict for it, verdict in told.items()}
