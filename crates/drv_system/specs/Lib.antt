@@ -9,3 +9,4 @@ pub mod Named
 pub mod Reading
 pub mod Running
 pub mod Script
+pub mod Seed

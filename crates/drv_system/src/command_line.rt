@@ -1,11 +1,11 @@
-//! What a process is called with.
+//! What a process is called with, and what it says to its caller.
 
 ghost use Rattle.std.specs.Prelude.{◌≤◌, IfOk, IfSome, length};
 
 use drv_words::{Listing, Word};
 use std::alloc::Global;
 use std::env::FillError;
-use std::io::{self, ErrorKind};
+use std::io::{self, ErrorKind, Write};
 use std::rt::Env;
 use std::str::from_utf8;
 
@@ -61,4 +61,23 @@ pub fn arguments(rt: &HostRuntime) -> io::Result<Listing<Word>> {
     let mut room = vec![in alloc; 0u8; ROOM]?;
     add_arguments(rt, &mut room, &mut words)?;
     Ok(words)
+}
+
+/// The name by which this process was called, with its folder where it was given; empty where it has none.
+///
+/// # Errors
+/// `OutOfMemory`, or another kind where it is no UTF-8.
+pub fn called_as(rt: &HostRuntime) -> io::Result<Word> {
+    let alloc = rt.alloc();
+    let mut room = vec![in alloc; 0u8; ROOM]?;
+    match argument_length(rt, 0, &mut room)? {
+        Some(length) => word_of(alloc, &room[..length]),
+        None => Ok(Word::empty(alloc)),
+    }
+}
+
+/// Says a text on standard error, as far as that takes it.
+pub fn complain(rt: &HostRuntime, text: &[u8]) {
+    let stream = rt.stderr();
+    let _ = io::writer(&stream).write_all(text);
 }

@@ -34,6 +34,8 @@ pub struct HostSystem {
     children: Vec<Option<Child>>,
     /// The end of the pipe that is pending.
     pending: Option<PipeReader>,
+    /// The names and values of the variables that are set for children alone.
+    variables: Vec<(Word, Word)>,
 }
 
 impl Model for HostSystem {
@@ -59,12 +61,22 @@ impl HostSystem {
     {
         let journal = Vec::new(rt.alloc());
         let children = Vec::new(rt.alloc());
+        let variables = Vec::new(rt.alloc());
         HostSystem {
             rt,
             journal,
             children,
             pending: None,
+            variables,
         }
+    }
+
+    /// Sets a variable for the children that are started from now on, and not for this process.
+    pub fn set_for_children(&mut self, name: Word, value: Word) -> Result<(), AllocError>
+        ensures { self.new.journal ≡ self.old.journal }
+    {
+        self.variables.push((name, value))?;
+        Ok(())
     }
 }
 
@@ -169,7 +181,14 @@ impl System for HostSystem {
             }));
             return answer;
         };
-        match spawn(&self.rt, self.rt.alloc(), command, &self.pending, to_pipe) {
+        match spawn(
+            &self.rt,
+            self.rt.alloc(),
+            command,
+            self.variables.as_slice(),
+            &self.pending,
+            to_pipe,
+        ) {
             Ok((child, next)) => {
                 let answer = StartAnswer::Started(self.children.len() as u64);
                 self.children.push_reserved(Some(child));

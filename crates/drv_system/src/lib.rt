@@ -13,12 +13,15 @@ mod processes;
 mod reading;
 mod reports;
 mod script;
+mod seed;
 mod system;
 
-pub use command_line::arguments;
+pub use command_line::{arguments, called_as, complain};
 pub use event::{Event, MOST_BYTES, PathKind, ReadAnswer, TellAnswer};
 pub use facts::{FactTable, first_answers_law};
 pub use host::HostSystem;
+pub use processes::call;
 pub use reading::read_to_end;
 pub use script::ScriptSystem;
+pub use seed::clock_seed;
 pub use system::System;

@@ -17,28 +17,39 @@ fn add_words(made: &mut process::Command, words: &[Word]) -> io::Result<()> {
     Ok(())
 }
 
+/// Sets variables, each a name and its value, for a command alone.
+fn set_variables(made: &mut process::Command, variables: &[(Word, Word)]) -> io::Result<()> {
+    for variable in variables {
+        made.env(text(variable.0.as_bytes())?, text(variable.1.as_bytes())?)?;
+    }
+    Ok(())
+}
+
 /// Adds the words of a command, and has it read the end that is given.
 fn prepare(
     made: &mut process::Command,
     words: &[Word],
+    variables: &[(Word, Word)],
     pending: &Option<PipeReader>,
 ) -> io::Result<()> {
     add_words(made, words)?;
+    set_variables(made, variables)?;
     if let Some(reader) = pending {
         made.stdin(reader.try_clone()?);
     }
     Ok(())
 }
 
-/// A command with its words, which reads the end that is given.
+/// A command with its words and variables, which reads the end that is given.
 fn command_of(
     alloc: Global,
     command: &Command,
+    variables: &[(Word, Word)],
     pending: &Option<PipeReader>,
 ) -> io::Result<process::Command> {
     let program = text(command.program.as_bytes())?;
     let mut made = process::Command::new(alloc, program)?;
-    prepare(&mut made, command.words.as_slice(), pending)?;
+    prepare(&mut made, command.words.as_slice(), variables, pending)?;
     Ok(made)
 }
 
@@ -68,19 +79,31 @@ fn spawn_made(
     Ok((made.spawn(rt)?, None))
 }
 
-/// Starts a command. It reads the end that is given, or else this process's standard input, and writes a new pipe, whose other end
-/// is given back, or else this process's standard output.
+/// Starts a command, with these variables beside those of this process. It reads the end that is given, or else this process's standard
+/// input, and writes a new pipe, whose other end is given back, or else this process's standard output.
 pub fn spawn(
     rt: &HostRuntime,
     alloc: Global,
     command: &Command,
+    variables: &[(Word, Word)],
     pending: &Option<PipeReader>,
     to_pipe: bool,
 ) -> io::Result<(Child, Option<PipeReader>)>
     ensures { IfOk result (λ started. is_some started.1 ≡ to_pipe) }
 {
-    let mut made = command_of(alloc, command, pending)?;
+    let mut made = command_of(alloc, command, variables, pending)?;
     spawn_made(rt, &mut made, to_pipe)
+}
+
+/// Starts a command with the streams and variables of this process, and waits until it has ended.
+///
+/// # Errors
+/// Why it was not started.
+pub fn call(rt: &HostRuntime, command: &Command) -> Result<WaitAnswer, NotStarted> {
+    match spawn(rt, rt.alloc(), command, &[], &None, false) {
+        Ok((child, _)) => Ok(ending_of(child)),
+        Err(e) => Err(reason_of(&e)),
+    }
 }
 
 /// The text of a word, or the error that it is none.
