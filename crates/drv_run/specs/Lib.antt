@@ -1,6 +1,7 @@
 pub mod Calls
 pub mod Drives
 pub mod Executed
+pub mod Exits
 pub mod Making
 pub mod Planning
 pub mod Started

@@ -1,5 +1,8 @@
 //! How a call of the driver ends.
 
+ghost use Rattle.drv_run.specs.Exits.{exit_status_of};
+ghost use Rattle.std.specs.Prelude.{◌≡◌};
+
 use drv_args::ArgsFault;
 use drv_c99::C99Fault;
 use drv_funcs::FuncsFault;
@@ -32,6 +35,18 @@ pub enum Ending {
     Refused(Refusal),
     /// An allocation was refused.
     OutOfMemory,
+}
+
+impl Ending {
+    /// The exit status of the process.
+    pub fn exit_status(&self) -> u8
+        ensures { result ≡ exit_status_of self.now }
+    {
+        match self {
+            Ending::Done(status) => *status,
+            Ending::Refused(_) | Ending::OutOfMemory => 1,
+        }
+    }
 }
 
 impl From<ArgsFault> for Ending {

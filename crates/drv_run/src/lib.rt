@@ -16,5 +16,5 @@ pub use driving::drive;
 pub use ending::{Ending, Refusal};
 pub use executing::execute;
 pub use laws::{one_ending, same_plan, started_first};
-pub use wording::fault_line;
+pub use wording::{ending_text, fault_line};
 pub use work::{Manner, Work};

@@ -1,9 +1,10 @@
 //! What a refusal is told as.
 
+ghost use Rattle.drv_run.specs.Exits.{told_of};
 ghost use Rattle.drv_run.specs.Texts.{args_text, around, at_byte, c99_text, funcs_text, machine_text, plan_text, refusal_line, refusal_text, search_text, specs_text, syntax_text};
 ghost use Rattle.std.specs.Prelude.{◌≡◌, ◌++◌, OnOk, IfOk, decimal};
 
-use crate::ending::Refusal;
+use crate::ending::{Ending, Refusal};
 use drv_args::ArgsFault;
 use drv_c99::C99Fault;
 use drv_funcs::FuncsFault;
@@ -225,4 +226,15 @@ pub fn fault_line(alloc: Global, refusal: &Refusal) -> Result<Word, AllocError>
     }
     line.push(b'\n')?;
     Ok(line)
+}
+
+/// What standard error is told of an ending: no byte where the work was done.
+pub fn ending_text(alloc: Global, ending: &Ending) -> Result<Word, AllocError>
+    ensures { IfOk result (λ text. text ≡ told_of ending.now) }
+{
+    match ending {
+        Ending::Done(_) => Ok(Word::empty(alloc)),
+        Ending::Refused(refusal) => fault_line(alloc, refusal),
+        Ending::OutOfMemory => Word::from_bytes(alloc, b"gdrv: out of memory\n"),
+    }
 }
