@@ -60,6 +60,10 @@ class Crates:
         """The programs of the product."""
         return [it for it in self.names if self.is_program(it) and not it.startswith(INNER)]
 
+    def program(self, name):
+        """The name of a crate's program, which has hyphens where the crate's, which may have none, has underscores."""
+        return name.replace("_", "-")
+
     @contextlib.contextmanager
     def held(self, names):
         """Keeps every other rt out of these crates, as rt itself does, and begins with no rooms."""

@@ -1,0 +1,5 @@
+pub mod Calling
+pub mod Compilers
+pub mod Endings
+pub mod Places
+pub mod Texts

@@ -1,0 +1,74 @@
+use Rattle.drv_cc.specs.declared.refusal.Refusal.TheVariants.{NoArgument, NoInput, NotTaken, UnknownOption}
+use Rattle.drv_cc.specs.declared.refusal.Refusal.{Refusal}
+use Rattle.drv_words.specs.Bytes.{at_sign}
+use Rattle.std.specs.Cmp.Lexicographic.{pointwise}
+use Rattle.std.specs.Prelude.{◌==◌, ◌||◌, Bool, List, [], ◌∷◌, ◌++◌, None, Option, Some, codes, if◌then◌else◌, nat_eq, ℕ}
+
+-- What the user is told, in the words of gcc's driver where it has them.
+
+-- a line on standard error: the program's name, what follows, and a newline
+abbrev pub error_line : List ℕ → List ℕ → List ℕ
+error_line name text = name ++ codes ": error: " ++ text ++ codes "\n"
+
+abbrev pub quoted : List ℕ → List ℕ → List ℕ → List ℕ
+quoted before word behind = before ++ word ++ behind
+
+-- an option without its argument
+abbrev pub is : List ℕ → List ℕ → Bool
+is = pointwise nat_eq
+
+abbrev pub takes_file : List ℕ → Bool
+takes_file option = is option (codes "-o") || is option (codes "-include") || is option (codes "-imacros") || is option (codes "-MF")
+
+abbrev pub takes_macro : List ℕ → Bool
+takes_macro option = is option (codes "-D") || is option (codes "-U")
+
+abbrev pub takes_path : List ℕ → Bool
+takes_path option = is option (codes "-I") || is option (codes "-isystem") || is option (codes "-iquote") || is option (codes "-idirafter")
+
+abbrev pub takes_goal : List ℕ → Bool
+takes_goal option = is option (codes "-MT") || is option (codes "-MQ")
+
+abbrev pub lacking : List ℕ → List ℕ
+lacking option =
+    if takes_file option then codes "missing filename after '"
+    else if takes_macro option then codes "macro name missing after '"
+    else if takes_path option then codes "missing path after '"
+    else if takes_goal option then codes "missing makefile target after '"
+    else if is option (codes "-A") then codes "assertion missing after '"
+    else codes "missing argument to '"
+
+-- a word that is no option, with the option that was meant, if one is near
+abbrev pub meant : Option (List ℕ) → List ℕ
+meant None = codes "'"
+meant (Some option) = quoted (codes "'; did you mean '") option (codes "'?")
+
+abbrev pub unknown_text : List ℕ → Option (List ℕ) → List ℕ
+unknown_text word near = codes "unrecognized command-line option '" ++ word ++ meant near
+
+-- a refusal of the front
+abbrev pub refusal_text : List ℕ → Refusal → Option (List ℕ) → List ℕ
+refusal_text name (UnknownOption word) near = error_line name (unknown_text word near)
+refusal_text name (NoArgument option) near = error_line name (lacking option ++ option ++ codes "'")
+refusal_text name (NotTaken option) near = error_line name (quoted (codes "option '") option (codes "' is not carried out"))
+refusal_text name NoInput near = name ++ codes ": fatal error: no input files\ncompilation terminated.\n"
+
+-- a file that is not there; of a response file the name is said
+abbrev pub file_said : List ℕ → List ℕ
+file_said [] = []
+file_said (b ∷ path) = if b == at_sign then path else b ∷ path
+
+abbrev pub absent_text : List ℕ → List ℕ → List ℕ
+absent_text name path = error_line name (file_said path ++ codes ": No such file or directory")
+
+-- the command that writes the spec file of a machine
+abbrev pub writing : List ℕ → List ℕ → List ℕ
+writing specs machine = codes "'write_specs -o " ++ specs ++ codes " " ++ machine ++ codes "' writes it"
+
+-- a file that this command writes, and that is not there or is not what it writes
+abbrev pub unwritten_text : List ℕ → List ℕ → List ℕ → List ℕ → List ℕ → List ℕ
+unwritten_text name before path specs machine = error_line name (quoted before path (codes "'; ") ++ writing specs machine)
+
+-- behind a run that did not find a program
+abbrev pub gone_text : List ℕ → List ℕ → List ℕ → List ℕ
+gone_text name specs machine = name ++ codes ": note: where the compiler of the spec file is gone, " ++ writing specs machine ++ codes " anew\n"

@@ -1,0 +1,216 @@
+//! What the program asks of its surroundings before a line is read.
+
+use crate::calling::{Calling, Front};
+use crate::compilers::values;
+use crate::outcome::Outcome;
+use crate::places::{beside, companion, given};
+use crate::texts::{error_line, unwritten};
+use drv_args::expand;
+use drv_cc::Surroundings;
+use drv_system::{FactTable, HostSystem, PathKind, ReadAnswer, System, arguments};
+use drv_words::{Listing, Word};
+use std::alloc::{AllocError, Global};
+use std::env::current_exe;
+use std::io::{self, ErrorKind};
+
+/// The variable that names a spec file, where none stands beside the program.
+const SPECS: &[u8] = b"GDRV_CC_SPECS";
+
+/// How an argument that can't be had ends the call.
+pub fn argument_fault(alloc: Global, name: &[u8], error: &io::Error) -> Outcome {
+    if error.kind() == ErrorKind::OutOfMemory {
+        return Outcome::from(AllocError);
+    }
+    match error_line(alloc, name, b"bad argument", b"", b"") {
+        Ok(text) => Outcome::Told(text),
+        Err(e) => Outcome::from(e),
+    }
+}
+
+/// The arguments of this process.
+pub fn own_arguments(rt: &HostRuntime, name: &[u8]) -> Result<Listing<Word>, Outcome> {
+    match arguments(rt) {
+        Ok(args) => Ok(args),
+        Err(e) => Err(argument_fault(rt.alloc(), name, &e)),
+    }
+}
+
+/// Refuses a response file that is there and can't be read, where a word is its name.
+fn refuse_unread(
+    alloc: Global,
+    name: &[u8],
+    word: &[u8],
+    sys: &mut HostSystem,
+    facts: &mut FactTable,
+) -> Result<(), Outcome> {
+    let [b'@', path @ ..] = word else {
+        return Ok(());
+    };
+    if path.is_empty() {
+        return Ok(());
+    }
+    let path = Word::from_bytes(alloc, path)?;
+    facts.read(sys, &path)?;
+    if !matches!(facts.read_answer(&path), ReadAnswer::Failed) {
+        return Ok(());
+    }
+    let path = path.as_bytes();
+    Err(Outcome::Told(error_line(alloc, name, b"response file '", path, b"' cannot be read")?))
+}
+
+/// The words of a line: those of response files in place of the files.
+fn expanded(
+    alloc: Global,
+    calling: &Calling,
+    args: Listing<Word>,
+    sys: &mut HostSystem,
+) -> Result<Listing<Word>, Outcome> {
+    let mut facts = FactTable::new(alloc);
+    let words = expand(alloc, args, sys, &mut facts)?.words;
+    for word in words.as_slice() {
+        refuse_unread(
+            alloc,
+            calling.name.as_bytes(),
+            word.as_bytes(),
+            sys,
+            &mut facts,
+        )?;
+    }
+    Ok(words)
+}
+
+/// The words of this process's line as gcc takes them: response files expanded, and those of c99 turned into gcc's.
+pub fn line_words(
+    rt: &HostRuntime,
+    calling: &Calling,
+    sys: &mut HostSystem,
+) -> Result<Listing<Word>, Outcome> {
+    let args = own_arguments(rt, calling.name.as_bytes())?;
+    let words = expanded(rt.alloc(), calling, args, sys)?;
+    match calling.front {
+        Front::Gcc => Ok(words),
+        Front::C99 => Ok(drv_c99::front(rt.alloc(), words.as_slice())?),
+    }
+}
+
+/// The value of a variable, if it is set.
+fn variable(alloc: Global, sys: &mut HostSystem, name: &[u8]) -> Result<Option<Word>, AllocError> {
+    sys.variable(&Word::from_bytes(alloc, name)?)
+}
+
+/// The path of the spec file beside this program. Where the program's own path isn't known, it is that in the folder of the call.
+fn own_specs(rt: &HostRuntime, machine: &[u8]) -> Result<Word, AllocError> {
+    match current_exe(rt) {
+        Ok(program) => beside(rt.alloc(), program.as_str().as_bytes(), machine),
+        Err(_) => beside(rt.alloc(), b"", machine),
+    }
+}
+
+/// The path of the spec file that the variable names, or of that beside the program.
+fn other_specs(alloc: Global, own: &Word, sys: &mut HostSystem) -> Result<Word, AllocError> {
+    match variable(alloc, sys, SPECS)? {
+        Some(path) if !path.is_empty() => given(alloc, path.as_bytes()),
+        _ => own.clone(),
+    }
+}
+
+/// The path of the spec file: of that beside the program, or else of the one that a variable names.
+pub fn find_specs(
+    rt: &HostRuntime,
+    calling: &Calling,
+    sys: &mut HostSystem,
+) -> Result<Word, Outcome> {
+    let machine = calling.machine.as_bytes();
+    let own = own_specs(rt, machine)?;
+    if sys.kind(&own)? == PathKind::Plain {
+        return Ok(own);
+    }
+    let other = other_specs(rt.alloc(), &own, sys)?;
+    if sys.kind(&other)? == PathKind::Plain {
+        return Ok(other);
+    }
+    let path = other.as_bytes();
+    Err(Outcome::Told(unwritten(
+        rt.alloc(),
+        calling.name.as_bytes(),
+        b"there is no spec file '",
+        path,
+        path,
+        machine,
+    )?))
+}
+
+/// The text of the file of this ending beside a spec file; empty where it can't be read.
+fn companion_text(
+    alloc: Global,
+    specs: &Word,
+    ending: &[u8],
+    sys: &mut HostSystem,
+) -> Result<Word, AllocError> {
+    let path = companion(alloc, specs.as_bytes(), ending)?;
+    match sys.read_file(&path)? {
+        ReadAnswer::Read(text) => Ok(text),
+        _ => Ok(Word::empty(alloc)),
+    }
+}
+
+/// The refusal of a spec file beside which no compiler is named.
+fn without_compiler(alloc: Global, calling: &Calling, specs: &Word) -> Result<Word, AllocError> {
+    let path = companion(alloc, specs.as_bytes(), b".gcc")?;
+    unwritten(
+        alloc,
+        calling.name.as_bytes(),
+        b"no compiler is named by '",
+        path.as_bytes(),
+        specs.as_bytes(),
+        calling.machine.as_bytes(),
+    )
+}
+
+/// What the front takes from outside the line: the compiler of the spec file with its folders, and the folders of two variables.
+pub fn surroundings(
+    alloc: Global,
+    calling: &Calling,
+    specs: &Word,
+    sys: &mut HostSystem,
+) -> Result<Surroundings, Outcome> {
+    let text = companion_text(alloc, specs, b".gcc", sys)?;
+    let compilers = values(alloc, b"compiler ", text.as_bytes())?;
+    let [compiler, ..] = compilers.as_slice() else {
+        return Err(Outcome::Told(without_compiler(alloc, calling, specs)?));
+    };
+    Ok(Surroundings {
+        compiler: compiler.clone()?,
+        folders: values(alloc, b"folder ", text.as_bytes())?,
+        compiler_path: variable(alloc, sys, b"COMPILER_PATH")?,
+        library_path: variable(alloc, sys, b"LIBRARY_PATH")?,
+    })
+}
+
+/// The names of the compiler's options.
+pub fn known_options(
+    alloc: Global,
+    specs: &Word,
+    sys: &mut HostSystem,
+) -> Result<Listing<Word>, AllocError> {
+    let text = companion_text(alloc, specs, b".options", sys)?;
+    values(alloc, b"", text.as_bytes())
+}
+
+/// Refuses a variable that gcc's driver takes and this one doesn't.
+pub fn refuse_variable(
+    alloc: Global,
+    calling: &Calling,
+    sys: &mut HostSystem,
+) -> Result<(), Outcome> {
+    if variable(alloc, sys, b"GCC_EXEC_PREFIX")?.is_none() {
+        return Ok(());
+    }
+    Err(Outcome::Told(error_line(
+        alloc,
+        calling.name.as_bytes(),
+        b"variable '",
+        b"GCC_EXEC_PREFIX",
+        b"' is not carried out",
+    )?))
+}

@@ -1,0 +1,146 @@
+//! A line that the compiler is asked, and one that is carried out.
+
+ghost use Rattle.std.specs.Prelude.{◌≡◌, ◌∷◌, ◌++◌, [], IfOk, codes};
+
+use crate::asking::own_arguments;
+use crate::calling::Calling;
+use crate::outcome::{Outcome, answered};
+use crate::texts::{add_absent, gone, unwritten};
+use drv_cc::{Call, Variable};
+use drv_run::{Ending, drive};
+use drv_system::{Event, HostSystem, PathKind, System, call, clock_seed, complain};
+use drv_words::{Answer, Command, Listing, NotStarted, RunEvent, StartAnswer, Word};
+use std::alloc::{AllocError, Global};
+
+/// Has the compiler answer this process's line, and ends as that ends.
+pub fn ask(
+    rt: &HostRuntime,
+    calling: &Calling,
+    specs: &Word,
+    compiler: &Word,
+) -> Result<Outcome, Outcome> {
+    let alloc = rt.alloc();
+    let name = calling.name.as_bytes();
+    let command = Command {
+        program: compiler.clone()?,
+        words: own_arguments(rt, name)?,
+    };
+    let path = compiler.as_bytes();
+    match call(rt, &command) {
+        Ok(answer) => Ok(answered(alloc, name, path, answer)?),
+        Err(_) => Err(Outcome::Told(unwritten(
+            alloc,
+            name,
+            b"cannot start the compiler of the spec file, '",
+            path,
+            specs.as_bytes(),
+            calling.machine.as_bytes(),
+        )?)),
+    }
+}
+
+/// Refuses the inputs that are not there.
+fn refuse_absent(
+    alloc: Global,
+    name: &[u8],
+    inputs: &[Word],
+    sys: &mut HostSystem,
+) -> Result<(), Outcome> {
+    let mut text = Word::empty(alloc);
+    for input in inputs {
+        if sys.kind(input)? == PathKind::Missing {
+            add_absent(&mut text, name, input.as_bytes())?;
+        }
+    }
+    if text.is_empty() {
+        return Ok(());
+    }
+    Err(Outcome::Told(text))
+}
+
+/// The words of the driver's call: the spec file, that a front stands before it, and the words of the line.
+fn driver_words(
+    alloc: Global,
+    specs: &Word,
+    words: Listing<Word>,
+) -> Result<Listing<Word>, AllocError>
+    ensures { IfOk result (λ all. all ≡ (codes "-specs=" ++ specs.now) ∷ codes "--gdrv-front" ∷ words) }
+{
+    let mut option = Word::from_bytes(alloc, b"-specs=")?;
+    option.extend_from_slice(specs.as_bytes())?;
+    let mut all = Vec::new(alloc);
+    all.push(option)?;
+    all.push(Word::from_bytes(alloc, b"--gdrv-front")?)?;
+    all.append(&mut words.into_vec())?;
+    Ok(Listing::from_vec(all))
+}
+
+/// The system of a call, which has asked nothing, with variables that are set for its children.
+fn system_with(rt: &HostRuntime, variables: &[Variable]) -> Result<HostSystem, AllocError>
+    ensures { IfOk result (λ sys. sys.journal ≡ []) }
+{
+    let mut sys = HostSystem::new(rt.clone()?);
+    for variable in variables {
+        sys.set_for_children(variable.name.clone()?, variable.value.clone()?)?;
+    }
+    Ok(sys)
+}
+
+/// Whether an event is a program that was not found.
+fn is_absent(event: &Event) -> bool {
+    matches!(
+        event,
+        Event::Run(RunEvent {
+            answer: Answer::Start(StartAnswer::NotStarted(NotStarted::NotFound)),
+            ..
+        })
+    )
+}
+
+/// Says, where a run did not find a program, how the spec file is written anew.
+fn hint(
+    rt: &HostRuntime,
+    calling: &Calling,
+    specs: &Word,
+    journal: &[Event],
+) -> Result<(), AllocError> {
+    if journal.iter().any(is_absent) {
+        let (name, machine) = (calling.name.as_bytes(), calling.machine.as_bytes());
+        let text = gone(rt.alloc(), name, specs.as_bytes(), machine)?;
+        complain(rt, text.as_bytes());
+    }
+    Ok(())
+}
+
+/// Has the driver carry out words, with variables for its children.
+fn drive_words(
+    rt: &HostRuntime,
+    calling: &Calling,
+    specs: &Word,
+    words: Listing<Word>,
+    variables: &[Variable],
+) -> Result<Ending, AllocError> {
+    let mut sys = system_with(rt, variables)?;
+    let ending = drive(rt.alloc(), &mut sys, words, clock_seed(rt));
+    hint(rt, calling, specs, sys.journal())?;
+    Ok(ending)
+}
+
+/// Carries out a line, where its inputs are there.
+pub fn run(
+    rt: &HostRuntime,
+    calling: &Calling,
+    specs: &Word,
+    line: Call,
+    sys: &mut HostSystem,
+) -> Result<Outcome, Outcome> {
+    refuse_absent(
+        rt.alloc(),
+        calling.name.as_bytes(),
+        line.inputs.as_slice(),
+        sys,
+    )?;
+    let words = driver_words(rt.alloc(), specs, line.words)?;
+    let ending = drive_words(rt, calling, specs, words, line.children.as_slice())?;
+    Ok(Outcome::Ended(ending))
+}

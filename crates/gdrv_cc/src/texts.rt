@@ -1,0 +1,233 @@
+//! What the user is told.
+
+ghost use Rattle.gdrv_cc.specs.Texts.{absent_text, error_line, file_said, gone_text, lacking, meant, quoted, refusal_text, takes_file, takes_goal, takes_macro, takes_path, unknown_text, unwritten_text, writing};
+ghost use Rattle.std.specs.Option.{option_copied};
+ghost use Rattle.std.specs.Prelude.{◌≡◌, ◌∷◌, ◌++◌, [], IfOk, OnOk, codes};
+
+use drv_cc::Refusal;
+use drv_words::Word;
+use std::alloc::{AllocError, Global};
+
+/// Adds three texts.
+fn add(text: &mut Word, before: &[u8], word: &[u8], behind: &[u8]) -> Result<(), AllocError>
+    ensures { OnOk result (text.new ≡ text.old ++ quoted before.now word.now behind.now) }
+{
+    text.extend_from_slice(before)?;
+    text.extend_from_slice(word)?;
+    text.extend_from_slice(behind)
+}
+
+/// A line of three texts behind the program's name.
+pub fn error_line(
+    alloc: Global,
+    name: &[u8],
+    before: &[u8],
+    word: &[u8],
+    behind: &[u8],
+) -> Result<Word, AllocError>
+    ensures { IfOk result (λ line. line ≡ error_line name.now (quoted before.now word.now behind.now)) }
+{
+    let mut line = Word::from_bytes(alloc, name)?;
+    line.extend_from_slice(b": error: ")?;
+    add(&mut line, before, word, behind)?;
+    line.push(b'\n')?;
+    Ok(line)
+}
+
+/// Whether an option takes a file.
+fn takes_file(option: &[u8]) -> bool
+    ensures { result ≡ takes_file option.now }
+{
+    option == b"-o".as_slice()
+        || option == b"-include".as_slice()
+        || option == b"-imacros".as_slice()
+        || option == b"-MF".as_slice()
+}
+
+/// Whether an option takes a macro.
+fn takes_macro(option: &[u8]) -> bool
+    ensures { result ≡ takes_macro option.now }
+{
+    option == b"-D".as_slice() || option == b"-U".as_slice()
+}
+
+/// Whether an option takes a path.
+fn takes_path(option: &[u8]) -> bool
+    ensures { result ≡ takes_path option.now }
+{
+    option == b"-I".as_slice()
+        || option == b"-isystem".as_slice()
+        || option == b"-iquote".as_slice()
+        || option == b"-idirafter".as_slice()
+}
+
+/// Whether an option takes a target of make.
+fn takes_goal(option: &[u8]) -> bool
+    ensures { result ≡ takes_goal option.now }
+{
+    option == b"-MT".as_slice() || option == b"-MQ".as_slice()
+}
+
+/// What is said before an option that lacks its argument.
+fn lacking(option: &[u8]) -> &'static [u8]
+    ensures { result.now ≡ lacking option.now }
+{
+    if takes_file(option) {
+        b"missing filename after '"
+    } else if takes_macro(option) {
+        b"macro name missing after '"
+    } else if takes_path(option) {
+        b"missing path after '"
+    } else if takes_goal(option) {
+        b"missing makefile target after '"
+    } else if option == b"-A".as_slice() {
+        b"assertion missing after '"
+    } else {
+        b"missing argument to '"
+    }
+}
+
+/// Adds what is said behind a word that is no option.
+fn add_meant(text: &mut Word, near: Option<&[u8]>) -> Result<(), AllocError>
+    ensures { OnOk result (text.new ≡ text.old ++ meant (option_copied near.entry)) }
+{
+    match near {
+        Some(option) => add(text, b"'; did you mean '", option, b"'?"),
+        None => text.push(b'\''),
+    }
+}
+
+/// Adds what is said of a word that is no option.
+fn add_unknown(text: &mut Word, word: &[u8], near: Option<&[u8]>) -> Result<(), AllocError>
+    ensures { OnOk result (text.new ≡ text.old ++ unknown_text word.now (option_copied near.entry)) }
+{
+    text.extend_from_slice(b"unrecognized command-line option '")?;
+    text.extend_from_slice(word)?;
+    add_meant(text, near)
+}
+
+/// Adds the line for a word that is no option.
+fn add_unknown_line(
+    text: &mut Word,
+    name: &[u8],
+    word: &[u8],
+    near: Option<&[u8]>,
+) -> Result<(), AllocError>
+    ensures { OnOk result (text.new ≡ text.old ++ error_line name.now (unknown_text word.now (option_copied near.entry))) }
+{
+    text.extend_from_slice(name)?;
+    text.extend_from_slice(b": error: ")?;
+    add_unknown(text, word, near)?;
+    text.push(b'\n')
+}
+
+/// Adds a line of three texts behind the program's name.
+fn add_line(
+    text: &mut Word,
+    name: &[u8],
+    before: &[u8],
+    word: &[u8],
+    behind: &[u8],
+) -> Result<(), AllocError>
+    ensures { OnOk result (text.new ≡ text.old ++ error_line name.now (quoted before.now word.now behind.now)) }
+{
+    text.extend_from_slice(name)?;
+    text.extend_from_slice(b": error: ")?;
+    add(text, before, word, behind)?;
+    text.push(b'\n')
+}
+
+/// Adds what is told of a refusal of the front. `near` is the option that an unknown word was meant to be, if one is near.
+pub fn add_refusal(
+    text: &mut Word,
+    name: &[u8],
+    refusal: &Refusal,
+    near: Option<&[u8]>,
+) -> Result<(), AllocError>
+    ensures { OnOk result (text.new ≡ text.old ++ refusal_text name.now refusal.now (option_copied near.entry)) }
+{
+    match refusal {
+        Refusal::UnknownOption(word) => add_unknown_line(text, name, word.as_bytes(), near),
+        Refusal::NoArgument(option) => {
+            let option = option.as_bytes();
+            add_line(text, name, lacking(option), option, b"'")
+        }
+        Refusal::NotTaken(option) => {
+            add_line(
+                text,
+                name,
+                b"option '",
+                option.as_bytes(),
+                b"' is not carried out",
+            )
+        }
+        Refusal::NoInput => {
+            text.extend_from_slice(name)?;
+            text.extend_from_slice(b": fatal error: no input files\ncompilation terminated.\n")
+        }
+    }
+}
+
+/// The name that is said of a file: of a response file without its sign.
+fn file_said(path: &[u8]) -> &[u8]
+    ensures { result.now ≡ file_said path.now }
+{
+    match path {
+        [b'@', behind @ ..] => behind,
+        _ => path,
+    }
+}
+
+/// Adds what is told of an input that is not there.
+pub fn add_absent(text: &mut Word, name: &[u8], path: &[u8]) -> Result<(), AllocError>
+    ensures { OnOk result (text.new ≡ text.old ++ absent_text name.now path.now) }
+{
+    add_line(
+        text,
+        name,
+        b"",
+        file_said(path),
+        b": No such file or directory",
+    )
+}
+
+/// Adds the command that writes the spec file of a machine.
+fn add_writing(text: &mut Word, specs: &[u8], machine: &[u8]) -> Result<(), AllocError>
+    ensures { OnOk result (text.new ≡ text.old ++ writing specs.now machine.now) }
+{
+    text.extend_from_slice(b"'write_specs -o ")?;
+    text.extend_from_slice(specs)?;
+    text.extend_from_slice(b" ")?;
+    text.extend_from_slice(machine)?;
+    text.extend_from_slice(b"' writes it")
+}
+
+/// What is told of a file that `write_specs` writes, and that is not there or is not what it writes.
+pub fn unwritten(
+    alloc: Global,
+    name: &[u8],
+    before: &[u8],
+    path: &[u8],
+    specs: &[u8],
+    machine: &[u8],
+) -> Result<Word, AllocError>
+    ensures { IfOk result (λ line. line ≡ unwritten_text name.now before.now path.now specs.now machine.now) }
+{
+    let mut line = Word::from_bytes(alloc, name)?;
+    line.extend_from_slice(b": error: ")?;
+    add(&mut line, before, path, b"'; ")?;
+    add_writing(&mut line, specs, machine)?;
+    line.push(b'\n')?;
+    Ok(line)
+}
+
+/// What is told behind a run that did not find a program.
+pub fn gone(alloc: Global, name: &[u8], specs: &[u8], machine: &[u8]) -> Result<Word, AllocError>
+    ensures { IfOk result (λ line. line ≡ gone_text name.now specs.now machine.now) }
+{
+    let mut line = Word::from_bytes(alloc, name)?;
+    line.extend_from_slice(b": note: where the compiler of the spec file is gone, ")?;
+    add_writing(&mut line, specs, machine)?;
+    line.extend_from_slice(b" anew\n")?;
+    Ok(line)
+}
