@@ -22,11 +22,10 @@ fn have_unknown(refusals: &[Refusal]) -> bool {
 
 /// Whether a spec file stands on the line of a call, beside the program's own.
 fn has_specs(call: &Call) -> bool {
-    let mark = b"--gdrv-vendor".as_slice();
     call.words
         .as_slice()
         .iter()
-        .any(|word| word.as_bytes() == mark)
+        .any(|word| word.as_bytes().starts_with(b"-specs="))
 }
 
 /// Whether the names of the compiler's options are wanted to read a line: where the front's own table lacks a word of it.
