@@ -195,9 +195,7 @@ pub fn add_absent(text: &mut Word, name: &[u8], path: &[u8]) -> Result<(), Alloc
 fn add_writing(text: &mut Word, specs: &[u8], machine: &[u8]) -> Result<(), AllocError>
     ensures { OnOk result (text.new ≡ text.old ++ writing specs.now machine.now) }
 {
-    text.extend_from_slice(b"'write_specs -o ")?;
-    text.extend_from_slice(specs)?;
-    text.extend_from_slice(b" ")?;
+    add(text, b"'write_specs -o ", specs, b" ")?;
     text.extend_from_slice(machine)?;
     text.extend_from_slice(b"' writes it")
 }
