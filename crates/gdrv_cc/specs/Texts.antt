@@ -18,13 +18,18 @@ abbrev pub is : List ℕ → List ℕ → Bool
 is = pointwise nat_eq
 
 abbrev pub takes_file : List ℕ → Bool
-takes_file option = is option (codes "-o") || is option (codes "-include") || is option (codes "-imacros") || is option (codes "-MF")
+takes_file option =
+    is option (codes "-o") || is option (codes "-include") || is option (codes "-imacros") || is option (codes "-MF")
+    || is option (codes "--output") || is option (codes "--include") || is option (codes "--imacros")
 
 abbrev pub takes_macro : List ℕ → Bool
-takes_macro option = is option (codes "-D") || is option (codes "-U")
+takes_macro option =
+    is option (codes "-D") || is option (codes "-U") || is option (codes "--define-macro") || is option (codes "--undefine-macro")
 
 abbrev pub takes_path : List ℕ → Bool
-takes_path option = is option (codes "-I") || is option (codes "-isystem") || is option (codes "-iquote") || is option (codes "-idirafter")
+takes_path option =
+    is option (codes "-I") || is option (codes "-isystem") || is option (codes "-iquote") || is option (codes "-idirafter")
+    || is option (codes "-isysroot") || is option (codes "--include-directory") || is option (codes "--include-directory-after")
 
 abbrev pub takes_goal : List ℕ → Bool
 takes_goal option = is option (codes "-MT") || is option (codes "-MQ")
@@ -35,7 +40,7 @@ lacking option =
     else if takes_macro option then codes "macro name missing after '"
     else if takes_path option then codes "missing path after '"
     else if takes_goal option then codes "missing makefile target after '"
-    else if is option (codes "-A") then codes "assertion missing after '"
+    else if is option (codes "-A") || is option (codes "--assert") then codes "assertion missing after '"
     else codes "missing argument to '"
 
 -- a word that is no option, with the option that was meant, if one is near

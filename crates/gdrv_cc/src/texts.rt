@@ -42,13 +42,19 @@ fn takes_file(option: &[u8]) -> bool
         || option == b"-include".as_slice()
         || option == b"-imacros".as_slice()
         || option == b"-MF".as_slice()
+        || option == b"--output".as_slice()
+        || option == b"--include".as_slice()
+        || option == b"--imacros".as_slice()
 }
 
 /// Whether an option takes a macro.
 fn takes_macro(option: &[u8]) -> bool
     ensures { result ≡ takes_macro option.now }
 {
-    option == b"-D".as_slice() || option == b"-U".as_slice()
+    option == b"-D".as_slice()
+        || option == b"-U".as_slice()
+        || option == b"--define-macro".as_slice()
+        || option == b"--undefine-macro".as_slice()
 }
 
 /// Whether an option takes a path.
@@ -59,6 +65,9 @@ fn takes_path(option: &[u8]) -> bool
         || option == b"-isystem".as_slice()
         || option == b"-iquote".as_slice()
         || option == b"-idirafter".as_slice()
+        || option == b"-isysroot".as_slice()
+        || option == b"--include-directory".as_slice()
+        || option == b"--include-directory-after".as_slice()
 }
 
 /// Whether an option takes a target of make.
@@ -80,7 +89,7 @@ fn lacking(option: &[u8]) -> &'static [u8]
         b"missing path after '"
     } else if takes_goal(option) {
         b"missing makefile target after '"
-    } else if option == b"-A".as_slice() {
+    } else if option == b"-A".as_slice() || option == b"--assert".as_slice() {
         b"assertion missing after '"
     } else {
         b"missing argument to '"
