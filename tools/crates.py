@@ -20,7 +20,7 @@ from typing import Callable
 
 MEMORY_OF_ONE = 3_000_000_000
 # (each further job of a check costs processor time of its own)
-MOST_JOBS = 2
+MOST_JOBS = 4
 # The processor seconds of a crate that was never measured.
 UNKNOWN_COST = 60
 TEXTS = ("src", "specs", "proofs")
@@ -196,8 +196,8 @@ def chains(tasks):
 
 def in_lanes(tasks, begun, ended):
     """Does tasks side by side, those of the longest chain first, and tells whether all were done. That of the longest chain has one job
-    more, where memory allows. `begun` is told each task, and `ended` each with what it gave; where that answers no, no further task
-    begins."""
+    more and one for each lane that stands idle, where memory allows. `begun` is told each task, and `ended` each with what it gave;
+    where that answers no, no further task begins."""
     number, length, left = lanes(), chains(tasks), list(tasks)
     running, done, goes_on = {}, set(), True
     with ThreadPoolExecutor(number) as pool:
@@ -205,9 +205,10 @@ def in_lanes(tasks, begun, ended):
             ready = [it for it in left if goes_on and done.issuperset(it.after)]
             idle = number - sum(jobs for _, jobs in running.values())
             chosen = sorted(ready, key=lambda it: -length[it.name])[: max(0, idle)]
+            spare = max(0, min(idle + 1, room_for()) - len(chosen))
             for it in chosen:
                 is_longest = all(length[it.name] > length[other.name] for other, _ in running.values())
-                jobs = min(it.most, 1 + (is_longest and room_for() > number))
+                jobs = min(it.most, 1 + (spare if is_longest else 0))
                 left.remove(it)
                 begun(it)
                 running[pool.submit(it.call, jobs)] = it, jobs
