@@ -12,6 +12,7 @@ pub mod FileParts
 pub mod FileWords
 pub mod Files
 pub mod Finished
+pub mod FunctionNames
 pub mod Functions
 pub mod ItemKinds
 pub mod Judging

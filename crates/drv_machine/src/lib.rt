@@ -9,6 +9,7 @@ mod emitting;
 mod failing;
 mod fault;
 mod filing;
+mod grammar;
 mod hits;
 mod items;
 mod machine;
@@ -24,5 +25,6 @@ mod whole;
 
 pub use context::{Context, Source};
 pub use fault::MachineFault;
+pub use grammar::function_names;
 pub use outcome::Outcome;
 pub use whole::run;
