@@ -1,6 +1,6 @@
 //! Which switches of a line are hidden.
 
-ghost use Rattle.std.specs.Prelude.{◌≡◌, ◌<◌, Bool, IfOk, List, false, length, replicate, set, slice_get, Some};
+ghost use Rattle.std.specs.Prelude.{◌≡◌, ◌<◌, Bool, IfOk, List, false, length, replicate, set, slice_get, Some, true};
 
 use crate::switches::Switches;
 use std::alloc::{AllocError, Global};
@@ -36,11 +36,11 @@ impl Hidden {
         self.flags[i]
     }
 
-    /// Says whether the switch at this place is hidden.
-    pub(crate) fn set(&mut self, i: usize, is_hidden: bool)
+    /// Hides the switch at this place.
+    pub(crate) fn add(&mut self, i: usize)
         requires { i < length self.old }
-        ensures { self.new ≡ set self.old i is_hidden }
+        ensures { self.new ≡ set self.old i true }
     {
-        self.flags[i] = is_hidden;
+        self.flags[i] = true;
     }
 }

@@ -142,7 +142,7 @@ impl Switches {
     {
         let named = self.named(pattern);
         for place in named {
-            hidden.set(*place, true);
+            hidden.add(*place);
         }
     }
 
