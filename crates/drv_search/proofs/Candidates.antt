@@ -2,8 +2,8 @@ use Rattle.drv_search.specs.Search.{as_prefix, candidates, candidates_under, fou
 use Rattle.drv_system.specs.Facts.{Facts, kind_of}
 use Rattle.drv_system.specs.Known.{◌>>=◌, Is, Known, Unasked, asked}
 use Rattle.drv_system.specs.declared.event.PathKind.{PathKind}
-use Rattle.std.proofs.Common.{◌≡◌, ◌<◌, ◌+◌, ◌∙◌, Bool, List, [], ◌∷◌, ◌++◌, None, Option, Some, ap, append_assoc, drop, false, if◌then◌else◌, length, map, refl, sym, true, Bor, Result, IfOk, Ok, Err, ℕ}
-use Rattle.std.proofs.lemmas.List.{append-nil, drop_more}
+use Rattle.std.proofs.Common.{◌≡◌, ◌<◌, ◌+◌, ◌∙◌, Bool, List, [], ◌∷◌, ◌++◌, None, Option, Some, ap, append_assoc, drop, false, if◌then◌else◌, length, refl, sym, true, Result, IfOk, Ok, Err, ℕ}
+use Rattle.std.proofs.lemmas.List.{drop_more}
 use Rattle.std.specs.Prelude.{get_or}
 
 -- Prefixes one after another, and a search among candidates one after another.

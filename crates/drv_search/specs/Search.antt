@@ -7,7 +7,7 @@ use Rattle.drv_system.specs.Known.{◌>>=◌, Is, Known, asked}
 use Rattle.drv_system.specs.declared.event.PathKind.TheVariants.{Dir, Missing, Other, Plain}
 use Rattle.drv_system.specs.declared.event.PathKind.{PathKind}
 use Rattle.std.specs.List.{ends_with, list_any}
-use Rattle.std.specs.Prelude.{◌≡◌, ◌-◌, ◌==◌, ◌∷◌, ◌++◌, ◌||◌, Bool, Err, List, [], None, Ok, Option, Result, Some, codes, false, flat_map, if◌then◌else◌, length, map, nat_eq, take, true, ℕ}
+use Rattle.std.specs.Prelude.{◌≡◌, ◌-◌, ◌==◌, ◌∷◌, ◌++◌, ◌||◌, Bool, Err, List, [], None, Ok, Option, Result, Some, codes, false, flat_map, if◌then◌else◌, length, nat_eq, take, true, ℕ}
 
 -- Where programs and files are looked for (GCC manual, "Directory Options", -B and -L; the folders that are searched without
 -- being named are this project's profile).

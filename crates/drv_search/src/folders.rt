@@ -1,11 +1,12 @@
 //! The folders of libraries.
 
-ghost use Rattle.drv_search.specs.Search.{Adds, folder_options, folders_under, is_dir, machine_folder, options_for, without_slash};
+ghost use Rattle.drv_search.specs.Search.{folder_options, folders_under, is_dir, machine_folder, options_for, without_slash};
+ghost use Rattle.drv_search.specs.Telling.{TellsMore};
 ghost use Rattle.drv_system.specs.Asking.{Asks, Extends};
 ghost use Rattle.drv_system.specs.Facts.{Facts};
 ghost use Rattle.drv_system.specs.Known.{Is};
 ghost use Rattle.std.specs.List.{flat_map};
-ghost use Rattle.std.specs.Prelude.{◌≡◌, ◌∷◌, ◌++◌, [], IfOk, OnOk, codes};
+ghost use Rattle.std.specs.Prelude.{◌≡◌, ◌∷◌, ◌++◌, [], IfOk, codes};
 
 use crate::Prefixes;
 use crate::prefixes::{ends_with_slash, machine_folder_under};
@@ -48,7 +49,7 @@ fn push_if_folder<S: System>(
     facts: &mut FactTable,
 ) -> Result<(), AllocError>
     ensures asks { Asks (S.events sys.old) (S.events sys.new) facts.old facts.new }
-    ensures option { (F : Facts) → Extends facts.new F → OnOk result (Adds (options_for F (path.now ∷ [])) options.old options.new) }
+    ensures option { TellsMore facts.new result (λ F. options_for F (path.now ∷ [])) options.old options.new }
 {
     let kind = facts.kind(sys, path)?;
     if !is_dir(kind) {
@@ -67,7 +68,7 @@ fn push_option<S: System>(
     facts: &mut FactTable,
 ) -> Result<(), AllocError>
     ensures asks { Asks (S.events sys.old) (S.events sys.new) facts.old facts.new }
-    ensures option { (F : Facts) → Extends facts.new F → OnOk result (Adds (options_for F (without_slash path.now ∷ [])) options.old options.new) }
+    ensures option { TellsMore facts.new result (λ F. options_for F (without_slash path.now ∷ [])) options.old options.new }
 {
     let folder = Word::from_bytes(alloc, without_slash(path))?;
     push_if_folder(alloc, options, &folder, sys, facts)
@@ -82,7 +83,7 @@ fn push_machine_option<S: System>(
     facts: &mut FactTable,
 ) -> Result<(), AllocError>
     ensures asks { Asks (S.events sys.old) (S.events sys.new) facts.old facts.new }
-    ensures option { (F : Facts) → Extends facts.new F → OnOk result (Adds (options_for F (without_slash (prefix.now ++ machine_folder) ∷ [])) options.old options.new) }
+    ensures option { TellsMore facts.new result (λ F. options_for F (without_slash (prefix.now ++ machine_folder) ∷ [])) options.old options.new }
 {
     let machine = machine_folder_under(alloc, prefix)?;
     push_option(alloc, options, machine.as_bytes(), sys, facts)
@@ -98,7 +99,7 @@ fn push_options<S: System>(
     facts: &mut FactTable,
 ) -> Result<(), AllocError>
     ensures asks { Asks (S.events sys.old) (S.events sys.new) facts.old facts.new }
-    ensures options { (F : Facts) → Extends facts.new F → OnOk result (Adds (options_for F (folders_under prefix.now)) options.old options.new) }
+    ensures options { TellsMore facts.new result (λ F. options_for F (folders_under prefix.now)) options.old options.new }
 {
     push_machine_option(alloc, options, prefix, sys, facts)?;
     if !ends_with_slash(prefix) {
@@ -117,7 +118,7 @@ fn push_all<S: System>(
     facts: &mut FactTable,
 ) -> Result<(), AllocError>
     ensures asks { Asks (S.events sys.old) (S.events sys.new) facts.old facts.new }
-    ensures options { (F : Facts) → Extends facts.new F → OnOk result (Adds (options_for F (flat_map folders_under prefixes.now)) options.old options.new) }
+    ensures options { TellsMore facts.new result (λ F. options_for F (flat_map folders_under prefixes.now)) options.old options.new }
 {
     for prefix in prefixes {
         push_options(alloc, options, prefix.as_bytes(), sys, facts)?;

@@ -1,6 +1,7 @@
 //! The prefixes of a search: those of `-B`, and the folders behind them.
 
 ghost use Rattle.drv_search.specs.Search.{as_prefix, ends_with_slash, given_of, is_prefix, library_folders, machine_folder, prefix_of, prefixes_of, program_folders};
+ghost use Rattle.drv_search.specs.Telling.{Tells};
 ghost use Rattle.drv_system.specs.Asking.{Asks, Extends};
 ghost use Rattle.drv_system.specs.Facts.{Facts};
 ghost use Rattle.drv_system.specs.Known.{Is};
@@ -62,7 +63,7 @@ fn as_prefix(dir: &Word, kind: PathKind) -> Result<Word, AllocError>
 /// The prefix that an argument of `-B` stands for.
 fn prefix_of<S: System>(dir: &Word, sys: &mut S, facts: &mut FactTable) -> Result<Word, AllocError>
     ensures asks { Asks (S.events sys.old) (S.events sys.new) facts.old facts.new }
-    ensures prefix { (F : Facts) → Extends facts.new F → IfOk result (λ prefix. prefix_of F dir.now ≡ Is prefix) }
+    ensures prefix { Tells facts.new result (λ F. prefix_of F dir.now) }
 {
     if is_prefix(dir.as_bytes()) {
         return dir.clone();
@@ -80,7 +81,7 @@ fn given_prefixes<S: System>(
     facts: &mut FactTable,
 ) -> Result<Listing<Word>, AllocError>
     ensures asks { Asks (S.events sys.old) (S.events sys.new) facts.old facts.new }
-    ensures given { (F : Facts) → Extends facts.new F → IfOk result (λ given. given_of F dirs.now ≡ Is given) }
+    ensures given { Tells facts.new result (λ F. given_of F dirs.now) }
 {
     let mut given = Listing::new(alloc);
     for dir in dirs {

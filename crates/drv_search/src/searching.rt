@@ -1,12 +1,13 @@
 //! Programs, files and linker scripts looked for.
 
 ghost use Rattle.drv_search.specs.Search.{candidates, candidates_under, file_found, found, found_or_name, is_plain, is_searched, machine_folder, program_found, script_found};
-ghost use Rattle.drv_words.specs.Bytes.{slash};
+ghost use Rattle.drv_search.specs.Telling.{Tells};
 ghost use Rattle.drv_search.specs.declared.fault.SearchFault.TheVariants as fault;
 ghost use Rattle.drv_system.specs.Asking.{Asks, Extends};
 ghost use Rattle.drv_system.specs.Facts.{Facts};
 ghost use Rattle.drv_system.specs.Gives.{GivesKnown};
 ghost use Rattle.drv_system.specs.Known.{Is};
+ghost use Rattle.drv_words.specs.Bytes.{slash};
 ghost use Rattle.std.specs.List.{list_any};
 ghost use Rattle.std.specs.Prelude.{◌≡◌, ◌==◌, ◌∷◌, ◌++◌, [], IfOk};
 
@@ -48,7 +49,7 @@ fn plain_at<S: System>(
     facts: &mut FactTable,
 ) -> Result<Option<Word>, AllocError>
     ensures asks { Asks (S.events sys.old) (S.events sys.new) facts.old facts.new }
-    ensures hit { (F : Facts) → Extends facts.new F → IfOk result (λ hit. found F (path ∷ []) ≡ Is hit) }
+    ensures hit { Tells facts.new result (λ F. found F (path ∷ [])) }
 {
     let kind = facts.kind(sys, &path)?;
     Ok(if is_plain(kind) { Some(path) } else { None })
@@ -63,7 +64,7 @@ fn machine_hit<S: System>(
     facts: &mut FactTable,
 ) -> Result<Option<Word>, AllocError>
     ensures asks { Asks (S.events sys.old) (S.events sys.new) facts.old facts.new }
-    ensures hit { (F : Facts) → Extends facts.new F → IfOk result (λ hit. found F ((prefix.now ++ machine_folder ++ name.now) ∷ []) ≡ Is hit) }
+    ensures hit { Tells facts.new result (λ F. found F ((prefix.now ++ machine_folder ++ name.now) ∷ [])) }
 {
     let path = machine_path(alloc, prefix, name)?;
     plain_at(path, sys, facts)
@@ -78,7 +79,7 @@ fn bare_hit<S: System>(
     facts: &mut FactTable,
 ) -> Result<Option<Word>, AllocError>
     ensures asks { Asks (S.events sys.old) (S.events sys.new) facts.old facts.new }
-    ensures hit { (F : Facts) → Extends facts.new F → IfOk result (λ hit. found F ((prefix.now ++ name.now) ∷ []) ≡ Is hit) }
+    ensures hit { Tells facts.new result (λ F. found F ((prefix.now ++ name.now) ∷ [])) }
 {
     let path = bare_path(alloc, prefix, name)?;
     plain_at(path, sys, facts)
@@ -94,7 +95,7 @@ fn found_under<S: System>(
     facts: &mut FactTable,
 ) -> Result<Option<Word>, AllocError>
     ensures asks { Asks (S.events sys.old) (S.events sys.new) facts.old facts.new }
-    ensures hit { (F : Facts) → Extends facts.new F → IfOk result (λ hit. found F (candidates_under name.now prefix.now) ≡ Is hit) }
+    ensures hit { Tells facts.new result (λ F. found F (candidates_under name.now prefix.now)) }
 {
     if let Some(hit) = machine_hit(alloc, prefix, name, sys, facts)? {
         return Ok(Some(hit));
@@ -112,7 +113,7 @@ fn search<S: System>(
     facts: &mut FactTable,
 ) -> Result<Option<Word>, AllocError>
     ensures asks { Asks (S.events sys.old) (S.events sys.new) facts.old facts.new }
-    ensures hit { (F : Facts) → Extends facts.new F → IfOk result (λ hit. found F (candidates prefixes.now name.now) ≡ Is hit) }
+    ensures hit { Tells facts.new result (λ F. found F (candidates prefixes.now name.now)) }
 {
     for prefix in prefixes {
         if let Some(hit) = found_under(alloc, prefix.as_bytes(), name, sys, facts)? {
@@ -145,7 +146,7 @@ fn found_or_name<S: System>(
     facts: &mut FactTable,
 ) -> Result<Word, AllocError>
     ensures asks { Asks (S.events sys.old) (S.events sys.new) facts.old facts.new }
-    ensures path { (F : Facts) → Extends facts.new F → IfOk result (λ path. found_or_name F prefixes.now name.now ≡ Is path) }
+    ensures path { Tells facts.new result (λ F. found_or_name F prefixes.now name.now) }
 {
     if !is_searched(name.as_bytes()) {
         return name.clone();
