@@ -157,7 +157,7 @@ outputs_in_link_alone : words_of no_facts (on [] (codes "a.c")) (codes "prog %o"
 outputs_in_link_alone = refl
 
 -- notices and errors
-notice : (worked no_facts (on [] (codes "a.c")) (codes "%nhello\nprog") >>- λ o. Is (Ok o.notices)) ≡ Is (Ok (codes "hello" ∷ []))
+notice : (worked no_facts (on [] (codes "a.c")) (codes "%nhello\nprog") >>- λ o. Is (Ok o.notices)) ≡ Is (Ok (codes "note: hello" ∷ []))
 notice = refl
 
 notice_ends_no_word : words_of no_facts (on [] (codes "a.c")) (codes "foo%nhi\nbaz") ≡ Is (Ok ((codes "foobaz" ∷ []) ∷ []))

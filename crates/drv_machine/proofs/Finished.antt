@@ -84,7 +84,7 @@ module _ (F : Facts) (C : Context) where
     finished_long long = rw (well, are, long) refl
 
     pub finished_well : list_any (λ group. nat_lt most_piped (length group)) commands ≡ false
-        → finished F C w c ≡ Is (Ok (record { job = job C w c commands; notices = w.notices; outs = w.outputs; accumulated = w.options; next_number = w.number; cost = w.items }))
+        → finished F C w c ≡ Is (Ok (record { job = job w c commands; notices = w.notices; outs = w.outputs; accumulated = w.options; next_number = w.number; cost = w.items }))
     finished_well short = rw (well, are, short) refl
 
 -- Files, each once.

@@ -156,9 +156,9 @@ module _ (F : Facts) where
   cost = refl
 
   -- a whole outcome, for an input and for the link
-  abbrev program_alone : Option ℕ → Outcome
-  program_alone place = record {
-    job = record { source = place; groups = (record { program = codes "c"; words = [] } ∷ []) ∷ []; temps = []; marked = []; on_failure = []; output = None };
+  abbrev program_alone : Outcome
+  program_alone = record {
+    job = record { source = None; groups = (record { program = codes "c"; words = [] } ∷ []) ∷ []; temps = []; marked = []; on_failure = []; output = None };
     notices = [];
     outs = [];
     accumulated = [];
@@ -166,8 +166,8 @@ module _ (F : Facts) where
     cost = 2;
   }
 
-  outcome_of_input : worked F (on [] (codes "a.c")) (codes "c\n") ≡ Is (Ok (program_alone (Some 0)))
+  outcome_of_input : worked F (on [] (codes "a.c")) (codes "c\n") ≡ Is (Ok program_alone)
   outcome_of_input = refl
 
-  outcome_of_link : worked F (linking []) (codes " c") ≡ Is (Ok (program_alone None))
+  outcome_of_link : worked F (linking []) (codes " c") ≡ Is (Ok program_alone)
   outcome_of_link = refl

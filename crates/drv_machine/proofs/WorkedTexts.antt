@@ -44,10 +44,10 @@ linking switches = record {
 
 -- with the first of its inputs
 abbrev pub on : List Switch → List ℕ → Context
-on switches name = record (linking switches) { input = Some (record { place = 0; name = name; language = None }) }
+on switches name = record (linking switches) { input = Some (record { name = name; language = None }) }
 
 abbrev pub in_language : List ℕ → List ℕ → Context
-in_language language name = record (linking []) { input = Some (record { place = 0; name = name; language = Some language }) }
+in_language language name = record (linking []) { input = Some (record { name = name; language = Some language }) }
 
 -- the words of each group, one command after another
 abbrev pub group_words : List Command → List (List ℕ)

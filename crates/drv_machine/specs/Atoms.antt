@@ -43,6 +43,10 @@ turned negated holds = if negated then not holds else holds
 abbrev pub added : List ℕ → List (List ℕ) → List (List ℕ)
 added option options = if is_among options option then options else options ++ option ∷ []
 
+-- what the user is told of a text (this project's profile)
+abbrev pub noted : List ℕ → List ℕ
+noted text = codes "note: " ++ text
+
 -- the options that %x has added so far
 abbrev pub options_step : Step (Unit {0})
 options_step = look (λ w. words w.options) >>= puts
@@ -216,7 +220,7 @@ module _ (F : Facts) (C : Context) where
     item_step (TempName kind suffix) levels star = temp_step kind suffix  -- %g %u %U %| %m
     item_step (AddOption option) levels star = change (λ w. record w { options = added option w.options })  -- %x{..}
     item_step (UserError text) levels star = refuse (fault.UserError text)  -- %e
-    item_step (Notice text) levels star = change (λ w. record w { notices = w.notices ++ text ∷ [] })  -- %n
+    item_step (Notice text) levels star = change (λ w. record w { notices = w.notices ++ noted text ∷ [] })  -- %n
     item_step (NamedText name) levels star = named (tree_named name) levels  -- %(..)
     item_step (BuiltinText name) levels star = named (tree_named name) levels  -- %a %A %l %L %G %S %E %C %1 %2
     item_step (Hide p) levels star = change (λ w. record w { hidden = hidden_by (matching p) (names C) w.hidden })  -- %< %>

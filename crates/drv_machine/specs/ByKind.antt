@@ -1,4 +1,4 @@
-use Rattle.drv_machine.specs.Atoms.{added, choices_step, emitted, first_true, judged, leaf_step, switch_atoms, temp_step, truth}
+use Rattle.drv_machine.specs.Atoms.{added, choices_step, emitted, first_true, judged, leaf_step, noted, switch_atoms, temp_step, truth}
 use Rattle.drv_machine.specs.Context.{Context, names}
 use Rattle.drv_machine.specs.Names.{is_word, language_of, suffix_of}
 use Rattle.drv_machine.specs.Running.{Machine, run}
@@ -128,5 +128,5 @@ kind_step F C kinds.Star label star inner = bytes star
 kind_step F C (kinds.TempName kind) label star inner = temp_step F C kind label.word
 kind_step F C kinds.AddOption label star inner = change (λ w. record w { options = added label.word w.options })
 kind_step F C kinds.UserError label star inner = refuse (fault.UserError label.word)
-kind_step F C kinds.Notice label star inner = change (λ w. record w { notices = w.notices ++ label.word ∷ [] })
+kind_step F C kinds.Notice label star inner = change (λ w. record w { notices = w.notices ++ noted label.word ∷ [] })
 kind_step F C _ label star inner = nothing  -- no item

@@ -7,9 +7,8 @@ use Rattle.std.specs.Prelude.{Bool, List, Option, None, codes, get_or, map, nat_
 
 -- What a text is worked for (this project's profile).
 
--- an input: its place among the line's inputs, its name, and the name of its language if it has one
+-- an input: its name, and the name of its language if it has one
 pub record Source : Type 0 where
-  pub place : ℕ
   pub name : List ℕ
   pub language : Option (List ℕ)
 

@@ -1,5 +1,5 @@
 use Rattle.drv_machine.specs.Atoms.{atoms}
-use Rattle.drv_machine.specs.Context.{Context, Source, is_piping}
+use Rattle.drv_machine.specs.Context.{Context, is_piping}
 use Rattle.drv_machine.specs.Cutting.{Cut, Line, all_taken, nothing_cut}
 use Rattle.drv_machine.specs.Working.{◌>>-◌, Answer, Goes, Refuses, Waits, Work, World, is_among, known}
 use Rattle.drv_machine.specs.declared.fault.MachineFault.TheVariants.{PipeTooLong, StrayPipe}
@@ -12,7 +12,7 @@ use Rattle.drv_words.specs.declared.plan.Command.{Command}
 use Rattle.drv_words.specs.declared.plan.Job.{Job}
 use Rattle.std.specs.Cmp.Lexicographic.{pointwise}
 use Rattle.std.specs.List.{filter, list_any}
-use Rattle.std.specs.Prelude.{◌&&◌, ◌||◌, Bool, List, [], ◌∷◌, Option, None, Some, Err, Ok, false, if◌then◌else◌, length, map, nat_eq, nat_lt, not, true, ℕ}
+use Rattle.std.specs.Prelude.{◌&&◌, ◌||◌, Bool, List, [], ◌∷◌, None, Err, Ok, false, if◌then◌else◌, length, map, nat_eq, nat_lt, not, true, ℕ}
 
 -- The job of a text: its commands, what they leave behind, and what working it cost (this project's profile).
 
@@ -54,14 +54,10 @@ once (file ∷ files) = file ∷ filter (λ other. not (pointwise nat_eq file ot
 abbrev pub lasting : List (List ℕ) → List (List ℕ) → List (List ℕ)
 lasting temps files = filter (λ file. not (is_among temps file)) (once files)
 
--- the input's place; the link has none
-abbrev pub place_of : Option Source → Option ℕ
-place_of None = None
-place_of (Some source) = Some source.place
-
-abbrev pub job : Context → World → Cut → List (List Command) → Job
-job C w c commands = record {
-  source = place_of C.input;
+-- whose job it is says the plan
+abbrev pub job : World → Cut → List (List Command) → Job
+job w c commands = record {
+  source = None;
   groups = commands;
   temps = map (λ name. record { path = name.path; contents = name.contents }) w.drawn;
   marked = lasting (map (λ name. name.path) w.drawn) c.removed;
@@ -75,7 +71,7 @@ finished F C w c =
     if c.stray || ends_piped c.lines then Is (Err StrayPipe)
     else (groups F C c.lines >>- λ commands.
     if list_any (λ group. nat_lt most_piped (length group)) commands then Is (Err PipeTooLong)
-    else Is (Ok (record { job = job C w c commands; notices = w.notices; outs = w.outputs; accumulated = w.options; next_number = w.number; cost = w.items })))
+    else Is (Ok (record { job = job w c commands; notices = w.notices; outs = w.outputs; accumulated = w.options; next_number = w.number; cost = w.items })))
 
 -- what stops first in the order of the list counts
 abbrev pub cut : Facts → Context → Work (Unit {0}) → Answer Outcome

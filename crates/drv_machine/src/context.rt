@@ -1,7 +1,6 @@
 //! What a text is worked for: a line, and an input of it or the link.
 
 ghost use Rattle.drv_machine.specs.Context.{argument, is_piping, names, text_named};
-ghost use Rattle.drv_machine.specs.Outcome.{place_of};
 ghost use Rattle.std.specs.Cmp.Lexicographic.{pointwise};
 ghost use Rattle.std.specs.List.{list_any};
 ghost use Rattle.std.specs.Option.{is_none, option_map};
@@ -19,8 +18,6 @@ use std::marker::Model;
 /// An input that a text is worked for. It is lent its names.
 #[derive(Debug, Drop)]
 pub struct Source<'a> {
-    /// Its place among the line's inputs.
-    pub place: usize,
     pub name: &'a [u8],
     /// The name of its language, if it has one.
     pub language: Option<&'a [u8]>,
@@ -32,7 +29,7 @@ impl<'a> Model for Source<'a> {
 
     ghost Value = { specs.Source };
 
-    ghost view = { λ s. record { place = s.place; name = s.name.now; language = option_map (λ name. name.now) s.language } };
+    ghost view = { λ s. record { name = s.name.now; language = option_map (λ name. name.now) s.language } };
 }
 
 /// What a text is worked for: a line, the named texts and the prefixes of its searches, which are lent, what goes on from
@@ -248,16 +245,6 @@ impl<'a> Context<'a> {
         match &self.input {
             Some(_) => false,
             None => true,
-        }
-    }
-
-    /// The input's place among the line's inputs; the link has none.
-    pub(crate) fn place(&self) -> Option<usize>
-        ensures { place_of self.now.input ≡ result }
-    {
-        match &self.input {
-            Some(source) => Some(source.place),
-            None => None,
         }
     }
 }

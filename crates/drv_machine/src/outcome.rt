@@ -5,8 +5,9 @@ use drv_words::{Job, Listing, Word};
 /// The job of a text, and what goes on to the next text.
 #[derive(Debug, Drop)]
 pub struct Outcome {
+    /// The plan says of which source it is.
     pub job: Job,
-    /// What the user is told.
+    /// What the user is told: each text of a `%n` behind `note: `.
     pub notices: Listing<Word>,
     /// The outputs of the jobs before, as functions left them.
     pub outs: Listing<Word>,

@@ -7,7 +7,7 @@ use Rattle.drv_machine.specs.Working.{Answer}
 use Rattle.drv_machine.specs.declared.fault.MachineFault.TheVariants as machine
 use Rattle.drv_machine.specs.declared.fault.MachineFault.{MachineFault}
 use Rattle.drv_machine.specs.declared.outcome.Outcome.{Outcome}
-use Rattle.drv_plan.specs.Denoted.{Planned, begun, behind_job, behind_text, context_of, denoted, finished, for_link, for_source, lifted, linked, of_text, plan_of, planned, then_by, with_command, with_file, with_input, with_inputs, with_link, with_source, with_text, worked}
+use Rattle.drv_plan.specs.Denoted.{Planned, begun, behind_job, behind_text, context_of, denoted, finished, for_link, for_source, lifted, linked, of_source, of_text, plan_of, planned, then_by, with_command, with_file, with_input, with_inputs, with_link, with_source, with_text, worked}
 use Rattle.drv_plan.specs.Languages.{Chosen, language_of}
 use Rattle.drv_plan.specs.declared.fault.PlanFault.TheVariants.{Memory}
 use Rattle.drv_plan.specs.declared.fault.PlanFault.{PlanFault}
@@ -77,11 +77,11 @@ language_refused F set place (File name language) g fault (inr refuses) = inr (a
 language_refused F set place (Library word) g fault (inr refuses) = absurd cc
 language_refused F set place (LinkWord word) g fault (inr refuses) = absurd cc
 
--- a source, once its place and names are known
+-- a source, once its names are known
 pub source_chosen : (F : Facts) (place : ℕ) (name : List ℕ) (c : Chosen) (source : Source) (text : List ℕ) (g : Going)
-    → source ≡ record { place = place; name = name; language = c.name } → text ≡ c.text → with_file F place name (Ok (Some c)) g ≡ with_source F source text g
+    → source ≡ record { name = name; language = c.name } → text ≡ c.text → with_file F place name (Ok (Some c)) g ≡ with_source F place source text g
 source_chosen F place name c source text g is same =
-    ap (λ (s : Source). with_source F s c.text g) (sym is) ∙ ap (λ t. with_source F source t g) (sym same)
+    ap (λ (s : Source). with_source F place s c.text g) (sym is) ∙ ap (λ t. with_source F place source t g) (sym same)
 
 -- where the next input stands
 abbrev then_inputs : Facts → Set → ℕ → List Input → Planned Going → Planned Going
@@ -172,15 +172,16 @@ text_refused F text g fault refused = text_stops fault (outcome F g.context (tre
 pub source_set : (g : Going) (source : Source) (C : Context) → C ≡ record g.context { input = Some source } → for_source source g ≡ record g { context = C }
 source_set g source C is = ap (λ (D : Context). record g { context = D }) (sym is)
 
-pub source_worked : (F : Facts) (source : Source) (text : List ℕ) (g : Going) (C : Context) (job : Job) (worked_on after : Going) → C ≡ record g.context { input = Some source }
-    → worked F text (record g { context = C }) ≡ Is (Ok (job, worked_on)) → after ≡ behind_job job worked_on → with_source F source text g ≡ Is (Ok after)
-source_worked F source text g C job worked_on after is works added =
-    goes (job, worked_on) (worked F text (for_source source g)) (λ done. Is (Ok (behind_job done.0 done.1))) (ap (worked F text) (source_set g source C is) ∙ works) ∙ ap (λ (g' : Going). Is (Ok g')) (sym added)
+pub source_worked : (F : Facts) (place : ℕ) (source : Source) (text : List ℕ) (g : Going) (C : Context) (job placed : Job) (worked_on after : Going) → C ≡ record g.context { input = Some source }
+    → worked F text (record g { context = C }) ≡ Is (Ok (job, worked_on)) → placed ≡ of_source place job → after ≡ behind_job placed worked_on → with_source F place source text g ≡ Is (Ok after)
+source_worked F place source text g C job placed worked_on after is works its added =
+    goes (job, worked_on) (worked F text (for_source source g)) (λ done. Is (Ok (behind_job (of_source place done.0) done.1))) (ap (worked F text) (source_set g source C is) ∙ works)
+    ∙ ap (λ (j : Job). Is (Ok (behind_job j worked_on))) (sym its) ∙ ap (λ (g' : Going). Is (Ok g')) (sym added)
 
-pub source_refused : (F : Facts) (source : Source) (text : List ℕ) (g : Going) (C : Context) (fault : PlanFault) → C ≡ record g.context { input = Some source }
-    → (fault ≡ Memory) ⊎ (worked F text (record g { context = C }) ≡ Is (Err fault)) → (fault ≡ Memory) ⊎ (with_source F source text g ≡ Is (Err fault))
-source_refused F source text g C fault is refused =
-    stops fault (worked F text (for_source source g)) (λ done. Is (Ok (behind_job done.0 done.1)))
+pub source_refused : (F : Facts) (place : ℕ) (source : Source) (text : List ℕ) (g : Going) (C : Context) (fault : PlanFault) → C ≡ record g.context { input = Some source }
+    → (fault ≡ Memory) ⊎ (worked F text (record g { context = C }) ≡ Is (Err fault)) → (fault ≡ Memory) ⊎ (with_source F place source text g ≡ Is (Err fault))
+source_refused F place source text g C fault is refused =
+    stops fault (worked F text (for_source source g)) (λ done. Is (Ok (behind_job (of_source place done.0) done.1)))
     (refused_alike fault (worked F text (record g { context = C })) (worked F text (for_source source g)) (ap (worked F text) (source_set g source C is)) refused)
 
 -- the link, once the context has its outputs

@@ -85,6 +85,10 @@ abbrev pub output_list : Option (List ℕ) → List (List ℕ)
 output_list None = []
 output_list (Some output) = output ∷ []
 
+-- the job of the source at this place of the line
+abbrev pub of_source : ℕ → Job → Job
+of_source place job = record job { source = Some place }
+
 -- a source that has a job: its output is one of the link's
 abbrev pub behind_job : Job → Going → Going
 behind_job job g = record g { jobs = g.jobs ++ job ∷ []; outputs = g.outputs ++ output_list job.output }
@@ -97,15 +101,15 @@ behind_word word g = record g { outputs = g.outputs ++ word ∷ [] }
 abbrev pub behind_object : List ℕ → Going → Going
 behind_object name g = record g { outputs = g.outputs ++ name ∷ []; passed_on = g.passed_on ++ name ∷ [] }
 
--- a source that is worked with this text
-abbrev pub with_source : Facts → Source → List ℕ → Going → Planned Going
-with_source F source text g = then_by (worked F text (for_source source g)) (λ done. Is (Ok (behind_job done.0 done.1)))
+-- the source at this place of the line, which is worked with this text
+abbrev pub with_source : Facts → ℕ → Source → List ℕ → Going → Planned Going
+with_source F place source text g = then_by (worked F text (for_source source g)) (λ done. Is (Ok (behind_job (of_source place done.0) done.1)))
 
 -- a file, by what it is worked with
 abbrev pub with_file : Facts → ℕ → List ℕ → Result (Option Chosen) PlanFault → Going → Planned Going
 with_file F place name (Err fault) g = Is (Err fault)
 with_file F place name (Ok None) g = Is (Ok (behind_object name g))
-with_file F place name (Ok (Some c)) g = with_source F (record { place = place; name = name; language = c.name }) c.text g
+with_file F place name (Ok (Some c)) g = with_source F place (record { name = name; language = c.name }) c.text g
 
 abbrev pub with_input : Facts → Set → ℕ → Input → Going → Planned Going
 with_input F set place (File name language) g = with_file F place name (language_of set (File name language)) g
@@ -143,7 +147,7 @@ unused None names = map (around (codes "warning: ") (codes ": linker input file 
 
 -- the notices: what texts tell, and behind it the files that no link takes
 abbrev pub notices : Option Job → Going → List (List ℕ)
-notices link g = map (around (codes "note: ") []) g.notes ++ unused link g.passed_on
+notices link g = g.notes ++ unused link g.passed_on
 
 abbrev pub plan_of : Option Job × Going → Plan
 plan_of done = record { notices = notices done.0 done.1; jobs = done.1.jobs; link = done.0 }

@@ -1,7 +1,7 @@
 //! What goes on from one input of a line to the next.
 
 ghost use Rattle.drv_machine.specs.declared.fault.MachineFault.TheVariants as machine;
-ghost use Rattle.drv_plan.specs.Denoted.{begun, behind_job, behind_object, behind_text, behind_word, for_link, output_list, with_source, worked};
+ghost use Rattle.drv_plan.specs.Denoted.{begun, behind_job, behind_object, behind_text, behind_word, for_link, of_source, output_list, with_source, worked};
 ghost use Rattle.drv_system.specs.Asking.{Asks, Extends};
 ghost use Rattle.drv_system.specs.Facts.{Facts};
 ghost use Rattle.drv_system.specs.Gives.{GivesKnown};
@@ -48,6 +48,16 @@ fn push_output(list: &mut Listing<Word>, output: &Option<Word>) -> Result<(), Al
         list.push(output.clone()?)?;
     }
     Ok(())
+}
+
+/// The job of the source at this place of the line.
+fn of_source(place: usize, job: Job) -> Job
+    ensures { result ≡ of_source place job }
+{
+    Job {
+        source: Some(place),
+        ..job
+    }
 }
 
 /// The job of an outcome.
@@ -129,25 +139,26 @@ impl<'a> Going<'a> {
         Ok(into_job(done))
     }
 
-    /// Works the text of a source, and adds its job.
+    /// Works the text of the source at this place of the line, and adds its job.
     ///
     /// # Errors
     /// The machine's refusal of the text.
     pub(crate) fn add_source<S: System>(
         &mut self,
         alloc: Global,
+        place: usize,
         source: Source<'a>,
         text: &SpecTree,
         sys: &mut S,
         facts: &mut FactTable,
     ) -> Result<(), PlanFault>
         ensures asks { Asks (S.events sys.old) (S.events sys.new) facts.old facts.new }
-        ensures works { (F : Facts) → Extends facts.new F → GivesKnown PlanFault.Memory (λ _. self.new) result (with_source F source.entry text.now self.old) }
+        ensures works { (F : Facts) → Extends facts.new F → GivesKnown PlanFault.Memory (λ _. self.new) result (with_source F place source.entry text.now self.old) }
         ensures apart { IfErr result (λ fault. fault ≢ PlanFault.Machine machine.Memory) }
     {
         self.context.set_input(Some(source));
         let job = self.work(alloc, text, sys, facts)?;
-        self.add_job(job)?;
+        self.add_job(of_source(place, job))?;
         Ok(())
     }
 

@@ -6,6 +6,7 @@ ghost use Rattle.std.specs.Prelude.{◌≡◌, ◌++◌, IfOk, OnOk, map};
 use crate::going::Going;
 use drv_words::{Job, Listing, Word};
 use std::alloc::{AllocError, Global};
+use std::mem;
 
 /// What stands before the name of a file that no link takes.
 const UNUSED_FRONT: &[u8] = b"warning: ";
@@ -54,16 +55,16 @@ fn push_unused(
     }
 }
 
-/// The notices of a plan with this link: those of texts, and behind them those of files that no link takes.
+/// The notices of a plan with this link: those of texts, which are moved, and behind them those of files that no link takes.
 pub(crate) fn notices_of(
     alloc: Global,
     link: &Option<Job>,
-    going: &Going<'_>,
+    going: &mut Going<'_>,
 ) -> Result<Listing<Word>, AllocError>
-    ensures { IfOk result (λ told. told ≡ notices link.now going.now) }
+    ensures told { IfOk result (λ told. told ≡ notices link.now going.old) }
+    ensures jobs { going.new.jobs ≡ going.old.jobs }
 {
-    let mut told = Listing::new(alloc);
-    push_all(alloc, &mut told, b"note: ", b"", going.notes.as_slice())?;
+    let mut told = mem::replace(&mut going.notes, Listing::new(alloc));
     push_unused(alloc, &mut told, link, going.passed_on.as_slice())?;
     Ok(told)
 }

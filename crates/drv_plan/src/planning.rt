@@ -79,7 +79,7 @@ fn link_of<S: System>(
     }
 }
 
-/// The plan with this link. The jobs are moved out of what the inputs have given.
+/// The plan with this link. Jobs and notices are moved out of what the inputs have given.
 fn plan_of(alloc: Global, link: Option<Job>, going: &mut Going<'_>) -> Result<Plan, AllocError>
     ensures { IfOk result (λ plan. plan ≡ plan_of (link, going.old)) }
 {
@@ -91,7 +91,7 @@ fn plan_of(alloc: Global, link: Option<Job>, going: &mut Going<'_>) -> Result<Pl
     })
 }
 
-/// The plan, once all inputs were worked. The jobs are moved out of what they have given.
+/// The plan, once all inputs were worked. Jobs and notices are moved out of what they have given.
 fn finish<S: System>(
     alloc: Global,
     set: &SpecSet,

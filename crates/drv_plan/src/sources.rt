@@ -17,12 +17,11 @@ use drv_system::{FactTable, System};
 use drv_words::Word;
 use std::alloc::Global;
 
-/// The source that has this place among the inputs of a line, by what it is worked with.
-fn source_of<'a>(place: usize, name: &'a Word, chosen: &Chosen<'a>) -> Source<'a>
-    ensures { result ≡ record { place = place; name = name.now; language = chosen.now.name } }
+/// The source of this name, by what it is worked with.
+fn source_of<'a>(name: &'a Word, chosen: &Chosen<'a>) -> Source<'a>
+    ensures { result ≡ record { name = name.now; language = chosen.now.name } }
 {
     Source {
-        place,
         name: name.as_bytes(),
         language: chosen.name,
     }
@@ -46,8 +45,8 @@ fn add_file<'a, S: System>(
         going.add_object(name)?;
         return Ok(());
     };
-    let source = source_of(place, name, &chosen);
-    going.add_source(alloc, source, chosen.tree, sys, facts)
+    let source = source_of(name, &chosen);
+    going.add_source(alloc, place, source, chosen.tree, sys, facts)
 }
 
 /// An input: a file in its language, or a word of the link, which has none.

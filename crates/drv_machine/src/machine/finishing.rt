@@ -77,16 +77,12 @@ fn job_of<S: System>(
     if has_long_pipe(groups.as_slice()) {
         return Err(MachineFault::PipeTooLong);
     }
-    Ok(job_around(machine, groups, context)?)
+    Ok(job_around(machine, groups)?)
 }
 
 /// The job of these groups. Words are moved out of the machine.
-fn job_around(
-    machine: &mut Machine,
-    groups: Listing<Group>,
-    context: &Context<'_>,
-) -> Result<Job, AllocError>
-    ensures made { IfOk result (λ made. made ≡ job context.now machine.old.world machine.old.cut groups) }
+fn job_around(machine: &mut Machine, groups: Listing<Group>) -> Result<Job, AllocError>
+    ensures made { IfOk result (λ made. made ≡ job machine.old.world machine.old.cut groups) }
     ensures notices { machine.new.world.notices ≡ machine.old.world.notices }
     ensures outputs { machine.new.world.outputs ≡ machine.old.world.outputs }
     ensures options { machine.new.world.options ≡ machine.old.world.options }
@@ -101,7 +97,7 @@ fn job_around(
     let drawn = mem::replace(&mut machine.drawn, Listing::new(alloc));
     let temps = temps_of(alloc, drawn)?;
     Ok(Job {
-        source: context.place(),
+        source: None,
         groups,
         temps,
         marked,

@@ -1,7 +1,7 @@
 //! Lists that are put word by word, or that grow.
 
 ghost use Rattle.drv_machine.specs.Asked.{Asked};
-ghost use Rattle.drv_machine.specs.Atoms.{added, broken_word, folders_step, options_step, outputs_step};
+ghost use Rattle.drv_machine.specs.Atoms.{added, broken_word, folders_step, noted, options_step, outputs_step};
 ghost use Rattle.drv_machine.specs.Context as specs;
 ghost use Rattle.drv_machine.specs.Running.{run};
 ghost use Rattle.drv_machine.specs.Working.{change, is_among, puts, whole_word, words};
@@ -183,13 +183,15 @@ impl Machine {
         Ok(())
     }
 
-    /// The user is told a text.
+    /// The user is told a text, as a note.
     pub(crate) fn add_notice(&mut self, text: &[u8]) -> Result<(), MachineFault>
-        ensures does { (F : Facts) (C : specs.Context) → GivesKnown MachineFault.Memory (λ u. (tt, self.new)) result (run F C self.old (change (λ w. record w { notices = w.notices ++ text.now ∷ [] }))) }
+        ensures does { (F : Facts) (C : specs.Context) → GivesKnown MachineFault.Memory (λ u. (tt, self.new)) result (run F C self.old (change (λ w. record w { notices = w.notices ++ noted text.now ∷ [] }))) }
         ensures sized { length self.new.world.hidden ≡ length self.old.world.hidden }
         ensures uncounted { OnOk result (self.new.world.items ≡ self.old.world.items) }
     {
-        self.notices.push(Word::from_bytes(self.alloc, text)?)?;
+        let mut note = Word::from_bytes(self.alloc, b"note: ")?;
+        note.extend_from_slice(text)?;
+        self.notices.push(note)?;
         Ok(())
     }
 }

@@ -2,7 +2,7 @@ use Rattle.drv_machine.proofs.items.work_item.Goals as goal
 use Rattle.drv_machine.proofs.Standing.{stand_grows}
 use Rattle.drv_machine.proofs.Steps.{gives_as}
 use Rattle.drv_machine.proofs.WorkSteps.{by_kind}
-use Rattle.drv_machine.specs.Atoms.{added}
+use Rattle.drv_machine.specs.Atoms.{added, noted}
 use Rattle.drv_machine.specs.Running.{run}
 use Rattle.drv_machine.specs.Walking.{star_of}
 use Rattle.drv_machine.specs.Working.{World, change, refuse}
@@ -25,7 +25,7 @@ returns-in-AddOption-clause-does g c F e levels inner means =
 pub returns-in-Notice-clause-does : goal.returns-in-Notice-clause-does
 returns-in-Notice-clause-does g c F e levels inner means =
     gives_as c.add_notice.new.self c.add_notice.result _ _
-    (ap (λ word. run F c.args.context.now c.args.machine.now (change (λ (w : World). record w { notices = w.notices ++ word ∷ [] }))) c.word-in-Notice.ensures ∙ by_kind F c.args.context.now c.args.machine.now c.args.token.kind kinds.Notice c.args.text.now c.args.at (star_of c.args.context.now c.args.star) inner c.in-Notice.is) (c.add_notice.ensures.does F c.args.context.now)
+    (ap (λ word. run F c.args.context.now c.args.machine.now (change (λ (w : World). record w { notices = w.notices ++ noted word ∷ [] }))) c.word-in-Notice.ensures ∙ by_kind F c.args.context.now c.args.machine.now c.args.token.kind kinds.Notice c.args.text.now c.args.at (star_of c.args.context.now c.args.star) inner c.in-Notice.is) (c.add_notice.ensures.does F c.args.context.now)
 
 pub returns-in-UserError-clause-does : goal.returns-in-UserError-clause-does
 returns-in-UserError-clause-does g c F e levels inner means =
