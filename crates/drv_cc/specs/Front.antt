@@ -1,10 +1,12 @@
 use Rattle.drv_cc.specs.Items.{is_among, items_of, same, words_of}
-use Rattle.drv_cc.specs.Kept.{has, is_asked, is_vendors, kept, last_argument, refusals}
+use Rattle.drv_cc.specs.Kept.{has, is_asked, is_file_part, is_vendors, kept, last_argument, refusals}
 use Rattle.drv_cc.specs.Levels.{check_words, debug_words}
 use Rattle.drv_cc.specs.SideFiles.{inputs, is_some, link_beginning, side_words, sources, stops, worked}
 use Rattle.drv_cc.specs.Table.{texts}
 use Rattle.drv_cc.specs.declared.answer.Answer.TheVariants.{Ask, Refuse, Run}
 use Rattle.drv_cc.specs.declared.answer.Answer.{Answer}
+use Rattle.drv_cc.specs.declared.answer.Stages.TheVariants.{All, Link, Sources}
+use Rattle.drv_cc.specs.declared.answer.Stages.{Stages}
 use Rattle.drv_cc.specs.declared.answer.Surroundings.{Surroundings}
 use Rattle.drv_cc.specs.declared.answer.Variable.{Variable}
 use Rattle.drv_cc.specs.declared.item.Item.{Item}
@@ -12,8 +14,8 @@ use Rattle.drv_cc.specs.declared.refusal.Refusal.{Refusal}
 use Rattle.drv_cc.specs.declared.table.Part.TheVariants as part
 use Rattle.drv_cc.specs.declared.table.Part.{Part}
 use Rattle.drv_words.specs.Bytes.{colon, comma, single_quote, space}
-use Rattle.std.specs.List.{filter, flat_map, list_any, slice_split}
-use Rattle.std.specs.Prelude.{◌==◌, ◌&&◌, ◌||◌, Bool, List, [], ◌∷◌, ◌++◌, None, Option, Some, codes, drop, false, if◌then◌else◌, length, map, nat_lt, not, true, ℕ}
+use Rattle.std.specs.List.{ends_with, filter, flat_map, list_any, slice_split}
+use Rattle.std.specs.Prelude.{◌==◌, ◌&&◌, ◌||◌, Bool, List, [], ◌∷◌, ◌++◌, None, Option, Some, codes, drop, false, if◌then◌else◌, length, map, nat_eq, nat_lt, not, true, ℕ}
 
 -- A line of gcc as words of the driver: a question for the compiler, refusals, or the words of what stays of the line and what gcc's
 -- driver adds to it (GCC manual, "Invoking GCC").
@@ -131,12 +133,29 @@ abbrev pub children : Surroundings → List Item → List Variable
 children around items =
     if stops items || has (codes "-fno-lto") items then [] else compiler_variables around items ++ assembler_variables items
 
+-- Which stages there are: no link with -c, -S and -E ("Overall Options"), -M and -MM ("Preprocessor Options") and -fsyntax-only ("Warning
+-- Options"), and nothing but the link where no file has the suffix of a source and -x gives none its language.
+abbrev pub is_unlinked : Item → Bool
+is_unlinked i = is_among (texts (codes "-c -S -E -M -MM -fsyntax-only")) i.name
+
+abbrev pub ends_as_source : List ℕ → Bool
+ends_as_source name = list_any (ends_with nat_eq name) (texts (codes ".c .i .h .s .S .sx"))
+
+abbrev pub is_source_file : Item → Bool
+is_source_file i = is_file_part i.part && ends_as_source i.name
+
+abbrev pub stages : List Item → Stages
+stages items =
+    if list_any is_unlinked items then Sources
+    else if has (codes "-x") items || list_any is_source_file items then All else Link
+
 -- The answer.
 abbrev pub run_words : Surroundings → List Item → List (List ℕ)
 run_words around items = flat_map words_of items ++ added around items
 
 abbrev pub run_of : Surroundings → List Item → Answer
-run_of around items = Run (record { words = run_words around items; inputs = inputs items; children = children around items })
+run_of around items =
+    Run (record { words = run_words around items; inputs = inputs items; children = children around items; stages = stages items })
 
 abbrev pub refused_or_run : Surroundings → List Item → List Refusal → Answer
 refused_or_run around items faults = if nat_lt 0 (length faults) then Refuse faults else run_of around (kept items)

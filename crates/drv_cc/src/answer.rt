@@ -25,6 +25,17 @@ pub struct Variable {
     pub value: Word,
 }
 
+/// Which stages a line has (GCC manual, "Overall Options").
+#[derive(Clone, Copy)]
+pub enum Stages {
+    /// Sources are worked, and nothing is linked.
+    Sources,
+    /// Files are linked, of which none is a source.
+    Link,
+    /// There may be both.
+    All,
+}
+
 /// A call of the driver.
 #[derive(Drop)]
 pub struct Call {
@@ -34,6 +45,8 @@ pub struct Call {
     pub inputs: Listing<Word>,
     /// The variables that are set for the driver's children.
     pub children: Listing<Variable>,
+    /// The stages of the line.
+    pub stages: Stages,
 }
 
 /// What a line of `gcc` comes to.

@@ -13,6 +13,7 @@ use crate::keeping::{is_asked, kept};
 use crate::quoting::children;
 use crate::reading::items_of;
 use crate::sources::inputs;
+use crate::stages::stages;
 use crate::{Answer, Call, Surroundings};
 use drv_words::{Listing, Word};
 use std::alloc::{AllocError, Global};
@@ -52,6 +53,7 @@ fn call_of(alloc: Global, around: &Surroundings, items: &[Item]) -> Result<Answe
         words,
         inputs,
         children,
+        stages: stages(items),
     }))
 }
 

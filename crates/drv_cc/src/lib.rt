@@ -18,9 +18,10 @@ mod renaming;
 mod rows;
 mod sides;
 mod sources;
+mod stages;
 mod table;
 mod words;
 
-pub use answer::{Answer, Call, Surroundings, Variable};
+pub use answer::{Answer, Call, Stages, Surroundings, Variable};
 pub use fronting::front;
 pub use refusal::Refusal;

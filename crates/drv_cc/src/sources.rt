@@ -96,7 +96,7 @@ impl<'a> Count<'a> {
 }
 
 /// Whether an item is a file.
-fn is_file(item: &Item) -> bool
+pub(crate) fn is_file(item: &Item) -> bool
     ensures { result ≡ is_file_part item.now.part }
 {
     matches!(item.part, Part::Input)

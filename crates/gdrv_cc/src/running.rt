@@ -5,8 +5,9 @@ ghost use Rattle.std.specs.Prelude.{◌≡◌, ◌∷◌, ◌++◌, [], IfOk, co
 use crate::asking::own_arguments;
 use crate::calling::Calling;
 use crate::outcome::{Outcome, answered};
+use crate::places::{texts_for, texts_or};
 use crate::texts::{add_absent, gone, unwritten};
-use drv_cc::{Call, Variable};
+use drv_cc::{Call, Stages, Variable};
 use drv_run::{Ending, drive};
 use drv_system::{Event, HostSystem, PathKind, System, call, clock_seed, complain};
 use drv_words::{Answer, Command, Listing, NotStarted, RunEvent, StartAnswer, Word};
@@ -61,13 +62,13 @@ fn refuse_absent(
 /// The words of the driver's call: the spec file, that a front stands before it, and the words of the line.
 fn driver_words(
     alloc: Global,
-    specs: &Word,
+    specs: &[u8],
     words: Listing<Word>,
 ) -> Result<Listing<Word>, AllocError>
     ensures { IfOk result (λ all. all ≡ (codes "-specs=" ++ specs.now) ∷ codes "--gdrv-front" ∷ words) }
 {
     let mut option = Word::from_bytes(alloc, b"-specs=")?;
-    option.extend_from_slice(specs.as_bytes())?;
+    option.extend_from_slice(specs)?;
     let mut all = Vec::new(alloc);
     all.push(option)?;
     all.push(Word::from_bytes(alloc, b"--gdrv-front")?)?;
@@ -126,6 +127,20 @@ fn drive_words(
     Ok(ending)
 }
 
+/// The driver's words for a line, with the file that has the texts for it.
+fn words_for(
+    alloc: Global,
+    specs: &Word,
+    words: Listing<Word>,
+    stages: Stages,
+    sys: &mut HostSystem,
+) -> Result<Listing<Word>, AllocError> {
+    let path = texts_for(alloc, specs.as_bytes(), words.as_slice(), stages)?;
+    let kind = sys.kind(&path)?;
+    let texts = texts_or(specs.as_bytes(), path.as_bytes(), kind);
+    driver_words(alloc, texts, words)
+}
+
 /// Carries out a line, where its inputs are there.
 pub fn run(
     rt: &HostRuntime,
@@ -140,7 +155,7 @@ pub fn run(
         line.inputs.as_slice(),
         sys,
     )?;
-    let words = driver_words(rt.alloc(), specs, line.words)?;
+    let words = words_for(rt.alloc(), specs, line.words, line.stages, sys)?;
     let ending = drive_words(rt, calling, specs, words, line.children.as_slice())?;
     Ok(Outcome::Ended(ending))
 }

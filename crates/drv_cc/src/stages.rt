@@ -1,0 +1,64 @@
+//! Which stages a line has.
+
+ghost use Rattle.drv_cc.specs.Front.{ends_as_source, is_source_file, is_unlinked, stages};
+ghost use Rattle.std.specs.List.{list_any};
+ghost use Rattle.std.specs.Prelude.{◌≡◌};
+
+use crate::Stages;
+use crate::classes::stands_in;
+use crate::item::Item;
+use crate::keeping::has;
+use crate::sources::is_file;
+
+/// Whether an option leaves the link out.
+fn is_unlinked(item: &Item) -> bool
+    ensures { result ≡ is_unlinked item.now }
+{
+    stands_in(b"-c -S -E -M -MM -fsyntax-only", item.name.as_bytes())
+}
+
+/// Whether an option leaves the link out.
+fn has_unlinked(items: &[Item]) -> bool
+    ensures { result ≡ list_any is_unlinked items.now }
+{
+    items.iter().any(is_unlinked)
+}
+
+/// Whether a name has the suffix of a source.
+fn ends_as_source(name: &[u8]) -> bool
+    ensures { result ≡ ends_as_source name.now }
+{
+    name.ends_with(b".c")
+        || name.ends_with(b".i")
+        || name.ends_with(b".h")
+        || name.ends_with(b".s")
+        || name.ends_with(b".S")
+        || name.ends_with(b".sx")
+}
+
+/// Whether an item is a file with the suffix of a source.
+fn is_source_file(item: &Item) -> bool
+    ensures { result ≡ is_source_file item.now }
+{
+    is_file(item) && ends_as_source(item.name.as_bytes())
+}
+
+/// Whether a file has the suffix of a source.
+fn has_source_file(items: &[Item]) -> bool
+    ensures { result ≡ list_any is_source_file items.now }
+{
+    items.iter().any(is_source_file)
+}
+
+/// The stages of a line.
+pub(crate) fn stages(items: &[Item]) -> Stages
+    ensures { result ≡ stages items.now }
+{
+    if has_unlinked(items) {
+        Stages::Sources
+    } else if has(items, b"-x") || has_source_file(items) {
+        Stages::All
+    } else {
+        Stages::Link
+    }
+}
