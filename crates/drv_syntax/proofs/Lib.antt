@@ -41,5 +41,4 @@ pub mod Unrefused
 pub mod Wanted
 pub mod RunLengths
 pub mod Runs
-pub mod WholeItems
 pub mod Words

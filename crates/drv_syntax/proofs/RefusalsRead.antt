@@ -3,7 +3,7 @@ use Rattle.drv_syntax.proofs.Leads.{Leads, closes, differs, each, further, goes,
 use Rattle.drv_syntax.proofs.Names.{bracket_ends, front_front, name_end, name_read}
 use Rattle.drv_syntax.proofs.Parts.{HasChoice, behind_asked, default_turn, has_choice, join_tests_assoc, next_resumes, no_star, patterns_of, start_sign}
 use Rattle.drv_syntax.proofs.Patterns.{Asks, behind_space, choosing, due_asks, due_space, negated_asks, negated_space, spaces_read, start_asks, start_space}
-use Rattle.drv_syntax.specs.Bytes.{is_function, is_function_front, is_mark, is_space, is_word}
+use Rattle.drv_syntax.specs.Bytes.{is_function_front, is_mark, is_space, is_word}
 use Rattle.drv_syntax.specs.Directives.{directive_of, is_allowed}
 use Rattle.drv_syntax.specs.declared.directives.BraceKind.{BraceKind}
 use Rattle.drv_syntax.specs.declared.directives.BraceKind.TheVariants.{InPlace}

@@ -1,10 +1,12 @@
-use Rattle.drv_syntax.proofs.Leads.{none_of, other}
+use Rattle.drv_syntax.proofs.Leads.{other}
 use Rattle.drv_syntax.proofs.WalkReads.{within}
 use Rattle.drv_syntax.specs.Bytes.{is_name, is_suffix, is_word}
 use Rattle.drv_syntax.specs.Labels.{Label, word_label}
 use Rattle.drv_syntax.specs.Reader.Marks.{byte_labels}
-use Rattle.drv_syntax.specs.Reader.Steps.{Walk, at_stage, plain_tokens, runs, step, then_walk, walk, with_part, with_plains, with_word}
+use Rattle.drv_syntax.specs.Reader.States.{Reads, Turns}
+use Rattle.drv_syntax.specs.Reader.Steps.{Walk, at_stage, plain_tokens, runs, step, step_at, then_walk, walk, with_part, with_plains, with_word}
 use Rattle.drv_syntax.specs.Reader.Turns.{part}
+use Rattle.drv_syntax.specs.declared.fault.SyntaxFault.TheVariants.{Memory}
 use Rattle.drv_syntax.specs.declared.fault.SyntaxFault.{SyntaxFault}
 use Rattle.drv_syntax.specs.declared.reader.actions.Single.TheVariants as singles
 use Rattle.drv_syntax.specs.declared.reader.actions.Taken.TheVariants as takes
@@ -21,10 +23,10 @@ use Rattle.drv_syntax.specs.declared.reader.stages.Stage.{Stage}
 use Rattle.drv_syntax.specs.declared.token.TempKind.{TempKind}
 use Rattle.drv_syntax.specs.declared.token.Token.{Token}
 use Rattle.drv_syntax.specs.declared.token.TokenKind.TheVariants as kinds
-use Rattle.std.proofs.Common.{◌≡◌, ◌∙◌, ◌+◌, ◌-◌, ◌++◌, ◌<◌, ◌≤◌, Bool, true, false, List, [], ◌∷◌, ap, append-nil, append_assoc, arith, drop, if◌then◌else◌, length, length-append, refl, suc, sym, take, zero, ℕ}
-use Rattle.std.proofs.lemmas.List.{drop_more, length-take-le}
+use Rattle.std.proofs.Common.{◌≡◌, ◌⊎◌, inl, inr, get_or, ◌∙◌, ◌+◌, ◌-◌, ◌++◌, ◌<◌, ◌≤◌, Bool, true, false, List, [], ◌∷◌, ap, append-nil, subst, append_assoc, arith, drop, if◌then◌else◌, length, length-append, refl, suc, sym, take, zero, ℕ}
+use Rattle.std.proofs.lemmas.List.{drop_more, length-take-le, take_all}
 use Rattle.std.specs.List.{prefix_len}
-use Rattle.std.specs.Prelude.{◌==◌, Result, Ok}
+use Rattle.std.specs.Prelude.{IsErrAnd, Result, Err, Ok}
 
 -- Several bytes of a text at once, that go on as the byte before them did.
 
@@ -158,6 +160,41 @@ plains_take v u (suc k) n (b ∷ text) run h e positive f w d = by (runs v.conte
         kept : n + 1 + k ≡ n + length (b ∷ take k text)
         kept = omega (arith, length-take-le k text (omega (arith, w)))
 
+-- a refusal
+pub reads_fault : (v u : Walk) (n : ℕ) (text : List ℕ) (r : Result ℕ SyntaxFault) (fault : SyntaxFault) → IsErrAnd r (λ e. e ≡ fault) → (fault ≡ Memory) ⊎ (walk v n text ≡ Err fault) → Reads n text v u r
+reads_fault v u n text (Ok taken) fault is h = absurd is
+reads_fault v u n text (Err e) fault is h = subst (λ (x : SyntaxFault). (x ≡ Memory) ⊎ (walk v n text ≡ Err x)) (sym is) h
+
+-- a run, and the byte behind it
+module _ (v m : Walk) (n k b : ℕ) (text : List ℕ) (within : k < length text) (is : b ≡ get_or text k 0) (run : walk v n text ≡ walk m (n + k) (drop k text)) where
+  run_on : walk v n text ≡ walk m (n + k) (b ∷ drop (k + 1) text)
+  run_on = run ∙ ap (λ (t : List ℕ). walk m (n + k) t) (drop_more text k 0 within ∙ ap (λ (x : ℕ). x ∷ drop (k + 1) text) (sym is))
+
+  pub run_steps : (u : Walk) → step m (n + k) b ≡ Ok u → (k + 1 ≤ length text) × (walk v n text ≡ walk u (n + (k + 1)) (drop (k + 1) text))
+  run_steps u e = (
+    omega (arith, within),
+    run_on ∙ ap (λ (r : Result Walk SyntaxFault). then_walk r (λ x. walk x (n + k + 1) (drop (k + 1) text))) e ∙ ap (λ (i : ℕ). walk u i (drop (k + 1) text)) (omega arith),
+  )
+
+  pub run_fails : (u : Walk) (r : Result ℕ SyntaxFault) (fault : SyntaxFault) → IsErrAnd r (λ e. e ≡ fault) → (fault ≡ Memory) ⊎ (step m (n + k) b ≡ Err fault) → Reads n text v u r
+  run_fails u r fault is (inl e) = reads_fault v u n text r fault is (inl e)
+  run_fails u r fault is (inr e) = reads_fault v u n text r fault is (inr (run_on ∙ ap (λ (r : Result Walk SyntaxFault). then_walk r (λ x. walk x (n + k + 1) (drop (k + 1) text))) e))
+
+abbrev stage_in : Result Walk SyntaxFault → Stage
+stage_in (Ok w) = w.stage
+stage_in (Err fault) = at.List stages.Start
+
+-- where a word grows, the byte behind it stands at the same place
+pub same_stage : (v m : Walk) (word : List ℕ) (stage : Stage) → v.stage ≡ stage → walked (with_word word v) ≡ walked m → m.stage ≡ stage
+same_stage v m word stage h e = sym (ap (λ (r : Result Walk SyntaxFault). stage_in r) e) ∙ h
+
+pub step_there : (m : Walk) (stage : Stage) (n b : ℕ) (r : Result Walk SyntaxFault) → m.stage ≡ stage → step_at stage n b m ≡ r → step m n b ≡ r
+step_there m stage n b r h e = ap (λ (s : Stage). step_at s n b m) h ∙ e
+
+pub fault_there : (m : Walk) (stage : Stage) (n b : ℕ) (fault : SyntaxFault) → m.stage ≡ stage → (fault ≡ Memory) ⊎ (step_at stage n b m ≡ Err fault) → (fault ≡ Memory) ⊎ (step m n b ≡ Err fault)
+fault_there m stage n b fault h (inl e) = inl e
+fault_there m stage n b fault h (inr e) = inr (step_there m stage n b (Err fault) h e)
+
 -- a byte, and those behind it
 pub turn_takes : (v x u : Walk) (n b taken : ℕ) (text : List ℕ) → step v n b ≡ Ok x → walk x (n + 1) text ≡ walk u (n + 1 + taken) (drop taken text) → walk v n (b ∷ text) ≡ walk u (n + 1 + taken) (drop taken text)
 turn_takes v x u n b taken text h g = ap (λ (r : Result Walk SyntaxFault). then_walk r (λ y. walk y (n + 1) text)) h ∙ g
@@ -175,3 +212,27 @@ run_takes v u n b text behind run k f h e positive g w d =
     by (suc j) positive l x =
         let less : suc j - 1 ≡ j = omega arith in
         (omega (arith, l), x ∙ ap (λ (i : ℕ). walk u i (drop j behind)) (omega arith) ∙ ap (λ (z : ℕ). walk u (n + 1 + z) (drop z behind)) (sym less))
+
+-- the %, and those behind it
+pub percent_walk : (v : Walk) (n : ℕ) (text : List ℕ) → v.stage ≡ at.List stages.Start → walk v n (37 ∷ text) ≡ walk (at_stage (at.List (stages.Percent n)) v) (n + 1) text
+percent_walk v n text h = rw h refl
+
+pub percent_takes : (v u : Walk) (n taken : ℕ) (behind : List ℕ) → v.stage ≡ at.List stages.Start → 1 ≤ length behind
+    → Turns (n + 1) (get_or behind 0 0) (take (length behind - 1) (drop 1 behind)) (at_stage (at.List (stages.Percent n)) v) u (Ok taken)
+    → (taken + 1 ≤ length behind) × (walk v n (37 ∷ behind) ≡ walk u (n + 1 + (taken + 1)) (drop (taken + 1) behind))
+percent_takes v u n taken [] h some e = absurd (omega (arith, some))
+percent_takes v u n taken (b ∷ inside) h some e = (
+  omega (arith, e.0, ap (λ (xs : List ℕ). length xs) whole),
+  percent_walk v n (b ∷ inside) h
+      ∙ ap (λ (xs : List ℕ). walk (at_stage (at.List (stages.Percent n)) v) (n + 1) (b ∷ xs)) (sym whole)
+      ∙ e.1
+      ∙ ap (λ (xs : List ℕ). walk u (n + 1 + 1 + taken) (drop taken xs)) whole
+      ∙ ap (λ (i : ℕ). walk u i (drop taken inside)) (omega arith)
+      ∙ ap (λ (z : ℕ). walk u (n + 1 + (taken + 1)) (drop z (b ∷ inside))) skip,
+)
+  where
+    whole : take (length (b ∷ inside) - 1) inside ≡ inside
+    whole = take_all (length (b ∷ inside) - 1) inside (omega arith)
+
+    skip : suc taken ≡ taken + 1
+    skip = omega arith

@@ -12,7 +12,6 @@ use Rattle.drv_syntax.specs.Reader.Turns.{single_kind, single_label, list_turn, 
 use Rattle.drv_syntax.specs.Reader.Steps.{is_white}
 use Rattle.drv_syntax.specs.declared.reader.stages.Behind.TheVariants as behinds
 use Rattle.drv_syntax.specs.declared.reader.stages.Behind.{Behind}
-use Rattle.drv_syntax.specs.declared.directives.BraceKind.{BraceKind}
 use Rattle.drv_syntax.specs.declared.reader.stages.Context.{Context}
 use Rattle.drv_syntax.specs.declared.reader.stages.Form.TheVariants as forms
 use Rattle.drv_syntax.specs.declared.reader.stages.Form.{Form}
@@ -32,7 +31,6 @@ use Rattle.drv_syntax.specs.declared.reader.stages.ListStage.{ListStage}
 use Rattle.drv_syntax.specs.declared.reader.stages.Open.{Open}
 use Rattle.drv_syntax.specs.declared.reader.actions.Part.{Part}
 use Rattle.drv_syntax.specs.declared.directives.SayKind.TheVariants as sayings
-use Rattle.drv_syntax.specs.declared.directives.SayKind.{SayKind}
 use Rattle.drv_syntax.specs.declared.reader.stages.StarOwner.TheVariants as owners
 use Rattle.drv_syntax.specs.declared.reader.stages.StarOwner.{StarOwner}
 use Rattle.drv_syntax.proofs.WalkNodes.{white}

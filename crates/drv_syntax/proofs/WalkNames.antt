@@ -1,5 +1,4 @@
-use Rattle.drv_syntax.proofs.Leads.{none_of, other}
-use Rattle.drv_syntax.specs.Bytes.{is_front, is_mark, is_same, is_word}
+use Rattle.drv_syntax.specs.Bytes.{is_front, is_same}
 use Rattle.drv_syntax.proofs.WalkNodes.{as_many_of}
 use Rattle.drv_syntax.specs.Labels.{Label, labels_of}
 use Rattle.drv_syntax.specs.Outcome.{parsed}
@@ -7,30 +6,16 @@ use Rattle.drv_syntax.specs.Parsed.{listed, tree_in, tree_of}
 use Rattle.drv_syntax.specs.Tokens.{tokens_of}
 use Rattle.drv_syntax.specs.Tree.{Items}
 use Rattle.drv_syntax.specs.declared.token.Token.{Token}
-use Rattle.drv_syntax.specs.Reader.Steps.{Walk, act_choice, act_head, at_stage, finish_in, form_at, outermost, place_of, with_word}
-use Rattle.drv_syntax.specs.Reader.Turns.{choice_action, head_action}
+use Rattle.drv_syntax.specs.Reader.Steps.{Walk, finish_in, outermost, place_of}
 use Rattle.drv_syntax.specs.declared.fault.SyntaxFault.TheVariants.{Unclosed}
 use Rattle.drv_syntax.specs.declared.fault.SyntaxFault.{SyntaxFault}
-use Rattle.drv_syntax.specs.declared.reader.stages.Form.{Form}
 use Rattle.drv_syntax.specs.declared.reader.stages.Frame.{Frame}
-use Rattle.drv_syntax.specs.declared.reader.stages.Head.{Head}
-use Rattle.drv_syntax.specs.declared.reader.stages.HeadStage.TheVariants as places
-use Rattle.drv_syntax.specs.declared.reader.stages.Stage.TheVariants as at
 use Rattle.std.proofs.Common.{◌≡◌, ℕ, ◌<◌, ◌≤◌, Bool, true, false, List, [], ◌∷◌, ◌++◌, length, get_or, take, refl, subst, sym, ap, ◌∙◌, arith, reverse}
 use Rattle.std.specs.Cmp.Lexicographic.{pointwise}
 use Rattle.std.proofs.lemmas.List.{reverse-append}
 use Rattle.std.specs.Prelude.{◌==◌, ◌&&◌, nat_eq, Result, Ok, Err, if◌then◌else◌}
 
--- Names of functions, the first byte of a word, and the outermost of the directives that wait.
-
-pub begun_word : (head : Head) (later : Bool) (n b : ℕ) (w : Walk) → (b == 92) ≡ false → is_word b ≡ true → is_mark b ≡ false
-    → act_choice head later (choice_action later w.context.levels head.part.start n b) n b w ≡ Ok (at_stage (at.Braces head (form_at later) (places.TestWord n false)) (with_word (b ∷ []) w))
-begun_word head false n b w e f m = rw (none_of is_word (32 ∷ 9 ∷ 10 ∷ []) b f (refl, (refl, (refl, tt))), other is_word b 33 f refl, e, m, f) refl
-begun_word head true n b w e f m = rw (other is_word b 58 f refl, none_of is_word (32 ∷ 9 ∷ 10 ∷ []) b f (refl, (refl, (refl, tt))), other is_word b 33 f refl, e, m, f) refl
-
-pub negated_word : (head : Head) (form : Form) (start n b : ℕ) (word : List ℕ) (w : Walk) → (b == 92) ≡ false → is_word b ≡ true → is_mark b ≡ false
-    → act_head head form (head_action (places.TestNegated start) w.context.levels head.part.start form word n b) n b w ≡ Ok (at_stage (at.Braces head form (places.TestWord start true)) (with_word (b ∷ []) w))
-negated_word head form start n b word w e f m = rw (none_of is_word (32 ∷ 9 ∷ 10 ∷ []) b f (refl, (refl, (refl, tt))), e, m, f) refl
+-- Names of functions, and the outermost of the directives that wait.
 
 both : (t : Bool) (u : Bool) → (t && u) ≡ (if t then u else false)
 both true u = refl

@@ -1,9 +1,8 @@
 use Rattle.drv_syntax.specs.Labels.{Label}
-use Rattle.drv_syntax.specs.Reader.Steps.{Walk, open_braces, walk}
+use Rattle.drv_syntax.specs.Reader.Steps.{Walk, walk}
 use Rattle.drv_syntax.specs.declared.fault.SyntaxFault.TheVariants.{Memory}
 use Rattle.drv_syntax.specs.declared.fault.SyntaxFault.{SyntaxFault}
 use Rattle.drv_syntax.specs.declared.token.Token.{Token}
-use Rattle.drv_syntax.specs.declared.directives.BraceKind.{BraceKind}
 use Rattle.drv_syntax.specs.declared.reader.walk.Walk as code
 use Rattle.std.specs.Prelude.{◌≡◌, ◌⊎◌, ◌+◌, ◌≤◌, drop, length, reverse, List, ◌∷◌, Result, Err, Ok, ℕ}
 
@@ -26,12 +25,7 @@ abbrev pub Turns : ℕ → ℕ → List ℕ → Walk → Walk → Result ℕ Syn
 Turns n b behind old new (Ok taken) = (taken ≤ length behind) × (walk old n (b ∷ behind) ≡ walk new (n + 1 + taken) (drop taken behind))
 Turns n b behind old new (Err fault) = (fault ≡ Memory) ⊎ (walk old n (b ∷ behind) ≡ Err fault)
 
--- so many of the first bytes of a text are taken: what is left comes to the same; it is never refused here
-abbrev pub Runs : ℕ → List ℕ → Walk → Walk → Result ℕ SyntaxFault → Type 0
-Runs n text old new (Ok taken) = (taken ≤ length text) × (walk old n text ≡ walk new (n + taken) (drop taken text))
-Runs n text old new (Err fault) = fault ≡ Memory
-
--- the same of the inside of braces that open, which begins at the place n; it is never refused here
-abbrev pub Opens : ℕ → List ℕ → ℕ → BraceKind → Walk → Walk → Result ℕ SyntaxFault → Type 0
-Opens n inside start kind old new (Ok taken) = (taken ≤ length inside) × (walk (open_braces start kind old) n inside ≡ walk new (n + taken) (drop taken inside))
-Opens n inside start kind old new (Err fault) = fault ≡ Memory
+-- a text is read on from the place n: so many of its first bytes are taken, and what is left comes to the same, or to this fault
+abbrev pub Reads : ℕ → List ℕ → Walk → Walk → Result ℕ SyntaxFault → Type 0
+Reads n text old new (Ok taken) = (taken ≤ length text) × (walk old n text ≡ walk new (n + taken) (drop taken text))
+Reads n text old new (Err fault) = (fault ≡ Memory) ⊎ (walk old n text ≡ Err fault)

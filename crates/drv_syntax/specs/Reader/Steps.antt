@@ -243,27 +243,12 @@ with_test form behind w =
 abbrev pub close_braces : Head → Bool → ℕ → Context → Walk → Walk
 close_braces head emitted end c w = behind_item c end (close_token (brace_token head.kind emitted) head.part end w)
 
--- braces that open here
-abbrev pub opened_head : ℕ → BraceKind → Walk → Head
-opened_head start kind w = record { kind = kind; part = next_open w start }
-
--- braces of this pattern alone, up to this place
-abbrev pub emitted : ℕ → BraceKind → Behind → List ℕ → ℕ → Walk → Walk
-emitted start kind behind word end w =
-    close_braces (opened_head start kind w) true end w.context (with_pattern behind (record (open_braces start kind w) { word = word }))
-
 abbrev pub with_star : Bool → Walk → Walk
 with_star holds w = record w { holds_star = holds }
 
 abbrev pub ask : Head → Open → Bool → Bool → ℕ → Walk → Walk
 ask head part tested starred colon w =
     with_star false (enter (frames.X w.context head colon part tested w.holds_star) (x_context w.context (if starred then owners.Starred else owners.Mixed)) (colon + 1) w)
-
--- braces whose first alternative has this test alone, up to the colon at this place
-abbrev pub asked : ℕ → BraceKind → Behind → List ℕ → ℕ → Walk → Walk
-asked start kind behind word colon w =
-    ask (opened_head start kind w) (next_open (open_braces start kind w) (first_of behind)) true (starred_of behind) colon
-    (with_test forms.Fresh behind (record (open_braces start kind w) { word = word }))
 
 abbrev pub act_ends : Head → Form → Behind → ℕ → Walk → Result Walk SyntaxFault
 act_ends head form behind n w =

@@ -180,29 +180,6 @@ pub fn with_part(p: Part, w: &mut Walk) -> Result<(), SyntaxFault>
     Ok(())
 }
 
-/// An item without parts inside it, with this word.
-pub fn with_taken(
-    single: Single,
-    start: u32,
-    end: u32,
-    word: &[u8],
-    w: &mut Walk,
-) -> Result<(), SyntaxFault>
-    requires room { length w.old.tokens.items + 1 < 2 ^ 32 }
-    requires black { steps.is_white single ≡ false }
-    requires plain { steps.is_star single ≡ false }
-    ensures does { Gives SyntaxFault.Memory (λ _. state w.new) result (Ok (steps.with_part (turns.part single Taken.Word start end) (steps.with_word word.now (state w.old)))) }
-    ensures fits { OnOk result (Fits w.old w.new) }
-{
-    with_leaf(single_kind(single), start, end, w)?;
-    name_single(single, word, &mut w.labels)?;
-    w.stage = Stage::List(ListStage::Start);
-    w.word.clear();
-    w.kept = end;
-    w.trailing = 0;
-    Ok(())
-}
-
 /// A byte that stands for itself.
 #[inline]
 pub fn with_plain(n: u32, b: u8, w: &mut Walk) -> Result<(), SyntaxFault>

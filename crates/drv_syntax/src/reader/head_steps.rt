@@ -62,7 +62,7 @@ fn behind_test(
 }
 
 /// In a word, with a `!` or without.
-fn test_word(
+pub fn test_word(
     head: Head,
     form: Form,
     start: u32,

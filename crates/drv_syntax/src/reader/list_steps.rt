@@ -151,7 +151,7 @@ fn suffix_start(at: u32, kind: TempKind, n: u32, b: u8, w: &mut Walk) -> Result<
 }
 
 /// In its suffix.
-fn suffix_run(at: u32, kind: TempKind, n: u32, b: u8, w: &mut Walk) -> Result<(), SyntaxFault>
+pub fn suffix_run(at: u32, kind: TempKind, n: u32, b: u8, w: &mut Walk) -> Result<(), SyntaxFault>
     requires room { length w.old.tokens.items < 2 ^ 30 }
     requires place { n < 2 ^ 31 }
     requires trail { w.old.trailing < 2 ^ 30 }
@@ -239,7 +239,7 @@ fn saying_text(at: u32, kind: SayKind, n: u32, b: u8, w: &mut Walk) -> Result<()
 }
 
 /// In the name of a text.
-fn name_text(at: u32, n: u32, b: u8, w: &mut Walk) -> Result<(), SyntaxFault>
+pub fn name_text(at: u32, n: u32, b: u8, w: &mut Walk) -> Result<(), SyntaxFault>
     requires room { length w.old.tokens.items < 2 ^ 31 }
     requires place { n < 2 ^ 31 }
     requires trail { w.old.trailing < 2 ^ 31 }

@@ -1,10 +1,35 @@
-use Rattle.drv_syntax.proofs.WholeItems.{named_takes}
+use Rattle.drv_syntax.proofs.Runs.{fault_there, run_fails, run_steps, same_stage, step_there, name_takes}
 use Rattle.drv_syntax.proofs.reader.turns.name_turn.Goals as goal
 use Rattle.drv_syntax.specs.Reader.States.{state}
-use Rattle.std.proofs.Common.{◌+◌, arith, ◌∙◌, sym}
+use Rattle.drv_syntax.specs.declared.reader.stages.ListStage.TheVariants as stages
+use Rattle.drv_syntax.specs.declared.reader.stages.Stage.TheVariants as at
+use Rattle.std.proofs.Common.{arith, get_or, ◌+◌, refl}
+
+pub returns-then-size-text-clause-does : goal.returns-then-size-text-clause-does
+returns-then-size-text-clause-does c = (
+  c.name_length-size.ensures.within,
+  name_takes (state c.args.w.now) (state c.extend.new.w) c.args.at c.name_length-size.result c.args.n c.args.text.now c.requires.here c.name_length-size.ensures.run
+      (omega (arith, c.if-len-gt255.false, c.if-size-len.false, c.len.ensures, c.len-else-len-gt255.ensures)) c.in_ok-extend.ensures.does,
+)
+
+pub returns-in_err-name_text-clause-does : goal.returns-in_err-name_text-clause-does
+returns-in_err-name_text-clause-does c =
+    run_fails (state c.args.w.now) (state c.extend.new.w) c.args.n c.name_length-size.result (get_or c.args.text.now c.name_length-size.result 0) c.args.text.now
+    (omega (arith, c.name_length-size.ensures.within, c.if-size-text.false)) refl
+    (name_takes (state c.args.w.now) (state c.extend.new.w) c.args.at c.name_length-size.result c.args.n c.args.text.now c.requires.here c.name_length-size.ensures.run
+    (omega (arith, c.if-len-gt255.false, c.if-size-len.false, c.len.ensures, c.len-else-len-gt255.ensures)) c.in_ok-extend.ensures.does)
+    (state c.name_text.new.w) c.from_residual-in_err-name_text.result c.in_err-name_text.field-0.0 c.from_residual-in_err-name_text.ensures.1
+    (fault_there (state c.extend.new.w) (at.List (stages.NameText c.args.at)) (c.args.n + c.name_length-size.result) (get_or c.args.text.now c.name_length-size.result 0) c.in_err-name_text.field-0.0
+    (same_stage (state c.args.w.now) (state c.extend.new.w) _ (at.List (stages.NameText c.args.at)) c.requires.here c.in_ok-extend.ensures.does)
+    c.in_err-name_text.ensures.does)
 
 pub returns-clause-does : goal.returns-clause-does
 returns-clause-does c =
-    named_takes (state c.args.w.now) (state c.with_taken.new.w) c.args.n c.args.b c.args.behind.now c.args.inside.now c.name_length-size.result (c.args.n + 3 + c.name_length-size.result) c.front.result.now
-    c.requires.inside c.requires.form c.requires.here c.requires.allowed c.name_length-size.ensures.run (omega (arith, c.if-size-eq0.false)) (omega (arith, c.if-size-gt255.false))
-    (sym c.byte_at.ensures ∙ c.if-byte_at-ne41.false) c.front.ensures.bytes (omega arith) c.in_ok-with_taken.ensures.does
+    run_steps (state c.args.w.now) (state c.extend.new.w) c.args.n c.name_length-size.result (get_or c.args.text.now c.name_length-size.result 0) c.args.text.now
+    (omega (arith, c.name_length-size.ensures.within, c.if-size-text.false)) refl
+    (name_takes (state c.args.w.now) (state c.extend.new.w) c.args.at c.name_length-size.result c.args.n c.args.text.now c.requires.here c.name_length-size.ensures.run
+    (omega (arith, c.if-len-gt255.false, c.if-size-len.false, c.len.ensures, c.len-else-len-gt255.ensures)) c.in_ok-extend.ensures.does)
+    (state c.name_text.new.w)
+    (step_there (state c.extend.new.w) (at.List (stages.NameText c.args.at)) (c.args.n + c.name_length-size.result) (get_or c.args.text.now c.name_length-size.result 0) _
+    (same_stage (state c.args.w.now) (state c.extend.new.w) _ (at.List (stages.NameText c.args.at)) c.requires.here c.in_ok-extend.ensures.does)
+    c.in_ok-name_text.ensures.does)

@@ -1,10 +1,29 @@
-use Rattle.drv_syntax.proofs.WholeItems.{suffix_takes}
+use Rattle.drv_syntax.proofs.Runs.{fault_there, run_fails, run_steps, same_stage, step_there, suffix_takes}
 use Rattle.drv_syntax.proofs.reader.turns.suffix_turn.Goals as goal
 use Rattle.drv_syntax.specs.Reader.States.{state}
-use Rattle.std.proofs.Common.{◌+◌, arith}
+use Rattle.drv_syntax.specs.declared.reader.stages.ListStage.TheVariants as stages
+use Rattle.drv_syntax.specs.declared.reader.stages.Stage.TheVariants as at
+use Rattle.std.proofs.Common.{arith, get_or, ◌+◌, refl}
+
+pub returns-then-size-text-clause-does : goal.returns-then-size-text-clause-does
+returns-then-size-text-clause-does c = (c.suffix_length-size.ensures.within, suffix_takes (state c.args.w.now) (state c.extend.new.w) c.args.at c.args.kind c.suffix_length-size.result c.args.n c.args.text.now c.requires.here c.suffix_length-size.ensures.run c.in_ok-extend.ensures.does)
+
+pub returns-in_err-suffix_run-clause-does : goal.returns-in_err-suffix_run-clause-does
+returns-in_err-suffix_run-clause-does c =
+    run_fails (state c.args.w.now) (state c.extend.new.w) c.args.n c.suffix_length-size.result (get_or c.args.text.now c.suffix_length-size.result 0) c.args.text.now
+    (omega (arith, c.suffix_length-size.ensures.within, c.if-size-text.false)) refl
+    (suffix_takes (state c.args.w.now) (state c.extend.new.w) c.args.at c.args.kind c.suffix_length-size.result c.args.n c.args.text.now c.requires.here c.suffix_length-size.ensures.run c.in_ok-extend.ensures.does)
+    (state c.suffix_run.new.w) c.from_residual-in_err-suffix_run.result c.in_err-suffix_run.field-0.0 c.from_residual-in_err-suffix_run.ensures.1
+    (fault_there (state c.extend.new.w) (at.List (stages.SuffixRun c.args.at c.args.kind)) (c.args.n + c.suffix_length-size.result) (get_or c.args.text.now c.suffix_length-size.result 0) c.in_err-suffix_run.field-0.0
+    (same_stage (state c.args.w.now) (state c.extend.new.w) _ (at.List (stages.SuffixRun c.args.at c.args.kind)) c.requires.here c.in_ok-extend.ensures.does)
+    c.in_err-suffix_run.ensures.does)
 
 pub returns-clause-does : goal.returns-clause-does
 returns-clause-does c =
-    suffix_takes (state c.args.w.now) (state c.with_taken.new.w) c.args.n c.args.b c.args.behind.now c.args.inside.now c.args.kind c.suffix_length-size.result (c.args.n + 2 + c.suffix_length-size.result) c.front.result.now
-    c.requires.inside c.requires.here c.requires.allowed c.requires.form c.suffix_length-size.ensures.run c.suffix_length-size.ensures.within (omega (arith, c.if-size-eq0.false)) c.front.ensures.bytes (omega arith)
-    c.in_ok-with_taken.ensures.does
+    run_steps (state c.args.w.now) (state c.extend.new.w) c.args.n c.suffix_length-size.result (get_or c.args.text.now c.suffix_length-size.result 0) c.args.text.now
+    (omega (arith, c.suffix_length-size.ensures.within, c.if-size-text.false)) refl
+    (suffix_takes (state c.args.w.now) (state c.extend.new.w) c.args.at c.args.kind c.suffix_length-size.result c.args.n c.args.text.now c.requires.here c.suffix_length-size.ensures.run c.in_ok-extend.ensures.does)
+    (state c.suffix_run.new.w)
+    (step_there (state c.extend.new.w) (at.List (stages.SuffixRun c.args.at c.args.kind)) (c.args.n + c.suffix_length-size.result) (get_or c.args.text.now c.suffix_length-size.result 0) _
+    (same_stage (state c.args.w.now) (state c.extend.new.w) _ (at.List (stages.SuffixRun c.args.at c.args.kind)) c.requires.here c.in_ok-extend.ensures.does)
+    c.in_ok-suffix_run.ensures.does)

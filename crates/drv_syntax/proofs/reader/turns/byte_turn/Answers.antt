@@ -1,5 +1,5 @@
 use Rattle.drv_syntax.proofs.Runs.{turn_takes}
-use Rattle.drv_syntax.proofs.reader.runs.byte_turn.Goals as goal
+use Rattle.drv_syntax.proofs.reader.turns.byte_turn.Goals as goal
 use Rattle.drv_syntax.specs.Reader.States.{state}
 
 pub returns-clause-does : goal.returns-clause-does

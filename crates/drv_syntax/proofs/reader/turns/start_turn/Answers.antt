@@ -1,5 +1,5 @@
 use Rattle.drv_syntax.proofs.Runs.{run_takes}
-use Rattle.drv_syntax.proofs.reader.runs.start_turn.Goals as goal
+use Rattle.drv_syntax.proofs.reader.turns.start_turn.Goals as goal
 use Rattle.drv_syntax.specs.Reader.States.{state}
 use Rattle.std.proofs.Common.{arith}
 
