@@ -4,7 +4,7 @@ ghost use Rattle.drv_system.specs.Limit.{IsWithinLimit, most_reads};
 ghost use Rattle.drv_system.specs.Reading.{GivesUp, ReadsAs, is_failure};
 ghost use Rattle.std.specs.Io.{ReadsAtMost};
 ghost use Rattle.std.specs.Io.KnownBytes.{IsAtEnd, ReadConsumes};
-ghost use Rattle.std.specs.Prelude.{◌≡◌, ◌+◌, ◌<◌, IfOk, false, length};
+ghost use Rattle.std.specs.Prelude.{◌≡◌, ◌+◌, ◌<◌, IfOk, OnOk, false, length};
 
 use crate::{MOST_BYTES, ReadAnswer};
 use drv_words::Word;
@@ -15,6 +15,12 @@ use std::rt::Files;
 
 /// The most reads that one file is read by.
 const MOST_READS: u32 = 33_554_432;
+
+/// The room that the first read of a file has, in bytes: most response files fit into it.
+const FIRST_ROOM: usize = 2048;
+
+/// The room that is not made larger, in bytes.
+const MOST_ROOM: usize = 65536;
 
 /// Reads the file at a path to its end.
 pub fn read_path<R: Files>(rt: &R, alloc: Global, path: &str) -> Result<ReadAnswer, AllocError>
@@ -47,6 +53,17 @@ enum ReadFault {
     Interrupted,
     /// It failed.
     Failed,
+}
+
+/// Makes the room of the next read twice as large, unless it is large.
+fn widen(room: &mut Vec<u8>) -> Result<(), AllocError>
+    requires { 0 < length room.old.items }
+    ensures { OnOk result (0 < length room.new.items) }
+{
+    if room.len() < MOST_ROOM {
+        room.resize(room.len() * 2, 0)?;
+    }
+    Ok(())
 }
 
 /// A file that is being read: how many reads were made of it, and whether the last one failed.
@@ -99,9 +116,10 @@ impl<F: Read> Source<F> {
         ensures within { IfOk result IsWithinLimit }
     {
         let mut bytes = Vec::new(alloc);
-        let mut buffer = [0u8; 65536];
+        let mut room = Vec::new(alloc);
+        room.resize(FIRST_ROOM, 0u8)?;
         for _ in 0..most {
-            let count = match self.read(&mut buffer) {
+            let count = match self.read(room.as_mut_slice()) {
                 Ok(0) => return Ok(ReadAnswer::Read(Word::from_vec(bytes))),
                 Ok(count) => count,
                 Err(ReadFault::Interrupted) => continue,
@@ -110,7 +128,10 @@ impl<F: Read> Source<F> {
             if count > MOST_BYTES - bytes.len() {
                 return Ok(ReadAnswer::TooLarge);
             }
-            bytes.extend_from_slice(&buffer[..count])?;
+            bytes.extend_from_slice(&room.as_slice()[..count])?;
+            if count == room.len() {
+                widen(&mut room)?;
+            }
         }
         Ok(ReadAnswer::Failed)
     }

@@ -1,4 +1,4 @@
-use Rattle.std.proofs.Common.{◌≡◌, ◌≤◌, length}
+use Rattle.std.proofs.Common.{◌≡◌, ◌<◌, ◌≤◌, length}
 use Rattle.std.specs.Io.KnownBytes.{Consumes}
 use Rattle.drv_system.proofs.reading.Source.read_within.Given as goal
 
@@ -7,4 +7,5 @@ invariant-loop g l = record {
   left : Consumes (g.F.Read.remaining l.fn.self.file) (g.F.Read.remaining l.self.file) l.bytes.items;
   within : length l.bytes.items ≤ 16777216;
   reads : l.self.reads ≡ l.counter;
+  room : 0 < length l.room.items;
 }
