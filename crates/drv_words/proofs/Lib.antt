@@ -1,5 +1,6 @@
 pub mod ReadBack
 pub mod Responding
+pub mod Runs
 pub mod Shown
 pub mod Soundness
 pub mod Splitting

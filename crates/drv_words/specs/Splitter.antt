@@ -1,9 +1,10 @@
 use Rattle.drv_words.specs.Bytes as byte
-use Rattle.drv_words.specs.Response.{is_quote, is_space}
+use Rattle.drv_words.specs.Response.{is_marked, is_quote, is_space}
 use Rattle.drv_words.specs.declared.response.Splitter.{Splitter}
-use Rattle.std.specs.Prelude.{◌==◌, List, [], ◌∷◌, ◌++◌, None, Option, Some, false, if◌then◌else◌, true, ℕ}
+use Rattle.std.specs.Option.{is_none}
+use Rattle.std.specs.Prelude.{◌&&◌, ◌==◌, Bool, List, [], ◌∷◌, ◌++◌, None, Option, Some, false, if◌then◌else◌, not, suc, true, ℕ}
 
--- A splitter of response text, byte by byte. Private clauses alone cite it: what `split` answers is said by
+-- A splitter of response text, byte by byte or by runs of plain bytes. Private clauses alone cite it: what `split` answers is said by
 -- the grammar `Splits`.
 
 abbrev pub start : Splitter
@@ -55,3 +56,15 @@ step splitter b = if splitter.escaped then record (with_byte splitter b) { escap
 abbrev pub words_of : Splitter → List ℕ → List (List ℕ)
 words_of splitter [] = (ended splitter).words
 words_of splitter (b ∷ text) = words_of (step splitter b) text
+
+-- Runs of plain bytes outside quotes: how long the one at the front of a text is, and the word with its bytes.
+
+abbrev pub is_outside : Splitter → Bool
+is_outside splitter = not splitter.escaped && is_none splitter.quote
+
+abbrev pub plain_length : List ℕ → ℕ
+plain_length [] = 0
+plain_length (b ∷ text) = if is_marked b then 0 else suc (plain_length text)
+
+abbrev pub with_bytes : Splitter → List ℕ → Splitter
+with_bytes splitter bytes = record splitter { word = Some (open_word splitter.word ++ bytes) }

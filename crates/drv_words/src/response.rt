@@ -1,8 +1,8 @@
 //! The text of response files, both ways.
 
 ghost use Rattle.drv_words.specs.Response.{Splits, is_marked, is_quote, is_space, marked, response, response_text};
-ghost use Rattle.drv_words.specs.Splitter.{ended, opened, plain_step, quoted_step, start, step, with_byte, words_of};
-ghost use Rattle.std.specs.Prelude.{◌≡◌, ◌∷◌, ◌++◌, [], IfOk, List, OnOk, ℕ};
+ghost use Rattle.drv_words.specs.Splitter.{ended, is_outside, opened, plain_length, plain_step, quoted_step, start, step, with_byte, with_bytes, words_of};
+ghost use Rattle.std.specs.Prelude.{◌≡◌, ◌<◌, ◌≤◌, ◌∷◌, ◌++◌, [], IfOk, List, OnOk, length, true, ℕ};
 
 use crate::{Listing, Word};
 use std::alloc::{AllocError, Global};
@@ -26,6 +26,18 @@ fn is_marked_byte(byte: u8) -> bool
     ensures { result ≡ is_marked byte }
 {
     is_space_byte(byte) || is_quote_byte(byte) || byte == b'\\'
+}
+
+/// How many bytes at the front of a text are plain: before the first white space, quote or backslash.
+fn plain_length(text: &[u8]) -> usize
+    ensures value { result ≡ plain_length text.now }
+    ensures within { result ≤ length text.now }
+{
+    let mut count = 0;
+    while count < text.len() && !is_marked_byte(text[count]) {
+        count += 1;
+    }
+    count
 }
 
 /// A splitter of response text: the words that ended, the word that is open, the quote of its run, and whether
@@ -67,6 +79,19 @@ impl Splitter {
             Some(word) => word.push(byte),
             None => {
                 self.word = Some(Word::from_bytes(alloc, &[byte])?);
+                Ok(())
+            }
+        }
+    }
+
+    /// Adds bytes to the word, and opens one if none is.
+    fn push_run(&mut self, alloc: Global, run: &[u8]) -> Result<(), AllocError>
+        ensures { OnOk result (self.new ≡ with_bytes self.old run.now) }
+    {
+        match &mut self.word {
+            Some(word) => word.extend_from_slice(run),
+            None => {
+                self.word = Some(Word::from_bytes(alloc, run)?);
                 Ok(())
             }
         }
@@ -125,6 +150,57 @@ impl Splitter {
             None => self.take_plain(alloc, byte),
         }
     }
+
+    /// Whether the next byte is neither in quotes nor behind a backslash.
+    fn is_outside(&self) -> bool
+        ensures { result ≡ is_outside self.now }
+    {
+        !self.escaped && self.quote.is_none()
+    }
+
+    /// Takes a run of plain bytes at the front of a text outside quotes, with the white space behind it where that ends a word,
+    /// and gives the rest.
+    fn take_run<'a>(
+        &mut self,
+        alloc: Global,
+        text: &'a [u8],
+        count: usize,
+    ) -> Result<&'a [u8], AllocError>
+        requires outside { is_outside self.old ≡ true }
+        requires run { count ≡ plain_length text.now }
+        requires within { count ≤ length text.now }
+        requires some { 0 < count }
+        ensures goes { IfOk result (λ rest. words_of self.new rest.now ≡ words_of self.old text.now) }
+        ensures shorter { IfOk result (λ rest. length rest.now < length text.now) }
+    {
+        let (run, rest) = text.split_at(count);
+        match rest {
+            [byte, behind @ ..] if is_space_byte(*byte) && self.word.is_none() => {
+                self.words.push(Word::from_bytes(alloc, run)?)?;
+                Ok(behind)
+            }
+            _ => {
+                self.push_run(alloc, run)?;
+                Ok(rest)
+            }
+        }
+    }
+
+    /// Takes the front of a text: a run of plain bytes, or one byte. Gives the rest.
+    fn take_front<'a>(&mut self, alloc: Global, text: &'a [u8]) -> Result<&'a [u8], AllocError>
+        requires { 0 < length text.now }
+        ensures goes { IfOk result (λ rest. words_of self.new rest.now ≡ words_of self.old text.now) }
+        ensures shorter { IfOk result (λ rest. length rest.now < length text.now) }
+    {
+        if self.is_outside() {
+            let count = plain_length(text);
+            if count > 0 {
+                return self.take_run(alloc, text, count);
+            }
+        }
+        self.take(alloc, text[0])?;
+        Ok(&text[1..])
+    }
 }
 
 /// Splits a whole text.
@@ -132,8 +208,9 @@ fn split_text(alloc: Global, text: &[u8]) -> Result<Listing<Word>, AllocError>
     ensures { IfOk result (λ words. words ≡ words_of start text.now) }
 {
     let mut splitter = Splitter::new(alloc);
-    for &byte in text {
-        splitter.take(alloc, byte)?;
+    let mut left = text;
+    while !left.is_empty() {
+        left = splitter.take_front(alloc, left)?;
     }
     splitter.end_word()?;
     Ok(splitter.words)

@@ -1,6 +1,9 @@
-use Rattle.std.proofs.Common.{◌≡◌, drop}
+use Rattle.std.proofs.Common.{◌≡◌, length}
 use Rattle.drv_words.specs.Splitter.{start, words_of}
 use Rattle.drv_words.proofs.response.split_text.Given as goal
 
-abbrev pub invariant-loop-byte : goal.invariant-loop-byte
-invariant-loop-byte l = words_of l.splitter (drop l.byte-index l.text) ≡ words_of start l.text
+abbrev pub decreases-loop-left : goal.decreases-loop-left
+decreases-loop-left l = length l.left
+
+abbrev pub invariant-loop-left : goal.invariant-loop-left
+invariant-loop-left l = words_of l.splitter l.left ≡ words_of start l.text

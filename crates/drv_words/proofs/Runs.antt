@@ -1,0 +1,122 @@
+use Rattle.drv_words.specs.Response.{is_marked, is_quote, is_space}
+use Rattle.drv_words.specs.Splitter.{is_outside, open_word, plain_length, with_bytes, words_of}
+use Rattle.drv_words.specs.declared.response.Splitter.{Splitter}
+use Rattle.std.proofs.Common.{arith, ◌≡◌, ◌-◌, ◌<◌, ◌≤◌, get_or, is_some, length, ◌&&◌, ◌||◌, ◌==◌, Bool, false, true, List, [], ◌∷◌, ◌++◌, None, Option, Some, drop, is_none, not, refl, subst, sym, ap, ◌∙◌, if◌then◌else◌, suc, take, ℕ}
+use Rattle.std.proofs.Math.Seq.{append_snoc, take-length}
+use Rattle.std.proofs.lemmas.List.{append-nil}
+
+-- A run of plain bytes is taken as its bytes are.
+
+-- a splitter outside quotes
+abbrev outside : List (List ℕ) → Option (List ℕ) → Splitter
+outside words word = record { words = words; word = word; quote = None; escaped = false }
+
+-- a plain byte is none of the three
+record Plain (b : ℕ) : Type 0 where
+  space : is_space b ≡ false
+  quote : is_quote b ≡ false
+  slash : (b == 92) ≡ false
+
+plain_is : (b : ℕ) → is_marked b ≡ false → Plain b
+plain_is b e = by (is_space b) refl (is_quote b) refl (b == 92) refl e
+  where
+    by : (space : Bool) → is_space b ≡ space → (quote : Bool) → is_quote b ≡ quote → (slash : Bool) → (b == 92) ≡ slash → (space || quote || slash) ≡ false → Plain b
+    by true s quote q slash f e = absurd cc
+    by false s true q slash f e = absurd cc
+    by false s false q true f e = absurd cc
+    by false s false q false f e = record { space = s; quote = q; slash = f }
+
+-- behind one plain byte
+one_taken : (b : ℕ) (text : List ℕ) (words : List (List ℕ)) (word : List ℕ) → is_marked b ≡ false
+    → words_of (outside words (Some word)) (b ∷ text) ≡ words_of (outside words (Some (word ++ b ∷ []))) text
+one_taken b text words word e = let p : Plain b = plain_is b e in rw (p.space, p.slash, p.quote) refl
+
+first_taken : (b : ℕ) (text : List ℕ) (words : List (List ℕ)) → is_marked b ≡ false
+    → words_of (outside words None) (b ∷ text) ≡ words_of (outside words (Some (b ∷ []))) text
+first_taken b text words e = let p : Plain b = plain_is b e in rw (p.space, p.slash, p.quote) refl
+
+-- a run behind the word that is open
+run_taken : (text : List ℕ) (words : List (List ℕ)) (word : List ℕ)
+    → words_of (outside words (Some (word ++ take (plain_length text) text))) (drop (plain_length text) text) ≡ words_of (outside words (Some word)) text
+run_taken [] words word = ap (λ w. words_of (outside words (Some w)) []) (append-nil word)
+run_taken (b ∷ text) words word = by (is_marked b) refl (run_taken text words (word ++ b ∷ []))
+  where
+    n : Bool → ℕ
+    n marked = if marked then 0 else suc (plain_length text)
+
+    by : (marked : Bool) → is_marked b ≡ marked
+        → words_of (outside words (Some ((word ++ b ∷ []) ++ take (plain_length text) text))) (drop (plain_length text) text) ≡ words_of (outside words (Some (word ++ b ∷ []))) text
+        → words_of (outside words (Some (word ++ take (if marked then 0 else suc (plain_length text)) (b ∷ text)))) (drop (if marked then 0 else suc (plain_length text)) (b ∷ text)) ≡ words_of (outside words (Some word)) (b ∷ text)
+    by true e rest = ap (λ w. words_of (outside words (Some w)) (b ∷ text)) (append-nil word)
+    by false e rest =
+        ap (λ w. words_of (outside words (Some w)) (drop (plain_length text) text)) (sym (append_snoc word b (take (plain_length text) text)))
+        ∙ rest ∙ sym (one_taken b text words word e)
+
+-- a run that opens a word
+none_there : 0 < 0 → ⊥
+none_there some = omega (arith, some)
+
+run_opens : (text : List ℕ) (words : List (List ℕ)) → 0 < plain_length text
+    → words_of (outside words (Some (take (plain_length text) text))) (drop (plain_length text) text) ≡ words_of (outside words None) text
+run_opens [] words some = absurd (none_there some)
+run_opens (b ∷ text) words some = by (is_marked b) refl some
+  where
+    by : (marked : Bool) → is_marked b ≡ marked → 0 < (if marked then 0 else suc (plain_length text))
+        → words_of (outside words (Some (take (if marked then 0 else suc (plain_length text)) (b ∷ text)))) (drop (if marked then 0 else suc (plain_length text)) (b ∷ text)) ≡ words_of (outside words None) (b ∷ text)
+    by true e some = absurd (none_there some)
+    by false e some = run_taken text words (b ∷ []) ∙ sym (first_taken b text words e)
+
+-- a splitter that is outside
+outside_is : (s : Splitter) → is_outside s ≡ true → s ≡ outside s.words s.word
+outside_is s is = by s.escaped refl s.quote refl is
+  where
+    by : (escaped : Bool) → s.escaped ≡ escaped → (quote : Option ℕ) → s.quote ≡ quote → not escaped && is_none quote ≡ true → s ≡ outside s.words s.word
+    by true e quote q is = absurd cc
+    by false e (Some mark) q is = absurd cc
+    by false e None q is = ap (λ quote. record s { quote = quote }) q ∙ ap (λ escaped. record s { quote = None; escaped = escaped }) e
+
+any_run : (text : List ℕ) (words : List (List ℕ)) (word : Option (List ℕ)) → 0 < plain_length text
+    → words_of (outside words (Some (open_word word ++ take (plain_length text) text))) (drop (plain_length text) text) ≡ words_of (outside words word) text
+any_run text words None some = run_opens text words some
+any_run text words (Some word) some = run_taken text words word
+
+behind_run : (s : Splitter) (text run rest : List ℕ) (count : ℕ) → is_outside s ≡ true → count ≡ plain_length text → 0 < count
+    → run ≡ take count text → rest ≡ drop count text → words_of (outside s.words (Some (open_word s.word ++ run))) rest ≡ words_of s text
+behind_run s text run rest count is counted some front behind =
+    let n : 0 < plain_length text = let P : ℕ → Type 0 = λ m. 0 < m in subst P counted some in
+    let first : run ≡ take (plain_length text) text = front ∙ ap (λ m. take m text) counted in
+    let second : rest ≡ drop (plain_length text) text = behind ∙ ap (λ m. drop m text) counted in
+    ap (λ r. words_of (outside s.words (Some (open_word s.word ++ r))) rest) first
+    ∙ ap (words_of (outside s.words (Some (open_word s.word ++ take (plain_length text) text)))) second
+    ∙ any_run text s.words s.word n ∙ ap (λ t. words_of t text) (sym (outside_is s is))
+
+-- the word goes on behind a run
+pub run_goes : (s after : Splitter) (text run rest : List ℕ) (count : ℕ) → is_outside s ≡ true → count ≡ plain_length text → 0 < count
+    → run ≡ take count text → rest ≡ drop count text → after ≡ with_bytes s run → words_of after rest ≡ words_of s text
+run_goes s after text run rest count is counted some front behind taken =
+    ap (λ a. words_of a rest) (taken ∙ ap (λ (t : Splitter). record t { word = Some (open_word s.word ++ run) }) (outside_is s is))
+    ∙ behind_run s text run rest count is counted some front behind
+
+no_word : (word : Option (List ℕ)) (none : Bool) → is_some word ≡ not none → none ≡ true → word ≡ None
+no_word None none e is = refl
+no_word (Some word) none e is = absurd (let z : true ≡ false = e ∙ ap not is in cc)
+
+-- a run that is a whole word, with the white space behind it
+pub word_goes : (s : Splitter) (text run word rest : List ℕ) (words : List (List ℕ)) (count : ℕ) (space none : Bool)
+    → is_outside s ≡ true → count ≡ plain_length text → 0 < count → run ≡ take count text → rest ≡ drop count text
+    → 1 ≤ length rest → space ≡ is_space (get_or rest 0 0) → space ≡ true → is_some s.word ≡ not none → none ≡ true
+    → words ≡ s.words ++ word ∷ [] → word ≡ run
+    → words_of (record s { words = words }) (take (length rest - 1) (drop 1 rest)) ≡ words_of s text
+word_goes s text run word [] words count space none is counted some front back long tests space_is holds closed added copied = absurd (none_there long)
+word_goes s text run word (byte ∷ behind) words count space none is counted some front back long tests space_is holds closed added copied =
+    let here : is_space byte ≡ true = sym tests ∙ space_is in
+    let empty : s.word ≡ None = no_word s.word none holds closed in
+    let e : length (byte ∷ behind) - 1 ≡ length behind = omega arith in
+    let left : take (length (byte ∷ behind) - 1) behind ≡ behind = ap (λ n. take n behind) e ∙ take-length behind in
+    let over : words_of (outside (s.words ++ run ∷ []) None) behind ≡ words_of (outside s.words (Some run)) (byte ∷ behind) = rw here refl in
+    ap (words_of (record s { words = words })) left
+    ∙ ap (λ (t : Splitter). words_of (record t { words = words }) behind) (outside_is s is)
+    ∙ ap (λ held. words_of (outside words held) behind) empty
+    ∙ ap (λ ws. words_of (outside ws None) behind) (added ∙ ap (λ w. s.words ++ w ∷ []) copied)
+    ∙ over ∙ ap (λ held. words_of (outside s.words (Some (open_word held ++ run))) (byte ∷ behind)) (sym empty)
+    ∙ behind_run s text run (byte ∷ behind) count is counted some front back
