@@ -1,5 +1,5 @@
 use Rattle.drv_args.specs.Expansion.{Expands, Itself, Refuses, Responds, Text, behind, by_answer, by_name, by_text, file_named, inside, itself, later, replacement_of, no_word, too_large, too_many}
-use Rattle.drv_args.specs.Replacing.{IsReplaced}
+use Rattle.drv_args.specs.Replacing.{IsPut, IsReplaced}
 use Rattle.drv_args.specs.declared.fault.ArgsFault.TheVariants.{Memory, ResponseTooLarge, TooManyFiles}
 use Rattle.drv_args.specs.declared.fault.ArgsFault.{ArgsFault}
 use Rattle.drv_args.specs.declared.line.Expanded.{Expanded}
@@ -169,3 +169,32 @@ themselves F left (word ∷ words) none =
 
 pub none_expanded : (F : Facts) (args : List (List ℕ)) → list_any (λ word. is_some (file_named word)) args ≡ false → Expands F 2000 args (Ok (record { words = args; from_file = false }))
 none_expanded F args none = (2000, themselves F 2000 args none, refl)
+
+-- the words of a file, put in place of the word that named it
+
+pub stay_goes : (F : Facts) (left left' : ℕ) (stack rest stack' : List (List ℕ)) (word : List ℕ) (inner out out' args : List (List ℕ))
+    → stack ≡ rest ++ word ∷ [] → left ≡ suc left' → stack' ≡ rest → out' ≡ out ++ inner → list_any (λ word. is_some (file_named word)) inner ≡ false
+    → StandsFor F word inner → GoesOn F left (reverse stack) out args → GoesOn F left' (reverse stack') out' args
+stay_goes F left left' stack rest stack' word inner out out' args popped one same more none (text, m, splits) goes =
+    let P : List (List ℕ) → Type 0 = λ o. GoesOn F left' (reverse stack') o args in
+    let Q : List (List ℕ) → Type 0 = λ ws. GoesOn F left' (reverse ws) (out ++ inner) args in
+    let R : ℕ → Type 0 = λ n. GoesOn F n (word ∷ reverse rest) out args in
+    let S : List (List ℕ) → Type 0 = λ ws. GoesOn F left ws out args in
+    subst P (sym more) (subst Q (sym same) (behind_text (subst R one (subst S (next_is stack rest word popped) goes))))
+  where
+    behind_text : GoesOn F (suc left') (word ∷ reverse rest) out args → GoesOn F left' (reverse rest) (out ++ inner) args
+    behind_text goes = record {
+      responds = λ last after r.
+          let T : List (List ℕ) → Type 0 = λ o. Responds F 2000 args last o in
+          subst T (sym (append_assoc out inner after)) (goes.responds last (inner ++ after) (by_text m splits (themselves F left' inner none) r));
+      refuses = λ fault r. goes.refuses fault (behind m splits (themselves F left' inner none) r);
+    }
+
+pub put_goes : (F : Facts) (left left' : ℕ) (stack rest stack' : List (List ℕ)) (word : List ℕ) (inner out out' args : List (List ℕ))
+    → stack ≡ rest ++ word ∷ [] → left ≡ suc left' → IsPut inner rest stack' out out' → StandsFor F word inner → GoesOn F left (reverse stack) out args
+    → GoesOn F left' (reverse stack') out' args
+put_goes F left left' stack rest stack' word inner out out' args popped one (inl (none, same, more)) stands goes =
+    stay_goes F left left' stack rest stack' word inner out out' args popped one same more none stands goes
+put_goes F left left' stack rest stack' word inner out out' args popped one (inr (pushed, same)) stands goes =
+    let P : List (List ℕ) → Type 0 = λ o. GoesOn F left' (reverse stack') o args in
+    subst P (sym same) (text_goes F left left' stack rest stack' word inner out args popped one pushed stands goes)

@@ -1,10 +1,11 @@
-use Rattle.drv_args.specs.Expansion.{Itself, Large, Text, replacement_of}
+use Rattle.drv_args.specs.Expansion.{Itself, Large, Text, file_named, replacement_of}
 use Rattle.drv_args.specs.declared.fault.ArgsFault.TheVariants.{Memory, ResponseTooLarge}
 use Rattle.drv_args.specs.declared.fault.ArgsFault.{ArgsFault}
 use Rattle.drv_system.specs.Facts.{Facts}
 use Rattle.drv_system.specs.Known.{Is}
 use Rattle.drv_words.specs.Response.{Splits}
-use Rattle.std.specs.Prelude.{◌≡◌, ◌⊎◌, Err, List, None, Ok, Option, Result, Some, ℕ}
+use Rattle.std.specs.List.{list_any}
+use Rattle.std.specs.Prelude.{◌≡◌, ◌⊎◌, ◌++◌, Err, List, None, Ok, Option, Result, Some, false, is_some, reverse, ℕ}
 
 -- What replacing one word comes to. Private clauses alone cite it: what `expand` answers is said by `Expands`.
 
@@ -12,3 +13,9 @@ abbrev pub IsReplaced : Facts → List ℕ → Result (Option (List (List ℕ)))
 IsReplaced F word (Ok None) = replacement_of F word ≡ Is Itself
 IsReplaced F word (Ok (Some inner)) = (text : List ℕ) × (replacement_of F word ≡ Is (Text text)) × Splits text inner
 IsReplaced F word (Err fault) = (fault ≡ Memory) ⊎ ((path : List ℕ) × (replacement_of F word ≡ Is (Large path)) × (fault ≡ ResponseTooLarge path))
+
+-- The words of a file are put at the end of those that stay, where none of them names a file, or on the stack, the first on top.
+abbrev pub IsPut : List (List ℕ) → List (List ℕ) → List (List ℕ) → List (List ℕ) → List (List ℕ) → Type 0
+IsPut inner stack stack' words words' =
+    ((list_any (λ word. is_some (file_named word)) inner ≡ false) × (stack' ≡ stack) × (words' ≡ words ++ inner))
+    ⊎ ((stack' ≡ stack ++ reverse inner) × (words' ≡ words))

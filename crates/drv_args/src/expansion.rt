@@ -1,7 +1,7 @@
 //! Response files expanded.
 
 ghost use Rattle.drv_args.specs.Expansion.{Expands, file_named};
-ghost use Rattle.drv_args.specs.Replacing.{IsReplaced};
+ghost use Rattle.drv_args.specs.Replacing.{IsPut, IsReplaced};
 ghost use Rattle.drv_system.specs.Asking.{Asks, Extends};
 ghost use Rattle.drv_system.specs.Facts.{Facts};
 ghost use Rattle.std.specs.List.{list_any};
@@ -72,6 +72,21 @@ fn name_files(words: &[Word]) -> bool
     words.iter().any(names_file)
 }
 
+/// Puts the words of a file in place of the word that named it: at the end of those that stay, where none of them names a file,
+/// and otherwise on the stack, the first on top.
+fn put_words(
+    stack: &mut Vec<Word>,
+    words: &mut Listing<Word>,
+    inner: Listing<Word>,
+) -> Result<(), AllocError>
+    ensures { OnOk result (IsPut inner stack.old.items stack.new.items words.old words.new) }
+{
+    if name_files(inner.as_slice()) {
+        return push_reversed(stack, inner);
+    }
+    words.append(inner)
+}
+
 /// Replaces each argument that names a file.
 #[tactic(auto, using(crate::proofs::Asked::asks_further))]
 fn expand_all<S: System>(
@@ -93,7 +108,7 @@ fn expand_all<S: System>(
             Some(_) if left == 0 => return Err(ArgsFault::TooManyFiles),
             Some(inner) => {
                 left -= 1;
-                push_reversed(&mut stack, inner)?;
+                put_words(&mut stack, &mut words, inner)?;
             }
         }
     }

@@ -1,4 +1,4 @@
-use Rattle.drv_args.proofs.Expanding.{end_goes, expands_memory, expands_refused, itself_goes, large_refused, many_refused, text_goes}
+use Rattle.drv_args.proofs.Expanding.{end_goes, expands_memory, expands_refused, itself_goes, large_refused, many_refused, put_goes}
 use Rattle.drv_system.proofs.Asking.{asks_extends, asks_then, extends_then}
 use Rattle.drv_args.specs.Replacing.{IsReplaced}
 use Rattle.std.proofs.Common.{◌≡◌, ◌-◌, List, length, Ok, Option, arith, inr, refl, subst, ℕ}
@@ -32,8 +32,8 @@ loop-word-preserved g c = record {
   asks = asks_then c.loop-word.invariant.asks c.replacement.ensures.asks;
   goes = λ F e.
       let replaces = subst (λ (o : Option (List (List ℕ))). IsReplaced F c.in-Some.word (Ok o)) c.in-Some-2.is (c.in_ok-replacement.ensures.replaces F e) in
-      text_goes F c.loop-word.left (c.loop-word.left - 1) c.loop-word.stack.items c.pop.new.self.items c.push_reversed.new.stack.items c.in-Some.word c.in-Some-2.field-0 c.loop-word.words c.args.args
-      c.in-Some.ensures.items (omega arith) c.in_ok-push_reversed-in-Some-2-2.ensures replaces (c.loop-word.invariant.goes F (extends_then (asks_extends c.replacement.ensures.asks) e));
+      put_goes F c.loop-word.left (c.loop-word.left - 1) c.loop-word.stack.items c.pop.new.self.items c.put_words.new.stack.items c.in-Some.word c.in-Some-2.field-0 c.loop-word.words c.put_words.new.words c.args.args
+      c.in-Some.ensures.items (omega arith) c.in_ok-put_words-in-Some-2-2.ensures replaces (c.loop-word.invariant.goes F (extends_then (asks_extends c.replacement.ensures.asks) e));
   bound = omega arith;
 }
 
@@ -55,8 +55,8 @@ returns-in_err-push-in-None-clause-expands g c F e = expands_memory F c.args.arg
 pub returns-in-Some-2-clause-asks : goal.returns-in-Some-2-clause-asks
 returns-in-Some-2-clause-asks g c = asks_then c.loop-word.invariant.asks c.replacement.ensures.asks
 
-pub returns-in_err-push_reversed-in-Some-2-2-clause-asks : goal.returns-in_err-push_reversed-in-Some-2-2-clause-asks
-returns-in_err-push_reversed-in-Some-2-2-clause-asks g c = asks_then c.loop-word.invariant.asks c.replacement.ensures.asks
+pub returns-in_err-put_words-in-Some-2-2-clause-asks : goal.returns-in_err-put_words-in-Some-2-2-clause-asks
+returns-in_err-put_words-in-Some-2-2-clause-asks g c = asks_then c.loop-word.invariant.asks c.replacement.ensures.asks
 
-pub returns-in_err-push_reversed-in-Some-2-2-clause-expands : goal.returns-in_err-push_reversed-in-Some-2-2-clause-expands
-returns-in_err-push_reversed-in-Some-2-2-clause-expands g c F e = expands_memory F c.args.args _ c.from_residual-in_err-push_reversed-in-Some-2-2.ensures.1
+pub returns-in_err-put_words-in-Some-2-2-clause-expands : goal.returns-in_err-put_words-in-Some-2-2-clause-expands
+returns-in_err-put_words-in-Some-2-2-clause-expands g c F e = expands_memory F c.args.args _ c.from_residual-in_err-put_words-in-Some-2-2.ensures.1
