@@ -21,7 +21,7 @@ use Rattle.drv_system.specs.Gives.{GivesKnown}
 use Rattle.drv_system.specs.Known.{◌>>=◌, Is}
 use Rattle.drv_words.specs.declared.plan.Job.{Job}
 use Rattle.drv_words.specs.declared.plan.Plan.{Plan}
-use Rattle.std.proofs.Common.{◌≡◌, ◌<◌, ◌+◌, ◌⊎◌, ◌∙◌, Bool, List, ◌∷◌, ◌++◌, Err, IsErrAnd, None, Ok, Option, Result, Some, ap, drop, false, if◌then◌else◌, inl, inr, length, subst, sym, true, ℕ}
+use Rattle.std.proofs.Common.{[], ◌≡◌, ◌<◌, ◌+◌, ◌⊎◌, ◌∙◌, Bool, List, ◌∷◌, ◌++◌, Err, IsErrAnd, None, Ok, Option, Result, Some, ap, drop, false, if◌then◌else◌, inl, inr, length, subst, sym, true, ℕ}
 use Rattle.std.proofs.lemmas.List.{drop_more}
 use Rattle.std.specs.Option.{option_map}
 use Rattle.std.specs.Prelude.{◌==◌, codes, get_or}
@@ -185,11 +185,12 @@ source_refused F place source text g C fault is refused =
     (refused_alike fault (worked F text (record g { context = C })) (worked F text (for_source source g)) (ap (worked F text) (source_set g source C is)) refused)
 
 -- the link, once the context has its outputs
-pub link_set : (g : Going) (C D : Context) (outputs : List (List ℕ)) → C ≡ record g.context { input = None } → D ≡ record C { outputs = outputs } → outputs ≡ g.outputs
-    → for_link g ≡ record g { context = D }
-link_set g C D outputs first second are =
-    ap (λ list. record g { context = record g.context { input = None; outputs = list } }) (sym are)
-    ∙ ap (λ (E : Context). record g { context = record E { outputs = outputs } }) (sym first) ∙ ap (λ (E : Context). record g { context = E }) (sym second)
+pub link_set : (g : Going) (C D : Context) (outputs left none : List (List ℕ)) → C ≡ record g.context { input = None } → D ≡ record C { outputs = outputs }
+    → outputs ≡ g.outputs → left ≡ none → none ≡ [] → for_link g ≡ record g { context = D; outputs = left }
+link_set g C D outputs left none first second are behind empty =
+    ap (λ list. record g { context = record g.context { input = None; outputs = list }; outputs = [] }) (sym are)
+    ∙ ap (λ (E : Context). record g { context = record E { outputs = outputs }; outputs = [] }) (sym first)
+    ∙ ap (λ (E : Context). record g { context = E; outputs = [] }) (sym second) ∙ ap (λ list. record g { context = D; outputs = list }) (sym empty ∙ sym behind)
 
 pub link_done : (F : Facts) (text : List ℕ) (g after : Going) (job : Job) (link : Option Job) → worked F text (for_link g) ≡ Is (Ok (job, after)) → link ≡ with_command job
     → with_text F (Some text) g ≡ Is (Ok (link, after))

@@ -78,8 +78,9 @@ worked F text g = then_by (of_text (outcome F g.context (tree_of text))) (λ don
 abbrev pub for_source : Source → Going → Going
 for_source source g = record g { context = record g.context { input = Some source } }
 
+-- the link takes the outputs
 abbrev pub for_link : Going → Going
-for_link g = record g { context = record g.context { input = None; outputs = g.outputs } }
+for_link g = record g { context = record g.context { input = None; outputs = g.outputs }; outputs = [] }
 
 abbrev pub output_list : Option (List ℕ) → List (List ℕ)
 output_list None = []

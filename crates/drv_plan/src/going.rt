@@ -162,7 +162,7 @@ impl<'a> Going<'a> {
         Ok(())
     }
 
-    /// Works the text of the link, which takes the outputs.
+    /// Works the text of the link, which takes the outputs: none stay behind.
     ///
     /// # Errors
     /// The machine's refusal of the text.
@@ -177,8 +177,7 @@ impl<'a> Going<'a> {
         ensures works { (F : Facts) → Extends facts.new F → GivesKnown PlanFault.Memory (λ job. (job, self.new)) result (worked F text.now (for_link self.old)) }
         ensures apart { IfErr result (λ fault. fault ≢ PlanFault.Machine machine.Memory) }
     {
-        let mut outputs = Listing::new(alloc);
-        push_words(&mut outputs, self.outputs.as_slice())?;
+        let outputs = mem::replace(&mut self.outputs, Listing::new(alloc));
         self.context.set_input(None);
         self.context.set_outputs(outputs);
         self.work(alloc, text, sys, facts)
