@@ -1,5 +1,6 @@
 pub mod Asked
 mod BuiltinPlans
+pub mod Ends
 mod LanguageRows
 mod LastTexts
 mod PlanRows

@@ -6,8 +6,9 @@ ghost use Rattle.drv_plan.specs.Looking.{fits, shown};
 ghost use Rattle.drv_plan.specs.declared.fault.PlanFault.TheVariants as fault;
 ghost use Rattle.drv_specs.specs.Sets.{begins_with_at, is_no_text};
 ghost use Rattle.drv_words.specs.Gives.{Gives};
+ghost use Rattle.std.specs.List.{ends_with};
 ghost use Rattle.std.specs.Option.{option_map};
-ghost use Rattle.std.specs.Prelude.{◌≡◌, ◌≢◌, IfErr, None, Some, if◌then◌else◌, option_and_then, slice_get};
+ghost use Rattle.std.specs.Prelude.{◌≡◌, ◌≢◌, IfErr, None, Some, false, if◌then◌else◌, nat_eq, option_and_then, slice_get};
 
 use crate::PlanFault;
 use drv_args::Input;
@@ -64,10 +65,24 @@ fn is_of_language(language: &[u8], key: &[u8]) -> bool
     }
 }
 
+/// Whether two texts end with the same byte, or one has none: most texts that don't end with another show it by this alone.
+fn end_alike(text: &[u8], end: &[u8]) -> bool
+    ensures { result ≡ false → ends_with nat_eq text.now end.now ≡ false }
+{
+    if text.is_empty() || end.is_empty() {
+        return true;
+    }
+    text[text.len() - 1] == end[end.len() - 1]
+}
+
 /// Whether a key is a suffix of a file's name.
+#[tactic(auto, using(crate::proofs::Ends::is_no_suffix))]
 fn is_suffix_of(name: &[u8], key: &[u8]) -> bool
     ensures { result ≡ is_suffix_of name.now key.now }
 {
+    if !end_alike(name, key) {
+        return false;
+    }
     !begins_with_at(key) && key.len() < name.len() && name.ends_with(key)
 }
 
