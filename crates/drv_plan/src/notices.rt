@@ -14,14 +14,16 @@ const UNUSED_FRONT: &[u8] = b"warning: ";
 /// And behind it.
 const UNUSED_END: &[u8] = b": linker input file unused because linking not done";
 
-/// A word between two texts.
+/// A word between two texts, in one allocation.
 fn around(alloc: Global, before: &[u8], behind: &[u8], word: &[u8]) -> Result<Word, AllocError>
     ensures { IfOk result (λ text. text ≡ around before.now behind.now word.now) }
 {
-    let mut text = Word::from_bytes(alloc, before)?;
+    let room = (before.len() + behind.len()).saturating_add(word.len());
+    let mut text = Vec::with_capacity(alloc, room)?;
+    text.extend_from_slice(before)?;
     text.extend_from_slice(word)?;
     text.extend_from_slice(behind)?;
-    Ok(text)
+    Ok(Word::from_vec(text))
 }
 
 /// Adds each of these words between two texts.
