@@ -7,7 +7,7 @@ ghost use Rattle.drv_words.specs.Printed.{lines_text};
 ghost use Rattle.std.specs.Prelude.{◌≡◌, ◌++◌, IfOk, OnErr, OnOk};
 
 use drv_system::{System, TellAnswer};
-use drv_words::{Plan, Word, plan_lines, render};
+use drv_words::{Plan, Word, render_plan};
 use std::alloc::{AllocError, Global};
 
 /// The exit status after a text was written.
@@ -65,8 +65,7 @@ fn say_commands<S: System>(alloc: Global, sys: &mut S, plan: &Plan) -> Result<u8
     ensures says { IfOk result (λ status. SaysText (S.events sys.old) (S.events sys.new) (lines_text (lines_of plan.now)) status) }
     ensures memory { OnErr result (S.events sys.new ≡ S.events sys.old) }
 {
-    let lines = plan_lines(alloc, plan)?;
-    let text = render(alloc, lines.as_slice())?;
+    let text = render_plan(alloc, plan)?;
     say_text(sys, &text)
 }
 

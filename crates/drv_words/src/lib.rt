@@ -14,7 +14,7 @@ mod word;
 pub use answers::{Answer, ClaimAnswer, NotStarted, RemoveAnswer, StartAnswer, WaitAnswer};
 pub use listing::Listing;
 pub use plan::{Command, Group, Job, Plan, PlanLine, Temp};
-pub use printing::{plan_lines, render};
+pub use printing::{plan_lines, render, render_plan};
 pub use quoting::quote;
 pub use reading_back::{one_list_of_lines, read_back};
 pub use response::{one_list_of_words, respond_text, split};

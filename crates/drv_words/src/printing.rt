@@ -1,7 +1,8 @@
 //! The lines of a plan, and their text.
 
 ghost use Rattle.drv_words.specs.Lines.{group_lines, job_lines, lines_of};
-ghost use Rattle.drv_words.specs.Printed.{Shows, line_text, lines_text, quoted, words_text};
+ghost use Rattle.drv_words.specs.Printed.{Shows, end_text, line_text, lines_text, quoted, words_text};
+ghost use Rattle.std.specs.List.{flat_map};
 ghost use Rattle.std.specs.Prelude.{◌≡◌, ◌∷◌, ◌++◌, IfOk, OnOk};
 
 use crate::plan::{Command, Job, Plan, PlanLine};
@@ -48,16 +49,16 @@ pub fn plan_lines(alloc: Global, plan: &Plan) -> Result<Listing<PlanLine>, Alloc
 }
 
 /// Adds a word behind a space.
-fn push_word(text: &mut Word, word: &Word) -> Result<(), AllocError>
-    ensures { OnOk result (text.new ≡ text.old ++ 32 ∷ quoted word.now) }
+fn push_word(text: &mut Vec<u8>, word: &Word) -> Result<(), AllocError>
+    ensures { OnOk result (text.new.items ≡ text.old.items ++ 32 ∷ quoted word.now) }
 {
     text.push(b' ')?;
     push_quoted(text, word)
 }
 
 /// Adds words, each behind a space.
-fn push_words(text: &mut Word, words: &[Word]) -> Result<(), AllocError>
-    ensures { OnOk result (text.new ≡ text.old ++ words_text words.now) }
+fn push_words(text: &mut Vec<u8>, words: &[Word]) -> Result<(), AllocError>
+    ensures { OnOk result (text.new.items ≡ text.old.items ++ words_text words.now) }
 {
     for word in words {
         push_word(text, word)?;
@@ -65,16 +66,28 @@ fn push_words(text: &mut Word, words: &[Word]) -> Result<(), AllocError>
     Ok(())
 }
 
-/// Adds the text of a line.
-fn push_line(text: &mut Word, line: &PlanLine) -> Result<(), AllocError>
-    ensures { OnOk result (text.new ≡ text.old ++ line_text line.now) }
+/// Adds the words of a command.
+fn push_command(text: &mut Vec<u8>, command: &Command) -> Result<(), AllocError>
+    ensures { OnOk result (text.new.items ≡ text.old.items ++ words_text (command.now.program ∷ command.now.words)) }
 {
-    push_word(text, &line.command.program)?;
-    push_words(text, line.command.words.as_slice())?;
-    if line.piped {
-        text.extend_from_slice(b" |")?;
-    }
-    text.push(b'\n')
+    push_word(text, &command.program)?;
+    push_words(text, command.words.as_slice())
+}
+
+/// Adds the end of a line.
+fn push_end(text: &mut Vec<u8>, piped: bool) -> Result<(), AllocError>
+    ensures { OnOk result (text.new.items ≡ text.old.items ++ end_text piped) }
+{
+    let end: &[u8] = if piped { b" |\n" } else { b"\n" };
+    text.extend_from_slice(end)
+}
+
+/// Adds the text of a line.
+fn push_line(text: &mut Vec<u8>, line: &PlanLine) -> Result<(), AllocError>
+    ensures { OnOk result (text.new.items ≡ text.old.items ++ line_text line.now) }
+{
+    push_command(text, &line.command)?;
+    push_end(text, line.piped)
 }
 
 /// The text of lines: of each a space before each word in its printed form, ` |` where it is piped, and a
@@ -83,9 +96,60 @@ pub fn render(alloc: Global, lines: &[PlanLine]) -> Result<Word, AllocError>
     ensures text { IfOk result (λ text. text ≡ lines_text lines.now) }
     ensures shows { IfOk result (λ text. Shows text lines.now) }
 {
-    let mut text = Word::empty(alloc);
+    let mut text = Vec::new(alloc);
     for line in lines {
         push_line(&mut text, line)?;
     }
-    Ok(text)
+    Ok(Word::from_vec(text))
+}
+
+/// Adds the text of a group's lines.
+fn push_group_text(text: &mut Vec<u8>, commands: &[Command]) -> Result<(), AllocError>
+    ensures { OnOk result (text.new.items ≡ text.old.items ++ lines_text (group_lines commands.now)) }
+{
+    for (index, command) in commands.iter().enumerate() {
+        push_command(text, command)?;
+        push_end(text, index + 1 < commands.len())?;
+    }
+    Ok(())
+}
+
+/// Adds the text of a job's lines.
+fn push_job_text(text: &mut Vec<u8>, job: &Job) -> Result<(), AllocError>
+    ensures { OnOk result (text.new.items ≡ text.old.items ++ lines_text (job_lines job.now)) }
+{
+    for group in job.groups.as_slice() {
+        push_group_text(text, group.as_slice())?;
+    }
+    Ok(())
+}
+
+/// Adds the text of the lines of a plan's jobs.
+fn push_jobs_text(text: &mut Vec<u8>, jobs: &[Job]) -> Result<(), AllocError>
+    ensures { OnOk result (text.new.items ≡ text.old.items ++ lines_text (flat_map job_lines jobs.now)) }
+{
+    for job in jobs {
+        push_job_text(text, job)?;
+    }
+    Ok(())
+}
+
+/// The text of a plan's lines.
+fn plan_text(alloc: Global, plan: &Plan) -> Result<Word, AllocError>
+    ensures { IfOk result (λ text. text ≡ lines_text (lines_of plan.now)) }
+{
+    let mut text = Vec::new(alloc);
+    push_jobs_text(&mut text, plan.jobs.as_slice())?;
+    if let Some(link) = &plan.link {
+        push_job_text(&mut text, link)?;
+    }
+    Ok(Word::from_vec(text))
+}
+
+/// The text of a plan's lines: what [`render`] gives of [`plan_lines`]. It makes no copy of a word.
+pub fn render_plan(alloc: Global, plan: &Plan) -> Result<Word, AllocError>
+    ensures text { IfOk result (λ text. text ≡ lines_text (lines_of plan.now)) }
+    ensures shows { IfOk result (λ text. Shows text (lines_of plan.now)) }
+{
+    plan_text(alloc, plan)
 }

@@ -36,8 +36,8 @@ pub(crate) fn is_bare_word(word: &[u8]) -> bool
 }
 
 /// Adds what stands between the quotes.
-fn push_escaped(text: &mut Word, word: &[u8]) -> Result<(), AllocError>
-    ensures { OnOk result (text.new ≡ text.old ++ escaped word.now) }
+fn push_escaped(text: &mut Vec<u8>, word: &[u8]) -> Result<(), AllocError>
+    ensures { OnOk result (text.new.items ≡ text.old.items ++ escaped word.now) }
 {
     for &byte in word {
         if is_special_byte(byte) {
@@ -49,8 +49,8 @@ fn push_escaped(text: &mut Word, word: &[u8]) -> Result<(), AllocError>
 }
 
 /// Adds the printed form of a word.
-pub(crate) fn push_quoted(text: &mut Word, word: &Word) -> Result<(), AllocError>
-    ensures { OnOk result (text.new ≡ text.old ++ quoted word.now) }
+pub(crate) fn push_quoted(text: &mut Vec<u8>, word: &Word) -> Result<(), AllocError>
+    ensures { OnOk result (text.new.items ≡ text.old.items ++ quoted word.now) }
 {
     let bytes = word.as_bytes();
     if is_bare_word(bytes) {
@@ -58,7 +58,8 @@ pub(crate) fn push_quoted(text: &mut Word, word: &Word) -> Result<(), AllocError
     }
     text.push(b'"')?;
     push_escaped(text, bytes)?;
-    text.push(b'"')
+    text.push(b'"')?;
+    Ok(())
 }
 
 /// The printed form of a word, as in a line of `-###`: a word of letters, digits and `./-_` stands as it is,
@@ -67,7 +68,7 @@ pub fn quote(alloc: Global, word: &Word) -> Result<Word, AllocError>
     ensures text { IfOk result (λ text. text ≡ quoted word.now) }
     ensures shows { IfOk result (λ text. ShowsWord text word.now) }
 {
-    let mut text = Word::empty(alloc);
+    let mut text = Vec::new(alloc);
     push_quoted(&mut text, word)?;
-    Ok(text)
+    Ok(Word::from_vec(text))
 }

@@ -3,4 +3,4 @@ use Rattle.drv_words.specs.Printed.{words_text}
 use Rattle.drv_words.proofs.printing.push_words.Given as goal
 
 abbrev pub invariant-loop-word : goal.invariant-loop-word
-invariant-loop-word l = l.text ++ words_text (drop l.word-index l.words) ≡ l.fn.text ++ words_text l.words
+invariant-loop-word l = l.text.items ++ words_text (drop l.word-index l.words) ≡ l.fn.text.items ++ words_text l.words

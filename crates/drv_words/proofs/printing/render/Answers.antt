@@ -6,4 +6,4 @@ use Rattle.drv_words.proofs.printing.render.Goals as goal
 
 pub returns-clause-shows : goal.returns-clause-shows
 returns-clause-shows c =
-    let is : c.loop-line.text ≡ lines_text c.args.lines.now = grind (arith, common_steps) in shown_text _ _ is
+    let is : c.from_vec.result ≡ lines_text c.args.lines.now = grind (arith, common_steps) in shown_text _ _ is

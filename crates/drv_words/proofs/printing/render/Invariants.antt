@@ -3,4 +3,4 @@ use Rattle.drv_words.specs.Printed.{lines_text}
 use Rattle.drv_words.proofs.printing.render.Given as goal
 
 abbrev pub invariant-loop-line : goal.invariant-loop-line
-invariant-loop-line l = l.text ++ lines_text (drop l.line-index l.lines) ≡ lines_text l.lines
+invariant-loop-line l = l.text.items ++ lines_text (drop l.line-index l.lines) ≡ lines_text l.lines

@@ -3,4 +3,4 @@ use Rattle.drv_words.specs.Printed.{escaped}
 use Rattle.drv_words.proofs.quoting.push_escaped.Given as goal
 
 abbrev pub invariant-loop-byte : goal.invariant-loop-byte
-invariant-loop-byte l = l.text ++ escaped (drop l.byte-index l.word) ≡ l.fn.text ++ escaped l.word
+invariant-loop-byte l = l.text.items ++ escaped (drop l.byte-index l.word) ≡ l.fn.text.items ++ escaped l.word

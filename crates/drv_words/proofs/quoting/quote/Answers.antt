@@ -5,4 +5,4 @@ use Rattle.std.proofs.lemmas.Grind.{common_steps}
 use Rattle.drv_words.proofs.quoting.quote.Goals as goal
 
 pub returns-clause-shows : goal.returns-clause-shows
-returns-clause-shows c = let is : c.push_quoted.new.text ≡ quoted c.args.word.now = grind (arith, common_steps) in shown_word _ _ is
+returns-clause-shows c = let is : c.from_vec.result ≡ quoted c.args.word.now = grind (arith, common_steps) in shown_word _ _ is
