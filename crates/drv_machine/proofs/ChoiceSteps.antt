@@ -7,11 +7,11 @@ use Rattle.drv_machine.specs.ByKind.{AskedTest, TrueTest, asks_switch, labelled}
 use Rattle.drv_machine.specs.Context.{Context, names}
 use Rattle.drv_machine.specs.Running.{Machine, run}
 use Rattle.drv_machine.specs.Standing.{Part, Stands, behind_tests, tests_in}
-use Rattle.drv_machine.specs.Walking.{AskFits, Kept, arguments_of, each_from, hit_step}
+use Rattle.drv_machine.specs.Walking.{AskFits, Kept, NextHit, arguments_of, each_from, hit_step}
 use Rattle.drv_machine.specs.Working.{◌>>-◌, ◌>>=◌, ◌>>◌, Answer, Levels, Step, look, nothing}
 use Rattle.drv_machine.specs.declared.fault.MachineFault.TheVariants.{Memory}
 use Rattle.drv_machine.specs.declared.fault.MachineFault.{MachineFault}
-use Rattle.drv_match.specs.Matching.{is_hit}
+use Rattle.drv_match.specs.Matching.{IsNextHit, is_hit}
 use Rattle.drv_match.specs.Pattern as switches
 use Rattle.drv_syntax.specs.Labels.{Label, Nodes, alternative_label, both, choice_nodes, label_at, labels_of, nodes_of, test_label, test_nodes}
 use Rattle.drv_syntax.specs.Parsed.{tree_of}
@@ -23,9 +23,11 @@ use Rattle.drv_syntax.specs.declared.token.Token.{Token}
 use Rattle.drv_syntax.specs.declared.token.TokenKind.TheVariants as kinds
 use Rattle.drv_system.specs.Facts.{Facts}
 use Rattle.drv_system.specs.Known.{Is}
-use Rattle.std.proofs.Common.{◌≡◌, ◌⊎◌, ◌&&◌, ◌<◌, ◌≤◌, ◌+◌, ◌-◌, ◌∙◌, ◌∷◌, Bool, Err, List, None, Ok, Option, Some, ap, arith, false, if◌then◌else◌, inl, inr, length, refl, slice_get, subst, suc, sym, true, ℕ}
+use Rattle.std.proofs.Common.{◌≡◌, ◌⊎◌, ◌&&◌, ◌<◌, ◌≤◌, ◌+◌, ◌-◌, ◌∙◌, ◌∷◌, Bool, Err, List, None, Ok, Option, Some, ap, arith, false, if◌then◌else◌, inl, inr, length, refl, slice_get, subst, suc, sym, true, zero, ℕ}
+use Rattle.std.proofs.lemmas.List.{length-map}
 use Rattle.std.proofs.lemmas.Option.{slice_get_within}
 use Rattle.std.specs.List.{range_with_len}
+use Rattle.std.specs.Option.{IfSome}
 
 -- Alternatives, one after another.
 
@@ -253,3 +255,37 @@ module _ (F : Facts) (C : Context) (p : Pattern) (items : Items) where
 
 pub hit_in : (C : Context) (all : List (List ℕ)) (hidden flags : List Bool) (q : switches.Pattern) (p : Pattern) (i : ℕ) (b : Bool) → b ≡ is_hit all hidden q i → all ≡ names C → hidden ≡ flags → q ≡ matching p → b ≡ is_hit (names C) flags (matching p) i
 hit_in C all hidden flags q p i b e a h m = e ∙ ap (λ xs. is_hit xs hidden q i) a ∙ ap (λ xs. is_hit (names C) xs q i) h ∙ ap (λ x. is_hit (names C) flags x i) m
+
+-- the next switch that is hit
+
+pub next_within : (C : Context) (all : List (List ℕ)) (hidden : List Bool) (q : switches.Pattern) (from : ℕ) (found : Option ℕ) → all ≡ names C → IsNextHit all hidden q from found → IfSome found (λ i. (from ≤ i) × (i < length C.switches))
+next_within C all hidden q from None ns n = tt
+next_within C all hidden q from (Some i) ns n = (n.0, subst (λ (k : ℕ). i < k) (ap (λ xs. length xs) ns ∙ length-map C.switches (λ switch. switch.name)) n.1)
+
+module _ (F : Facts) (C : Context) (p : Pattern) (items : Items) (levels : Levels) (s : Machine) where
+  -- switches that aren't hit are passed over
+  passed_over : (k from to : ℕ) → to ≡ from + k → ((i : ℕ) → from ≤ i → i < to → (i < length C.switches) × (is_hit (names C) s.world.hidden (matching p) i ≡ false))
+      → run F C s (each_from F C p items levels from) ≡ run F C s (each_from F C p items levels to)
+  passed_over zero from to e none = ap (λ i. run F C s (each_from F C p items levels i)) (let same : from ≡ to = omega (arith, e) in same)
+  passed_over (suc k) from to e none =
+      let here = none from (omega arith) (omega (arith, e)) in
+      no_hit F C p items levels s from here.0 false (sym here.1) refl ∙ passed_over k (from + 1) to (omega (arith, e)) (λ i low high. none i (omega (arith, low)) high)
+
+  pub next_finds : (all : List (List ℕ)) (hidden : List Bool) (q : switches.Pattern) (from : ℕ) (found : Option ℕ) → all ≡ names C → hidden ≡ s.world.hidden → q ≡ matching p → IsNextHit all hidden q from found → NextHit F C s p items levels from found
+  next_finds all hidden q from found ns hs ms n = by found n
+    where
+      many : length all ≡ length C.switches
+      many = ap (λ xs. length xs) ns ∙ length-map C.switches (λ switch. switch.name)
+
+      same : (i : ℕ) → is_hit all hidden q i ≡ is_hit (names C) s.world.hidden (matching p) i
+      same i = hit_in C all hidden s.world.hidden q p i (is_hit all hidden q i) refl ns hs ms
+
+      by : (o : Option ℕ) → IsNextHit all hidden q from o → NextHit F C s p items levels from o
+      by None none =
+          passed_over (length C.switches - from) from (from + (length C.switches - from)) refl
+          (λ i low high. let within : i < length C.switches = omega (arith, low, high) in (within, sym (same i) ∙ none i low (omega (arith, within, many))))
+          ∙ each_end F C p items levels s (from + (length C.switches - from)) (omega arith)
+      by (Some i) next =
+          let within : i < length C.switches = omega (arith, next.1, many) in
+          passed_over (i - from) from i (omega (arith, next.0)) (λ j low high. (omega (arith, high, within), sym (same j) ∙ next.3 j low high))
+          ∙ at_hit F C p items levels s i within true (sym (sym (same i) ∙ next.2)) refl

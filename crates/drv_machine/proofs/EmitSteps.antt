@@ -3,7 +3,7 @@ use Rattle.drv_machine.proofs.ItemKinds.{labelled_is}
 use Rattle.drv_machine.proofs.Standing.{next_at, stand_grows}
 use Rattle.drv_machine.proofs.Steps.{fails_as}
 use Rattle.drv_machine.specs.Atoms.{emitted, matching, places, switch_atoms}
-use Rattle.drv_machine.specs.ByKind.{emitted_from, is_one, labelled}
+use Rattle.drv_machine.specs.ByKind.{labelled, put_at}
 use Rattle.drv_machine.specs.Context.{Context, argument, names}
 use Rattle.drv_machine.specs.Cutting.{Cut, all_taken}
 use Rattle.drv_machine.specs.Running.{Machine, run}
@@ -11,7 +11,7 @@ use Rattle.drv_machine.specs.Standing.{Part, Stands}
 use Rattle.drv_machine.specs.Working.{◌>>-◌, Answer, Atom, Break, Put, World, puts, word_of}
 use Rattle.drv_machine.specs.declared.fault.MachineFault.TheVariants.{Memory}
 use Rattle.drv_machine.specs.declared.fault.MachineFault.{MachineFault}
-use Rattle.drv_match.specs.Matching.{is_hit, name_at}
+use Rattle.drv_match.specs.Matching.{any_hits, is_any_hit, is_hit, name_at}
 use Rattle.drv_match.specs.Pattern as switches
 use Rattle.drv_syntax.specs.Labels.{label_at, labels_of, pattern_label, pattern_nodes}
 use Rattle.drv_syntax.specs.Parsed.{tree_of}
@@ -22,8 +22,8 @@ use Rattle.drv_syntax.specs.declared.token.TokenKind.TheVariants as kinds
 use Rattle.drv_system.specs.Facts.{Facts}
 use Rattle.drv_system.specs.Known.{Is, Unasked}
 use Rattle.drv_words.specs.Bytes.{hyphen}
-use Rattle.std.proofs.Common.{◌≡◌, ◌⊎◌, ◌<◌, ◌≤◌, ◌+◌, ◌-◌, ◌∙◌, ◌++◌, ◌||◌, Bool, Err, List, [], ◌∷◌, Ok, Option, Some, ap, append-nil, append_assoc, arith, false, if◌then◌else◌, length, map, refl, slice_get, subst, suc, sym, true, ℕ}
-use Rattle.std.proofs.lemmas.List.{length-map}
+use Rattle.std.proofs.Common.{◌≡◌, ◌⊎◌, ◌<◌, ◌≤◌, ◌+◌, ◌∙◌, ◌++◌, ◌||◌, All, Bool, Err, List, [], ◌∷◌, Ok, Option, Some, ap, append-nil, append_assoc, arith, drop, get_or, if◌then◌else◌, length, map, refl, slice_get, subst, sym, ℕ}
+use Rattle.std.proofs.lemmas.List.{drop_more, length-map}
 use Rattle.std.specs.List.{filter, flat_map, list_any, range_with_len}
 
 -- Switches put as they stand on the line.
@@ -58,36 +58,21 @@ filter_same : {A : Type 0} (f g : A → Bool) (xs : List A) → ((x : A) → f x
 filter_same f g [] e = refl
 filter_same f g (x ∷ xs) e = ap (λ b. if b then x ∷ filter f xs else filter f xs) (e x) ∙ ap (λ ys. if g x then x ∷ ys else ys) (filter_same f g xs e)
 
-module _ (F : Facts) (C : Context) (patterns : List switches.Pattern) (hidden : List Bool) where
-  range_step : (i : ℕ) → i < length C.switches → range_with_len i (length C.switches - i) ≡ i ∷ range_with_len (i + 1) (length C.switches - (i + 1))
-  range_step i h = by (length C.switches - i) (length C.switches - (i + 1)) (omega (arith, h))
-    where
-      by : (n m : ℕ) → n ≡ suc m → range_with_len i n ≡ i ∷ range_with_len (i + 1) m
-      by n m e = ap (range_with_len i) e
-
-  pub emitted_one : (i : ℕ) → i < length C.switches → is_one F C patterns hidden i ≡ true → emitted_from F C patterns hidden i ≡ switch_atoms F C i ++ emitted_from F C patterns hidden (i + 1)
-  emitted_one i h e =
-      ap (λ is. flat_map (switch_atoms F C) (filter (is_one F C patterns hidden) is)) (range_step i h)
-      ∙ ap (λ b. flat_map (switch_atoms F C) (if b then i ∷ filter (is_one F C patterns hidden) (range_with_len (i + 1) (length C.switches - (i + 1))) else filter (is_one F C patterns hidden) (range_with_len (i + 1) (length C.switches - (i + 1))))) e
-
-  pub emitted_none : (i : ℕ) → i < length C.switches → is_one F C patterns hidden i ≡ false → emitted_from F C patterns hidden i ≡ emitted_from F C patterns hidden (i + 1)
-  emitted_none i h e =
-      ap (λ is. flat_map (switch_atoms F C) (filter (is_one F C patterns hidden) is)) (range_step i h)
-      ∙ ap (λ b. flat_map (switch_atoms F C) (if b then i ∷ filter (is_one F C patterns hidden) (range_with_len (i + 1) (length C.switches - (i + 1))) else filter (is_one F C patterns hidden) (range_with_len (i + 1) (length C.switches - (i + 1))))) e
-
-  pub emitted_end : (i : ℕ) → length C.switches ≡ i → emitted_from F C patterns hidden i ≡ []
-  emitted_end i h = by (length C.switches - i) (omega (arith, h))
-    where
-      by : (n : ℕ) → n ≡ 0 → flat_map (switch_atoms F C) (filter (is_one F C patterns hidden) (range_with_len i n)) ≡ []
-      by n e = ap (λ k. flat_map (switch_atoms F C) (filter (is_one F C patterns hidden) (range_with_len i k))) e
-
-pub emitted_is : (F : Facts) (C : Context) (patterns : List (Span × Pattern)) (hidden : List Bool) → emitted F C patterns hidden ≡ emitted_from F C (map (λ p. matching p.1) patterns) hidden 0
+pub emitted_is : (F : Facts) (C : Context) (patterns : List (Span × Pattern)) (hidden : List Bool) → emitted F C patterns hidden ≡ put_at F C (any_hits (names C) hidden (map (λ p. matching p.1) patterns))
 emitted_is F C patterns hidden =
-    ap (flat_map (switch_atoms F C)) (filter_same (λ i. list_any (λ p. is_hit (names C) hidden (matching p.1) i) patterns) (is_one F C (map (λ p. matching p.1) patterns) hidden) (places F C) (λ i. sym (any_map (λ p. is_hit (names C) hidden p i) (λ p. matching p.1) patterns)))
-    ∙ by (length C.switches - 0) (length C.switches) (omega arith)
-  where
-    by : (n m : ℕ) → n ≡ m → flat_map (switch_atoms F C) (filter (is_one F C (map (λ p. matching p.1) patterns) hidden) (range_with_len 0 m)) ≡ flat_map (switch_atoms F C) (filter (is_one F C (map (λ p. matching p.1) patterns) hidden) (range_with_len 0 n))
-    by n m e = ap (λ k. flat_map (switch_atoms F C) (filter (is_one F C (map (λ p. matching p.1) patterns) hidden) (range_with_len 0 k))) (sym e)
+    ap (flat_map (switch_atoms F C)) (filter_same (λ i. list_any (λ p. is_hit (names C) hidden (matching p.1) i) patterns) (is_any_hit (names C) hidden (map (λ p. matching p.1) patterns)) (places F C) (λ i. sym (any_map (λ p. is_hit (names C) hidden p i) (λ p. matching p.1) patterns)))
+    ∙ ap (λ n. put_at F C (filter (is_any_hit (names C) hidden (map (λ p. matching p.1) patterns)) (range_with_len 0 n))) (sym (length-map C.switches (λ s. s.name)))
+
+-- what was looked up in the line's switches
+pub emitted_found : (F : Facts) (C : Context) (patterns : List (Span × Pattern)) (hidden flags : List Bool) (all : List (List ℕ)) (these : List switches.Pattern) (found list : List ℕ) → list ≡ found → found ≡ any_hits all flags these
+    → all ≡ names C → flags ≡ hidden → these ≡ map (λ p. matching p.1) patterns → put_at F C list ≡ emitted F C patterns hidden
+emitted_found F C patterns hidden flags all these found list same is ns hs ps =
+    ap (put_at F C) (same ∙ is ∙ ap (λ xs. any_hits xs flags these) ns ∙ ap (λ xs. any_hits (names C) xs these) hs ∙ ap (any_hits (names C) hidden) ps) ∙ sym (emitted_is F C patterns hidden)
+
+-- the places that were found are of the line
+pub all_in_line : (C : Context) (all : List (List ℕ)) (found list : List ℕ) → All (λ i. i < length all) found → list ≡ found → all ≡ names C → All (λ i. i < length C.switches) list
+all_in_line C all found list within same ns =
+    subst (λ (is : List ℕ). All (λ i. i < length C.switches) is) (sym same) (subst (λ (n : ℕ). All (λ i. i < n) found) (ap (λ xs. length xs) ns ∙ length-map C.switches (λ switch. switch.name)) within)
 
 -- going over patterns
 pub patterns_step : (text : List ℕ) (at end : ℕ) → at < end → (token : Token) → slice_get (tokens_of (tree_of text)) at ≡ Some token → (done new : List switches.Pattern) (p : switches.Pattern)
@@ -108,20 +93,17 @@ patterns_end text at end h done patterns left =
     sym (append-nil done) ∙ ap (λ qs. done ++ map (λ q. matching q.1) qs) (sym (no_patterns_left text at left.rest end h left.stands)) ∙ left.same
 
 -- the switches that are left, one by one
-module _ (F : Facts) (C : Context) (s t : Machine) (patterns : List switches.Pattern) (hidden : List Bool) (i : ℕ) (h : i < length C.switches) where
-  pub emit_one : is_one F C patterns hidden i ≡ true → run F C s (puts (switch_atoms F C i)) ≡ Is (Ok (tt, t))
-      → run F C s (puts (emitted_from F C patterns hidden i)) ≡ run F C t (puts (emitted_from F C patterns hidden (i + 1)))
-  emit_one e went = ap (λ list. run F C s (puts list)) (emitted_one F C patterns hidden i h e) ∙ put_then F C s t (switch_atoms F C i) (emitted_from F C patterns hidden (i + 1)) went
+module _ (F : Facts) (C : Context) (s t : Machine) (places : List ℕ) (k : ℕ) (h : k < length places) where
+  put_more : put_at F C (drop k places) ≡ switch_atoms F C (get_or places k 0) ++ put_at F C (drop (k + 1) places)
+  put_more = ap (put_at F C) (drop_more places k 0 h)
 
-  pub emit_fails : (fault : MachineFault) → is_one F C patterns hidden i ≡ true → (fault ≡ Memory) ⊎ (run F C s (puts (switch_atoms F C i)) ≡ Is (Err fault))
-      → (fault ≡ Memory) ⊎ (run F C s (puts (emitted_from F C patterns hidden i)) ≡ Is (Err fault))
-  emit_fails fault e stopped =
-      fails_as (run F C s (puts (switch_atoms F C i ++ emitted_from F C patterns hidden (i + 1)))) (run F C s (puts (emitted_from F C patterns hidden i)))
-      (put_failed F C s (switch_atoms F C i) (emitted_from F C patterns hidden (i + 1)) fault stopped)
-      (λ x. ap (λ list. run F C s (puts list)) (emitted_one F C patterns hidden i h e) ∙ x)
+  pub put_one : run F C s (puts (switch_atoms F C (get_or places k 0))) ≡ Is (Ok (tt, t)) → run F C s (puts (put_at F C (drop k places))) ≡ run F C t (puts (put_at F C (drop (k + 1) places)))
+  put_one went = ap (λ list. run F C s (puts list)) put_more ∙ put_then F C s t (switch_atoms F C (get_or places k 0)) (put_at F C (drop (k + 1) places)) went
 
-  pub emit_none : is_one F C patterns hidden i ≡ false → run F C s (puts (emitted_from F C patterns hidden i)) ≡ run F C s (puts (emitted_from F C patterns hidden (i + 1)))
-  emit_none e = ap (λ list. run F C s (puts list)) (emitted_none F C patterns hidden i h e)
+  pub put_fails : (fault : MachineFault) → (fault ≡ Memory) ⊎ (run F C s (puts (switch_atoms F C (get_or places k 0))) ≡ Is (Err fault)) → (fault ≡ Memory) ⊎ (run F C s (puts (put_at F C (drop k places))) ≡ Is (Err fault))
+  put_fails fault stopped =
+      fails_as (run F C s (puts (switch_atoms F C (get_or places k 0) ++ put_at F C (drop (k + 1) places)))) (run F C s (puts (put_at F C (drop k places))))
+      (put_failed F C s (switch_atoms F C (get_or places k 0)) (put_at F C (drop (k + 1) places)) fault stopped) (λ x. ap (λ list. run F C s (puts list)) put_more ∙ x)
 
 -- what is put leaves the world as it was
 pub put_world : (F : Facts) (C : Context) (s t : Machine) (atoms : List Atom) → run F C s (puts atoms) ≡ Is (Ok (tt, t)) → t.world ≡ s.world
@@ -136,9 +118,6 @@ put_world F C s t atoms e = by (all_taken F C s.cut atoms) e
         world_in Unasked = s.world
     by (Is (Err fault)) e = absurd cc
     by Unasked e = absurd cc
-
-pub is_one_in : (F : Facts) (C : Context) (patterns : List switches.Pattern) (hidden : List Bool) (w v : World) (i : ℕ) (b c : Bool) → b ≡ is_one F C patterns hidden i → hidden ≡ w.hidden → w ≡ v → b ≡ c → is_one F C patterns v.hidden i ≡ c
-is_one_in F C patterns hidden w v i b c e h same is = ap (λ flags. is_one F C patterns flags i) (sym (h ∙ ap (λ (x : World). x.hidden) same)) ∙ sym e ∙ is
 
 -- a place of the line
 pub in_line : (C : Context) (all : List (List ℕ)) (i n : ℕ) → i < n → n ≡ length all → all ≡ names C → i < length C.switches

@@ -21,7 +21,6 @@ pub mod Lists
 pub mod Lying
 pub mod Marks
 pub mod NamedTexts
-pub mod NoHits
 pub mod Onward
 pub mod Opened
 pub mod Parts

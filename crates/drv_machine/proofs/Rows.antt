@@ -6,8 +6,8 @@ use Rattle.drv_machine.specs.declared.outcome.Outcome.{Outcome}
 use Rattle.drv_machine.specs.declared.fault.MachineFault.TheVariants.{NoInput, StrayPipe, UserError}
 use Rattle.drv_system.specs.Facts.{Facts}
 use Rattle.drv_system.specs.Known.{Is}
-use Rattle.std.proofs.Common.{◌≡◌, Option, List, [], ◌∷◌, codes, refl, ℕ}
-use Rattle.std.specs.Prelude.{Err, None, Ok, Some}
+use Rattle.std.proofs.Common.{◌≡◌, List, [], ◌∷◌, codes, refl, ℕ}
+use Rattle.std.specs.Prelude.{Err, None, Ok}
 
 -- Worked texts, by computation: each text is parsed, worked and cut. The expected words were worked out by hand from
 -- the manual and the profile, and hold whatever the facts say.

@@ -9,7 +9,7 @@ use Rattle.drv_machine.specs.declared.asking.Judged.{Judged}
 use Rattle.drv_machine.specs.declared.fault.MachineFault.TheVariants as fault
 use Rattle.drv_machine.specs.declared.fault.MachineFault.TheVariants.{Memory}
 use Rattle.drv_machine.specs.declared.fault.MachineFault.{MachineFault}
-use Rattle.drv_match.specs.Matching.{hidden_by, hits, is_hit}
+use Rattle.drv_match.specs.Matching.{hidden_by, hits}
 use Rattle.drv_match.specs.Pattern as switches
 use Rattle.drv_syntax.specs.Labels.{Label, choice_nodes, label_at, labels_of, nodes_of, pattern_nodes, test_label, test_nodes}
 use Rattle.drv_syntax.specs.Parsed.{tree_of}
@@ -21,8 +21,8 @@ use Rattle.drv_syntax.specs.declared.token.TokenKind.TheVariants as kinds
 use Rattle.drv_syntax.specs.declared.token.TokenKind.{TokenKind}
 use Rattle.drv_system.specs.Facts.{Facts}
 use Rattle.drv_system.specs.Known.{Is}
-use Rattle.std.specs.List.{filter, flat_map, list_any, range_with_len}
-use Rattle.std.specs.Prelude.{◌≡◌, ◌⊎◌, ◌+◌, ◌-◌, ◌<◌, ◌≤◌, Bool, List, [], ◌∷◌, ◌++◌, Option, None, Some, Result, Err, Ok, false, length, nat_lt, true, ⊤, ℕ}
+use Rattle.std.specs.List.{flat_map}
+use Rattle.std.specs.Prelude.{◌≡◌, ◌⊎◌, ◌+◌, ◌<◌, ◌≤◌, Bool, List, [], ◌∷◌, ◌++◌, Option, None, Some, Result, Err, Ok, false, length, nat_lt, true, ⊤, ℕ}
 
 -- What an item means, by its kind and its label (this project's profile). For the clauses of the code alone.
 
@@ -30,13 +30,9 @@ use Rattle.std.specs.Prelude.{◌≡◌, ◌⊎◌, ◌+◌, ◌-◌, ◌<◌, �
 abbrev pub labelled : Label → switches.Pattern
 labelled label = record { name = label.word; star = label.starred }
 
--- one of the patterns hits the switch at a place
-abbrev pub is_one : Facts → Context → List switches.Pattern → List Bool → ℕ → Bool
-is_one F C patterns hidden i = list_any (λ pattern. is_hit (names C) hidden pattern i) patterns
-
--- the switches that one of the patterns hits, from a place on
-abbrev pub emitted_from : Facts → Context → List switches.Pattern → List Bool → ℕ → List Atom
-emitted_from F C patterns hidden i = flat_map (switch_atoms F C) (filter (is_one F C patterns hidden) (range_with_len i (length C.switches - i)))
+-- the switches at these places
+abbrev pub put_at : Facts → Context → List ℕ → List Atom
+put_at F C places = flat_map (switch_atoms F C) places
 
 -- %< and %>
 abbrev pub hide_step : Context → Label → Step (Unit {0})

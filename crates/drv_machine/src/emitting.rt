@@ -2,25 +2,22 @@
 
 ghost use Rattle.drv_machine.specs.Asked.{Asked};
 ghost use Rattle.drv_machine.specs.Atoms.{emitted, matching};
-ghost use Rattle.drv_machine.specs.ByKind.{emitted_from};
-ghost use Rattle.drv_machine.specs.Context.{names};
+ghost use Rattle.drv_machine.specs.ByKind.{put_at};
 ghost use Rattle.drv_machine.specs.Running.{run};
 ghost use Rattle.drv_machine.specs.Standing.{Spans, Stands};
 ghost use Rattle.drv_machine.specs.Working.{puts};
-ghost use Rattle.drv_match.specs.Matching.{hits, is_hit};
 ghost use Rattle.drv_syntax.specs.Labels.{pattern_nodes};
 ghost use Rattle.drv_syntax.specs.Tree as tree;
 ghost use Rattle.drv_system.specs.Asking.{Extends};
 ghost use Rattle.drv_system.specs.Facts.{Facts};
 ghost use Rattle.drv_system.specs.Gives.{GivesKnown};
-ghost use Rattle.std.specs.List.{list_any};
-ghost use Rattle.std.specs.Prelude.{◌≡◌, ◌<◌, IfOk, List, OnOk, length, map, nat_lt};
+ghost use Rattle.std.specs.Prelude.{◌≡◌, ◌<◌, All, IfOk, List, OnOk, length, map};
 
 use crate::machine::Machine;
 use crate::outside::Outside;
 use crate::places::{pattern_at, token_at};
 use crate::{Context, MachineFault};
-use drv_match::{Hidden, Pattern};
+use drv_match::Pattern;
 use drv_syntax::SpecTree;
 use drv_system::System;
 use drv_words::Listing;
@@ -45,51 +42,21 @@ fn patterns_in<'a>(
     Ok(patterns)
 }
 
-/// Whether one of the patterns hits the switch at a place.
-fn is_any_hit(context: &Context<'_>, hidden: &Hidden, patterns: &[Pattern<'_>], i: usize) -> bool
-    requires in_range { i < length context.now.switches }
-    requires sized { length hidden.now ≡ length context.now.switches }
-    ensures { result ≡ list_any (λ pattern. is_hit (names context.now) hidden.now pattern i) patterns.now }
-{
-    for pattern in patterns {
-        if context.switches().is_hit(pattern, hidden, i) {
-            return true;
-        }
-    }
-    false
-}
-
-/// Whether one of the patterns hits a switch. Each is looked up, and the line isn't gone over.
-fn has_any_hit(context: &Context<'_>, hidden: &Hidden, patterns: &[Pattern<'_>]) -> bool
-    requires { length hidden.now ≡ length context.now.switches }
-    ensures { result ≡ list_any (λ pattern. nat_lt 0 (length (hits (names context.now) hidden.now pattern))) patterns.now }
-{
-    for pattern in patterns {
-        if context.switches().has_hit(pattern, hidden) {
-            return true;
-        }
-    }
-    false
-}
-
-/// Puts each switch that one of the patterns hits.
-fn put_hits<S: System>(
+/// Puts the switches at these places.
+fn put_switches<S: System>(
     context: &Context<'_>,
-    patterns: &[Pattern<'_>],
+    places: &[usize],
     machine: &mut Machine,
     outside: &mut Outside<'_, S>,
 ) -> Result<(), MachineFault>
-    requires { length machine.old.world.hidden ≡ length context.now.switches }
+    requires { All (λ place. place < length context.now.switches) places.now }
     ensures asks { Asked S.events outside.old outside.new }
-    ensures does { (F : Facts) → Extends outside.new.facts.now F → GivesKnown MachineFault.Memory (λ u. (tt, machine.new)) result (run F context.now machine.old (puts (emitted_from F context.now patterns.now machine.old.world.hidden 0))) }
+    ensures does { (F : Facts) → Extends outside.new.facts.now F → GivesKnown MachineFault.Memory (λ u. (tt, machine.new)) result (run F context.now machine.old (puts (put_at F context.now places.now))) }
     ensures sized { length machine.new.world.hidden ≡ length machine.old.world.hidden }
     ensures uncounted { OnOk result (machine.new.world.items ≡ machine.old.world.items) }
 {
-    for i in 0..context.switches().len() {
-        if !is_any_hit(context, machine.hidden(), patterns, i) {
-            continue;
-        }
-        machine.put_switch(context, i, outside)?;
+    for place in places {
+        machine.put_switch(context, *place, outside)?;
     }
     Ok(())
 }
@@ -111,9 +78,11 @@ pub(crate) fn emit<S: System>(
     ensures sized { length machine.new.world.hidden ≡ length machine.old.world.hidden }
     ensures uncounted { OnOk result (machine.new.world.items ≡ machine.old.world.items) }
 {
-    let patterns = patterns_in(machine.alloc(), text, start, end)?;
-    if !has_any_hit(context, machine.hidden(), patterns.as_slice()) {
-        return Ok(());
-    }
-    put_hits(context, patterns.as_slice(), machine, outside)
+    let alloc = machine.alloc();
+    let patterns = patterns_in(alloc, text, start, end)?;
+    let hidden = machine.hidden();
+    let places = context
+        .switches()
+        .any_hits(alloc, patterns.as_slice(), hidden)?;
+    put_switches(context, places.as_slice(), machine, outside)
 }

@@ -36,12 +36,7 @@ fn next_hit(
     ensures within { IfSome result (λ i. (from ≤ i) × (i < length context.now.switches)) }
     ensures finds { (F : Facts) (p : tree.Pattern) (items : tree.Items) (levels : Levels) → pattern.now ≡ matching p → NextHit F context.now machine.now p items levels from result }
 {
-    for i in from..context.switches().len() {
-        if context.switches().is_hit(pattern, machine.hidden(), i) {
-            return Some(i);
-        }
-    }
-    None
+    context.switches().next_hit(pattern, machine.hidden(), from)
 }
 
 /// An X is opened for the hit at a place of the line.

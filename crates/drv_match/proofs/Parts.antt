@@ -58,7 +58,7 @@ part_filter test other (x ∷ xs) (suc start) (suc end) low high p =
     rw (no, size) (part_filter test other xs start end (omega (arith, low)) (omega (arith, high)) rest)
 
 -- the same whether any does
-any_filter : (test : ℕ → Bool) (xs : List ℕ) → list_any test xs ≡ nat_lt 0 (length (filter test xs))
+pub any_filter : (test : ℕ → Bool) (xs : List ℕ) → list_any test xs ≡ nat_lt 0 (length (filter test xs))
 any_filter test [] = refl
 any_filter test (x ∷ xs) = by (test x) refl (any_filter test xs)
   where
@@ -74,7 +74,7 @@ filter_same f g same (x ∷ xs) = rw (same x, filter_same f g same xs) refl
 abbrev pub counts : List (List ℕ) → List Bool → Bool → ℕ → Bool
 counts names hidden broad i = not (get_or hidden i false) && (broad || is_live names i)
 
-named_first : (names : List (List ℕ)) (hidden : List Bool) (pattern : Pattern) (i : ℕ) → is_hit names hidden pattern i ≡ (is_named pattern (name_at names i) && counts names hidden (is_broad pattern) i)
+pub named_first : (names : List (List ℕ)) (hidden : List Bool) (pattern : Pattern) (i : ℕ) → is_hit names hidden pattern i ≡ (is_named pattern (name_at names i) && counts names hidden (is_broad pattern) i)
 named_first names hidden pattern i = by (not (get_or hidden i false)) (is_named pattern (name_at names i)) (is_broad pattern || is_live names i)
   where
     by : (t u v : Bool) → ((t && u) && v) ≡ (u && (t && v))
@@ -86,7 +86,7 @@ as_part : (names : List (List ℕ)) (order : List ℕ) (pattern : Pattern) (star
 as_part names order pattern start end b = record { before = b.before; inside = b.named; behind = b.behind }
 
 -- the hits of an order are those of the block
-order_hits : (names : List (List ℕ)) (order : List ℕ) (hidden : List Bool) (pattern : Pattern) (start end : ℕ) → IsBlock names order pattern start end → filter (is_hit names hidden pattern) order ≡ filter (counts names hidden (is_broad pattern)) (take (end - start) (drop start order))
+pub order_hits : (names : List (List ℕ)) (order : List ℕ) (hidden : List Bool) (pattern : Pattern) (start end : ℕ) → IsBlock names order pattern start end → filter (is_hit names hidden pattern) order ≡ filter (counts names hidden (is_broad pattern)) (take (end - start) (drop start order))
 order_hits names order hidden pattern start end b =
     filter_same (is_hit names hidden pattern) (λ i. is_named pattern (name_at names i) && counts names hidden (is_broad pattern) i) (named_first names hidden pattern) order
     ∙ part_filter (λ i. is_named pattern (name_at names i)) (counts names hidden (is_broad pattern)) order start end b.ascends b.within (as_part names order pattern start end b)
@@ -123,11 +123,11 @@ abbrev pub all_hidden : List ℕ → List Bool → List Bool
 all_hidden [] hidden = hidden
 all_hidden (i ∷ places) hidden = all_hidden places (set hidden i true)
 
-hidden_length : (places : List ℕ) (hidden : List Bool) → length (all_hidden places hidden) ≡ length hidden
+pub hidden_length : (places : List ℕ) (hidden : List Bool) → length (all_hidden places hidden) ≡ length hidden
 hidden_length [] hidden = refl
 hidden_length (i ∷ places) hidden = hidden_length places (set hidden i true) ∙ length-set hidden i true
 
-hidden_at : (places : List ℕ) (hidden : List Bool) (i : ℕ) → i < length hidden → get_or (all_hidden places hidden) i false ≡ (get_or hidden i false || list_any (nat_eq i) places)
+pub hidden_at : (places : List ℕ) (hidden : List Bool) (i : ℕ) → i < length hidden → get_or (all_hidden places hidden) i false ≡ (get_or hidden i false || list_any (nat_eq i) places)
 hidden_at [] hidden i within = sym (or-false (get_or hidden i false))
 hidden_at (j ∷ places) hidden i within = hidden_at places (set hidden j true) i (rw (length-set hidden j true) within) ∙ by (i == j) refl
   where
@@ -139,7 +139,7 @@ any_same : (f g : ℕ → Bool) → ((x : ℕ) → f x ≡ g x) → (xs : List �
 any_same f g same [] = refl
 any_same f g same (x ∷ xs) = rw (same x, any_same f g same xs) refl
 
-at_place : (test : ℕ → Bool) (i : ℕ) (xs : List ℕ) → list_any (λ x. test x && nat_eq i x) xs ≡ (test i && list_any (nat_eq i) xs)
+pub at_place : (test : ℕ → Bool) (i : ℕ) (xs : List ℕ) → list_any (λ x. test x && nat_eq i x) xs ≡ (test i && list_any (nat_eq i) xs)
 at_place test i [] = by (test i)
   where
     by : (t : Bool) → false ≡ (t && false)
@@ -156,7 +156,7 @@ at_place test i (x ∷ xs) = by (i == x) (test i) refl refl (at_place test i xs)
     by true false e is ih = let same : i ≡ x = eqb-true i x e in let no : test x ≡ false = sym (ap test same) ∙ is in rw (no, is) (ih ∙ rw is refl)
     by false u e is ih = rw e (second (test x) ih)
 
-block_has : (names : List (List ℕ)) (order : List ℕ) (pattern : Pattern) (start end i : ℕ) → IsOrder names order → IsBlock names order pattern start end → i < length names → list_any (nat_eq i) (take (end - start) (drop start order)) ≡ is_named pattern (name_at names i)
+pub block_has : (names : List (List ℕ)) (order : List ℕ) (pattern : Pattern) (start end i : ℕ) → IsOrder names order → IsBlock names order pattern start end → i < length names → list_any (nat_eq i) (take (end - start) (drop start order)) ≡ is_named pattern (name_at names i)
 block_has names order pattern start end i o b within =
     let found = has_place names order o i within in
     let here : list_any (nat_eq i) order ≡ true = list_any_at (nat_eq i) order found.0 i found.1 (rw found.2 (nat_eq_equiv.refl i)) in

@@ -1,7 +1,7 @@
 use Rattle.drv_match.specs.Pattern.{Pattern}
 use Rattle.std.specs.Cmp.Lexicographic.{pointwise}
 use Rattle.std.specs.List.{filter, list_any, range_with_len, starts_with}
-use Rattle.std.specs.Prelude.{◌&&◌, ◌+◌, ◌++◌, ◌==◌, ◌||◌, Bool, List, [], ◌∷◌, codes, drop, false, get_or, if◌then◌else◌, length, nat_eq, nat_le, not, ℕ}
+use Rattle.std.specs.Prelude.{◌≡◌, ◌≤◌, ◌<◌, ◌&&◌, ◌+◌, ◌++◌, ◌==◌, ◌||◌, Bool, List, [], ◌∷◌, None, Option, Some, codes, drop, false, get_or, if◌then◌else◌, length, nat_eq, nat_le, not, true, ℕ}
 use Rattle.std.specs.Str.{byte}
 
 -- Which switches of a command line are live, and which of them a pattern hits. A line is the list of its
@@ -55,6 +55,20 @@ is_hit names hidden pattern i =
 -- the places that a pattern hits, in order
 abbrev pub hits : List (List ℕ) → List Bool → Pattern → List ℕ
 hits names hidden pattern = filter (is_hit names hidden pattern) (range_with_len 0 (length names))
+
+-- the switch at a place is hit by one of these patterns
+abbrev pub is_any_hit : List (List ℕ) → List Bool → List Pattern → ℕ → Bool
+is_any_hit names hidden patterns i = list_any (λ pattern. is_hit names hidden pattern i) patterns
+
+-- the places that one of these patterns hits, in order
+abbrev pub any_hits : List (List ℕ) → List Bool → List Pattern → List ℕ
+any_hits names hidden patterns = filter (is_any_hit names hidden patterns) (range_with_len 0 (length names))
+
+-- the first place from one on that a pattern hits, if it hits one
+abbrev pub IsNextHit : List (List ℕ) → List Bool → Pattern → ℕ → Option ℕ → Type 0
+IsNextHit names hidden pattern from None = (i : ℕ) → from ≤ i → i < length names → is_hit names hidden pattern i ≡ false
+IsNextHit names hidden pattern from (Some next) =
+    (from ≤ next) × (next < length names) × (is_hit names hidden pattern next ≡ true) × ((i : ℕ) → from ≤ i → i < next → is_hit names hidden pattern i ≡ false)
 
 -- which switches are hidden once a pattern is hidden too (GCC manual, "Spec Files", `%<S`)
 abbrev pub hidden_by : Pattern → List (List ℕ) → List Bool → List Bool

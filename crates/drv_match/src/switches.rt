@@ -1,9 +1,9 @@
 //! The switches of a line, and which of them a pattern hits.
 
-ghost use Rattle.drv_match.specs.Indexed.{AreNamed};
-ghost use Rattle.drv_match.specs.Matching.{hidden_by, hits, is_broad, is_hit, is_live, name_at};
+ghost use Rattle.drv_match.specs.Indexed.{AreNamed, SameHits};
+ghost use Rattle.drv_match.specs.Matching.{IsNextHit, any_hits, hidden_by, hits, is_broad, is_hit, is_live, name_at};
 ghost use Rattle.drv_match.specs.Order.{IsBlock, IsOrder};
-ghost use Rattle.std.specs.Prelude.{◌≡◌, ◌<◌, ◌&&◌, ◌||◌, Bool, IfOk, List, false, get_or, length, map, nat_lt, not, ℕ};
+ghost use Rattle.std.specs.Prelude.{◌≡◌, ◌<◌, ◌&&◌, ◌||◌, ◌∷◌, All, Bool, IfOk, List, false, get_or, length, map, nat_lt, not, ℕ};
 
 use crate::hidden::Hidden;
 use crate::liveness::live_flags;
@@ -107,6 +107,41 @@ impl Switches {
         Ok(Listing::from_vec(places))
     }
 
+    /// The places of the switches that one of these patterns hits, in order. Want of memory is the only error.
+    pub fn any_hits(
+        &self,
+        alloc: Global,
+        patterns: &[Pattern<'_>],
+        hidden: &Hidden,
+    ) -> Result<Listing<usize>, AllocError>
+        requires { length hidden.now ≡ length self.now }
+        ensures places { IfOk result (λ places. places ≡ any_hits self.now hidden.now patterns.now) }
+        ensures within { IfOk result (λ places. All (λ place. place < length self.now) places) }
+    {
+        let [first, others @ ..] = self.from_first_hit(patterns, hidden) else {
+            return Ok(Listing::new(alloc));
+        };
+        let others = self.from_first_hit(others, hidden);
+        if others.is_empty() {
+            return self.hits(alloc, first, hidden);
+        }
+        self.merged_hits(alloc, first, others, hidden)
+    }
+
+    /// The first switch from a place on that a pattern hits, if it hits one. It takes no memory.
+    pub fn next_hit(&self, pattern: &Pattern<'_>, hidden: &Hidden, from: usize) -> Option<usize>
+        requires { length hidden.now ≡ length self.now }
+        ensures { IsNextHit self.now hidden.now pattern.now from result }
+    {
+        let named = self.named(pattern);
+        // What is named few times is looked for among its places, in any order of these; else the line is gone over.
+        if named.len() <= self.len() / named.len().max(1) {
+            self.next_of(named, pattern, hidden, from)
+        } else {
+            self.next_on_line(pattern, hidden, from)
+        }
+    }
+
     /// Whether a pattern hits any switch. It takes no memory.
     pub fn has_hit(&self, pattern: &Pattern<'_>, hidden: &Hidden) -> bool
         requires { length hidden.now ≡ length self.now }
@@ -144,6 +179,99 @@ impl Switches {
         for place in named {
             hidden.add(*place);
         }
+    }
+
+    /// These patterns from the first one on that hits a switch.
+    fn from_first_hit<'p, 'n>(
+        &self,
+        patterns: &'p [Pattern<'n>],
+        hidden: &Hidden,
+    ) -> &'p [Pattern<'n>]
+        requires { length hidden.now ≡ length self.now }
+        ensures { SameHits self.now hidden.now result.now patterns.now }
+    {
+        let mut at = 0;
+        while at < patterns.len() && !self.has_hit(&patterns[at], hidden) {
+            at += 1;
+        }
+        &patterns[at..]
+    }
+
+    /// The places that one of these patterns hits, in order, by a flag for each place.
+    fn merged_hits(
+        &self,
+        alloc: Global,
+        first: &Pattern<'_>,
+        others: &[Pattern<'_>],
+        hidden: &Hidden,
+    ) -> Result<Listing<usize>, AllocError>
+        requires { length hidden.now ≡ length self.now }
+        ensures { IfOk result (λ places. places ≡ any_hits self.now hidden.now (first.now ∷ others.now)) }
+    {
+        let mut flags = vec![in alloc; false; self.len()]?;
+        self.mark_hits(first, hidden, &mut flags);
+        for pattern in others {
+            self.mark_hits(pattern, hidden, &mut flags);
+        }
+        let mut places = Vec::new(alloc);
+        for place in 0..flags.len() {
+            if !flags[place] {
+                continue;
+            }
+            places.push(place)?;
+        }
+        Ok(Listing::from_vec(places))
+    }
+
+    /// Marks the places that a pattern hits.
+    fn mark_hits(&self, pattern: &Pattern<'_>, hidden: &Hidden, flags: &mut Vec<bool>)
+        requires of_these { length hidden.now ≡ length self.now }
+        requires as_many { length flags.old.items ≡ length self.now }
+        ensures marked { (i : ℕ) → i < length self.now → get_or flags.new.items i false ≡ (get_or flags.old.items i false || is_hit self.now hidden.now pattern.now i) }
+        ensures as_many { length flags.new.items ≡ length self.now }
+    {
+        let named = self.named(pattern);
+        let broad = pattern.is_broad();
+        for place in named {
+            if self.counts(broad, hidden, *place) {
+                flags[*place] = true;
+            }
+        }
+    }
+
+    /// The first of these places from one on that a pattern hits, which names no other ones.
+    fn next_of(
+        &self,
+        named: &[usize],
+        pattern: &Pattern<'_>,
+        hidden: &Hidden,
+        from: usize,
+    ) -> Option<usize>
+        requires named { AreNamed self.now pattern.now named.now }
+        requires of_these { length hidden.now ≡ length self.now }
+        ensures { IsNextHit self.now hidden.now pattern.now from result }
+    {
+        let broad = pattern.is_broad();
+        let mut next = self.len();
+        for place in named {
+            if from <= *place && *place < next && self.counts(broad, hidden, *place) {
+                next = *place;
+            }
+        }
+        if next < self.len() { Some(next) } else { None }
+    }
+
+    /// The first place of the line from one on that a pattern hits, if it hits one.
+    fn next_on_line(&self, pattern: &Pattern<'_>, hidden: &Hidden, from: usize) -> Option<usize>
+        requires { length hidden.now ≡ length self.now }
+        ensures { IsNextHit self.now hidden.now pattern.now from result }
+    {
+        for i in from..self.len() {
+            if self.is_hit(pattern, hidden, i) {
+                return Some(i);
+            }
+        }
+        None
     }
 
     /// The places that a pattern names, by name, then by place.
