@@ -190,6 +190,12 @@ def lost_goals(said):
     return found
 
 
+def outdated_proof(said):
+    """The folder of proofs/ of a function of whose proof a check says that it names what isn't there, where there is one."""
+    errors = filter(None, map(ERROR.match, said.split("\n")))
+    return next((it[1].replace("+", "") for it in errors if OF_NAMES.search(it[2])), None)
+
+
 def refused_in(said, texts, places):
     """A goal that a check of these texts says is lost by one of the functions at these places, where there is one."""
     functions = [it for file in {file for file, _, _ in places} for it in functions_of(file, texts[file]) if (file, it.owner, it.name) in places]

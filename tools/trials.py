@@ -5,7 +5,7 @@ from dataclasses import dataclass, replace
 
 from calls import public_calls
 from crates import Clock, Crates, Proof, Room, Task, costs, in_lanes, prove
-from edits import Edit, is_read, lost_goals, refused_in, text_of, together
+from edits import Edit, is_read, lost_goals, outdated_proof, refused_in, text_of, together
 
 # The most edits that are tried in one check.
 MOST = 40
@@ -76,7 +76,12 @@ def alone(room, edit):
     lost = lost_goals(said)
     if status == 1 and lost:
         return Verdict(True, f"refused alone: {lost[0]}")
-    return Verdict(False, "NOT REFUSED: the crate is still proved with this edit" if status == 0 else "NOT REFUSED: no function lost a goal")
+    if status == 0:
+        return Verdict(False, "NOT REFUSED: the crate is still proved with this edit")
+    outdated = outdated_proof(said)
+    if outdated:
+        return Verdict(False, f"NOT JUDGED: proofs/{outdated} names a call or a branch that the edit took away")
+    return Verdict(False, "NOT REFUSED: no function lost a goal")
 
 
 class Batch:
