@@ -4,7 +4,8 @@
 usage: tools/calls.py [CRATE..]
 
 A public call is a function that a crate shows, a method of a type that it shows, or the `main` of a program. A law gives and changes
-nothing, so that no body of it can be wrong. The exit status is 1 where an edit names no call, or one that isn't there.
+nothing, so that no body of it can be wrong; why another call has none is said here. The exit status is 1 where a call has neither an edit
+nor such a reason, and where an edit names no call, or one that isn't there.
 """
 
 import os
@@ -20,6 +21,16 @@ ITEM = re.compile(r"^(pub )?(?:pub\([^)]*\) )?(?:const |unsafe )*(?:fn|struct|en
 PUBLIC_MODULE = re.compile(r"^pub mod (\w+)", re.M)
 # Traits whose methods nobody calls by their names.
 UNCALLED = "Drop", "Model"
+# Why no body of a call can be refused.
+NO_CLAUSE = "no clause says what the runtime gives"
+REASONS = {
+    "drv_words::Listing::new": "a list of items of any type has no other value without one",
+    "drv_system::FactTable::read_answer": "it lends an answer of the table, and has no other at hand",
+    "drv_system::arguments": NO_CLAUSE,
+    "drv_system::called_as": NO_CLAUSE,
+    "drv_system::call": NO_CLAUSE,
+    "drv_search::SearchFault::from": "its other refusal carries a word, which it can't make",
+}
 
 
 def split_outside(text):
@@ -133,7 +144,7 @@ def edits_of(crate):
 def main():
     with open(f"{ROOT}/crates.txt", encoding="utf-8") as file:
         crates = [line.partition(":")[0] for line in file if line.partition("#")[0].strip()]
-    bare, laws, wrong, count = [], [], [], 0
+    bare, laws, reasoned, wrong, count = [], [], [], [], 0
     for crate in [it for it in crates if it in (sys.argv[1:] or crates)]:
         calls, edits = public_calls(f"{ROOT}/crates/{crate}", crate), edits_of(crate)
         count += len(calls)
@@ -143,11 +154,13 @@ def main():
             if turned:
                 print("\n    ".join([call, *turned]))
             else:
-                (laws if gives_nothing else bare).append(call)
-    for title, names in ("laws", laws), ("calls without an edit", bare), ("edits that name no public call", wrong):
+                (laws if gives_nothing else reasoned if call in REASONS else bare).append(call)
+    reasons = [f"{it}: {REASONS[it]}" for it in reasoned]
+    parts = ("laws", laws), ("calls of which no body can be refused", reasons), ("calls without an edit", bare)
+    for title, names in (*parts, ("edits that name no public call", wrong)):
         print("\n    ".join([f"{title}: {len(names)}", *names]))
     print(f"{count} public calls")
-    return int(bool(wrong))
+    return int(bool(wrong or bare))
 
 
 if __name__ == "__main__":
