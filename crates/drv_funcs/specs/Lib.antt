@@ -2,4 +2,5 @@ pub mod Comparing
 pub mod Functions
 pub mod Outcome
 pub mod Reading
+pub mod Telling
 pub mod Versions

@@ -1,9 +1,9 @@
 //! The functions that ask for a variable or a path.
 
 ghost use Rattle.drv_funcs.specs.Outcome.{exists, getenv, if_exists, if_exists_else, if_exists_then_else, is_missing};
+ghost use Rattle.drv_funcs.specs.Telling.{Tells};
 ghost use Rattle.drv_system.specs.Asking.{Asks, Extends};
 ghost use Rattle.drv_system.specs.Facts.{Facts};
-ghost use Rattle.drv_system.specs.Gives.{GivesKnown};
 ghost use Rattle.drv_system.specs.Known.{Is};
 ghost use Rattle.std.specs.Prelude.{◌≡◌, IfOk};
 
@@ -19,7 +19,7 @@ pub fn getenv<S: System>(
     facts: &mut FactTable,
 ) -> Result<Option<Word>, FuncsFault>
     ensures asks { Asks (S.events sys.old) (S.events sys.new) facts.old facts.new }
-    ensures gives { (F : Facts) → Extends facts.new F → GivesKnown FuncsFault.Memory (λ word. word) result (getenv F args.now) }
+    ensures gives { Tells facts.new result (λ F. getenv F args.now) }
 {
     let [name, string] = args else {
         return Err(FuncsFault::WrongCount(Function::Getenv));
@@ -42,7 +42,7 @@ pub fn if_exists<S: System>(
     facts: &mut FactTable,
 ) -> Result<Option<Word>, FuncsFault>
     ensures asks { Asks (S.events sys.old) (S.events sys.new) facts.old facts.new }
-    ensures gives { (F : Facts) → Extends facts.new F → GivesKnown FuncsFault.Memory (λ word. word) result (if_exists F args.now) }
+    ensures gives { Tells facts.new result (λ F. if_exists F args.now) }
 {
     let [path] = args else {
         return Err(FuncsFault::WrongCount(Function::IfExists));
@@ -60,7 +60,7 @@ pub fn if_exists_else<S: System>(
     facts: &mut FactTable,
 ) -> Result<Option<Word>, FuncsFault>
     ensures asks { Asks (S.events sys.old) (S.events sys.new) facts.old facts.new }
-    ensures gives { (F : Facts) → Extends facts.new F → GivesKnown FuncsFault.Memory (λ word. word) result (if_exists_else F args.now) }
+    ensures gives { Tells facts.new result (λ F. if_exists_else F args.now) }
 {
     let [path, other] = args else {
         return Err(FuncsFault::WrongCount(Function::IfExistsElse));
@@ -78,7 +78,7 @@ pub fn if_exists_then_else<S: System>(
     facts: &mut FactTable,
 ) -> Result<Option<Word>, FuncsFault>
     ensures asks { Asks (S.events sys.old) (S.events sys.new) facts.old facts.new }
-    ensures gives { (F : Facts) → Extends facts.new F → GivesKnown FuncsFault.Memory (λ word. word) result (if_exists_then_else F args.now) }
+    ensures gives { Tells facts.new result (λ F. if_exists_then_else F args.now) }
 {
     match args {
         [path, first] => {
