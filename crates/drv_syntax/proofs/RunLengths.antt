@@ -1,7 +1,7 @@
 use Rattle.bstr.specs.Bytes.{is_in}
 use Rattle.bstr.specs.Find.{IsFirstByte}
 use Rattle.drv_syntax.specs.Bytes.{is_of}
-use Rattle.drv_syntax.specs.Reader.Steps.{runs, stops}
+use Rattle.drv_syntax.specs.Reader.Steps.{said, said_stops}
 use Rattle.drv_syntax.specs.declared.reader.stages.ListKind.{ListKind}
 use Rattle.std.proofs.Common.{◌≡◌, ◌∙◌, ◌≤◌, Bool, true, false, List, [], ◌∷◌, ap, arith, if◌then◌else◌, length, refl, sym, ℕ}
 use Rattle.std.proofs.lemmas.List.Sums.{prefix_len_is}
@@ -29,11 +29,11 @@ passes set b h = by (is_of set b) refl
 stopped : (set : List ℕ) (b : ℕ) → is_in set b ≡ true → not (is_of set b) ≡ false
 stopped set b h = ap (λ (t : Bool). not t) (sym (in_set set b) ∙ h)
 
-pub run_found : (kind : ListKind) (text : List ℕ) (found : Option ℕ) → IsFirstByte (is_in (stops kind)) text found → unwrap_or found (length text) ≡ prefix_len (runs kind) text
-run_found kind text None h = sym (prefix_len_is (runs kind) text (length text) 0 (omega arith) (λ k l. passes (stops kind) _ (h k (omega arith) l)) (λ l. absurd (omega (arith, l))))
-run_found kind text (Some k) h =
-    sym (prefix_len_is (runs kind) text k 0 (omega (arith, h.0.high)) (λ i l. passes (stops kind) _ (h.0.before i (omega arith) l)) (λ l. stopped (stops kind) _ h.1))
+pub said_found : (kind : ListKind) (text : List ℕ) (found : Option ℕ) → IsFirstByte (is_in (said_stops kind)) text found → unwrap_or found (length text) ≡ prefix_len (said kind) text
+said_found kind text None h = sym (prefix_len_is (said kind) text (length text) 0 (omega arith) (λ k l. passes (said_stops kind) _ (h k (omega arith) l)) (λ l. absurd (omega (arith, l))))
+said_found kind text (Some k) h =
+    sym (prefix_len_is (said kind) text k 0 (omega (arith, h.0.high)) (λ i l. passes (said_stops kind) _ (h.0.before i (omega arith) l)) (λ l. stopped (said_stops kind) _ h.1))
 
-pub run_within : (kind : ListKind) (text : List ℕ) (found : Option ℕ) → IsFirstByte (is_in (stops kind)) text found → unwrap_or found (length text) ≤ length text
-run_within kind text None h = omega arith
-run_within kind text (Some k) h = omega (arith, h.0.high)
+pub said_within : (kind : ListKind) (text : List ℕ) (found : Option ℕ) → IsFirstByte (is_in (said_stops kind)) text found → unwrap_or found (length text) ≤ length text
+said_within kind text None h = omega arith
+said_within kind text (Some k) h = omega (arith, h.0.high)

@@ -4,8 +4,9 @@ use Rattle.drv_syntax.specs.Bytes.{is_name, is_suffix, is_word}
 use Rattle.drv_syntax.specs.Labels.{Label, word_label}
 use Rattle.drv_syntax.specs.Reader.Marks.{byte_labels}
 use Rattle.drv_syntax.specs.Reader.States.{Reads, Turns}
-use Rattle.drv_syntax.specs.Reader.Steps.{Walk, at_stage, plain_tokens, runs, step, step_at, then_walk, walk, with_part, with_plains, with_word}
+use Rattle.drv_syntax.specs.Reader.Steps.{Walk, at_stage, plain_tokens, runs, said, step, step_at, then_walk, walk, with_part, with_plains, with_word}
 use Rattle.drv_syntax.specs.Reader.Turns.{part}
+use Rattle.drv_syntax.specs.declared.directives.SayKind.{SayKind}
 use Rattle.drv_syntax.specs.declared.fault.SyntaxFault.TheVariants.{Memory}
 use Rattle.drv_syntax.specs.declared.fault.SyntaxFault.{SyntaxFault}
 use Rattle.drv_syntax.specs.declared.reader.actions.Single.TheVariants as singles
@@ -78,6 +79,27 @@ pub name_takes : (v u : Walk) (start k n : ℕ) (text : List ℕ) → v.stage �
     → k ≡ prefix_len is_name text → length v.word + k ≤ 255 → walked (with_word (v.word ++ take k text) v) ≡ walked u → walk v n text ≡ walk u (n + k) (drop k text)
 name_takes v u start k n text h e l d =
     word_take v (at.List (stages.NameText start)) h is_name 255 (λ p i b m g. rw (g, within (length p + 1) 255 (omega (arith, m))) refl) k n text (omega (arith, e)) l
+    ∙ ap (λ (r : Result Walk SyntaxFault). then_walk r (λ x. walk x (n + k) (drop k text))) d
+
+-- in the word of %<
+pub hide_takes : (v u : Walk) (start k n : ℕ) (text : List ℕ) → v.stage ≡ at.List (stages.HideWord start)
+    → k ≡ prefix_len is_word text → walked (with_word (v.word ++ take k text) v) ≡ walked u → walk v n text ≡ walk u (n + k) (drop k text)
+hide_takes v u start k n text h e d =
+    word_take v (at.List (stages.HideWord start)) h is_word (length v.word + k) (λ p i b l g. rw (other is_word b 92 g refl, g) refl) k n text (omega (arith, e)) (omega arith)
+    ∙ ap (λ (r : Result Walk SyntaxFault). then_walk r (λ x. walk x (n + k) (drop k text))) d
+
+-- in a text for the user
+said_step : (kind : ListKind) (saying : SayKind) (start : ℕ) (v : Walk) (p : List ℕ) (n b : ℕ) → v.context.kind ≡ kind → said kind b ≡ true
+    → step (at_stage (at.List (stages.SayingText start saying)) (with_word p v)) n b ≡ Ok (at_stage (at.List (stages.SayingText start saying)) (with_word (p ++ b ∷ []) v))
+said_step lists.Top saying start v p n b k g = rw (k, other (said lists.Top) b 92 g refl, other (said lists.Top) b 10 g refl) refl
+said_step lists.InX saying start v p n b k g =
+    rw (k, other (said lists.InX) b 92 g refl, other (said lists.InX) b 10 g refl, other (said lists.InX) b 59 g refl, other (said lists.InX) b 125 g refl) refl
+said_step lists.InArguments saying start v p n b k g = rw (k, other (said lists.InArguments) b 92 g refl, other (said lists.InArguments) b 10 g refl) refl
+
+pub said_takes : (v u : Walk) (start : ℕ) (saying : SayKind) (k n : ℕ) (text : List ℕ) → v.stage ≡ at.List (stages.SayingText start saying)
+    → k ≡ prefix_len (said v.context.kind) text → walked (with_word (v.word ++ take k text) v) ≡ walked u → walk v n text ≡ walk u (n + k) (drop k text)
+said_takes v u start saying k n text h e d =
+    word_take v (at.List (stages.SayingText start saying)) h (said v.context.kind) (length v.word + k) (λ p i b l g. said_step v.context.kind saying start v p i b refl g) k n text (omega (arith, e)) (omega arith)
     ∙ ap (λ (r : Result Walk SyntaxFault). then_walk r (λ x. walk x (n + k) (drop k text))) d
 
 -- a byte that stands for itself

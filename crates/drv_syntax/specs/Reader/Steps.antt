@@ -106,6 +106,15 @@ stops lists.InArguments = ascii.backslash ∷ ascii.percent ∷ ascii.bar ∷ as
 abbrev pub runs : ListKind → ℕ → Bool
 runs kind b = not (is_of (stops kind) b)
 
+-- the bytes that do more in a text for the user than stand for themselves
+abbrev pub said_stops : ListKind → List ℕ
+said_stops lists.Top = ascii.backslash ∷ ascii.newline ∷ []
+said_stops lists.InX = ascii.backslash ∷ ascii.newline ∷ ascii.semicolon ∷ ascii.closing_brace ∷ []
+said_stops lists.InArguments = ascii.backslash ∷ ascii.newline ∷ []
+
+abbrev pub said : ListKind → ℕ → Bool
+said kind b = not (is_of (said_stops kind) b)
+
 -- the tokens of bytes that stand for themselves, the first at the place n, with the place in the list behind it
 abbrev pub plain_tokens : ℕ → ℕ → List ℕ → List Token
 plain_tokens n next [] = []

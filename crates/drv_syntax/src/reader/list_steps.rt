@@ -209,7 +209,7 @@ fn option_text(at: u32, n: u32, b: u8, w: &mut Walk) -> Result<(), SyntaxFault>
 }
 
 /// In the text of `%e`.
-fn saying_text(at: u32, kind: SayKind, n: u32, b: u8, w: &mut Walk) -> Result<(), SyntaxFault>
+pub fn saying_text(at: u32, kind: SayKind, n: u32, b: u8, w: &mut Walk) -> Result<(), SyntaxFault>
     requires room { length w.old.tokens.items < 2 ^ 30 }
     requires place { n < 2 ^ 31 }
     requires trail { w.old.trailing < 2 ^ 30 }
@@ -279,7 +279,7 @@ fn hide_start(at: u32, n: u32, b: u8, w: &mut Walk) -> Result<(), SyntaxFault>
 }
 
 /// In its word.
-fn hide_word(at: u32, n: u32, b: u8, w: &mut Walk) -> Result<(), SyntaxFault>
+pub fn hide_word(at: u32, n: u32, b: u8, w: &mut Walk) -> Result<(), SyntaxFault>
     requires room { length w.old.tokens.items < 2 ^ 30 }
     requires place { n < 2 ^ 31 }
     requires trail { w.old.trailing < 2 ^ 30 }

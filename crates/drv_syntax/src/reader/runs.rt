@@ -15,24 +15,48 @@ use crate::reader::stages::ListKind;
 use crate::reader::walk::Walk;
 use bstr::ByteSlice;
 
-/// Where the first byte of a text is that does more in such a list than stand for itself.
-fn first_stop(kind: ListKind, text: &[u8]) -> Option<usize>
-    ensures { IsFirstByte (is_in (steps.stops kind)) text.now result }
+/// The byte stands for itself in such a list.
+#[inline]
+fn stands(kind: ListKind, b: u8) -> bool
+    ensures { result ≡ steps.runs kind b }
 {
-    match kind {
-        ListKind::Top => text.find_byteset(b"\\%| \t\n"),
-        ListKind::InX => text.find_byteset(b"\\%| \t\n;}"),
-        ListKind::InArguments => text.find_byteset(b"\\%| \t\n)"),
+    match b {
+        b'\\' | b'%' | b'|' | b' ' | b'\t' | b'\n' => false,
+        b';' | b'}' => !matches!(kind, ListKind::InX),
+        b')' => !matches!(kind, ListKind::InArguments),
+        _ => true,
     }
 }
 
-/// How many bytes a text begins with that stand for themselves in such a list.
-#[tactic(auto, using(crate::proofs::RunLengths::run_found, crate::proofs::RunLengths::run_within))]
+/// How many bytes a text begins with that stand for themselves in such a list. Most runs have few bytes, so each is tested.
 pub fn run_length(kind: ListKind, text: &[u8]) -> usize
     ensures run { result ≡ prefix_len (steps.runs kind) text.now }
     ensures within { result ≤ length text.now }
 {
-    first_stop(kind, text).unwrap_or(text.len())
+    let mut length = 0;
+    while length < text.len() && stands(kind, text[length]) {
+        length += 1;
+    }
+    length
+}
+
+/// Where the first byte is that does more in a text for the user than stand for itself, in such a list.
+fn said_stop(kind: ListKind, text: &[u8]) -> Option<usize>
+    ensures { IsFirstByte (is_in (steps.said_stops kind)) text.now result }
+{
+    match kind {
+        ListKind::Top | ListKind::InArguments => text.find_byteset(b"\\\n"),
+        ListKind::InX => text.find_byteset(b"\\\n;}"),
+    }
+}
+
+/// How many bytes of a text for the user a text begins with.
+#[tactic(auto, using(crate::proofs::RunLengths::said_found, crate::proofs::RunLengths::said_within))]
+pub fn said_length(kind: ListKind, text: &[u8]) -> usize
+    ensures run { result ≡ prefix_len (steps.said kind) text.now }
+    ensures within { result ≤ length text.now }
+{
+    said_stop(kind, text).unwrap_or(text.len())
 }
 
 /// How many bytes of a name a text begins with.

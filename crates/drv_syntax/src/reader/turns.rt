@@ -4,11 +4,14 @@ ghost use Rattle.drv_words.specs.Bytes as ascii;
 ghost use Rattle.drv_syntax.specs.Reader.States.{Reads, Turns, state};
 ghost use Rattle.std.specs.Prelude.{◌≡◌, ◌<◌, ◌≤◌, ◌^◌, ◌+◌, ◌*◌, ◌∷◌, IfOk, OnOk, length};
 
+use crate::directives::SayKind;
 use crate::fault::SyntaxFault;
 use crate::reader::edits::with_plains;
 use crate::reader::head_steps::test_word;
-use crate::reader::list_steps::{name_text, start, suffix_run};
-use crate::reader::runs::{extend, front, name_length, run_length, suffix_length, word_length};
+use crate::reader::list_steps::{hide_word, name_text, saying_text, start, suffix_run};
+use crate::reader::runs::{
+    extend, front, name_length, run_length, said_length, suffix_length, word_length,
+};
 use crate::reader::stages::{Form, Head, HeadStage, ListStage, Stage};
 use crate::reader::steps::step;
 use crate::reader::walk::Walk;
@@ -61,6 +64,50 @@ fn name_turn(at: u32, n: u32, text: &[u8], w: &mut Walk) -> Result<usize, Syntax
     Ok(size + 1)
 }
 
+/// In the word of `%<`: the rest of it, and the byte behind it.
+fn hide_turn(at: u32, n: u32, text: &[u8], w: &mut Walk) -> Result<usize, SyntaxFault>
+    requires here { w.old.stage ≡ Stage.List (ListStage.HideWord at) }
+    requires room { length w.old.tokens.items < 2 ^ 29 }
+    requires place { n + length text.now < 2 ^ 30 }
+    requires trail { w.old.trailing < 2 ^ 29 }
+    ensures does { Reads n text.now (state w.old) (state w.new) result }
+    ensures size { IfOk result (λ taken. length w.new.tokens.items ≤ length w.old.tokens.items + 4 * taken) }
+    ensures trail { IfOk result (λ taken. w.new.trailing ≤ w.old.trailing + 4 * taken) }
+{
+    let size = word_length(text);
+    extend(size, text, w)?;
+    if size == text.len() {
+        return Ok(size);
+    }
+    hide_word(at, n + size as u32, text[size], w)?;
+    Ok(size + 1)
+}
+
+/// In a text for the user: the rest of it, and the byte behind it.
+fn saying_turn(
+    at: u32,
+    kind: SayKind,
+    n: u32,
+    text: &[u8],
+    w: &mut Walk,
+) -> Result<usize, SyntaxFault>
+    requires here { w.old.stage ≡ Stage.List (ListStage.SayingText at kind) }
+    requires room { length w.old.tokens.items < 2 ^ 29 }
+    requires place { n + length text.now < 2 ^ 30 }
+    requires trail { w.old.trailing < 2 ^ 29 }
+    ensures does { Reads n text.now (state w.old) (state w.new) result }
+    ensures size { IfOk result (λ taken. length w.new.tokens.items ≤ length w.old.tokens.items + 4 * taken) }
+    ensures trail { IfOk result (λ taken. w.new.trailing ≤ w.old.trailing + 4 * taken) }
+{
+    let size = said_length(w.context.kind, text);
+    extend(size, text, w)?;
+    if size == text.len() {
+        return Ok(size);
+    }
+    saying_text(at, kind, n + size as u32, text[size], w)?;
+    Ok(size + 1)
+}
+
 /// In the word of a test: the rest of it, and the byte behind it.
 fn word_turn(
     head: Head,
@@ -101,6 +148,8 @@ fn run(n: u32, text: &[u8], w: &mut Walk) -> Result<usize, SyntaxFault>
     match w.stage {
         Stage::List(ListStage::SuffixRun { at, kind }) => suffix_turn(at, kind, n, text, w),
         Stage::List(ListStage::NameText { at }) => name_turn(at, n, text, w),
+        Stage::List(ListStage::HideWord { at }) => hide_turn(at, n, text, w),
+        Stage::List(ListStage::SayingText { at, kind }) => saying_turn(at, kind, n, text, w),
         Stage::Braces {
             head,
             form,
