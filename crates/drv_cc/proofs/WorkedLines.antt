@@ -15,11 +15,15 @@ use Rattle.std.specs.Prelude.{None, Option, Some}
 abbrev known : List (List ℕ)
 known = texts (codes "-Wno-unused -fno-inline -msse3 -gstrict-dwarf -fvisibility=")
 
+-- names that a spec file of the line has
+abbrev named : List (List ℕ)
+named = texts (codes "q r* *")
+
 abbrev nowhere : Surroundings
 nowhere = record { compiler = codes "/usr/bin/gcc"; folders = codes "/g/" ∷ []; compiler_path = None; library_path = None }
 
 abbrev front : List ℕ → Answer
-front line = front_of known nowhere (texts line)
+front line = front_of known [] nowhere (texts line)
 
 abbrev words_given : Answer → Option (List (List ℕ))
 words_given (Run call) = Some call.words
@@ -215,7 +219,7 @@ ignored_names : line (codes "-c a.c -fforce-addr -fno-zee -R d") ≡ gives (code
 unfolding sections ignored unpaired debugged_by
 ignored_names = refl
 
-vendors : line (codes "-c a.c -specs=v.specs -mfoo") ≡ gives (codes "-c a.c -specs=v.specs -mfoo -B /g/ --gdrv-dirs --gdrv-base=a.c --gdrv-ext=.c -pipe")
+vendors : words_given (front_of known (codes "mfoo" ∷ []) nowhere (texts (codes "-c a.c -specs=v.specs -mfoo"))) ≡ gives (codes "-c a.c -specs=v.specs -mfoo -B /g/ --gdrv-dirs --gdrv-base=a.c --gdrv-ext=.c -pipe")
 unfolding sections ignored unpaired debugged_by
 vendors = refl
 
@@ -243,7 +247,7 @@ linkers : front (codes "-fuse-ld=foo o.o") ≡ Refuse (UnknownOption (codes "-fu
 unfolding sections ignored unpaired debugged_by
 linkers = refl
 
-own_words : front (codes "a.c -specs=v --gdrv-dir=x -q") ≡ Refuse (UnknownOption (codes "--gdrv-dir=x") ∷ [])
+own_words : front_of known named nowhere (texts (codes "a.c -specs=v --gdrv-dir=x -q -rs -q2 -r2")) ≡ Refuse (UnknownOption (codes "--gdrv-dir=x") ∷ UnknownOption (codes "-q2") ∷ [])
 unfolding sections ignored unpaired debugged_by
 own_words = refl
 
@@ -273,7 +277,7 @@ verbose_run = refl
 
 -- folders of the environment
 abbrev found : Option (List (List ℕ))
-found = words_given (front_of known (record { compiler = codes "gcc"; folders = codes "/g/" ∷ codes "/h" ∷ []; compiler_path = Some (codes "/p:"); library_path = Some (codes "/l") }) (texts (codes "o.o -B q")))
+found = words_given (front_of known named (record { compiler = codes "gcc"; folders = codes "/g/" ∷ codes "/h" ∷ []; compiler_path = Some (codes "/p:"); library_path = Some (codes "/l") }) (texts (codes "o.o -B q")))
 
 found_folders : found ≡ gives (codes "o.o -B q -B /p -B ./ -B /g/ -B /h --gdrv-dirs --gdrv-lib=/l")
 unfolding sections ignored unpaired debugged_by

@@ -160,8 +160,8 @@ run_of around items =
 abbrev pub refused_or_run : Surroundings → List Item → List Refusal → Answer
 refused_or_run around items faults = if nat_lt 0 (length faults) then Refuse faults else run_of around (kept items)
 
-abbrev pub answer_of : Surroundings → List Item → Answer
-answer_of around items = if is_asked items then Ask else refused_or_run around items (refusals items)
+abbrev pub answer_of : List (List ℕ) → Surroundings → List Item → Answer
+answer_of named around items = if is_asked items then Ask else refused_or_run around items (refusals named items)
 
-abbrev pub front_of : List (List ℕ) → Surroundings → List (List ℕ) → Answer
-front_of known around words = answer_of around (items_of known None words)
+abbrev pub front_of : List (List ℕ) → List (List ℕ) → Surroundings → List (List ℕ) → Answer
+front_of known named around words = answer_of named around (items_of known None words)

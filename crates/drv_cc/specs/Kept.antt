@@ -4,8 +4,9 @@ use Rattle.drv_cc.specs.declared.refusal.Refusal.TheVariants as refusal
 use Rattle.drv_cc.specs.declared.refusal.Refusal.{Refusal}
 use Rattle.drv_cc.specs.declared.table.Part.TheVariants as part
 use Rattle.drv_cc.specs.declared.table.Part.{Part}
+use Rattle.std.specs.Cmp.Lexicographic.{pointwise}
 use Rattle.std.specs.List.{flat_map, list_any}
-use Rattle.std.specs.Prelude.{◌&&◌, ◌||◌, Bool, List, [], ◌∷◌, ◌++◌, None, Option, Some, codes, false, if◌then◌else◌, length, nat_lt, not, true, ℕ}
+use Rattle.std.specs.Prelude.{◌&&◌, ◌-◌, ◌||◌, Bool, List, [], ◌∷◌, ◌++◌, None, Option, Some, codes, drop, false, if◌then◌else◌, length, nat_eq, nat_lt, not, take, true, ℕ}
 
 -- What is asked, what is refused, and which items stay (GCC manual, "Overall Options", "Developer Options"; GCC Internals, "Option
 -- Properties", Negative).
@@ -50,27 +51,42 @@ has_input items = list_any (λ i. is_input i.part) items
 abbrev pub is_asked : List Item → Bool
 is_asked items = list_any (λ i. is_question i.part) items || (list_any (λ i. tells i.part) items && not (has_input items))
 
--- Refused: each word that is no option, unless the line names a spec file, which may know it; each option without its argument;
--- each that is not carried out here; then a line without input.
+-- the line names a spec file
 abbrev pub is_vendors : List Item → Bool
 is_vendors items = has (codes "-specs=") items
 
-abbrev pub refused_part : Bool → Part → List ℕ → List Refusal
-refused_part vendors part.Unknown name = if vendors && not (begins (codes "--gdrv-") name) then [] else refusal.UnknownOption name ∷ []
-refused_part vendors part.Lacking name = refusal.NoArgument name ∷ []
-refused_part vendors part.Refused name = refusal.NotTaken name ∷ []
-refused_part vendors part.Input name = []
-refused_part vendors part.Library name = []
-refused_part vendors part.Piece name = []
-refused_part vendors part.Switch name = []
-refused_part vendors part.Question name = []
-refused_part vendors part.Tells name = []
+-- Named: a spec file of the line may name a switch that is no option. A name that ends with * stands for all that begin so.
+abbrev pub before_star : List ℕ → Option (List ℕ)
+before_star name = if pointwise nat_eq (drop (length name - 1) name) (codes "*") then Some (take (length name - 1) name) else None
 
-abbrev pub refused_item : Bool → Item → List Refusal
-refused_item vendors i = refused_part vendors i.part i.name
+abbrev pub names_by : Option (List ℕ) → List ℕ → List ℕ → Bool
+names_by None name switch = same name switch
+names_by (Some beginning) name switch = nat_lt 0 (length beginning) && begins beginning switch
 
-abbrev pub refusals : List Item → List Refusal
-refusals items = flat_map (refused_item (is_vendors items)) items ++ (if has_input items then [] else refusal.NoInput ∷ [])
+abbrev pub names : List ℕ → List ℕ → Bool
+names switch name = names_by (before_star name) name switch
+
+abbrev pub is_named : List (List ℕ) → List ℕ → Bool
+is_named named word = not (begins (codes "--gdrv-") word) && list_any (names (drop 1 word)) named
+
+-- Refused: each word that is no option and that no spec file of the line names; each option without its argument; each that is not
+-- carried out here; then a line without input.
+abbrev pub refused_part : List (List ℕ) → Part → List ℕ → List Refusal
+refused_part named part.Unknown name = if is_named named name then [] else refusal.UnknownOption name ∷ []
+refused_part named part.Lacking name = refusal.NoArgument name ∷ []
+refused_part named part.Refused name = refusal.NotTaken name ∷ []
+refused_part named part.Input name = []
+refused_part named part.Library name = []
+refused_part named part.Piece name = []
+refused_part named part.Switch name = []
+refused_part named part.Question name = []
+refused_part named part.Tells name = []
+
+abbrev pub refused_item : List (List ℕ) → Item → List Refusal
+refused_item named i = refused_part named i.part i.name
+
+abbrev pub refusals : List (List ℕ) → List Item → List Refusal
+refusals named items = flat_map (refused_item named) items ++ (if has_input items then [] else refusal.NoInput ∷ [])
 
 -- Kept: of each class the last item stays, and what is of no class.
 abbrev pub goes : Item → List Item → Bool

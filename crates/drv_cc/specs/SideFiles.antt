@@ -60,9 +60,12 @@ is_looked_for i = is_file_part i.part && not (same i.name (codes "-"))
 abbrev pub inputs : List Item → List (List ℕ)
 inputs items = map (λ i. i.name) (filter is_looked_for items)
 
--- the suffixes and languages of C, and of C and assembler
+-- the suffixes and languages of C, with the assembler that is preprocessed, and with all assembler
 abbrev pub compiled : List ℕ × List ℕ
 compiled = (codes ".c .i .h", codes "c c-header cpp-output")
+
+abbrev pub preprocessed : List ℕ × List ℕ
+preprocessed = (codes ".c .i .h .S .sx", codes "c c-header cpp-output assembler-with-cpp")
 
 abbrev pub worked : List ℕ × List ℕ
 worked = (codes ".c .i .h .s .S .sx", codes "c c-header cpp-output assembler assembler-with-cpp")
@@ -151,6 +154,10 @@ dependencies output = by (parted period (base output))
     by None = output ++ codes ".d"
     by (Some parts) = folder output ++ parts.0 ++ codes ".d"
 
+-- the sources of which the compiler is told a name: assembler, where it is only preprocessed
+abbrev pub named : List Item → List ℕ × List ℕ
+named items = if has (codes "-E") items || has (codes "-M") items || has (codes "-MM") items then preprocessed else compiled
+
 -- Words.
 
 abbrev pub with_value : List ℕ → List ℕ → List (List ℕ)
@@ -184,7 +191,7 @@ is_some (name ∷ names) = true
 
 abbrev pub named_words : List Item → List (List ℕ)
 named_words items =
-    with_value (codes "--gdrv-dir=") (beginning items) ++ base_words items (only (sources compiled items)) ++ dependencies_asked items ++ aux_asked items
+    with_value (codes "--gdrv-dir=") (beginning items) ++ base_words items (only (sources (named items) items)) ++ dependencies_asked items ++ aux_asked items
 
 abbrev pub side_words : List Item → List (List ℕ)
 side_words items = if is_some (sources worked items) then named_words items else []

@@ -45,10 +45,10 @@ fn checked_by(check: &[u8], item: &Item, before: bool) -> bool
     ensures { result ≡ checked_by check.now item.now before }
 {
     let name = item.name.as_bytes();
-    let speaks = speaks_of(check, item.argument.as_bytes());
-    if is(name, b"-fsanitize=") & speaks {
+    let argument = item.argument.as_bytes();
+    if is(name, b"-fsanitize=") && speaks_of(check, argument) {
         true
-    } else if is(name, b"-fno-sanitize=") & speaks {
+    } else if is(name, b"-fno-sanitize=") && speaks_of(check, argument) {
         false
     } else {
         before

@@ -68,12 +68,13 @@ fn run(alloc: Global, around: &Surroundings, items: &[Item]) -> Result<Answer, A
 /// What a line comes to that is no question.
 fn refused_or_run(
     alloc: Global,
+    named: &[Word],
     around: &Surroundings,
     items: &[Item],
 ) -> Result<Answer, AllocError>
-    ensures { IfOk result (λ answer. answer ≡ refused_or_run around.now items.now (refusals items.now)) }
+    ensures { IfOk result (λ answer. answer ≡ refused_or_run around.now items.now (refusals named.now items.now)) }
 {
-    let refused = refusals(alloc, items)?;
+    let refused = refusals(alloc, named, items)?;
     if 0 < refused.len() {
         Ok(Answer::Refuse(refused))
     } else {
@@ -82,20 +83,26 @@ fn refused_or_run(
 }
 
 /// What a line with these items comes to.
-fn answer_of(alloc: Global, around: &Surroundings, items: &[Item]) -> Result<Answer, AllocError>
-    ensures { IfOk result (λ answer. answer ≡ answer_of around.now items.now) }
+fn answer_of(
+    alloc: Global,
+    named: &[Word],
+    around: &Surroundings,
+    items: &[Item],
+) -> Result<Answer, AllocError>
+    ensures { IfOk result (λ answer. answer ≡ answer_of named.now around.now items.now) }
 {
     if is_asked(items) {
         Ok(Answer::Ask)
     } else {
-        refused_or_run(alloc, around, items)
+        refused_or_run(alloc, named, around, items)
     }
 }
 
 /// What a line of `gcc` comes to (GCC manual, "Invoking GCC"): a question for the compiler, refusals, or words for the driver.
 ///
 /// `args` are the words of the line without the program's name, response files expanded; `known` are the names of options beyond
-/// this crate's table, as `gcc --completion=-` says them, those that end with `=` with any argument. Of the words each is spelled
+/// this crate's table, as `gcc --completion=-` says them, those that end with `=` with any argument; `named` are names of switches that
+/// spec files of the line have, which no option has to be, those that end with `*` with any rest. Of the words each is spelled
 /// as gcc's driver hands it on, of options of one class the last stays, and behind them stands what gcc's driver adds: words that
 /// begin with `--gdrv-` are for the spec file.
 ///
@@ -104,11 +111,12 @@ fn answer_of(alloc: Global, around: &Surroundings, items: &[Item]) -> Result<Ans
 pub fn front(
     alloc: Global,
     known: &[Word],
+    named: &[Word],
     around: &Surroundings,
     args: &[Word],
 ) -> Result<Answer, AllocError>
-    ensures { IfOk result (λ answer. answer ≡ front_of known.now around.now args.now) }
+    ensures { IfOk result (λ answer. answer ≡ front_of known.now named.now around.now args.now) }
 {
     let items = items_of(alloc, known, args)?;
-    answer_of(alloc, around, items.as_slice())
+    answer_of(alloc, named, around, items.as_slice())
 }

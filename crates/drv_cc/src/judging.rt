@@ -1,13 +1,16 @@
 //! What is refused of a line.
 
-ghost use Rattle.drv_cc.specs.Kept.{is_vendors, refusals, refused_item};
+ghost use Rattle.drv_cc.specs.Kept.{before_star, is_named, is_vendors, names, refusals, refused_item};
+ghost use Rattle.std.specs.List.{list_any};
+ghost use Rattle.std.specs.Option.{option_copied};
 ghost use Rattle.std.specs.Prelude.{◌≡◌, ◌++◌, IfOk, OnOk};
 
 use crate::Refusal;
 use crate::item::Item;
 use crate::keeping::{has, has_input};
+use crate::reading::rest_behind;
 use crate::table::Part;
-use drv_words::Listing;
+use drv_words::{Listing, Word};
 use std::alloc::{AllocError, Global};
 
 /// Whether a line names a spec file.
@@ -17,12 +20,43 @@ pub(crate) fn is_vendors(items: &[Item]) -> bool
     has(items, b"-specs=")
 }
 
+/// A name without the star at its end, if it has one.
+fn before_star(name: &[u8]) -> Option<&[u8]>
+    ensures { option_copied result ≡ before_star name.now }
+{
+    name.strip_suffix(b"*".as_slice())
+}
+
+/// Whether a name that a spec file has stands for a switch.
+fn names(switch: &[u8], name: &[u8]) -> bool
+    ensures { result ≡ names switch.now name.now }
+{
+    match before_star(name) {
+        None => name == switch,
+        Some(beginning) => 0 < beginning.len() && switch.starts_with(beginning),
+    }
+}
+
+/// Whether one of the names that spec files of the line have stands for a switch.
+fn has_name(named: &[Word], switch: &[u8]) -> bool
+    ensures { result ≡ list_any (names switch.now) named.now }
+{
+    named.iter().any(|name| names(switch, name.as_bytes()))
+}
+
+/// Whether a word is a switch that spec files of the line name.
+fn is_named(named: &[Word], word: &[u8]) -> bool
+    ensures { result ≡ is_named named.now word.now }
+{
+    !word.starts_with(b"--gdrv-") && has_name(named, rest_behind(word, b"-"))
+}
+
 /// Adds the refusal of an item, if it is refused.
-fn refuse(vendors: bool, item: &Item, refusals: &mut Listing<Refusal>) -> Result<(), AllocError>
-    ensures { OnOk result (refusals.new ≡ refusals.old ++ refused_item vendors item.now) }
+fn refuse(named: &[Word], item: &Item, refusals: &mut Listing<Refusal>) -> Result<(), AllocError>
+    ensures { OnOk result (refusals.new ≡ refusals.old ++ refused_item named.now item.now) }
 {
     match item.part {
-        Part::Unknown if vendors && !item.name.as_bytes().starts_with(b"--gdrv-") => {}
+        Part::Unknown if is_named(named, item.name.as_bytes()) => {}
         Part::Unknown => refusals.push(Refusal::UnknownOption(item.name.clone()?))?,
         Part::Lacking => refusals.push(Refusal::NoArgument(item.name.clone()?))?,
         Part::Refused => refusals.push(Refusal::NotTaken(item.name.clone()?))?,
@@ -32,13 +66,16 @@ fn refuse(vendors: bool, item: &Item, refusals: &mut Listing<Refusal>) -> Result
 }
 
 /// The refusals of a line, in its order.
-pub(crate) fn refusals(alloc: Global, items: &[Item]) -> Result<Listing<Refusal>, AllocError>
-    ensures { IfOk result (λ refused. refused ≡ refusals items.now) }
+pub(crate) fn refusals(
+    alloc: Global,
+    named: &[Word],
+    items: &[Item],
+) -> Result<Listing<Refusal>, AllocError>
+    ensures { IfOk result (λ refused. refused ≡ refusals named.now items.now) }
 {
-    let vendors = is_vendors(items);
     let mut refused = Listing::new(alloc);
     for item in items {
-        refuse(vendors, item, &mut refused)?;
+        refuse(named, item, &mut refused)?;
     }
     if !has_input(items) {
         refused.push(Refusal::NoInput)?;

@@ -1,7 +1,8 @@
 //! The names of side files.
 
 ghost use Rattle.drv_cc.specs.SideFiles as sides;
-ghost use Rattle.drv_cc.specs.SideFiles.{aux_asked, aux_words, base_words, beginning, compiled, dependencies, dependencies_asked, dependency_words, given_or, is_named, link_beginning, named_words, only, output, own_beginning, own_folder, program, program_of, real, saves, side_words, stem_of, stops, with_value, worked};
+ghost use Rattle.drv_cc.specs.SideFiles.{aux_asked, aux_words, base_words, beginning, dependencies, dependencies_asked, dependency_words, given_or, is_named, link_beginning, named, named_words, only, output, own_beginning, own_folder, program, program_of, real, saves, side_words, stem_of, stops, with_value, worked};
+ghost use Rattle.drv_cc.specs.Building.{kinds_shown};
 ghost use Rattle.drv_cc.specs.Kept.{last_argument};
 ghost use Rattle.std.specs.Option.{option_map};
 ghost use Rattle.std.specs.Prelude.{◌≡◌, ◌∷◌, ◌++◌, [], IfOk, OnOk, Some, codes};
@@ -148,11 +149,22 @@ fn add_base_of(
     add_value(alloc, words, b"--gdrv-ext=", suffix(name))
 }
 
-/// Adds the name and the suffix of the only source that is compiled.
-fn add_base(alloc: Global, items: &[Item], words: &mut Listing<Word>) -> Result<(), AllocError>
-    ensures { OnOk result (words.new ≡ words.old ++ base_words items.now (only (sides.sources compiled items.now))) }
+/// The kinds of sources of which the compiler is told a name.
+fn named(items: &[Item]) -> Kinds
+    ensures { kinds_shown result ≡ named items.now }
 {
-    if let Some(name) = only_source(Kinds::Compiled, items) {
+    if has(items, b"-E") || has(items, b"-M") || has(items, b"-MM") {
+        Kinds::Preprocessed
+    } else {
+        Kinds::Compiled
+    }
+}
+
+/// Adds the name and the suffix of the only source of which the compiler is told a name.
+fn add_base(alloc: Global, items: &[Item], words: &mut Listing<Word>) -> Result<(), AllocError>
+    ensures { OnOk result (words.new ≡ words.old ++ base_words items.now (only (sides.sources (named items.now) items.now))) }
+{
+    if let Some(name) = only_source(named(items), items) {
         add_base_of(alloc, items, name, words)?;
     }
     Ok(())

@@ -18,7 +18,9 @@ use std::alloc::{AllocError, Global};
 pub(crate) enum Kinds {
     /// C.
     Compiled,
-    /// C and assembler.
+    /// C and the assembler that is preprocessed.
+    Preprocessed,
+    /// C and all assembler.
     Worked,
 }
 
@@ -29,6 +31,7 @@ impl Kinds {
     {
         match self {
             Kinds::Compiled => b".c .i .h",
+            Kinds::Preprocessed => b".c .i .h .S .sx",
             Kinds::Worked => b".c .i .h .s .S .sx",
         }
     }
@@ -39,6 +42,7 @@ impl Kinds {
     {
         match self {
             Kinds::Compiled => b"c c-header cpp-output",
+            Kinds::Preprocessed => b"c c-header cpp-output assembler-with-cpp",
             Kinds::Worked => b"c c-header cpp-output assembler assembler-with-cpp",
         }
     }

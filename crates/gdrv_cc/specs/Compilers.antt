@@ -1,6 +1,7 @@
 use Rattle.drv_words.specs.Bytes.{newline}
-use Rattle.std.specs.List.{flat_map, slice_split, starts_with}
-use Rattle.std.specs.Prelude.{◌==◌, List, [], ◌∷◌, drop, if◌then◌else◌, length, nat_eq, ℕ}
+use Rattle.std.specs.Char.{is_ascii_alphanumeric}
+use Rattle.std.specs.List.{flat_map, list_any, slice_split, starts_with}
+use Rattle.std.specs.Prelude.{◌==◌, ◌||◌, Bool, List, [], ◌∷◌, codes, drop, if◌then◌else◌, length, nat_eq, not, ℕ}
 
 -- What stands beside a spec file: for which compiler it was written, and the names of that compiler's options (this project's
 -- profile).
@@ -14,3 +15,10 @@ value_in key line = if starts_with nat_eq line key then drop (length key) line �
 
 abbrev pub values : List ℕ → List ℕ → List (List ℕ)
 values key text = flat_map (value_in key) (lines text)
+
+-- the names that stand in a spec file's text, between bytes that are in no name of a switch (GCC, "gcc.cc", validate_switches)
+abbrev pub is_between : ℕ → Bool
+is_between b = not (is_ascii_alphanumeric b || list_any (nat_eq b) (codes "_-+=,.@*"))
+
+abbrev pub names_in : List ℕ → List (List ℕ)
+names_in = slice_split is_between

@@ -1,6 +1,5 @@
 use Rattle.drv_run.specs.Exits.{exit_status_of, told_of}
-use Rattle.drv_run.specs.declared.ending.Ending.TheVariants.{Done, OutOfMemory, Refused}
-use Rattle.drv_run.specs.declared.ending.Ending.{Ending}
+use Rattle.drv_run.specs.declared.ending.Ending.TheVariants.{Done}
 use Rattle.drv_words.specs.declared.answers.WaitAnswer.TheVariants.{Exit, Lost, Signal}
 use Rattle.drv_words.specs.declared.answers.WaitAnswer.{WaitAnswer}
 use Rattle.gdrv_cc.specs.Texts.{error_line, quoted}

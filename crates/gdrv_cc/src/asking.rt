@@ -1,12 +1,13 @@
 //! What the program asks of its surroundings before a line is read.
 
 use crate::calling::{Calling, Front};
-use crate::compilers::values;
+use crate::compilers::{names_in, values};
 use crate::outcome::Outcome;
 use crate::places::{beside, companion, given};
 use crate::texts::{error_line, unwritten};
 use drv_args::expand;
 use drv_cc::Surroundings;
+use drv_search::{Prefixes, find_file};
 use drv_system::{FactTable, HostSystem, PathKind, ReadAnswer, System, arguments};
 use drv_words::{Listing, Word};
 use std::alloc::{AllocError, Global};
@@ -15,6 +16,10 @@ use std::io::{self, ErrorKind};
 
 /// The variable that names a spec file, where none stands beside the program.
 const SPECS: &[u8] = b"GDRV_CC_SPECS";
+
+/// What is said where neither the program's place is known nor a variable names a spec file.
+const NO_PLACE: &[u8] =
+    b"where this program lies is not known (is /proc there?), and GDRV_CC_SPECS names no spec file";
 
 /// How an argument that can't be had ends the call.
 pub fn argument_fault(alloc: Global, name: &[u8], error: &io::Error) -> Outcome {
@@ -98,19 +103,38 @@ fn variable(alloc: Global, sys: &mut HostSystem, name: &[u8]) -> Result<Option<W
     sys.variable(&Word::from_bytes(alloc, name)?)
 }
 
-/// The path of the spec file beside this program. Where the program's own path isn't known, it is that in the folder of the call.
-fn own_specs(rt: &HostRuntime, machine: &[u8]) -> Result<Word, AllocError> {
+/// The path of the spec file beside this program; none where the system doesn't say where the program lies.
+fn own_specs(rt: &HostRuntime, machine: &[u8]) -> Result<Option<Word>, AllocError> {
     match current_exe(rt) {
-        Ok(program) => beside(rt.alloc(), program.as_str().as_bytes(), machine),
-        Err(_) => beside(rt.alloc(), b"", machine),
+        Ok(program) => Ok(Some(beside(rt.alloc(), program.as_str().as_bytes(), machine)?)),
+        Err(_) => Ok(None),
     }
 }
 
-/// The path of the spec file that the variable names, or of that beside the program.
-fn other_specs(alloc: Global, own: &Word, sys: &mut HostSystem) -> Result<Word, AllocError> {
+/// The path of the spec file that the variable names, if it names one.
+fn other_specs(alloc: Global, sys: &mut HostSystem) -> Result<Option<Word>, AllocError> {
     match variable(alloc, sys, SPECS)? {
-        Some(path) if !path.is_empty() => given(alloc, path.as_bytes()),
-        _ => own.clone(),
+        Some(path) if !path.is_empty() => Ok(Some(given(alloc, path.as_bytes())?)),
+        _ => Ok(None),
+    }
+}
+
+/// The refusal of a call for which no spec file is found, where one was to stand at this path.
+fn without_specs(alloc: Global, calling: &Calling, path: Option<Word>) -> Result<Word, AllocError> {
+    let name = calling.name.as_bytes();
+    let Some(path) = path else {
+        return error_line(alloc, name, NO_PLACE, b"", b"");
+    };
+    let path = path.as_bytes();
+    let machine = calling.machine.as_bytes();
+    unwritten(alloc, name, b"there is no spec file '", path, path, machine)
+}
+
+/// Whether a plain file stands at a path, if there is one.
+fn is_there(path: &Option<Word>, sys: &mut HostSystem) -> Result<bool, AllocError> {
+    match path {
+        Some(path) => Ok(sys.kind(path)? == PathKind::Plain),
+        None => Ok(false),
     }
 }
 
@@ -120,24 +144,19 @@ pub fn find_specs(
     calling: &Calling,
     sys: &mut HostSystem,
 ) -> Result<Word, Outcome> {
-    let machine = calling.machine.as_bytes();
-    let own = own_specs(rt, machine)?;
-    if sys.kind(&own)? == PathKind::Plain {
-        return Ok(own);
+    let own = own_specs(rt, calling.machine.as_bytes())?;
+    if is_there(&own, sys)?
+        && let Some(path) = own
+    {
+        return Ok(path);
     }
-    let other = other_specs(rt.alloc(), &own, sys)?;
-    if sys.kind(&other)? == PathKind::Plain {
-        return Ok(other);
+    let other = other_specs(rt.alloc(), sys)?;
+    if is_there(&other, sys)?
+        && let Some(path) = other
+    {
+        return Ok(path);
     }
-    let path = other.as_bytes();
-    Err(Outcome::Told(unwritten(
-        rt.alloc(),
-        calling.name.as_bytes(),
-        b"there is no spec file '",
-        path,
-        path,
-        machine,
-    )?))
+    Err(Outcome::Told(without_specs(rt.alloc(), calling, other.or(own))?))
 }
 
 /// The text of the file of this ending beside a spec file; empty where it can't be read.
@@ -195,6 +214,57 @@ pub fn known_options(
 ) -> Result<Listing<Word>, AllocError> {
     let text = companion_text(alloc, specs, b".options", sys)?;
     values(alloc, b"", text.as_bytes())
+}
+
+/// The folders that are looked in for files of the driver's words: behind each `-B`.
+fn prefix_folders(alloc: Global, words: &[Word]) -> Result<Listing<Word>, AllocError> {
+    let mut folders = Listing::new(alloc);
+    let mut is_folder = false;
+    for word in words {
+        if is_folder {
+            folders.push(word.clone()?)?;
+        }
+        is_folder = !is_folder && word.as_bytes() == b"-B".as_slice();
+    }
+    Ok(folders)
+}
+
+/// Adds the names that stand in the spec file of this name, where it can be read.
+fn add_names(
+    alloc: Global,
+    name: &[u8],
+    prefixes: &Prefixes,
+    sys: &mut HostSystem,
+    facts: &mut FactTable,
+    named: &mut Listing<Word>,
+) -> Result<(), AllocError> {
+    let name = Word::from_bytes(alloc, name)?;
+    let path = find_file(alloc, prefixes, &name, sys, facts)?;
+    facts.read(sys, &path)?;
+    if let ReadAnswer::Read(text) = facts.read_answer(&path) {
+        for name in names_in(alloc, text.as_bytes())?.as_slice() {
+            named.push(name.clone()?)?;
+        }
+    }
+    Ok(())
+}
+
+/// The names that stand in the spec files of the driver's words.
+pub fn switches_named(
+    alloc: Global,
+    words: &[Word],
+    sys: &mut HostSystem,
+) -> Result<Listing<Word>, AllocError> {
+    let mut facts = FactTable::new(alloc);
+    let folders = prefix_folders(alloc, words)?;
+    let prefixes = Prefixes::new(alloc, folders.as_slice(), sys, &mut facts)?;
+    let mut named = Listing::new(alloc);
+    for word in words {
+        if let Some(name) = word.as_bytes().strip_prefix(b"-specs=".as_slice()) {
+            add_names(alloc, name, &prefixes, sys, &mut facts, &mut named)?;
+        }
+    }
+    Ok(named)
 }
 
 /// Refuses a variable that gcc's driver takes and this one doesn't.

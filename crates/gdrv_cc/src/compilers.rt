@@ -1,6 +1,7 @@
-//! What stands beside a spec file: for which compiler it was written, and the names of that compiler's options.
+//! What stands beside a spec file: for which compiler it was written, and the names of that compiler's options. And the names that stand
+//! in a spec file of the line.
 
-ghost use Rattle.gdrv_cc.specs.Compilers.{value_in, values};
+ghost use Rattle.gdrv_cc.specs.Compilers.{is_between, names_in, value_in, values};
 ghost use Rattle.std.specs.Prelude.{◌≡◌, ◌++◌, IfOk, OnOk};
 
 use drv_words::{Listing, Word};
@@ -30,4 +31,30 @@ pub fn values(alloc: Global, key: &[u8], text: &[u8]) -> Result<Listing<Word>, A
         add_value(alloc, key, line, &mut found)?;
     }
     Ok(found)
+}
+
+/// Whether a byte is in no name of a switch.
+fn is_between(byte: u8) -> bool
+    ensures { result ≡ is_between byte }
+{
+    !(byte.is_ascii_alphanumeric()
+        || byte == b'_'
+        || byte == b'-'
+        || byte == b'+'
+        || byte == b'='
+        || byte == b','
+        || byte == b'.'
+        || byte == b'@'
+        || byte == b'*')
+}
+
+/// The names that stand in a spec file's text (GCC, "gcc.cc", validate_switches), and what else stands there like one.
+pub fn names_in(alloc: Global, text: &[u8]) -> Result<Listing<Word>, AllocError>
+    ensures { IfOk result (λ names. names ≡ names_in text.now) }
+{
+    let mut names = Listing::new(alloc);
+    for name in text.split(|byte| is_between(*byte)) {
+        names.push(Word::from_bytes(alloc, name)?)?;
+    }
+    Ok(names)
 }
