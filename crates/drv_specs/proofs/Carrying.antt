@@ -1,26 +1,24 @@
 use Rattle.drv_search.specs.declared.prefixes.Prefixes.{Prefixes}
-use Rattle.drv_specs.specs.Directives.{directives_of}
+use Rattle.drv_specs.specs.Directives.{Bad, Directive, Include, Pair, Rename, Text, directives_of, read_settled}
+use Rattle.drv_specs.specs.Lines.{settled}
+use Rattle.drv_specs.specs.Slices.{found, read_left, settled_file, shown}
+use Rattle.drv_specs.specs.declared.directive.Directive.TheVariants as lent
+use Rattle.drv_specs.specs.declared.directive.Directive as code
 use Rattle.drv_specs.specs.Loading.{Carried, Including, all_carried, change, changed, file_loaded, file_text, including, set_in, text_read, then_by, worked}
 use Rattle.drv_specs.specs.Sets.{Set}
-use Rattle.drv_specs.specs.declared.directive.Directive.TheVariants.{Bad, Include, Pair, Rename, Text}
-use Rattle.drv_specs.specs.declared.directive.Directive.{Directive}
 use Rattle.drv_specs.specs.declared.fault.SpecsFault.TheVariants.{BadLine, IncludeTooDeep, Memory, TooManyIncludes}
 use Rattle.drv_specs.specs.declared.fault.SpecsFault.{SpecsFault}
 use Rattle.drv_search.specs.Search.{file_found}
 use Rattle.drv_system.specs.Asking.{Extends}
 use Rattle.drv_system.specs.Facts.{Facts, read_of}
 use Rattle.drv_system.specs.Gives.{GivesKnown}
-use Rattle.drv_system.specs.Known.{◌>>=◌, Is, Known, asked}
+use Rattle.drv_system.specs.Known.{◌>>=◌, Is, Known, Unasked, asked}
 use Rattle.drv_system.specs.declared.event.ReadAnswer.{ReadAnswer}
 use Rattle.drv_words.specs.Gives.{Gives}
-use Rattle.std.proofs.Common.{◌≡◌, ◌⊎◌, ◌∙◌, Bool, IsErrAnd, List, [], ◌∷◌, ◌++◌, Err, Ok, Result, Some, ap, false, inl, inr, refl, reverse, subst, suc, sym, zero, ℕ}
+use Rattle.std.proofs.Common.{◌≡◌, ◌⊎◌, ◌∙◌, Bool, Bor, IsErrAnd, Option, List, [], ◌∷◌, ◌++◌, Err, Ok, Result, Some, ap, false, inl, inr, refl, reverse, subst, suc, sym, zero, ℕ}
 use Rattle.std.proofs.lemmas.List.{reverse-append}
 
 -- Directives carried out one after another.
-
--- the next directive of those that are left, back to front
-pub next_is : (left rest : List Directive) (directive : Directive) → left ≡ rest ++ directive ∷ [] → reverse left ≡ directive ∷ reverse rest
-next_is left rest directive is = ap reverse is ∙ reverse-append rest (directive ∷ [])
 
 -- a directive that reads no file
 abbrev pub ReadsNoFile : Directive → Type 0
@@ -77,16 +75,29 @@ module _ (F : Facts) (prefixes : Prefixes) (set : Set) (pass : Bool) (name : Lis
       ∙ ap (λ known. then_by (then_by known (λ text. all_carried (including F prefixes levels) (state set files) (directives_of text))) (λ c'. all_carried (including F prefixes (suc levels)) c' rest)) is
       ∙ ap (λ known. then_by known (λ c'. all_carried (including F prefixes (suc levels)) c' rest)) worked
 
--- the text of a file that was asked for
-pub text_given : (F G : Facts) (prefixes : Prefixes) (pass : Bool) (name path : List ℕ) (answer : ReadAnswer) (result : Result (List ℕ) SpecsFault)
-    → file_found F prefixes name ≡ Is path → Extends G F → read_of G path ≡ Some answer → Gives Memory (λ text. text) result (text_read pass path answer)
-    → GivesKnown Memory (λ text. text) result (file_text F prefixes pass name)
-text_given F G prefixes pass name path answer result found e known given = by result given
-  where
-    is : file_text F prefixes pass name ≡ Is (text_read pass path answer)
-    is = ap (λ known. known >>= λ p. asked (read_of F p) >>= λ a. Is (text_read pass p a)) found ∙ ap (λ a. asked a >>= λ a'. Is (text_read pass path a')) (e.reads path answer known)
+-- a file's text, by what is left of it
+unread_file : (given : Known (Result (List ℕ) SpecsFault)) (fault : SpecsFault) → (given >>= λ g. Is (read_left g)) ≡ Is (Err fault) → given ≡ Is (Err fault)
+unread_file Unasked fault is = absurd cc
+unread_file (Is (Ok text)) fault is = absurd cc
+unread_file (Is (Err fault')) fault is = is
 
-    by : (r : Result (List ℕ) SpecsFault) → Gives Memory (λ text. text) r (text_read pass path answer) → GivesKnown Memory (λ text. text) r (file_text F prefixes pass name)
+pub read_file : (given : Known (Result (List ℕ) SpecsFault)) (left : List ℕ) → (given >>= λ g. Is (read_left g)) ≡ Is (Ok left) → (text : List ℕ) × ((given ≡ Is (Ok text)) × (left ≡ settled text))
+read_file Unasked left is = absurd cc
+read_file (Is (Ok text)) left is = (text, (refl, let same : left ≡ settled text = cc in same))
+read_file (Is (Err fault)) left is = absurd cc
+
+-- what is left of the text of a file that was asked for
+pub text_given : (X : Type 0) (view : X → List ℕ) (F G : Facts) (prefixes : Prefixes) (pass : Bool) (name path : List ℕ) (answer : ReadAnswer) (result : Result X SpecsFault)
+    → file_found F prefixes name ≡ Is path → Extends G F → read_of G path ≡ Some answer → Gives Memory view result (read_left (text_read pass path answer))
+    → GivesKnown Memory view result (settled_file F prefixes pass name)
+text_given X view F G prefixes pass name path answer result found e known given = by result given
+  where
+    is : settled_file F prefixes pass name ≡ Is (read_left (text_read pass path answer))
+    is =
+        ap (λ known. (known >>= λ p. asked (read_of F p) >>= λ a. Is (text_read pass p a)) >>= λ g. Is (read_left g)) found
+        ∙ ap (λ a. (asked a >>= λ a'. Is (text_read pass path a')) >>= λ g. Is (read_left g)) (e.reads path answer known)
+
+    by : (r : Result X SpecsFault) → Gives Memory view r (read_left (text_read pass path answer)) → GivesKnown Memory view r (settled_file F prefixes pass name)
     by (Ok text) is' = is ∙ ap Is is'
     by (Err fault) (inl memory) = inl memory
     by (Err fault) (inr is') = inr (is ∙ ap Is is')
@@ -98,101 +109,108 @@ refusal_given fault (Ok x) view defined is refused = absurd is
 refusal_given fault (Err e) view defined is (inl memory) = inl (is ∙ memory)
 refusal_given fault (Err e) view defined is (inr refused) = inr (refused ∙ ap (λ f. Is (Err f)) (sym is))
 
-reads_no_file : (directive : Directive) → ((pass : Bool) (file : List ℕ) → directive ≡ Include pass file → ⊥) → ReadsNoFile directive
-reads_no_file (Text name body) not = tt
-reads_no_file (Pair key body) not = tt
-reads_no_file (Rename old new) not = tt
-reads_no_file (Include pass file) not = not pass file refl
-reads_no_file (Bad n) not = tt
+pub reads_no_file : (directive : code.Directive) → ((pass : Bool) (file : Bor (List ℕ)) → directive ≡ lent.Include pass file → ⊥) → ReadsNoFile (shown directive)
+reads_no_file (lent.Text name body) not = tt
+reads_no_file (lent.Pair key body) not = tt
+reads_no_file (lent.Rename old new) not = tt
+reads_no_file (lent.Include pass file) not = not pass file refl
+reads_no_file (lent.Bad n) not = tt
+
+-- a directive that was taken
+pub taken : (old new : List Directive) (result : Option code.Directive) (directive : code.Directive) (is : Directive) → old ≡ found result ++ new → result ≡ Some directive → shown directive ≡ is → old ≡ is ∷ new
+taken old new result directive is whole some same = whole ∙ ap (λ r. found r ++ new) some ∙ ap (λ d. d ∷ new) same
 
 -- the next directive, where what is left comes to the whole
 module _ (F : Facts) (prefixes : Prefixes) (set : Set) (files levels : ℕ) (left rest : List Directive) (directive : Directive) (whole : Known (Result Carried SpecsFault))
-    (popped : left ≡ rest ++ directive ∷ []) (so_far : all_carried (including F prefixes levels) (state set files) (reverse left) ≡ whole) where
-  at_next : whole ≡ all_carried (including F prefixes levels) (state set files) (directive ∷ reverse rest)
-  at_next = sym so_far ∙ ap (all_carried (including F prefixes levels) (state set files)) (next_is left rest directive popped)
+    (taken : left ≡ directive ∷ rest) (so_far : all_carried (including F prefixes levels) (state set files) left ≡ whole) where
+  at_next : whole ≡ all_carried (including F prefixes levels) (state set files) (directive ∷ rest)
+  at_next = sym so_far ∙ ap (all_carried (including F prefixes levels) (state set files)) taken
 
-  pub changed_more : (set' : Set) → ((pass : Bool) (file : List ℕ) → directive ≡ Include pass file → ⊥) → change set directive ≡ Ok set'
-      → all_carried (including F prefixes levels) (state set' files) (reverse rest) ≡ whole
-  changed_more set' not is = sym (at_next ∙ change_more (including F prefixes levels) set set' files directive (reverse rest) (reads_no_file directive not) is)
+  pub changed_more : (set' : Set) → ReadsNoFile directive → change set directive ≡ Ok set'
+      → all_carried (including F prefixes levels) (state set' files) rest ≡ whole
+  changed_more set' none is = sym (at_next ∙ change_more (including F prefixes levels) set set' files directive rest none is)
 
-  pub changed_refused : (fault : SpecsFault) → ((pass : Bool) (file : List ℕ) → directive ≡ Include pass file → ⊥) → (fault ≡ Memory) ⊎ (change set directive ≡ Err fault)
+  pub changed_refused : (fault : SpecsFault) → ReadsNoFile directive → (fault ≡ Memory) ⊎ (change set directive ≡ Err fault)
       → (fault ≡ Memory) ⊎ (whole ≡ Is (Err fault))
-  changed_refused fault not (inl memory) = inl memory
-  changed_refused fault not (inr is) = inr (at_next ∙ change_refused (including F prefixes levels) set files directive (reverse rest) fault (reads_no_file directive not) is)
+  changed_refused fault none (inl memory) = inl memory
+  changed_refused fault none (inr is) = inr (at_next ∙ change_refused (including F prefixes levels) set files directive rest fault none is)
 
 -- a file that is included
-module _ (F : Facts) (prefixes : Prefixes) (set : Set) (files levels : ℕ) (left rest : List Directive) (directive : Directive) (pass : Bool) (name : List ℕ) (whole : Known (Result Carried SpecsFault))
-    (popped : left ≡ rest ++ directive ∷ []) (is : directive ≡ Include pass name) (so_far : all_carried (including F prefixes levels) (state set files) (reverse left) ≡ whole) where
-  at_include : whole ≡ all_carried (including F prefixes levels) (state set files) (Include pass name ∷ reverse rest)
-  at_include = sym so_far ∙ ap (all_carried (including F prefixes levels) (state set files)) (next_is left rest directive popped ∙ ap (λ d. d ∷ reverse rest) is)
+module _ (F : Facts) (prefixes : Prefixes) (set : Set) (files levels : ℕ) (left rest : List Directive) (pass : Bool) (name : List ℕ) (whole : Known (Result Carried SpecsFault))
+    (taken : left ≡ Include pass name ∷ rest) (so_far : all_carried (including F prefixes levels) (state set files) left ≡ whole) where
+  at_include : whole ≡ all_carried (including F prefixes levels) (state set files) (Include pass name ∷ rest)
+  at_include = sym so_far ∙ ap (all_carried (including F prefixes levels) (state set files)) taken
 
   pub deep_refused : levels ≡ 0 → whole ≡ Is (Err IncludeTooDeep)
-  deep_refused none = at_include ∙ ap (λ n. all_carried (including F prefixes n) (state set files) (Include pass name ∷ reverse rest)) none ∙ include_deep F prefixes set pass name (reverse rest) files
+  deep_refused none = at_include ∙ ap (λ n. all_carried (including F prefixes n) (state set files) (Include pass name ∷ rest)) none ∙ include_deep F prefixes set pass name rest files
 
   pub many_refused : (fewer : ℕ) → levels ≡ suc fewer → files ≡ 0 → whole ≡ Is (Err TooManyIncludes)
   many_refused fewer some none =
-      at_include ∙ ap (λ n. all_carried (including F prefixes n) (state set files) (Include pass name ∷ reverse rest)) some
-      ∙ ap (λ n. all_carried (including F prefixes (suc fewer)) (state set n) (Include pass name ∷ reverse rest)) none ∙ include_many F prefixes set pass name (reverse rest) fewer
+      at_include ∙ ap (λ n. all_carried (including F prefixes n) (state set files) (Include pass name ∷ rest)) some
+      ∙ ap (λ n. all_carried (including F prefixes (suc fewer)) (state set n) (Include pass name ∷ rest)) none ∙ include_many F prefixes set pass name rest fewer
 
   at_file : (fewer : ℕ) (others : ℕ) → levels ≡ suc fewer → files ≡ suc others
-      → whole ≡ all_carried (including F prefixes (suc fewer)) (state set (suc others)) (Include pass name ∷ reverse rest)
+      → whole ≡ all_carried (including F prefixes (suc fewer)) (state set (suc others)) (Include pass name ∷ rest)
   at_file fewer others some some' =
-      at_include ∙ ap (λ n. all_carried (including F prefixes n) (state set files) (Include pass name ∷ reverse rest)) some
-      ∙ ap (λ n. all_carried (including F prefixes (suc fewer)) (state set n) (Include pass name ∷ reverse rest)) some'
+      at_include ∙ ap (λ n. all_carried (including F prefixes n) (state set files) (Include pass name ∷ rest)) some
+      ∙ ap (λ n. all_carried (including F prefixes (suc fewer)) (state set n) (Include pass name ∷ rest)) some'
 
   pub unread_refused : (fewer others : ℕ) → levels ≡ suc fewer → files ≡ suc others → (fault : SpecsFault)
-      → (fault ≡ Memory) ⊎ (file_text F prefixes pass name ≡ Is (Err fault)) → (fault ≡ Memory) ⊎ (whole ≡ Is (Err fault))
+      → (fault ≡ Memory) ⊎ (settled_file F prefixes pass name ≡ Is (Err fault)) → (fault ≡ Memory) ⊎ (whole ≡ Is (Err fault))
   unread_refused fewer others some some' fault (inl memory) = inl memory
-  unread_refused fewer others some some' fault (inr unread) = inr (at_file fewer others some some' ∙ include_unread F prefixes set pass name (reverse rest) fewer others fault unread)
+  unread_refused fewer others some some' fault (inr unread) =
+      inr (at_file fewer others some some' ∙ include_unread F prefixes set pass name rest fewer others fault (unread_file (file_text F prefixes pass name) fault unread))
 
-  at_worked : (fewer others : ℕ) → levels ≡ suc fewer → files ≡ suc others → (text bytes : List ℕ) (given : Known (Result Carried SpecsFault))
-      → file_text F prefixes pass name ≡ Is (Ok text) → bytes ≡ text → all_carried (including F prefixes fewer) (state set others) (directives_of bytes) ≡ given
-      → whole ≡ then_by given (λ c'. all_carried (including F prefixes levels) c' (reverse rest))
-  at_worked fewer others some some' text bytes given read same worked =
+  at_worked : (fewer others : ℕ) → levels ≡ suc fewer → files ≡ suc others → (left' bytes : List ℕ) (given : Known (Result Carried SpecsFault))
+      → settled_file F prefixes pass name ≡ Is (Ok left') → bytes ≡ left' → all_carried (including F prefixes fewer) (state set others) (read_settled bytes) ≡ given
+      → whole ≡ then_by given (λ c'. all_carried (including F prefixes levels) c' rest)
+  at_worked fewer others some some' left' bytes given read same worked =
+      let file = read_file (file_text F prefixes pass name) left' read in
       at_file fewer others some some'
-      ∙ include_worked F prefixes set pass name (reverse rest) fewer others text given read (ap (λ t. all_carried (including F prefixes fewer) (state set others) (directives_of t)) (sym same) ∙ worked)
-      ∙ ap (λ n. then_by given (λ c'. all_carried (including F prefixes n) c' (reverse rest))) (sym some)
+      ∙ include_worked F prefixes set pass name rest fewer others file.0 given file.1.0 (ap (λ t. all_carried (including F prefixes fewer) (state set others) (read_settled t)) (sym (same ∙ file.1.1)) ∙ worked)
+      ∙ ap (λ n. then_by given (λ c'. all_carried (including F prefixes n) c' rest)) (sym some)
 
-  pub worked_refused : (fewer others : ℕ) → levels ≡ suc fewer → files ≡ suc others → (text bytes : List ℕ) (fault : SpecsFault)
-      → file_text F prefixes pass name ≡ Is (Ok text) → bytes ≡ text → (fault ≡ Memory) ⊎ (all_carried (including F prefixes fewer) (state set others) (directives_of bytes) ≡ Is (Err fault))
+  pub worked_refused : (fewer others : ℕ) → levels ≡ suc fewer → files ≡ suc others → (left' bytes : List ℕ) (fault : SpecsFault)
+      → settled_file F prefixes pass name ≡ Is (Ok left') → bytes ≡ left' → (fault ≡ Memory) ⊎ (all_carried (including F prefixes fewer) (state set others) (read_settled bytes) ≡ Is (Err fault))
       → (fault ≡ Memory) ⊎ (whole ≡ Is (Err fault))
-  worked_refused fewer others some some' text bytes fault read same (inl memory) = inl memory
-  worked_refused fewer others some some' text bytes fault read same (inr worked) = inr (at_worked fewer others some some' text bytes (Is (Err fault)) read same worked)
+  worked_refused fewer others some some' left' bytes fault read same (inl memory) = inl memory
+  worked_refused fewer others some some' left' bytes fault read same (inr worked) = inr (at_worked fewer others some some' left' bytes (Is (Err fault)) read same worked)
 
-  pub worked_more : (fewer others : ℕ) → levels ≡ suc fewer → files ≡ suc others → (text bytes : List ℕ) (c' : Carried)
-      → file_text F prefixes pass name ≡ Is (Ok text) → bytes ≡ text → all_carried (including F prefixes fewer) (state set others) (directives_of bytes) ≡ Is (Ok c')
-      → all_carried (including F prefixes levels) c' (reverse rest) ≡ whole
-  worked_more fewer others some some' text bytes c' read same worked = sym (at_worked fewer others some some' text bytes (Is (Ok c')) read same worked)
+  pub worked_more : (fewer others : ℕ) → levels ≡ suc fewer → files ≡ suc others → (left' bytes : List ℕ) (c' : Carried)
+      → settled_file F prefixes pass name ≡ Is (Ok left') → bytes ≡ left' → all_carried (including F prefixes fewer) (state set others) (read_settled bytes) ≡ Is (Ok c')
+      → all_carried (including F prefixes levels) c' rest ≡ whole
+  worked_more fewer others some some' left' bytes c' read same worked = sym (at_worked fewer others some some' left' bytes (Is (Ok c')) read same worked)
 
--- a text worked on a draft that is the set
-module _ (F : Facts) (prefixes : Prefixes) (draft set : Set) (same : draft ≡ set) (files : ℕ) (text : List ℕ) where
-  worked_as : (given : Known (Result Carried SpecsFault)) → all_carried (including F prefixes 15) (state draft files) (directives_of text) ≡ given → worked F prefixes set files text ≡ then_by given set_in
-  worked_as given is = ap (λ s. then_by (all_carried (including F prefixes 15) (state s files) (directives_of text)) set_in) (sym same) ∙ ap (λ known. then_by known set_in) is
+-- directives worked on a draft that is the set
+module _ (F : Facts) (prefixes : Prefixes) (draft set : Set) (same : draft ≡ set) (files : ℕ) (directives : List Directive) where
+  worked_as : (given : Known (Result Carried SpecsFault)) → all_carried (including F prefixes 15) (state draft files) directives ≡ given → worked F prefixes set files directives ≡ then_by given set_in
+  worked_as given is = ap (λ s. then_by (all_carried (including F prefixes 15) (state s files) directives) set_in) (sym same) ∙ ap (λ known. then_by known set_in) is
 
-  pub worked_given : (c : Carried) → all_carried (including F prefixes 15) (state draft files) (directives_of text) ≡ Is (Ok c) → worked F prefixes set files text ≡ Is (Ok c.set)
+  pub worked_given : (c : Carried) → all_carried (including F prefixes 15) (state draft files) directives ≡ Is (Ok c) → worked F prefixes set files directives ≡ Is (Ok c.set)
   worked_given c is = worked_as (Is (Ok c)) is
 
-  pub worked_fails : (fault : SpecsFault) → (fault ≡ Memory) ⊎ (all_carried (including F prefixes 15) (state draft files) (directives_of text) ≡ Is (Err fault))
-      → (fault ≡ Memory) ⊎ (worked F prefixes set files text ≡ Is (Err fault))
+  pub worked_fails : (fault : SpecsFault) → (fault ≡ Memory) ⊎ (all_carried (including F prefixes 15) (state draft files) directives ≡ Is (Err fault))
+      → (fault ≡ Memory) ⊎ (worked F prefixes set files directives ≡ Is (Err fault))
   worked_fails fault (inl memory) = inl memory
   worked_fails fault (inr is) = inr (worked_as (Is (Err fault)) is)
 
--- a file, by its text
+-- a file, by what is left of its text
 module _ (F : Facts) (prefixes : Prefixes) (set : Set) (name : List ℕ) where
   file_is : file_loaded F prefixes set name
       ≡ then_by (then_by (file_text F prefixes false name) (λ text. all_carried (including F prefixes 15) (state set 1999) (directives_of text))) set_in
   unfolding file_loaded including
   file_is = refl
 
-  pub file_read : (text bytes : List ℕ) → file_text F prefixes false name ≡ Is (Ok text) → bytes ≡ text → worked F prefixes set 1999 bytes ≡ file_loaded F prefixes set name
-  file_read text bytes read same =
-      ap (worked F prefixes set 1999) same
-      ∙ sym (file_is ∙ ap (λ known. then_by (then_by known (λ t. all_carried (including F prefixes 15) (state set 1999) (directives_of t))) set_in) read)
+  pub file_read : (left bytes : List ℕ) → settled_file F prefixes false name ≡ Is (Ok left) → bytes ≡ left → worked F prefixes set 1999 (read_settled bytes) ≡ file_loaded F prefixes set name
+  file_read left bytes read same =
+      let file = read_file (file_text F prefixes false name) left read in
+      ap (λ l. worked F prefixes set 1999 (read_settled l)) (same ∙ file.1.1)
+      ∙ sym (file_is ∙ ap (λ known. then_by (then_by known (λ t. all_carried (including F prefixes 15) (state set 1999) (directives_of t))) set_in) file.1.0)
 
-  pub file_unread : (fault : SpecsFault) → (fault ≡ Memory) ⊎ (file_text F prefixes false name ≡ Is (Err fault)) → (fault ≡ Memory) ⊎ (file_loaded F prefixes set name ≡ Is (Err fault))
+  pub file_unread : (fault : SpecsFault) → (fault ≡ Memory) ⊎ (settled_file F prefixes false name ≡ Is (Err fault)) → (fault ≡ Memory) ⊎ (file_loaded F prefixes set name ≡ Is (Err fault))
   file_unread fault (inl memory) = inl memory
   file_unread fault (inr unread) =
-      inr (file_is ∙ ap (λ known. then_by (then_by known (λ t. all_carried (including F prefixes 15) (state set 1999) (directives_of t))) set_in) unread)
+      inr (file_is ∙ ap (λ known. then_by (then_by known (λ t. all_carried (including F prefixes 15) (state set 1999) (directives_of t))) set_in) (unread_file (file_text F prefixes false name) fault unread))
 
 -- a result that answers what is the same
 pub given_alike : {X Y : Type 0} (view : X → Y) (result : Result X SpecsFault) (a b : Known (Result Y SpecsFault)) → a ≡ b → GivesKnown Memory view result a → GivesKnown Memory view result b

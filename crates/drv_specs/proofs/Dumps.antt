@@ -2,14 +2,11 @@ use Rattle.drv_specs.proofs.Booleans.{and_first, and_second, differs, not_true}
 use Rattle.drv_specs.proofs.Lining.{body_full, body_lines_are, inside_passed, lines_join, one_piece, pieces_then}
 use Rattle.drv_specs.proofs.SettledTexts.{body_settled, head_settled, is_line_byte, is_settled, settled_same}
 use Rattle.drv_specs.specs.Blanks.{has_byte, is_blank}
-use Rattle.drv_specs.specs.Directives.{body_lines, body_of, by_colon, by_key, by_keyword, directive_in, directives_of, is_colon, is_inside, opens_body, read_lines, start_at, start_of}
+use Rattle.drv_specs.specs.Directives.{Alone, Directive, Pair, Passed, Text, WithBody, body_lines, body_of, by_colon, by_key, by_keyword, directive_in, directives_of, is_colon, is_inside, opens_body, read_lines, start_at, start_of}
 use Rattle.drv_specs.specs.Dumping.{dumped, entry_text, named_text}
 use Rattle.drv_specs.specs.Kept.{Each, IsNamed, IsPair, Kept, begins_line, is_text}
 use Rattle.drv_specs.specs.Lines.{ends_line, is_kept, lines_of, without_front, words_of}
 use Rattle.drv_specs.specs.Sets.{Set, is_key, is_key_byte, is_name, is_name_byte, is_sized}
-use Rattle.drv_specs.specs.declared.directive.Directive.TheVariants.{Pair, Text}
-use Rattle.drv_specs.specs.declared.directive.Directive.{Directive}
-use Rattle.drv_specs.specs.declared.directive.Start.TheVariants.{Alone, Passed, WithBody}
 use Rattle.drv_words.specs.Bytes.{asterisk, at_sign, colon, newline, number_sign, percent, space, tab}
 use Rattle.std.proofs.Common.{◌≡◌, ◌<◌, ◌+◌, ◌∙◌, ◌==◌, ◌&&◌, ◌||◌, Bool, List, [], ◌∷◌, ◌++◌, None, Some, ap, append_assoc, arith, cond, drop, eqb-true, false, flat_map, if◌then◌else◌, length, length-append, lt-ltb, map, nat_le, nat_lt, not, position, refl, suc, sym, take, true, ℕ}
 use Rattle.std.specs.List.{join_with_byte, list_all, position_or_len}

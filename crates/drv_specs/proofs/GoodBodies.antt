@@ -3,13 +3,10 @@ use Rattle.drv_specs.proofs.Lining.{is_full}
 use Rattle.drv_specs.proofs.SettledLines.{Clean, last_back, last_is, settled_clean}
 use Rattle.drv_specs.proofs.SettledTexts.{ends_more, is_line_byte}
 use Rattle.drv_specs.specs.Blanks.{has_byte, is_blank}
-use Rattle.drv_specs.specs.Directives.{body_lines, body_of, by_colon, by_key, by_keyword, directive_in, directives_of, first_line, included, is_colon, is_inside, read_lines, renamed, start_at, start_of}
+use Rattle.drv_specs.specs.Directives.{Alone, Bad, Directive, Include, Pair, Passed, Rename, Text, WithBody, body_lines, body_of, by_colon, by_key, by_keyword, directive_in, directives_of, first_line, included, is_colon, is_inside, read_lines, renamed, start_at, start_of}
 use Rattle.drv_specs.specs.Kept.{Each, begins_line, is_body, is_text, sees}
 use Rattle.drv_specs.specs.Lines.{is_empty_line, is_kept, lines_of, settled, trimmed, without_front, words_of}
 use Rattle.drv_specs.specs.Sets.{ends_with_backslash}
-use Rattle.drv_specs.specs.declared.directive.Directive.TheVariants.{Bad, Include, Pair, Rename, Text}
-use Rattle.drv_specs.specs.declared.directive.Directive.{Directive}
-use Rattle.drv_specs.specs.declared.directive.Start.TheVariants.{Alone, Passed, WithBody}
 use Rattle.drv_words.specs.Bytes.{asterisk, greater_than, less_than, newline, number_sign, percent}
 use Rattle.std.proofs.Common.{◌≡◌, ◌⊎◌, ◌+◌, ◌-◌, ◌∙◌, ◌==◌, ◌&&◌, ◌||◌, Bool, List, [], ◌∷◌, ◌++◌, None, Option, Some, ap, codes, drop, false, filter, if◌then◌else◌, inl, inr, length, nat_eq, not, position, refl, suc, sym, take, true, zero, ℕ}
 use Rattle.std.specs.Cmp.Lexicographic.{pointwise}

@@ -1,16 +1,15 @@
 use Rattle.drv_search.specs.declared.prefixes.Prefixes.{Prefixes}
 use Rattle.drv_specs.proofs.Changes.{name_keeps, pair_keeps, text_keeps}
 use Rattle.drv_specs.proofs.GoodBodies.{IsGood, directives_good}
-use Rattle.drv_specs.specs.Directives.{directives_of}
+use Rattle.drv_specs.specs.Directives.{Bad, Directive, Include, Pair, Rename, Text, directives_of, read_settled}
+use Rattle.drv_specs.specs.Slices.{IsSettled}
 use Rattle.drv_specs.specs.Kept.{Each, Kept}
 use Rattle.drv_specs.specs.Loading.{Carried, Including, all_carried, carried, changed, file_carried, file_loaded, file_text, including, loaded, most_files, set_in, then_by, worked}
 use Rattle.drv_specs.specs.Sets.{Set, with_name, with_pair_body, with_text}
-use Rattle.drv_specs.specs.declared.directive.Directive.TheVariants.{Bad, Include, Pair, Rename, Text}
-use Rattle.drv_specs.specs.declared.directive.Directive.{Directive}
 use Rattle.drv_specs.specs.declared.fault.SpecsFault.{SpecsFault}
 use Rattle.drv_system.specs.Facts.{Facts}
 use Rattle.drv_system.specs.Known.{Is, Known, Unasked}
-use Rattle.std.proofs.Common.{◌≡◌, Bool, Err, List, [], ◌∷◌, Ok, Result, false, refl, subst, suc, zero, ℕ}
+use Rattle.std.proofs.Common.{◌≡◌, Bool, Err, List, [], ◌∷◌, Ok, Result, false, refl, subst, suc, zero, ℕ, ap, sym, ◌∙◌}
 
 -- Loading keeps what every set keeps.
 
@@ -59,10 +58,13 @@ module _ (F : Facts) (prefixes : Prefixes) where
   set_by (Is (Ok c)) set' is kept = let same : c.set ≡ set' = cc in subst Kept same (kept c refl)
 
   -- a text that was worked
-  pub worked_keeps : (set set' : Set) (files : ℕ) (text : List ℕ) → Kept set → worked F prefixes set files text ≡ Is (Ok set') → Kept set'
+  pub worked_keeps : (set set' : Set) (files : ℕ) (text : List ℕ) → Kept set → worked F prefixes set files (directives_of text) ≡ Is (Ok set') → Kept set'
   worked_keeps set set' files text kept is =
       set_by (all_carried (including F prefixes 15) (record { set = set; files = files }) (directives_of text)) set' is
       (λ c given. all_keep (including F prefixes 15) (including_keeps 15) (directives_of text) (record { set = set; files = files }) c (directives_good text) given kept)
+
+  pub settled_keeps : (set set' : Set) (files : ℕ) (left : List ℕ) → IsSettled left → Kept set → worked F prefixes set files (read_settled left) ≡ Is (Ok set') → Kept set'
+  settled_keeps set set' files left settled kept is = worked_keeps set set' files settled.0 kept (ap (λ l. worked F prefixes set files (read_settled l)) (sym settled.1) ∙ is)
 
   pub loaded_keeps : (set set' : Set) (text : List ℕ) → Kept set → loaded F prefixes set text ≡ Is (Ok set') → Kept set'
   unfolding loaded

@@ -5,6 +5,7 @@ pub mod BuiltinKept
 pub mod Carrying
 pub mod Changes
 pub mod Dumps
+pub mod Found
 pub mod GoodBodies
 pub mod Keeping
 pub mod Keys
@@ -12,6 +13,7 @@ pub mod Lining
 pub mod Reloads
 pub mod SettledLines
 pub mod SettledTexts
+pub mod Sliced
 pub mod Tabled
 pub mod TreeChecks
 pub mod Trimming

@@ -81,7 +81,7 @@ body_lines_are [] rest is = refl
 body_lines_are (line ∷ lines) rest is =
     rw (not_true (is_empty_line line) (and_first (is_full line) _ is)) (ap (λ ls. line ∷ ls) (body_lines_are lines rest (and_second (is_full line) _ is)))
 
-inside_next : (line : List ℕ) (lines : List (List ℕ)) (n : ℕ) → is_empty_line line ≡ false → read_lines true n (line ∷ lines) ≡ read_lines true (n + 1) lines
+pub inside_next : (line : List ℕ) (lines : List (List ℕ)) (n : ℕ) → is_empty_line line ≡ false → read_lines true n (line ∷ lines) ≡ read_lines true (n + 1) lines
 inside_next line lines n is = ap (λ e. directive_in (start_at e true n line lines) ++ read_lines (is_inside e true (start_at e true n line lines)) (n + 1) lines) is
 
 pub inside_passed : (lines rest : List (List ℕ)) (n : ℕ) → list_all is_full lines ≡ true → (m : ℕ) × (read_lines true n (lines ++ [] ∷ rest) ≡ read_lines false m rest)

@@ -7,7 +7,7 @@ use Rattle.drv_specs.specs.Dumping.{Plain, appends, doubled, dumped}
 use Rattle.drv_specs.specs.Kept.{Each, IsNamed, IsPair, Kept, is_text}
 use Rattle.drv_specs.specs.Loading.{Carried, Including, all_carried, changed, including, loaded, most_files, set_in, then_by}
 use Rattle.drv_specs.specs.Sets.{Set, by_tree, ends_with_backslash, has_tree, is_no_text, no_specs, put, with_body, with_named, with_pair, with_pair_body, with_pair_text, with_text}
-use Rattle.drv_specs.specs.declared.directive.Directive.{Directive}
+use Rattle.drv_specs.specs.Directives.{Directive}
 use Rattle.drv_syntax.specs.Outcome.{parsed}
 use Rattle.drv_syntax.specs.Tree.{Items}
 use Rattle.drv_syntax.specs.declared.fault.SyntaxFault.{SyntaxFault}

@@ -3,7 +3,7 @@ use Rattle.drv_specs.specs.Builtin.{builtin_named, builtin_pairs, builtin_specs}
 use Rattle.drv_specs.specs.Dumping.{dumped}
 use Rattle.drv_specs.specs.Loading.{all_carried, file_loaded, including, loaded}
 use Rattle.drv_specs.specs.Sets.{Set, no_specs, text_of}
-use Rattle.drv_specs.specs.declared.directive.Directive.TheVariants.{Include}
+use Rattle.drv_specs.specs.Directives.{Include}
 use Rattle.drv_specs.specs.declared.fault.SpecsFault.TheVariants.{AliasOfAlias, BadLine, BadName, IncludeTooDeep, NoSuchFile, RenameMissing, RenameTaken, Syntax, TooManyIncludes, TrailingBackslash, Unreadable}
 use Rattle.drv_specs.specs.declared.fault.SpecsFault.{SpecsFault}
 use Rattle.drv_syntax.specs.declared.fault.SyntaxFault.TheVariants.{BadDirective, Unclosed}

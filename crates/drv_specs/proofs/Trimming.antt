@@ -1,8 +1,45 @@
 use Rattle.drv_specs.specs.Lines.{without_end, without_front}
-use Rattle.std.proofs.Common.{◌≡◌, ◌<◌, ◌+◌, ◌-◌, ◌∙◌, Bool, List, [], ◌∷◌, ◌++◌, ap, arith, false, length, refl, reverse, sym, take, true, ℕ}
+use Rattle.std.proofs.Common.{◌≡◌, ◌<◌, ◌≤◌, ◌+◌, ◌-◌, ◌∙◌, Bool, List, [], ◌∷◌, ◌++◌, ap, arith, cond, drop, false, if◌then◌else◌, length, nat_lt, not, refl, reverse, suc, sym, take, true, ℕ}
 use Rattle.std.proofs.lemmas.Grind.{take_at_read}
-use Rattle.std.proofs.lemmas.List.{reverse-append, reverse-reverse}
-use Rattle.std.specs.Prelude.{get_or}
+use Rattle.std.proofs.lemmas.Bool.Decides.{nat_tests}
+use Rattle.std.proofs.lemmas.List.Sums.{prefix_len-le-length}
+use Rattle.std.proofs.lemmas.List.{length-drop, reverse-append, reverse-reverse}
+use Rattle.std.specs.List.{position, position_or_len, prefix_len}
+use Rattle.std.specs.Prelude.{None, Option, Some, get_or, unwrap_or}
+
+-- A text trimmed from its front.
+
+front_is : (test : ℕ → Bool) (text : List ℕ) → drop (position_or_len (λ b. not (test b)) text) text ≡ without_front test text
+front_is test [] = refl
+front_is test (b ∷ text) = by (test b) refl (front_is test text)
+  where
+    next : (n : ℕ) → drop (1 + n) (b ∷ text) ≡ drop n text
+    next n = let plus : 1 + n ≡ suc n = omega arith in ap (λ m. drop m (b ∷ text)) plus
+
+    by : (goes : Bool) → test b ≡ goes → drop (position_or_len (λ c. not (test c)) text) text ≡ without_front test text
+        → drop (position_or_len (λ c. not (test c)) (b ∷ text)) (b ∷ text) ≡ without_front test (b ∷ text)
+    by true is h = rw is (next (prefix_len (λ c. not (not (test c))) text) ∙ h)
+    by false is h = rw is refl
+
+not_below : (a b : ℕ) → nat_lt a b ≡ false → b ≤ a
+not_below a b is = grind (arith, nat_tests, is)
+
+place_is : (test : ℕ → Bool) (text : List ℕ) → unwrap_or (position test text) (length text) ≡ position_or_len test text
+place_is test text = by (nat_lt (position_or_len test text) (length text)) refl
+  where
+    by : (below : Bool) → nat_lt (position_or_len test text) (length text) ≡ below → unwrap_or (cond below (Some (position_or_len test text)) None) (length text) ≡ position_or_len test text
+    by true is = refl
+    by false is = let at_least : length text ≤ position_or_len test text = not_below (position_or_len test text) (length text) is in omega (arith, at_least, prefix_len-le-length (λ b. not (test b)) text)
+
+pub front_by : (test : ℕ → Bool) (text rest : List ℕ) (place : Option ℕ) (size count : ℕ) → place ≡ position (λ b. not (test b)) text → size ≡ length text → count ≡ unwrap_or place size
+    → rest ≡ drop count text → rest ≡ without_front test text
+front_by test text rest place size count is sized counts cut =
+    cut ∙ ap (λ n. drop n text) (counts ∙ ap (unwrap_or place) sized ∙ ap (λ p. unwrap_or p (length text)) is ∙ place_is (λ b. not (test b)) text) ∙ front_is test text
+
+pub front_within : (test : ℕ → Bool) (text rest : List ℕ) → rest ≡ without_front test text → length rest ≤ length text
+front_within test text rest is =
+    let size : length rest ≡ length text - position_or_len (λ b. not (test b)) text = ap length (is ∙ sym (front_is test text)) ∙ length-drop (position_or_len (λ b. not (test b)) text) text in
+    omega (arith, size)
 
 -- A text trimmed from its end.
 

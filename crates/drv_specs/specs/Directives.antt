@@ -1,16 +1,25 @@
 use Rattle.drv_specs.specs.Blanks.{has_byte, is_blank}
 use Rattle.drv_words.specs.Bytes.{colon, greater_than, number_sign, less_than, newline, percent, asterisk}
 use Rattle.drv_specs.specs.Lines.{is_empty_line, lines_of, settled, trimmed, without_front, words_of}
-use Rattle.drv_specs.specs.declared.directive.Directive.TheVariants.{Bad, Include, Pair, Rename, Text}
-use Rattle.drv_specs.specs.declared.directive.Directive.{Directive}
-use Rattle.drv_specs.specs.declared.directive.Start.TheVariants.{Alone, Passed, WithBody}
-use Rattle.drv_specs.specs.declared.directive.Start.{Start}
 use Rattle.std.specs.Cmp.Lexicographic.{pointwise}
 use Rattle.std.specs.List.{ends_with, join_with_byte, position}
 use Rattle.std.specs.Prelude.{◌+◌, ◌-◌, ◌==◌, ◌&&◌, Bool, List, [], ◌∷◌, ◌++◌, None, Option, Some, codes, drop, false, filter, if◌then◌else◌, length, nat_eq, take, true, ℕ}
 
 -- The directives of a spec file's text, one after another; a line that is none is `Bad` with its number (GCC manual, "Spec
 -- Files"; this project's profile).
+
+pub data Directive : Type 0 where
+  Text : List ℕ → List ℕ → Directive  -- a name, and its body
+  Pair : List ℕ → List ℕ → Directive  -- a suffix or a language, and its body
+  Rename : List ℕ → List ℕ → Directive  -- a text's name, and its new name
+  Include : Bool → List ℕ → Directive  -- whether a missing file is passed over, and the file
+  Bad : ℕ → Directive  -- the line of this number is none
+
+-- what a line begins: nothing, a directive of one line, or one with a body
+pub data Start : Type 0 where
+  Passed : Start
+  Alone : Directive → Start
+  WithBody : Directive → Start
 
 -- %include: the file stands between a < and the last >, and is all that stands there
 abbrev pub included : ℕ → Bool → List ℕ → Directive
@@ -93,6 +102,9 @@ read_lines inside n (line ∷ lines) =
     let start = start_at (is_empty_line line) inside n line lines in
     directive_in start ++ read_lines (is_inside (is_empty_line line) inside start) (n + 1) lines
 
--- the directives of a text
+-- the directives of a settled text, and of any
+abbrev pub read_settled : List ℕ → List Directive
+read_settled text = read_lines false 1 (lines_of text)
+
 abbrev pub directives_of : List ℕ → List Directive
-directives_of text = read_lines false 1 (lines_of (settled text))
+directives_of text = read_settled (settled text)

@@ -7,4 +7,5 @@ pub mod Keyed
 pub mod Lines
 pub mod Loading
 pub mod Sets
+pub mod Slices
 pub mod Tables

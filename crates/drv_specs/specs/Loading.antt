@@ -1,9 +1,7 @@
 use Rattle.drv_search.specs.Search.{file_found}
 use Rattle.drv_search.specs.declared.prefixes.Prefixes.{Prefixes}
-use Rattle.drv_specs.specs.Directives.{directives_of}
+use Rattle.drv_specs.specs.Directives.{Bad, Directive, Include, Pair, Rename, Text, directives_of}
 use Rattle.drv_specs.specs.Sets.{Set, with_name, with_pair_body, with_text}
-use Rattle.drv_specs.specs.declared.directive.Directive.TheVariants.{Bad, Include, Pair, Rename, Text}
-use Rattle.drv_specs.specs.declared.directive.Directive.{Directive}
 use Rattle.drv_specs.specs.declared.fault.SpecsFault.TheVariants.{BadLine, IncludeTooDeep, NoSuchFile, TooManyIncludes, Unreadable}
 use Rattle.drv_specs.specs.declared.fault.SpecsFault.{SpecsFault}
 use Rattle.drv_system.specs.Facts.{Facts, read_of}
@@ -88,13 +86,13 @@ most_files = 2000
 abbrev pub most_levels : ℕ
 most_levels = 16
 
--- the directives of a text, in which so many more files may be read
-abbrev pub worked : Facts → Prefixes → Set → ℕ → List ℕ → Known (Result Set SpecsFault)
-worked F prefixes set files text = then_by (all_carried (including F prefixes 15) (record { set = set; files = files }) (directives_of text)) set_in
+-- directives of a text, in which so many more files may be read
+abbrev pub worked : Facts → Prefixes → Set → ℕ → List Directive → Known (Result Set SpecsFault)
+worked F prefixes set files directives = then_by (all_carried (including F prefixes 15) (record { set = set; files = files }) directives) set_in
 
 -- a text loaded, and a file
 unfoldable pub loaded : Facts → Prefixes → Set → List ℕ → Known (Result Set SpecsFault)
-loaded F prefixes set text = worked F prefixes set most_files text
+loaded F prefixes set text = worked F prefixes set most_files (directives_of text)
 
 unfoldable pub file_loaded : Facts → Prefixes → Set → List ℕ → Known (Result Set SpecsFault)
 file_loaded F prefixes set name = then_by (including F prefixes most_levels (record { set = set; files = most_files }) false name) set_in

@@ -8,7 +8,6 @@ ghost use Rattle.std.specs.Prelude.{◌≡◌, IfOk, Ok, map};
 
 use crate::entries::Entries;
 use crate::{SpecSet, SpecsFault};
-use drv_words::Word;
 use std::alloc::{AllocError, Global};
 
 /// A row of a table: a name or a key, and its text.
@@ -115,22 +114,21 @@ fn pair_rows() -> &'static [Row]
 }
 
 /// Puts the texts of rows.
-fn put_rows(alloc: Global, entries: &mut Entries, rows: &[Row]) -> Result<(), SpecsFault>
+fn put_rows(entries: &mut Entries, rows: &[Row]) -> Result<(), SpecsFault>
     ensures { Gives fault.Memory (λ _. entries.new) result (all_put entries.old (map shown rows.now)) }
 {
     for row in rows {
-        entries.put(Word::from_bytes(alloc, row.key)?, row.text)?;
+        entries.put(row.key, row.text)?;
     }
     Ok(())
 }
 
 /// Adds the pairs of rows.
-fn add_rows(alloc: Global, entries: &mut Entries, rows: &[Row]) -> Result<(), SpecsFault>
+fn add_rows(entries: &mut Entries, rows: &[Row]) -> Result<(), SpecsFault>
     ensures { Gives fault.Memory (λ _. entries.new) result (all_added entries.old (map shown rows.now)) }
 {
     for row in rows {
-        let key = Word::from_bytes(alloc, row.key)?;
-        entries.add_pair_text(key, Word::from_bytes(alloc, row.text)?)?;
+        entries.add_pair_text(row.key, row.text)?;
     }
     Ok(())
 }
@@ -141,8 +139,8 @@ fn builtin_entries(alloc: Global) -> Result<Entries, SpecsFault>
     ensures { Gives fault.Memory (λ entries. entries) result (Ok builtin_specs) }
 {
     let mut entries = Entries::empty(alloc);
-    put_rows(alloc, &mut entries, named_rows())?;
-    add_rows(alloc, &mut entries, pair_rows())?;
+    put_rows(&mut entries, named_rows())?;
+    add_rows(&mut entries, pair_rows())?;
     Ok(entries)
 }
 

@@ -2,7 +2,8 @@
 
 ghost use Rattle.drv_specs.specs.Blanks.{has_byte, is_blank, is_white};
 ghost use Rattle.drv_specs.specs.Lines.{is_empty_line, trimmed, without_end, without_front};
-ghost use Rattle.std.specs.Prelude.{◌≡◌, ◌-◌, drop, length, take};
+ghost use Rattle.std.specs.List.{position};
+ghost use Rattle.std.specs.Prelude.{◌≡◌, ◌≤◌, ◌-◌, drop, length, not, take};
 
 /// Whether a byte is a space or a tab.
 pub(crate) fn is_blank(byte: u8) -> bool
@@ -42,32 +43,35 @@ pub(crate) fn without_last(text: &[u8]) -> &[u8]
     }
 }
 
+/// Where the first byte of a text stands that is no blank.
+fn first_solid(text: &[u8]) -> Option<usize>
+    ensures { result ≡ position (λ b. not (is_blank b)) text.now }
+{
+    text.iter().position(|byte| !is_blank(*byte))
+}
+
+/// Where the first byte of a text stands that is no white space.
+fn first_black(text: &[u8]) -> Option<usize>
+    ensures { result ≡ position (λ b. not (is_white b)) text.now }
+{
+    text.iter().position(|byte| !is_white(*byte))
+}
+
 /// A text without the blanks at its front.
 pub(crate) fn without_blanks(text: &[u8]) -> &[u8]
-    ensures { result.now ≡ without_front is_blank text.now }
+    ensures bytes { result.now ≡ without_front is_blank text.now }
+    ensures within { length result.now ≤ length text.now }
 {
-    let mut text = text;
-    while let [byte, rest @ ..] = text {
-        if !is_blank(*byte) {
-            return text;
-        }
-        text = rest;
-    }
-    text
+    let stays = first_solid(text).unwrap_or(text.len());
+    behind(text, stays)
 }
 
 /// A text without the white space at its front.
 pub(crate) fn without_white(text: &[u8]) -> &[u8]
     ensures { result.now ≡ without_front is_white text.now }
 {
-    let mut text = text;
-    while let [byte, rest @ ..] = text {
-        if !is_white(*byte) {
-            return text;
-        }
-        text = rest;
-    }
-    text
+    let stays = first_black(text).unwrap_or(text.len());
+    behind(text, stays)
 }
 
 /// A text without its first byte.

@@ -1,6 +1,7 @@
 //! What a directive does to a set.
 
 ghost use Rattle.drv_specs.specs.Loading.{change};
+ghost use Rattle.drv_specs.specs.Slices.{shown};
 ghost use Rattle.drv_specs.specs.Sets.{append, begins_with_at, by_tree, is_alias, is_key, is_key_byte, is_key_text, is_name, is_name_byte, is_no_text, is_not_installed, is_sized, pair_text, put, Set, with_body, with_name, with_pair_body, with_pair_text, with_text};
 ghost use Rattle.drv_specs.specs.Blanks.{is_white};
 ghost use Rattle.drv_specs.specs.declared.fault.SpecsFault.TheVariants as fault;
@@ -17,7 +18,7 @@ use crate::settling::ends_with_backslash;
 use crate::text::Text;
 use drv_syntax::{SyntaxFault, parse};
 use drv_words::Word;
-use std::alloc::{AllocError, Global};
+use std::alloc::Global;
 
 /// Whether a byte may stand in a name.
 fn is_name_byte(byte: u8) -> bool
@@ -117,19 +118,16 @@ fn is_all_white(text: &[u8]) -> bool
 }
 
 /// The text of a pair's body.
-fn pair_text(alloc: Global, body: Word) -> Result<Word, AllocError>
-    ensures { IfOk result (λ text. text ≡ pair_text body) }
+fn pair_text(body: &[u8]) -> &[u8]
+    ensures { result.now ≡ pair_text body.now }
 {
-    let text = without_end_white(body.as_bytes());
-    if is_no_text(text) {
-        return Word::from_bytes(alloc, text);
-    }
-    Ok(body)
+    let text = without_end_white(body);
+    if is_no_text(text) { text } else { body }
 }
 
 /// The tree of a text, which is refused if it has none.
 #[tactic(auto, using(crate::proofs::TreeChecks::tree_given, crate::proofs::TreeChecks::tree_refused))]
-fn parsed_text(alloc: Global, name: &Word, text: &[u8]) -> Result<Text, SpecsFault>
+fn parsed_text(alloc: Global, name: &[u8], text: &[u8]) -> Result<Text, SpecsFault>
     ensures tree { (set : Set) → Gives fault.Memory (λ _. set) result (by_tree name.now set (parsed text.now)) }
     ensures text { IfOk result (λ parsed. parsed ≡ text.now) }
 {
@@ -137,7 +135,7 @@ fn parsed_text(alloc: Global, name: &Word, text: &[u8]) -> Result<Text, SpecsFau
         Ok(tree) => Ok(Text::new(alloc, tree)?),
         Err(SyntaxFault::Memory) => Err(SpecsFault::Memory),
         Err(fault) => Err(SpecsFault::Syntax {
-            name: name.clone()?,
+            name: Word::from_bytes(alloc, name)?,
             fault,
         }),
     }
@@ -145,110 +143,107 @@ fn parsed_text(alloc: Global, name: &Word, text: &[u8]) -> Result<Text, SpecsFau
 
 impl Entries {
     /// Puts a text that has a tree.
-    pub(crate) fn put(&mut self, name: Word, text: &[u8]) -> Result<(), SpecsFault>
-        ensures { Gives fault.Memory (λ _. self.new) result (put self.old name text.now) }
+    pub(crate) fn put(&mut self, name: &[u8], text: &[u8]) -> Result<(), SpecsFault>
+        ensures { Gives fault.Memory (λ _. self.new) result (put self.old name.now text.now) }
     {
-        let text = parsed_text(self.alloc(), &name, text)?;
-        self.insert(name.as_bytes(), text)?;
+        let text = parsed_text(self.alloc(), name, text)?;
+        self.insert(name, text)?;
         Ok(())
     }
 
     /// Adds to a text.
-    fn append(&mut self, name: Word, addition: &[u8]) -> Result<(), SpecsFault>
-        ensures { Gives fault.Memory (λ _. self.new) result (append self.old name addition.now) }
+    fn append(&mut self, name: &[u8], addition: &[u8]) -> Result<(), SpecsFault>
+        ensures { Gives fault.Memory (λ _. self.new) result (append self.old name.now addition.now) }
     {
         if is_all_white(addition) {
             return Ok(());
         }
-        let text = self.appended(name.as_bytes(), addition)?;
+        let text = self.appended(name, addition)?;
         self.put(name, text.as_bytes())
     }
 
     /// Does what a body says to a name.
-    fn put_body(&mut self, name: Word, body: Word) -> Result<(), SpecsFault>
-        ensures { Gives fault.Memory (λ _. self.new) result (with_body self.old name body) }
+    fn put_body(&mut self, name: &[u8], body: &[u8]) -> Result<(), SpecsFault>
+        ensures { Gives fault.Memory (λ _. self.new) result (with_body self.old name.now body.now) }
     {
-        match body.as_bytes() {
+        match body {
             [] => {
-                self.remove(name.as_bytes());
+                self.remove(name);
                 Ok(())
             }
-            [b'+', blank, ..] if is_blank(*blank) => {
-                self.append(name, without_first(body.as_bytes()))
-            }
+            [b'+', blank, ..] if is_blank(*blank) => self.append(name, without_first(body)),
             text => self.put(name, text),
         }
     }
 
     /// Carries out a name with its body.
-    fn put_text(&mut self, name: Word, body: Word) -> Result<(), SpecsFault>
-        ensures { Gives fault.Memory (λ _. self.new) result (with_text self.old name body) }
+    fn put_text(&mut self, name: &[u8], body: &[u8]) -> Result<(), SpecsFault>
+        ensures { Gives fault.Memory (λ _. self.new) result (with_text self.old name.now body.now) }
     {
-        if !is_name(name.as_bytes()) {
-            return Err(SpecsFault::BadName(name));
+        if !is_name(name) {
+            return Err(SpecsFault::BadName(self.word(name)?));
         }
-        if ends_with_backslash(body.as_bytes()) {
-            return Err(SpecsFault::TrailingBackslash(name));
+        if ends_with_backslash(body) {
+            return Err(SpecsFault::TrailingBackslash(self.word(name)?));
         }
         self.put_body(name, body)
     }
 
     /// Adds a pair of this text.
-    pub(crate) fn add_pair_text(&mut self, key: Word, text: Word) -> Result<(), SpecsFault>
-        ensures { Gives fault.Memory (λ _. self.new) result (with_pair_text self.old key text) }
+    pub(crate) fn add_pair_text(&mut self, key: &[u8], text: &[u8]) -> Result<(), SpecsFault>
+        ensures { Gives fault.Memory (λ _. self.new) result (with_pair_text self.old key.now text.now) }
     {
-        if ends_with_backslash(text.as_bytes()) {
-            return Err(SpecsFault::TrailingBackslash(key));
+        if ends_with_backslash(text) {
+            return Err(SpecsFault::TrailingBackslash(self.word(key)?));
         }
-        if begins_with_at(key.as_bytes()) && begins_with_at(text.as_bytes()) {
-            return Err(SpecsFault::AliasOfAlias(key));
+        if begins_with_at(key) && begins_with_at(text) {
+            return Err(SpecsFault::AliasOfAlias(self.word(key)?));
         }
-        if is_no_text(text.as_bytes()) {
+        if is_no_text(text) {
             self.push_pair(key, text, None)?;
             return Ok(());
         }
-        let tree = parsed_text(self.alloc(), &key, text.as_bytes())?;
+        let tree = parsed_text(self.alloc(), key, text)?;
         self.push_pair(key, text, Some(tree))?;
         Ok(())
     }
 
     /// Carries out a key with its body.
-    fn add_pair(&mut self, key: Word, body: Word) -> Result<(), SpecsFault>
-        ensures { Gives fault.Memory (λ _. self.new) result (with_pair_body self.old key body) }
+    fn add_pair(&mut self, key: &[u8], body: &[u8]) -> Result<(), SpecsFault>
+        ensures { Gives fault.Memory (λ _. self.new) result (with_pair_body self.old key.now body.now) }
     {
-        if !is_key(key.as_bytes()) {
-            return Err(SpecsFault::BadName(key));
+        if !is_key(key) {
+            return Err(SpecsFault::BadName(self.word(key)?));
         }
-        let text = pair_text(self.alloc(), body)?;
-        self.add_pair_text(key, text)
+        self.add_pair_text(key, pair_text(body))
     }
 
     /// Carries out a `%rename`.
-    fn give_name(&mut self, old: Word, new: Word) -> Result<(), SpecsFault>
-        ensures { Gives fault.Memory (λ _. self.new) result (with_name self.old old new) }
+    fn give_name(&mut self, old: &[u8], new: &[u8]) -> Result<(), SpecsFault>
+        ensures { Gives fault.Memory (λ _. self.new) result (with_name self.old old.now new.now) }
     {
-        if !is_name(old.as_bytes()) {
-            return Err(SpecsFault::BadName(old));
+        if !is_name(old) {
+            return Err(SpecsFault::BadName(self.word(old)?));
         }
-        if !is_name(new.as_bytes()) {
-            return Err(SpecsFault::BadName(new));
+        if !is_name(new) {
+            return Err(SpecsFault::BadName(self.word(new)?));
         }
-        if !self.has(old.as_bytes()) {
-            return Err(SpecsFault::RenameMissing(old));
+        if !self.has(old) {
+            return Err(SpecsFault::RenameMissing(self.word(old)?));
         }
         if old == new {
             return Ok(());
         }
-        if self.has(new.as_bytes()) {
-            return Err(SpecsFault::RenameTaken(new));
+        if self.has(new) {
+            return Err(SpecsFault::RenameTaken(self.word(new)?));
         }
-        self.rename(old.as_bytes(), new.as_bytes())?;
+        self.rename(old, new)?;
         Ok(())
     }
 
     /// Carries out a directive that reads no file.
-    pub(crate) fn change(&mut self, directive: Directive) -> Result<(), SpecsFault>
-        ensures { Gives fault.Memory (λ _. self.new) result (change self.old directive) }
+    pub(crate) fn change(&mut self, directive: Directive<'_>) -> Result<(), SpecsFault>
+        ensures { Gives fault.Memory (λ _. self.new) result (change self.old (shown directive.entry)) }
     {
         match directive {
             Directive::Text { name, body } => self.put_text(name, body),

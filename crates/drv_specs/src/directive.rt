@@ -1,29 +1,16 @@
 //! What the lines of a spec file say.
 
-use drv_words::Word;
-
-/// A directive of a spec file.
-#[derive(Debug, Drop)]
-pub(crate) enum Directive {
+/// A directive of a spec file: slices of its settled text.
+#[derive(Clone, Copy)]
+pub(crate) enum Directive<'a> {
     /// A name and its body.
-    Text { name: Word, body: Word },
+    Text { name: &'a [u8], body: &'a [u8] },
     /// A suffix or a language, and its body.
-    Pair { key: Word, body: Word },
+    Pair { key: &'a [u8], body: &'a [u8] },
     /// A text gets a new name.
-    Rename { old: Word, new: Word },
+    Rename { old: &'a [u8], new: &'a [u8] },
     /// A file is read here; one that is missing may be passed over.
-    Include { pass_missing: bool, file: Word },
+    Include { pass_missing: bool, file: &'a [u8] },
     /// The line of this number is none.
     Bad(usize),
-}
-
-/// What a line begins.
-#[derive(Debug, Drop)]
-pub(crate) enum Start {
-    /// Nothing.
-    Passed,
-    /// A directive of one line.
-    Alone(Directive),
-    /// A directive with a body.
-    WithBody(Directive),
 }

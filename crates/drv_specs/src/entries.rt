@@ -94,6 +94,13 @@ impl Entries {
         self.alloc
     }
 
+    /// A word of these bytes.
+    pub(crate) fn word(&self, bytes: &[u8]) -> Result<Word, AllocError>
+        ensures { IfOk result (λ word. word ≡ bytes.now) }
+    {
+        Word::from_bytes(self.alloc, bytes)
+    }
+
     /// The named texts.
     pub(crate) fn named(&self) -> &IndexMap<Vec<u8>, Text>
         ensures { entries_of result.now.entries ≡ self.now.named }
@@ -161,13 +168,15 @@ impl Entries {
     /// Adds a pair at the end, with its text where that is one that is worked.
     pub(crate) fn push_pair(
         &mut self,
-        key: Word,
-        text: Word,
+        key: &[u8],
+        text: &[u8],
         tree: Option<Text>,
     ) -> Result<(), AllocError>
-        requires { tree ≡ worked_text (key, text) }
-        ensures { OnOk result (self.new ≡ with_pair self.old key text) }
+        requires { tree ≡ worked_text (key.now, text.now) }
+        ensures { OnOk result (self.new ≡ with_pair self.old key.now text.now) }
     {
+        let key = self.word(key)?;
+        let text = self.word(text)?;
         self.trees.reserve(1)?;
         self.pairs.push((key, text))?;
         self.trees.push(tree)?;

@@ -9,7 +9,7 @@ mod dumping;
 mod entries;
 mod fault;
 mod laws;
-mod line;
+mod lines;
 mod loading;
 mod reading;
 mod set;

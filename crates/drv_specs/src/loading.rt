@@ -1,7 +1,8 @@
 //! Spec files loaded.
 
-ghost use Rattle.drv_specs.specs.Directives.{directives_of};
-ghost use Rattle.drv_specs.specs.Loading.{all_carried, file_loaded, file_text, including, loaded, text_read, worked};
+ghost use Rattle.drv_specs.specs.Directives.{read_settled};
+ghost use Rattle.drv_specs.specs.Loading.{all_carried, file_loaded, including, loaded, text_read, worked};
+ghost use Rattle.drv_specs.specs.Slices.{IsSettled, read_left, settled_file};
 ghost use Rattle.drv_specs.specs.declared.fault.SpecsFault.TheVariants as fault;
 ghost use Rattle.drv_system.specs.Asking.{Asks, Extends};
 ghost use Rattle.drv_system.specs.Facts.{Facts};
@@ -11,7 +12,8 @@ ghost use Rattle.std.specs.Prelude.{◌≡◌, OnErr};
 
 use crate::directive::Directive;
 use crate::entries::Entries;
-use crate::reading::directives;
+use crate::reading::Reader;
+use crate::settling::settled;
 use crate::{SpecSet, SpecsFault};
 use drv_search::{Prefixes, find_file};
 use drv_system::{FactTable, ReadAnswer, System};
@@ -24,42 +26,43 @@ const MOST_FILES: usize = 2000;
 /// How deep files may stand in one another.
 const MOST_LEVELS: usize = 16;
 
-/// The text that an answer gives.
+/// What is left of the text that an answer gives.
 fn text_read(
     alloc: Global,
     pass_missing: bool,
     path: Word,
     answer: &ReadAnswer,
-) -> Result<Word, SpecsFault>
-    ensures { Gives fault.Memory (λ text. text) result (text_read pass_missing path answer.now) }
+) -> Result<Vec<u8>, SpecsFault>
+    ensures { Gives fault.Memory (λ left. left.items) result (read_left (text_read pass_missing path answer.now)) }
 {
     match answer {
-        ReadAnswer::Read(text) => Ok(text.clone()?),
-        ReadAnswer::Missing if pass_missing => Ok(Word::empty(alloc)),
+        ReadAnswer::Read(text) => Ok(settled(alloc, text.as_bytes())?),
+        ReadAnswer::Missing if pass_missing => Ok(Vec::new(alloc)),
         ReadAnswer::Missing => Err(SpecsFault::NoSuchFile(path)),
         ReadAnswer::Failed | ReadAnswer::TooLarge => Err(SpecsFault::Unreadable(path)),
     }
 }
 
-/// The text that a spec file gives.
+/// What is left of the text that a spec file gives.
 fn file_text<S: System>(
     alloc: Global,
     pass_missing: bool,
-    name: &Word,
+    name: &[u8],
     prefixes: &Prefixes,
     sys: &mut S,
     facts: &mut FactTable,
-) -> Result<Word, SpecsFault>
+) -> Result<Vec<u8>, SpecsFault>
     ensures asks { Asks (S.events sys.old) (S.events sys.new) facts.old facts.new }
-    ensures text { (F : Facts) → Extends facts.new F → GivesKnown fault.Memory (λ text. text) result (file_text F prefixes.now pass_missing name.now) }
+    ensures text { (F : Facts) → Extends facts.new F → GivesKnown fault.Memory (λ left. left.items) result (settled_file F prefixes.now pass_missing name.now) }
 {
-    let path = find_file(alloc, prefixes, name, sys, facts)?;
+    let name = Word::from_bytes(alloc, name)?;
+    let path = find_file(alloc, prefixes, &name, sys, facts)?;
     facts.read(sys, &path)?;
     let answer = facts.read_answer(&path);
     text_read(alloc, pass_missing, path, answer)
 }
 
-/// Carries out the directives of a text, in which so many more files may stand in one another.
+/// Carries out the directives of a settled text, in which so many more files may stand in one another.
 #[tactic(auto, using(crate::proofs::Asked::asks_further))]
 fn carry_out<S: System>(
     entries: &mut Entries,
@@ -71,11 +74,10 @@ fn carry_out<S: System>(
     facts: &mut FactTable,
 ) -> Result<(), SpecsFault>
     ensures asks { Asks (S.events sys.old) (S.events sys.new) facts.old facts.new }
-    ensures carried { (F : Facts) → Extends facts.new F → GivesKnown fault.Memory (λ _. record { set = entries.new; files = files.new }) result (all_carried (including F prefixes.now levels) (record { set = entries.old; files = files.old }) (directives_of text.now)) }
+    ensures carried { (F : Facts) → Extends facts.new F → GivesKnown fault.Memory (λ _. record { set = entries.new; files = files.new }) result (all_carried (including F prefixes.now levels) (record { set = entries.old; files = files.old }) (read_settled text.now)) }
 {
-    let mut left = directives(entries.alloc(), text)?.into_vec();
-    left.reverse();
-    while let Some(directive) = left.pop() {
+    let mut reader = Reader::new(text);
+    while let Some(directive) = reader.next() {
         match directive {
             Directive::Include { pass_missing, file } => {
                 if levels == 0 {
@@ -85,12 +87,12 @@ fn carry_out<S: System>(
                     return Err(SpecsFault::TooManyIncludes);
                 }
                 *files -= 1;
-                let text = file_text(entries.alloc(), pass_missing, &file, prefixes, sys, facts)?;
+                let text = file_text(entries.alloc(), pass_missing, file, prefixes, sys, facts)?;
                 carry_out(
                     entries,
                     files,
                     levels - 1,
-                    text.as_bytes(),
+                    text.as_slice(),
                     prefixes,
                     sys,
                     facts,
@@ -102,7 +104,7 @@ fn carry_out<S: System>(
     Ok(())
 }
 
-/// A copy of entries, on which the directives of a text are carried out, in which so many more files may be read.
+/// A copy of entries, on which the directives of a settled text are carried out, in which so many more files may be read.
 #[tactic(auto, using(crate::proofs::Asked::asks_further))]
 fn draft_of<S: System>(
     entries: &Entries,
@@ -113,7 +115,7 @@ fn draft_of<S: System>(
     facts: &mut FactTable,
 ) -> Result<Entries, SpecsFault>
     ensures asks { Asks (S.events sys.old) (S.events sys.new) facts.old facts.new }
-    ensures works { (F : Facts) → Extends facts.new F → GivesKnown fault.Memory (λ draft. draft) result (worked F prefixes.now entries.now files text.now) }
+    ensures works { (F : Facts) → Extends facts.new F → GivesKnown fault.Memory (λ draft. draft) result (worked F prefixes.now entries.now files (read_settled text.now)) }
 {
     let mut draft = entries.copied()?;
     let mut files = files;
@@ -123,7 +125,7 @@ fn draft_of<S: System>(
 }
 
 impl SpecSet {
-    /// Carries out the directives of a text, in which so many more files may be read, on a copy that then takes the place of
+    /// Carries out the directives of a settled text, in which so many more files may be read, on a copy that then takes the place of
     /// the set.
     #[tactic(auto, using(crate::proofs::Asked::asks_further))]
     fn work<S: System>(
@@ -134,8 +136,9 @@ impl SpecSet {
         sys: &mut S,
         facts: &mut FactTable,
     ) -> Result<(), SpecsFault>
+        requires { IsSettled text.now }
         ensures asks { Asks (S.events sys.old) (S.events sys.new) facts.old facts.new }
-        ensures works { (F : Facts) → Extends facts.new F → GivesKnown fault.Memory (λ _. self.new) result (worked F prefixes.now self.old files text.now) }
+        ensures works { (F : Facts) → Extends facts.new F → GivesKnown fault.Memory (λ _. self.new) result (worked F prefixes.now self.old files (read_settled text.now)) }
         ensures kept { OnErr result (self.new ≡ self.old) }
     {
         let draft = draft_of(&self.entries, files, text, prefixes, sys, facts)?;
@@ -161,7 +164,8 @@ impl SpecSet {
         ensures loads { (F : Facts) → Extends facts.new F → GivesKnown fault.Memory (λ _. self.new) result (loaded F prefixes.now self.old text.now) }
         ensures kept { OnErr result (self.new ≡ self.old) }
     {
-        self.work(MOST_FILES, text, prefixes, sys, facts)
+        let text = settled(self.entries.alloc(), text)?;
+        self.work(MOST_FILES, text.as_slice(), prefixes, sys, facts)
     }
 
     /// Carries out the directives of the file of this name, found as libraries are. After an error the set is as it was.
@@ -179,7 +183,8 @@ impl SpecSet {
         ensures loads { (F : Facts) → Extends facts.new F → GivesKnown fault.Memory (λ _. self.new) result (file_loaded F prefixes.now self.old name.now) }
         ensures kept { OnErr result (self.new ≡ self.old) }
     {
+        let name = name.as_bytes();
         let text = file_text(self.entries.alloc(), false, name, prefixes, sys, facts)?;
-        self.work(MOST_FILES - 1, text.as_bytes(), prefixes, sys, facts)
+        self.work(MOST_FILES - 1, text.as_slice(), prefixes, sys, facts)
     }
 }

@@ -1,234 +1,231 @@
-//! The directives of a text.
+//! The directives of a settled text, one after another.
 
-ghost use Rattle.drv_specs.specs.Blanks.{has_byte};
-ghost use Rattle.drv_words.specs.Bytes.{newline};
-ghost use Rattle.drv_specs.specs.Directives.{body_lines, body_of, by_colon, by_key, by_keyword, directive_in, directives_of, first_line, included, is_colon, is_inside, opens_body, read_lines, renamed, start_at, start_of};
-ghost use Rattle.drv_specs.specs.Lines.{is_empty_line, words_of};
-ghost use Rattle.std.specs.List.{position};
-ghost use Rattle.std.specs.Prelude.{◌≡◌, ◌<◌, ◌∷◌, ◌++◌, [], IfOk, IfSome, OnOk, drop, false, flat_map, get_or, length};
+ghost use Rattle.drv_specs.specs.Directives.{body_lines, by_colon, by_key, by_keyword, first_line, included, is_colon, read_lines, read_settled, renamed};
+ghost use Rattle.drv_specs.specs.Lines.{ends_line, lines_of, words_of};
+ghost use Rattle.drv_specs.specs.Slices.{Ends, bytes_from, directives_left, found, is_keyword, is_passed, lines_left, shown, size_left, text_left};
+ghost use Rattle.std.specs.List.{list_all, position};
+ghost use Rattle.std.specs.Prelude.{◌≡◌, ◌<◌, ◌≤◌, ◌^◌, ◌+◌, ◌-◌, ◌∷◌, ◌++◌, [], IfNone, false, length, not, true};
 
-use crate::bytes::{
-    behind, has_byte, is_empty_line, trimmed, without_blanks, without_first, without_last,
-};
-use crate::directive::{Directive, Start};
-use crate::line::{lines, words};
-use crate::settling::settled;
-use drv_words::{Listing, Word};
-use std::alloc::{AllocError, Global};
+use crate::bytes::{behind, has_byte, trimmed, without_blanks, without_last};
+use crate::directive::Directive;
+use crate::lines::{Lines, cut_body, cut_line, next_word};
+use bstr::ByteSlice;
+use std::marker::Model;
 
-/// Adds a line behind a newline.
-fn push_line(text: &mut Word, line: &[u8]) -> Result<(), AllocError>
-    ensures { OnOk result (text.new ≡ text.old ++ newline ∷ line.now) }
-{
-    text.push(b'\n')?;
-    text.extend_from_slice(line)?;
-    Ok(())
-}
-
-/// Adds the line that stands behind a colon, if anything does.
-fn push_first_line(text: &mut Word, rest: &[u8]) -> Result<(), AllocError>
-    ensures { OnOk result (text.new ≡ text.old ++ flat_map (λ line. newline ∷ line) (first_line rest.now)) }
-{
-    let line = without_blanks(rest);
-    if !has_byte(line) {
-        return Ok(());
-    }
-    push_line(text, line)
-}
-
-/// Adds the lines up to the next one that is empty.
-fn push_body_lines(text: &mut Word, lines: &[Word]) -> Result<(), AllocError>
-    ensures { OnOk result (text.new ≡ text.old ++ flat_map (λ line. newline ∷ line) (body_lines lines.now)) }
-{
-    for line in lines {
-        if is_empty_line(line.as_bytes()) {
-            return Ok(());
-        }
-        push_line(text, line.as_bytes())?;
-    }
-    Ok(())
-}
-
-/// A body: what stands behind the colon, and the lines up to the next one that is empty.
-fn body_of(alloc: Global, rest: &[u8], lines: &[Word]) -> Result<Word, AllocError>
-    ensures { IfOk result (λ body. body ≡ body_of rest.now lines.now) }
-{
-    let mut text = Word::empty(alloc);
-    push_first_line(&mut text, rest)?;
-    push_body_lines(&mut text, lines)?;
-    Word::from_bytes(alloc, without_first(text.as_bytes()))
+/// What a line begins, and the lines behind that.
+#[derive(Clone, Copy)]
+struct Begun<'a> {
+    directive: Option<Directive<'a>>,
+    left: Lines<'a>,
 }
 
 /// A directive with a body, by what stands before the colon.
-fn by_key(alloc: Global, key: &[u8], body: Word) -> Result<Directive, AllocError>
-    ensures { IfOk result (λ directive. directive ≡ by_key key.now body) }
+fn by_key<'a>(key: &'a [u8], body: &'a [u8]) -> Directive<'a>
+    ensures { shown result ≡ by_key key.now body.now }
 {
     match key {
-        [b'*', name @ ..] => Ok(Directive::Text {
-            name: Word::from_bytes(alloc, name)?,
-            body,
-        }),
-        _ => Ok(Directive::Pair {
-            key: Word::from_bytes(alloc, key)?,
-            body,
-        }),
+        [b'*', name @ ..] => Directive::Text { name, body },
+        _ => Directive::Pair { key, body },
     }
 }
 
-/// Where the first colon of a line stands.
-fn colon_in(line: &[u8]) -> Option<usize>
-    ensures place { result ≡ position is_colon line.now }
-    ensures within { IfSome result (λ at. at < length line.now) }
+/// The directive of a line `%rename`, by what stands behind that.
+fn renamed<'a>(number: usize, text: &'a [u8]) -> Directive<'a>
+    ensures { shown result ≡ renamed number (words_of text.now) }
 {
-    line.iter().position(|byte| *byte == b':')
-}
-
-/// The directive of a line that may have a colon.
-fn with_colon(alloc: Global, n: usize, line: &[u8], lines: &[Word]) -> Result<Directive, AllocError>
-    ensures { IfOk result (λ directive. directive ≡ by_colon n line.now lines.now (position is_colon line.now)) }
-{
-    let Some(at) = colon_in(line) else {
-        return Ok(Directive::Bad(n));
+    let Some((old, text)) = next_word(text) else {
+        return Directive::Bad(number);
     };
-    let body = body_of(alloc, &line[at + 1..], lines)?;
-    by_key(alloc, &line[..at], body)
-}
-
-/// The directive of a line `%rename`, by the words behind that.
-fn renamed(n: usize, words: &[Word]) -> Result<Directive, AllocError>
-    ensures { IfOk result (λ directive. directive ≡ renamed n words.now) }
-{
-    match words {
-        [old, new] => Ok(Directive::Rename {
-            old: old.clone()?,
-            new: new.clone()?,
-        }),
-        _ => Ok(Directive::Bad(n)),
+    let Some((new, text)) = next_word(text) else {
+        return Directive::Bad(number);
+    };
+    match next_word(text) {
+        Some(_) => Directive::Bad(number),
+        None => Directive::Rename { old, new },
     }
 }
 
 /// The directive of a line `%include`, by what stands behind that.
-fn included(
-    alloc: Global,
-    n: usize,
-    pass_missing: bool,
-    text: &[u8],
-) -> Result<Directive, AllocError>
-    ensures { IfOk result (λ directive. directive ≡ included n pass_missing text.now) }
+fn included<'a>(number: usize, pass_missing: bool, text: &'a [u8]) -> Directive<'a>
+    ensures { shown result ≡ included number pass_missing text.now }
 {
     match text {
-        [b'<', file @ ..] if file.ends_with(b">") => Ok(Directive::Include {
+        [b'<', file @ ..] if file.ends_with(b">") => Directive::Include {
             pass_missing,
-            file: Word::from_bytes(alloc, without_last(file))?,
-        }),
-        _ => Ok(Directive::Bad(n)),
+            file: without_last(file),
+        },
+        _ => Directive::Bad(number),
     }
-}
-
-/// The directive of a line that begins with `%`, by its first word and the others.
-fn by_word(
-    alloc: Global,
-    n: usize,
-    line: &[u8],
-    word: &[u8],
-    words: &[Word],
-) -> Result<Directive, AllocError>
-    ensures { IfOk result (λ directive. directive ≡ by_keyword n line.now (word.now ∷ words.now)) }
-{
-    if word == b"%rename".as_slice() {
-        return renamed(n, words);
-    }
-    let rest = trimmed(behind(line, word.len()));
-    if word == b"%include".as_slice() {
-        return included(alloc, n, false, rest);
-    }
-    if word == b"%include_noerr".as_slice() {
-        return included(alloc, n, true, rest);
-    }
-    Ok(Directive::Bad(n))
 }
 
 /// The directive of a line that begins with `%`.
-fn by_keyword(alloc: Global, n: usize, line: &[u8]) -> Result<Directive, AllocError>
-    ensures { IfOk result (λ directive. directive ≡ by_keyword n line.now (words_of line.now)) }
+fn by_keyword<'a>(number: usize, line: &'a [u8]) -> Directive<'a>
+    ensures { shown result ≡ by_keyword number line.now (words_of line.now) }
 {
-    let words = words(alloc, line)?;
-    match words.as_slice() {
-        [] => Ok(Directive::Bad(n)),
-        [word, words @ ..] => by_word(alloc, n, line, word.as_bytes(), words),
+    let Some((word, words)) = next_word(line) else {
+        return Directive::Bad(number);
+    };
+    if word == b"%rename".as_slice() {
+        return renamed(number, words);
+    }
+    let rest = trimmed(behind(line, word.len()));
+    if word == b"%include".as_slice() {
+        return included(number, false, rest);
+    }
+    if word == b"%include_noerr".as_slice() {
+        return included(number, true, rest);
+    }
+    Directive::Bad(number)
+}
+
+/// Where a body begins: behind the colon of its line, or where nothing stands there but blanks, with the next line.
+fn body_start<'a>(text: &'a [u8], line: &[u8], value: &[u8], lines: Lines<'a>) -> Lines<'a>
+    requires whole { text.now ≡ line.now ++ bytes_from (text_left lines) }
+    requires line { list_all (λ b. not (ends_line b)) line.now ≡ true }
+    requires value { Ends line.now value.now }
+    requires number { 0 < lines.number }
+    ensures body { body_lines (lines_left result) ≡ first_line value.now ++ body_lines (lines_left lines.entry) }
+    ensures left { read_lines true result.number (lines_left result) ≡ read_lines true lines.entry.number (lines_left lines.entry) }
+    ensures room { result.number + size_left result ≤ lines.entry.number + (length value.now + size_left lines.entry) }
+    ensures fewer { size_left result ≤ 1 + length value.now + size_left lines.entry }
+{
+    let rest = without_blanks(value);
+    if !has_byte(rest) {
+        return lines;
+    }
+    Lines {
+        text: Some(behind(text, line.len() - rest.len())),
+        number: lines.number - 1,
     }
 }
 
-/// What a line begins that is not empty and stands in no body, without the blanks at its front.
-fn start_of(alloc: Global, n: usize, line: &[u8], lines: &[Word]) -> Result<Start, AllocError>
-    ensures { IfOk result (λ start. start ≡ start_of n line.now lines.now) }
+/// What a line begins that may have a colon: `start` is the line without the blanks at its front.
+fn with_colon<'a>(text: &'a [u8], line: &[u8], start: &'a [u8], lines: Lines<'a>) -> Begun<'a>
+    requires whole { text.now ≡ line.now ++ bytes_from (text_left lines) }
+    requires line { list_all (λ b. not (ends_line b)) line.now ≡ true }
+    requires start { Ends line.now start.now }
+    requires number { 0 < lines.number }
+    requires room { lines.number + length text.now < 2 ^ 64 }
+    ensures directive { found result.directive ≡ by_colon (lines.entry.number - 1) start.now (lines_left lines.entry) (position is_colon start.now) ∷ [] }
+    ensures left { read_lines true lines.entry.number (lines_left lines.entry) ≡ directives_left result.left }
+    ensures room { result.left.number + size_left result.left ≤ lines.entry.number + length text.now }
+    ensures fewer { size_left result.left ≤ length text.now }
 {
-    match line {
-        [] | [b'#', ..] => Ok(Start::Passed),
-        [b'%', ..] => Ok(Start::Alone(by_keyword(alloc, n, line)?)),
-        _ => Ok(Start::WithBody(with_colon(alloc, n, line, lines)?)),
+    let Some(at) = start.find_byte(b':') else {
+        return Begun {
+            directive: Some(Directive::Bad(lines.number - 1)),
+            left: cut_body(lines).left,
+        };
+    };
+    let value = behind(start, at + 1);
+    let body = cut_body(body_start(text, line, value, lines));
+    Begun {
+        directive: Some(by_key(&start[..at], body.text)),
+        left: body.left,
     }
 }
 
-/// What a line begins, by where it stands.
-fn start_at(
-    alloc: Global,
-    empty: bool,
-    inside: bool,
-    n: usize,
-    line: &[u8],
-    lines: &[Word],
-) -> Result<Start, AllocError>
-    ensures { IfOk result (λ start. start ≡ start_at empty inside n line.now lines.now) }
+/// Whether a line without the blanks at its front begins nothing.
+fn is_passed(start: &[u8]) -> bool
+    ensures { result ≡ is_passed start.now }
 {
-    if empty || inside {
-        return Ok(Start::Passed);
+    matches!(start, [] | [b'#', ..])
+}
+
+/// Whether a line without the blanks at its front begins with `%`.
+fn is_keyword(start: &[u8]) -> bool
+    ensures { result ≡ is_keyword start.now }
+{
+    matches!(start, [b'%', ..])
+}
+
+/// What the first line of a text begins, which has this number and stands in no body.
+fn begin<'a>(number: usize, text: &'a [u8]) -> Begun<'a>
+    requires { number + 1 + length text.now < 2 ^ 64 }
+    ensures directives { read_lines false number (lines_of text.now) ≡ found result.directive ++ directives_left result.left }
+    ensures room { result.left.number + size_left result.left ≤ number + 1 + length text.now }
+    ensures fewer { size_left result.left ≤ length text.now }
+{
+    let (line, behind) = cut_line(text);
+    let left = Lines {
+        text: behind,
+        number: number + 1,
+    };
+    let start = without_blanks(line);
+    if is_passed(start) {
+        return Begun {
+            directive: None,
+            left,
+        };
     }
-    start_of(alloc, n, without_blanks(line), lines)
+    if is_keyword(start) {
+        return Begun {
+            directive: Some(by_keyword(number, start)),
+            left,
+        };
+    }
+    with_colon(text, line, start, left)
 }
 
-/// Whether the next line stands in a body.
-fn is_inside(empty: bool, inside: bool, start: &Start) -> bool
-    ensures { result ≡ is_inside empty inside start.now }
+/// The next directive of lines, if there is one, and the lines behind it.
+fn next_of<'a>(lines: Lines<'a>) -> Begun<'a>
+    requires { lines.number + size_left lines < 2 ^ 64 }
+    ensures directives { directives_left lines.entry ≡ found result.directive ++ directives_left result.left }
+    ensures end { IfNone result.directive (directives_left lines.entry ≡ []) }
+    ensures room { result.left.number + size_left result.left ≤ lines.entry.number + size_left lines.entry }
 {
-    !empty && (inside || matches!(start, Start::WithBody(_)))
+    let mut left = lines;
+    while let Some(text) = left.text {
+        let begun = begin(left.number, text);
+        if begun.directive.is_some() {
+            return begun;
+        }
+        left = begun.left;
+    }
+    Begun {
+        directive: None,
+        left,
+    }
 }
 
-/// Adds what a line begins.
-fn push_start(directives: &mut Listing<Directive>, start: Start) -> Result<(), AllocError>
-    ensures { OnOk result (directives.new ≡ directives.old ++ directive_in start) }
-{
-    match start {
-        Start::Passed => Ok(()),
-        Start::Alone(directive) | Start::WithBody(directive) => {
-            directives.push(directive)?;
-            Ok(())
+/// What is left of a settled text. Contracts see the directives.
+#[derive(Drop)]
+pub(crate) struct Reader<'a> {
+    left: Lines<'a>,
+}
+
+impl<'a> Model for Reader<'a> {
+    ghost use Rattle.drv_specs.specs.Directives.{Directive};
+    ghost use Rattle.drv_specs.specs.Slices.{directives_left, size_left};
+    ghost use Rattle.std.specs.Prelude.{◌<◌, ◌+◌, ◌^◌, List};
+
+    ghost Value = { List Directive };
+
+    ghost view = { λ r. directives_left r.left };
+
+    ghost invariant = { λ r. r.left.number + size_left r.left < 2 ^ 64 };
+}
+
+impl<'a> Reader<'a> {
+    /// At the first line of a settled text.
+    pub(crate) fn new(text: &'a [u8]) -> Reader<'a>
+        ensures { result ≡ read_settled text.now }
+    {
+        Reader {
+            left: Lines {
+                text: Some(text),
+                number: 1,
+            },
         }
     }
-}
 
-/// The directives of lines.
-#[tactic(auto, using(crate::proofs::Bodies::line_read))]
-fn read_lines(alloc: Global, lines: &[Word]) -> Result<Listing<Directive>, AllocError>
-    ensures { IfOk result (λ directives. directives ≡ read_lines false 1 lines.now) }
-{
-    let mut directives = Listing::new(alloc);
-    let mut inside = false;
-    for (index, line) in lines.iter().enumerate() {
-        let line = line.as_bytes();
-        let empty = is_empty_line(line);
-        let start = start_at(alloc, empty, inside, index + 1, line, &lines[index + 1..])?;
-        inside = is_inside(empty, inside, &start);
-        push_start(&mut directives, start)?;
+    /// Takes the next directive, if there is one.
+    pub(crate) fn next(&mut self) -> Option<Directive<'a>>
+        ensures directives { self.old ≡ found result ++ self.new }
+        ensures end { IfNone result (self.old ≡ []) }
+    {
+        let begun = next_of(self.left);
+        self.left = begun.left;
+        begun.directive
     }
-    Ok(directives)
-}
-
-/// The directives of a text.
-pub(crate) fn directives(alloc: Global, text: &[u8]) -> Result<Listing<Directive>, AllocError>
-    ensures { IfOk result (λ directives. directives ≡ directives_of text.now) }
-{
-    let text = settled(alloc, text)?;
-    let lines = lines(alloc, text.as_slice())?;
-    read_lines(alloc, lines.as_slice())
 }

@@ -1,10 +1,13 @@
 //! A spec file's text without carriage returns and continued lines.
 
 ghost use Rattle.drv_words.specs.Bytes.{backslash};
-ghost use Rattle.drv_specs.specs.Lines.{joined_onto, settled};
+ghost use Rattle.drv_specs.specs.Lines.{settled};
+ghost use Rattle.drv_specs.specs.Slices.{settled_onto};
 ghost use Rattle.std.specs.List.{ends_with};
 ghost use Rattle.std.specs.Prelude.{◌≡◌, ◌∷◌, [], IfOk, OnOk, nat_eq};
 
+use crate::bytes::behind;
+use bstr::ByteSlice;
 use std::alloc::{AllocError, Global};
 
 /// Whether a text ends with a backslash.
@@ -14,10 +17,13 @@ pub(crate) fn ends_with_backslash(text: &[u8]) -> bool
     text.ends_with(b"\\")
 }
 
-/// Puts a byte behind a text.
-fn join_onto(text: &mut Vec<u8>, byte: u8) -> Result<(), AllocError>
-    ensures { OnOk result (text.new.items ≡ joined_onto text.old.items byte) }
+/// Puts the end of a line behind a text: a carriage return goes, and a newline behind a backslash with that.
+fn settle_onto(text: &mut Vec<u8>, byte: u8) -> Result<(), AllocError>
+    ensures { OnOk result (text.new.items ≡ settled_onto text.old.items byte) }
 {
+    if byte == b'\r' {
+        return Ok(());
+    }
     if byte == b'\n' && ends_with_backslash(text.as_slice()) {
         text.pop();
         return Ok(());
@@ -31,11 +37,13 @@ pub(crate) fn settled(alloc: Global, text: &[u8]) -> Result<Vec<u8>, AllocError>
     ensures { IfOk result (λ left. left.items ≡ settled text.now) }
 {
     let mut left = Vec::new(alloc);
-    for &byte in text {
-        if byte == b'\r' {
-            continue;
-        }
-        join_onto(&mut left, byte)?;
+    left.reserve(text.len())?;
+    let mut rest = text;
+    while let Some(at) = rest.find_byteset(b"\r\n") {
+        left.extend_from_slice(&rest[..at])?;
+        settle_onto(&mut left, rest[at])?;
+        rest = behind(rest, at + 1);
     }
+    left.extend_from_slice(rest)?;
     Ok(left)
 }

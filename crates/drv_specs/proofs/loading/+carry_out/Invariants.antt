@@ -1,20 +1,20 @@
-use Rattle.drv_specs.specs.Directives.{directives_of}
+use Rattle.drv_specs.specs.Directives.{read_settled}
 use Rattle.drv_specs.specs.Loading.{all_carried, including}
 use Rattle.drv_system.specs.Asking.{Asks, Extends}
 use Rattle.drv_system.specs.Facts.{Facts}
-use Rattle.std.proofs.Common.{◌≡◌, reverse, vec_len}
+use Rattle.std.proofs.Common.{◌≡◌, length}
 use Rattle.drv_specs.proofs.loading.+carry_out.Given as goal
 
 abbrev pub invariant-loop-directive : goal.invariant-loop-directive
 invariant-loop-directive g l = record {
   asks : Asks (g.S.System.events l.fn.sys) (g.S.System.events l.sys) l.fn.facts l.facts;
   rest : (F : Facts) → Extends l.facts F
-      → all_carried (including F l.prefixes l.levels) (record { set = l.entries; files = l.files }) (reverse l.left.items)
-      ≡ all_carried (including F l.prefixes l.levels) (record { set = l.fn.entries; files = l.fn.files }) (directives_of l.text);
+      → all_carried (including F l.prefixes l.levels) (record { set = l.entries; files = l.files }) l.reader
+      ≡ all_carried (including F l.prefixes l.levels) (record { set = l.fn.entries; files = l.fn.files }) (read_settled l.text);
 }
 
 abbrev pub decreases-loop-directive : goal.decreases-loop-directive
-decreases-loop-directive g l = vec_len l.left
+decreases-loop-directive g l = length l.reader
 
 abbrev pub decreases-carry_out : goal.decreases-carry_out
 decreases-carry_out g l = l.levels

@@ -1,5 +1,7 @@
 use Rattle.drv_specs.proofs.Carrying.{text_given}
 use Rattle.drv_specs.proofs.loading.file_text.Goals as goal
+use Rattle.drv_search.specs.Search.{file_found}
+use Rattle.std.proofs.Common.{◌∙◌, ap, sym}
 use Rattle.drv_system.proofs.Asking.{asks_extends, asks_then, extends_then}
 
 pub returns-in_err-path-clause-asks : goal.returns-in_err-path-clause-asks
@@ -13,5 +15,5 @@ returns-clause-asks g c = asks_then c.find_file.ensures.asks c.read.ensures.asks
 
 pub returns-clause-text : goal.returns-clause-text
 returns-clause-text g c F e =
-    text_given F c.read.new.self c.args.prefixes.now c.args.pass_missing c.args.name.now c.in_ok-path.path c.read_answer-answer.result.now c.text_read.result
-    (c.in_ok-path.ensures.path F (extends_then (asks_extends c.read.ensures.asks) e)) e c.read_answer-answer.ensures c.text_read.ensures
+    text_given _ (λ left. left.items) F c.read.new.self c.args.prefixes.now c.args.pass_missing c.args.name.now c.in_ok-path.path c.read_answer-answer.result.now c.text_read.result
+    (ap (λ n. file_found F c.args.prefixes.now n) (sym c.in_ok-name.ensures) ∙ c.in_ok-path.ensures.path F (extends_then (asks_extends c.read.ensures.asks) e)) e c.read_answer-answer.ensures c.text_read.ensures

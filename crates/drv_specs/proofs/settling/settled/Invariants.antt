@@ -1,6 +1,9 @@
-use Rattle.drv_specs.specs.Lines.{is_kept, joined_onto, settled}
-use Rattle.std.proofs.Common.{◌≡◌, drop, filter, fold}
 use Rattle.drv_specs.proofs.settling.settled.Given as goal
+use Rattle.drv_specs.specs.Lines.{is_kept, joined_onto, settled}
+use Rattle.std.proofs.Common.{◌≡◌, filter, fold, length}
 
-abbrev pub invariant-loop-byte : goal.invariant-loop-byte
-invariant-loop-byte l = fold joined_onto l.left.items (filter is_kept (drop l.byte-index l.text)) ≡ settled l.text
+abbrev pub invariant-loop-at : goal.invariant-loop-at
+invariant-loop-at l = fold joined_onto l.left.items (filter is_kept l.rest) ≡ settled l.text
+
+abbrev pub decreases-loop-at : goal.decreases-loop-at
+decreases-loop-at l = length l.rest

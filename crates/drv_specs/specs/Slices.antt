@@ -1,0 +1,79 @@
+use Rattle.drv_search.specs.declared.prefixes.Prefixes.{Prefixes}
+use Rattle.drv_specs.specs.Directives as specs
+use Rattle.drv_specs.specs.Directives.{read_lines}
+use Rattle.drv_specs.specs.Lines.{is_kept, joined_onto, lines_of, settled}
+use Rattle.drv_specs.specs.Loading.{file_text}
+use Rattle.drv_specs.specs.declared.directive.Directive.TheVariants.{Bad, Include, Pair, Rename, Text}
+use Rattle.drv_specs.specs.declared.directive.Directive.{Directive}
+use Rattle.drv_specs.specs.declared.lines.Lines.{Lines}
+use Rattle.drv_specs.specs.declared.fault.SpecsFault.{SpecsFault}
+use Rattle.drv_system.specs.Facts.{Facts}
+use Rattle.drv_system.specs.Known.{◌>>=◌, Is, Known}
+use Rattle.drv_words.specs.Bytes.{newline, number_sign, percent}
+use Rattle.std.specs.Option.{option_map}
+use Rattle.std.specs.Prelude.{◌≡◌, ◌==◌, Bool, Err, List, [], ◌∷◌, ◌++◌, None, Ok, Option, Result, Some, false, if◌then◌else◌, length, true, ℕ}
+
+-- How the code reads directives: they are slices of a settled text, of which it keeps what is left. For the code alone.
+
+-- what stands behind a line, where its newline is there: the lines, and the bytes
+abbrev pub lines_from : Option (List ℕ) → List (List ℕ)
+lines_from None = []
+lines_from (Some text) = lines_of text
+
+abbrev pub bytes_from : Option (List ℕ) → List ℕ
+bytes_from None = []
+bytes_from (Some text) = newline ∷ text
+
+-- a text and the end of a line behind it
+abbrev pub settled_onto : List ℕ → ℕ → List ℕ
+settled_onto text b = if is_kept b then joined_onto text b else text
+
+-- a text that stands at the end of another
+abbrev pub Ends : List ℕ → List ℕ → Type 0
+Ends text back = (front : List ℕ) × (text ≡ front ++ back)
+
+-- what is left
+abbrev pub text_left : Lines → Option (List ℕ)
+text_left lines = option_map (λ text. text.now) lines.text
+
+abbrev pub lines_left : Lines → List (List ℕ)
+lines_left lines = lines_from (text_left lines)
+
+abbrev pub size_left : Lines → ℕ
+size_left lines = length (bytes_from (text_left lines))
+
+abbrev pub directives_left : Lines → List specs.Directive
+directives_left lines = read_lines false lines.number (lines_left lines)
+
+abbrev pub shown : Directive → specs.Directive
+shown (Text name body) = specs.Text name.now body.now
+shown (Pair key body) = specs.Pair key.now body.now
+shown (Rename old new) = specs.Rename old.now new.now
+shown (Include pass file) = specs.Include pass file.now
+shown (Bad n) = specs.Bad n
+
+-- a line without the blanks at its front that begins nothing, or a directive of one line
+abbrev pub is_passed : List ℕ → Bool
+is_passed [] = true
+is_passed (b ∷ line) = b == number_sign
+
+abbrev pub is_keyword : List ℕ → Bool
+is_keyword [] = false
+is_keyword (b ∷ line) = b == percent
+
+-- a directive that was found, if there is one
+abbrev pub found : Option Directive → List specs.Directive
+found None = []
+found (Some directive) = shown directive ∷ []
+
+-- what is left of some text
+abbrev pub IsSettled : List ℕ → Type 0
+IsSettled left = (text : List ℕ) × (left ≡ settled text)
+
+-- what is left of a file's text
+abbrev pub read_left : Result (List ℕ) SpecsFault → Result (List ℕ) SpecsFault
+read_left (Ok text) = Ok (settled text)
+read_left (Err fault) = Err fault
+
+abbrev pub settled_file : Facts → Prefixes → Bool → List ℕ → Known (Result (List ℕ) SpecsFault)
+settled_file F prefixes pass name = file_text F prefixes pass name >>= λ given. Is (read_left given)
