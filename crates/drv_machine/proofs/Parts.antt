@@ -1,7 +1,9 @@
 use Rattle.drv_machine.specs.Names.{parted}
-use Rattle.std.proofs.Common.{append-nil, arith, ◌≡◌, ◌∙◌, ◌++◌, ◌==◌, ◌+◌, ◌-◌, ◌<◌, List, [], ◌∷◌, None, Some, ap, drop, get_or, length, refl, sym, take, true, ℕ}
+use Rattle.bstr.specs.Find.{IsLastByte, is_byte}
+use Rattle.std.proofs.Common.{Bool, false, suc, append-nil, arith, ◌≡◌, ◌∙◌, ◌++◌, ◌==◌, ◌+◌, ◌-◌, ◌<◌, List, [], ◌∷◌, None, Some, ap, drop, get_or, length, refl, sym, take, true, ℕ}
+use Rattle.std.proofs.lemmas.Bool.{eqb-true}
 use Rattle.std.proofs.lemmas.Bool.Decides.{nat_tests}
-use Rattle.std.proofs.lemmas.List.{drop_more, length-drop, take-append-drop, take_all}
+use Rattle.std.proofs.lemmas.List.{drop_more, get_or-drop, length-drop, take-append-drop, take_all}
 
 -- The last byte of a kind is looked for from the end.
 
@@ -27,3 +29,21 @@ parted_at mark i name within is none =
     ∙ sym (ap (λ front. Some (front, drop (i + 1) name)) (append-nil (take i name)))
     ∙ sym (parted_behind mark (take i name) (drop i name) [] (drop (i + 1) name) here)
     ∙ ap (parted mark) (take-append-drop i name)
+
+-- none of these bytes is of the kind
+parted_none : (mark : ℕ) (name : List ℕ) → ((k : ℕ) → k < length name → (get_or name k 0 == mark) ≡ true → ⊥) → parted mark name ≡ None
+parted_none mark [] none = refl
+parted_none mark (b ∷ name) none = rw (parted_none mark name (λ k below is. none (suc k) (omega (arith, below)) is), by (b == mark) refl) refl
+  where
+    by : (t : Bool) → (b == mark) ≡ t → (b == mark) ≡ false
+    by true e = absurd (none 0 (omega arith) e)
+    by false e = e
+
+-- the last place of a byte of the kind, and no such place
+pub parted_by : (mark : ℕ) (name : List ℕ) (at : ℕ) → IsLastByte (is_byte mark) name (Some at) → Some (take at name, take (length name - (at + 1)) (drop (at + 1) name)) ≡ parted mark name
+parted_by mark name at last =
+    parted_at mark at name last.0.high (eqb-true (get_or name at 0) mark last.1)
+    (parted_none mark (drop (at + 1) name) (λ k below is. last.0.after (at + 1 + k) (omega arith) (omega (arith, length-drop (at + 1) name, below)) (ap (λ x. x == mark) (sym (get_or-drop (at + 1) name k 0)) ∙ is)))
+
+pub parted_missing : (mark : ℕ) (name : List ℕ) → IsLastByte (is_byte mark) name None → None ≡ parted mark name
+parted_missing mark name none = sym (parted_none mark name (λ k below is. none k (omega arith) below is))

@@ -5,19 +5,16 @@ ghost use Rattle.std.specs.Option.{option_map};
 ghost use Rattle.std.specs.Prelude.{◌≡◌};
 
 use crate::Source;
+use bstr::ByteSlice;
 
 /// The bytes before the last one of a kind, and those behind it, if there is one.
 fn parted(mark: u8, name: &[u8]) -> Option<(&[u8], &[u8])>
     ensures { option_map (λ parts. (parts.0.now, parts.1.now)) result ≡ parted mark name.now }
 {
-    let mut i = name.len();
-    while i > 0 {
-        i -= 1;
-        if name[i] == mark {
-            return Some((&name[..i], &name[i + 1..]));
-        }
+    match name.rfind_byte(mark) {
+        Some(at) => Some((&name[..at], &name[at + 1..])),
+        None => None,
     }
-    None
 }
 
 /// A name without its folder: what stands behind its last slash.

@@ -1,9 +1,10 @@
-use Rattle.drv_machine.proofs.Parts.{parted_at}
+use Rattle.drv_machine.proofs.Parts.{parted_by, parted_missing}
 use Rattle.drv_machine.proofs.names.parted.Goals as goal
-use Rattle.drv_machine.specs.Names.{parted}
-use Rattle.std.proofs.Common.{◌≡◌, ◌+◌, ◌-◌, ap, arith, drop, ◌∙◌}
+use Rattle.bstr.specs.Find.{IsLastByte, is_byte}
+use Rattle.std.proofs.Common.{Option, subst, ℕ}
 
-pub returns-then-name-i : goal.returns-then-name-i
-returns-then-name-i c =
-    let next : c.loop-i.i - 1 + 1 ≡ c.loop-i.i = omega arith in
-    parted_at c.args.mark (c.loop-i.i - 1) c.args.name.now (omega arith) c.if-name-i.true (ap (λ i. parted c.args.mark (drop i c.args.name.now)) next ∙ c.loop-i.invariant.none)
+pub returns-in-Some : goal.returns-in-Some
+returns-in-Some c = parted_by c.args.mark c.args.name.now c.in-Some.at (subst (λ (r : Option ℕ). IsLastByte (is_byte c.args.mark) c.args.name.now r) c.in-Some.is c.rfind_byte.ensures)
+
+pub returns-in-None : goal.returns-in-None
+returns-in-None c = parted_missing c.args.mark c.args.name.now (subst (λ (r : Option ℕ). IsLastByte (is_byte c.args.mark) c.args.name.now r) c.in-None.is c.rfind_byte.ensures)
