@@ -59,6 +59,7 @@ fn enter_alternative(
 
 /// A test by a function was answered: its X is reached or opened, or the tests behind it are judged, and then the
 /// alternatives behind them.
+#[inline(never)]
 pub(crate) fn answer(
     text: &SpecTree,
     context: &Context<'_>,
@@ -102,6 +103,7 @@ pub(crate) fn answer(
 
 /// The first of the alternatives with a true test that stand from one place up to another is reached or opened, or the
 /// default, or the place behind them.
+#[inline(never)]
 pub(crate) fn choose(
     text: &SpecTree,
     context: &Context<'_>,

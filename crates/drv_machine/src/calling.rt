@@ -22,6 +22,7 @@ use crate::walk::{Asking, Frame, Opened, Walk};
 ///
 /// # Errors
 /// `SpecTooDeep` where 64 parts are open.
+#[inline(never)]
 pub(crate) fn open_call(
     at: usize,
     next: usize,
@@ -48,6 +49,7 @@ pub(crate) fn open_call(
 ///
 /// # Errors
 /// `SpecTooDeep` where 64 parts are open.
+#[inline(never)]
 pub(crate) fn open_test(
     asking: Asking,
     walk: &mut Walk<'_>,

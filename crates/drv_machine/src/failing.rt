@@ -83,6 +83,7 @@ fn open_failure(end: usize, walk: &mut Walk<'_>, machine: &mut Machine) -> Resul
 }
 
 /// A `%W` is opened, and what stands in it from one place up to another is worked, or reached.
+#[inline(never)]
 #[tactic(auto, using(crate::proofs::AskedCalls::asked_none))]
 pub(crate) fn work_failure<S: System>(
     text: &SpecTree,

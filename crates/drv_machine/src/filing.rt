@@ -72,6 +72,7 @@ fn open_filed<S: System>(
 }
 
 /// A `%@` is opened, and what stands in it from one place up to another is worked, or reached.
+#[inline(never)]
 pub(crate) fn work_filed<S: System>(
     text: &SpecTree,
     context: &Context<'_>,

@@ -82,6 +82,7 @@ pub(crate) fn enter_next(
 }
 
 /// A working of an X for a hit ends: the switch's argument is put, and X is opened for the next one.
+#[inline(never)]
 #[tactic(auto, using(crate::proofs::AskedCalls::asked_further))]
 pub(crate) fn close_hit<S: System>(
     text: &SpecTree,

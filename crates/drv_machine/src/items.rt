@@ -109,6 +109,7 @@ fn work_leaf<S: System>(
 
 /// Works the item at a place, which is this token, and opens no part and has no alternatives; `star` is what `%*` stands
 /// for.
+#[inline(never)]
 #[tactic(auto, using(crate::proofs::AskedCalls::asked_none))]
 pub(crate) fn work_item<S: System>(
     text: &SpecTree,

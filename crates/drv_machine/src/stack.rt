@@ -1,12 +1,12 @@
 //! The open parts of a walk.
 
 ghost use Rattle.drv_machine.specs.Working.{most_open};
-ghost use Rattle.std.specs.Prelude.{◌≡◌, ◌⊎◌, ◌↔◌, ◌<◌, ◌∷◌, ◌++◌, [], IfErr, IsFalse, IsSome, IsTrue, OnOk, length, option_to_list};
+ghost use Rattle.std.specs.Prelude.{◌≡◌, ◌⊎◌, ◌↔◌, ◌<◌, ◌∷◌, ◌++◌, [], IfErr, IfOk, IsFalse, IsSome, IsTrue, OnOk, length, option_to_list};
 
 use crate::MachineFault;
 use crate::walk::Frame;
 use arrayvec::ArrayVec;
-use std::alloc::Global;
+use std::alloc::{AllocError, Global};
 use std::marker::Model;
 
 /// The open parts, the innermost last: at most 64. Their table is made when the first is opened, so that a text without
@@ -25,6 +25,14 @@ impl<'a> Model for Stack<'a> {
     ghost Value = { List Frame };
 
     ghost view = { λ s. unwrap_or (option_map (λ table. table.value.items) s.table) [] };
+}
+
+/// A table without a part. It is made out of line, so that a push has no room for one.
+#[inline(never)]
+fn new_table<'a>(alloc: Global) -> Result<Box<ArrayVec<Frame<'a>, 64>>, AllocError>
+    ensures { IfOk result (λ table. table.value.items ≡ []) }
+{
+    Ok(Box::new(alloc, ArrayVec::new())?)
 }
 
 impl<'a> Stack<'a> {
@@ -60,7 +68,7 @@ impl<'a> Stack<'a> {
         }
         let mut table = match self.table.take() {
             Some(table) => table,
-            None => Box::new(self.alloc, ArrayVec::new())?,
+            None => new_table(self.alloc)?,
         };
         table.push(frame);
         self.table = Some(table);

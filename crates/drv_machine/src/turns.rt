@@ -71,11 +71,11 @@ fn close<'w, S: System>(
         }
         Opened::Call(at, back, outer) => {
             walk.at = back;
-            machine.put_value(text.word(at), Box::into_inner(outer), context, outside)
+            machine.put_value(text.word(at), outer, context, outside)
         }
         Opened::Asks(asking, outer) => {
             let name = text.word(asking.test);
-            let holds = machine.has_value(name, Box::into_inner(outer), context, outside)?;
+            let holds = machine.has_value(name, outer, context, outside)?;
             answer(text, context, asking, holds, walk, machine)
         }
     }

@@ -89,6 +89,7 @@ impl Machine {
     }
 
     /// The open word ends, and with it the file: its name is put, if it has words.
+    #[inline(never)]
     pub(crate) fn end_file<S: System>(
         &mut self,
         context: &Context<'_>,

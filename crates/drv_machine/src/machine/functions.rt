@@ -56,33 +56,34 @@ impl Machine {
     fn call_behind<S: System>(
         &mut self,
         name: &[u8],
-        outer: Cutter,
+        outer: Box<Cutter>,
         context: &Context<'_>,
         outside: &mut Outside<'_, S>,
     ) -> Result<Option<Word>, MachineFault>
         requires { length self.old.world.hidden ≡ length context.now.switches }
         ensures asks { Asked S.events outside.old outside.new }
-        ensures does { (F : Facts) → Extends outside.new.facts.now F → GivesKnown MachineFault.Memory (λ given. (given, self.new)) result (behind_arguments F context.now outer (call_step F context.now name.now) self.old) }
+        ensures does { (F : Facts) → Extends outside.new.facts.now F → GivesKnown MachineFault.Memory (λ given. (given, self.new)) result (behind_arguments F context.now outer.value (call_step F context.now name.now) self.old) }
         ensures sized { length self.new.world.hidden ≡ length self.old.world.hidden }
         ensures uncounted { OnOk result (self.new.world.items ≡ self.old.world.items) }
     {
         self.end_word(context, outside)?;
-        let args = self.take_back(outer);
+        let args = self.take_back(Box::into_inner(outer));
         self.call(name, args.as_slice(), context, outside)
     }
 
     /// Arguments have been cut, and what was cut before them goes on: the function's value is put, if it has one.
+    #[inline(never)]
     #[tactic(auto, using(crate::proofs::AskedCalls::asked_further))]
     pub(crate) fn put_value<S: System>(
         &mut self,
         name: &[u8],
-        outer: Cutter,
+        outer: Box<Cutter>,
         context: &Context<'_>,
         outside: &mut Outside<'_, S>,
     ) -> Result<(), MachineFault>
         requires { length self.old.world.hidden ≡ length context.now.switches }
         ensures asks { Asked S.events outside.old outside.new }
-        ensures does { (F : Facts) → Extends outside.new.facts.now F → GivesKnown MachineFault.Memory (λ u. (tt, self.new)) result (behind_arguments F context.now outer (value_step F context.now name.now) self.old) }
+        ensures does { (F : Facts) → Extends outside.new.facts.now F → GivesKnown MachineFault.Memory (λ u. (tt, self.new)) result (behind_arguments F context.now outer.value (value_step F context.now name.now) self.old) }
         ensures sized { length self.new.world.hidden ≡ length self.old.world.hidden }
         ensures uncounted { OnOk result (self.new.world.items ≡ self.old.world.items) }
     {
@@ -93,17 +94,18 @@ impl Machine {
     }
 
     /// Arguments have been cut, and what was cut before them goes on: whether the function has a value.
+    #[inline(never)]
     #[tactic(auto, using(crate::proofs::AskedCalls::asked_further))]
     pub(crate) fn has_value<S: System>(
         &mut self,
         name: &[u8],
-        outer: Cutter,
+        outer: Box<Cutter>,
         context: &Context<'_>,
         outside: &mut Outside<'_, S>,
     ) -> Result<bool, MachineFault>
         requires { length self.old.world.hidden ≡ length context.now.switches }
         ensures asks { Asked S.events outside.old outside.new }
-        ensures does { (F : Facts) → Extends outside.new.facts.now F → GivesKnown MachineFault.Memory (λ holds. (holds, self.new)) result (behind_arguments F context.now outer (has_value F context.now name.now) self.old) }
+        ensures does { (F : Facts) → Extends outside.new.facts.now F → GivesKnown MachineFault.Memory (λ holds. (holds, self.new)) result (behind_arguments F context.now outer.value (has_value F context.now name.now) self.old) }
         ensures sized { length self.new.world.hidden ≡ length self.old.world.hidden }
         ensures uncounted { OnOk result (self.new.world.items ≡ self.old.world.items) }
     {

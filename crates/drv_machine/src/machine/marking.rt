@@ -269,6 +269,7 @@ impl Machine {
     }
 
     /// The open word ends, and with it the innermost `%W`.
+    #[inline(never)]
     #[tactic(auto, using(crate::proofs::AskedCalls::asked_further))]
     pub(crate) fn end_failure<S: System>(
         &mut self,

@@ -63,7 +63,7 @@ returns-in-Call-clause-does g c F e p items kept given fits a =
     (subst (λ (name : List ℕ). GivesKnown Memory (λ u. (tt, c.put_value.new.self)) c.put_value.result (behind_arguments F c.args.context.now c.in-Call.outer.value (value_step F c.args.context.now name) c.args.machine.now))
     (c.word.ensures ∙ call.name_is)
     (subst (λ (cut : Cut). GivesKnown Memory (λ u. (tt, c.put_value.new.self)) c.put_value.result (behind_arguments F c.args.context.now cut (value_step F c.args.context.now c.word.result.now) c.args.machine.now))
-    (let same : c.into_inner.result ≡ c.in-Call.outer.value = search rules in same) (c.put_value.ensures.does F e)))
+    (search rules) (c.put_value.ensures.does F e)))
 
 pub returns-in-Hit-clause-lighter : goal.returns-in-Hit-clause-lighter
 returns-in-Hit-clause-lighter g c =
@@ -107,7 +107,7 @@ returns-in_err-holds-in-Asks-clause-does g c F e p items kept given fits a =
     answer_refused F c.args.context.now c.args.walk.now.text.now (record c.args.walk.now { end = c.args.frame.end; star = c.args.frame.star }) items kept given c.in-Asks.asking.end c.in-Asks.outer.value c.args.machine.now
     (subst (λ (o : Opened). After F c.args.context.now (text_around c.args.walk.now.text.now o) (record c.args.walk.now { end = c.args.frame.end; star = c.args.frame.star }) (back_of o) (λ levels star s. closing F c.args.context.now levels star o p items kept s) c.args.machine.now given) c.in-Asks.is a) c.in_err-holds-in-Asks.field-0.0
     (subst (λ (name : List ℕ). (c.in_err-holds-in-Asks.field-0.0 ≡ Memory) ⊎ (behind_arguments F c.args.context.now c.in-Asks.outer.value (has_value F c.args.context.now name) c.args.machine.now ≡ Is (Err c.in_err-holds-in-Asks.field-0.0))) (c.word-name.ensures ∙ ask.name_is)
-    (subst (λ (cut : Cut). (c.in_err-holds-in-Asks.field-0.0 ≡ Memory) ⊎ (behind_arguments F c.args.context.now cut (has_value F c.args.context.now c.word-name.result.now) c.args.machine.now ≡ Is (Err c.in_err-holds-in-Asks.field-0.0))) (let same : c.into_inner-in-Asks.result ≡ c.in-Asks.outer.value = search rules in same) (c.in_err-holds-in-Asks.ensures.does F e))) in
+    (subst (λ (cut : Cut). (c.in_err-holds-in-Asks.field-0.0 ≡ Memory) ⊎ (behind_arguments F c.args.context.now cut (has_value F c.args.context.now c.word-name.result.now) c.args.machine.now ≡ Is (Err c.in_err-holds-in-Asks.field-0.0))) (search rules) (c.in_err-holds-in-Asks.ensures.does F e))) in
     let f = c.from_residual.ensures in
     search rules
 
@@ -119,5 +119,5 @@ returns-in_ok-holds-in-Asks-clause-does g c F e p items kept given fits a =
     (answered F c.args.context.now c.args.walk.now.text.now (record c.args.walk.now { end = c.args.frame.end; star = c.args.frame.star }) items kept given c.in-Asks.asking.end c.in-Asks.outer.value c.args.machine.now
     (subst (λ (o : Opened). After F c.args.context.now (text_around c.args.walk.now.text.now o) (record c.args.walk.now { end = c.args.frame.end; star = c.args.frame.star }) (back_of o) (λ levels star s. closing F c.args.context.now levels star o p items kept s) c.args.machine.now given) c.in-Asks.is a) c.in_ok-holds-in-Asks.holds c.has_value.new.self
     (subst (λ (name : List ℕ). behind_arguments F c.args.context.now c.in-Asks.outer.value (has_value F c.args.context.now name) c.args.machine.now ≡ Is (Ok (c.in_ok-holds-in-Asks.holds, c.has_value.new.self))) (c.word-name.ensures ∙ ask.name_is)
-    (subst (λ (cut : Cut). behind_arguments F c.args.context.now cut (has_value F c.args.context.now c.word-name.result.now) c.args.machine.now ≡ Is (Ok (c.in_ok-holds-in-Asks.holds, c.has_value.new.self))) (let same : c.into_inner-in-Asks.result ≡ c.in-Asks.outer.value = search rules in same)
+    (subst (λ (cut : Cut). behind_arguments F c.args.context.now cut (has_value F c.args.context.now c.word-name.result.now) c.args.machine.now ≡ Is (Ok (c.in_ok-holds-in-Asks.holds, c.has_value.new.self))) (search rules)
     (c.in_ok-holds-in-Asks.ensures.does F e)))))
