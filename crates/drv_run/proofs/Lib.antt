@@ -1,5 +1,6 @@
 pub mod Asked
 pub mod Behind
+mod Choices
 pub mod Endings
 mod Files
 mod LineWords

@@ -5,6 +5,7 @@ ghost use Rattle.drv_system.specs.Running.{run_of};
 ghost use Rattle.drv_words.specs.Stepping.{pipe_pending};
 ghost use Rattle.std.specs.Prelude.{◌≡◌, ◌≤◌, IfOk, OnErr, false};
 
+use crate::choosing::choose_source;
 use crate::making::make;
 use drv_core::{Action, Run, events_needed};
 use drv_system::System;
@@ -12,7 +13,8 @@ use drv_words::Plan;
 use std::alloc::{AllocError, Global};
 
 /// Carries out a plan, with at most `window` of its sources under way at once, and gives the exit status: 0, or 1 where a
-/// command failed or something was not made or started; with `pass_codes` the greatest code instead.
+/// command failed or something was not made or started; with `pass_codes` the greatest code instead. Of several sources that may
+/// go on, one does that need not wait.
 ///
 /// # Errors
 /// Want of memory, of which nothing was made or started; behind the first step it is no error any more.
@@ -40,6 +42,7 @@ pub fn execute<S: System>(
             Action::Make(step) => {
                 let answer = make(sys, plan, step);
                 run.answer(answer);
+                choose_source(sys, &mut run);
             }
         }
     }

@@ -1,6 +1,7 @@
 //! A call of the driver: from its arguments to the end of its run.
 #![tactic(auto)]
 
+mod choosing;
 mod driving;
 mod ending;
 mod executing;

@@ -7,7 +7,7 @@ ghost use Rattle.std.specs.Prelude.{◌≡◌, ◌∷◌, ◌++◌, [], IfOk, On
 use crate::files::{make_file, remove_file};
 use crate::noting::{note_kind, note_read, note_variable};
 use crate::places::{command_at, name_at, temp_at};
-use crate::processes::{reason_of, spawn, wait_for};
+use crate::processes::{has_ended, reason_of, spawn, wait_for};
 use crate::reading::read_path;
 use crate::reports::report_line;
 use crate::{Event, PathKind, ReadAnswer, System, TellAnswer};
@@ -20,7 +20,11 @@ use std::env::{self, VarError};
 use std::io::{self, ErrorKind, PipeReader, Write};
 use std::marker::Model;
 use std::process::Child;
-use std::{fs, str};
+use std::time::Duration;
+use std::{fs, str, thread};
+
+/// How many microseconds a pause is.
+const MOMENT: u64 = 500;
 
 /// The files, the environment, the standard streams and the children of this process.
 ///
@@ -227,6 +231,16 @@ impl System for HostSystem {
             answer: Answer::Wait(answer),
         }));
         answer
+    }
+
+    #[tactic(auto, using(crate::proofs::Holding::holds_same))]
+    fn has_ended(&mut self, id: u64) -> bool {
+        has_ended(&mut self.children, id)
+    }
+
+    /// Sleeps for half a millisecond.
+    fn pause(&self) {
+        thread::sleep(&self.rt, Duration::from_micros(MOMENT))
     }
 
     #[tactic(auto, using(crate::proofs::Holding::holds_step))]

@@ -138,6 +138,24 @@ pub fn wait_for(children: &mut Vec<Option<Child>>, id: u64) -> WaitAnswer
     }
 }
 
+/// Whether the child of this number has ended, without waiting for it. One that was waited for has, and one that can't be asked for is
+/// taken for one that has.
+pub fn has_ended(children: &mut Vec<Option<Child>>, id: u64) -> bool
+    ensures len { vec_len children.new ≡ vec_len children.old }
+    ensures room { vec_capacity children.new ≡ vec_capacity children.old }
+{
+    let Ok(index) = usize::try_from(id) else {
+        return true;
+    };
+    let Some(Some(child)) = children.get_mut(index) else {
+        return true;
+    };
+    match child.try_wait() {
+        Ok(None) => false,
+        Ok(Some(_)) | Err(_) => true,
+    }
+}
+
 /// How a child ended, once it has.
 fn ending_of(mut child: Child) -> WaitAnswer {
     let Ok(status) = child.wait() else {

@@ -281,6 +281,21 @@ impl System for ScriptSystem {
         answer
     }
 
+    /// Every child has ended.
+    #[tactic(auto, using(crate::proofs::Holding::numbered_same))]
+    fn has_ended(&mut self, _id: u64) -> bool
+        ensures unchanged { self.new.journal ≡ self.old.journal }
+        ensures room { self.old.spare_events ≤ self.new.spare_events }
+        ensures answer { result ≡ true }
+        ensures script { self.new.script ≡ self.old.script }
+        ensures started { self.new.children ≡ self.old.children }
+    {
+        true
+    }
+
+    /// Nothing passes.
+    fn pause(&self) {}
+
     #[tactic(auto, using(crate::proofs::Holding::numbered_step))]
     fn remove(&mut self, plan: &Plan, place: Place) -> RemoveAnswer
         requires room { 0 < self.old.spare_events }

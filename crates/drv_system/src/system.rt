@@ -15,8 +15,8 @@ use std::alloc::AllocError;
 
 /// What a driver may ask of the outside, say to it, and have done there.
 ///
-/// Each call adds one event to the journal, which holds the call's argument and its answer. A call that answers `AllocError`
-/// adds none, and has said nothing. The steps of a run (`claim`, `start`, `close_pipe`, `wait`, `remove`, `report`) never answer
+/// Each call but `has_ended` and `pause` adds one event to the journal, which holds the call's argument and its answer. A call that
+/// answers `AllocError` adds none, and has said nothing. The steps of a run (`claim`, `start`, `close_pipe`, `wait`, `remove`, `report`) never answer
 /// want of memory: they need room that `reserve_events` made, and a system that lacks memory for more answers that the step failed.
 pub trait System {
     ghost use Rattle.drv_system.specs.declared.event.Event.{Event};
@@ -101,6 +101,16 @@ pub trait System {
         ensures event { events self.new ≡ events self.old ++ made (step.Wait place id) (answer.Wait result) ∷ [] }
         ensures room { spare_events self.old ≤ spare_events self.new + 1 }
         ensures children { spare_children self.old ≤ spare_children self.new };
+
+    /// Whether the child of this number has ended, as far as that is known without waiting. It adds no event and promises nothing:
+    /// how a child ended is what `wait` answers.
+    fn has_ended(&mut self, id: u64) -> bool
+        ensures unchanged { events self.new ≡ events self.old }
+        ensures room { spare_events self.old ≤ spare_events self.new }
+        ensures children { spare_children self.old ≤ spare_children self.new };
+
+    /// Lets a moment pass, in which children may end.
+    fn pause(&self);
 
     /// Removes a file of the plan. Links are not followed, and what is no plain file stays.
     fn remove(&mut self, plan: &Plan, place: Place) -> RemoveAnswer
