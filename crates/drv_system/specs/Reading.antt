@@ -5,8 +5,8 @@ use Rattle.drv_system.specs.declared.reading.ReadFault.{ReadFault}
 use Rattle.drv_system.specs.declared.reading.ReadFault.TheVariants as fault
 use Rattle.std.specs.Prelude.{◌≡◌, ◌⊎◌, Bool, Err, List, None, Ok, Option, Result, Some, false, true, ℕ, ⊤}
 
--- How a file is read. Private clauses alone cite it: a host's contract says no more than that its journal holds what it
--- answered, and that nothing is longer than a file may be.
+-- How what is open is read to its end (this project's profile). Of a path a host's contract says no more than that its journal holds
+-- what it answered, and that nothing is longer than a file may be.
 
 -- what an answer says of a reader that has these bytes left, where they are known
 abbrev pub ReadsAs : Option (List ℕ) → ReadAnswer → Type 0

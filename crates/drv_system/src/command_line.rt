@@ -1,6 +1,6 @@
 //! What a process is called with, and what it says to its caller.
 
-ghost use Rattle.std.specs.Prelude.{◌≤◌, IfOk, IfSome, length};
+ghost use Rattle.std.specs.Prelude.{◌≡◌, ◌≤◌, IfOk, IfSome, length};
 
 use drv_words::{Listing, Word};
 use std::alloc::Global;
@@ -27,8 +27,10 @@ fn argument_length(rt: &HostRuntime, place: usize, room: &mut Vec<u8>) -> io::Re
     Err(io::Error::from(ErrorKind::OutOfMemory))
 }
 
-/// An argument as a word.
-fn word_of(alloc: Global, bytes: &[u8]) -> io::Result<Word> {
+/// An argument as a word: its bytes, all of them.
+fn word_of(alloc: Global, bytes: &[u8]) -> io::Result<Word>
+    ensures { IfOk result (λ word. word ≡ bytes.now) }
+{
     let is_plain = bytes.iter().all(|byte| byte.is_ascii());
     if !is_plain && from_utf8(bytes).is_err() {
         return Err(io::Error::from(ErrorKind::InvalidData));
@@ -51,7 +53,8 @@ fn add_arguments(
     Ok(())
 }
 
-/// The arguments of this process, without the program's name.
+/// The arguments of this process, without the program's name, in their order and with all of their bytes. The kit promises nothing of what
+/// its runtime gives for an argument, so no clause says which these are.
 ///
 /// # Errors
 /// `OutOfMemory`, or another kind where one of them is no UTF-8.

@@ -34,9 +34,11 @@ pub fn read_path<R: Files>(rt: &R, alloc: Global, path: &str) -> Result<ReadAnsw
     }
 }
 
-/// Reads what is open to its end.
+/// Reads what is open to its end: all bytes that it has left, where these are known, or the answer that they are more than a file may
+/// have, or that a read failed.
 pub fn read_to_end<F: Read + Drop>(alloc: Global, file: F) -> Result<ReadAnswer, AllocError>
-    ensures { IfOk result IsWithinLimit }
+    ensures read { IfOk result (ReadsAs (F.remaining file)) }
+    ensures within { IfOk result IsWithinLimit }
 {
     Source::new(file).read_whole(alloc)
 }
