@@ -5,23 +5,24 @@ use Rattle.drv_core.proofs.Between.{seen}
 use Rattle.drv_core.proofs.Courses.{FilledPlan}
 use Rattle.drv_core.proofs.Ends.{HoldsAt, most_of}
 use Rattle.drv_core.proofs.Finish.{Fails, Keeps, ended, fails, still}
+use Rattle.drv_core.proofs.First.{WorksFirst}
 use Rattle.drv_core.proofs.Flights.{Going}
 use Rattle.drv_core.proofs.Listed.{listed, listed_count}
-use Rattle.drv_core.proofs.Order.{is_less, same}
+use Rattle.drv_core.proofs.Order.{count_some, is_less, less, same}
 use Rattle.drv_core.proofs.Progress.{count_same}
 use Rattle.drv_core.proofs.Rooms.{first_cost}
 use Rattle.drv_core.proofs.Standing.{Path, begins, path_ends, path_even, path_more, pending, waits_next}
 use Rattle.drv_core.proofs.Stands.{Stands, filled_plan, stands}
 use Rattle.drv_core.proofs.Steps.{asked, base_out, open_out}
 use Rattle.drv_core.proofs.Tells.{ToldStory, tells}
-use Rattle.drv_core.specs.Choices.{BetweenBlocks, ChoicesAre, GoesOn, HasEnded, IsChoice, IsNextOf, SoFar, is_step_of, source_may}
+use Rattle.drv_core.specs.Choices.{BetweenBlocks, ChoicesAre, GoesOn, HasEnded, IsChoice, IsNextOf, IsOfFirst, SoFar, is_step_of, source_may}
 use Rattle.drv_core.specs.Course.{Done, Link, Phase, Removals, Report, Sources}
 use Rattle.drv_core.specs.Fleet.{Fleet, able, selected, stage_in}
 use Rattle.drv_core.specs.Machine.{ClaimReport, Claims, Closing, Ended, RemovalReport, Removals as OwnRemovals, Stage, StartReport, Starts, WaitReport, Waits, asks, begin, inside, left}
 use Rattle.drv_core.specs.Position.{Position, asked_in, next_of}
 use Rattle.drv_core.specs.Reached.{Kept, between_blocks, choices_at, choosing}
 use Rattle.drv_core.specs.Story.{Block}
-use Rattle.drv_core.specs.Windowed.{blocks_of, count, events_of, has, in_flight, of}
+use Rattle.drv_core.specs.Windowed.{MayCome, blocks_of, count, events_of, has, in_flight, may_go_on, of}
 use Rattle.drv_words.specs.Places.{no_job}
 use Rattle.drv_words.specs.declared.plan.Job.{Job}
 use Rattle.drv_words.specs.declared.plan.Plan.{Plan}
@@ -245,6 +246,46 @@ chosen_next plan N p i k lt b = by (where_is plan N p k)
     by (inl o) = at o (get_or (listed (length plan.jobs) (test plan.jobs N p.fleet o.going.run.blocks)) i p.fleet.next) (ap (λ l. get_or l i p.fleet.next) (able_list o))
         (kth (length plan.jobs) (test plan.jobs N p.fleet o.going.run.blocks) p.fleet.next i (subst (λ n. i < n) (ap (λ (t : Bool). if t then length (able plan.jobs p.fleet) else 1) (open_test plan N p o) ∙ ap (λ (l : List ℕ). length l) (able_list o)) lt))
     by (inr c) = absurd (c.none b)
+
+-- there is one, and where the first is worked, what is asked is a step of it
+
+goes : (n N : ℕ) (begun left flying waits : ℕ → Bool) (k : ℕ) → MayCome n N begun left flying k (waits k) → left k ≡ true → may_go_on n N begun left flying waits k ≡ true
+goes n N begun left flying waits k m more = ap (λ (t : Bool). t && (nat_eq (count k (λ j. not (begun j) && left j)) 0 && window_and_wait)) more
+    ∙ ap (λ c. nat_eq c 0 && window_and_wait) m.in_order
+    ∙ ap (λ (t : Bool). t && wait (waits k)) (less (count n (λ j. (begun j || nat_eq j k) && left j)) (N + 1) (let w = m.in_window in omega (arith, w)))
+    ∙ waited (waits k) m.all_in_flight
+  where
+    wait : Bool → Bool
+    wait t = not t || nat_eq (count n flying) (min N (count n left))
+
+    window_and_wait : Bool
+    window_and_wait = nat_lt (count n (λ j. (begun j || nat_eq j k) && left j)) (N + 1) && wait (waits k)
+
+    waited : (t : Bool) → (t ≡ true → count n flying ≡ min N (count n left)) → wait t ≡ true
+    waited true h = ap (λ c. nat_eq c (min N (count n left))) (h refl) ∙ nat_eq_equiv.refl (min N (count n left))
+    waited false h = refl
+
+some_choice : (plan : Plan) (N : ℕ) (p : Position) → IsOpen plan N p → 0 < choices_at plan p
+some_choice plan N p o = subst (λ n. 0 < n) (sym (ap (λ (t : Bool). if t then length (able plan.jobs p.fleet) else 1) (open_test plan N p o)
+    ∙ able_count plan.jobs N p.fleet o.going.run.blocks (keeps_at plan N p.fleet p.events o.going o.out) o.going.counts))
+    (count_some (length plan.jobs) p.fleet.current (test plan.jobs N p.fleet o.going.run.blocks) (is_less p.fleet.current (length plan.jobs) o.going.may.is_source)
+    (goes (length plan.jobs) N (λ j. has j o.going.run.blocks) (λ j. left (stage_in p.fleet j)) (λ j. in_flight (of j o.going.run.blocks)) (λ j. nat_lt 0 (pending (stage_in p.fleet j))) p.fleet.current
+    (subst (λ st. MayCome (length plan.jobs) N (λ j. has j o.going.run.blocks) (λ j. left (st j)) (λ j. in_flight (of j o.going.run.blocks)) p.fleet.current (nat_lt 0 (pending (st p.fleet.current))))
+    (fun_ext (λ j. base_out (o.going.st j) (keeps_all plan N p.fleet p.events o.going o.out j) ∙ sym (o.going.at j))) o.going.may)
+    (ap left (o.going.at p.fleet.current) ∙ o.going.more)))
+
+pub first_next : (plan : Plan) (N : ℕ) (p : Position) → Kept plan N p → WorksFirst plan p → IsOfFirst plan N p.events (next_of plan p)
+first_next plan N p k first = λ b. by b (where_is plan N p k)
+  where
+    next_is : (o : IsOpen plan N p) → next_of plan (choosing plan p 0) ≡ next_of plan p
+    next_is o = ap (λ (t : Bool). next_of plan (if t then record p { fleet = selected plan.jobs p.fleet 0 } else p)) (open_test plan N p o)
+        ∙ ap (λ q. asked_in q plan (record p { fleet = selected plan.jobs p.fleet 0 })) o.phase
+        ∙ ap (λ y. asks y (get_or plan.jobs y no_job) (stage_in p.fleet y)) (first (open_test plan N p o))
+        ∙ ap (λ q. asked_in q plan p) (sym o.phase)
+
+    by : (b : BetweenBlocks plan N p.events) → IsOpen plan N p ⊎ IsClosed plan N p → IsNextOf plan N p.events b 0 (next_of plan p)
+    by b (inl o) = subst (λ s. IsNextOf plan N p.events b 0 s) (next_is o) (chosen_next plan N p 0 k (some_choice plan N p o) b)
+    by b (inr c) = absurd (c.none b)
 
 -- elsewhere nothing changes
 pub chosen_elsewhere : (plan : Plan) (N : ℕ) (p : Position) (i : ℕ) → Kept plan N p → (BetweenBlocks plan N p.events → ⊥) → choosing plan p i ≡ p

@@ -8,13 +8,13 @@ use Rattle.drv_core.proofs.Order.{and_second, apart, apart_above, less, not_less
 use Rattle.drv_core.proofs.Retrace.{has_ended}
 use Rattle.drv_core.proofs.Status.{Below, all_below, code_blocks, top_same}
 use Rattle.drv_core.proofs.Steps.{Ran, events_append}
-use Rattle.drv_core.proofs.Tally.{due_at_end, no_answers, story_tally, told_at}
+use Rattle.drv_core.proofs.Tally.{due_at_end, story_tally, told_at}
 use Rattle.drv_core.proofs.Whole.{answers, file_at}
 use Rattle.drv_core.specs.Filled.{Filled}
 use Rattle.drv_core.specs.Course.{link_by, run_code}
 use Rattle.drv_core.specs.Due.{claimed_count, due_files, tally}
 use Rattle.drv_core.specs.Machine.{Ended, Stage, base, begin, open_of, remove_of}
-use Rattle.drv_core.specs.Outcomes.{Answers, File, JobAnswers, Told, link_run, removed_at_end, whole_job, whole_jobs}
+use Rattle.drv_core.specs.Outcomes.{Answers, File, JobAnswers, Told, link_run, no_answers, removed_at_end, whole_job, whole_jobs}
 use Rattle.drv_core.specs.Story.{Block, end_removals, event, removal_failed, report, story}
 use Rattle.drv_core.specs.Windowed.{SourceBlock, Windowed, blocks_of, events_of, nowhere, of}
 use Rattle.drv_words.specs.Places.{no_job}

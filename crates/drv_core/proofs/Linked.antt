@@ -9,14 +9,14 @@ use Rattle.drv_core.proofs.Order.{apart_above}
 use Rattle.drv_core.proofs.Rooms.{first_cost}
 use Rattle.drv_core.proofs.Steps.{Ran, Valid, asked, sources_begin, sources_ran}
 use Rattle.drv_core.proofs.Sure.{Over, Sure, cost_some, opens_begin, sized_begin}
-use Rattle.drv_core.proofs.Tally.{due_at_end, no_answers, sources_none, sources_tally, story_tally}
+use Rattle.drv_core.proofs.Tally.{due_at_end, sources_none, sources_tally, story_tally}
 use Rattle.drv_core.proofs.Whole.{Removing, answers, begun_link, begun_removals, begun_sources, done_removals, removals_begin, removing_first}
 use Rattle.drv_core.specs.Filled.{Filled}
 use Rattle.drv_core.specs.Course.{link_by, run_code}
 use Rattle.drv_core.specs.Due.{claimed_count, claims_in, due_files, tally}
 use Rattle.drv_core.specs.Fleet.{Fleet}
 use Rattle.drv_core.specs.Machine.{Ended, Stage, after, asks, begin, is_kind, left}
-use Rattle.drv_core.specs.Outcomes.{link_run, removed_at_end}
+use Rattle.drv_core.specs.Outcomes.{link_run, no_answers, removed_at_end}
 use Rattle.drv_core.specs.Story.{event}
 use Rattle.drv_core.specs.Windowed.{IsBeginning, IsWhole}
 use Rattle.drv_words.specs.Places.{job_at, no_job}

@@ -1,8 +1,10 @@
 use Rattle.drv_core.proofs.Fair.{Fair, fair_story, flying, settled}
 use Rattle.drv_core.proofs.Order.{Ordered, Upto, and_first, and_second, count_none, count_other, count_some, is_less, is_not_less, less, of_append, of_before, of_behind, of_beyond, of_by_source, ordered, same, upto_append, upto_more}
-use Rattle.drv_core.specs.Outcomes.{JobAnswers, whole, whole_job, whole_jobs}
-use Rattle.drv_core.specs.Windowed.{AllMayCome, MayCome, Rearranges, SourceBlock, TellStories, by_source, count, has, in_flight, is_wait, nowhere, of}
+use Rattle.drv_core.specs.Outcomes.{Answers, JobAnswers, whole, whole_job, whole_jobs}
+use Rattle.drv_core.specs.Windowed.{AllMayCome, MayCome, Rearranges, SourceBlock, TellStories, Windowed, by_source, count, has, in_flight, is_wait, nowhere, of}
 use Rattle.drv_words.specs.declared.plan.Job.{Job}
+use Rattle.drv_words.specs.declared.plan.Plan.{Plan}
+use Rattle.drv_words.specs.declared.steps.RunEvent.{RunEvent}
 use Rattle.std.proofs.Common.{◌≡◌, ◌<◌, ◌≤◌, ◌+◌, ◌∙◌, ◌&&◌, ◌||◌, Bool, false, true, List, [], ◌∷◌, ◌++◌, ap, append-nil, append_assoc, arith, if◌then◌else◌, length, min, nat_eq, nat_lt, not, refl, subst, sym, ℕ}
 use Rattle.std.proofs.lemmas.Bool.Decides.{nat_tests}
 use Rattle.std.proofs.lemmas.Cmp.{nat_eq_equiv}
@@ -108,3 +110,7 @@ rearranges plan N o E w = record {
   where
     jobs_whole : whole plan o ≡ true → whole_jobs plan.jobs o.jobs ≡ true
     jobs_whole e = and_first (whole_jobs plan.jobs o.jobs) _ (and_first _ _ e)
+
+pub rearranged : (plan : Plan) (N : ℕ) (o : Answers) (E : List RunEvent) (w : Windowed plan N o E) → (rearranges plan N o E w).blocks ≡ by_source (length plan.jobs) w.blocks
+unfolding rearranges
+rearranged plan N o E w = refl

@@ -1,7 +1,8 @@
-use Rattle.drv_core.proofs.Chosen.{choice_below, choices_are, chosen_elsewhere, chosen_next}
+use Rattle.drv_core.proofs.Chosen.{choice_below, choices_are, chosen_elsewhere, chosen_next, first_next}
+use Rattle.drv_core.proofs.First.{WorksFirst, fresh_first, moved_first}
 use Rattle.drv_core.proofs.Stands.{begins, bound, few, fewer, fits_kind, makes, ready, room_left, status_for, unfinished, whole}
 use Rattle.drv_core.proofs.Window.{answer_stands, choice_stands, choosing_events, fresh_events, fresh_stands, moved_events}
-use Rattle.drv_core.specs.Choices.{BetweenBlocks, ChoicesAre, IsChoice, IsNextOf}
+use Rattle.drv_core.specs.Choices.{BetweenBlocks, ChoicesAre, IsChoice, IsNextOf, IsOfFirst}
 use Rattle.drv_core.specs.Course.{link_of}
 use Rattle.drv_core.specs.Filled.{AllFilled, Filled}
 use Rattle.drv_core.specs.Machine.{is_kind}
@@ -119,6 +120,29 @@ answered plan pass_codes w v r a e moves = subst (λ x. IfMake x.action (λ step
     by None is = subst (λ o. IfMake (action_of o (status_from pass_codes w.code)) (λ step. v.events.items ≡ w.events.items ++ event step a ∷ [])) (sym is) tt
     by (Some s) is = subst (λ o. IfMake (action_of o (status_from pass_codes w.code)) (λ step. v.events.items ≡ w.events.items ++ event step a ∷ [])) (sym is) (ap (λ p. p.events) (moves s is) ∙ moved_events plan (position_of w) s a)
 
+-- without a choice
+
+step_back : (o : Option Step) (n : ℕ) → step_in (action_of o n) ≡ o
+step_back None n = refl
+step_back (Some s) n = refl
+
+works_first : (plan : Plan) (pass_codes : Bool) (w : Work) → Stands plan w → WorksFirst plan (position_of w) → IsOfFirst plan w.flight.window w.events.items (step_in (run_of plan pass_codes w).action)
+works_first plan pass_codes w k first = subst (λ o. IsOfFirst plan w.flight.window w.events.items o) (sym (step_back (next_of plan (position_of w)) (status_from pass_codes w.code))) (first_next plan w.flight.window (position_of w) k first)
+
+pub begun_first : (plan : Plan) (pass_codes : Bool) (w : Work) (N : ℕ) → Stands plan w → position_of w ≡ fresh_position plan N (vec_capacity w.events) → IsOfFirst plan w.flight.window w.events.items (step_in (run_of plan pass_codes w).action)
+begun_first plan pass_codes w N k e = works_first plan pass_codes w k (subst (λ p. WorksFirst plan p) (sym e) (fresh_first plan N (vec_capacity w.events)))
+
+pub answered_first : (plan : Plan) (pass_codes : Bool) (w v : Work) (r : Run) (a : Answer) → run_of plan pass_codes w ≡ r → IfDone r.action (λ status. ⊥) → ((s : Step) → next_of plan (position_of w) ≡ Some s → position_of v ≡ moved plan (position_of w) s a)
+    → Stands plan v → IsOfFirst plan v.flight.window v.events.items (step_in (run_of plan pass_codes v).action)
+answered_first plan pass_codes w v r a e more moves k = works_first plan pass_codes v k (by (next_of plan (position_of w)) refl)
+  where
+    over : IfDone (run_of plan pass_codes w).action (λ status. ⊥)
+    over = subst (λ x. IfDone x.action (λ status. ⊥)) (sym e) more
+
+    by : (o : Option Step) → next_of plan (position_of w) ≡ o → WorksFirst plan (position_of v)
+    by None is = absurd (subst (λ o. IfDone (action_of o (status_from pass_codes w.code)) (λ status. ⊥)) is over)
+    by (Some s) is = subst (λ p. WorksFirst plan p) (sym (moves s is)) (moved_first plan (position_of w) s a)
+
 -- what `status` gives
 
 pub status_there : (plan : Plan) (pass_codes : Bool) (w : Work) (r : Run) (n : ℕ) → run_of plan pass_codes w ≡ r → IfMake r.action (λ step. ⊥) → n ≡ status_from pass_codes w.code → r.action ≡ action.Done n
@@ -147,10 +171,6 @@ turned_stands plan w v i k h e = (choice_stands plan (position_of w) (position_o
 
 pub turned_window : (plan : Plan) (w v : Work) (i : ℕ) → Stands plan w → IsChoice plan w.flight.window w.events.items i → position_of v ≡ choosing plan (position_of w) i → v.flight.window ≡ w.flight.window
 turned_window plan w v i k h e = (choice_stands plan (position_of w) (position_of v) i k (choice_below plan w.flight.window (position_of w) i k h) e).1
-
-step_back : (o : Option Step) (n : ℕ) → step_in (action_of o n) ≡ o
-step_back None n = refl
-step_back (Some s) n = refl
 
 pub turned_next : (plan : Plan) (pass_codes : Bool) (w v : Work) (r : Run) (i : ℕ) → Stands plan w → run_of plan pass_codes w ≡ r → IsChoice r.plan r.window r.events i → position_of v ≡ choosing plan (position_of w) i
     → (b : BetweenBlocks r.plan r.window r.events) → IsNextOf r.plan r.window r.events b i (step_in (run_of plan pass_codes v).action)

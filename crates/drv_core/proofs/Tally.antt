@@ -5,7 +5,7 @@ use Rattle.drv_core.proofs.Order.{and_first, and_second, apart, same}
 use Rattle.drv_core.proofs.Standing.{SourcesRun}
 use Rattle.drv_core.proofs.Status.{Below, all_below}
 use Rattle.drv_core.specs.Due.{claimed_count, claims_in, due_files, due_from, due_of_job, tally}
-use Rattle.drv_core.specs.Outcomes.{Answers, File, GroupAnswers, JobAnswers, Told, each_once, files_of_job, files_of_jobs, is_claimed, link_run, removed_at_end, whole_job, whole_jobs}
+use Rattle.drv_core.specs.Outcomes.{Answers, File, GroupAnswers, JobAnswers, Told, each_once, files_of_job, files_of_jobs, is_claimed, link_run, no_answers, removed_at_end, whole_job, whole_jobs}
 use Rattle.drv_core.specs.Story.{Block, claim_blocks, event, group_blocks, own_removals, removal_failed, report, starts_block, story, wait_block, wait_blocks, wait_report}
 use Rattle.drv_core.specs.Windowed.{SourceBlock, TellStories, blocks_of, events_of, nowhere, of, total}
 use Rattle.drv_words.specs.Places.{no_job}
@@ -136,9 +136,6 @@ blocks_total n f (b ∷ bs) below = total_append f b.block (events_of (blocks_of
     ∙ sym (summed_with n b.source (total f b.block) (λ j. total f (events_of (of j bs))) (λ j. total f (events_of (of j (b ∷ bs)))) below.0
     (ap (λ (t : Bool). total f (events_of (if t then b.block ∷ of b.source bs else of b.source bs))) (nat_eq_equiv.refl b.source) ∙ total_append f b.block (events_of (of b.source bs)))
     (λ j e. ap (λ (t : Bool). total f (events_of (if t then b.block ∷ of j bs else of j bs))) e))
-
-abbrev pub no_answers : JobAnswers
-no_answers = record { claims = []; groups = []; removals = [] }
 
 pub told_at : (blocks : List SourceBlock) (k : ℕ) (jobs : List Job) (xs : List JobAnswers) → whole_jobs jobs xs ≡ true → TellStories blocks k jobs xs → (j : ℕ) → j < length jobs → of (k + j) blocks ≡ story (k + j) (get_or jobs j no_job) (get_or xs j no_answers)
 told_at blocks k [] xs w t j lt = absurd (omega arith)

@@ -83,3 +83,7 @@ pub record IsNextOf (plan : Plan) (N : ℕ) (E : List RunEvent) (b : BetweenBloc
   pub step : Step
   pub asks : asked ≡ Some step
   pub of_source : is_step_of source step ≡ true
+
+-- between blocks it is a step of the first of them
+abbrev pub IsOfFirst : (plan : Plan) (N : ℕ) (E : List RunEvent) (asked : Option Step) → Type 0
+IsOfFirst plan N E asked = (b : BetweenBlocks plan N E) → IsNextOf plan N E b 0 asked

@@ -1,11 +1,10 @@
 use Rattle.drv_core.specs.Due.{due_files, tally}
 use Rattle.drv_core.specs.Fleet.{Fleet, asked_of, fresh_fleet, taken}
 use Rattle.drv_core.specs.Machine.{Ended, Stage, after, asks, begin, left, remove_of}
-use Rattle.drv_core.specs.Outcomes.{File, greatest, code_of, is_claimed, is_started, none}
+use Rattle.drv_core.specs.Outcomes.{File, answer_code, greatest, none}
 use Rattle.drv_core.specs.Story.{event, removal_failed}
 use Rattle.drv_words.specs.Places.{no_job}
 use Rattle.drv_words.specs.declared.answers.Answer.{Answer}
-use Rattle.drv_words.specs.declared.answers.Answer.TheVariants as answer
 use Rattle.drv_words.specs.declared.plan.Job.{Job}
 use Rattle.drv_words.specs.declared.plan.Plan.{Plan}
 use Rattle.drv_words.specs.declared.steps.Note.TheVariants as note
@@ -16,15 +15,7 @@ use Rattle.std.specs.Prelude.{List, [], ◌∷◌, ◌++◌, None, Option, Some,
 
 -- A whole run, step by step. Private clauses alone cite it: what a run comes to is said by the stories.
 
--- the code of an answer: 1 for a claim or a start that failed, and a child's own
-abbrev pub answer_code : Answer → ℕ
-answer_code (answer.Claim x) = if is_claimed x then 0 else 1
-answer_code (answer.Start x) = if is_started x then 0 else 1
-answer_code answer.Closed = 0
-answer_code (answer.Wait x) = code_of x
-answer_code (answer.Remove x) = 0
-answer_code (answer.Reported t) = 0
-
+-- the greatest code of events
 abbrev pub run_code : List RunEvent → ℕ
 run_code events = greatest (λ e. answer_code e.answer) events
 

@@ -7,6 +7,7 @@ pub mod Fleet
 pub mod FleetView
 pub mod LeftoverView
 pub mod Leftovers
+pub mod Links
 pub mod Machine
 pub mod Needed
 pub mod Numbering
@@ -18,6 +19,8 @@ pub mod Remains
 pub mod Run
 pub mod RunView
 pub mod Source
+pub mod Started
 pub mod Starting
 pub mod Story
+pub mod Waited
 pub mod Windowed

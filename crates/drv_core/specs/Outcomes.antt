@@ -1,4 +1,6 @@
 use Rattle.drv_words.specs.Places.{no_job}
+use Rattle.drv_words.specs.declared.answers.Answer.{Answer}
+use Rattle.drv_words.specs.declared.answers.Answer.TheVariants as answer
 use Rattle.drv_words.specs.declared.answers.ClaimAnswer.{ClaimAnswer}
 use Rattle.drv_words.specs.declared.answers.ClaimAnswer.TheVariants as claim
 use Rattle.drv_words.specs.declared.answers.RemoveAnswer.{RemoveAnswer}
@@ -43,6 +45,10 @@ pub record Answers : Type 0 where
   pub link : JobAnswers
   pub last : List (Told RemoveAnswer)
 
+-- those of a job that made no call
+abbrev pub no_answers : JobAnswers
+no_answers = record { claims = []; groups = []; removals = [] }
+
 abbrev pub none : {X : Type 0} → List X → Bool
 none [] = true
 none (x ∷ xs) = false
@@ -63,6 +69,15 @@ abbrev pub code_of : WaitAnswer → ℕ
 code_of (Exit n) = n
 code_of Signal = 1
 code_of Lost = 1
+
+-- the code of an answer: 1 for a claim or a start that failed, and a child's own
+abbrev pub answer_code : Answer → ℕ
+answer_code (answer.Claim x) = if is_claimed x then 0 else 1
+answer_code (answer.Start x) = if is_started x then 0 else 1
+answer_code answer.Closed = 0
+answer_code (answer.Wait x) = code_of x
+answer_code (answer.Remove x) = 0
+answer_code (answer.Reported t) = 0
 
 abbrev pub wait_failed : Told WaitAnswer → Bool
 wait_failed w = not (nat_eq (code_of w.answer) 0)

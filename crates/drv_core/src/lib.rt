@@ -11,6 +11,6 @@ mod source;
 mod work;
 
 pub use action::Action;
-pub use law::interleaving_law;
+pub use law::{interleaving_law, linking_law, started_first, waiting_law};
 pub use needed::events_needed;
 pub use run::Run;

@@ -1,6 +1,6 @@
 //! The run of a plan: what is made next, for every answer, and what it comes to.
 
-ghost use Rattle.drv_core.specs.Choices.{BetweenBlocks, ChoicesAre, IsChoice, IsNextOf};
+ghost use Rattle.drv_core.specs.Choices.{BetweenBlocks, ChoicesAre, IsChoice, IsNextOf, IsOfFirst};
 ghost use Rattle.drv_core.specs.Machine.{is_kind};
 ghost use Rattle.drv_core.specs.Needed.{needed};
 ghost use Rattle.drv_core.specs.Outcomes.{Answers, status_from, status_of};
@@ -112,6 +112,7 @@ impl<'a> Run<'a> {
         ensures pass_codes { IfOk result (λ run. run.pass_codes ≡ pass_codes) }
         ensures window { IfOk result (λ run. run.window ≡ window) }
         ensures events { IfOk result (λ run. run.events ≡ []) }
+        ensures first { IfOk result (λ run. IsOfFirst run.plan run.window run.events (step_in run.action)) }
     {
         let work = Work::new(alloc, plan, window)?;
         Ok(Run {
@@ -135,11 +136,13 @@ impl<'a> Run<'a> {
         look(self.plan, self.pass_codes, &self.work)
     }
 
-    /// What the step of `next` was answered, by an answer of its kind; the number of a child that was started is new.
+    /// What the step of `next` was answered, by an answer of its kind; the number of a child that was started is new. Behind a block
+    /// of a source comes one of the first source that may go on.
     pub fn answer(&mut self, answer: Answer)
         requires more { IfDone self.old.action (λ status. ⊥) }
         requires fits { IfMake self.old.action (λ step. fits self.old.events step answer ≡ true) }
         ensures events { IfMake self.old.action (λ step. self.new.events ≡ self.old.events ++ event step answer ∷ []) }
+        ensures first { IsOfFirst self.new.plan self.new.window self.new.events (step_in self.new.action) }
         ensures plan { self.new.plan ≡ self.old.plan }
         ensures pass_codes { self.new.pass_codes ≡ self.old.pass_codes }
         ensures window { self.new.window ≡ self.old.window }

@@ -1,12 +1,12 @@
 //! The work on a plan: its parts one after another, and the events so far.
 
-ghost use Rattle.drv_core.specs.Course.{answer_code, link_of};
+ghost use Rattle.drv_core.specs.Course.{link_of};
 ghost use Rattle.drv_core.specs.Filled.{AllFilled, Filled};
 ghost use Rattle.drv_core.specs.Fleet.{fresh, taken};
 ghost use Rattle.drv_core.specs.FleetView.{fleet_of, worker_of};
 ghost use Rattle.drv_core.specs.LeftoverView.{remains_of};
 ghost use Rattle.drv_core.specs.Needed.{needed};
-ghost use Rattle.drv_core.specs.Outcomes.{code_of, is_claimed, is_started};
+ghost use Rattle.drv_core.specs.Outcomes.{answer_code, code_of, is_claimed, is_started};
 ghost use Rattle.drv_core.specs.Position.{FleetReady, Ready, flown, kept, link_after, link_asks, linked, moved, next_of, removal_made, removal_of, removing_first, removing_next, report_of, shown, sources_left};
 ghost use Rattle.drv_core.specs.Starting.{first_position, fresh_position};
 ghost use Rattle.drv_core.specs.Counting.{place_at};

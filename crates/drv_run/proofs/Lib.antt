@@ -5,8 +5,6 @@ pub mod Endings
 mod Files
 mod LineWords
 mod OneEnding
-mod StartedEvents
-mod StartedFirst
-mod StartedRows
+mod Refusals
 mod Steps
 pub mod Tellings

@@ -30,7 +30,7 @@ said_both (Variable name value ∷ first) second a b = absurd a
 said_both (Put text answer ∷ first) second a b = absurd a
 said_both (Run e ∷ first) second a b = absurd a
 
-announces_only : (verbose : Bool) (plan : Plan) (said : List Event) → Announces verbose plan said → AreSaid said
+pub announces_only : (verbose : Bool) (plan : Plan) (said : List Event) → Announces verbose plan said → AreSaid said
 announces_only true plan said (status, shows) =
     subst (λ events. AreSaid events) (sym shows.joined)
     (said_both shows.notices shows.commands (said_only (notices_text plan.notices) shows.noticed shows.notices shows.notices_are)
@@ -55,7 +55,7 @@ plan_carried_out journal journal' journal'' plan manner status announces execute
 
 -- no step of a run stands among questions and texts, so no pipe is pending behind them that was not before
 
-none_ran : (said : List Event) → AreSaid said → run_of said ≡ []
+pub none_ran : (said : List Event) → AreSaid said → run_of said ≡ []
 none_ran [] is = refl
 none_ran (Say text answer ∷ said) is = none_ran said is
 none_ran (Read path answer ∷ said) is = absurd is
@@ -64,7 +64,7 @@ none_ran (Variable name value ∷ said) is = absurd is
 none_ran (Put text answer ∷ said) is = absurd is
 none_ran (Run e ∷ said) is = absurd is
 
-none_ran_asking : (asked : List Event) → AreQuestions asked → run_of asked ≡ []
+pub none_ran_asking : (asked : List Event) → AreQuestions asked → run_of asked ≡ []
 none_ran_asking [] is = refl
 none_ran_asking (Read path answer ∷ asked) is = none_ran_asking asked is.1
 none_ran_asking (Kind path kind ∷ asked) is = none_ran_asking asked is.1

@@ -7,6 +7,7 @@ use Rattle.drv_run.specs.declared.work.Work.TheVariants.{CarryOut, Dump, Show}
 use Rattle.drv_run.specs.declared.work.Work.{Work}
 use Rattle.drv_system.specs.Asking.{AreNew}
 use Rattle.drv_system.specs.Facts.{Facts, learn, no_facts}
+use Rattle.drv_system.specs.Running.{run_of}
 use Rattle.drv_system.specs.declared.event.Event.TheVariants.{Put, Say}
 use Rattle.drv_system.specs.declared.event.Event.{Event}
 use Rattle.drv_system.specs.declared.event.TellAnswer.TheVariants.{Failed, Told}
@@ -78,6 +79,14 @@ abbrev pub Ends : Facts → List (List ℕ) → ℕ → Ending → List Event �
 Ends F args seed (Done status) said = (work : Work) × Drives F args seed work × Does work status said
 Ends F args seed (Refused refusal) said = Refuses F args seed refusal × (said ≡ [])
 Ends F args seed OutOfMemory said = AreSaid said
+
+-- The journal grew by questions that nothing had answered yet, and by nothing else: no text was said or put, and no step of a run was
+-- made.
+pub record OnlyAsked (journal journal' : List Event) : Type 0 where
+  pub asked : List Event
+  pub questions : AreNew no_facts asked
+  pub journal_grows : journal' ≡ journal ++ asked
+  pub no_step : run_of journal' ≡ run_of journal
 
 -- A call: it asked what it did not know, and its ending is that of the answers to these questions alone.
 pub record Drove (journal journal' : List Event) (args : List (List ℕ)) (seed : ℕ) (ending : Ending) : Type 0 where

@@ -4,7 +4,6 @@ pub mod Executed
 pub mod Exits
 pub mod Making
 pub mod Planning
-pub mod Started
 pub mod Telling
 pub mod Texts
 pub mod Wording

@@ -1,17 +1,18 @@
 //! Laws of the definitions that the contracts cite.
 
 ghost use Rattle.drv_args.specs.declared.line.Line.{Line};
-ghost use Rattle.drv_core.specs.Outcomes.{Answers, link_run};
-ghost use Rattle.drv_core.specs.Windowed.{Windowed};
+ghost use Rattle.drv_run.specs.Calls.{Does, Drove, OnlyAsked};
 ghost use Rattle.drv_run.specs.Drives.{Drives, Refuses, called_as, planned};
-ghost use Rattle.drv_run.specs.Started.{EachStartsFirst};
+ghost use Rattle.drv_run.specs.declared.ending.Ending.TheVariants.{Refused};
 ghost use Rattle.drv_run.specs.declared.ending.Refusal.{Refusal};
+ghost use Rattle.drv_run.specs.declared.work.Work.TheVariants.{Show};
 ghost use Rattle.drv_run.specs.declared.work.Work.{Work};
 ghost use Rattle.drv_specs.specs.Sets.{Set};
 ghost use Rattle.drv_system.specs.Facts.{Facts};
+ghost use Rattle.drv_system.specs.Running.{run_of};
+ghost use Rattle.drv_system.specs.declared.event.Event.{Event};
 ghost use Rattle.drv_words.specs.declared.plan.Plan.{Plan};
-ghost use Rattle.drv_words.specs.declared.steps.RunEvent.{RunEvent};
-ghost use Rattle.std.specs.Prelude.{◌≡◌, ◌∷◌, ◌++◌, [], Bool, List, ℕ};
+ghost use Rattle.std.specs.Prelude.{◌≡◌, [], Bool, List, ℕ};
 
 /// A law: arguments come to one work, or they are refused for one reason, and never both.
 pub fn one_ending()
@@ -26,8 +27,12 @@ pub fn same_plan()
     ensures { (F : Facts) (line : Line) (set : Set) (seed : ℕ) (dry verbose pass_codes : Bool) (jobs : ℕ) → planned F (called_as dry verbose pass_codes jobs line) set seed ≡ planned F line set seed }
 {}
 
-/// A law: in the events of a whole run the commands of each job that were started are the first ones of its planned list, and all
-/// of it where the job did not fail. The link has nothing to do where a source failed.
-pub fn started_first()
-    ensures { (plan : Plan) (N : ℕ) (o : Answers) (events : List RunEvent) → Windowed plan N o events → EachStartsFirst plan events 0 (plan.jobs ++ link_run plan.link o.jobs ∷ []) (o.jobs ++ o.link ∷ []) }
+/// A law: a call that is refused has asked, and nothing else: it has said and written nothing, and made no step of a run.
+pub fn refused_does_nothing()
+    ensures { (journal later : List Event) (args : List (List ℕ)) (seed : ℕ) (refusal : Refusal) → Drove journal later args seed (Refused refusal) → OnlyAsked journal later }
+{}
+
+/// A law: a plan that is shown is said, and no step of a run is made.
+pub fn shown_starts_nothing()
+    ensures { (plan : Plan) (status : ℕ) (said : List Event) → Does (Show plan) status said → run_of said ≡ [] }
 {}

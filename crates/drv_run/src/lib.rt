@@ -16,6 +16,6 @@ mod work;
 pub use driving::drive;
 pub use ending::{Ending, Refusal};
 pub use executing::execute;
-pub use laws::{one_ending, same_plan, started_first};
+pub use laws::{one_ending, refused_does_nothing, same_plan, shown_starts_nothing};
 pub use wording::{ending_text, fault_line};
 pub use work::{Manner, Work};

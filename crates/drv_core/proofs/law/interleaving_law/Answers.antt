@@ -1,5 +1,9 @@
 use Rattle.drv_core.proofs.OneByOne.{rearranges}
+use Rattle.drv_core.proofs.StartedEvents.{starts_the_same}
 use Rattle.drv_core.proofs.law.interleaving_law.Goals as goal
 
-pub returns : goal.returns
-returns c = rearranges
+pub returns-clause-answers : goal.returns-clause-answers
+returns-clause-answers c = rearranges
+
+pub returns-clause-commands : goal.returns-clause-commands
+returns-clause-commands c = starts_the_same

@@ -1,11 +1,12 @@
-use Rattle.drv_core.proofs.Order.{and_first, and_second, apart, apart_above}
-use Rattle.drv_core.proofs.Status.{Below, all_below}
+use Rattle.drv_core.proofs.OneByOne.{rearranged, rearranges}
+use Rattle.drv_core.proofs.Order.{and_first, and_second, apart_above, is_less, is_not_less, of_beyond, of_by_source}
+use Rattle.drv_core.proofs.Sifted.{halves, jobs_whole, link_whole, none_above, nothing, only_first, two_lists}
 use Rattle.drv_core.proofs.Tells.{no_group}
 use Rattle.drv_core.specs.Outcomes.{Answers, File, GroupAnswers, JobAnswers, Told, all_succeeded, claims_failed, group_failed, link_run, none, removed_at_end, removed_by_job, started, started_in_group, started_in_groups, whole_claims, whole_group, whole_groups, whole_job, whole_jobs}
 use Rattle.drv_core.specs.Story.{Block, after_sources, claim_block, claim_blocks, end_removals, event, group_blocks, own_removals, removal_block, removal_failed, report, starts_block, story, wait_block, wait_blocks}
-use Rattle.drv_core.specs.Windowed.{SourceBlock, TellStories, Windowed, blocks_of, events_of, nowhere, of}
-use Rattle.drv_run.proofs.StartedFirst.{every_one, first_ones}
-use Rattle.drv_run.specs.Started.{EachStartsFirst, StartsFirst, command_at, started_by, started_in}
+use Rattle.drv_core.specs.Windowed.{TellStories, Windowed, by_source, events_of, of, serial}
+use Rattle.drv_core.proofs.StartedFirst.{every_one, first_ones}
+use Rattle.drv_core.specs.Started.{EachStartsFirst, StartsFirst, StartsTheSame, command_at, started_by, started_in}
 use Rattle.drv_words.specs.Places.{group_at, job_at, no_job}
 use Rattle.drv_words.specs.declared.answers.Answer.TheVariants as answer
 use Rattle.drv_words.specs.declared.answers.ClaimAnswer.{ClaimAnswer}
@@ -23,7 +24,7 @@ use Rattle.drv_words.specs.declared.steps.Place.{Place}
 use Rattle.drv_words.specs.declared.steps.Place.TheVariants as place
 use Rattle.drv_words.specs.declared.steps.RunEvent.{RunEvent}
 use Rattle.drv_words.specs.declared.steps.Step.TheVariants as step
-use Rattle.std.proofs.Common.{◌≡◌, ◌<◌, ◌+◌, ◌∙◌, ◌&&◌, Bool, false, true, List, [], ◌∷◌, ◌++◌, None, Option, Some, ap, append-nil, arith, if◌then◌else◌, get_or, length, nat_eq, nat_lt, refl, subst, suc, sym, zero, ℕ}
+use Rattle.std.proofs.Common.{◌≡◌, ◌<◌, ◌≤◌, ◌+◌, ◌∙◌, ◌&&◌, Bool, false, true, List, [], ◌∷◌, ◌++◌, None, Option, Some, ap, arith, if◌then◌else◌, get_or, length, nat_eq, nat_lt, refl, subst, suc, sym, ℕ}
 use Rattle.std.proofs.Math.ListN.{get_or-append}
 use Rattle.std.proofs.Math.Seq.{get_or-append_seam}
 use Rattle.std.proofs.lemmas.Cmp.{nat_eq_equiv}
@@ -36,21 +37,11 @@ use Rattle.std.specs.Prelude.{slice_get}
 abbrev seen : Plan → ℕ → List Block → List Command
 seen plan k blocks = started_in plan k (events_of blocks)
 
-nothing : {A : Type 0} {xs ys : List A} → xs ≡ [] → ys ≡ [] → xs ++ ys ≡ []
-nothing {ys = ys} e f = ap (λ l. l ++ ys) e ∙ f
-
-only_first : {A : Type 0} {xs ys zs : List A} → xs ≡ zs → ys ≡ [] → xs ++ ys ≡ zs
-only_first {ys = ys} {zs = zs} e f = ap (λ l. l ++ ys) e ∙ ap (λ l. zs ++ l) f ∙ append-nil zs
-
-parts : {A : Type 0} (xs ys : List A) → xs ++ ys ≡ [] → (xs ≡ []) × (ys ≡ [])
-parts [] ys e = (refl, e)
-parts (x ∷ xs) ys e = absurd cc
-
 two : (plan : Plan) (k : ℕ) (E F : List RunEvent) → started_in plan k (E ++ F) ≡ started_in plan k E ++ started_in plan k F
 two plan k E F = flat_map-append (λ e. started_by plan k e.step e.answer) E F
 
-two_lists : (plan : Plan) (k : ℕ) (xs ys : List Block) → seen plan k (xs ++ ys) ≡ seen plan k xs ++ seen plan k ys
-two_lists plan k xs ys = ap (λ E. started_in plan k E) (flat_map-append (λ b. b) xs ys) ∙ two plan k (events_of xs) (events_of ys)
+both : (plan : Plan) (k : ℕ) (xs ys : List Block) → seen plan k (xs ++ ys) ≡ seen plan k xs ++ seen plan k ys
+both plan k xs ys = two_lists (λ e. started_by plan k e.step e.answer) xs ys
 
 -- claims, waits and removals start nothing
 
@@ -130,7 +121,7 @@ groups plan k g [] [] at e = refl
 groups plan k g [] (x ∷ xs) at e = absurd cc
 groups plan k g (c ∷ cs) [] at e = refl
 groups plan k g (c ∷ cs) (x ∷ xs) at e =
-    two_lists plan k (starts_block k g (length c) 0 x.refused x.starts ∷ wait_blocks k g 0 x.starts x.waits) (group_blocks k (g + 1) cs xs)
+    both plan k (starts_block k g (length c) 0 x.refused x.starts ∷ wait_blocks k g 0 x.starts x.waits) (group_blocks k (g + 1) cs xs)
     ∙ ap (λ l. l ++ seen plan k (group_blocks k (g + 1) cs xs)) (two plan k (starts_block k g (length c) 0 x.refused x.starts) (events_of (wait_blocks k g 0 x.starts x.waits))
     ∙ only_first (starts plan k g (length c) 0 x.refused c x.starts (λ h. ap (λ m. slice_get (group_at (job_at plan k) g) m) (let is : 0 + h ≡ h = omega arith in is) ∙ ap (λ l. slice_get l h) here)) (no_waits plan k k g 0 x.starts x.waits))
     ∙ ap (λ l. started_in_group c x.starts ++ l) (rest (group_failed x) xs (and_second (whole_group c x.starts x.waits) (if group_failed x then none xs else whole_groups cs xs) e)
@@ -149,16 +140,16 @@ no_groups : (plan : Plan) (k j g : ℕ) (cs : List (List Command)) (xs : List Gr
 no_groups plan k j g [] xs other = refl
 no_groups plan k j g (c ∷ cs) [] other = refl
 no_groups plan k j g (c ∷ cs) (x ∷ xs) other =
-    two_lists plan k (starts_block j g (length c) 0 x.refused x.starts ∷ wait_blocks j g 0 x.starts x.waits) (group_blocks j (g + 1) cs xs)
+    both plan k (starts_block j g (length c) 0 x.refused x.starts ∷ wait_blocks j g 0 x.starts x.waits) (group_blocks j (g + 1) cs xs)
     ∙ nothing (two plan k (starts_block j g (length c) 0 x.refused x.starts) (events_of (wait_blocks j g 0 x.starts x.waits)) ∙ nothing (no_starts plan k j g (length c) 0 x.refused x.starts other) (no_waits plan k j g 0 x.starts x.waits))
     (no_groups plan k j (g + 1) cs xs other)
 
 -- the story of a job
 
 in_story : (plan : Plan) (k j : ℕ) (job : Job) (a : JobAnswers) → seen plan k (story j job a) ≡ seen plan k (group_blocks j 0 job.groups a.groups)
-in_story plan k j job a = two_lists plan k (claim_blocks j 0 a.claims) (group_blocks j 0 job.groups a.groups ++ own_removals j 0 a.removals)
+in_story plan k j job a = both plan k (claim_blocks j 0 a.claims) (group_blocks j 0 job.groups a.groups ++ own_removals j 0 a.removals)
     ∙ ap (λ l. l ++ seen plan k (group_blocks j 0 job.groups a.groups ++ own_removals j 0 a.removals)) (no_claims plan k j 0 a.claims)
-    ∙ two_lists plan k (group_blocks j 0 job.groups a.groups) (own_removals j 0 a.removals)
+    ∙ both plan k (group_blocks j 0 job.groups a.groups) (own_removals j 0 a.removals)
     ∙ only_first refl (no_removals plan k j 0 a.removals)
 
 other_story : (plan : Plan) (k j : ℕ) (job : Job) (a : JobAnswers) → nat_eq j k ≡ false → seen plan k (story j job a) ≡ []
@@ -190,37 +181,6 @@ own_story plan k job a here whole = in_story plan k k job a ∙ by (none job.gro
     by true is h = unanswered plan k job.groups a.groups (and_second (none a.claims) (none a.groups) (and_first (none a.claims && none a.groups) (none a.removals) h)) ∙ sym (nothing_started (claims_failed a) (idle job.groups is))
     by false is h = claimed (claims_failed a) (and_second (whole_claims job.temps a.claims) (if claims_failed a then none a.groups else whole_groups job.groups a.groups) (and_first (whole_claims job.temps a.claims && (if claims_failed a then none a.groups else whole_groups job.groups a.groups)) (nat_eq (length a.removals) (length (removed_by_job job a))) h)) is
 
--- the sources, in whatever order their blocks come
-
-blocks : (plan : Plan) (k n : ℕ) (bs : List SourceBlock) → Below n bs → ((j : ℕ) → j < n → nat_eq j k ≡ false → seen plan k (of j bs) ≡ []) → seen plan k (blocks_of bs) ≡ seen plan k (of k bs)
-blocks plan k n [] below others = refl
-blocks plan k n (b ∷ bs) below others = two plan k b.block (events_of (blocks_of bs)) ∙ ap (λ l. started_in plan k b.block ++ l) (blocks plan k n bs below.1 (λ j lt e. behind (nat_eq b.source j) j (others j lt e))) ∙ by (nat_eq b.source k) refl
-  where
-    behind : (t : Bool) (j : ℕ) → seen plan k (if t then b.block ∷ of j bs else of j bs) ≡ [] → seen plan k (of j bs) ≡ []
-    behind true j e = (parts (started_in plan k b.block) (seen plan k (of j bs)) (sym (two plan k b.block (events_of (of j bs))) ∙ e)).1
-    behind false j e = e
-
-    alone : nat_eq b.source k ≡ false → started_in plan k b.block ≡ []
-    alone e = (parts (started_in plan k b.block) (seen plan k (of b.source bs)) (sym (two plan k b.block (events_of (of b.source bs))) ∙ sym (ap (λ (t : Bool). seen plan k (if t then b.block ∷ of b.source bs else of b.source bs)) (nat_eq_equiv.refl b.source)) ∙ others b.source below.0 e)).0
-
-    by : (t : Bool) → nat_eq b.source k ≡ t → started_in plan k b.block ++ seen plan k (of k bs) ≡ seen plan k (if t then b.block ∷ of k bs else of k bs)
-    by true e = sym (two plan k b.block (events_of (of k bs)))
-    by false e = ap (λ l. l ++ seen plan k (of k bs)) (alone e)
-
-none_above : (n : ℕ) (bs : List SourceBlock) → Below n bs → of n bs ≡ []
-none_above n [] below = refl
-none_above n (b ∷ bs) below = ap (λ (t : Bool). if t then b.block ∷ of n bs else of n bs) (apart b.source n below.0) ∙ none_above n bs below.1
-
-other_sources : (plan : Plan) (bs : List SourceBlock) (k from : ℕ) (jobs : List Job) (xs : List JobAnswers) → whole_jobs jobs xs ≡ true → TellStories bs from jobs xs → (j : ℕ) → j < length jobs → nat_eq (from + j) k ≡ false → seen plan k (of (from + j) bs) ≡ []
-other_sources plan bs k from [] xs e t j lt other = absurd (omega arith)
-other_sources plan bs k from (job ∷ jobs) [] e t j lt other = absurd cc
-other_sources plan bs k from (job ∷ jobs) (a ∷ xs) e t zero lt other =
-    let at : from + 0 ≡ from = omega arith in
-    ap (λ i. seen plan k (of i bs)) at ∙ ap (λ l. seen plan k l) t.0 ∙ other_story plan k from job a (ap (λ i. nat_eq i k) (sym at) ∙ other)
-other_sources plan bs k from (job ∷ jobs) (a ∷ xs) e t (suc j) lt other =
-    let at : from + suc j ≡ from + 1 + j = omega arith in
-    ap (λ i. seen plan k (of i bs)) at ∙ other_sources plan bs k (from + 1) jobs xs (and_second (whole_job job a) (whole_jobs jobs xs) e) t.1 j (omega arith) (ap (λ i. nat_eq i k) (sym at) ∙ other)
-
 -- the jobs of a plan, by their numbers
 
 link_there : (jobs : List Job) (link : Option Job) (xs : List JobAnswers) → none (link_run link xs).groups ≡ false → get_or (jobs ++ option_to_list link) (length jobs) no_job ≡ link_run link xs
@@ -233,48 +193,39 @@ link_there jobs (Some job) xs busy = by (all_succeeded xs) busy
 
 -- a whole run
 
+-- of job k: what its own blocks start, and what comes after the sources
+in_halves : (plan : Plan) (N : ℕ) (o : Answers) (E : List RunEvent) → (w : Windowed plan N o E) → (k : ℕ) → started_in plan k E ≡ seen plan k (of k w.blocks) ++ seen plan k (after_sources plan o)
+in_halves plan N o E w k = halves (λ e. started_by plan k e.step e.answer) plan N o E w k (λ j job a other. other_story plan k j job a other)
+
+pub starts_the_same : StartsTheSame
+starts_the_same plan N o E w k = in_halves plan 1 o (serial plan o w.blocks) (rearranges plan N o E w) k ∙ ap (λ l. seen plan k (of k l) ++ seen plan k (after_sources plan o)) (rearranged plan N o E w) ∙ ap (λ l. seen plan k l ++ seen plan k (after_sources plan o)) (by (nat_lt k (length plan.jobs)) refl) ∙ sym (in_halves plan N o E w k)
+  where
+    by : (t : Bool) → nat_lt k (length plan.jobs) ≡ t → of k (by_source (length plan.jobs) w.blocks) ≡ of k w.blocks
+    by true e = of_by_source (length plan.jobs) k w.blocks (is_less k (length plan.jobs) e)
+    by false e = let le : length plan.jobs ≤ k = is_not_less k (length plan.jobs) e in of_beyond (length plan.jobs) k w.blocks le ∙ sym (none_above plan N o E w k le)
+
 pub started_first : (plan : Plan) (N : ℕ) (o : Answers) (E : List RunEvent) → Windowed plan N o E → EachStartsFirst plan E 0 (plan.jobs ++ link_run plan.link o.jobs ∷ []) (o.jobs ++ o.link ∷ [])
-started_first plan N o E w = each 0 plan.jobs o.jobs jobs_whole w.stories (let is : 0 + length plan.jobs ≡ length plan.jobs = omega arith in is)
+started_first plan N o E w = each 0 plan.jobs o.jobs (jobs_whole plan N o E w) w.stories (let is : 0 + length plan.jobs ≡ length plan.jobs = omega arith in is)
     (λ h lt. ap (λ i. job_at plan i) (let is : 0 + h ≡ h = omega arith in is) ∙ get_or-append plan.jobs (option_to_list plan.link) no_job h lt)
   where
-    both_whole : (whole_jobs plan.jobs o.jobs && whole_job (link_run plan.link o.jobs) o.link) ≡ true
-    both_whole = and_first (whole_jobs plan.jobs o.jobs && whole_job (link_run plan.link o.jobs) o.link) (nat_eq (length o.last) (length (removed_at_end plan o))) w.all_answers
-
-    jobs_whole : whole_jobs plan.jobs o.jobs ≡ true
-    jobs_whole = and_first (whole_jobs plan.jobs o.jobs) (whole_job (link_run plan.link o.jobs) o.link) both_whole
-
-    link_whole : whole_job (link_run plan.link o.jobs) o.link ≡ true
-    link_whole = and_second (whole_jobs plan.jobs o.jobs) (whole_job (link_run plan.link o.jobs) o.link) both_whole
-
-    below : Below (length plan.jobs) w.blocks
-    below = all_below (length plan.jobs) N nowhere [] w.blocks w.may_come
-
-    others : (k j : ℕ) → j < length plan.jobs → nat_eq j k ≡ false → seen plan k (of j w.blocks) ≡ []
-    others k j lt other =
-        let at : j ≡ 0 + j = omega arith in
-        ap (λ i. seen plan k (of i w.blocks)) at ∙ other_sources plan w.blocks k 0 plan.jobs o.jobs jobs_whole w.stories j lt (ap (λ i. nat_eq i k) (sym at) ∙ other)
-
-    halves : (k : ℕ) → started_in plan k E ≡ seen plan k (of k w.blocks) ++ seen plan k (after_sources plan o)
-    halves k = ap (λ l. started_in plan k l) w.events ∙ two plan k (events_of (blocks_of w.blocks)) (events_of (after_sources plan o)) ∙ ap (λ l. l ++ seen plan k (after_sources plan o)) (blocks plan k (length plan.jobs) w.blocks below (others k))
-
     ends : (k : ℕ) → seen plan k (after_sources plan o) ≡ seen plan k (story (length plan.jobs) (link_run plan.link o.jobs) o.link)
-    ends k = two_lists plan k (story (length plan.jobs) (link_run plan.link o.jobs) o.link) (end_removals (removed_at_end plan o) o.last) ∙ only_first refl (no_last plan k (removed_at_end plan o) o.last)
+    ends k = both plan k (story (length plan.jobs) (link_run plan.link o.jobs) o.link) (end_removals (removed_at_end plan o) o.last) ∙ only_first refl (no_last plan k (removed_at_end plan o) o.last)
 
     first : (k : ℕ) (job : Job) (a : JobAnswers) → whole_job job a ≡ true → started_in plan k E ≡ started job a → StartsFirst plan E k job a
-    first k job a whole is = record { rest = (first_ones job a whole).0; first = (first_ones job a whole).1 ∙ ap (λ l. l ++ (first_ones job a whole).0) (sym is); every = λ well. is ∙ every_one job a whole well }
+    first k job a whole is = record { by_rule = is; rest = (first_ones job a whole).0; first = (first_ones job a whole).1 ∙ ap (λ l. l ++ (first_ones job a whole).0) (sym is); every = λ well. is ∙ every_one job a whole well }
 
     source : (k : ℕ) (job : Job) (a : JobAnswers) → k < length plan.jobs → job_at plan k ≡ job → of k w.blocks ≡ story k job a → whole_job job a ≡ true → started_in plan k E ≡ started job a
-    source k job a lt here told whole = halves k ∙ only_first (ap (λ l. seen plan k l) told ∙ own_story plan k job a (λ busy. here) whole) (ends k ∙ other_story plan k (length plan.jobs) (link_run plan.link o.jobs) o.link (apart_above (length plan.jobs) k lt))
+    source k job a lt here told whole = in_halves plan N o E w k ∙ only_first (ap (λ l. seen plan k l) told ∙ own_story plan k job a (λ busy. here) whole) (ends k ∙ other_story plan k (length plan.jobs) (link_run plan.link o.jobs) o.link (apart_above (length plan.jobs) k lt))
 
     link : started_in plan (length plan.jobs) E ≡ started (link_run plan.link o.jobs) o.link
-    link = halves (length plan.jobs) ∙ ap (λ l. seen plan (length plan.jobs) l ++ seen plan (length plan.jobs) (after_sources plan o)) (none_above (length plan.jobs) w.blocks below)
-        ∙ ends (length plan.jobs) ∙ own_story plan (length plan.jobs) (link_run plan.link o.jobs) o.link (link_there plan.jobs plan.link o.jobs) link_whole
+    link = in_halves plan N o E w (length plan.jobs) ∙ ap (λ l. seen plan (length plan.jobs) l ++ seen plan (length plan.jobs) (after_sources plan o)) (none_above plan N o E w (length plan.jobs) (omega arith))
+        ∙ ends (length plan.jobs) ∙ own_story plan (length plan.jobs) (link_run plan.link o.jobs) o.link (link_there plan.jobs plan.link o.jobs) (link_whole plan N o E w)
 
     each : (from : ℕ) (jobs : List Job) (xs : List JobAnswers) → whole_jobs jobs xs ≡ true → TellStories w.blocks from jobs xs → from + length jobs ≡ length plan.jobs → ((h : ℕ) → h < length jobs → job_at plan (from + h) ≡ get_or jobs h no_job)
         → EachStartsFirst plan E from (jobs ++ link_run plan.link o.jobs ∷ []) (xs ++ o.link ∷ [])
     each from [] [] whole t count at =
         let is : from ≡ length plan.jobs = (let e = count in omega (arith, e)) in
-        (subst (λ k. StartsFirst plan E k (link_run plan.link o.jobs) o.link) (sym is) (first (length plan.jobs) (link_run plan.link o.jobs) o.link link_whole link), tt)
+        (subst (λ k. StartsFirst plan E k (link_run plan.link o.jobs) o.link) (sym is) (first (length plan.jobs) (link_run plan.link o.jobs) o.link (link_whole plan N o E w) link), tt)
     each from [] (x ∷ xs) whole t count at = absurd cc
     each from (job ∷ jobs) [] whole t count at = absurd cc
     each from (job ∷ jobs) (a ∷ xs) whole t count at = (

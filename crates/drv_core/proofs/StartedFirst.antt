@@ -1,6 +1,6 @@
 use Rattle.drv_core.proofs.Order.{and_first, and_second}
 use Rattle.drv_core.specs.Outcomes.{GroupAnswers, JobAnswers, Told, claims_failed, group_failed, is_started, job_failed, none, removed_by_job, started, started_in_group, started_in_groups, wait_failed, whole_claims, whole_group, whole_groups, whole_job}
-use Rattle.drv_run.specs.Started.{commands_of}
+use Rattle.drv_core.specs.Started.{commands_of}
 use Rattle.drv_words.specs.declared.answers.StartAnswer.TheVariants.{NotStarted, Started}
 use Rattle.drv_words.specs.declared.answers.StartAnswer.{StartAnswer}
 use Rattle.drv_words.specs.declared.answers.WaitAnswer.{WaitAnswer}

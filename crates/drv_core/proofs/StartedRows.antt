@@ -8,7 +8,7 @@ use Rattle.drv_words.specs.declared.plan.Plan.{Plan}
 use Rattle.drv_words.specs.declared.steps.Place.TheVariants as place
 use Rattle.drv_words.specs.declared.steps.RunEvent.{RunEvent}
 use Rattle.drv_words.specs.declared.steps.Step.TheVariants as step
-use Rattle.drv_run.specs.Started.{commands_of, started_in}
+use Rattle.drv_core.specs.Started.{commands_of, started_in}
 use Rattle.std.proofs.Common.{◌≡◌, List, [], ◌∷◌, None, Some, false, refl, true, ℕ}
 
 -- Which commands events say were started: worked cases, which hold of the definition by computation.

@@ -1,4 +1,5 @@
-use Rattle.drv_core.specs.Outcomes.{JobAnswers, job_failed}
+use Rattle.drv_core.specs.Outcomes.{Answers, JobAnswers, job_failed, started}
+use Rattle.drv_core.specs.Windowed.{Windowed, serial}
 use Rattle.drv_words.specs.Places.{group_at, job_at}
 use Rattle.drv_words.specs.declared.answers.Answer.{Answer}
 use Rattle.drv_words.specs.declared.answers.Answer.TheVariants as answer
@@ -35,8 +36,10 @@ started_by plan k s a = []
 abbrev pub started_in : Plan → ℕ → List RunEvent → List Command
 started_in plan k events = flat_map (λ e. started_by plan k e.step e.answer) events
 
--- The commands of job k that were started are the first ones of its planned list, and all of it where the job did not fail.
+-- The commands of job k that were started are those of the rule for its answers: the planned list up to its first failure. So they are
+-- the first ones of that list, and all of it where the job did not fail.
 pub record StartsFirst (plan : Plan) (events : List RunEvent) (k : ℕ) (job : Job) (a : JobAnswers) : Type 0 where
+  pub by_rule : started_in plan k events ≡ started job a
   pub rest : List Command
   pub first : commands_of job ≡ started_in plan k events ++ rest
   pub every : job_failed a ≡ false → started_in plan k events ≡ commands_of job
@@ -46,3 +49,7 @@ abbrev pub EachStartsFirst : Plan → List RunEvent → ℕ → List Job → Lis
 EachStartsFirst plan events k [] xs = ⊤
 EachStartsFirst plan events k (job ∷ jobs) [] = ⊤
 EachStartsFirst plan events k (job ∷ jobs) (a ∷ xs) = StartsFirst plan events k job a × EachStartsFirst plan events (k + 1) jobs xs
+
+-- Job by job every run starts the commands that the run of window 1 with the same answers starts, in the same order.
+abbrev pub StartsTheSame : Type 0
+StartsTheSame = (plan : Plan) (N : ℕ) (o : Answers) (E : List RunEvent) (w : Windowed plan N o E) (k : ℕ) → started_in plan k (serial plan o w.blocks) ≡ started_in plan k E

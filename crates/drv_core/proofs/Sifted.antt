@@ -1,0 +1,88 @@
+use Rattle.drv_core.proofs.Order.{and_first, and_second, apart}
+use Rattle.drv_core.proofs.Status.{Below, all_below}
+use Rattle.drv_core.specs.Outcomes.{Answers, JobAnswers, link_run, removed_at_end, whole_job, whole_jobs}
+use Rattle.drv_core.specs.Story.{Block, after_sources, story}
+use Rattle.drv_core.specs.Windowed.{SourceBlock, TellStories, Windowed, blocks_of, events_of, nowhere, of}
+use Rattle.drv_words.specs.declared.plan.Job.{Job}
+use Rattle.drv_words.specs.declared.plan.Plan.{Plan}
+use Rattle.drv_words.specs.declared.steps.RunEvent.{RunEvent}
+use Rattle.std.proofs.Common.{◌≡◌, ◌<◌, ◌≤◌, ◌+◌, ◌∙◌, ◌&&◌, Bool, false, true, List, [], ◌∷◌, ◌++◌, ap, append-nil, arith, if◌then◌else◌, length, nat_eq, refl, suc, sym, zero, ℕ}
+use Rattle.std.proofs.lemmas.Cmp.{nat_eq_equiv}
+use Rattle.std.proofs.lemmas.Grind.{flat_map-append}
+use Rattle.std.specs.List.{flat_map}
+
+-- What the events of a whole run say of one job, where the stories of other jobs say nothing of it: what its own blocks say, and
+-- what comes after the sources.
+
+abbrev pub sift : {X : Type 0} → (RunEvent → List X) → List Block → List X
+sift f blocks = flat_map f (events_of blocks)
+
+pub nothing : {A : Type 0} {xs ys : List A} → xs ≡ [] → ys ≡ [] → xs ++ ys ≡ []
+nothing {ys = ys} e f = ap (λ l. l ++ ys) e ∙ f
+
+pub only_first : {A : Type 0} {xs ys zs : List A} → xs ≡ zs → ys ≡ [] → xs ++ ys ≡ zs
+only_first {ys = ys} {zs = zs} e f = ap (λ l. l ++ ys) e ∙ ap (λ l. zs ++ l) f ∙ append-nil zs
+
+parts : {A : Type 0} (xs ys : List A) → xs ++ ys ≡ [] → (xs ≡ []) × (ys ≡ [])
+parts [] ys e = (refl, e)
+parts (x ∷ xs) ys e = absurd cc
+
+pub two_lists : {X : Type 0} (f : RunEvent → List X) (xs ys : List Block) → sift f (xs ++ ys) ≡ sift f xs ++ sift f ys
+two_lists f xs ys = ap (λ E. flat_map f E) (flat_map-append (λ b. b) xs ys) ∙ flat_map-append f (events_of xs) (events_of ys)
+
+-- the sources, in whatever order their blocks come
+
+blocks : {X : Type 0} (f : RunEvent → List X) (k n : ℕ) (bs : List SourceBlock) → Below n bs → ((j : ℕ) → j < n → nat_eq j k ≡ false → sift f (of j bs) ≡ []) → sift f (blocks_of bs) ≡ sift f (of k bs)
+blocks f k n [] under others = refl
+blocks f k n (b ∷ bs) under others = flat_map-append f b.block (events_of (blocks_of bs)) ∙ ap (λ l. flat_map f b.block ++ l) (blocks f k n bs under.1 (λ j lt e. behind (nat_eq b.source j) j (others j lt e))) ∙ by (nat_eq b.source k) refl
+  where
+    behind : (t : Bool) (j : ℕ) → sift f (if t then b.block ∷ of j bs else of j bs) ≡ [] → sift f (of j bs) ≡ []
+    behind true j e = (parts (flat_map f b.block) (sift f (of j bs)) (sym (flat_map-append f b.block (events_of (of j bs))) ∙ e)).1
+    behind false j e = e
+
+    alone : nat_eq b.source k ≡ false → flat_map f b.block ≡ []
+    alone e = (parts (flat_map f b.block) (sift f (of b.source bs)) (sym (flat_map-append f b.block (events_of (of b.source bs))) ∙ sym (ap (λ (t : Bool). sift f (if t then b.block ∷ of b.source bs else of b.source bs)) (nat_eq_equiv.refl b.source)) ∙ others b.source under.0 e)).0
+
+    by : (t : Bool) → nat_eq b.source k ≡ t → flat_map f b.block ++ sift f (of k bs) ≡ sift f (if t then b.block ∷ of k bs else of k bs)
+    by true e = sym (flat_map-append f b.block (events_of (of k bs)))
+    by false e = ap (λ l. l ++ sift f (of k bs)) (alone e)
+
+other_sources : {X : Type 0} (f : RunEvent → List X) (k : ℕ) → ((j : ℕ) (job : Job) (a : JobAnswers) → nat_eq j k ≡ false → sift f (story j job a) ≡ []) → (bs : List SourceBlock) (from : ℕ) (jobs : List Job) (xs : List JobAnswers) → whole_jobs jobs xs ≡ true → TellStories bs from jobs xs
+    → (j : ℕ) → j < length jobs → nat_eq (from + j) k ≡ false → sift f (of (from + j) bs) ≡ []
+other_sources f k quiet bs from [] xs e t j lt other = absurd (omega arith)
+other_sources f k quiet bs from (job ∷ jobs) [] e t j lt other = absurd cc
+other_sources f k quiet bs from (job ∷ jobs) (a ∷ xs) e t zero lt other =
+    let at : from + 0 ≡ from = omega arith in
+    ap (λ i. sift f (of i bs)) at ∙ ap (λ l. sift f l) t.0 ∙ quiet from job a (ap (λ i. nat_eq i k) (sym at) ∙ other)
+other_sources f k quiet bs from (job ∷ jobs) (a ∷ xs) e t (suc j) lt other =
+    let at : from + suc j ≡ from + 1 + j = omega arith in
+    ap (λ i. sift f (of i bs)) at ∙ other_sources f k quiet bs (from + 1) jobs xs (and_second (whole_job job a) (whole_jobs jobs xs) e) t.1 j (omega arith) (ap (λ i. nat_eq i k) (sym at) ∙ other)
+
+-- a whole run
+
+pub jobs_whole : (plan : Plan) (N : ℕ) (o : Answers) (E : List RunEvent) → Windowed plan N o E → whole_jobs plan.jobs o.jobs ≡ true
+jobs_whole plan N o E w = and_first (whole_jobs plan.jobs o.jobs) (whole_job (link_run plan.link o.jobs) o.link) (and_first (whole_jobs plan.jobs o.jobs && whole_job (link_run plan.link o.jobs) o.link) (nat_eq (length o.last) (length (removed_at_end plan o))) w.all_answers)
+
+pub link_whole : (plan : Plan) (N : ℕ) (o : Answers) (E : List RunEvent) → Windowed plan N o E → whole_job (link_run plan.link o.jobs) o.link ≡ true
+link_whole plan N o E w = and_second (whole_jobs plan.jobs o.jobs) (whole_job (link_run plan.link o.jobs) o.link) (and_first (whole_jobs plan.jobs o.jobs && whole_job (link_run plan.link o.jobs) o.link) (nat_eq (length o.last) (length (removed_at_end plan o))) w.all_answers)
+
+below : (plan : Plan) (N : ℕ) (o : Answers) (E : List RunEvent) → (w : Windowed plan N o E) → Below (length plan.jobs) w.blocks
+below plan N o E w = all_below (length plan.jobs) N nowhere [] w.blocks w.may_come
+
+above : (n k : ℕ) (bs : List SourceBlock) → Below n bs → n ≤ k → of k bs ≡ []
+above n k [] under le = refl
+above n k (b ∷ bs) under le = ap (λ (t : Bool). if t then b.block ∷ of k bs else of k bs) (apart b.source k (let lt = under.0 in omega (arith, lt, le))) ∙ above n k bs under.1 le
+
+-- a number that no source has, has no blocks
+pub none_above : (plan : Plan) (N : ℕ) (o : Answers) (E : List RunEvent) → (w : Windowed plan N o E) → (k : ℕ) → length plan.jobs ≤ k → of k w.blocks ≡ []
+none_above plan N o E w k le = above (length plan.jobs) k w.blocks (below plan N o E w) le
+
+pub halves : {X : Type 0} (f : RunEvent → List X) (plan : Plan) (N : ℕ) (o : Answers) (E : List RunEvent) (w : Windowed plan N o E) (k : ℕ) → ((j : ℕ) (job : Job) (a : JobAnswers) → nat_eq j k ≡ false → sift f (story j job a) ≡ [])
+    → flat_map f E ≡ sift f (of k w.blocks) ++ sift f (after_sources plan o)
+halves f plan N o E w k quiet = ap (λ l. flat_map f l) w.events ∙ flat_map-append f (events_of (blocks_of w.blocks)) (events_of (after_sources plan o))
+    ∙ ap (λ l. l ++ sift f (after_sources plan o)) (blocks f k (length plan.jobs) w.blocks (below plan N o E w) others)
+  where
+    others : (j : ℕ) → j < length plan.jobs → nat_eq j k ≡ false → sift f (of j w.blocks) ≡ []
+    others j lt other =
+        let at : j ≡ 0 + j = omega arith in
+        ap (λ i. sift f (of i w.blocks)) at ∙ other_sources f k quiet w.blocks 0 plan.jobs o.jobs (jobs_whole plan N o E w) w.stories j lt (ap (λ i. nat_eq i k) (sym at) ∙ other)

@@ -1,0 +1,9 @@
+use Rattle.drv_core.proofs.Failed.{fails_where}
+use Rattle.drv_core.proofs.LinkRuns.{links_where}
+use Rattle.drv_core.proofs.law.linking_law.Goals as goal
+
+pub returns-clause-link : goal.returns-clause-link
+returns-clause-link c = links_where
+
+pub returns-clause-sources : goal.returns-clause-sources
+returns-clause-sources c = fails_where

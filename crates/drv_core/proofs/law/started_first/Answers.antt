@@ -1,0 +1,5 @@
+use Rattle.drv_core.proofs.StartedEvents.{started_first}
+use Rattle.drv_core.proofs.law.started_first.Goals as goal
+
+pub returns : goal.returns
+returns c = started_first

@@ -1,0 +1,5 @@
+use Rattle.drv_core.proofs.WaitedFor.{waits_for_each}
+use Rattle.drv_core.proofs.law.waiting_law.Goals as goal
+
+pub returns : goal.returns
+returns c = waits_for_each

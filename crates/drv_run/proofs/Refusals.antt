@@ -1,0 +1,29 @@
+use Rattle.drv_run.proofs.Tellings.{announces_only, none_ran, none_ran_asking}
+use Rattle.drv_run.specs.Calls.{Does, Drove, OnlyAsked}
+use Rattle.drv_run.specs.declared.ending.Ending.TheVariants.{Refused}
+use Rattle.drv_run.specs.declared.ending.Refusal.{Refusal}
+use Rattle.drv_run.specs.declared.work.Work.TheVariants.{Show}
+use Rattle.drv_system.proofs.Asking.{are_questions}
+use Rattle.drv_system.proofs.Running.{run_of-append}
+use Rattle.drv_system.specs.Facts.{no_facts}
+use Rattle.drv_system.specs.Running.{run_of}
+use Rattle.drv_system.specs.declared.event.Event.{Event}
+use Rattle.drv_words.specs.declared.plan.Plan.{Plan}
+use Rattle.std.proofs.Common.{◌≡◌, ◌∙◌, ◌++◌, [], List, ap, true, ℕ}
+use Rattle.std.proofs.lemmas.List.{append-nil}
+
+-- A call that is refused, and one that shows its plan, makes no step of a run.
+
+pub does_nothing : (journal later : List Event) (args : List (List ℕ)) (seed : ℕ) (refusal : Refusal) → Drove journal later args seed (Refused refusal) → OnlyAsked journal later
+does_nothing journal later args seed refusal d = record {
+  asked = d.asked;
+  questions = d.questions;
+  journal_grows = grows;
+  no_step = ap run_of grows ∙ run_of-append journal d.asked ∙ ap (λ run. run_of journal ++ run) (none_ran_asking d.asked (are_questions no_facts d.asked d.questions)) ∙ append-nil (run_of journal);
+}
+  where
+    grows : later ≡ journal ++ d.asked
+    grows = d.journal_grows ∙ ap (λ said. journal ++ d.asked ++ said) d.ends.1 ∙ append-nil (journal ++ d.asked)
+
+pub makes_no_step : (plan : Plan) (status : ℕ) (said : List Event) → Does (Show plan) status said → run_of said ≡ []
+makes_no_step plan status said shows = none_ran said (announces_only true plan said (status, shows))
