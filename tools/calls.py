@@ -23,12 +23,14 @@ PUBLIC_MODULE = re.compile(r"^pub mod (\w+)", re.M)
 UNCALLED = "Drop", "Model"
 # Why no body of a call can be refused.
 NO_CLAUSE = "no clause says what the runtime gives"
+NO_PROMISE = "what it answers is a hint for the order of a run, of which nothing is promised"
 REASONS = {
     "drv_words::Listing::new": "a list of items of any type has no other value without one",
     "drv_system::FactTable::read_answer": "it lends an answer of the table, and has no other at hand",
     "drv_system::arguments": NO_CLAUSE,
     "drv_system::called_as": NO_CLAUSE,
     "drv_system::call": NO_CLAUSE,
+    "drv_system::HostSystem::has_ended": NO_PROMISE,
     "drv_search::SearchFault::from": "its other refusal carries a word, which it can't make",
 }
 

@@ -1,5 +1,5 @@
 use Rattle.drv_args.specs.Expansion.{Expands, Itself, Refuses, Responds, Text, behind, by_answer, by_name, by_text, file_named, inside, itself, later, replacement_of, no_word, too_large, too_many}
-use Rattle.drv_args.specs.Replacing.{IsPut, IsReplaced}
+use Rattle.drv_args.specs.Code.Replacing.{IsPut, IsReplaced}
 use Rattle.drv_args.specs.declared.fault.ArgsFault.TheVariants.{Memory, ResponseTooLarge, TooManyFiles}
 use Rattle.drv_args.specs.declared.fault.ArgsFault.{ArgsFault}
 use Rattle.drv_args.specs.declared.line.Expanded.{Expanded}

@@ -1,5 +1,5 @@
 use Rattle.drv_args.proofs.FrontLaws.{alone_first, with_next_first}
-use Rattle.drv_args.specs.Building.{begun, line_with, noted, with_items, with_pieces}
+use Rattle.drv_args.specs.Code.Building.{begun, line_with, noted, with_items, with_pieces}
 use Rattle.drv_args.specs.Fronts.{Alone, Item, Wants, and_items, item, items_of, start_of}
 use Rattle.drv_args.specs.Lines.{line_of_items, prefix_of, spec_of, switch_of}
 use Rattle.drv_args.specs.declared.building.LineBuilder.{LineBuilder}

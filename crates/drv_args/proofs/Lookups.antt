@@ -1,5 +1,5 @@
 use Rattle.drv_args.specs.Fronts.{by_row, start_of}
-use Rattle.drv_args.specs.Lookup.{may_begin, may_fit}
+use Rattle.drv_args.specs.Code.Lookup.{may_begin, may_fit}
 use Rattle.drv_args.specs.Options.{OptionRow, first_row, form_fits, option_table, row_fits}
 use Rattle.drv_args.specs.declared.option_table.Form.TheVariants.{Either, Exact, Joined, Separate}
 use Rattle.drv_args.specs.declared.option_table.Form.{Form}

@@ -5,7 +5,7 @@ use Rattle.drv_system.specs.Facts.{Facts}
 use Rattle.drv_system.specs.Known.{Is}
 use Rattle.drv_words.proofs.Splitting.{split_is_only}
 use Rattle.drv_words.specs.Response.{Splits}
-use Rattle.drv_words.specs.Splitter.{start, words_of}
+use Rattle.drv_words.specs.Code.Splitter.{start, words_of}
 use Rattle.std.proofs.Common.{◌≡◌, List, ◌∷◌, ◌++◌, refl, sym, subst, ap, ◌∙◌, ℕ}
 
 -- Words respond to one list of words, or are refused once.

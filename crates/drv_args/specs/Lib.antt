@@ -1,9 +1,6 @@
-pub mod Building
+pub mod Code
 pub mod Expansion
 pub mod Fronts
 pub mod Jobs
-pub mod Judging
 pub mod Lines
-pub mod Lookup
 pub mod Options
-pub mod Replacing

@@ -1,6 +1,6 @@
 //! A line that is built item by item.
 
-ghost use Rattle.drv_args.specs.Building.{begun, noted, with_inputs, with_jobs, with_pieces, with_setting, with_switch};
+ghost use Rattle.drv_args.specs.Code.Building.{begun, noted, with_inputs, with_jobs, with_pieces, with_setting, with_switch};
 ghost use Rattle.drv_args.specs.Fronts.{item};
 ghost use Rattle.drv_args.specs.Lines.{language_of, pieces_of};
 ghost use Rattle.drv_args.specs.declared.line.Input.TheVariants as input;

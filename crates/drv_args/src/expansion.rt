@@ -1,7 +1,7 @@
 //! Response files expanded.
 
 ghost use Rattle.drv_args.specs.Expansion.{Expands, file_named};
-ghost use Rattle.drv_args.specs.Replacing.{IsPut, IsReplaced};
+ghost use Rattle.drv_args.specs.Code.Replacing.{IsPut, IsReplaced};
 ghost use Rattle.drv_system.specs.Asking.{Asks, Extends};
 ghost use Rattle.drv_system.specs.Facts.{Facts};
 ghost use Rattle.std.specs.List.{list_any};

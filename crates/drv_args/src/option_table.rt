@@ -1,7 +1,7 @@
 //! The option table: a row an option. The first row that fits a word decides.
 
 ghost use Rattle.drv_args.specs.Lines.{is_switch_too};
-ghost use Rattle.drv_args.specs.Lookup.{may_fit, shown};
+ghost use Rattle.drv_args.specs.Code.Lookup.{may_fit, shown};
 ghost use Rattle.drv_args.specs.Options.{option_table};
 ghost use Rattle.std.specs.List.{filter};
 ghost use Rattle.std.specs.Prelude.{◌≡◌, map};

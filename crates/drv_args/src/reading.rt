@@ -1,9 +1,9 @@
 //! Words read by the option table.
 
-ghost use Rattle.drv_args.specs.Building.{line_with, start_shown};
+ghost use Rattle.drv_args.specs.Code.Building.{line_with, start_shown};
 ghost use Rattle.drv_args.specs.Fronts.{by_effect, is_bad, items_of, start_of};
 ghost use Rattle.drv_args.specs.Lines.{line_of_items, line_read};
-ghost use Rattle.drv_args.specs.Lookup.{shown};
+ghost use Rattle.drv_args.specs.Code.Lookup.{shown};
 ghost use Rattle.drv_args.specs.Options.{row_fits};
 ghost use Rattle.drv_args.specs.declared.fault.ArgsFault.TheVariants as fault;
 ghost use Rattle.drv_words.specs.Gives.{Gives};

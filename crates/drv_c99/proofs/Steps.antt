@@ -1,4 +1,4 @@
-use Rattle.drv_c99.specs.Building.{Goes, begun, finished, front_with, noted, with_items}
+use Rattle.drv_c99.specs.Code.Building.{Goes, begun, finished, front_with, noted, with_items}
 use Rattle.drv_c99.specs.Front.{Ends, Flag, Item, Joined, Names, Operand, Passed, Start, Unknown, Wants, and_items, at_last, at_word, front_of_items, given, items_of, name_of, start_of}
 use Rattle.drv_c99.specs.declared.building.Front.{Front}
 use Rattle.drv_c99.specs.declared.fault.C99Fault.TheVariants.{Memory}

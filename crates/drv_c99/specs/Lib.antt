@@ -1,2 +1,2 @@
-pub mod Building
+pub mod Code
 pub mod Front

@@ -1,6 +1,6 @@
 //! A front that is built item by item.
 
-ghost use Rattle.drv_c99.specs.Building.{begun, finished, noted, with_items};
+ghost use Rattle.drv_c99.specs.Code.Building.{begun, finished, noted, with_items};
 ghost use Rattle.drv_c99.specs.Front.{Operand, Passed, given, name_of};
 ghost use Rattle.drv_c99.specs.declared.fault.C99Fault.TheVariants as fault;
 ghost use Rattle.drv_words.specs.Gives.{Gives};

@@ -1,6 +1,6 @@
 //! A line of `c99` turned into a line of the driver.
 
-ghost use Rattle.drv_c99.specs.Building.{Goes, finished, front_with};
+ghost use Rattle.drv_c99.specs.Code.Building.{Goes, finished, front_with};
 ghost use Rattle.drv_c99.specs.Front.{front_of, items_of};
 ghost use Rattle.drv_c99.specs.declared.fault.C99Fault.TheVariants as fault;
 ghost use Rattle.drv_words.specs.Gives.{Gives};

@@ -1,4 +1,4 @@
-use Rattle.drv_cc.specs.Building.{Many, all_counted, count_of, counted_only, is_counted}
+use Rattle.drv_cc.specs.Code.Building.{Many, all_counted, count_of, counted_only, is_counted}
 use Rattle.drv_cc.specs.SideFiles.{is_some, only}
 use Rattle.std.proofs.Common.{◌≡◌, List, [], ◌∷◌, ap, refl, ℕ}
 

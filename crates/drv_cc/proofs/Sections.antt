@@ -1,4 +1,4 @@
-use Rattle.drv_cc.specs.Building.{section_shown}
+use Rattle.drv_cc.specs.Code.Building.{section_shown}
 use Rattle.drv_cc.specs.Items.{fits, option_fits}
 use Rattle.drv_cc.specs.Table.{OptionRow, Section, option_of, row_of, section_rows}
 use Rattle.drv_cc.specs.declared.table.Section.{Section as CodeSection}

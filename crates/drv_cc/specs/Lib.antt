@@ -1,4 +1,4 @@
-pub mod Building
+pub mod Code
 pub mod Front
 pub mod Items
 pub mod Kept

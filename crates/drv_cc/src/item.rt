@@ -1,6 +1,6 @@
 //! What a word of the line gives.
 
-ghost use Rattle.drv_cc.specs.Building.{shown};
+ghost use Rattle.drv_cc.specs.Code.Building.{shown};
 ghost use Rattle.drv_cc.specs.Items.{by_row, item, plain, words_of};
 ghost use Rattle.std.specs.Prelude.{◌≡◌, ◌++◌, IfOk, OnOk};
 

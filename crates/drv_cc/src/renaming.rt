@@ -1,6 +1,6 @@
 //! What other long names stand for.
 
-ghost use Rattle.drv_cc.specs.Building.{pair_shown};
+ghost use Rattle.drv_cc.specs.Code.Building.{pair_shown};
 ghost use Rattle.drv_cc.specs.Items.{is_longer, renamed};
 ghost use Rattle.drv_cc.specs.Table.{renames};
 ghost use Rattle.std.specs.Option.{option_map};

@@ -1,6 +1,6 @@
 //! The sections of the option table: options that are alike, in one text.
 
-ghost use Rattle.drv_cc.specs.Building.{section_shown};
+ghost use Rattle.drv_cc.specs.Code.Building.{section_shown};
 ghost use Rattle.drv_cc.specs.Table.{sections};
 ghost use Rattle.std.specs.Prelude.{◌≡◌, map};
 

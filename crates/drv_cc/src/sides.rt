@@ -2,7 +2,7 @@
 
 ghost use Rattle.drv_cc.specs.SideFiles as sides;
 ghost use Rattle.drv_cc.specs.SideFiles.{aux_asked, aux_words, base_words, beginning, dependencies, dependencies_asked, dependency_words, given_or, is_named, link_beginning, named, named_words, only, output, own_beginning, own_folder, program, program_of, real, saves, side_words, stem_of, stops, with_value, worked};
-ghost use Rattle.drv_cc.specs.Building.{kinds_shown};
+ghost use Rattle.drv_cc.specs.Code.Building.{kinds_shown};
 ghost use Rattle.drv_cc.specs.Kept.{last_argument};
 ghost use Rattle.std.specs.Option.{option_map};
 ghost use Rattle.std.specs.Prelude.{◌≡◌, ◌∷◌, ◌++◌, [], IfOk, OnOk, Some, codes};

@@ -1,6 +1,6 @@
 //! The files and the sources of a line.
 
-ghost use Rattle.drv_cc.specs.Building.{count_of, count_shown, counted, counted_only, is_counted, kinds_shown};
+ghost use Rattle.drv_cc.specs.Code.Building.{count_of, count_shown, counted, counted_only, is_counted, kinds_shown};
 ghost use Rattle.drv_cc.specs.Kept.{is_file_part};
 ghost use Rattle.drv_cc.specs.SideFiles.{files, inputs, is_looked_for, is_some, is_source, language_by, only, sources, worked};
 ghost use Rattle.std.specs.Option.{option_map};

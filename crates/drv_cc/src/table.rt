@@ -1,6 +1,6 @@
 //! The option table: a row an option. The first row that fits a word decides.
 
-ghost use Rattle.drv_cc.specs.Building.{section_shown, shown};
+ghost use Rattle.drv_cc.specs.Code.Building.{section_shown, shown};
 ghost use Rattle.drv_cc.specs.Items.{first_row, fits, option_fits, takes_rest};
 ghost use Rattle.drv_cc.specs.Table.{name_behind, option_of, or_itself, row_of, section_rows, texts};
 ghost use Rattle.std.specs.Option.{option_map};

@@ -8,8 +8,8 @@ use Rattle.drv_core.proofs.Progress.{Between, count_same, count_with}
 use Rattle.drv_core.proofs.Standing.{pending}
 use Rattle.drv_core.proofs.Steps.{base_out, bases, turns}
 use Rattle.drv_core.proofs.Sure.{Sure}
-use Rattle.drv_core.specs.Fleet.{Fleet, able, all_fly, flying, may_begin, may_go, selected, stage_in}
-use Rattle.drv_core.specs.Machine.{awaits, inside, left}
+use Rattle.drv_core.specs.Code.Fleet.{Fleet, able, all_fly, flying, may_begin, may_go, selected, stage_in}
+use Rattle.drv_core.specs.Code.Machine.{awaits, inside, left}
 use Rattle.drv_core.specs.Windowed.{MayCome, SourceBlock, count, has, in_flight, may_go_on, of}
 use Rattle.drv_words.specs.declared.plan.Job.{Job}
 use Rattle.drv_words.specs.declared.steps.RunEvent.{RunEvent}

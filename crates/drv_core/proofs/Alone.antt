@@ -4,7 +4,7 @@ use Rattle.drv_core.proofs.Standing.{Path, Sound, begins, path_ends, path_even, 
 use Rattle.drv_core.proofs.Steps.{Closes, Valid, asked, base_out, closing, one_step, open_out, valid_after, valid_begin}
 use Rattle.drv_core.proofs.Tells.{ToldStory, tells}
 use Rattle.drv_core.specs.Filled.{Filled}
-use Rattle.drv_core.specs.Machine.{Ended, Stage, after, asks, base, begin, inside, is_kind, left, open_of}
+use Rattle.drv_core.specs.Code.Machine.{Ended, Stage, after, asks, base, begin, inside, is_kind, left, open_of}
 use Rattle.drv_core.specs.Outcomes.{JobAnswers, whole_job}
 use Rattle.drv_core.specs.Story.{Block, event, story}
 use Rattle.drv_core.specs.Windowed.{events_of}

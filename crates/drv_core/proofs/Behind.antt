@@ -12,7 +12,7 @@ use Rattle.drv_core.proofs.Replay.{Replays}
 use Rattle.drv_core.proofs.Steps.{Ran}
 use Rattle.drv_core.proofs.Whole.{answers}
 use Rattle.drv_core.specs.Choices.{BetweenBlocks}
-use Rattle.drv_core.specs.Machine.{Ended, Stage, base, begin, left, open_of}
+use Rattle.drv_core.specs.Code.Machine.{Ended, Stage, base, begin, left, open_of}
 use Rattle.drv_core.specs.Outcomes.{link_run, no_answers}
 use Rattle.drv_core.specs.Story.{Block, end_removals, story}
 use Rattle.drv_core.specs.Windowed.{events_of, of}

@@ -14,8 +14,8 @@ use Rattle.drv_core.proofs.Status.{all_below}
 use Rattle.drv_core.proofs.Steps.{Running, base_out, bases, open_out, valid_begin}
 use Rattle.drv_core.specs.Choices.{BetweenBlocks, source_may}
 use Rattle.drv_core.specs.Filled.{Filled}
-use Rattle.drv_core.specs.Fleet.{Fleet, stage_in}
-use Rattle.drv_core.specs.Machine.{Stage, base, begin, inside, left, open_of}
+use Rattle.drv_core.specs.Code.Fleet.{Fleet, stage_in}
+use Rattle.drv_core.specs.Code.Machine.{Stage, base, begin, inside, left, open_of}
 use Rattle.drv_core.specs.Outcomes.{none}
 use Rattle.drv_core.specs.Story.{Block}
 use Rattle.drv_core.specs.Windowed.{count, events_of, has, in_flight, may_go_on, of, starts_child, total, waits_child}

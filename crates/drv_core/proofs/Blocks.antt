@@ -1,4 +1,4 @@
-use Rattle.drv_core.specs.Machine.{ClaimReport, Claims, Closing, Ended, RemovalReport, Removals, Stage, StartReport, Starts, WaitReport, Waits, after_claim, after_refusal, after_removal, after_start, after_wait, base, end_group, enter_claims, enter_group, enter_removals, enter_waits, inside, open_of, refused_so_far, starts_so_far, wait_note}
+use Rattle.drv_core.specs.Code.Machine.{ClaimReport, Claims, Closing, Ended, RemovalReport, Removals, Stage, StartReport, Starts, WaitReport, Waits, after_claim, after_refusal, after_removal, after_start, after_wait, base, end_group, enter_claims, enter_group, enter_removals, enter_waits, inside, open_of, refused_so_far, starts_so_far, wait_note}
 use Rattle.drv_core.proofs.Order.{is_not_less}
 use Rattle.drv_core.specs.Outcomes.{Told, is_claimed, is_started, none, wait_failed}
 use Rattle.drv_core.specs.Story.{Block, claim_block, event, removal_block, removal_failed, report, start_event, starts_block, wait_block}

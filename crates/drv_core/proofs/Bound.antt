@@ -2,7 +2,7 @@ use Rattle.drv_core.proofs.Finish.{summed, summed_less}
 use Rattle.drv_core.proofs.Order.{is_less}
 use Rattle.drv_core.proofs.Standing.{put}
 use Rattle.drv_core.proofs.Steps.{Valid, asked}
-use Rattle.drv_core.specs.Machine.{ClaimReport, Claims, Closing, Ended, RemovalReport, Removals, Stage, StartReport, Starts, WaitReport, Waits, after, asks, begin, end_group, enter_claims, enter_group, enter_removals, enter_waits, is_kind, left}
+use Rattle.drv_core.specs.Code.Machine.{ClaimReport, Claims, Closing, Ended, RemovalReport, Removals, Stage, StartReport, Starts, WaitReport, Waits, after, asks, begin, end_group, enter_claims, enter_group, enter_removals, enter_waits, is_kind, left}
 use Rattle.drv_core.specs.Needed.{job_events}
 use Rattle.drv_core.specs.Outcomes.{none}
 use Rattle.drv_words.specs.Places.{group_at, no_job}

@@ -16,11 +16,11 @@ use Rattle.drv_core.proofs.Stands.{Stands, filled_plan, stands}
 use Rattle.drv_core.proofs.Steps.{asked, base_out, open_out}
 use Rattle.drv_core.proofs.Tells.{ToldStory, tells}
 use Rattle.drv_core.specs.Choices.{BetweenBlocks, ChoicesAre, GoesOn, HasEnded, IsChoice, IsNextOf, IsOfFirst, SoFar, is_step_of, source_may}
-use Rattle.drv_core.specs.Course.{Done, Link, Phase, Removals, Report, Sources}
-use Rattle.drv_core.specs.Fleet.{Fleet, able, selected, stage_in}
-use Rattle.drv_core.specs.Machine.{ClaimReport, Claims, Closing, Ended, RemovalReport, Removals as OwnRemovals, Stage, StartReport, Starts, WaitReport, Waits, asks, begin, inside, left}
-use Rattle.drv_core.specs.Position.{Position, asked_in, next_of}
-use Rattle.drv_core.specs.Reached.{Kept, between_blocks, choices_at, choosing}
+use Rattle.drv_core.specs.Code.Course.{Done, Link, Phase, Removals, Report, Sources}
+use Rattle.drv_core.specs.Code.Fleet.{Fleet, able, selected, stage_in}
+use Rattle.drv_core.specs.Code.Machine.{ClaimReport, Claims, Closing, Ended, RemovalReport, Removals as OwnRemovals, Stage, StartReport, Starts, WaitReport, Waits, asks, begin, inside, left}
+use Rattle.drv_core.specs.Code.Position.{Position, asked_in, next_of}
+use Rattle.drv_core.specs.Code.Reached.{Kept, between_blocks, choices_at, choosing}
 use Rattle.drv_core.specs.Story.{Block}
 use Rattle.drv_core.specs.Windowed.{MayCome, blocks_of, count, events_of, has, in_flight, may_go_on, of}
 use Rattle.drv_words.specs.Places.{no_job}

@@ -2,7 +2,7 @@ use Rattle.drv_core.proofs.Order.{apart_above}
 use Rattle.drv_core.proofs.Standing.{SourcesRun}
 use Rattle.drv_core.proofs.Status.{all_below, code_blocks, code_stories, top_same}
 use Rattle.drv_core.proofs.Steps.{Ran}
-use Rattle.drv_core.specs.Course.{link_by, run_code}
+use Rattle.drv_core.specs.Code.Course.{link_by, run_code}
 use Rattle.drv_core.specs.Outcomes.{GroupAnswers, JobAnswers, all_succeeded, code_of, greatest, group_code, group_failed, is_claimed, is_started, job_code, job_failed, link_run, wait_failed}
 use Rattle.drv_core.specs.Windowed.{SourceBlock, blocks_of, events_of, nowhere, of}
 use Rattle.drv_words.specs.Places.{no_job}

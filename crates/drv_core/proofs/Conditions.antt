@@ -1,6 +1,6 @@
 use Rattle.drv_core.proofs.Order.{less}
 use Rattle.drv_core.proofs.Steps.{Valid, asked}
-use Rattle.drv_core.specs.Machine.{ClaimReport, Claims, Closing, Ended, RemovalReport, Removals, Stage, StartReport, Starts, WaitReport, Waits, after, asks, end_group, enter_claims, enter_group, enter_removals, enter_waits, inside, is_kind, left}
+use Rattle.drv_core.specs.Code.Machine.{ClaimReport, Claims, Closing, Ended, RemovalReport, Removals, Stage, StartReport, Starts, WaitReport, Waits, after, asks, end_group, enter_claims, enter_group, enter_removals, enter_waits, inside, is_kind, left}
 use Rattle.drv_core.specs.Outcomes.{none}
 use Rattle.drv_words.specs.Places.{group_at, job_at}
 use Rattle.drv_words.specs.Stepping.{can_make, is_open, pending_from, pending_with, pipe_pending, same_bool}

@@ -1,11 +1,11 @@
 use Rattle.drv_core.proofs.Fair.{total_append}
 use Rattle.drv_core.proofs.Order.{same}
 use Rattle.drv_core.proofs.Steps.{asked}
-use Rattle.drv_core.specs.Counting.{noting, noting_claim}
-use Rattle.drv_core.specs.Due.{claims_in, claims_of, tally}
-use Rattle.drv_core.specs.Machine.{ClaimReport, Claims, Closing, Ended, RemovalReport, Removals, Stage, StartReport, Starts, WaitReport, Waits, asks, is_kind}
+use Rattle.drv_core.specs.Code.Counting.{noting, noting_claim}
+use Rattle.drv_core.specs.Code.Due.{claims_in, claims_of, tally}
+use Rattle.drv_core.specs.Code.Machine.{ClaimReport, Claims, Closing, Ended, RemovalReport, Removals, Stage, StartReport, Starts, WaitReport, Waits, asks, is_kind}
 use Rattle.drv_core.specs.Outcomes.{is_claimed}
-use Rattle.drv_core.specs.Remains.{Remains}
+use Rattle.drv_core.specs.Code.Remains.{Remains}
 use Rattle.drv_core.specs.Story.{event}
 use Rattle.drv_words.specs.declared.answers.Answer.{Answer}
 use Rattle.drv_words.specs.declared.answers.Answer.TheVariants as answer

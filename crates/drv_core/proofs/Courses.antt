@@ -10,15 +10,15 @@ use Rattle.drv_core.proofs.Sure.{Over, Sure, sure_fewer, sure_makes, sure_starts
 use Rattle.drv_core.proofs.Able.{sure_selected}
 use Rattle.drv_core.proofs.Whole.{file_at, no_file}
 use Rattle.drv_core.specs.Filled.{Filled}
-use Rattle.drv_core.specs.Course.{Course, Done, Link, Phase, Removals, Report, Sources, asked_at, asked_by, behind_link, behind_sources, fresh_course, link_by, link_of, linking, removed, removes, removing, reports, run_code, sourced, stepped, stepped_at}
-use Rattle.drv_core.specs.Fleet.{able, asked_of, fresh_fleet, selected, stage_in, taken}
-use Rattle.drv_core.specs.Leftovers.{all_files}
-use Rattle.drv_core.specs.Machine.{ClaimReport, Claims, Closing, Ended, RemovalReport, Removals as OwnRemovals, Stage, StartReport, Starts, WaitReport, Waits, after, asks, begin, inside, is_kind, left}
+use Rattle.drv_core.specs.Code.Course.{Course, Done, Link, Phase, Removals, Report, Sources, asked_at, asked_by, behind_link, behind_sources, fresh_course, link_by, link_of, linking, removed, removes, removing, reports, run_code, sourced, stepped, stepped_at}
+use Rattle.drv_core.specs.Code.Fleet.{able, asked_of, fresh_fleet, selected, stage_in, taken}
+use Rattle.drv_core.specs.Code.Leftovers.{all_files}
+use Rattle.drv_core.specs.Code.Machine.{ClaimReport, Claims, Closing, Ended, RemovalReport, Removals as OwnRemovals, Stage, StartReport, Starts, WaitReport, Waits, after, asks, begin, inside, is_kind, left}
 use Rattle.drv_core.specs.Needed.{needed}
 use Rattle.drv_core.specs.Outcomes.{status_from, status_of}
 use Rattle.drv_core.specs.Story.{event}
 use Rattle.drv_core.specs.Windowed.{IsBeginning, IsWhole, count}
-use Rattle.drv_core.specs.Reached.{between_blocks}
+use Rattle.drv_core.specs.Code.Reached.{between_blocks}
 use Rattle.drv_words.specs.Places.{no_job}
 use Rattle.drv_words.specs.Stepping.{can_make}
 use Rattle.drv_words.specs.declared.answers.Answer.{Answer}

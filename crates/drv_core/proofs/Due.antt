@@ -1,6 +1,6 @@
 use Rattle.drv_core.proofs.Order.{and_first, and_second}
-use Rattle.drv_core.specs.Due.{claimed_count, due_of_job, job_claims}
-use Rattle.drv_core.specs.Leftovers.{temp_files}
+use Rattle.drv_core.specs.Code.Due.{claimed_count, due_of_job, job_claims}
+use Rattle.drv_core.specs.Code.Leftovers.{temp_files}
 use Rattle.drv_core.specs.Outcomes.{GroupAnswers, JobAnswers, Told, claimed_temps, claims_failed, files_of_job, is_claimed, marked_files, none, removed_by_job, whole_claims, whole_groups, whole_job}
 use Rattle.drv_words.specs.declared.answers.ClaimAnswer.{ClaimAnswer}
 use Rattle.drv_words.specs.declared.plan.Command.{Command}

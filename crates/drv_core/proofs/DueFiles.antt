@@ -1,6 +1,6 @@
 use Rattle.drv_core.proofs.Order.{less}
-use Rattle.drv_core.specs.Due.{due_files, due_from, due_of_job}
-use Rattle.drv_core.specs.Leftovers.{files_from, job_files, temp_files}
+use Rattle.drv_core.specs.Code.Due.{due_files, due_from, due_of_job}
+use Rattle.drv_core.specs.Code.Leftovers.{files_from, job_files, temp_files}
 use Rattle.drv_core.specs.Outcomes.{File, each_once, marked_files, none}
 use Rattle.drv_words.specs.Places.{is_file, job_at, no_job}
 use Rattle.drv_words.specs.declared.plan.Job.{Job}

@@ -8,10 +8,10 @@ use Rattle.drv_core.proofs.Rooms.{first_cost, run_fits}
 use Rattle.drv_core.proofs.Sure.{Over, Sure}
 use Rattle.drv_core.proofs.Whole.{Removing, answers, file_at, no_file, removing_failed, removing_more, removing_told}
 use Rattle.drv_core.proofs.Codes.{link_is}
-use Rattle.drv_core.specs.Course.{Course, Done, Link, Phase, Removals, Report, Sources, behind_link, link_by, removing, run_code}
-use Rattle.drv_core.specs.Due.{due_files, due_of_job, tally}
-use Rattle.drv_core.specs.Leftovers.{all_files, files_from}
-use Rattle.drv_core.specs.Machine.{Ended, begin, left}
+use Rattle.drv_core.specs.Code.Course.{Course, Done, Link, Phase, Removals, Report, Sources, behind_link, link_by, removing, run_code}
+use Rattle.drv_core.specs.Code.Due.{due_files, due_of_job, tally}
+use Rattle.drv_core.specs.Code.Leftovers.{all_files, files_from}
+use Rattle.drv_core.specs.Code.Machine.{Ended, begin, left}
 use Rattle.drv_core.specs.Needed.{needed}
 use Rattle.drv_core.specs.Outcomes.{File, none, removed_at_end}
 use Rattle.drv_core.specs.Story.{event, removal_failed, report}

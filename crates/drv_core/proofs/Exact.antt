@@ -7,8 +7,8 @@ use Rattle.drv_core.proofs.Status.{all_below}
 use Rattle.drv_core.proofs.Steps.{Running, bases, events_append}
 use Rattle.drv_core.proofs.Tally.{told_at}
 use Rattle.drv_core.specs.Filled.{Filled}
-use Rattle.drv_core.specs.Fleet.{Fleet}
-use Rattle.drv_core.specs.Machine.{Ended, Stage, begin, left, open_of}
+use Rattle.drv_core.specs.Code.Fleet.{Fleet}
+use Rattle.drv_core.specs.Code.Machine.{Ended, Stage, begin, left, open_of}
 use Rattle.drv_core.specs.Outcomes.{Answers, File, JobAnswers, Told, claimed_temps, each_once, files_of_job, files_of_jobs, is_claimed, link_run, made_call, marked_files, no_answers, removed_at_end, whole_job, whole_jobs}
 use Rattle.drv_core.specs.Story.{end_removals, story}
 use Rattle.drv_core.specs.Windowed.{IsWhole, SourceBlock, Windowed, blocks_of, events_of, nowhere, of}

@@ -11,9 +11,9 @@ use Rattle.drv_core.proofs.Steps.{Ran, events_append}
 use Rattle.drv_core.proofs.Tally.{due_at_end, story_tally, told_at}
 use Rattle.drv_core.proofs.Whole.{answers, file_at}
 use Rattle.drv_core.specs.Filled.{Filled}
-use Rattle.drv_core.specs.Course.{link_by, run_code}
-use Rattle.drv_core.specs.Due.{claimed_count, due_files, tally}
-use Rattle.drv_core.specs.Machine.{Ended, Stage, base, begin, open_of, remove_of}
+use Rattle.drv_core.specs.Code.Course.{link_by, run_code}
+use Rattle.drv_core.specs.Code.Due.{claimed_count, due_files, tally}
+use Rattle.drv_core.specs.Code.Machine.{Ended, Stage, base, begin, open_of, remove_of}
 use Rattle.drv_core.specs.Outcomes.{Answers, File, JobAnswers, Told, link_run, no_answers, removed_at_end, whole_job, whole_jobs}
 use Rattle.drv_core.specs.Story.{Block, end_removals, event, removal_failed, report, story}
 use Rattle.drv_core.specs.Windowed.{SourceBlock, Windowed, blocks_of, events_of, nowhere, of}

@@ -3,8 +3,8 @@ use Rattle.drv_core.proofs.Ends.{Holds, HoldsAt, most_of}
 use Rattle.drv_core.proofs.Exact.{going_not_whole}
 use Rattle.drv_core.proofs.ExactEnd.{end_not_whole, link_not_whole}
 use Rattle.drv_core.proofs.Rooms.{first_cost}
-use Rattle.drv_core.specs.Course.{Course, Done, Link, Phase, Removals, Report, Sources, asked_at, asked_by}
-use Rattle.drv_core.specs.Machine.{left}
+use Rattle.drv_core.specs.Code.Course.{Course, Done, Link, Phase, Removals, Report, Sources, asked_at, asked_by}
+use Rattle.drv_core.specs.Code.Machine.{left}
 use Rattle.drv_core.specs.Windowed.{IsWhole}
 use Rattle.drv_words.specs.declared.plan.Plan.{Plan}
 use Rattle.std.proofs.Common.{◌≡◌, ◌+◌, Bool, false, true, None, ap, refl, ℕ}

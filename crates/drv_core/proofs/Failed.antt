@@ -5,7 +5,7 @@ use Rattle.drv_core.proofs.Sifted.{halves, jobs_whole, nothing, only_first, sift
 use Rattle.drv_core.proofs.Status.{code_story}
 use Rattle.drv_core.proofs.Tally.{told_at}
 use Rattle.drv_core.specs.Choices.{job_of}
-use Rattle.drv_core.specs.Course.{run_code}
+use Rattle.drv_core.specs.Code.Course.{run_code}
 use Rattle.drv_core.specs.Links.{FailsWhere, codes_in, is_work_of, work_code}
 use Rattle.drv_core.specs.Outcomes.{Answers, File, GroupAnswers, JobAnswers, Told, answer_code, greatest, job_code, link_run, no_answers, removed_at_end}
 use Rattle.drv_core.specs.Story.{Block, after_sources, claim_block, claim_blocks, end_removals, event, group_blocks, own_removals, removal_block, removal_failed, report, starts_block, story, wait_block, wait_blocks}

@@ -7,7 +7,7 @@ use Rattle.drv_core.proofs.Steps.{Valid, valid_begin}
 use Rattle.drv_core.proofs.Tells.{Walk}
 use Rattle.drv_core.specs.Choices.{SoFar}
 use Rattle.drv_core.specs.Filled.{Filled}
-use Rattle.drv_core.specs.Machine.{ClaimReport, Claims, Closing, Ended, RemovalReport, Removals, Stage, StartReport, Starts, WaitReport, Waits, begin, left}
+use Rattle.drv_core.specs.Code.Machine.{ClaimReport, Claims, Closing, Ended, RemovalReport, Removals, Stage, StartReport, Starts, WaitReport, Waits, begin, left}
 use Rattle.drv_core.specs.Outcomes.{none}
 use Rattle.drv_core.specs.Story.{Block, starts_block}
 use Rattle.drv_core.specs.Windowed.{events_of}

@@ -1,4 +1,4 @@
-use Rattle.drv_core.specs.Leftovers.{all_files, files_from, job_files}
+use Rattle.drv_core.specs.Code.Leftovers.{all_files, files_from, job_files}
 use Rattle.drv_words.specs.declared.plan.Job.{Job}
 use Rattle.drv_words.specs.declared.plan.Plan.{Plan}
 use Rattle.std.proofs.Common.{◌≡◌, ◌+◌, ◌∙◌, List, [], ◌∷◌, ◌++◌, None, Some, ap, append-nil, append_assoc, arith, length, sym, ℕ}

@@ -2,7 +2,7 @@ use Rattle.drv_core.proofs.Blocks.{OneBlock}
 use Rattle.drv_core.proofs.Order.{is_less, is_not_less, same}
 use Rattle.drv_core.proofs.Progress.{Between, First, Goes, count_fewer, find, progress}
 use Rattle.drv_core.proofs.Standing.{Path, SourcesRun, Sound, Standing, begins, flies, has_append, path_even, pending, put, sources_run, stands_more, waits_next}
-use Rattle.drv_core.specs.Machine.{ClaimReport, Claims, Closing, Ended, RemovalReport, Removals, Stage, StartReport, Starts, WaitReport, Waits, begin, end_group, enter_group, enter_removals, enter_waits, left}
+use Rattle.drv_core.specs.Code.Machine.{ClaimReport, Claims, Closing, Ended, RemovalReport, Removals, Stage, StartReport, Starts, WaitReport, Waits, begin, end_group, enter_group, enter_removals, enter_waits, left}
 use Rattle.drv_core.specs.Outcomes.{none}
 use Rattle.drv_core.specs.Story.{Block, claim_block, removal_block, starts_block, wait_block}
 use Rattle.drv_core.specs.Windowed.{MayCome, SourceBlock, count, has, in_flight, is_wait, of}

@@ -1,11 +1,11 @@
 use Rattle.drv_core.proofs.Selecting.{able_at}
-use Rattle.drv_core.specs.Course.{Done, Link, Phase, Removals, Report, Sources}
-use Rattle.drv_core.specs.Fleet.{Fleet, able, chosen, closed, fresh_fleet, opened, settled, stage_in, taken, turned, worked}
-use Rattle.drv_core.specs.Machine.{inside, left, remove_of}
-use Rattle.drv_core.specs.Position.{Position, flown, kept, link_after, linked, moved, moved_in, removal_made, removing_first, removing_next, shown, sources_left}
-use Rattle.drv_core.specs.Reached.{between_blocks}
-use Rattle.drv_core.specs.Remains.{passing, seeking}
-use Rattle.drv_core.specs.Starting.{first_position, fresh_position}
+use Rattle.drv_core.specs.Code.Course.{Done, Link, Phase, Removals, Report, Sources}
+use Rattle.drv_core.specs.Code.Fleet.{Fleet, able, chosen, closed, fresh_fleet, opened, settled, stage_in, taken, turned, worked}
+use Rattle.drv_core.specs.Code.Machine.{inside, left, remove_of}
+use Rattle.drv_core.specs.Code.Position.{Position, flown, kept, link_after, linked, moved, moved_in, removal_made, removing_first, removing_next, shown, sources_left}
+use Rattle.drv_core.specs.Code.Reached.{between_blocks}
+use Rattle.drv_core.specs.Code.Remains.{passing, seeking}
+use Rattle.drv_core.specs.Code.Starting.{first_position, fresh_position}
 use Rattle.drv_core.specs.Story.{removal_failed}
 use Rattle.drv_words.specs.Places.{no_job}
 use Rattle.drv_words.specs.declared.answers.Answer.{Answer}

@@ -1,7 +1,7 @@
-use Rattle.drv_core.specs.Fleet.{Fleet, idle, settled, stage_in, turned}
-use Rattle.drv_core.specs.FleetView.{worker_of}
-use Rattle.drv_core.specs.Machine.{after, inside}
-use Rattle.drv_core.specs.Source.{stage_at}
+use Rattle.drv_core.specs.Code.Fleet.{Fleet, idle, settled, stage_in, turned}
+use Rattle.drv_core.specs.Code.FleetView.{worker_of}
+use Rattle.drv_core.specs.Code.Machine.{after, inside}
+use Rattle.drv_core.specs.Code.Source.{stage_at}
 use Rattle.drv_core.specs.declared.source.Source.{Source}
 use Rattle.drv_words.specs.declared.answers.Answer.{Answer}
 use Rattle.drv_words.specs.declared.plan.Job.{Job}

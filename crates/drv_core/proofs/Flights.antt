@@ -7,8 +7,8 @@ use Rattle.drv_core.proofs.Progress.{First, count_same, find}
 use Rattle.drv_core.proofs.Standing.{begins, has_append, pending, put, sound_out, stands_first}
 use Rattle.drv_core.proofs.Steps.{MayGo, Running, Valid, asked, base_out, bases, goes_inside, goes_out, inside_left, left_base, one_step, open_out, put_here, turns, valid_after, valid_begin}
 use Rattle.drv_core.specs.Filled.{Filled}
-use Rattle.drv_core.specs.Fleet.{Fleet, Worker, busy, chosen, closed, ended, first_busy, fresh, fresh_fleet, idle, opened, picked, stage_in, taken, turned, worked, worker_in}
-use Rattle.drv_core.specs.Machine.{Ended, Stage, after, asks, base, begin, inside, is_kind, left, open_of}
+use Rattle.drv_core.specs.Code.Fleet.{Fleet, Worker, busy, chosen, closed, ended, first_busy, fresh, fresh_fleet, idle, opened, picked, stage_in, taken, turned, worked, worker_in}
+use Rattle.drv_core.specs.Code.Machine.{Ended, Stage, after, asks, base, begin, inside, is_kind, left, open_of}
 use Rattle.drv_core.specs.Outcomes.{none}
 use Rattle.drv_core.specs.Story.{Block, event}
 use Rattle.drv_core.specs.Windowed.{MayCome, SourceBlock, count, has, in_flight, of}

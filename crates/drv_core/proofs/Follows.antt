@@ -1,7 +1,7 @@
 use Rattle.drv_core.proofs.Blocks.{any_refused, ids_of, starts_fit}
 use Rattle.drv_core.proofs.Order.{and_first, and_second, is_less, is_not_less, same}
 use Rattle.drv_core.proofs.Tells.{Walk, any_child, failed_removals, fit_started, no_group, or_assoc, waits_are, waits_for}
-use Rattle.drv_core.specs.Machine.{Claims, Ended, Removals, Starts, Waits, begin, end_group, enter_claims, enter_group, enter_removals, enter_waits}
+use Rattle.drv_core.specs.Code.Machine.{Claims, Ended, Removals, Starts, Waits, begin, end_group, enter_claims, enter_group, enter_removals, enter_waits}
 use Rattle.drv_core.specs.Outcomes.{GroupAnswers, JobAnswers, Told, claims_failed, group_failed, is_claimed, is_started, none, removed_by_job, wait_failed, whole_claims, whole_group, whole_groups, whole_job}
 use Rattle.drv_core.specs.Story.{Block, claim_blocks, group_blocks, own_removals, story, wait_blocks}
 use Rattle.drv_words.specs.Places.{group_at}

@@ -3,8 +3,8 @@ use Rattle.drv_core.proofs.Listed.{First as Heads, first_listed, listed, listed_
 use Rattle.drv_core.proofs.Order.{count_some, is_less, is_not_less, less, not_less, same}
 use Rattle.drv_core.proofs.Progress.{Between, Goes, begun_goes, count_same, count_with, progress}
 use Rattle.drv_core.proofs.Standing.{pending}
-use Rattle.drv_core.specs.Fleet.{Fleet, all_fly, closed, ended, first_busy, flying, may_go, opened, picked, stage_in, worker_in}
-use Rattle.drv_core.specs.Machine.{ClaimReport, Claims, Closing, Ended, RemovalReport, Removals, Stage, StartReport, Starts, WaitReport, Waits, awaits, begin, enter_claims, enter_group, left}
+use Rattle.drv_core.specs.Code.Fleet.{Fleet, all_fly, closed, ended, first_busy, flying, may_go, opened, picked, stage_in, worker_in}
+use Rattle.drv_core.specs.Code.Machine.{ClaimReport, Claims, Closing, Ended, RemovalReport, Removals, Stage, StartReport, Starts, WaitReport, Waits, awaits, begin, enter_claims, enter_group, left}
 use Rattle.drv_core.specs.Outcomes.{greatest, none}
 use Rattle.drv_core.specs.Windowed.{MayCome, SourceBlock, count, has, in_flight, of}
 use Rattle.drv_words.specs.Places.{no_job}

@@ -2,7 +2,7 @@ use Rattle.drv_core.proofs.Blocks.{OneBlock}
 use Rattle.drv_core.proofs.Standing.{Path}
 use Rattle.drv_core.proofs.Status.{Below}
 use Rattle.drv_core.specs.Choices.{job_of}
-use Rattle.drv_core.specs.Machine.{ClaimReport, Claims, Closing, Ended, RemovalReport, Removals, Stage, StartReport, Starts, WaitReport, Waits, open_of, refused_so_far, starts_so_far}
+use Rattle.drv_core.specs.Code.Machine.{ClaimReport, Claims, Closing, Ended, RemovalReport, Removals, Stage, StartReport, Starts, WaitReport, Waits, open_of, refused_so_far, starts_so_far}
 use Rattle.drv_core.specs.Outcomes.{File, GroupAnswers, JobAnswers, Told, is_claimed}
 use Rattle.drv_core.specs.Story.{Block, claim_block, claim_blocks, end_removals, event, group_blocks, own_removals, removal_block, removal_failed, report, starts_block, story, wait_block, wait_blocks, wait_report}
 use Rattle.drv_core.specs.Windowed.{SourceBlock, blocks_of, events_of, of}

@@ -4,12 +4,12 @@ use Rattle.drv_core.proofs.PathNumbers.{lefts_are, none_flagged, number_in, numb
 use Rattle.drv_core.proofs.Order.{less, not_less}
 use Rattle.drv_core.proofs.Removed.{job_due, job_not_due, left_file, numbered, once_is}
 use Rattle.drv_core.proofs.Tally.{due_append}
-use Rattle.drv_core.specs.Course.{link_of}
-use Rattle.drv_core.specs.Due.{due_files, due_from, due_of_job, tally}
-use Rattle.drv_core.specs.Leftovers.{all_files, files_from, job_files, place_in}
-use Rattle.drv_core.specs.Numbering.{lefts}
+use Rattle.drv_core.specs.Code.Course.{link_of}
+use Rattle.drv_core.specs.Code.Due.{due_files, due_from, due_of_job, tally}
+use Rattle.drv_core.specs.Code.Leftovers.{all_files, files_from, job_files, place_in}
+use Rattle.drv_core.specs.Code.Numbering.{lefts}
 use Rattle.drv_core.specs.Outcomes.{File, each_once}
-use Rattle.drv_core.specs.Remains.{Left, Remains, to_remove}
+use Rattle.drv_core.specs.Code.Remains.{Left, Remains, to_remove}
 use Rattle.drv_words.specs.Places.{no_job}
 use Rattle.drv_words.specs.declared.plan.Job.{Job}
 use Rattle.drv_words.specs.declared.plan.Plan.{Plan}

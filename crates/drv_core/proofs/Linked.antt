@@ -12,10 +12,10 @@ use Rattle.drv_core.proofs.Sure.{Over, Sure, cost_some, opens_begin, sized_begin
 use Rattle.drv_core.proofs.Tally.{due_at_end, sources_none, sources_tally, story_tally}
 use Rattle.drv_core.proofs.Whole.{Removing, answers, begun_link, begun_removals, begun_sources, done_removals, removals_begin, removing_first}
 use Rattle.drv_core.specs.Filled.{Filled}
-use Rattle.drv_core.specs.Course.{link_by, run_code}
-use Rattle.drv_core.specs.Due.{claimed_count, claims_in, due_files, tally}
-use Rattle.drv_core.specs.Fleet.{Fleet}
-use Rattle.drv_core.specs.Machine.{Ended, Stage, after, asks, begin, is_kind, left}
+use Rattle.drv_core.specs.Code.Course.{link_by, run_code}
+use Rattle.drv_core.specs.Code.Due.{claimed_count, claims_in, due_files, tally}
+use Rattle.drv_core.specs.Code.Fleet.{Fleet}
+use Rattle.drv_core.specs.Code.Machine.{Ended, Stage, after, asks, begin, is_kind, left}
 use Rattle.drv_core.specs.Outcomes.{link_run, no_answers, removed_at_end}
 use Rattle.drv_core.specs.Story.{event}
 use Rattle.drv_core.specs.Windowed.{IsBeginning, IsWhole}

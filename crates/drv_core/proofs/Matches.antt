@@ -5,17 +5,17 @@ use Rattle.drv_core.proofs.Order.{apart, is_less, is_not_less}
 use Rattle.drv_core.proofs.Removed.{Found, found}
 use Rattle.drv_core.proofs.Status.{code_append}
 use Rattle.drv_core.proofs.Steps.{asked}
-use Rattle.drv_core.specs.Counting.{noting, noting_claim, place_at}
-use Rattle.drv_core.specs.Course.{Course, Done, Link, Phase, Removals, Report, Sources, asked_at, asked_by, behind_link, behind_sources, fresh_course, link_by, link_of, linking, removes, removing, reports, run_code, sourced, stepped, stepped_at}
-use Rattle.drv_core.specs.Due.{due_files, tally}
-use Rattle.drv_core.specs.Fleet.{Worker, asked_of, fresh, fresh_fleet, stage_in, taken}
-use Rattle.drv_core.specs.Leftovers.{all_files, place_in}
-use Rattle.drv_core.specs.Machine.{Ended, Stage, after, asks, begin, is_kind, left, remove_of}
-use Rattle.drv_core.specs.Numbering.{lefts}
+use Rattle.drv_core.specs.Code.Counting.{noting, noting_claim, place_at}
+use Rattle.drv_core.specs.Code.Course.{Course, Done, Link, Phase, Removals, Report, Sources, asked_at, asked_by, behind_link, behind_sources, fresh_course, link_by, link_of, linking, removes, removing, reports, run_code, sourced, stepped, stepped_at}
+use Rattle.drv_core.specs.Code.Due.{due_files, tally}
+use Rattle.drv_core.specs.Code.Fleet.{Worker, asked_of, fresh, fresh_fleet, stage_in, taken}
+use Rattle.drv_core.specs.Code.Leftovers.{all_files, place_in}
+use Rattle.drv_core.specs.Code.Machine.{Ended, Stage, after, asks, begin, is_kind, left, remove_of}
+use Rattle.drv_core.specs.Code.Numbering.{lefts}
 use Rattle.drv_core.specs.Outcomes.{File, answer_code, none}
-use Rattle.drv_core.specs.Position.{Position, asked_in, flown, kept, link_after, link_asks, linked, moved, moved_in, next_of, removal_of, removing_first, removing_next, report_of, shown, sources_left}
-use Rattle.drv_core.specs.Remains.{Left, Remains, is_due, no_left, seeking, sought, to_remove}
-use Rattle.drv_core.specs.Starting.{first_position, fresh_position}
+use Rattle.drv_core.specs.Code.Position.{Position, asked_in, flown, kept, link_after, link_asks, linked, moved, moved_in, next_of, removal_of, removing_first, removing_next, report_of, shown, sources_left}
+use Rattle.drv_core.specs.Code.Remains.{Left, Remains, is_due, no_left, seeking, sought, to_remove}
+use Rattle.drv_core.specs.Code.Starting.{first_position, fresh_position}
 use Rattle.drv_core.specs.Story.{event, removal_failed}
 use Rattle.drv_words.specs.Places.{no_job}
 use Rattle.drv_words.specs.declared.answers.Answer.{Answer}

@@ -1,5 +1,5 @@
-use Rattle.drv_core.specs.Course.{Phase}
-use Rattle.drv_core.specs.Position.{Position, kept, moved, moved_in}
+use Rattle.drv_core.specs.Code.Course.{Phase}
+use Rattle.drv_core.specs.Code.Position.{Position, kept, moved, moved_in}
 use Rattle.drv_words.specs.declared.answers.Answer.{Answer}
 use Rattle.drv_words.specs.declared.plan.Plan.{Plan}
 use Rattle.drv_words.specs.declared.steps.Step.{Step}

@@ -1,9 +1,9 @@
 use Rattle.drv_core.proofs.Order.{same}
-use Rattle.drv_core.specs.Counting.{fresh_remains}
-use Rattle.drv_core.specs.LeftoverView.{left_of, lefts_of}
-use Rattle.drv_core.specs.Numbering.{Noted, Noting, first_with, lefts}
+use Rattle.drv_core.specs.Code.Counting.{fresh_remains}
+use Rattle.drv_core.specs.Code.LeftoverView.{left_of, lefts_of}
+use Rattle.drv_core.specs.Code.Numbering.{Noted, Noting, first_with, lefts}
 use Rattle.drv_core.specs.Outcomes.{File}
-use Rattle.drv_core.specs.Remains.{Left, Remains}
+use Rattle.drv_core.specs.Code.Remains.{Left, Remains}
 use Rattle.drv_core.specs.declared.leftovers.Leftover.{Leftover}
 use Rattle.drv_words.specs.declared.steps.Place.{Place}
 use Rattle.std.proofs.Common.{◌≡◌, ◌<◌, ◌≤◌, ◌+◌, ◌∙◌, Bool, false, true, List, [], ◌∷◌, ◌++◌, None, Option, Some, ap, append-nil, append_assoc, arith, cond, drop, get_or, if◌then◌else◌, length, nat_eq, refl, replicate, subst, suc, sym, unwrap_or, zero, ℕ}

@@ -1,7 +1,7 @@
 use Rattle.drv_core.proofs.Conditions.{OpenAt, Sized}
 use Rattle.drv_core.proofs.Order.{is_less, is_not_less}
 use Rattle.drv_core.proofs.Steps.{Valid, asked}
-use Rattle.drv_core.specs.Machine.{ClaimReport, Claims, Closing, Ended, RemovalReport, Removals, Stage, StartReport, Starts, WaitReport, Waits, after, asks, end_group, enter_claims, enter_group, enter_removals, enter_waits, is_kind, left, wait_note}
+use Rattle.drv_core.specs.Code.Machine.{ClaimReport, Claims, Closing, Ended, RemovalReport, Removals, Stage, StartReport, Starts, WaitReport, Waits, after, asks, end_group, enter_claims, enter_group, enter_removals, enter_waits, is_kind, left, wait_note}
 use Rattle.drv_core.specs.Outcomes.{none}
 use Rattle.drv_core.specs.Story.{event, removal_failed}
 use Rattle.drv_words.specs.Places.{group_at}

@@ -1,6 +1,6 @@
 use Rattle.drv_core.proofs.Order.{same}
 use Rattle.drv_core.proofs.Removed.{Each, Flagged, Numbered, numbered}
-use Rattle.drv_core.specs.Numbering.{first_with, lefts}
+use Rattle.drv_core.specs.Code.Numbering.{first_with, lefts}
 use Rattle.drv_core.specs.Outcomes.{File}
 use Rattle.std.proofs.Common.{◌≡◌, ◌<◌, ◌≤◌, ◌+◌, ◌∙◌, Bool, false, true, List, [], ◌∷◌, ◌++◌, Some, ap, append_assoc, arith, if◌then◌else◌, length, map, nat_eq, refl, subst, suc, sym, ℕ}
 use Rattle.std.proofs.lemmas.Cmp.{nat_eq_equiv, nat_list_eq_equiv}

@@ -1,8 +1,8 @@
 use Rattle.drv_core.proofs.Order.{is_less, is_not_less, same}
-use Rattle.drv_core.specs.Due.{due_of_job}
-use Rattle.drv_core.specs.Leftovers.{job_files, place_in, temp_files}
+use Rattle.drv_core.specs.Code.Due.{due_of_job}
+use Rattle.drv_core.specs.Code.Leftovers.{job_files, place_in, temp_files}
 use Rattle.drv_core.specs.Outcomes.{File, each_once, marked_files, none}
-use Rattle.drv_core.specs.Remains.{Left, Remains, is_due, is_left, no_left, sought, to_remove}
+use Rattle.drv_core.specs.Code.Remains.{Left, Remains, is_due, is_left, no_left, sought, to_remove}
 use Rattle.drv_words.specs.declared.plan.Job.{Job}
 use Rattle.drv_words.specs.declared.plan.Temp.{Temp}
 use Rattle.drv_words.specs.declared.steps.Place.TheVariants as place

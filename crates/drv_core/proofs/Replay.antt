@@ -1,7 +1,7 @@
 use Rattle.drv_core.proofs.Blocks.{OneBlock, any_refused, ids_of, starts_fit}
 use Rattle.drv_core.proofs.Order.{less, not_less}
 use Rattle.drv_core.proofs.Steps.{asked}
-use Rattle.drv_core.specs.Machine.{ClaimReport, Claims, Closing, Ended, RemovalReport, Removals, Stage, StartReport, Starts, WaitReport, Waits, after, asks, enter_claims, enter_removals, enter_waits}
+use Rattle.drv_core.specs.Code.Machine.{ClaimReport, Claims, Closing, Ended, RemovalReport, Removals, Stage, StartReport, Starts, WaitReport, Waits, after, asks, enter_claims, enter_removals, enter_waits}
 use Rattle.drv_core.specs.Outcomes.{is_claimed, wait_failed}
 use Rattle.drv_core.specs.Story.{Block, claim_block, event, removal_block, report, starts_block, wait_block}
 use Rattle.drv_words.specs.Places.{group_at}

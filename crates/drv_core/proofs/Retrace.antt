@@ -6,7 +6,7 @@ use Rattle.drv_core.proofs.Standing.{Path, Sound, begins, path_even}
 use Rattle.drv_core.proofs.Steps.{Valid, valid_begin, valid_claims, valid_removals, valid_waits}
 use Rattle.drv_core.proofs.Tells.{Walk}
 use Rattle.drv_core.specs.Filled.{Filled}
-use Rattle.drv_core.specs.Machine.{ClaimReport, Claims, Closing, Ended, RemovalReport, Removals, Stage, StartReport, Starts, WaitReport, Waits, after, base, begin, enter_claims, enter_waits, open_of, refused_so_far, starts_so_far}
+use Rattle.drv_core.specs.Code.Machine.{ClaimReport, Claims, Closing, Ended, RemovalReport, Removals, Stage, StartReport, Starts, WaitReport, Waits, after, base, begin, enter_claims, enter_waits, open_of, refused_so_far, starts_so_far}
 use Rattle.drv_core.specs.Outcomes.{JobAnswers, is_claimed, wait_failed, whole_job}
 use Rattle.drv_core.specs.Story.{Block, report, start_event, story}
 use Rattle.drv_core.specs.Windowed.{events_of}

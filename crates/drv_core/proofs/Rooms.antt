@@ -1,7 +1,7 @@
 use Rattle.drv_core.proofs.Bound.{cost, cost_begin, to_come}
 use Rattle.drv_core.proofs.Finish.{summed}
-use Rattle.drv_core.specs.Leftovers.{all_files, files_from, job_files, temp_files}
-use Rattle.drv_core.specs.Machine.{begin}
+use Rattle.drv_core.specs.Code.Leftovers.{all_files, files_from, job_files, temp_files}
+use Rattle.drv_core.specs.Code.Machine.{begin}
 use Rattle.drv_core.specs.Needed.{job_events, needed}
 use Rattle.drv_core.specs.Outcomes.{File, marked_files, none}
 use Rattle.drv_words.specs.Places.{no_job}

@@ -3,17 +3,17 @@ use Rattle.drv_core.proofs.First.{WorksFirst, fresh_first, moved_first}
 use Rattle.drv_core.proofs.Stands.{begins, bound, few, fewer, fits_kind, makes, ready, room_left, status_for, unfinished, whole}
 use Rattle.drv_core.proofs.Window.{answer_stands, choice_stands, choosing_events, fresh_events, fresh_stands, moved_events}
 use Rattle.drv_core.specs.Choices.{BetweenBlocks, ChoicesAre, IsChoice, IsNextOf, IsOfFirst}
-use Rattle.drv_core.specs.Course.{link_of}
+use Rattle.drv_core.specs.Code.Course.{link_of}
 use Rattle.drv_core.specs.Filled.{AllFilled, Filled}
-use Rattle.drv_core.specs.Machine.{is_kind}
+use Rattle.drv_core.specs.Code.Machine.{is_kind}
 use Rattle.drv_core.specs.Needed.{needed}
 use Rattle.drv_core.specs.Outcomes.{Answers, status_from, status_of}
-use Rattle.drv_core.specs.Position.{Position, Ready, moved, next_of}
-use Rattle.drv_core.specs.PositionView.{position_of}
-use Rattle.drv_core.specs.Reached.{Kept, choices_at, choosing}
+use Rattle.drv_core.specs.Code.Position.{Position, Ready, moved, next_of}
+use Rattle.drv_core.specs.Code.PositionView.{position_of}
+use Rattle.drv_core.specs.Code.Reached.{Kept, choices_at, choosing}
 use Rattle.drv_core.specs.Run.{IfDone, IfMake, Run, action_of, step_in}
-use Rattle.drv_core.specs.RunView.{Stands, run_at, run_of}
-use Rattle.drv_core.specs.Starting.{fresh_position}
+use Rattle.drv_core.specs.Code.RunView.{Stands, run_at, run_of}
+use Rattle.drv_core.specs.Code.Starting.{fresh_position}
 use Rattle.drv_core.specs.Story.{event}
 use Rattle.drv_core.specs.Windowed.{IsBeginning, IsWhole, Windowed}
 use Rattle.drv_core.specs.declared.action.Action.{Action}

@@ -1,4 +1,4 @@
-use Rattle.drv_core.specs.Fleet.{Fleet, able, all_fly, may_begin, may_go}
+use Rattle.drv_core.specs.Code.Fleet.{Fleet, able, all_fly, may_begin, may_go}
 use Rattle.drv_words.specs.declared.plan.Job.{Job}
 use Rattle.std.proofs.Common.{◌≡◌, ◌<◌, ◌+◌, ◌-◌, ◌∙◌, Bool, false, true, List, [], ◌∷◌, ◌++◌, ap, append-nil, arith, drop, get_or, if◌then◌else◌, length, refl, suc, sym, zero, ℕ}
 use Rattle.std.proofs.lemmas.List.{drop_more}

@@ -2,7 +2,7 @@ use Rattle.drv_core.proofs.Blocks.{OneBlock, any_refused, ids_of, starts_fit}
 use Rattle.drv_core.proofs.Fair.{claim_starts, claim_waits, closed, removal_starts, removal_waits, starts_wait, total_append, wait_starts, wait_waits}
 use Rattle.drv_core.proofs.Order.{is_less, is_not_less, less, not_less, of_append, same}
 use Rattle.drv_core.proofs.Tells.{ToldStory, Walk, tells}
-use Rattle.drv_core.specs.Machine.{ClaimReport, Claims, Closing, Ended, RemovalReport, Removals, Stage, StartReport, Starts, WaitReport, Waits, begin, end_group, enter_claims, enter_group, enter_removals, enter_waits, inside, left}
+use Rattle.drv_core.specs.Code.Machine.{ClaimReport, Claims, Closing, Ended, RemovalReport, Removals, Stage, StartReport, Starts, WaitReport, Waits, begin, end_group, enter_claims, enter_group, enter_removals, enter_waits, inside, left}
 use Rattle.drv_core.specs.Outcomes.{JobAnswers, is_claimed, none, wait_failed, whole_jobs}
 use Rattle.drv_core.specs.Story.{Block, claim_block, starts_block}
 use Rattle.drv_core.specs.Windowed.{AllMayCome, MayCome, SourceBlock, TellStories, events_of, has, in_flight, is_wait, nowhere, of, starts_child, total, waits_child}

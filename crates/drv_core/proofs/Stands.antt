@@ -8,16 +8,16 @@ use Rattle.drv_core.proofs.Order.{is_less, is_not_less}
 use Rattle.drv_core.proofs.Progress.{count_same}
 use Rattle.drv_core.proofs.Steps.{Valid, bases, left_base}
 use Rattle.drv_core.proofs.Sure.{Sure}
-use Rattle.drv_core.specs.Course.{Course, Done, Link, Phase, Removals, Report, Sources, asked_by, fresh_course, link_of, run_code, stepped}
+use Rattle.drv_core.specs.Code.Course.{Course, Done, Link, Phase, Removals, Report, Sources, asked_by, fresh_course, link_of, run_code, stepped}
 use Rattle.drv_core.specs.Filled.{AllFilled, Filled}
-use Rattle.drv_core.specs.Fleet.{Fleet, able, selected, stage_in, worker_in}
-use Rattle.drv_core.specs.Machine.{ClaimReport, Claims, Closing, Ended, RemovalReport, Removals as OwnRemovals, Stage, StartReport, Starts, WaitReport, Waits, is_kind, left}
+use Rattle.drv_core.specs.Code.Fleet.{Fleet, able, selected, stage_in, worker_in}
+use Rattle.drv_core.specs.Code.Machine.{ClaimReport, Claims, Closing, Ended, RemovalReport, Removals as OwnRemovals, Stage, StartReport, Starts, WaitReport, Waits, is_kind, left}
 use Rattle.drv_core.specs.Needed.{needed}
 use Rattle.drv_core.specs.Outcomes.{Answers, greatest, status_from, status_of}
-use Rattle.drv_core.specs.Position.{FleetReady, Position, Ready, ReadyIn, moved, next_of}
-use Rattle.drv_core.specs.Reached.{Kept, Reached, at_first, behind_answer, behind_choice, between_blocks, choices_at, choosing}
-use Rattle.drv_core.specs.Source.{HasRoom}
-use Rattle.drv_core.specs.Starting.{fresh_position}
+use Rattle.drv_core.specs.Code.Position.{FleetReady, Position, Ready, ReadyIn, moved, next_of}
+use Rattle.drv_core.specs.Code.Reached.{Kept, Reached, at_first, behind_answer, behind_choice, between_blocks, choices_at, choosing}
+use Rattle.drv_core.specs.Code.Source.{HasRoom}
+use Rattle.drv_core.specs.Code.Starting.{fresh_position}
 use Rattle.drv_core.specs.Windowed.{IsBeginning, IsWhole, Windowed, count, has}
 use Rattle.drv_words.specs.Places.{group_at, no_job}
 use Rattle.drv_words.specs.Stepping.{can_make, fits}

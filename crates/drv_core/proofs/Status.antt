@@ -1,5 +1,5 @@
 use Rattle.drv_core.proofs.Order.{and_first, and_second, is_less, same}
-use Rattle.drv_core.specs.Course.{run_code}
+use Rattle.drv_core.specs.Code.Course.{run_code}
 use Rattle.drv_core.specs.Outcomes.{Answers, File, GroupAnswers, JobAnswers, Told, answer_code, claims_failed, code_of, greatest, group_code, group_failed, is_claimed, is_started, job_code, link_run, none, removed_at_end, removed_by_job, status_from, status_of, whole_claims, whole_group, whole_groups, whole_job, whole_jobs}
 use Rattle.drv_core.specs.Story.{Block, after_sources, claim_block, claim_blocks, end_removals, event, group_blocks, own_removals, removal_block, removal_failed, report, starts_block, story, wait_block, wait_blocks}
 use Rattle.drv_core.specs.Windowed.{AllMayCome, SourceBlock, TellStories, Windowed, blocks_of, events_of, nowhere, of}

@@ -3,7 +3,7 @@ use Rattle.drv_core.proofs.Finish.{Finished, Keeps, finish, keeps_more}
 use Rattle.drv_core.proofs.Order.{is_less, same}
 use Rattle.drv_core.proofs.Standing.{SourcesRun, pending, put, sources_run, waits_next}
 use Rattle.drv_core.specs.Filled.{Filled}
-use Rattle.drv_core.specs.Machine.{ClaimReport, Claims, Closing, Ended, RemovalReport, Removals, Stage, StartReport, Starts, WaitReport, Waits, after, asks, base, begin, end_group, enter_claims, enter_group, enter_removals, enter_waits, inside, is_kind, left, open_of, refused_so_far, starts_so_far, wait_note}
+use Rattle.drv_core.specs.Code.Machine.{ClaimReport, Claims, Closing, Ended, RemovalReport, Removals, Stage, StartReport, Starts, WaitReport, Waits, after, asks, base, begin, end_group, enter_claims, enter_group, enter_removals, enter_waits, inside, is_kind, left, open_of, refused_so_far, starts_so_far, wait_note}
 use Rattle.drv_core.specs.Outcomes.{is_claimed, none}
 use Rattle.drv_core.specs.Story.{Block, event, report, start_event}
 use Rattle.drv_core.specs.Windowed.{MayCome, SourceBlock, blocks_of, events_of, has, in_flight, of}

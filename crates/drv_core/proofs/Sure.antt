@@ -7,8 +7,8 @@ use Rattle.drv_core.proofs.Order.{apart_above, is_less, same}
 use Rattle.drv_core.proofs.Standing.{put}
 use Rattle.drv_core.proofs.Steps.{Valid, asked, put_here}
 use Rattle.drv_core.specs.Filled.{Filled}
-use Rattle.drv_core.specs.Fleet.{Fleet, first_busy, fresh, fresh_fleet, opened, settled, stage_in, taken, turned}
-use Rattle.drv_core.specs.Machine.{Claims, Ended, Stage, after, asks, begin, enter_claims, inside, is_kind, left}
+use Rattle.drv_core.specs.Code.Fleet.{Fleet, first_busy, fresh, fresh_fleet, opened, settled, stage_in, taken, turned}
+use Rattle.drv_core.specs.Code.Machine.{Claims, Ended, Stage, after, asks, begin, enter_claims, inside, is_kind, left}
 use Rattle.drv_core.specs.Outcomes.{none}
 use Rattle.drv_words.specs.Places.{job_at, no_job}
 use Rattle.drv_words.specs.Stepping.{can_make, pipe_pending}

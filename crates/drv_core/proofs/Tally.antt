@@ -4,7 +4,7 @@ use Rattle.drv_core.proofs.Finish.{summed, summed_same}
 use Rattle.drv_core.proofs.Order.{and_first, and_second, apart, same}
 use Rattle.drv_core.proofs.Standing.{SourcesRun}
 use Rattle.drv_core.proofs.Status.{Below, all_below}
-use Rattle.drv_core.specs.Due.{claimed_count, claims_in, due_files, due_from, due_of_job, tally}
+use Rattle.drv_core.specs.Code.Due.{claimed_count, claims_in, due_files, due_from, due_of_job, tally}
 use Rattle.drv_core.specs.Outcomes.{Answers, File, GroupAnswers, JobAnswers, Told, each_once, files_of_job, files_of_jobs, is_claimed, link_run, no_answers, removed_at_end, whole_job, whole_jobs}
 use Rattle.drv_core.specs.Story.{Block, claim_blocks, event, group_blocks, own_removals, removal_failed, report, starts_block, story, wait_block, wait_blocks, wait_report}
 use Rattle.drv_core.specs.Windowed.{SourceBlock, TellStories, blocks_of, events_of, nowhere, of, total}

@@ -1,5 +1,5 @@
 use Rattle.drv_core.proofs.Blocks.{ClaimBlock, OneBlock, RemovalBlock, StartsBlock, WaitBlock, any_refused, ids_of, starts_fit}
-use Rattle.drv_core.specs.Machine.{Claims, Ended, Removals, Stage, Starts, Waits, begin, end_group, enter_claims, enter_group, enter_removals, enter_waits}
+use Rattle.drv_core.specs.Code.Machine.{Claims, Ended, Removals, Stage, Starts, Waits, begin, end_group, enter_claims, enter_group, enter_removals, enter_waits}
 use Rattle.drv_core.specs.Outcomes.{GroupAnswers, JobAnswers, Told, group_failed, is_claimed, is_started, none, removed_by_job, wait_failed, whole_claims, whole_group, whole_groups, whole_job}
 use Rattle.drv_core.specs.Story.{Block, claim_block, claim_blocks, group_blocks, own_removals, removal_block, starts_block, story, wait_block, wait_blocks}
 use Rattle.drv_words.specs.Places.{group_at}

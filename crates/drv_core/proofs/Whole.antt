@@ -2,7 +2,7 @@ use Rattle.drv_core.proofs.Alone.{AloneBegins, AloneRan, alone_begins, alone_fir
 use Rattle.drv_core.proofs.Standing.{SourcesRun}
 use Rattle.drv_core.proofs.Steps.{Begins, Ran}
 use Rattle.drv_core.specs.Filled.{Filled}
-use Rattle.drv_core.specs.Machine.{begin}
+use Rattle.drv_core.specs.Code.Machine.{begin}
 use Rattle.drv_core.specs.Outcomes.{Answers, File, JobAnswers, Told, job_failed, link_run, removed_at_end, whole_job, whole_jobs}
 use Rattle.drv_core.specs.Story.{Block, after_sources, end_removals, event, removal_block, removal_failed, report, story}
 use Rattle.drv_core.specs.Windowed.{IsBeginning, IsWhole, SourceBlock, Windowed, blocks_of, events_of}

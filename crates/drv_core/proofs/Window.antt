@@ -1,12 +1,12 @@
 use Rattle.drv_core.proofs.Stands.{answer_kept, choice_kept, fresh_kept}
-use Rattle.drv_core.specs.Course.{Done, Link, Phase, Removals, Report, Sources, link_of}
+use Rattle.drv_core.specs.Code.Course.{Done, Link, Phase, Removals, Report, Sources, link_of}
 use Rattle.drv_core.specs.Filled.{AllFilled, Filled}
-use Rattle.drv_core.specs.Fleet.{Fleet, closed, ended, first_busy, opened, selected, settled, stage_in, taken, turned, worked}
-use Rattle.drv_core.specs.Machine.{inside, is_kind, left, remove_of}
+use Rattle.drv_core.specs.Code.Fleet.{Fleet, closed, ended, first_busy, opened, selected, settled, stage_in, taken, turned, worked}
+use Rattle.drv_core.specs.Code.Machine.{inside, is_kind, left, remove_of}
 use Rattle.drv_core.specs.Needed.{needed}
-use Rattle.drv_core.specs.Position.{Position, flown, kept, link_after, linked, moved, moved_in, next_of, removal_made, removing_first, removing_next, sources_left}
-use Rattle.drv_core.specs.Reached.{Kept, between_blocks, choices_at, choosing}
-use Rattle.drv_core.specs.Starting.{first_position, fresh_position}
+use Rattle.drv_core.specs.Code.Position.{Position, flown, kept, link_after, linked, moved, moved_in, next_of, removal_made, removing_first, removing_next, sources_left}
+use Rattle.drv_core.specs.Code.Reached.{Kept, between_blocks, choices_at, choosing}
+use Rattle.drv_core.specs.Code.Starting.{first_position, fresh_position}
 use Rattle.drv_core.specs.Story.{event, removal_failed}
 use Rattle.drv_words.specs.Places.{no_job}
 use Rattle.drv_words.specs.declared.answers.Answer.{Answer}

@@ -1,10 +1,10 @@
 //! The sources of a run, of which some are under way, and the one of them that is worked.
 
-ghost use Rattle.drv_core.specs.Fleet.{able, all_fly, asked_of, busy, closed, ended, first_busy, flying, fresh, fresh_fleet, may_go, opened, selected, stage_in, taken, turned, worked, worker_in};
+ghost use Rattle.drv_core.specs.Code.Fleet.{able, all_fly, asked_of, busy, closed, ended, first_busy, flying, fresh, fresh_fleet, may_go, opened, selected, stage_in, taken, turned, worked, worker_in};
 ghost use Rattle.drv_core.specs.Filled.{AllFilled};
-ghost use Rattle.drv_core.specs.FleetView.{fleet_of, worker_of};
-ghost use Rattle.drv_core.specs.Machine.{awaits, inside, left};
-ghost use Rattle.drv_core.specs.Source.{HasRoom};
+ghost use Rattle.drv_core.specs.Code.FleetView.{fleet_of, worker_of};
+ghost use Rattle.drv_core.specs.Code.Machine.{awaits, inside, left};
+ghost use Rattle.drv_core.specs.Code.Source.{HasRoom};
 ghost use Rattle.std.specs.Prelude.{◌≡◌, ◌+◌, ◌<◌, ◌≤◌, IfOk, OnOk, drop, get_or, length, map};
 ghost use Rattle.drv_words.specs.Places.{no_job};
 ghost use Rattle.std.specs.List.{filter};

@@ -1,11 +1,11 @@
 //! The files that may be left at the end of a run: the temporaries and the marked files of the jobs that make calls.
 
-ghost use Rattle.drv_core.specs.LeftoverView.{left_of, lefts_of, remains_of};
-ghost use Rattle.drv_core.specs.Leftovers.{all_files, files_from, job_files, temp_files};
-ghost use Rattle.drv_core.specs.Numbering.{Noted, lefts};
+ghost use Rattle.drv_core.specs.Code.LeftoverView.{left_of, lefts_of, remains_of};
+ghost use Rattle.drv_core.specs.Code.Leftovers.{all_files, files_from, job_files, temp_files};
+ghost use Rattle.drv_core.specs.Code.Numbering.{Noted, lefts};
 ghost use Rattle.drv_core.specs.Outcomes.{File, marked_files};
-ghost use Rattle.drv_core.specs.Counting.{counting, fresh_remains, noting, noting_claim, place_at};
-ghost use Rattle.drv_core.specs.Remains.{is_due, is_left, passing, seeking, sought};
+ghost use Rattle.drv_core.specs.Code.Counting.{counting, fresh_remains, noting, noting_claim, place_at};
+ghost use Rattle.drv_core.specs.Code.Remains.{is_due, is_left, passing, seeking, sought};
 ghost use Rattle.std.specs.Cmp.Lexicographic.{pointwise};
 ghost use Rattle.std.specs.Map.{lookup};
 ghost use Rattle.std.specs.Prelude.{◌≡◌, ◌-◌, ◌++◌, ◌∷◌, ◌<◌, ◌^◌, [], IfOk, List, OnOk, Some, cond, drop, false, get_or, if◌then◌else◌, length, nat_eq, unwrap_or, ℕ};

@@ -1,14 +1,14 @@
 //! The run of a plan: what is made next, for every answer, and what it comes to.
 
 ghost use Rattle.drv_core.specs.Choices.{BetweenBlocks, ChoicesAre, IsChoice, IsNextOf, IsOfFirst};
-ghost use Rattle.drv_core.specs.Machine.{is_kind};
+ghost use Rattle.drv_core.specs.Code.Machine.{is_kind};
 ghost use Rattle.drv_core.specs.Needed.{needed};
 ghost use Rattle.drv_core.specs.Outcomes.{Answers, status_from, status_of};
-ghost use Rattle.drv_core.specs.Position.{moved, next_of};
-ghost use Rattle.drv_core.specs.PositionView.{position_of};
-ghost use Rattle.drv_core.specs.Reached.{choosing};
+ghost use Rattle.drv_core.specs.Code.Position.{moved, next_of};
+ghost use Rattle.drv_core.specs.Code.PositionView.{position_of};
+ghost use Rattle.drv_core.specs.Code.Reached.{choosing};
 ghost use Rattle.drv_core.specs.Run.{IfDone, IfMake, step_in};
-ghost use Rattle.drv_core.specs.RunView.{Stands, run_of};
+ghost use Rattle.drv_core.specs.Code.RunView.{Stands, run_of};
 ghost use Rattle.drv_core.specs.Story.{event};
 ghost use Rattle.drv_core.specs.Windowed.{IsBeginning, IsWhole, Windowed};
 ghost use Rattle.drv_core.specs.declared.action.Action.TheVariants as action;
@@ -39,7 +39,7 @@ impl<'a> Model for Run<'a> {
 
     ghost Value = { specs.Run };
 
-    ghost use Rattle.drv_core.specs.RunView.{Stands, run_of};
+    ghost use Rattle.drv_core.specs.Code.RunView.{Stands, run_of};
 
     ghost view = { λ r. run_of r.plan.now r.pass_codes r.work };
 

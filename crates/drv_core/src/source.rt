@@ -1,12 +1,12 @@
 //! One source of a run: what is asked next for it, and where an answer leads.
 
-ghost use Rattle.drv_core.specs.Machine.{after, after_claim, after_refusal, after_removal, after_start, after_wait, asks, begin, claim_of, end_group, enter_claims, enter_group, enter_removals, enter_waits, remove_of, start_of, told_of, wait_note, wait_of};
+ghost use Rattle.drv_core.specs.Code.Machine.{after, after_claim, after_refusal, after_removal, after_start, after_wait, asks, begin, claim_of, end_group, enter_claims, enter_group, enter_removals, enter_waits, remove_of, start_of, told_of, wait_note, wait_of};
 ghost use Rattle.drv_core.specs.Filled.{Filled};
-ghost use Rattle.drv_core.specs.Fleet.{fresh};
-ghost use Rattle.drv_core.specs.FleetView.{worker_of};
+ghost use Rattle.drv_core.specs.Code.Fleet.{fresh};
+ghost use Rattle.drv_core.specs.Code.FleetView.{worker_of};
 ghost use Rattle.drv_core.specs.Outcomes.{greatest, none};
-ghost use Rattle.drv_core.specs.Machine.{Starts, awaits, inside, left};
-ghost use Rattle.drv_core.specs.Source.{HasRoom, stage_at};
+ghost use Rattle.drv_core.specs.Code.Machine.{Starts, awaits, inside, left};
+ghost use Rattle.drv_core.specs.Code.Source.{HasRoom, stage_at};
 ghost use Rattle.drv_words.specs.declared.steps.Place.TheVariants as place;
 ghost use Rattle.drv_words.specs.declared.steps.Step.TheVariants as step;
 ghost use Rattle.drv_words.specs.Places.{group_at, no_job};

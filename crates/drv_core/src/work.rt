@@ -1,18 +1,18 @@
 //! The work on a plan: its parts one after another, and the events so far.
 
-ghost use Rattle.drv_core.specs.Course.{link_of};
+ghost use Rattle.drv_core.specs.Code.Course.{link_of};
 ghost use Rattle.drv_core.specs.Filled.{AllFilled, Filled};
-ghost use Rattle.drv_core.specs.Fleet.{fresh, taken};
-ghost use Rattle.drv_core.specs.FleetView.{fleet_of, worker_of};
-ghost use Rattle.drv_core.specs.LeftoverView.{remains_of};
+ghost use Rattle.drv_core.specs.Code.Fleet.{fresh, taken};
+ghost use Rattle.drv_core.specs.Code.FleetView.{fleet_of, worker_of};
+ghost use Rattle.drv_core.specs.Code.LeftoverView.{remains_of};
 ghost use Rattle.drv_core.specs.Needed.{needed};
 ghost use Rattle.drv_core.specs.Outcomes.{answer_code, code_of, is_claimed, is_started};
-ghost use Rattle.drv_core.specs.Position.{FleetReady, Ready, flown, kept, link_after, link_asks, linked, moved, next_of, removal_made, removal_of, removing_first, removing_next, report_of, shown, sources_left};
-ghost use Rattle.drv_core.specs.Starting.{first_position, fresh_position};
-ghost use Rattle.drv_core.specs.Counting.{place_at};
-ghost use Rattle.drv_core.specs.PositionView.{phase_of, position_of};
-ghost use Rattle.drv_core.specs.Reached.{between_blocks, choices_at, choosing};
-ghost use Rattle.drv_core.specs.Source.{HasRoom};
+ghost use Rattle.drv_core.specs.Code.Position.{FleetReady, Ready, flown, kept, link_after, link_asks, linked, moved, next_of, removal_made, removal_of, removing_first, removing_next, report_of, shown, sources_left};
+ghost use Rattle.drv_core.specs.Code.Starting.{first_position, fresh_position};
+ghost use Rattle.drv_core.specs.Code.Counting.{place_at};
+ghost use Rattle.drv_core.specs.Code.PositionView.{phase_of, position_of};
+ghost use Rattle.drv_core.specs.Code.Reached.{between_blocks, choices_at, choosing};
+ghost use Rattle.drv_core.specs.Code.Source.{HasRoom};
 ghost use Rattle.std.specs.Prelude.{◌≡◌, ◌<◌, ◌≤◌, [], IfOk, OnOk, get_or, if◌then◌else◌, length, ℕ};
 ghost use Rattle.std.specs.Vec.{vec_capacity};
 

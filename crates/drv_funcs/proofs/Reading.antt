@@ -1,4 +1,4 @@
-use Rattle.drv_funcs.specs.Reading.{read_on}
+use Rattle.drv_funcs.specs.Code.Reading.{read_on}
 use Rattle.drv_funcs.specs.Versions.{is_part, number, parts, version}
 use Rattle.std.proofs.Common.{◌≡◌, ◌<◌, ◌≤◌, ◌+◌, ◌-◌, ◌*◌, ◌∙◌, ◌==◌, ◌&&◌, Bool, false, true, List, [], ◌∷◌, ◌++◌, None, Option, Some, ap, append-nil, append_assoc, arith, drop, get_or, if◌then◌else◌, length, length-append, map, nat_le, nat_lt, refl, suc, sym, zero, ℕ}
 use Rattle.std.proofs.Math.Bool.{and-false}

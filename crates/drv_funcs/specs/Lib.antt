@@ -1,6 +1,5 @@
+pub mod Code
 pub mod Comparing
 pub mod Functions
 pub mod Outcome
-pub mod Reading
-pub mod Telling
 pub mod Versions

@@ -1,7 +1,7 @@
 //! The functions that ask for a variable or a path.
 
 ghost use Rattle.drv_funcs.specs.Outcome.{exists, getenv, if_exists, if_exists_else, if_exists_then_else, is_missing};
-ghost use Rattle.drv_funcs.specs.Telling.{Tells};
+ghost use Rattle.drv_funcs.specs.Code.Telling.{Tells};
 ghost use Rattle.drv_system.specs.Asking.{Asks, Extends};
 ghost use Rattle.drv_system.specs.Facts.{Facts};
 ghost use Rattle.drv_system.specs.Known.{Is};

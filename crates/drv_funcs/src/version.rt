@@ -1,6 +1,6 @@
 //! Versions.
 
-ghost use Rattle.drv_funcs.specs.Reading.{read_on};
+ghost use Rattle.drv_funcs.specs.Code.Reading.{read_on};
 ghost use Rattle.drv_funcs.specs.Versions.{compared, version};
 ghost use Rattle.std.specs.Prelude.{◌≡◌, [], option_map};
 

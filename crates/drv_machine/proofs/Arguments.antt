@@ -5,9 +5,9 @@ use Rattle.drv_machine.proofs.Onward.{framed_long}
 use Rattle.drv_machine.specs.Atoms.{arguments, found_step, has_value, item_step, items_step, judged, levels_left, value_step, words_of}
 use Rattle.drv_machine.specs.Context.{Context}
 use Rattle.drv_machine.specs.Cutting.{Cut, all_taken, nothing_cut}
-use Rattle.drv_machine.specs.Running.{Machine, done, run}
-use Rattle.drv_machine.specs.Standing.{Stands}
-use Rattle.drv_machine.specs.Walking.{Around, Behind, Framed, Kept, Left, Lies, OpenedFits, arguments_of, asked_on, back_at, back_of, behind_arguments, closing, ends, levels_in, nothing_kept, onward, star_of, text_around}
+use Rattle.drv_machine.specs.Code.Running.{Machine, done, run}
+use Rattle.drv_machine.specs.Code.Standing.{Stands}
+use Rattle.drv_machine.specs.Code.Walking.{Around, Behind, Framed, Kept, Left, Lies, OpenedFits, arguments_of, asked_on, back_at, back_of, behind_arguments, closing, ends, levels_in, nothing_kept, onward, star_of, text_around}
 use Rattle.drv_machine.specs.Working.{◌>>-◌, ◌>>=◌, ◌>>◌, Answer, Break, Goes, Levels, Refuses, Step, Waits, Work, follow, most_open, needs, puts}
 use Rattle.drv_machine.specs.declared.fault.MachineFault.TheVariants.{Memory, SpecTooDeep}
 use Rattle.drv_machine.specs.declared.fault.MachineFault.{MachineFault}

@@ -3,11 +3,11 @@ use Rattle.drv_machine.proofs.Laws.{run_then}
 use Rattle.drv_machine.proofs.Standing.{next_at, stand_grows}
 use Rattle.drv_machine.proofs.Steps.{then_err, then_ok}
 use Rattle.drv_machine.specs.Atoms.{choices_step, each_hit, first_true, found_step, items_step, judged, matching, places, truth, worked}
-use Rattle.drv_machine.specs.ByKind.{AskedTest, TrueTest, asks_switch, labelled}
+use Rattle.drv_machine.specs.Code.ByKind.{AskedTest, TrueTest, asks_switch, labelled}
 use Rattle.drv_machine.specs.Context.{Context, names}
-use Rattle.drv_machine.specs.Running.{Machine, run}
-use Rattle.drv_machine.specs.Standing.{Part, Stands, behind_tests, tests_in}
-use Rattle.drv_machine.specs.Walking.{AskFits, Kept, NextHit, arguments_of, each_from, hit_step}
+use Rattle.drv_machine.specs.Code.Running.{Machine, run}
+use Rattle.drv_machine.specs.Code.Standing.{Part, Stands, behind_tests, tests_in}
+use Rattle.drv_machine.specs.Code.Walking.{AskFits, Kept, NextHit, arguments_of, each_from, hit_step}
 use Rattle.drv_machine.specs.Working.{◌>>-◌, ◌>>=◌, ◌>>◌, Answer, Levels, Step, look, nothing}
 use Rattle.drv_machine.specs.declared.fault.MachineFault.TheVariants.{Memory}
 use Rattle.drv_machine.specs.declared.fault.MachineFault.{MachineFault}

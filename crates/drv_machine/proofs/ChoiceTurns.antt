@@ -2,11 +2,11 @@ use Rattle.drv_machine.proofs.ChoiceSteps.{ChoicesLeft, as_default, choices_end,
 use Rattle.drv_machine.proofs.Lying.{no_skip}
 use Rattle.drv_machine.proofs.Onward.{behind_as, entered, leaf, same_step}
 use Rattle.drv_machine.specs.Atoms.{choices_step, first_true, found_step, items_step, judged, matching, worked}
-use Rattle.drv_machine.specs.ByKind.{AskedTest, TrueTest, asks_switch, labelled}
+use Rattle.drv_machine.specs.Code.ByKind.{AskedTest, TrueTest, asks_switch, labelled}
 use Rattle.drv_machine.specs.Context.{Context}
-use Rattle.drv_machine.specs.Running.{Machine, run}
-use Rattle.drv_machine.specs.Standing.{Stands, behind_tests, tests_in}
-use Rattle.drv_machine.specs.Walking.{AskFits, Behind, Kept, Left, Skips, arguments_of, each_from, levels_in, onward, star_of}
+use Rattle.drv_machine.specs.Code.Running.{Machine, run}
+use Rattle.drv_machine.specs.Code.Standing.{Stands, behind_tests, tests_in}
+use Rattle.drv_machine.specs.Code.Walking.{AskFits, Behind, Kept, Left, Skips, arguments_of, each_from, levels_in, onward, star_of}
 use Rattle.drv_machine.specs.Working.{◌>>-◌, ◌>>=◌, Answer, Levels, Step}
 use Rattle.drv_machine.specs.declared.fault.MachineFault.TheVariants.{Memory}
 use Rattle.drv_machine.specs.declared.fault.MachineFault.{MachineFault}

@@ -3,7 +3,7 @@ use Rattle.drv_args.specs.declared.line.Switch.{Switch}
 use Rattle.drv_machine.specs.Atoms.{start}
 use Rattle.drv_machine.specs.Context.{Context, names}
 use Rattle.drv_machine.specs.Cutting.{Cut, all_taken, in_word, nothing_cut, pipe_ended, taken, touched}
-use Rattle.drv_machine.specs.Running.{Machine, begun, run}
+use Rattle.drv_machine.specs.Code.Running.{Machine, begun, run}
 use Rattle.drv_machine.specs.Working.{◌>>-◌, Answer, Atom, Break, Open, Piped, Put, bytes, puts, word_of}
 use Rattle.drv_machine.specs.declared.fault.MachineFault.{MachineFault}
 use Rattle.drv_machine.specs.declared.fault.MachineFault.TheVariants.{Memory}

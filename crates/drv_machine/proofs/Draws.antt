@@ -1,6 +1,6 @@
 use Rattle.drv_machine.specs.Atoms.{temp_step}
 use Rattle.drv_machine.specs.Context.{Context, is_piping}
-use Rattle.drv_machine.specs.Running.{Machine, run}
+use Rattle.drv_machine.specs.Code.Running.{Machine, run}
 use Rattle.drv_machine.specs.Temps.{folder, hex, is_drawn, last_drawn, temp_name}
 use Rattle.drv_machine.specs.Working.{bytes}
 use Rattle.drv_machine.specs.declared.machine.naming.Drawn.{Drawn}

@@ -3,11 +3,11 @@ use Rattle.drv_machine.proofs.ItemKinds.{labelled_is}
 use Rattle.drv_machine.proofs.Standing.{next_at, stand_grows}
 use Rattle.drv_machine.proofs.Steps.{fails_as}
 use Rattle.drv_machine.specs.Atoms.{emitted, matching, places, switch_atoms}
-use Rattle.drv_machine.specs.ByKind.{labelled, put_at}
+use Rattle.drv_machine.specs.Code.ByKind.{labelled, put_at}
 use Rattle.drv_machine.specs.Context.{Context, argument, names}
 use Rattle.drv_machine.specs.Cutting.{Cut, all_taken}
-use Rattle.drv_machine.specs.Running.{Machine, run}
-use Rattle.drv_machine.specs.Standing.{Part, Stands}
+use Rattle.drv_machine.specs.Code.Running.{Machine, run}
+use Rattle.drv_machine.specs.Code.Standing.{Part, Stands}
 use Rattle.drv_machine.specs.Working.{◌>>-◌, Answer, Atom, Break, Put, World, puts, word_of}
 use Rattle.drv_machine.specs.declared.fault.MachineFault.TheVariants.{Memory}
 use Rattle.drv_machine.specs.declared.fault.MachineFault.{MachineFault}

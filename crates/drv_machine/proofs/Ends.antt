@@ -1,7 +1,7 @@
 use Rattle.drv_machine.specs.Context.{Context}
 use Rattle.drv_machine.specs.Cutting.{Cut, found_file, found_script, no_marks, script_option, word_done}
-use Rattle.drv_machine.specs.Held.{ended_in, open_word, word_found}
-use Rattle.drv_machine.specs.Running.{Machine, run}
+use Rattle.drv_machine.specs.Code.Held.{ended_in, open_word, word_found}
+use Rattle.drv_machine.specs.Code.Running.{Machine, run}
 use Rattle.drv_machine.specs.Working.{◌>>-◌, Answer, Break, puts}
 use Rattle.drv_machine.specs.declared.fault.MachineFault.TheVariants.{Memory}
 use Rattle.drv_machine.specs.declared.fault.MachineFault.{MachineFault}

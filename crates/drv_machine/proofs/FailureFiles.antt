@@ -6,10 +6,10 @@ use Rattle.drv_machine.proofs.Standing.{some_same, stand_grows}
 use Rattle.drv_machine.specs.Atoms.{brace_step, item_step, levels_left, places, switch_atoms}
 use Rattle.drv_machine.specs.Context.{Context}
 use Rattle.drv_machine.specs.Cutting.{Cut, inside_done}
-use Rattle.drv_machine.specs.Held.{Ends, ended_in}
-use Rattle.drv_machine.specs.Running.{Machine, run}
-use Rattle.drv_machine.specs.Standing.{Stands}
-use Rattle.drv_machine.specs.Walking.{Around, Behind, Chooses, Emits, Reaches, ends, levels_in, nothing_kept, onward, star_of}
+use Rattle.drv_machine.specs.Code.Held.{Ends, ended_in}
+use Rattle.drv_machine.specs.Code.Running.{Machine, run}
+use Rattle.drv_machine.specs.Code.Standing.{Stands}
+use Rattle.drv_machine.specs.Code.Walking.{Around, Behind, Chooses, Emits, Reaches, ends, levels_in, nothing_kept, onward, star_of}
 use Rattle.drv_machine.specs.Working.{◌>>-◌, ◌>>◌, Answer, Atom, Break, From, Levels, Step, To, most_open, puts}
 use Rattle.drv_machine.specs.declared.fault.MachineFault.TheVariants.{Memory, SpecTooDeep}
 use Rattle.drv_machine.specs.declared.fault.MachineFault.{MachineFault}

@@ -5,8 +5,8 @@ use Rattle.drv_machine.proofs.Onward.{framed_long}
 use Rattle.drv_machine.proofs.Steps.{looked}
 use Rattle.drv_machine.specs.Atoms.{brace_step, file_step, item_step, levels_left, starts_file}
 use Rattle.drv_machine.specs.Context.{Context}
-use Rattle.drv_machine.specs.Running.{Machine, run}
-use Rattle.drv_machine.specs.Walking.{Around, Behind, Reaches, ends, file_end, file_from, levels_in, nothing_kept, onward, star_of}
+use Rattle.drv_machine.specs.Code.Running.{Machine, run}
+use Rattle.drv_machine.specs.Code.Walking.{Around, Behind, Reaches, ends, file_end, file_from, levels_in, nothing_kept, onward, star_of}
 use Rattle.drv_machine.specs.Working.{◌>>-◌, Answer, Levels, Step, look, most_open}
 use Rattle.drv_machine.specs.declared.fault.MachineFault.TheVariants.{Memory, SpecTooDeep}
 use Rattle.drv_machine.specs.declared.fault.MachineFault.{MachineFault}

@@ -4,8 +4,8 @@ use Rattle.drv_machine.proofs.Steps.{fails_as, then_fails, then_ok}
 use Rattle.drv_machine.specs.Atoms.{draw_with, file_step, filed, named_file}
 use Rattle.drv_machine.specs.Context.{Context}
 use Rattle.drv_machine.specs.Cutting.{Cut, all_taken, broken, file_begun, file_done, file_words, words_in_file}
-use Rattle.drv_machine.specs.Running.{Machine, done, run}
-use Rattle.drv_machine.specs.Walking.{file_end, file_from, into_file, out_of_file}
+use Rattle.drv_machine.specs.Code.Running.{Machine, done, run}
+use Rattle.drv_machine.specs.Code.Walking.{file_end, file_from, into_file, out_of_file}
 use Rattle.drv_machine.specs.Working.{◌>>-◌, ◌>>=◌, Answer, Atom, Break, FileFrom, FileTo, Goes, Put, Refuses, Step, Waits, Work, World, needs, puts}
 use Rattle.drv_machine.specs.declared.fault.MachineFault.TheVariants.{Memory}
 use Rattle.drv_machine.specs.declared.fault.MachineFault.{MachineFault}

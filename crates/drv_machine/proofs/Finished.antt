@@ -1,7 +1,7 @@
 use Rattle.drv_machine.specs.Context.{Context, is_piping}
 use Rattle.drv_machine.specs.Cutting.{Cut, Line}
-use Rattle.drv_machine.specs.Grouping.{ahead, grouped}
-use Rattle.drv_machine.specs.Held.{made}
+use Rattle.drv_machine.specs.Code.Grouping.{ahead, grouped}
+use Rattle.drv_machine.specs.Code.Held.{made}
 use Rattle.drv_machine.specs.Outcome.{add_command, command, ends_piped, finished, groups, job, most_piped, once}
 use Rattle.drv_machine.specs.Working.{◌>>-◌, Answer, World, is_among}
 use Rattle.drv_machine.specs.declared.fault.MachineFault.TheVariants.{PipeTooLong}

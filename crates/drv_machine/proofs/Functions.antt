@@ -2,8 +2,8 @@ use Rattle.drv_machine.proofs.Arguments.{behind_then}
 use Rattle.drv_machine.specs.Atoms.{call_step, has_value, value_step}
 use Rattle.drv_machine.specs.Context.{Context}
 use Rattle.drv_machine.specs.Cutting.{Cut}
-use Rattle.drv_machine.specs.Running.{Machine, run}
-use Rattle.drv_machine.specs.Walking.{behind_arguments}
+use Rattle.drv_machine.specs.Code.Running.{Machine, run}
+use Rattle.drv_machine.specs.Code.Walking.{behind_arguments}
 use Rattle.drv_machine.specs.Working.{◌>>-◌, bytes, give}
 use Rattle.drv_machine.specs.declared.fault.MachineFault.TheVariants.{Memory}
 use Rattle.drv_machine.specs.declared.fault.MachineFault.{MachineFault}

@@ -1,7 +1,7 @@
 use Rattle.drv_machine.specs.Atoms.{brace_step, item_step, matching, named, tree_named}
-use Rattle.drv_machine.specs.ByKind.{kind_step, labelled}
+use Rattle.drv_machine.specs.Code.ByKind.{kind_step, labelled}
 use Rattle.drv_machine.specs.Context.{Context}
-use Rattle.drv_machine.specs.Standing.{is_test, tests_in}
+use Rattle.drv_machine.specs.Code.Standing.{is_test, tests_in}
 use Rattle.drv_machine.specs.Working.{Levels, Step, nothing}
 use Rattle.drv_syntax.specs.Labels.{both, label_of, node, nodes_of, asked_nodes, pattern_label, test_label, test_nodes}
 use Rattle.drv_syntax.specs.Tokens.{kind_of}

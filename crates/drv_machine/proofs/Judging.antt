@@ -4,12 +4,12 @@ use Rattle.drv_machine.proofs.Onward.{behind_as, leaf, same_step}
 use Rattle.drv_machine.proofs.Standing.{next_at}
 use Rattle.drv_machine.proofs.Steps.{then_fails, then_ok}
 use Rattle.drv_machine.specs.Atoms.{choices_step, first_true, found_step, has_value, items_step, judged, truth, turned, worked}
-use Rattle.drv_machine.specs.ByKind.{AskedTest, TrueTest}
+use Rattle.drv_machine.specs.Code.ByKind.{AskedTest, TrueTest}
 use Rattle.drv_machine.specs.Context.{Context}
 use Rattle.drv_machine.specs.Cutting.{Cut}
-use Rattle.drv_machine.specs.Running.{Machine, run}
-use Rattle.drv_machine.specs.Standing.{Stands}
-use Rattle.drv_machine.specs.Walking.{After, AskFits, Behind, Kept, arguments_of, asked_on, behind_arguments, levels_in, onward, star_of}
+use Rattle.drv_machine.specs.Code.Running.{Machine, run}
+use Rattle.drv_machine.specs.Code.Standing.{Stands}
+use Rattle.drv_machine.specs.Code.Walking.{After, AskFits, Behind, Kept, arguments_of, asked_on, behind_arguments, levels_in, onward, star_of}
 use Rattle.drv_machine.specs.Working.{◌>>-◌, ◌>>=◌, Answer, Levels, Step, give}
 use Rattle.drv_machine.specs.declared.fault.MachineFault.TheVariants.{Memory}
 use Rattle.drv_machine.specs.declared.fault.MachineFault.{MachineFault}

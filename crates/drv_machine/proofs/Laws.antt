@@ -2,7 +2,7 @@ use Rattle.drv_machine.specs.Atoms.{atoms, whole_text}
 use Rattle.drv_machine.specs.Context.{Context}
 use Rattle.drv_machine.specs.Cutting.{Cut, all_taken, nothing_cut, taken}
 use Rattle.drv_machine.specs.Outcome.{cut, finished, outcome}
-use Rattle.drv_machine.specs.Running.{Machine, begun, done, run}
+use Rattle.drv_machine.specs.Code.Running.{Machine, begun, done, run}
 use Rattle.drv_machine.specs.Working.{◌>>-◌, ◌>>=◌, Answer, Atom, Goes, Refuses, Step, Waits, Work, behind, follow}
 use Rattle.drv_syntax.specs.Tree.{Items}
 use Rattle.drv_system.specs.Facts.{Facts}

@@ -1,7 +1,7 @@
 use Rattle.drv_machine.proofs.Cutter.{put_failed, put_then}
 use Rattle.drv_machine.specs.Atoms.{outputs_step}
 use Rattle.drv_machine.specs.Context.{Context, Source}
-use Rattle.drv_machine.specs.Running.{Machine, run}
+use Rattle.drv_machine.specs.Code.Running.{Machine, run}
 use Rattle.drv_machine.specs.Working.{Atom, Break, known, needs, puts, words}
 use Rattle.drv_machine.specs.declared.fault.MachineFault.TheVariants.{Memory}
 use Rattle.drv_machine.specs.declared.fault.MachineFault.{MachineFault}

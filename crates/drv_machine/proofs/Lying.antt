@@ -1,7 +1,7 @@
 use Rattle.drv_machine.proofs.ItemKinds.{item_no_alternative}
 use Rattle.drv_machine.proofs.Standing.{next_at, some_same, stand_grows}
-use Rattle.drv_machine.specs.Standing.{Part, Stands}
-use Rattle.drv_machine.specs.Walking.{Lies, Skips}
+use Rattle.drv_machine.specs.Code.Standing.{Part, Stands}
+use Rattle.drv_machine.specs.Code.Walking.{Lies, Skips}
 use Rattle.drv_syntax.specs.Labels.{Label, alternative_label, choice_nodes, inner_nodes, label_of, labels_of, nodes_of}
 use Rattle.drv_syntax.specs.Parsed.{tree_of}
 use Rattle.drv_syntax.specs.Tokens.{kind_of, tokens_of}

@@ -3,8 +3,8 @@ use Rattle.drv_machine.proofs.Onward.{framed_long}
 use Rattle.drv_machine.proofs.Standing.{some_same, whole_there}
 use Rattle.drv_machine.specs.Atoms.{items_step, levels_left, named}
 use Rattle.drv_machine.specs.Context.{Context}
-use Rattle.drv_machine.specs.Running.{Machine, run}
-use Rattle.drv_machine.specs.Walking.{Around, Behind, Left, Lies, ends, nothing_kept, onward}
+use Rattle.drv_machine.specs.Code.Running.{Machine, run}
+use Rattle.drv_machine.specs.Code.Walking.{Around, Behind, Left, Lies, ends, nothing_kept, onward}
 use Rattle.drv_machine.specs.Working.{◌>>-◌, Answer, most_open}
 use Rattle.drv_machine.specs.declared.fault.MachineFault.TheVariants.{Memory, SpecTooDeep}
 use Rattle.drv_machine.specs.declared.fault.MachineFault.{MachineFault}

@@ -4,11 +4,11 @@ use Rattle.drv_machine.proofs.Lying.{Reached, joined, lies_alone, lies_behind, l
 use Rattle.drv_machine.proofs.Standing.{next_at, some_same}
 use Rattle.drv_machine.proofs.WorkSteps.{item_means}
 use Rattle.drv_machine.specs.Atoms.{choices_step, item_step, items_step, levels_left, matching, named, tree_named}
-use Rattle.drv_machine.specs.ByKind.{Means, kind_step}
+use Rattle.drv_machine.specs.Code.ByKind.{Means, kind_step}
 use Rattle.drv_machine.specs.Context.{Context, argument, names}
-use Rattle.drv_machine.specs.Running.{Machine, run}
-use Rattle.drv_machine.specs.Standing.{Part, Stands}
-use Rattle.drv_machine.specs.Walking.{After, Around, Behind, Fits, Framed, HitFits, Left, Lies, Skips, Went, back_of, closing, each_from, ends, hit_step, hits_left, levels_in, nothing_kept, onward, star_of, text_around, weight}
+use Rattle.drv_machine.specs.Code.Running.{Machine, run}
+use Rattle.drv_machine.specs.Code.Standing.{Part, Stands}
+use Rattle.drv_machine.specs.Code.Walking.{After, Around, Behind, Fits, Framed, HitFits, Left, Lies, Skips, Went, back_of, closing, each_from, ends, hit_step, hits_left, levels_in, nothing_kept, onward, star_of, text_around, weight}
 use Rattle.drv_machine.specs.Working.{◌>>-◌, ◌>>◌, Answer, Break, Levels, Step, counted, most_open, puts, word_of}
 use Rattle.drv_machine.specs.declared.fault.MachineFault.TheVariants.{Memory, SpecTooDeep}
 use Rattle.drv_machine.specs.declared.fault.MachineFault.{MachineFault}

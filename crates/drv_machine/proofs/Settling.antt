@@ -1,6 +1,6 @@
 use Rattle.drv_machine.specs.Context.{Context}
-use Rattle.drv_machine.specs.Running.{Machine}
-use Rattle.drv_machine.specs.Walking.{Left, Settled}
+use Rattle.drv_machine.specs.Code.Running.{Machine}
+use Rattle.drv_machine.specs.Code.Walking.{Left, Settled}
 use Rattle.drv_machine.specs.Working.{Answer}
 use Rattle.drv_machine.specs.declared.walk.Walk.{Walk}
 use Rattle.drv_system.specs.Facts.{Facts}

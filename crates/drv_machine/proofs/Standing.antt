@@ -1,4 +1,4 @@
-use Rattle.drv_machine.specs.Standing.{Part, Spans, Stand, Stands, behind_tests, is_test, tests_in}
+use Rattle.drv_machine.specs.Code.Standing.{Part, Spans, Stand, Stands, behind_tests, is_test, tests_in}
 use Rattle.drv_syntax.proofs.WalkNodes.{flat, items_flat}
 use Rattle.drv_syntax.specs.Labels.{Label, Nodes, both, labels, labels_of, no_label, no_node, node, nodes_of}
 use Rattle.drv_syntax.specs.Parsed.{tree_of}

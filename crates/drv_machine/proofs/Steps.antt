@@ -1,6 +1,6 @@
 use Rattle.drv_machine.proofs.Laws.{run_then}
 use Rattle.drv_machine.specs.Context.{Context}
-use Rattle.drv_machine.specs.Running.{Machine, run}
+use Rattle.drv_machine.specs.Code.Running.{Machine, run}
 use Rattle.drv_machine.specs.Working.{◌>>-◌, ◌>>=◌, Answer, Step}
 use Rattle.drv_machine.specs.declared.fault.MachineFault.TheVariants.{Memory}
 use Rattle.drv_machine.specs.declared.fault.MachineFault.{MachineFault}

@@ -3,11 +3,11 @@ use Rattle.drv_machine.proofs.Lying.{Reached, lies_alone, place_in, reached}
 use Rattle.drv_machine.proofs.Onward.{Popped, behind_in, behind_item, builtin_there, choices_there, closes, count_stops, kind_there, leaf, means_there, none_open, part_ended, popped, same_step, step_there, text_there}
 use Rattle.drv_machine.proofs.Standing.{next_at, some_same}
 use Rattle.drv_machine.specs.Atoms.{choices_step, item_step, items_step, levels_left, named, tree_named}
-use Rattle.drv_machine.specs.ByKind.{Means, kind_step}
+use Rattle.drv_machine.specs.Code.ByKind.{Means, kind_step}
 use Rattle.drv_machine.specs.Context.{Context}
-use Rattle.drv_machine.specs.Running.{Machine, run}
-use Rattle.drv_machine.specs.Standing.{Spans, Stands}
-use Rattle.drv_machine.specs.Walking.{After, AtItem, Behind, HasFrames, Kept, Lain, Left, Lies, OpenedFits, Went, back_of, closing, ends, levels_in, onward, star_of, text_around}
+use Rattle.drv_machine.specs.Code.Running.{Machine, run}
+use Rattle.drv_machine.specs.Code.Standing.{Spans, Stands}
+use Rattle.drv_machine.specs.Code.Walking.{After, AtItem, Behind, HasFrames, Kept, Lain, Left, Lies, OpenedFits, Went, back_of, closing, ends, levels_in, onward, star_of, text_around}
 use Rattle.drv_machine.specs.Working.{◌>>-◌, Answer, Levels, Step, bytes, counted, most_open}
 use Rattle.drv_machine.specs.declared.fault.MachineFault.TheVariants.{Memory}
 use Rattle.drv_machine.specs.declared.fault.MachineFault.{MachineFault}

@@ -1,9 +1,9 @@
 use Rattle.drv_machine.proofs.ItemKinds.{inner_step}
 use Rattle.drv_machine.specs.Atoms.{leaf_step}
-use Rattle.drv_machine.specs.ByKind.{Means, kind_step}
+use Rattle.drv_machine.specs.Code.ByKind.{Means, kind_step}
 use Rattle.drv_machine.specs.Context.{Context}
-use Rattle.drv_machine.specs.Running.{Machine, run}
-use Rattle.drv_machine.specs.Standing.{Stands}
+use Rattle.drv_machine.specs.Code.Running.{Machine, run}
+use Rattle.drv_machine.specs.Code.Standing.{Stands}
 use Rattle.drv_machine.specs.Working.{Levels, Step}
 use Rattle.drv_syntax.specs.Labels.{inner_nodes, label_at}
 use Rattle.drv_syntax.specs.Parsed.{tree_of}

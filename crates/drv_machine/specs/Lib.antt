@@ -1,14 +1,8 @@
-pub mod Asked
 pub mod Atoms
-pub mod ByKind
+pub mod Code
 pub mod Context
 pub mod Cutting
-pub mod Grouping
-pub mod Held
 pub mod Names
 pub mod Outcome
-pub mod Running
-pub mod Standing
 pub mod Temps
-pub mod Walking
 pub mod Working

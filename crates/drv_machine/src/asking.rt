@@ -1,8 +1,8 @@
 //! Tests of an alternative: the first that is true, or that is by a function.
 
-ghost use Rattle.drv_machine.specs.ByKind.{Found, Within, asked_step, is_call};
-ghost use Rattle.drv_machine.specs.Running.{run};
-ghost use Rattle.drv_machine.specs.Standing.{Spans, Stands};
+ghost use Rattle.drv_machine.specs.Code.ByKind.{Found, Within, asked_step, is_call};
+ghost use Rattle.drv_machine.specs.Code.Running.{run};
+ghost use Rattle.drv_machine.specs.Code.Standing.{Spans, Stands};
 ghost use Rattle.drv_machine.specs.Working.{Levels};
 ghost use Rattle.drv_syntax.specs.Labels.{label_at, test_nodes};
 ghost use Rattle.drv_syntax.specs.Parsed.{tree_of};

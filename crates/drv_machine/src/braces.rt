@@ -1,10 +1,10 @@
 //! Braces with alternatives.
 
 ghost use Rattle.drv_machine.specs.Atoms.{choices_step, items_step, worked};
-ghost use Rattle.drv_machine.specs.ByKind.{asks_switch};
-ghost use Rattle.drv_machine.specs.Running as running;
-ghost use Rattle.drv_machine.specs.Standing.{Spans, Stands};
-ghost use Rattle.drv_machine.specs.Walking.{AskFits, Behind, Kept, Went, decided_on, weight};
+ghost use Rattle.drv_machine.specs.Code.ByKind.{asks_switch};
+ghost use Rattle.drv_machine.specs.Code.Running as running;
+ghost use Rattle.drv_machine.specs.Code.Standing.{Spans, Stands};
+ghost use Rattle.drv_machine.specs.Code.Walking.{AskFits, Behind, Kept, Went, decided_on, weight};
 ghost use Rattle.drv_machine.specs.Working.{Answer, Step};
 ghost use Rattle.drv_syntax.specs.Labels.{choice_nodes, label_at, nodes_of, test_label};
 ghost use Rattle.drv_syntax.specs.Parsed.{tree_of};

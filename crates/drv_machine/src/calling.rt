@@ -2,9 +2,9 @@
 
 ghost use Rattle.drv_machine.specs.Atoms.{item_step};
 ghost use Rattle.drv_machine.specs.Context as specs;
-ghost use Rattle.drv_machine.specs.Running as running;
-ghost use Rattle.drv_machine.specs.Standing.{Stands};
-ghost use Rattle.drv_machine.specs.Walking.{AskFits, Behind, Kept, Went, tested_on, weight};
+ghost use Rattle.drv_machine.specs.Code.Running as running;
+ghost use Rattle.drv_machine.specs.Code.Standing.{Stands};
+ghost use Rattle.drv_machine.specs.Code.Walking.{AskFits, Behind, Kept, Went, tested_on, weight};
 ghost use Rattle.drv_machine.specs.Working.{Answer};
 ghost use Rattle.drv_syntax.specs.Labels.{label_at, nodes_of};
 ghost use Rattle.drv_syntax.specs.Parsed.{tree_of};

@@ -1,10 +1,10 @@
 //! Switches put as they stand on the line.
 
-ghost use Rattle.drv_machine.specs.Asked.{Asked};
+ghost use Rattle.drv_machine.specs.Code.Asked.{Asked};
 ghost use Rattle.drv_machine.specs.Atoms.{emitted, matching};
-ghost use Rattle.drv_machine.specs.ByKind.{put_at};
-ghost use Rattle.drv_machine.specs.Running.{run};
-ghost use Rattle.drv_machine.specs.Standing.{Spans, Stands};
+ghost use Rattle.drv_machine.specs.Code.ByKind.{put_at};
+ghost use Rattle.drv_machine.specs.Code.Running.{run};
+ghost use Rattle.drv_machine.specs.Code.Standing.{Spans, Stands};
 ghost use Rattle.drv_machine.specs.Working.{puts};
 ghost use Rattle.drv_syntax.specs.Labels.{pattern_nodes};
 ghost use Rattle.drv_syntax.specs.Tree as tree;

@@ -1,11 +1,11 @@
 //! `%W{..}`: its last word is a failure file.
 
-ghost use Rattle.drv_machine.specs.Asked.{Asked};
+ghost use Rattle.drv_machine.specs.Code.Asked.{Asked};
 ghost use Rattle.drv_machine.specs.Atoms.{brace_step, item_step};
 ghost use Rattle.drv_machine.specs.Context as specs;
-ghost use Rattle.drv_machine.specs.Running as running;
-ghost use Rattle.drv_machine.specs.Standing.{Spans, Stands};
-ghost use Rattle.drv_machine.specs.Walking.{Behind, Chooses, Emits, Reaches, Went};
+ghost use Rattle.drv_machine.specs.Code.Running as running;
+ghost use Rattle.drv_machine.specs.Code.Standing.{Spans, Stands};
+ghost use Rattle.drv_machine.specs.Code.Walking.{Behind, Chooses, Emits, Reaches, Went};
 ghost use Rattle.drv_machine.specs.Working.{Answer};
 ghost use Rattle.drv_syntax.specs.Labels.{brace_nodes};
 ghost use Rattle.drv_syntax.specs.Tree as tree;

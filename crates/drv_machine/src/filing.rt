@@ -1,10 +1,10 @@
 //! `%@{..}`: an open part, whose words go to a file where words of the line come from one.
 
-ghost use Rattle.drv_machine.specs.Asked.{Asked};
+ghost use Rattle.drv_machine.specs.Code.Asked.{Asked};
 ghost use Rattle.drv_machine.specs.Atoms.{brace_step, item_step, starts_file};
-ghost use Rattle.drv_machine.specs.Running as running;
-ghost use Rattle.drv_machine.specs.Standing.{Spans, Stands};
-ghost use Rattle.drv_machine.specs.Walking.{Behind, Reaches, Went};
+ghost use Rattle.drv_machine.specs.Code.Running as running;
+ghost use Rattle.drv_machine.specs.Code.Standing.{Spans, Stands};
+ghost use Rattle.drv_machine.specs.Code.Walking.{Behind, Reaches, Went};
 ghost use Rattle.drv_machine.specs.Working.{Answer, most_open};
 ghost use Rattle.drv_syntax.specs.Labels.{brace_nodes};
 ghost use Rattle.drv_syntax.specs.Tree as tree;

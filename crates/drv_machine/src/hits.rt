@@ -1,12 +1,12 @@
 //! An X that is worked for each hit.
 
-ghost use Rattle.drv_machine.specs.Asked.{Asked};
+ghost use Rattle.drv_machine.specs.Code.Asked.{Asked};
 ghost use Rattle.drv_machine.specs.Atoms.{matching};
 ghost use Rattle.drv_machine.specs.Context as specs;
-ghost use Rattle.drv_machine.specs.ByKind.{labelled};
-ghost use Rattle.drv_machine.specs.Running as running;
-ghost use Rattle.drv_machine.specs.Standing.{Stands};
-ghost use Rattle.drv_machine.specs.Walking.{Behind, HitFits, NextHit, Went, each_from, from_hit, hit_end, weight};
+ghost use Rattle.drv_machine.specs.Code.ByKind.{labelled};
+ghost use Rattle.drv_machine.specs.Code.Running as running;
+ghost use Rattle.drv_machine.specs.Code.Standing.{Stands};
+ghost use Rattle.drv_machine.specs.Code.Walking.{Behind, HitFits, NextHit, Went, each_from, from_hit, hit_end, weight};
 ghost use Rattle.drv_machine.specs.Working.{Answer, Levels};
 ghost use Rattle.drv_syntax.specs.Labels.{label_at, nodes_of};
 ghost use Rattle.drv_syntax.specs.Parsed.{tree_of};

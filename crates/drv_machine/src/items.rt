@@ -1,13 +1,13 @@
 //! Items of a text that open no part.
 
-ghost use Rattle.drv_machine.specs.Asked.{Asked};
+ghost use Rattle.drv_machine.specs.Code.Asked.{Asked};
 ghost use Rattle.drv_machine.specs.Atoms.{input_name, leaf_step};
-ghost use Rattle.drv_machine.specs.ByKind.{Means, hide_step, kind_step};
+ghost use Rattle.drv_machine.specs.Code.ByKind.{Means, hide_step, kind_step};
 ghost use Rattle.drv_machine.specs.Context as specs;
-ghost use Rattle.drv_machine.specs.Running as running;
-ghost use Rattle.drv_machine.specs.Running.{run};
-ghost use Rattle.drv_machine.specs.Standing.{Spans};
-ghost use Rattle.drv_machine.specs.Walking.{star_of};
+ghost use Rattle.drv_machine.specs.Code.Running as running;
+ghost use Rattle.drv_machine.specs.Code.Running.{run};
+ghost use Rattle.drv_machine.specs.Code.Standing.{Spans};
+ghost use Rattle.drv_machine.specs.Code.Walking.{star_of};
 ghost use Rattle.drv_machine.specs.Working.{Levels, Step, refuse};
 ghost use Rattle.drv_syntax.specs.Labels.{label_at};
 ghost use Rattle.drv_syntax.specs.declared.token.TokenKind.TheVariants as kinds;

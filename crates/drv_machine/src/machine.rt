@@ -1,11 +1,11 @@
 //! What working a text holds: what is cut so far, the hidden switches, and the count of items.
 
-ghost use Rattle.drv_machine.specs.Asked.{Asked};
+ghost use Rattle.drv_machine.specs.Code.Asked.{Asked};
 ghost use Rattle.drv_machine.specs.Atoms.{switch_atoms};
 ghost use Rattle.drv_machine.specs.Context as specs;
 ghost use Rattle.drv_machine.specs.Context.{argument, names};
 ghost use Rattle.drv_machine.specs.Cutting.{pipe_ended};
-ghost use Rattle.drv_machine.specs.Running.{begun, run};
+ghost use Rattle.drv_machine.specs.Code.Running.{begun, run};
 ghost use Rattle.drv_machine.specs.Working as step;
 ghost use Rattle.drv_machine.specs.Working.{Break, End, Open, Piped, Put, counted, puts, word_of};
 ghost use Rattle.drv_match.specs.Matching.{hidden_by};
@@ -103,8 +103,8 @@ pub(crate) struct Machine {
 }
 
 impl Model for Machine {
-    ghost use Rattle.drv_machine.specs.Held.{open_word};
-    ghost use Rattle.drv_machine.specs.Running as running;
+    ghost use Rattle.drv_machine.specs.Code.Held.{open_word};
+    ghost use Rattle.drv_machine.specs.Code.Running as running;
     ghost use Rattle.std.specs.Option.{unwrap_or};
     ghost use Rattle.std.specs.Prelude.{◌≡◌, []};
 

@@ -1,8 +1,8 @@
 //! Named texts, each of which is worked as an open part.
 
 ghost use Rattle.drv_machine.specs.Atoms.{named, tree_named};
-ghost use Rattle.drv_machine.specs.Running as running;
-ghost use Rattle.drv_machine.specs.Walking.{Behind, Went};
+ghost use Rattle.drv_machine.specs.Code.Running as running;
+ghost use Rattle.drv_machine.specs.Code.Walking.{Behind, Went};
 ghost use Rattle.drv_machine.specs.Working.{Answer};
 ghost use Rattle.drv_system.specs.Facts.{Facts};
 

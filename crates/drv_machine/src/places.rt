@@ -1,7 +1,7 @@
 //! Parts of a text by their places in its flat list.
 
-ghost use Rattle.drv_machine.specs.ByKind.{labelled};
-ghost use Rattle.drv_machine.specs.Standing.{Spans, Stands, behind_tests, tests_in};
+ghost use Rattle.drv_machine.specs.Code.ByKind.{labelled};
+ghost use Rattle.drv_machine.specs.Code.Standing.{Spans, Stands, behind_tests, tests_in};
 ghost use Rattle.drv_syntax.specs.Labels.{Nodes, label_at};
 ghost use Rattle.drv_syntax.specs.Parsed.{tree_of};
 ghost use Rattle.drv_syntax.specs.Tokens.{tokens_of};

@@ -1,10 +1,10 @@
 //! One turn works one item.
 
-ghost use Rattle.drv_machine.specs.Asked.{Asked};
+ghost use Rattle.drv_machine.specs.Code.Asked.{Asked};
 ghost use Rattle.drv_machine.specs.Atoms.{items_step, levels_left};
-ghost use Rattle.drv_machine.specs.Running as running;
-ghost use Rattle.drv_machine.specs.Running.{run};
-ghost use Rattle.drv_machine.specs.Walking.{After, AtItem, HasFrames, Kept, Lain, Left, OpenedFits, Settled, Went, back_of, closing, hits_left, text_around, weight};
+ghost use Rattle.drv_machine.specs.Code.Running as running;
+ghost use Rattle.drv_machine.specs.Code.Running.{run};
+ghost use Rattle.drv_machine.specs.Code.Walking.{After, AtItem, HasFrames, Kept, Lain, Left, OpenedFits, Settled, Went, back_of, closing, hits_left, text_around, weight};
 ghost use Rattle.drv_machine.specs.Working.{Answer, most_open};
 ghost use Rattle.drv_syntax.specs.Parsed.{tree_of};
 ghost use Rattle.drv_syntax.specs.Tree as tree;

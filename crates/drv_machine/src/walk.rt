@@ -1,8 +1,8 @@
 //! A walk over a text: the place that is reached, and the parts that are open around it.
 
 ghost use Rattle.drv_machine.specs.Context as specs;
-ghost use Rattle.drv_machine.specs.Running as running;
-ghost use Rattle.drv_machine.specs.Walking.{AtItem, Lain, Left, star_of};
+ghost use Rattle.drv_machine.specs.Code.Running as running;
+ghost use Rattle.drv_machine.specs.Code.Walking.{AtItem, Lain, Left, star_of};
 ghost use Rattle.drv_machine.specs.Working.{Answer};
 ghost use Rattle.drv_syntax.specs.Parsed.{tree_of};
 ghost use Rattle.drv_syntax.specs.Tokens.{tokens_of};

@@ -1,9 +1,9 @@
 //! A spec text worked.
 
-ghost use Rattle.drv_machine.specs.Asked.{Asked};
+ghost use Rattle.drv_machine.specs.Code.Asked.{Asked};
 ghost use Rattle.drv_machine.specs.Atoms.{whole_text};
 ghost use Rattle.drv_machine.specs.Outcome.{finished, outcome};
-ghost use Rattle.drv_machine.specs.Running.{run};
+ghost use Rattle.drv_machine.specs.Code.Running.{run};
 ghost use Rattle.drv_machine.specs.Working.{◌>>-◌};
 ghost use Rattle.drv_syntax.specs.Parsed.{tree_of};
 ghost use Rattle.drv_system.specs.Asking.{Asks, Extends};

@@ -1,4 +1,4 @@
-use Rattle.drv_match.specs.Indexed.{positive}
+use Rattle.drv_match.specs.Code.Indexed.{positive}
 use Rattle.drv_match.specs.Matching.{cancels, has_negative, is_level, is_negative_of, negative}
 use Rattle.std.proofs.Common.{◌≡◌, ◌∙◌, ◌==◌, ◌||◌, ◌&&◌, Bool, false, true, List, [], ◌∷◌, None, Option, Some, if◌then◌else◌, nat_eq, refl, sym, ℕ}
 use Rattle.std.proofs.Math.Bool.{and-false}

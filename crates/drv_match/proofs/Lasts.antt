@@ -1,6 +1,6 @@
 use Rattle.drv_match.proofs.ByName.{far_names, far_places, has_place, in_range}
 use Rattle.drv_match.proofs.Cancelling.{level_cancels, none_cancels, other_cancels}
-use Rattle.drv_match.specs.Indexed.{IsLast, IsLiveness, positive}
+use Rattle.drv_match.specs.Code.Indexed.{IsLast, IsLiveness, positive}
 use Rattle.drv_match.specs.Matching.{cancels, has_negative, is_level, is_live, name_at, negative}
 use Rattle.drv_match.specs.Order.{IsOrder}
 use Rattle.std.proofs.Common.{◌≡◌, ◌<◌, ◌≤◌, ◌+◌, ◌-◌, ◌∙◌, ◌==◌, ◌||◌, Bool, false, true, List, [], None, Ordering, Some, ap, arith, drop, get_or, if◌then◌else◌, length, max, nat_eq, nat_le, not, refl, set, sym, ℕ}

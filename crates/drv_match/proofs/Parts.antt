@@ -1,6 +1,6 @@
 use Rattle.drv_match.proofs.ByName.{has_place, in_range}
 use Rattle.drv_match.proofs.Tallies.{same_rising, tally, tally_filter, tally_permutation}
-use Rattle.drv_match.specs.Indexed.{AreNamed}
+use Rattle.drv_match.specs.Code.Indexed.{AreNamed}
 use Rattle.drv_match.specs.Matching.{hidden_by, hits, is_broad, is_hit, is_live, is_named, name_at}
 use Rattle.drv_match.specs.Order.{IsBlock, IsOrder}
 use Rattle.drv_match.specs.Pattern.{Pattern}

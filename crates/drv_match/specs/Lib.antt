@@ -1,4 +1,4 @@
-pub mod Indexed
+pub mod Code
 pub mod Matching
 pub mod Order
 pub mod Pattern

@@ -1,6 +1,6 @@
 //! Which switches of a line are live, worked out once by look-ups in the places by name.
 
-ghost use Rattle.drv_match.specs.Indexed.{IsLast, IsLiveness, positive};
+ghost use Rattle.drv_match.specs.Code.Indexed.{IsLast, IsLiveness, positive};
 ghost use Rattle.drv_match.specs.Matching.{cancels, has_negative, is_level, negative};
 ghost use Rattle.drv_match.specs.Order.{IsOrder};
 ghost use Rattle.std.specs.Cmp.Lexicographic.{pointwise};

@@ -1,6 +1,6 @@
 //! The switches of a line, and which of them a pattern hits.
 
-ghost use Rattle.drv_match.specs.Indexed.{AreNamed, SameHits};
+ghost use Rattle.drv_match.specs.Code.Indexed.{AreNamed, SameHits};
 ghost use Rattle.drv_match.specs.Matching.{IsNextHit, any_hits, hidden_by, hits, is_broad, is_hit, is_live, name_at};
 ghost use Rattle.drv_match.specs.Order.{IsBlock, IsOrder};
 ghost use Rattle.std.specs.Prelude.{◌≡◌, ◌<◌, ◌&&◌, ◌||◌, ◌∷◌, All, Bool, IfOk, List, false, get_or, length, map, nat_lt, not, ℕ};
@@ -26,7 +26,7 @@ pub struct Switches {
 }
 
 impl Model for Switches {
-    ghost use Rattle.drv_match.specs.Indexed.{IsIndex};
+    ghost use Rattle.drv_match.specs.Code.Indexed.{IsIndex};
     ghost use Rattle.std.specs.Prelude.{List, ℕ};
 
     ghost Value = { List (List ℕ) };

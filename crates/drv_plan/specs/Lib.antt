@@ -1,3 +1,3 @@
+pub mod Code
 pub mod Denoted
 pub mod Languages
-pub mod Looking

@@ -2,7 +2,7 @@
 
 ghost use Rattle.drv_machine.specs.declared.fault.MachineFault.TheVariants as machine;
 ghost use Rattle.drv_plan.specs.Languages.{by_language, by_suffix, is_of_language, is_standard_input, is_suffix_of, language_of, last_pair, last_text, pair_text};
-ghost use Rattle.drv_plan.specs.Looking.{fits, shown};
+ghost use Rattle.drv_plan.specs.Code.Looking.{fits, shown};
 ghost use Rattle.drv_plan.specs.declared.fault.PlanFault.TheVariants as fault;
 ghost use Rattle.drv_specs.specs.Sets.{begins_with_at, is_no_text};
 ghost use Rattle.drv_words.specs.Gives.{Gives};

@@ -2,7 +2,7 @@ use Rattle.drv_core.specs.Needed.{needed}
 use Rattle.drv_core.specs.Outcomes.{Answers, status_of}
 use Rattle.drv_core.specs.Windowed.{IsWhole, Windowed}
 use Rattle.drv_run.specs.Executed.{Executed}
-use Rattle.drv_run.specs.Making.{CanMake}
+use Rattle.drv_run.specs.Code.Making.{CanMake}
 use Rattle.drv_system.proofs.Running.{open_behind, pending_of_rest, run_of-append}
 use Rattle.drv_system.specs.Running.{run_of}
 use Rattle.drv_system.specs.declared.event.Event.{Event}

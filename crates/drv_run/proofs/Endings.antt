@@ -1,7 +1,7 @@
 use Rattle.drv_run.proofs.Tellings.{pipe_behind_questions}
 use Rattle.drv_run.specs.Calls.{Drove, Ends}
 use Rattle.drv_run.specs.Drives.{Comes, Drives, IsApart}
-use Rattle.drv_run.specs.Telling.{DoesWork, EndsWork, OnlySays}
+use Rattle.drv_run.specs.Code.Telling.{DoesWork, EndsWork, OnlySays}
 use Rattle.drv_run.specs.declared.ending.Ending.TheVariants.{Done, OutOfMemory, Refused}
 use Rattle.drv_run.specs.declared.ending.Ending.{Ending}
 use Rattle.drv_run.specs.declared.work.Work.{Work}

@@ -5,7 +5,7 @@ use Rattle.drv_args.specs.declared.line.Expanded.{Expanded}
 use Rattle.drv_c99.specs.declared.fault.C99Fault.TheVariants as c99_fault
 use Rattle.drv_c99.specs.declared.fault.C99Fault.{C99Fault}
 use Rattle.drv_run.specs.Drives.{Words, behind_c99, fronted, is_c99, stopped_by_args, stopped_by_c99}
-use Rattle.drv_run.specs.Wording.{GivesWords}
+use Rattle.drv_run.specs.Code.Wording.{GivesWords}
 use Rattle.drv_run.specs.declared.ending.Ending.{Ending}
 use Rattle.drv_system.specs.Facts.{Facts}
 use Rattle.std.proofs.Common.{◌≡◌, ◌⊎◌, Bool, Err, IsErrAnd, List, Ok, Result, inl, inr, subst, sym, ℕ}

@@ -1,6 +1,6 @@
 use Rattle.drv_run.specs.Calls.{Announces, AreSaid, Says, notices_text}
 use Rattle.drv_run.specs.Executed.{Executed}
-use Rattle.drv_run.specs.Telling.{AnnouncesPlan, DoesWork}
+use Rattle.drv_run.specs.Code.Telling.{AnnouncesPlan, DoesWork}
 use Rattle.drv_run.specs.declared.work.Manner.{Manner}
 use Rattle.drv_run.specs.declared.work.Work.TheVariants.{CarryOut}
 use Rattle.drv_system.proofs.Running.{run_of-append}

@@ -1,9 +1,6 @@
 pub mod Calls
+pub mod Code
 pub mod Drives
 pub mod Executed
 pub mod Exits
-pub mod Making
-pub mod Planning
-pub mod Telling
 pub mod Texts
-pub mod Wording

@@ -2,7 +2,7 @@
 
 ghost use Rattle.drv_run.specs.Calls.{Drove};
 ghost use Rattle.drv_run.specs.Drives.{IsApart};
-ghost use Rattle.drv_run.specs.Telling.{DoesWork, EndsWork, HasWindow, OnlySays};
+ghost use Rattle.drv_run.specs.Code.Telling.{DoesWork, EndsWork, HasWindow, OnlySays};
 ghost use Rattle.drv_run.specs.declared.work.Work.TheVariants.{CarryOut, Dump};
 ghost use Rattle.drv_system.specs.Running.{run_of};
 ghost use Rattle.drv_words.specs.Stepping.{pipe_pending};

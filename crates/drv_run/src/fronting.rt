@@ -2,7 +2,7 @@
 
 ghost use Rattle.drv_c99.specs.declared.fault.C99Fault.TheVariants as c99_fault;
 ghost use Rattle.drv_run.specs.Drives.{IsApart, behind_c99, fronted, is_c99};
-ghost use Rattle.drv_run.specs.Wording.{GivesWords};
+ghost use Rattle.drv_run.specs.Code.Wording.{GivesWords};
 ghost use Rattle.drv_system.specs.Asking.{Asks, Extends};
 ghost use Rattle.drv_system.specs.Facts.{Facts};
 ghost use Rattle.drv_words.specs.Gives.{Gives};

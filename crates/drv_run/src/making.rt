@@ -1,6 +1,6 @@
 //! One step of a run, made by the system.
 
-ghost use Rattle.drv_run.specs.Making.{CanMake};
+ghost use Rattle.drv_run.specs.Code.Making.{CanMake};
 ghost use Rattle.drv_system.specs.Running.{made, run_of};
 ghost use Rattle.drv_words.specs.Stepping.{fits};
 ghost use Rattle.std.specs.Prelude.{◌≡◌, ◌+◌, ◌<◌, ◌≤◌, ◌∷◌, ◌++◌, [], true};

@@ -1,8 +1,8 @@
 //! What arguments come to.
 
 ghost use Rattle.drv_run.specs.Drives.{Comes, IsApart, files_loaded, specs_of, work_of};
-ghost use Rattle.drv_run.specs.Planning.{ComesOfLine, ComesOfSpecs};
-ghost use Rattle.drv_run.specs.Telling.{HasWindow, IsWindow};
+ghost use Rattle.drv_run.specs.Code.Planning.{ComesOfLine, ComesOfSpecs};
+ghost use Rattle.drv_run.specs.Code.Telling.{HasWindow, IsWindow};
 ghost use Rattle.drv_specs.specs.declared.fault.SpecsFault.TheVariants as specs_fault;
 ghost use Rattle.drv_system.specs.Asking.{Asks, Extends};
 ghost use Rattle.drv_system.specs.Facts.{Facts};

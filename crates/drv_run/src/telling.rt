@@ -1,7 +1,7 @@
 //! What the user is told of a plan.
 
 ghost use Rattle.drv_run.specs.Calls.{notice_line, notices_text, status_of};
-ghost use Rattle.drv_run.specs.Telling.{AnnouncesPlan, OnlySays, SaysText, ShowsPlan};
+ghost use Rattle.drv_run.specs.Code.Telling.{AnnouncesPlan, OnlySays, SaysText, ShowsPlan};
 ghost use Rattle.drv_words.specs.Lines.{lines_of};
 ghost use Rattle.drv_words.specs.Printed.{lines_text};
 ghost use Rattle.std.specs.Prelude.{◌≡◌, ◌++◌, IfOk, OnErr, OnOk};

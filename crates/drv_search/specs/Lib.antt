@@ -1,2 +1,2 @@
+pub mod Code
 pub mod Search
-pub mod Telling

@@ -1,7 +1,7 @@
 //! The folders of libraries.
 
 ghost use Rattle.drv_search.specs.Search.{folder_options, folders_under, is_dir, machine_folder, options_for, without_slash};
-ghost use Rattle.drv_search.specs.Telling.{TellsMore};
+ghost use Rattle.drv_search.specs.Code.Telling.{TellsMore};
 ghost use Rattle.drv_system.specs.Asking.{Asks, Extends};
 ghost use Rattle.drv_system.specs.Facts.{Facts};
 ghost use Rattle.drv_system.specs.Known.{Is};

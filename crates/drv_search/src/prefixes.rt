@@ -1,7 +1,7 @@
 //! The prefixes of a search: those of `-B`, and the folders behind them.
 
 ghost use Rattle.drv_search.specs.Search.{as_prefix, ends_with_slash, given_of, is_prefix, library_folders, machine_folder, prefix_of, prefixes_of, program_folders};
-ghost use Rattle.drv_search.specs.Telling.{Tells};
+ghost use Rattle.drv_search.specs.Code.Telling.{Tells};
 ghost use Rattle.drv_system.specs.Asking.{Asks, Extends};
 ghost use Rattle.drv_system.specs.Facts.{Facts};
 ghost use Rattle.drv_system.specs.Known.{Is};

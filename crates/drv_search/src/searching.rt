@@ -1,7 +1,7 @@
 //! Programs, files and linker scripts looked for.
 
 ghost use Rattle.drv_search.specs.Search.{candidates, candidates_under, file_found, found, found_or_name, is_plain, is_searched, machine_folder, program_found, script_found};
-ghost use Rattle.drv_search.specs.Telling.{Tells};
+ghost use Rattle.drv_search.specs.Code.Telling.{Tells};
 ghost use Rattle.drv_search.specs.declared.fault.SearchFault.TheVariants as fault;
 ghost use Rattle.drv_system.specs.Asking.{Asks, Extends};
 ghost use Rattle.drv_system.specs.Facts.{Facts};

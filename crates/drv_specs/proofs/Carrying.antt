@@ -1,7 +1,7 @@
 use Rattle.drv_search.specs.declared.prefixes.Prefixes.{Prefixes}
 use Rattle.drv_specs.specs.Directives.{Bad, Directive, Include, Pair, Rename, Text, directives_of, read_settled}
 use Rattle.drv_specs.specs.Lines.{settled}
-use Rattle.drv_specs.specs.Slices.{found, read_left, settled_file, shown}
+use Rattle.drv_specs.specs.Code.Slices.{found, read_left, settled_file, shown}
 use Rattle.drv_specs.specs.declared.directive.Directive.TheVariants as lent
 use Rattle.drv_specs.specs.declared.directive.Directive as code
 use Rattle.drv_specs.specs.Loading.{Carried, Including, all_carried, change, changed, file_loaded, file_text, including, set_in, text_read, then_by, worked}

@@ -2,7 +2,7 @@ use Rattle.bstr.specs.Find.{IsFirstByte, Nowhere, Passes, is_byte}
 use Rattle.bstr.specs.Bytes.{is_in}
 use Rattle.drv_specs.proofs.Booleans.{and_first, and_second}
 use Rattle.drv_specs.specs.Lines.{ends_line, is_kept, joined_onto}
-use Rattle.drv_specs.specs.Slices.{settled_onto}
+use Rattle.drv_specs.specs.Code.Slices.{settled_onto}
 use Rattle.drv_words.specs.Bytes.{backslash, carriage_return, newline}
 use Rattle.std.proofs.Common.{◌≡◌, ◌<◌, ◌≤◌, ◌+◌, ◌-◌, ◌∙◌, ◌==◌, ◌&&◌, ◌||◌, Bool, List, [], ◌∷◌, ◌++◌, ap, append_assoc, arith, drop, eqb-true, false, filter, fold, if◌then◌else◌, length, nat_eq, not, refl, suc, sym, take, true, zero, ℕ}
 use Rattle.std.proofs.lemmas.List.{append-nil, drop_more, take-append-drop}

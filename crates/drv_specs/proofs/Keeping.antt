@@ -2,7 +2,7 @@ use Rattle.drv_search.specs.declared.prefixes.Prefixes.{Prefixes}
 use Rattle.drv_specs.proofs.Changes.{name_keeps, pair_keeps, text_keeps}
 use Rattle.drv_specs.proofs.GoodBodies.{IsGood, directives_good}
 use Rattle.drv_specs.specs.Directives.{Bad, Directive, Include, Pair, Rename, Text, directives_of, read_settled}
-use Rattle.drv_specs.specs.Slices.{IsSettled}
+use Rattle.drv_specs.specs.Code.Slices.{IsSettled}
 use Rattle.drv_specs.specs.Kept.{Each, Kept}
 use Rattle.drv_specs.specs.Loading.{Carried, Including, all_carried, carried, changed, file_carried, file_loaded, file_text, including, loaded, most_files, set_in, then_by, worked}
 use Rattle.drv_specs.specs.Sets.{Set, with_name, with_pair_body, with_text}

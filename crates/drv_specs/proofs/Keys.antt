@@ -1,4 +1,4 @@
-use Rattle.drv_specs.specs.Keyed.{entries_of, entry_of}
+use Rattle.drv_specs.specs.Code.Keyed.{entries_of, entry_of}
 use Rattle.drv_specs.specs.Sets.{Set}
 use Rattle.indexmap.proofs.MapLemmas.{absent_from_lookup, insert_entry-absent, swap_remove_entry-found}
 use Rattle.indexmap.specs.IndexMap.{insert_entry, swap_remove_entry}

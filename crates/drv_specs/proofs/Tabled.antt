@@ -1,6 +1,6 @@
 use Rattle.drv_specs.specs.Builtin.{builtin_named, builtin_pairs, builtin_specs}
 use Rattle.drv_specs.specs.Sets.{no_specs}
-use Rattle.drv_specs.specs.Tables.{all_added, all_put}
+use Rattle.drv_specs.specs.Code.Tables.{all_added, all_put}
 use Rattle.std.proofs.Common.{◌≡◌, Ok, [], refl}
 
 -- The built-in specs are what their rows give.

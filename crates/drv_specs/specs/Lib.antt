@@ -1,11 +1,9 @@
 pub mod Blanks
 pub mod Builtin
+pub mod Code
 pub mod Directives
 pub mod Dumping
 pub mod Kept
-pub mod Keyed
 pub mod Lines
 pub mod Loading
 pub mod Sets
-pub mod Slices
-pub mod Tables

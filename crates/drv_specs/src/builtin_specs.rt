@@ -1,7 +1,7 @@
 //! The built-in specs.
 
 ghost use Rattle.drv_specs.specs.Builtin.{builtin_named, builtin_pairs, builtin_specs};
-ghost use Rattle.drv_specs.specs.Tables.{all_added, all_put, shown};
+ghost use Rattle.drv_specs.specs.Code.Tables.{all_added, all_put, shown};
 ghost use Rattle.drv_specs.specs.declared.fault.SpecsFault.TheVariants as fault;
 ghost use Rattle.drv_words.specs.Gives.{Gives};
 ghost use Rattle.std.specs.Prelude.{◌≡◌, IfOk, Ok, map};

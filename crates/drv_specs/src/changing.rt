@@ -1,7 +1,7 @@
 //! What a directive does to a set.
 
 ghost use Rattle.drv_specs.specs.Loading.{change};
-ghost use Rattle.drv_specs.specs.Slices.{shown};
+ghost use Rattle.drv_specs.specs.Code.Slices.{shown};
 ghost use Rattle.drv_specs.specs.Sets.{append, begins_with_at, by_tree, is_alias, is_key, is_key_byte, is_key_text, is_name, is_name_byte, is_no_text, is_not_installed, is_sized, pair_text, put, Set, with_body, with_name, with_pair_body, with_pair_text, with_text};
 ghost use Rattle.drv_specs.specs.Blanks.{is_white};
 ghost use Rattle.drv_specs.specs.declared.fault.SpecsFault.TheVariants as fault;

@@ -2,7 +2,7 @@
 
 ghost use Rattle.drv_search.specs.declared.prefixes.Prefixes.{Prefixes};
 ghost use Rattle.drv_specs.specs.Dumping.{Plain, dumped, entry_text, named_text};
-ghost use Rattle.drv_specs.specs.Keyed.{entries_of};
+ghost use Rattle.drv_specs.specs.Code.Keyed.{entries_of};
 ghost use Rattle.drv_specs.specs.Loading.{loaded};
 ghost use Rattle.drv_specs.specs.Sets.{no_specs};
 ghost use Rattle.drv_system.specs.Facts.{Facts};

@@ -1,6 +1,6 @@
 //! Named texts and suffix pairs, as the directives of a file change them.
 
-ghost use Rattle.drv_specs.specs.Keyed.{entries_of};
+ghost use Rattle.drv_specs.specs.Code.Keyed.{entries_of};
 ghost use Rattle.drv_specs.specs.Sets.{appended_text, deleted, no_specs, text_of, with_named, with_pair, worked_text};
 ghost use Rattle.std.specs.Cmp.Lexicographic.{pointwise};
 ghost use Rattle.std.specs.Map.{set_key};
@@ -24,7 +24,7 @@ pub(crate) struct Entries {
 }
 
 impl Model for Entries {
-    ghost use Rattle.drv_specs.specs.Keyed.{entries_of};
+    ghost use Rattle.drv_specs.specs.Code.Keyed.{entries_of};
     ghost use Rattle.drv_specs.specs.Sets.{Set, worked_text};
     ghost use Rattle.std.specs.Prelude.{◌≡◌, map};
 

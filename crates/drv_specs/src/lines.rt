@@ -2,7 +2,7 @@
 
 ghost use Rattle.drv_specs.specs.Directives.{body_lines, read_lines};
 ghost use Rattle.drv_specs.specs.Lines.{ends_line, is_empty_line, words_of};
-ghost use Rattle.drv_specs.specs.Slices.{bytes_from, directives_left, lines_left, size_left, text_left};
+ghost use Rattle.drv_specs.specs.Code.Slices.{bytes_from, directives_left, lines_left, size_left, text_left};
 ghost use Rattle.drv_words.specs.Bytes.{newline};
 ghost use Rattle.std.specs.List.{join_with_byte, list_all};
 ghost use Rattle.std.specs.Option.{option_map};

@@ -2,7 +2,7 @@
 
 ghost use Rattle.drv_specs.specs.Directives.{body_lines, by_colon, by_key, by_keyword, first_line, included, is_colon, read_lines, read_settled, renamed};
 ghost use Rattle.drv_specs.specs.Lines.{ends_line, lines_of, words_of};
-ghost use Rattle.drv_specs.specs.Slices.{Ends, bytes_from, directives_left, found, is_keyword, is_passed, lines_left, shown, size_left, text_left};
+ghost use Rattle.drv_specs.specs.Code.Slices.{Ends, bytes_from, directives_left, found, is_keyword, is_passed, lines_left, shown, size_left, text_left};
 ghost use Rattle.std.specs.List.{list_all, position};
 ghost use Rattle.std.specs.Prelude.{◌≡◌, ◌<◌, ◌≤◌, ◌^◌, ◌+◌, ◌-◌, ◌∷◌, ◌++◌, [], IfNone, false, length, not, true};
 
@@ -196,7 +196,7 @@ pub(crate) struct Reader<'a> {
 
 impl<'a> Model for Reader<'a> {
     ghost use Rattle.drv_specs.specs.Directives.{Directive};
-    ghost use Rattle.drv_specs.specs.Slices.{directives_left, size_left};
+    ghost use Rattle.drv_specs.specs.Code.Slices.{directives_left, size_left};
     ghost use Rattle.std.specs.Prelude.{◌<◌, ◌+◌, ◌^◌, List};
 
     ghost Value = { List Directive };

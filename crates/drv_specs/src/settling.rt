@@ -2,7 +2,7 @@
 
 ghost use Rattle.drv_words.specs.Bytes.{backslash};
 ghost use Rattle.drv_specs.specs.Lines.{settled};
-ghost use Rattle.drv_specs.specs.Slices.{settled_onto};
+ghost use Rattle.drv_specs.specs.Code.Slices.{settled_onto};
 ghost use Rattle.std.specs.List.{ends_with};
 ghost use Rattle.std.specs.Prelude.{◌≡◌, ◌∷◌, [], IfOk, OnOk, nat_eq};
 

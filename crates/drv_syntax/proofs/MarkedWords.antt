@@ -1,5 +1,5 @@
 use Rattle.drv_syntax.specs.Labels.{Label, no_label, part_label, star_label, word_label}
-use Rattle.drv_syntax.specs.Reader.Marks.{Within, byte_labels, byte_marks, marked_label, marked_labels}
+use Rattle.drv_syntax.specs.Code.Marks.{Within, byte_labels, byte_marks, marked_label, marked_labels}
 use Rattle.drv_syntax.specs.declared.labels.Mark.{Mark}
 use Rattle.drv_syntax.specs.declared.token.TestKind.TheVariants as asking
 use Rattle.drv_syntax.specs.declared.token.TestKind.{TestKind}

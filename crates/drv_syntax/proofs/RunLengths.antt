@@ -1,7 +1,7 @@
 use Rattle.bstr.specs.Bytes.{is_in}
 use Rattle.bstr.specs.Find.{IsFirstByte}
 use Rattle.drv_syntax.specs.Bytes.{is_of}
-use Rattle.drv_syntax.specs.Reader.Steps.{said, said_stops}
+use Rattle.drv_syntax.specs.Code.Steps.{said, said_stops}
 use Rattle.drv_syntax.specs.declared.reader.stages.ListKind.{ListKind}
 use Rattle.std.proofs.Common.{◌≡◌, ◌∙◌, ◌≤◌, Bool, true, false, List, [], ◌∷◌, ap, arith, if◌then◌else◌, length, refl, sym, ℕ}
 use Rattle.std.proofs.lemmas.List.Sums.{prefix_len_is}

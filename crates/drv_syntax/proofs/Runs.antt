@@ -2,10 +2,10 @@ use Rattle.drv_syntax.proofs.Leads.{other}
 use Rattle.drv_syntax.proofs.WalkReads.{within}
 use Rattle.drv_syntax.specs.Bytes.{is_name, is_suffix, is_word}
 use Rattle.drv_syntax.specs.Labels.{Label, word_label}
-use Rattle.drv_syntax.specs.Reader.Marks.{byte_labels}
-use Rattle.drv_syntax.specs.Reader.States.{Reads, Turns}
-use Rattle.drv_syntax.specs.Reader.Steps.{Walk, at_stage, plain_tokens, runs, said, step, step_at, then_walk, walk, with_part, with_plains, with_word}
-use Rattle.drv_syntax.specs.Reader.Turns.{part}
+use Rattle.drv_syntax.specs.Code.Marks.{byte_labels}
+use Rattle.drv_syntax.specs.Code.States.{Reads, Turns}
+use Rattle.drv_syntax.specs.Code.Steps.{Walk, at_stage, plain_tokens, runs, said, step, step_at, then_walk, walk, with_part, with_plains, with_word}
+use Rattle.drv_syntax.specs.Code.Turns.{part}
 use Rattle.drv_syntax.specs.declared.directives.SayKind.{SayKind}
 use Rattle.drv_syntax.specs.declared.fault.SyntaxFault.TheVariants.{Memory}
 use Rattle.drv_syntax.specs.declared.fault.SyntaxFault.{SyntaxFault}

@@ -3,16 +3,16 @@ use Rattle.drv_syntax.specs.Outcome as o
 use Rattle.drv_syntax.specs.Outcome.{Here, Place, Turn, join, placed, turn, turn_item, turn_percent}
 use Rattle.drv_syntax.specs.Tree as tree
 use Rattle.drv_syntax.specs.Tree.{Asked, Choices, Item, Items, Pattern, Span, Tests}
-use Rattle.drv_syntax.specs.Reader.Turns as w
-use Rattle.drv_syntax.specs.Reader.Turns.{single_kind, single_label, list_turn, start_action, percent_action, head_action, choice_action}
-use Rattle.drv_syntax.specs.Reader.Steps.{form_at}
+use Rattle.drv_syntax.specs.Code.Turns as w
+use Rattle.drv_syntax.specs.Code.Turns.{single_kind, single_label, list_turn, start_action, percent_action, head_action, choice_action}
+use Rattle.drv_syntax.specs.Code.Steps.{form_at}
 use Rattle.drv_syntax.specs.declared.reader.stages.Behind.TheVariants as behinds
 use Rattle.drv_syntax.specs.declared.reader.stages.Behind.{Behind}
 use Rattle.drv_syntax.specs.declared.reader.stages.Context.{Context}
 use Rattle.drv_syntax.specs.declared.reader.stages.Form.{Form}
 use Rattle.drv_syntax.specs.declared.reader.stages.Head.{Head}
-use Rattle.drv_syntax.specs.Reader.HeadActions as heads
-use Rattle.drv_syntax.specs.Reader.HeadActions.{ChoiceAction, HeadAction}
+use Rattle.drv_syntax.specs.Code.HeadActions as heads
+use Rattle.drv_syntax.specs.Code.HeadActions.{ChoiceAction, HeadAction}
 use Rattle.drv_syntax.specs.declared.reader.stages.HeadStage.TheVariants as places
 use Rattle.drv_syntax.specs.declared.reader.stages.HeadStage.{HeadStage}
 use Rattle.std.proofs.Common.{◌≡◌, ℕ, ◌+◌, ◌-◌, Bool, true, false, List, [], ◌∷◌, ◌++◌, refl, if◌then◌else◌}

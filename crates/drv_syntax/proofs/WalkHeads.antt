@@ -5,17 +5,17 @@ use Rattle.drv_syntax.specs.Outcome as o
 use Rattle.drv_syntax.specs.Outcome.{Here, Out, Place, Turn, after, closed, join, join_choices, join_tests, judged, parsed, read, resumed, run, turn}
 use Rattle.drv_syntax.specs.Tree as tree
 use Rattle.drv_syntax.specs.Tree.{Asked, Brace, Choices, Item, Items, Pattern, Span, Tests, first_place, last_place, trimmed}
-use Rattle.drv_syntax.specs.Reader.Turns as w
-use Rattle.drv_syntax.specs.Reader.Steps as s
-use Rattle.drv_syntax.specs.Reader.Steps.{Walk, open_token}
+use Rattle.drv_syntax.specs.Code.Turns as w
+use Rattle.drv_syntax.specs.Code.Steps as s
+use Rattle.drv_syntax.specs.Code.Steps.{Walk, open_token}
 use Rattle.drv_syntax.specs.declared.fault.SyntaxFault.{SyntaxFault}
 use Rattle.drv_syntax.specs.declared.directives.BraceKind.{BraceKind}
 use Rattle.drv_syntax.specs.declared.reader.stages.Context.{Context}
 use Rattle.drv_syntax.specs.declared.reader.stages.Form.{Form}
 use Rattle.drv_syntax.specs.declared.reader.stages.Frame.TheVariants as frames
 use Rattle.drv_syntax.specs.declared.reader.stages.Frame.{Frame}
-use Rattle.drv_syntax.specs.Reader.HeadActions as heads
-use Rattle.drv_syntax.specs.Reader.HeadActions.{ChoiceAction, HeadAction}
+use Rattle.drv_syntax.specs.Code.HeadActions as heads
+use Rattle.drv_syntax.specs.Code.HeadActions.{ChoiceAction, HeadAction}
 use Rattle.drv_syntax.specs.declared.reader.stages.HeadStage.{HeadStage}
 use Rattle.drv_syntax.specs.declared.reader.stages.ListStage.TheVariants as stages
 use Rattle.drv_syntax.specs.declared.reader.stages.Stage.TheVariants as staged

@@ -5,14 +5,14 @@ use Rattle.drv_syntax.specs.Outcome as o
 use Rattle.drv_syntax.specs.Outcome.{Here, Place, Turn, join, placed, turn, turn_item, turn_percent}
 use Rattle.drv_syntax.specs.Tree as tree
 use Rattle.drv_syntax.specs.Tree.{Asked, Choices, Item, Items, Pattern, Span, Tests}
-use Rattle.drv_syntax.specs.Reader.Turns as w
-use Rattle.drv_syntax.specs.Reader.Turns.{single_kind, single_label, list_turn, start_action, percent_action, directive_action, head_action, choice_action}
+use Rattle.drv_syntax.specs.Code.Turns as w
+use Rattle.drv_syntax.specs.Code.Turns.{single_kind, single_label, list_turn, start_action, percent_action, directive_action, head_action, choice_action}
 use Rattle.drv_syntax.specs.declared.fault.SyntaxFault.TheVariants.{BadDirective}
 use Rattle.drv_syntax.specs.declared.reader.stages.Context.{Context}
 use Rattle.drv_syntax.specs.declared.directives.Directive.TheVariants as directives
 use Rattle.drv_syntax.specs.declared.directives.Directive.{Directive}
 use Rattle.drv_syntax.specs.declared.reader.actions.Single.TheVariants as singles
-use Rattle.drv_syntax.specs.Reader.ListActions.{ListAction, ListTurn}
+use Rattle.drv_syntax.specs.Code.ListActions.{ListAction, ListTurn}
 use Rattle.drv_syntax.specs.declared.reader.stages.ListKind.TheVariants as lists
 use Rattle.drv_syntax.specs.declared.reader.stages.ListKind.{ListKind}
 use Rattle.drv_syntax.specs.declared.reader.stages.ListStage.TheVariants as stages

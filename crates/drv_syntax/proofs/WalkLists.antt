@@ -7,9 +7,9 @@ use Rattle.drv_syntax.specs.Spelling.{span}
 use Rattle.drv_syntax.specs.Tokens.{kind_of}
 use Rattle.drv_syntax.specs.Tree as tree
 use Rattle.drv_syntax.specs.Tree.{Asked, Brace, Choices, Item, Items, Pattern, Span, Tests, first_place, last_place, trimmed}
-use Rattle.drv_syntax.specs.Reader.Turns as w
-use Rattle.drv_syntax.specs.Reader.Steps as s
-use Rattle.drv_syntax.specs.Reader.Steps.{Walk, open_token}
+use Rattle.drv_syntax.specs.Code.Turns as w
+use Rattle.drv_syntax.specs.Code.Steps as s
+use Rattle.drv_syntax.specs.Code.Steps.{Walk, open_token}
 use Rattle.drv_syntax.specs.declared.fault.SyntaxFault.TheVariants.{EmptyTest}
 use Rattle.drv_syntax.specs.declared.directives.BraceKind.TheVariants as braces
 use Rattle.drv_syntax.specs.declared.directives.BraceKind.{BraceKind}
@@ -17,8 +17,8 @@ use Rattle.drv_syntax.specs.declared.reader.stages.Context.{Context}
 use Rattle.drv_syntax.specs.declared.reader.stages.Form.TheVariants as forms
 use Rattle.drv_syntax.specs.declared.reader.stages.Frame.TheVariants as frames
 use Rattle.drv_syntax.specs.declared.reader.stages.Frame.{Frame}
-use Rattle.drv_syntax.specs.Reader.ListActions as acts
-use Rattle.drv_syntax.specs.Reader.ListActions.{ListAction, ListTurn}
+use Rattle.drv_syntax.specs.Code.ListActions as acts
+use Rattle.drv_syntax.specs.Code.ListActions.{ListAction, ListTurn}
 use Rattle.drv_syntax.specs.declared.reader.stages.ListStage.TheVariants as stages
 use Rattle.drv_syntax.specs.declared.reader.stages.ListStage.{ListStage}
 use Rattle.drv_syntax.specs.declared.reader.actions.Part.{Part}

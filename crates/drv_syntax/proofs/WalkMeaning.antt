@@ -7,23 +7,23 @@ use Rattle.drv_syntax.specs.Spelling.{span}
 use Rattle.drv_syntax.specs.Tokens.{kind_of}
 use Rattle.drv_syntax.specs.Tree as tree
 use Rattle.drv_syntax.specs.Tree.{Asked, Choices, Item, Items, Pattern, Span, Tests}
-use Rattle.drv_syntax.specs.Reader.Turns as w
-use Rattle.drv_syntax.specs.Reader.Turns.{single_kind, single_label, list_turn, start_action, percent_action, head_action, choice_action}
-use Rattle.drv_syntax.specs.Reader.Steps.{is_white}
+use Rattle.drv_syntax.specs.Code.Turns as w
+use Rattle.drv_syntax.specs.Code.Turns.{single_kind, single_label, list_turn, start_action, percent_action, head_action, choice_action}
+use Rattle.drv_syntax.specs.Code.Steps.{is_white}
 use Rattle.drv_syntax.specs.declared.reader.stages.Behind.TheVariants as behinds
 use Rattle.drv_syntax.specs.declared.reader.stages.Behind.{Behind}
 use Rattle.drv_syntax.specs.declared.reader.stages.Context.{Context}
 use Rattle.drv_syntax.specs.declared.reader.stages.Form.TheVariants as forms
 use Rattle.drv_syntax.specs.declared.reader.stages.Form.{Form}
 use Rattle.drv_syntax.specs.declared.reader.stages.Head.{Head}
-use Rattle.drv_syntax.specs.Reader.HeadActions as heads
-use Rattle.drv_syntax.specs.Reader.HeadActions.{ChoiceAction, HeadAction}
+use Rattle.drv_syntax.specs.Code.HeadActions as heads
+use Rattle.drv_syntax.specs.Code.HeadActions.{ChoiceAction, HeadAction}
 use Rattle.drv_syntax.specs.declared.reader.stages.HeadStage.TheVariants as places
 use Rattle.drv_syntax.specs.declared.reader.stages.HeadStage.{HeadStage}
 use Rattle.drv_syntax.specs.declared.reader.actions.Single.TheVariants as singles
 use Rattle.drv_syntax.specs.declared.reader.actions.Single.{Single}
-use Rattle.drv_syntax.specs.Reader.ListActions as acts
-use Rattle.drv_syntax.specs.Reader.ListActions.{ListAction, ListTurn}
+use Rattle.drv_syntax.specs.Code.ListActions as acts
+use Rattle.drv_syntax.specs.Code.ListActions.{ListAction, ListTurn}
 use Rattle.drv_syntax.specs.declared.reader.stages.ListKind.TheVariants as lists
 use Rattle.drv_syntax.specs.declared.reader.stages.ListKind.{ListKind}
 use Rattle.drv_syntax.specs.declared.reader.stages.ListStage.TheVariants as stages

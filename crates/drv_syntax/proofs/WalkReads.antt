@@ -5,10 +5,10 @@ use Rattle.drv_syntax.specs.Outcome.{Here, Out, Place, Turn, after, closed, join
 use Rattle.drv_syntax.specs.Parsed.{listed, tree_in, tree_of}
 use Rattle.drv_syntax.specs.Tree as tree
 use Rattle.drv_syntax.specs.Tree.{Asked, Brace, Choices, Item, Items, Pattern, Span, Tests, first_place, last_place, trimmed}
-use Rattle.drv_syntax.specs.Reader.Turns as w
-use Rattle.drv_syntax.specs.Reader.States.{parts_in}
-use Rattle.drv_syntax.specs.Reader.Steps as s
-use Rattle.drv_syntax.specs.Reader.Steps.{Walk, open_token}
+use Rattle.drv_syntax.specs.Code.Turns as w
+use Rattle.drv_syntax.specs.Code.States.{parts_in}
+use Rattle.drv_syntax.specs.Code.Steps as s
+use Rattle.drv_syntax.specs.Code.Steps.{Walk, open_token}
 use Rattle.drv_syntax.specs.declared.fault.SyntaxFault.TheVariants.{TextTooLong, Unclosed}
 use Rattle.drv_syntax.specs.declared.fault.SyntaxFault.{SyntaxFault}
 use Rattle.drv_syntax.specs.declared.reader.stages.Context.{Context}

@@ -2,7 +2,7 @@ use Rattle.drv_syntax.specs.Directives.{braced}
 use Rattle.drv_syntax.specs.Labels.{alternative_label, star_label}
 use Rattle.drv_syntax.specs.Outcome as o
 use Rattle.drv_syntax.specs.Outcome.{join, join_choices, join_tests}
-use Rattle.drv_syntax.specs.Reader.Steps as s
+use Rattle.drv_syntax.specs.Code.Steps as s
 use Rattle.drv_syntax.specs.Stars.{asked_has_star, choices_have_star, has_star, item_has_star, tests_have_star}
 use Rattle.drv_syntax.specs.Tree as tree
 use Rattle.drv_syntax.specs.Tree.{Asked, Choices, Item, Items, Pattern, Span, Tests, trimmed}

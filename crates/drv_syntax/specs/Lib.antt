@@ -1,11 +1,11 @@
 pub mod Bytes
+pub mod Code
 pub mod Contexts
 pub mod Directives
 pub mod Fronts
 pub mod Labels
 pub mod Outcome
 pub mod Parsed
-pub mod Reader
 pub mod Refusals
 pub mod Spelling
 pub mod Stars

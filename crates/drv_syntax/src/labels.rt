@@ -1,7 +1,7 @@
 //! What the parts of a text name.
 
 ghost use Rattle.drv_syntax.specs.Labels.{no_label, part_label, star_label, word_label};
-ghost use Rattle.drv_syntax.specs.Reader.Marks.{byte_labels, byte_marks};
+ghost use Rattle.drv_syntax.specs.Code.Marks.{byte_labels, byte_marks};
 ghost use Rattle.std.specs.Prelude.{◌≡◌, ◌<◌, ◌≤◌, ◌+◌, ◌^◌, ◌++◌, ◌∷◌, [], false, get_or, length, Ok, slice_set, take, vec_capacity, vec_len};
 ghost use Rattle.drv_words.specs.Gives.{Gives};
 
@@ -36,7 +36,7 @@ pub struct Labels {
 
 impl Model for Labels {
     ghost use Rattle.drv_syntax.specs.Labels.{Label};
-    ghost use Rattle.drv_syntax.specs.Reader.Marks.{Within, marked_labels};
+    ghost use Rattle.drv_syntax.specs.Code.Marks.{Within, marked_labels};
     ghost use Rattle.std.specs.Prelude.{List, length};
 
     ghost Value = { List Label };

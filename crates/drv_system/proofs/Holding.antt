@@ -1,4 +1,4 @@
-use Rattle.drv_system.specs.Holding.{AreBelow, Holds, IsBelow, Numbered}
+use Rattle.drv_system.specs.Code.Holding.{AreBelow, Holds, IsBelow, Numbered}
 use Rattle.drv_system.specs.Running.{made, run_of}
 use Rattle.drv_system.specs.Script.{children_behind, start_numbered}
 use Rattle.drv_system.proofs.Running.{pending-append, run_of-append}

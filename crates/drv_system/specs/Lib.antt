@@ -1,7 +1,7 @@
 pub mod Asking
+pub mod Code
 pub mod Facts
 pub mod Gives
-pub mod Holding
 pub mod Host
 pub mod Known
 pub mod Limit

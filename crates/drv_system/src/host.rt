@@ -43,7 +43,7 @@ pub struct HostSystem {
 }
 
 impl Model for HostSystem {
-    ghost use Rattle.drv_system.specs.Holding.{Holds};
+    ghost use Rattle.drv_system.specs.Code.Holding.{Holds};
     ghost use Rattle.drv_system.specs.Host.{Host};
     ghost use Rattle.std.specs.Prelude.{◌-◌, is_some, vec_capacity, vec_len};
 

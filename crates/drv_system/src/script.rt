@@ -41,7 +41,7 @@ pub struct ScriptSystem {
 }
 
 impl Model for ScriptSystem {
-    ghost use Rattle.drv_system.specs.Holding.{Numbered};
+    ghost use Rattle.drv_system.specs.Code.Holding.{Numbered};
     ghost use Rattle.drv_system.specs.Script.{Scripted};
     ghost use Rattle.std.specs.Prelude.{◌-◌, drop, vec_capacity, vec_len};
 

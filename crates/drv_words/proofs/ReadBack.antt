@@ -1,6 +1,6 @@
 use Rattle.drv_words.specs.Printed.{Escapes, Shows, ShowsEnd, ShowsWord, ShowsWords, bare, in_quotes, into_next, is_bare, is_plain, is_special, line, no_byte, no_line, no_pipe, no_word, one_more, other, special}
-use Rattle.drv_words.specs.LineReader as r
-use Rattle.drv_words.specs.LineReader.{escape, inside, lines_read, longer, read, step, with_word}
+use Rattle.drv_words.specs.Code.LineReader as r
+use Rattle.drv_words.specs.Code.LineReader.{escape, inside, lines_read, longer, read, step, with_word}
 use Rattle.drv_words.specs.declared.plan.PlanLine.{PlanLine}
 use Rattle.drv_words.specs.declared.reading_back.Place.{Place}
 use Rattle.drv_words.specs.declared.reading_back.Place.TheVariants.{AtWord, Bare, Between, Escaped, Quoted, Wrong}

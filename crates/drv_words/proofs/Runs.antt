@@ -1,5 +1,5 @@
 use Rattle.drv_words.specs.Response.{is_marked, is_quote, is_space}
-use Rattle.drv_words.specs.Splitter.{is_outside, open_word, plain_length, with_bytes, words_of}
+use Rattle.drv_words.specs.Code.Splitter.{is_outside, open_word, plain_length, with_bytes, words_of}
 use Rattle.drv_words.specs.declared.response.Splitter.{Splitter}
 use Rattle.std.proofs.Common.{arith, ◌≡◌, ◌-◌, ◌<◌, ◌≤◌, get_or, is_some, length, ◌&&◌, ◌||◌, ◌==◌, Bool, false, true, List, [], ◌∷◌, ◌++◌, None, Option, Some, drop, is_none, not, refl, subst, sym, ap, ◌∙◌, if◌then◌else◌, suc, take, ℕ}
 use Rattle.std.proofs.Math.Seq.{append_snoc, take-length}

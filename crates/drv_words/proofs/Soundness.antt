@@ -1,8 +1,8 @@
 use Rattle.drv_words.proofs.ReadBack.{at}
 use Rattle.drv_words.proofs.Shown.{shows_lines}
 use Rattle.drv_words.specs.Printed.{Shows, end_text, escaped, is_bare, is_plain, is_special, line_text, lines_text, quoted, words_text}
-use Rattle.drv_words.specs.LineReader as r
-use Rattle.drv_words.specs.LineReader.{finished, lines_read, read, step}
+use Rattle.drv_words.specs.Code.LineReader as r
+use Rattle.drv_words.specs.Code.LineReader.{finished, lines_read, read, step}
 use Rattle.drv_words.specs.declared.plan.PlanLine.{PlanLine}
 use Rattle.drv_words.specs.declared.reading_back.Place.{Place}
 use Rattle.drv_words.specs.declared.reading_back.Place.TheVariants.{AtWord, Bar, Bare, Between, Escaped, Quoted, Wrong}

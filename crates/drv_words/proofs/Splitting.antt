@@ -1,5 +1,5 @@
 use Rattle.drv_words.specs.Response.{ArePieces, EndsWord, IsPiece, IsRun, Splits, at_end, at_space, backslash, escaped, is_quote, is_space, more, no_more, nothing, one_word, plain, quoted, run_backslash, run_closed, run_escaped, run_plain, run_unclosed, space}
-use Rattle.drv_words.specs.Splitter.{open_word, start, words_of}
+use Rattle.drv_words.specs.Code.Splitter.{open_word, start, words_of}
 use Rattle.drv_words.specs.declared.response.Splitter.{Splitter}
 use Rattle.std.proofs.Common.{◌≡◌, ◌||◌, ◌==◌, Bool, false, true, List, [], ◌∷◌, ◌++◌, None, Option, Some, refl, sym, subst, ap, ◌∙◌, append_assoc, ℕ}
 use Rattle.std.proofs.Math.Seq.{append_snoc}

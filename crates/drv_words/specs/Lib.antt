@@ -1,9 +1,8 @@
 pub mod Bytes
+pub mod Code
 pub mod Gives
-pub mod LineReader
 pub mod Lines
 pub mod Places
 pub mod Printed
 pub mod Response
-pub mod Splitter
 pub mod Stepping

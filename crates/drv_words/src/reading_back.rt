@@ -1,7 +1,7 @@
 //! Reading printed lines back.
 
 ghost use Rattle.drv_words.specs.Printed.{Shows};
-ghost use Rattle.drv_words.specs.LineReader.{at_word, bare, behind_bar, between, escape, finished, inside, lines_read, start, step, with_line, with_word};
+ghost use Rattle.drv_words.specs.Code.LineReader.{at_word, bare, behind_bar, between, escape, finished, inside, lines_read, start, step, with_line, with_word};
 ghost use Rattle.drv_words.specs.declared.plan.PlanLine.{PlanLine};
 ghost use Rattle.std.specs.Prelude.{◌≡◌, IfOk, IfSome, List, OnOk, Some, ℕ};
 

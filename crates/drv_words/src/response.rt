@@ -1,7 +1,7 @@
 //! The text of response files, both ways.
 
 ghost use Rattle.drv_words.specs.Response.{Splits, is_marked, is_quote, is_space, marked, response, response_text};
-ghost use Rattle.drv_words.specs.Splitter.{ended, is_outside, opened, plain_length, plain_step, quoted_step, start, step, with_byte, with_bytes, words_of};
+ghost use Rattle.drv_words.specs.Code.Splitter.{ended, is_outside, opened, plain_length, plain_step, quoted_step, start, step, with_byte, with_bytes, words_of};
 ghost use Rattle.std.specs.Prelude.{◌≡◌, ◌<◌, ◌≤◌, ◌∷◌, ◌++◌, [], IfOk, List, OnOk, length, true, ℕ};
 
 use crate::{Listing, Word};

@@ -29,7 +29,7 @@ pub(crate) struct Cutter {
 
 impl Model for Cutter {
     ghost use Rattle.drv_machine.specs.Cutting as cutting;
-    ghost use Rattle.drv_machine.specs.Held.{open_word};
+    ghost use Rattle.drv_machine.specs.Code.Held.{open_word};
     ghost use Rattle.std.specs.Option.{unwrap_or};
     ghost use Rattle.std.specs.Prelude.{◌≡◌, []};
 

@@ -1,10 +1,10 @@
 //! `%@{..}`: its words are those of a file, whose name stands for them.
 
-ghost use Rattle.drv_machine.specs.Asked.{Asked};
+ghost use Rattle.drv_machine.specs.Code.Asked.{Asked};
 ghost use Rattle.drv_machine.specs.Atoms.{named_file};
 ghost use Rattle.drv_machine.specs.Cutting.{words_in_file};
-ghost use Rattle.drv_machine.specs.Running.{run};
-ghost use Rattle.drv_machine.specs.Walking.{file_end, file_from, into_file, out_of_file};
+ghost use Rattle.drv_machine.specs.Code.Running.{run};
+ghost use Rattle.drv_machine.specs.Code.Walking.{file_end, file_from, into_file, out_of_file};
 ghost use Rattle.drv_system.specs.Asking.{Extends};
 ghost use Rattle.drv_system.specs.Facts.{Facts};
 ghost use Rattle.drv_system.specs.Gives.{GivesKnown};

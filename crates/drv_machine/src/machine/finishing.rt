@@ -1,10 +1,10 @@
 //! What stands behind the whole text: pipes judged, and the commands as a job.
 
-ghost use Rattle.drv_machine.specs.Asked.{Asked};
+ghost use Rattle.drv_machine.specs.Code.Asked.{Asked};
 ghost use Rattle.drv_machine.specs.Context.{is_piping};
 ghost use Rattle.drv_machine.specs.Cutting as cutting;
-ghost use Rattle.drv_machine.specs.Grouping.{grouped};
-ghost use Rattle.drv_machine.specs.Held.{made};
+ghost use Rattle.drv_machine.specs.Code.Grouping.{grouped};
+ghost use Rattle.drv_machine.specs.Code.Held.{made};
 ghost use Rattle.drv_machine.specs.Outcome.{command, ends_piped, finished, groups, job, lasting, most_piped, once};
 ghost use Rattle.drv_machine.specs.Working.{is_among};
 ghost use Rattle.drv_system.specs.Asking.{Extends};

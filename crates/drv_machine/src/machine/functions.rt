@@ -1,9 +1,9 @@
 //! Functions, called with the words of their arguments.
 
-ghost use Rattle.drv_machine.specs.Asked.{Asked};
+ghost use Rattle.drv_machine.specs.Code.Asked.{Asked};
 ghost use Rattle.drv_machine.specs.Atoms.{call_step, has_value, value_step};
-ghost use Rattle.drv_machine.specs.Running.{run};
-ghost use Rattle.drv_machine.specs.Walking.{behind_arguments};
+ghost use Rattle.drv_machine.specs.Code.Running.{run};
+ghost use Rattle.drv_machine.specs.Code.Walking.{behind_arguments};
 ghost use Rattle.drv_system.specs.Asking.{Extends};
 ghost use Rattle.drv_system.specs.Facts.{Facts};
 ghost use Rattle.drv_system.specs.Gives.{GivesKnown};

@@ -1,6 +1,6 @@
 //! What ends in the `%W` that are open.
 
-ghost use Rattle.drv_machine.specs.Held.{Ends};
+ghost use Rattle.drv_machine.specs.Code.Held.{Ends};
 ghost use Rattle.std.specs.Prelude.{◌≡◌, ◌∷◌, [], IfOk, None, OnOk, Some, map};
 
 use drv_words::Word;
@@ -18,7 +18,7 @@ pub(crate) struct Inside {
 }
 
 impl Model for Inside {
-    ghost use Rattle.drv_machine.specs.Held.{ended_in};
+    ghost use Rattle.drv_machine.specs.Code.Held.{ended_in};
     ghost use Rattle.std.specs.Prelude.{◌≤◌, List, Option, ℕ};
 
     ghost Value = { List (Option (List ℕ)) };

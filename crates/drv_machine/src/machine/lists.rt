@@ -1,9 +1,9 @@
 //! Lists that are put word by word, or that grow.
 
-ghost use Rattle.drv_machine.specs.Asked.{Asked};
+ghost use Rattle.drv_machine.specs.Code.Asked.{Asked};
 ghost use Rattle.drv_machine.specs.Atoms.{added, broken_word, folders_step, noted, options_step, outputs_step};
 ghost use Rattle.drv_machine.specs.Context as specs;
-ghost use Rattle.drv_machine.specs.Running.{run};
+ghost use Rattle.drv_machine.specs.Code.Running.{run};
 ghost use Rattle.drv_machine.specs.Working.{change, is_among, puts, whole_word, words};
 ghost use Rattle.drv_search.specs.Search.{folder_options};
 ghost use Rattle.drv_system.specs.Asking.{Extends};

@@ -1,10 +1,10 @@
 //! Marks of words, and what the end of a word does.
 
-ghost use Rattle.drv_machine.specs.Asked.{Asked};
+ghost use Rattle.drv_machine.specs.Code.Asked.{Asked};
 ghost use Rattle.drv_machine.specs.Context as specs;
 ghost use Rattle.drv_machine.specs.Cutting.{found_file, found_script, marked, no_marks, script_option, word_done};
-ghost use Rattle.drv_machine.specs.Held.{word_found};
-ghost use Rattle.drv_machine.specs.Running.{run};
+ghost use Rattle.drv_machine.specs.Code.Held.{word_found};
+ghost use Rattle.drv_machine.specs.Code.Running.{run};
 ghost use Rattle.drv_machine.specs.Working.{Break, From, Marked, To, Without, puts};
 ghost use Rattle.drv_system.specs.Asking.{Extends};
 ghost use Rattle.drv_system.specs.Facts.{Facts};

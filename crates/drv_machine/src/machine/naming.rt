@@ -1,8 +1,8 @@
 //! Names of temporaries.
 
-ghost use Rattle.drv_machine.specs.Asked.{Asked};
+ghost use Rattle.drv_machine.specs.Code.Asked.{Asked};
 ghost use Rattle.drv_machine.specs.Atoms.{draw, draw_with, drawn_or_new, name_step, new_name_step, temp_step};
-ghost use Rattle.drv_machine.specs.Running.{run};
+ghost use Rattle.drv_machine.specs.Code.Running.{run};
 ghost use Rattle.drv_machine.specs.Temps.{folder, hex, hex_digit, is_drawn, last_drawn, temp_name};
 ghost use Rattle.drv_system.specs.Asking.{Extends};
 ghost use Rattle.drv_system.specs.Facts.{Facts};

@@ -1,7 +1,7 @@
 //! What ends a test, braces or a list.
 
-ghost use Rattle.drv_syntax.specs.Reader.States.{Fits, state};
-ghost use Rattle.drv_syntax.specs.Reader.Steps as steps;
+ghost use Rattle.drv_syntax.specs.Code.States.{Fits, state};
+ghost use Rattle.drv_syntax.specs.Code.Steps as steps;
 ghost use Rattle.drv_words.specs.Gives.{Gives};
 ghost use Rattle.std.specs.Prelude.{◌≡◌, ◌<◌, ◌≤◌, ◌^◌, ◌+◌, length, OnOk, Ok};
 

@@ -1,8 +1,8 @@
 //! What a byte does in braces, to the left of a colon.
 
-ghost use Rattle.drv_syntax.specs.Reader.States.{Fits, state};
-ghost use Rattle.drv_syntax.specs.Reader.Steps as steps;
-ghost use Rattle.drv_syntax.specs.Reader.Turns as turns;
+ghost use Rattle.drv_syntax.specs.Code.States.{Fits, state};
+ghost use Rattle.drv_syntax.specs.Code.Steps as steps;
+ghost use Rattle.drv_syntax.specs.Code.Turns as turns;
 ghost use Rattle.drv_words.specs.Gives.{Gives};
 ghost use Rattle.std.specs.Prelude.{◌≡◌, ◌<◌, ◌^◌, ◌+◌, length, OnOk};
 

@@ -2,7 +2,7 @@
 
 ghost use Rattle.drv_syntax.specs.Directives.{text_of};
 ghost use Rattle.drv_syntax.specs.Labels.{no_label, word_label};
-ghost use Rattle.drv_syntax.specs.Reader.Turns as walk;
+ghost use Rattle.drv_syntax.specs.Code.Turns as walk;
 ghost use Rattle.drv_words.specs.Gives.{Gives};
 ghost use Rattle.std.specs.Prelude.{◌≡◌, ◌++◌, ◌∷◌, [], Ok};
 

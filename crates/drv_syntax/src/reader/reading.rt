@@ -1,7 +1,7 @@
 //! The tokens of a whole text and their labels, or its fault.
 
-ghost use Rattle.drv_syntax.specs.Reader.Steps as steps;
-ghost use Rattle.drv_syntax.specs.Reader.States.{parts_in, state};
+ghost use Rattle.drv_syntax.specs.Code.Steps as steps;
+ghost use Rattle.drv_syntax.specs.Code.States.{parts_in, state};
 ghost use Rattle.drv_words.specs.Gives.{Gives};
 ghost use Rattle.std.specs.Prelude.{◌≡◌, ◌<◌, ◌≤◌, ◌^◌, ◌+◌, length, OnOk, Ok, reverse};
 

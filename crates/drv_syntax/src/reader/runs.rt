@@ -3,8 +3,8 @@
 ghost use Rattle.bstr.specs.Bytes.{is_in};
 ghost use Rattle.bstr.specs.Find.{IsFirstByte};
 ghost use Rattle.drv_syntax.specs.Bytes as bytes;
-ghost use Rattle.drv_syntax.specs.Reader.States.{state};
-ghost use Rattle.drv_syntax.specs.Reader.Steps as steps;
+ghost use Rattle.drv_syntax.specs.Code.States.{state};
+ghost use Rattle.drv_syntax.specs.Code.Steps as steps;
 ghost use Rattle.drv_words.specs.Gives.{Gives};
 ghost use Rattle.std.specs.List.{prefix_len};
 ghost use Rattle.std.specs.Prelude.{◌≡◌, ◌≤◌, ◌++◌, Ok, length, take};

@@ -1,7 +1,7 @@
 //! What each byte makes of the state in which a text is read.
 
-ghost use Rattle.drv_syntax.specs.Reader.Steps as steps;
-ghost use Rattle.drv_syntax.specs.Reader.States.{state};
+ghost use Rattle.drv_syntax.specs.Code.Steps as steps;
+ghost use Rattle.drv_syntax.specs.Code.States.{state};
 ghost use Rattle.drv_words.specs.Gives.{Gives};
 ghost use Rattle.std.specs.Prelude.{◌<◌, ◌≤◌, ◌^◌, ◌+◌, length, OnOk};
 

@@ -1,7 +1,7 @@
 //! A byte of a text, and those behind it that go on as it did.
 
 ghost use Rattle.drv_words.specs.Bytes as ascii;
-ghost use Rattle.drv_syntax.specs.Reader.States.{Reads, Turns, state};
+ghost use Rattle.drv_syntax.specs.Code.States.{Reads, Turns, state};
 ghost use Rattle.std.specs.Prelude.{◌≡◌, ◌<◌, ◌≤◌, ◌^◌, ◌+◌, ◌*◌, ◌∷◌, IfOk, OnOk, length};
 
 use crate::directives::SayKind;

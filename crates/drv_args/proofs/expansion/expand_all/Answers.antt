@@ -1,6 +1,6 @@
 use Rattle.drv_args.proofs.Expanding.{end_goes, expands_memory, expands_refused, itself_goes, large_refused, many_refused, put_goes}
 use Rattle.drv_system.proofs.Asking.{asks_extends, asks_then, extends_then}
-use Rattle.drv_args.specs.Replacing.{IsReplaced}
+use Rattle.drv_args.specs.Code.Replacing.{IsReplaced}
 use Rattle.std.proofs.Common.{◌≡◌, ◌-◌, List, length, Ok, Option, arith, inr, refl, subst, ℕ}
 use Rattle.std.proofs.lemmas.List.{nil_from_length}
 use Rattle.drv_args.proofs.expansion.expand_all.Goals as goal

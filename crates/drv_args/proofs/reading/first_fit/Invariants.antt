@@ -1,4 +1,4 @@
-use Rattle.drv_args.specs.Lookup.{shown}
+use Rattle.drv_args.specs.Code.Lookup.{shown}
 use Rattle.drv_args.specs.Options.{row_fits}
 use Rattle.std.proofs.Common.{◌≡◌, drop, find, map}
 use Rattle.drv_args.proofs.reading.first_fit.Given as goal

@@ -1,6 +1,6 @@
 use Rattle.drv_args.proofs.LineSteps.{alone_next, first_line, last_line, wants_next}
 use Rattle.drv_args.proofs.reading.note_words.Goals as goal
-use Rattle.drv_args.specs.Building.{line_with}
+use Rattle.drv_args.specs.Code.Building.{line_with}
 use Rattle.drv_args.specs.Fronts.{items_of}
 use Rattle.std.proofs.Common.{◌∙◌, ap}
 

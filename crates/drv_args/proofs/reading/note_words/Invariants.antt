@@ -1,4 +1,4 @@
-use Rattle.drv_args.specs.Building.{line_with}
+use Rattle.drv_args.specs.Code.Building.{line_with}
 use Rattle.drv_args.specs.Fronts.{items_of}
 use Rattle.std.proofs.Common.{◌≡◌, length}
 use Rattle.drv_args.proofs.reading.note_words.Given as goal

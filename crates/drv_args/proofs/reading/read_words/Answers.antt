@@ -1,6 +1,6 @@
 use Rattle.drv_args.proofs.LineSteps.{first_line}
 use Rattle.drv_args.proofs.reading.read_words.Goals as goal
-use Rattle.drv_args.specs.Building.{line_with}
+use Rattle.drv_args.specs.Code.Building.{line_with}
 use Rattle.drv_args.specs.Fronts.{items_of}
 use Rattle.drv_args.specs.Lines.{line_of_items}
 use Rattle.std.proofs.Common.{◌≡◌, ◌∙◌, ap, rules, sym}

@@ -1,6 +1,6 @@
 use Rattle.drv_args.proofs.Lookups.{looked_up}
 use Rattle.drv_args.proofs.reading.start_of.Goals as goal
-use Rattle.drv_args.specs.Lookup.{shown}
+use Rattle.drv_args.specs.Code.Lookup.{shown}
 use Rattle.std.proofs.Common.{◌∙◌, None, Some, ap, arith, map, sym}
 use Rattle.std.specs.Option.{option_map}
 

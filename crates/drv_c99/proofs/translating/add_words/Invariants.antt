@@ -1,4 +1,4 @@
-use Rattle.drv_c99.specs.Building.{front_with}
+use Rattle.drv_c99.specs.Code.Building.{front_with}
 use Rattle.drv_c99.specs.Front.{items_of}
 use Rattle.std.proofs.Common.{◌≡◌, false, length}
 use Rattle.drv_c99.proofs.translating.add_words.Given as goal

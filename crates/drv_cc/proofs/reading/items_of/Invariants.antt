@@ -1,4 +1,4 @@
-use Rattle.drv_cc.specs.Building.{row_shown}
+use Rattle.drv_cc.specs.Code.Building.{row_shown}
 use Rattle.drv_cc.specs.Items.{items_of}
 use Rattle.std.proofs.Common.{◌≡◌, ◌++◌, None, drop}
 use Rattle.drv_cc.proofs.reading.items_of.Given as goal

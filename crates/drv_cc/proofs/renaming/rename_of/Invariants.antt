@@ -1,4 +1,4 @@
-use Rattle.drv_cc.specs.Building.{pair_shown}
+use Rattle.drv_cc.specs.Code.Building.{pair_shown}
 use Rattle.drv_cc.specs.Items.{is_longer}
 use Rattle.drv_cc.specs.Table.{renames}
 use Rattle.std.proofs.Common.{◌≡◌, drop, find, map}

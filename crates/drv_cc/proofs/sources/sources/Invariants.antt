@@ -1,4 +1,4 @@
-use Rattle.drv_cc.specs.Building.{all_counted, count_of, count_shown, kinds_shown}
+use Rattle.drv_cc.specs.Code.Building.{all_counted, count_of, count_shown, kinds_shown}
 use Rattle.drv_cc.specs.SideFiles.{sources, sources_from}
 use Rattle.std.proofs.Common.{◌≡◌, drop}
 use Rattle.drv_cc.proofs.sources.sources.Given as goal

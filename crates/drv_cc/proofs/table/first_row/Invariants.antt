@@ -1,4 +1,4 @@
-use Rattle.drv_cc.specs.Building.{section_shown}
+use Rattle.drv_cc.specs.Code.Building.{section_shown}
 use Rattle.drv_cc.specs.Items.{first_row, fits}
 use Rattle.drv_cc.specs.Table.{section_rows}
 use Rattle.std.proofs.Common.{◌≡◌, drop, find, map}

@@ -1,5 +1,5 @@
 use Rattle.drv_core.proofs.flight.count_busy.Given as goal
-use Rattle.drv_core.specs.Fleet.{busy}
+use Rattle.drv_core.specs.Code.Fleet.{busy}
 use Rattle.std.proofs.Common.{◌≡◌, ◌+◌, ◌≤◌, drop, length}
 use Rattle.std.specs.List.{filter}
 

@@ -1,5 +1,5 @@
 use Rattle.drv_core.proofs.flight.first_busy.Given as goal
-use Rattle.drv_core.specs.Fleet.{first_busy}
+use Rattle.drv_core.specs.Code.Fleet.{first_busy}
 use Rattle.std.proofs.Common.{◌≡◌, ◌-◌, drop, length}
 
 -- the first from here on is the first of all

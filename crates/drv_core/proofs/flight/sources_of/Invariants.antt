@@ -1,7 +1,7 @@
 use Rattle.drv_core.proofs.flight.sources_of.Given as goal
 use Rattle.drv_core.specs.Filled.{Filled}
-use Rattle.drv_core.specs.Fleet.{fresh}
-use Rattle.drv_core.specs.FleetView.{worker_of}
+use Rattle.drv_core.specs.Code.Fleet.{fresh}
+use Rattle.drv_core.specs.Code.FleetView.{worker_of}
 use Rattle.drv_words.specs.Places.{no_job}
 use Rattle.std.proofs.Common.{◌≡◌, ◌<◌, ◌++◌, drop, get_or, map, ℕ}
 

@@ -1,6 +1,6 @@
 use Rattle.drv_core.proofs.leftovers.add_marked.Given as goal
-use Rattle.drv_core.specs.LeftoverView.{lefts_of}
-use Rattle.drv_core.specs.Numbering.{Noted, Noting}
+use Rattle.drv_core.specs.Code.LeftoverView.{lefts_of}
+use Rattle.drv_core.specs.Code.Numbering.{Noted, Noting}
 use Rattle.drv_core.specs.Outcomes.{File, marked_files}
 use Rattle.std.proofs.Common.{◌++◌, List, drop, nat_eq}
 use Rattle.std.specs.Cmp.Lexicographic.{pointwise}

@@ -1,7 +1,7 @@
 use Rattle.drv_core.proofs.leftovers.add_sources.Given as goal
-use Rattle.drv_core.specs.LeftoverView.{lefts_of}
-use Rattle.drv_core.specs.Leftovers.{files_from}
-use Rattle.drv_core.specs.Numbering.{Noted, Noting}
+use Rattle.drv_core.specs.Code.LeftoverView.{lefts_of}
+use Rattle.drv_core.specs.Code.Leftovers.{files_from}
+use Rattle.drv_core.specs.Code.Numbering.{Noted, Noting}
 use Rattle.drv_core.specs.Outcomes.{File}
 use Rattle.std.proofs.Common.{◌++◌, List, drop, nat_eq}
 use Rattle.std.specs.Cmp.Lexicographic.{pointwise}

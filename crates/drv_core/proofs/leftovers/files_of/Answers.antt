@@ -1,8 +1,8 @@
 use Rattle.drv_core.proofs.Files.{all_none, all_some}
 use Rattle.drv_core.proofs.Notes.{noted_none}
 use Rattle.drv_core.proofs.leftovers.files_of.Goals as goal
-use Rattle.drv_core.specs.Leftovers.{files_from, job_files}
-use Rattle.drv_core.specs.Numbering.{lefts}
+use Rattle.drv_core.specs.Code.Leftovers.{files_from, job_files}
+use Rattle.drv_core.specs.Code.Numbering.{lefts}
 use Rattle.std.proofs.Common.{◌++◌, ◌∙◌, [], ap, nat_eq}
 use Rattle.std.specs.Cmp.Lexicographic.{pointwise}
 use Rattle.std.specs.Map.{lookup}

@@ -1,6 +1,6 @@
 use Rattle.drv_funcs.proofs.Reading.{ten_to}
 use Rattle.drv_funcs.proofs.version.version_of.Given as goal
-use Rattle.drv_funcs.specs.Reading.{read_on}
+use Rattle.drv_funcs.specs.Code.Reading.{read_on}
 use Rattle.drv_funcs.specs.Versions.{version}
 use Rattle.std.proofs.Common.{◌≡◌, ◌<◌, ◌≤◌, drop}
 

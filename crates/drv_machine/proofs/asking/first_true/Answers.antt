@@ -2,7 +2,7 @@ use Rattle.drv_machine.proofs.Standing.{front_in, here}
 use Rattle.drv_machine.proofs.TrueTests.{found_asks, found_false, found_true, no_tests_left}
 use Rattle.drv_machine.proofs.asking.first_true.Goals as goal
 use Rattle.drv_machine.specs.Atoms as atoms
-use Rattle.drv_machine.specs.Running.{run}
+use Rattle.drv_machine.specs.Code.Running.{run}
 use Rattle.std.proofs.Common.{ap, arith, refl, sym, ◌∙◌}
 
 pub loop-at-init : goal.loop-at-init

@@ -1,6 +1,6 @@
 use Rattle.drv_machine.proofs.TrueTests.{TestsLeft}
 use Rattle.drv_machine.proofs.asking.first_true.Given as goal
-use Rattle.drv_machine.specs.Standing.{Spans, Stands}
+use Rattle.drv_machine.specs.Code.Standing.{Spans, Stands}
 use Rattle.drv_machine.specs.Working.{Levels}
 use Rattle.drv_syntax.specs.Labels.{test_nodes}
 use Rattle.drv_syntax.specs.Tree.{Tests}

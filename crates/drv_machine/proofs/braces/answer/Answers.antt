@@ -3,8 +3,8 @@ use Rattle.drv_machine.proofs.Standing.{stand_grows}
 use Rattle.drv_machine.proofs.Steps.{ok_as}
 use Rattle.drv_machine.proofs.TrueTests.{negated_kept}
 use Rattle.drv_machine.proofs.braces.answer.Goals as goal
-use Rattle.drv_machine.specs.ByKind.{Found, Within}
-use Rattle.drv_machine.specs.Walking.{Went}
+use Rattle.drv_machine.specs.Code.ByKind.{Found, Within}
+use Rattle.drv_machine.specs.Code.Walking.{Went}
 use Rattle.drv_machine.specs.declared.asking.Judged.{Judged}
 use Rattle.drv_syntax.specs.Labels.{test_nodes}
 use Rattle.drv_syntax.specs.Parsed.{tree_of}

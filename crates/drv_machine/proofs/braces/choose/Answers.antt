@@ -4,9 +4,9 @@ use Rattle.drv_machine.proofs.Standing.{front_in, here}
 use Rattle.drv_machine.proofs.Steps.{ok_as}
 use Rattle.drv_machine.proofs.braces.choose.Goals as goal
 use Rattle.drv_machine.specs.Atoms.{found_step, items_step, judged, worked}
-use Rattle.drv_machine.specs.ByKind.{Found, Within}
-use Rattle.drv_machine.specs.Standing.{tests_in}
-use Rattle.drv_machine.specs.Walking.{Behind, Left, Went, arguments_of, weight}
+use Rattle.drv_machine.specs.Code.ByKind.{Found, Within}
+use Rattle.drv_machine.specs.Code.Standing.{tests_in}
+use Rattle.drv_machine.specs.Code.Walking.{Behind, Left, Went, arguments_of, weight}
 use Rattle.drv_machine.specs.Working.{◌>>=◌}
 use Rattle.drv_machine.specs.declared.asking.Judged.{Judged}
 use Rattle.drv_machine.specs.declared.walk.Walk.{Walk}

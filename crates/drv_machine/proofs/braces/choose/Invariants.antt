@@ -1,6 +1,6 @@
 use Rattle.drv_machine.proofs.ChoiceSteps.{ChoicesLeft}
 use Rattle.drv_machine.proofs.braces.choose.Given as goal
-use Rattle.drv_machine.specs.Standing.{Spans, Stands}
+use Rattle.drv_machine.specs.Code.Standing.{Spans, Stands}
 use Rattle.drv_machine.specs.Working.{Levels}
 use Rattle.drv_syntax.specs.Labels.{choice_nodes}
 use Rattle.drv_syntax.specs.Tree.{Choices}

@@ -1,6 +1,6 @@
 use Rattle.drv_machine.proofs.ChoiceTurns.{each_entered, once_entered}
 use Rattle.drv_machine.proofs.braces.enter_alternative.Goals as goal
-use Rattle.drv_machine.specs.Walking.{Went}
+use Rattle.drv_machine.specs.Code.Walking.{Went}
 
 pub returns-then-is_for_each-clause-does : goal.returns-then-is_for_each-clause-does
 returns-then-is_for_each-clause-does c F negated asked items others given owns label stands b =

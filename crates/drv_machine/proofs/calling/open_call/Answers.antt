@@ -2,8 +2,8 @@ use Rattle.drv_machine.proofs.Arguments.{call_opened, call_refused}
 use Rattle.drv_machine.proofs.calling.open_call.Goals as goal
 use Rattle.drv_machine.specs.Atoms.{value_step}
 use Rattle.drv_machine.specs.Cutting.{Cut}
-use Rattle.drv_machine.specs.Running.{Machine}
-use Rattle.drv_machine.specs.Walking.{Left, behind_arguments}
+use Rattle.drv_machine.specs.Code.Running.{Machine}
+use Rattle.drv_machine.specs.Code.Walking.{Left, behind_arguments}
 use Rattle.drv_machine.specs.declared.walk.Opened.TheVariants.{Call}
 use Rattle.std.proofs.Common.{ap, refl, rules, subst, sym, ◌+◌, ◌∙◌}
 

@@ -2,8 +2,8 @@ use Rattle.drv_machine.proofs.Arguments.{ask_opened, ask_refused}
 use Rattle.drv_machine.proofs.Onward.{weight_one}
 use Rattle.drv_machine.proofs.calling.open_test.Goals as goal
 use Rattle.drv_machine.specs.Cutting.{Cut}
-use Rattle.drv_machine.specs.Running.{Machine}
-use Rattle.drv_machine.specs.Walking.{Left, asked_on, behind_arguments, levels_in, star_of, weight}
+use Rattle.drv_machine.specs.Code.Running.{Machine}
+use Rattle.drv_machine.specs.Code.Walking.{Left, asked_on, behind_arguments, levels_in, star_of, weight}
 use Rattle.drv_machine.specs.declared.walk.Opened.TheVariants.{Asks}
 use Rattle.std.proofs.Common.{ap, arith, refl, rules, subst, sym, ◌+◌, ◌∙◌}
 

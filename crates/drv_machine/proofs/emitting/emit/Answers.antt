@@ -1,6 +1,6 @@
 use Rattle.drv_machine.proofs.EmitSteps.{all_in_line, emitted_found}
 use Rattle.drv_machine.proofs.emitting.emit.Goals as goal
-use Rattle.drv_machine.specs.Running.{run}
+use Rattle.drv_machine.specs.Code.Running.{run}
 use Rattle.drv_machine.specs.Working.{puts}
 use Rattle.drv_machine.specs.declared.fault.MachineFault.TheVariants.{Memory}
 use Rattle.drv_system.specs.Gives.{GivesKnown}

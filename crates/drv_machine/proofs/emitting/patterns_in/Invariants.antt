@@ -1,6 +1,6 @@
 use Rattle.drv_machine.proofs.EmitSteps.{PatternsLeft}
 use Rattle.drv_machine.proofs.emitting.patterns_in.Given as goal
-use Rattle.drv_machine.specs.Standing.{Spans, Stands}
+use Rattle.drv_machine.specs.Code.Standing.{Spans, Stands}
 use Rattle.drv_syntax.specs.Labels.{pattern_nodes}
 use Rattle.drv_syntax.specs.Tree.{Pattern, Span}
 use Rattle.std.proofs.Common.{List, ◌-◌}

@@ -3,8 +3,8 @@ use Rattle.drv_machine.proofs.EmitSteps.{put_fails, put_one, put_world}
 use Rattle.drv_machine.proofs.Steps.{fails_as}
 use Rattle.drv_machine.proofs.emitting.put_switches.Goals as goal
 use Rattle.drv_machine.specs.Atoms.{switch_atoms}
-use Rattle.drv_machine.specs.ByKind.{put_at}
-use Rattle.drv_machine.specs.Running.{run}
+use Rattle.drv_machine.specs.Code.ByKind.{put_at}
+use Rattle.drv_machine.specs.Code.Running.{run}
 use Rattle.drv_machine.specs.Working.{puts}
 use Rattle.drv_system.proofs.Asking.{extends_refl}
 use Rattle.std.proofs.Common.{arith, get_or, length, rules, sym, ◌<◌, ◌∙◌}

@@ -1,7 +1,7 @@
-use Rattle.drv_machine.specs.Asked.{Asked}
-use Rattle.drv_machine.specs.ByKind.{put_at}
+use Rattle.drv_machine.specs.Code.Asked.{Asked}
+use Rattle.drv_machine.specs.Code.ByKind.{put_at}
 use Rattle.drv_machine.proofs.emitting.put_switches.Given as goal
-use Rattle.drv_machine.specs.Running.{run}
+use Rattle.drv_machine.specs.Code.Running.{run}
 use Rattle.drv_machine.specs.Working.{puts}
 use Rattle.drv_system.specs.Asking.{Extends}
 use Rattle.drv_system.specs.Facts.{Facts}

@@ -2,9 +2,9 @@ use Rattle.drv_machine.proofs.Onward.{leaf, same_step}
 use Rattle.drv_machine.proofs.Steps.{gives_as}
 use Rattle.drv_machine.proofs.failing.work_brace.Goals as goal
 use Rattle.drv_machine.specs.Atoms.{brace_step, choices_step}
-use Rattle.drv_machine.specs.Running.{run}
-use Rattle.drv_machine.specs.Standing.{Stands}
-use Rattle.drv_machine.specs.Walking.{levels_in, star_of}
+use Rattle.drv_machine.specs.Code.Running.{run}
+use Rattle.drv_machine.specs.Code.Standing.{Stands}
+use Rattle.drv_machine.specs.Code.Walking.{levels_in, star_of}
 use Rattle.drv_syntax.specs.Labels.{brace_nodes}
 use Rattle.drv_syntax.specs.Tree.{Brace}
 use Rattle.std.proofs.Common.{ap, subst, sym}

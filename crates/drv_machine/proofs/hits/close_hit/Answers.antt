@@ -2,7 +2,7 @@ use Rattle.drv_machine.proofs.Onward.{leaf, same_step}
 use Rattle.drv_machine.proofs.Steps.{then_fails, then_ok}
 use Rattle.drv_machine.proofs.hits.close_hit.Goals as goal
 use Rattle.drv_machine.specs.Context.{argument}
-use Rattle.drv_machine.specs.Walking.{each_from, hit_end, levels_in}
+use Rattle.drv_machine.specs.Code.Walking.{each_from, hit_end, levels_in}
 use Rattle.drv_machine.specs.Working.{Break, puts, word_of}
 use Rattle.std.proofs.Common.{Err, rules, ◌+◌, ◌∷◌}
 

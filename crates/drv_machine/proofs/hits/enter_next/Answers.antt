@@ -1,6 +1,6 @@
 use Rattle.drv_machine.proofs.Onward.{leaf, same_step}
 use Rattle.drv_machine.proofs.hits.enter_next.Goals as goal
-use Rattle.drv_machine.specs.Walking.{each_from, from_hit, levels_in, NextHit}
+use Rattle.drv_machine.specs.Code.Walking.{each_from, from_hit, levels_in, NextHit}
 use Rattle.drv_match.specs.Pattern.{Pattern}
 use Rattle.std.specs.Option.{IfSome}
 use Rattle.std.proofs.Common.{Ok, Option, ap, length, subst, ◌<◌, ◌∙◌, ◌≤◌, ℕ}

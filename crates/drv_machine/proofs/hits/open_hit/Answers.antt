@@ -1,6 +1,6 @@
 use Rattle.drv_machine.proofs.Onward.{opened_left, push_refused, weight_one}
 use Rattle.drv_machine.proofs.hits.open_hit.Goals as goal
-use Rattle.drv_machine.specs.Walking.{weight}
+use Rattle.drv_machine.specs.Code.Walking.{weight}
 use Rattle.drv_machine.specs.declared.walk.Opened.TheVariants.{Hit}
 use Rattle.std.proofs.Common.{ap, arith, refl, rules}
 

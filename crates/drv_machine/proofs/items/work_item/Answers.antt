@@ -3,8 +3,8 @@ use Rattle.drv_machine.proofs.Standing.{stand_grows}
 use Rattle.drv_machine.proofs.Steps.{gives_as}
 use Rattle.drv_machine.proofs.WorkSteps.{by_kind}
 use Rattle.drv_machine.specs.Atoms.{added, noted}
-use Rattle.drv_machine.specs.Running.{run}
-use Rattle.drv_machine.specs.Walking.{star_of}
+use Rattle.drv_machine.specs.Code.Running.{run}
+use Rattle.drv_machine.specs.Code.Walking.{star_of}
 use Rattle.drv_machine.specs.Working.{World, change, refuse}
 use Rattle.drv_machine.specs.declared.fault.MachineFault.TheVariants.{UserError}
 use Rattle.drv_syntax.specs.declared.token.TokenKind.TheVariants as kinds

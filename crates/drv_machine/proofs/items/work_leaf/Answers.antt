@@ -3,7 +3,7 @@ use Rattle.drv_machine.proofs.Steps.{fails_as, gives_as, then_fails, then_ok}
 use Rattle.drv_machine.proofs.WorkSteps.{by_leaf}
 use Rattle.drv_machine.specs.Atoms.{input_name, leaf_step}
 use Rattle.drv_machine.specs.Names.{base, stem}
-use Rattle.drv_machine.specs.Running.{run}
+use Rattle.drv_machine.specs.Code.Running.{run}
 use Rattle.drv_machine.specs.Working.{bytes}
 use Rattle.drv_syntax.specs.declared.token.Leaf.TheVariants as leaves
 use Rattle.std.proofs.Common.{ap, rules, sym, ◌∙◌}

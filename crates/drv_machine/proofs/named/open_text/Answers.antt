@@ -2,8 +2,8 @@ use Rattle.drv_machine.proofs.NamedTexts.{none_named, some_named, text_opened, t
 use Rattle.drv_machine.proofs.Onward.{leaf, same_step}
 use Rattle.drv_machine.proofs.named.open_text.Goals as goal
 use Rattle.drv_machine.specs.Atoms.{named, tree_named}
-use Rattle.drv_machine.specs.Running.{run}
-use Rattle.drv_machine.specs.Walking.{levels_in}
+use Rattle.drv_machine.specs.Code.Running.{run}
+use Rattle.drv_machine.specs.Code.Walking.{levels_in}
 use Rattle.drv_syntax.specs.Parsed.{tree_of}
 use Rattle.std.proofs.Common.{Ok, ap, length, refl, rules}
 use Rattle.std.specs.Prelude.{Some, option_map}

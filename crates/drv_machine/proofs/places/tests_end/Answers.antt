@@ -1,5 +1,5 @@
 use Rattle.drv_machine.proofs.Standing.{front_in, here, not_test, passed_end, passed_step, passed_stop}
-use Rattle.drv_machine.specs.Standing.{Stands, is_test}
+use Rattle.drv_machine.specs.Code.Standing.{Stands, is_test}
 use Rattle.drv_machine.proofs.places.tests_end.Goals as goal
 use Rattle.drv_syntax.specs.Labels.{Nodes}
 use Rattle.std.proofs.Common.{ap, arith}

@@ -1,5 +1,5 @@
 use Rattle.drv_machine.proofs.Standing.{Passed}
-use Rattle.drv_machine.specs.Standing.{Spans, Stands}
+use Rattle.drv_machine.specs.Code.Standing.{Spans, Stands}
 use Rattle.drv_syntax.specs.Labels.{Nodes}
 use Rattle.std.proofs.Common.{◌-◌}
 use Rattle.drv_machine.proofs.places.tests_end.Given as goal

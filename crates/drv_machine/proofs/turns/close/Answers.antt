@@ -3,8 +3,8 @@ use Rattle.drv_machine.proofs.Onward.{after_leaf, as_behind, behind_in, leaf, on
 use Rattle.drv_machine.proofs.turns.close.Goals as goal
 use Rattle.drv_machine.specs.Atoms.{has_value, value_step}
 use Rattle.drv_machine.specs.Cutting.{Cut}
-use Rattle.drv_machine.specs.Running.{run}
-use Rattle.drv_machine.specs.Walking.{After, OpenedFits, back_of, behind_arguments, closing, file_end, hit_end, hits_left, text_around, weight}
+use Rattle.drv_machine.specs.Code.Running.{run}
+use Rattle.drv_machine.specs.Code.Walking.{After, OpenedFits, back_of, behind_arguments, closing, file_end, hit_end, hits_left, text_around, weight}
 use Rattle.drv_machine.specs.Working.{Break, To, nothing, puts}
 use Rattle.drv_machine.specs.declared.fault.MachineFault.TheVariants.{Memory}
 use Rattle.drv_machine.specs.declared.walk.Opened.{Opened}

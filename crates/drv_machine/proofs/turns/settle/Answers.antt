@@ -2,7 +2,7 @@ use Rattle.drv_machine.proofs.AskedCalls.{asked_further, asked_none, extends_bef
 use Rattle.drv_machine.proofs.Onward.{left_in, weight_one}
 use Rattle.drv_machine.proofs.TurnSteps.{as_left, can_close, closed, given_of, item_in, none_popped, walk_ended}
 use Rattle.drv_machine.proofs.turns.settle.Goals as goal
-use Rattle.drv_machine.specs.Walking.{Left, weight}
+use Rattle.drv_machine.specs.Code.Walking.{Left, weight}
 use Rattle.drv_machine.specs.declared.fault.MachineFault.TheVariants.{Memory}
 use Rattle.drv_machine.specs.declared.walk.Frame.{Frame}
 use Rattle.drv_machine.specs.declared.walk.Walk.{Walk}

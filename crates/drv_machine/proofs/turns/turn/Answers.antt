@@ -2,7 +2,7 @@ use Rattle.drv_machine.proofs.Onward.{went_in}
 use Rattle.drv_machine.proofs.Standing.{stand_grows}
 use Rattle.drv_machine.proofs.TurnSteps.{at_place, inner_there, turn_builtin, turn_choose, turn_failure, turn_filed, turn_function, turn_item, turn_plain, turn_text, turn_uncounted}
 use Rattle.drv_machine.proofs.turns.turn.Goals as goal
-use Rattle.drv_machine.specs.Walking.{Went}
+use Rattle.drv_machine.specs.Code.Walking.{Went}
 use Rattle.std.proofs.Common.{arith, rules, ◌+◌}
 
 pub token_at-token-requires : goal.token_at-token-requires

@@ -1,7 +1,7 @@
 use Rattle.drv_machine.proofs.turns.work_items.Given as goal
-use Rattle.drv_machine.specs.Asked.{Asked}
-use Rattle.drv_machine.specs.Running.{Machine}
-use Rattle.drv_machine.specs.Walking.{HasFrames, Lain, Left}
+use Rattle.drv_machine.specs.Code.Asked.{Asked}
+use Rattle.drv_machine.specs.Code.Running.{Machine}
+use Rattle.drv_machine.specs.Code.Walking.{HasFrames, Lain, Left}
 use Rattle.drv_machine.specs.Working.{Answer}
 use Rattle.drv_system.specs.Asking.{Extends}
 use Rattle.drv_system.specs.Facts.{Facts}

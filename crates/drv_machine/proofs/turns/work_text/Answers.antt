@@ -3,7 +3,7 @@ use Rattle.drv_machine.proofs.Standing.{whole_there}
 use Rattle.drv_machine.proofs.TurnSteps.{framed_of, lain_of, started}
 use Rattle.drv_machine.proofs.turns.work_text.Goals as goal
 use Rattle.drv_machine.specs.Atoms.{items_step, levels_left}
-use Rattle.drv_machine.specs.Running.{run}
+use Rattle.drv_machine.specs.Code.Running.{run}
 use Rattle.drv_machine.specs.Working.{most_open}
 use Rattle.drv_syntax.specs.Parsed.{tree_of}
 use Rattle.drv_system.specs.Facts.{no_facts}

@@ -2,7 +2,7 @@ use Rattle.drv_machine.proofs.Laws.{outcome_runs}
 use Rattle.drv_machine.proofs.whole.worked.Goals as goal
 use Rattle.drv_machine.specs.Atoms.{whole_text}
 use Rattle.drv_machine.specs.Outcome.{finished}
-use Rattle.drv_machine.specs.Running.{Machine, run}
+use Rattle.drv_machine.specs.Code.Running.{Machine, run}
 use Rattle.drv_machine.specs.Working.{◌>>-◌}
 use Rattle.drv_machine.specs.declared.fault.MachineFault.TheVariants.{Memory}
 use Rattle.drv_syntax.specs.Parsed.{tree_of}

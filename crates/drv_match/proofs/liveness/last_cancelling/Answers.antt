@@ -1,6 +1,6 @@
 use Rattle.drv_match.proofs.Lasts.{both_last, negative_last}
 use Rattle.drv_match.proofs.liveness.last_cancelling.Goals as goal
-use Rattle.drv_match.specs.Indexed.{positive}
+use Rattle.drv_match.specs.Code.Indexed.{positive}
 use Rattle.drv_match.specs.Matching.{has_negative, is_level, negative}
 use Rattle.std.proofs.Common.{◌≡◌, None, Some, false, rules, true}
 

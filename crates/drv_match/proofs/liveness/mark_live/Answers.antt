@@ -2,7 +2,7 @@ use Rattle.drv_match.proofs.ByName.{in_range}
 use Rattle.drv_match.proofs.Lasts.{flags_all, flags_next, known_again, unturned}
 use Rattle.drv_match.proofs.liveness.mark_live.Goals as goal
 use Rattle.drv_match.proofs.liveness.mark_live.Goals.{else-k-eq0+else-ne, then-k-eq0+in_ok-first_live}
-use Rattle.drv_match.specs.Indexed.{IsLast}
+use Rattle.drv_match.specs.Code.Indexed.{IsLast}
 use Rattle.drv_match.specs.Matching.{cancels, name_at}
 use Rattle.std.proofs.Common.{◌≡◌, ◌<◌, ◌+◌, ◌-◌, ◌∙◌, arith, get_or, length, nat_eq, refl, sym}
 use Rattle.std.specs.Cmp.Lexicographic.{pointwise}

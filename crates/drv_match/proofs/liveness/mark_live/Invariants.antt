@@ -1,4 +1,4 @@
-use Rattle.drv_match.specs.Indexed.{IsLast}
+use Rattle.drv_match.specs.Code.Indexed.{IsLast}
 use Rattle.drv_match.specs.Matching.{cancels, is_live, name_at}
 use Rattle.drv_match.proofs.liveness.mark_live.Given as goal
 use Rattle.std.proofs.Common.{◌≡◌, ◌-◌, ◌<◌, false, get_or, length, ℕ}

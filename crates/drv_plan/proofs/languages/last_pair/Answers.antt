@@ -1,7 +1,7 @@
 use Rattle.drv_plan.proofs.LastTexts.{pair_at, text_found}
 use Rattle.drv_plan.proofs.languages.last_pair.Goals as goal
 use Rattle.drv_plan.specs.Languages.{pair_text}
-use Rattle.drv_plan.specs.Looking.{fits}
+use Rattle.drv_plan.specs.Code.Looking.{fits}
 use Rattle.drv_specs.specs.Sets.{is_no_text, worked_text}
 use Rattle.std.proofs.Common.{◌∙◌, None, Some, ap, if◌then◌else◌, option_and_then, sym}
 

@@ -1,7 +1,7 @@
 use Rattle.drv_plan.proofs.LastTexts.{pair_hit, pair_missed}
 use Rattle.drv_plan.proofs.languages.last_place.Goals as goal
 use Rattle.drv_plan.specs.Languages.{last_text}
-use Rattle.drv_plan.specs.Looking.{fits}
+use Rattle.drv_plan.specs.Code.Looking.{fits}
 use Rattle.std.proofs.Common.{◌-◌, ◌∙◌, ap, arith, sym}
 
 pub returns-then-fits : goal.returns-then-fits

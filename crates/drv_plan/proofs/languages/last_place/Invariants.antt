@@ -1,6 +1,6 @@
 use Rattle.drv_plan.proofs.languages.last_place.Given as goal
 use Rattle.drv_plan.specs.Languages.{last_text}
-use Rattle.drv_plan.specs.Looking.{fits}
+use Rattle.drv_plan.specs.Code.Looking.{fits}
 use Rattle.std.proofs.Common.{◌≡◌, ◌≤◌, length, take}
 
 abbrev pub decreases-loop-left : goal.decreases-loop-left

@@ -1,7 +1,7 @@
 use Rattle.drv_core.specs.Run.{IfMake}
 use Rattle.drv_run.proofs.Behind.{can_behind, executed, fits_behind}
 use Rattle.drv_run.proofs.executing.execute.Goals as goal
-use Rattle.drv_run.specs.Making.{CanMake}
+use Rattle.drv_run.specs.Code.Making.{CanMake}
 use Rattle.drv_system.specs.Running.{run_of}
 use Rattle.drv_words.specs.Stepping.{can_make, fits}
 use Rattle.std.proofs.Common.{◌≡◌, subst, sym, true}

@@ -1,4 +1,4 @@
-use Rattle.drv_specs.specs.Tables.{all_added, shown}
+use Rattle.drv_specs.specs.Code.Tables.{all_added, shown}
 use Rattle.std.proofs.Common.{◌≡◌, drop, map}
 use Rattle.drv_specs.proofs.builtin_specs.add_rows.Given as goal
 

@@ -1,4 +1,4 @@
-use Rattle.drv_specs.specs.Tables.{all_put, shown}
+use Rattle.drv_specs.specs.Code.Tables.{all_put, shown}
 use Rattle.std.proofs.Common.{◌≡◌, drop, map}
 use Rattle.drv_specs.proofs.builtin_specs.put_rows.Given as goal
 

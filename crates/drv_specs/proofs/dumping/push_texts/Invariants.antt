@@ -1,5 +1,5 @@
 use Rattle.drv_specs.specs.Dumping.{named_text}
-use Rattle.drv_specs.specs.Keyed.{entries_of}
+use Rattle.drv_specs.specs.Code.Keyed.{entries_of}
 use Rattle.std.proofs.Common.{◌≡◌, ◌++◌, flat_map}
 use Rattle.drv_specs.proofs.dumping.push_texts.Given as goal
 

@@ -3,7 +3,7 @@ use Rattle.drv_specs.proofs.Lining.{inside_next}
 use Rattle.drv_specs.proofs.Sliced.{body_rest, body_size}
 use Rattle.drv_specs.proofs.lines.cut_body.Goals as goal
 use Rattle.drv_specs.specs.Directives.{body_lines, read_lines}
-use Rattle.drv_specs.specs.Slices.{bytes_from, lines_left, size_left, text_left}
+use Rattle.drv_specs.specs.Code.Slices.{bytes_from, lines_left, size_left, text_left}
 use Rattle.drv_words.specs.Bytes.{newline}
 use Rattle.std.proofs.Common.{◌≡◌, ◌+◌, ◌∷◌, ◌++◌, ◌∙◌, ap, arith, drop, flat_map, length, length-append, sym, take, true}
 use Rattle.std.proofs.lemmas.List.{append-nil}

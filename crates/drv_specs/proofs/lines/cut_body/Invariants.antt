@@ -1,6 +1,6 @@
 use Rattle.drv_specs.proofs.lines.cut_body.Given as goal
 use Rattle.drv_specs.specs.Directives.{body_lines, read_lines}
-use Rattle.drv_specs.specs.Slices.{bytes_from, lines_left, size_left, text_left}
+use Rattle.drv_specs.specs.Code.Slices.{bytes_from, lines_left, size_left, text_left}
 use Rattle.drv_words.specs.Bytes.{newline}
 use Rattle.std.proofs.Common.{◌≡◌, ◌≤◌, ◌+◌, ◌∷◌, ◌++◌, drop, flat_map, length, take, true}
 

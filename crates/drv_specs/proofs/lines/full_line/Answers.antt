@@ -1,7 +1,7 @@
 use Rattle.drv_specs.proofs.Sliced.{body_over, lines_are, outside_now}
 use Rattle.drv_specs.proofs.lines.full_line.Goals as goal
 use Rattle.drv_specs.specs.Directives.{body_lines, read_lines}
-use Rattle.drv_specs.specs.Slices.{lines_from}
+use Rattle.drv_specs.specs.Code.Slices.{lines_from}
 use Rattle.std.proofs.Common.{◌∙◌, ap, false, sym, true}
 use Rattle.std.specs.Option.{option_map}
 

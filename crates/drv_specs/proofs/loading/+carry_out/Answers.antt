@@ -2,7 +2,7 @@ use Rattle.drv_specs.proofs.Carrying.{changed_more, changed_refused, deep_refuse
 use Rattle.drv_specs.proofs.loading.+carry_out.Goals as goal
 use Rattle.drv_specs.specs.Directives.{Include, read_settled}
 use Rattle.drv_specs.specs.Loading.{all_carried, including}
-use Rattle.drv_specs.specs.Slices.{shown}
+use Rattle.drv_specs.specs.Code.Slices.{shown}
 use Rattle.drv_system.proofs.Asking.{asks_extends, asks_then, extends_then}
 use Rattle.std.proofs.Common.{◌-◌, ap, arith, inr, refl}
 

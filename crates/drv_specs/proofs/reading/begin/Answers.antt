@@ -1,6 +1,6 @@
 use Rattle.drv_specs.proofs.Sliced.{begins_body, begins_keyword, begins_none, blanks_before}
 use Rattle.drv_specs.proofs.reading.begin.Goals as goal
-use Rattle.drv_specs.specs.Slices.{directives_left, found, lines_from, shown}
+use Rattle.drv_specs.specs.Code.Slices.{directives_left, found, lines_from, shown}
 use Rattle.drv_specs.specs.Directives.{by_colon, is_colon}
 use Rattle.std.proofs.Common.{◌≡◌, ◌+◌, ◌-◌, [], ◌∷◌, ◌∙◌, ap, arith, sym, ℕ}
 use Rattle.std.specs.List.{position}

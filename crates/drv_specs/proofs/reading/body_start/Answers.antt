@@ -1,7 +1,7 @@
 use Rattle.drv_specs.proofs.Sliced.{blanks_before, ends_then, first_some, inside_some, tail_is, tail_lines}
 use Rattle.drv_specs.proofs.reading.body_start.Goals as goal
 use Rattle.drv_specs.specs.Lines.{lines_of}
-use Rattle.drv_specs.specs.Slices.{bytes_from, lines_left, text_left}
+use Rattle.drv_specs.specs.Code.Slices.{bytes_from, lines_left, text_left}
 use Rattle.std.proofs.Common.{◌∙◌, sym}
 
 pub returns-clause-body : goal.returns-clause-body

@@ -1,5 +1,5 @@
 use Rattle.drv_specs.proofs.reading.next_of.Given as goal
-use Rattle.drv_specs.specs.Slices.{directives_left, size_left}
+use Rattle.drv_specs.specs.Code.Slices.{directives_left, size_left}
 use Rattle.std.proofs.Common.{◌≡◌, ◌≤◌, ◌+◌}
 
 abbrev pub invariant-loop-left : goal.invariant-loop-left

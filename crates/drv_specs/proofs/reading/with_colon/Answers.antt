@@ -1,7 +1,7 @@
 use Rattle.drv_specs.proofs.Sliced.{colon_place, ends_at, ends_then}
 use Rattle.drv_specs.proofs.reading.with_colon.Goals as goal
 use Rattle.drv_specs.specs.Directives.{body_lines, by_colon, by_key, first_line}
-use Rattle.drv_specs.specs.Slices.{lines_left}
+use Rattle.drv_specs.specs.Code.Slices.{lines_left}
 use Rattle.drv_words.specs.Bytes.{newline}
 use Rattle.std.proofs.Common.{◌+◌, ◌-◌, [], ◌∷◌, ◌++◌, ◌∙◌, ap, sym, take}
 use Rattle.std.specs.List.{join_with_byte}

@@ -1,5 +1,5 @@
 use Rattle.drv_syntax.proofs.labels.push_marks.Given as goal
-use Rattle.drv_syntax.specs.Reader.Marks.{byte_marks}
+use Rattle.drv_syntax.specs.Code.Marks.{byte_marks}
 use Rattle.std.proofs.Common.{◌≡◌, ◌+◌, ◌++◌, drop}
 use Rattle.std.specs.Prelude.{vec_capacity, vec_len}
 

@@ -1,5 +1,5 @@
 use Rattle.std.proofs.Common.{◌≡◌, drop}
-use Rattle.drv_words.specs.LineReader.{read, start}
+use Rattle.drv_words.specs.Code.LineReader.{read, start}
 use Rattle.drv_words.proofs.reading_back.read_lines.Given as goal
 
 abbrev pub invariant-loop-byte : goal.invariant-loop-byte

@@ -1,5 +1,5 @@
 use Rattle.std.proofs.Common.{◌≡◌, ◌≤◌, ◌-◌, ◌+◌, drop, length}
-use Rattle.drv_words.specs.Splitter.{plain_length}
+use Rattle.drv_words.specs.Code.Splitter.{plain_length}
 use Rattle.drv_words.proofs.response.plain_length.Given as goal
 
 abbrev pub decreases-loop-count : goal.decreases-loop-count

@@ -1,5 +1,5 @@
 use Rattle.std.proofs.Common.{◌≡◌, length}
-use Rattle.drv_words.specs.Splitter.{start, words_of}
+use Rattle.drv_words.specs.Code.Splitter.{start, words_of}
 use Rattle.drv_words.proofs.response.split_text.Given as goal
 
 abbrev pub decreases-loop-left : goal.decreases-loop-left

@@ -1,6 +1,6 @@
 use Rattle.drv_args.proofs.LineSteps.{next_pieces, no_pieces}
 use Rattle.drv_args.proofs.building.LineBuilder.add_pieces.Goals as goal
-use Rattle.drv_args.specs.Building.{with_pieces}
+use Rattle.drv_args.specs.Code.Building.{with_pieces}
 use Rattle.drv_words.specs.Bytes.{comma}
 use Rattle.std.proofs.Common.{◌==◌, ◌∙◌, [], ◌∷◌, ap, map, rules, tests}
 use Rattle.std.proofs.lemmas.Iterator.Consumers.{YieldsList-end}

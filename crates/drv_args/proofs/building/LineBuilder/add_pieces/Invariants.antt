@@ -1,4 +1,4 @@
-use Rattle.drv_args.specs.Building.{with_pieces}
+use Rattle.drv_args.specs.Code.Building.{with_pieces}
 use Rattle.std.proofs.Common.{◌≡◌, map}
 use Rattle.drv_args.proofs.building.LineBuilder.add_pieces.Given as goal
 

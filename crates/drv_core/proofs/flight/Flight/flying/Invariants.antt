@@ -1,7 +1,7 @@
 use Rattle.drv_core.proofs.flight.Flight.flying.Given as goal
-use Rattle.drv_core.specs.Fleet.{stage_in}
-use Rattle.drv_core.specs.FleetView.{fleet_of}
-use Rattle.drv_core.specs.Machine.{awaits}
+use Rattle.drv_core.specs.Code.Fleet.{stage_in}
+use Rattle.drv_core.specs.Code.FleetView.{fleet_of}
+use Rattle.drv_core.specs.Code.Machine.{awaits}
 use Rattle.std.proofs.Common.{◌≡◌, ◌+◌, ◌≤◌, drop, length}
 use Rattle.std.specs.List.{filter}
 

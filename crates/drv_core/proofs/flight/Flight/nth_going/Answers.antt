@@ -1,7 +1,7 @@
 use Rattle.drv_core.proofs.Selecting.{passed_over}
 use Rattle.drv_core.proofs.flight.Flight.nth_going.Goals as goal
-use Rattle.drv_core.specs.Fleet.{may_go}
-use Rattle.drv_core.specs.FleetView.{fleet_of}
+use Rattle.drv_core.specs.Code.Fleet.{may_go}
+use Rattle.drv_core.specs.Code.FleetView.{fleet_of}
 use Rattle.std.proofs.Common.{arith, rules}
 
 pub loop-number-preserved : goal.loop-number-preserved

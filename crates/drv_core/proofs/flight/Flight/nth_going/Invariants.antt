@@ -1,6 +1,6 @@
 use Rattle.drv_core.proofs.flight.Flight.nth_going.Given as goal
-use Rattle.drv_core.specs.Fleet.{may_go}
-use Rattle.drv_core.specs.FleetView.{fleet_of}
+use Rattle.drv_core.specs.Code.Fleet.{may_go}
+use Rattle.drv_core.specs.Code.FleetView.{fleet_of}
 use Rattle.std.proofs.Common.{◌≡◌, drop, get_or}
 use Rattle.std.specs.List.{filter}
 

@@ -1,6 +1,6 @@
 use Rattle.drv_core.proofs.Selecting.{able_at}
 use Rattle.drv_core.proofs.flight.Flight.select.Goals as goal
-use Rattle.drv_core.specs.FleetView.{fleet_of}
+use Rattle.drv_core.specs.Code.FleetView.{fleet_of}
 use Rattle.std.proofs.Common.{◌∙◌, ap}
 
 pub returns : goal.returns

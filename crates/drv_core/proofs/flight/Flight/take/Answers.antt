@@ -1,7 +1,7 @@
 use Rattle.drv_core.proofs.Fleets.{stays, turns_on}
 use Rattle.drv_core.proofs.flight.Flight.take.Goals as goal
-use Rattle.drv_core.specs.Fleet.{worked}
-use Rattle.drv_core.specs.FleetView.{fleet_of}
+use Rattle.drv_core.specs.Code.Fleet.{worked}
+use Rattle.drv_core.specs.Code.FleetView.{fleet_of}
 use Rattle.drv_words.specs.Places.{no_job}
 use Rattle.std.proofs.Common.{get_or}
 

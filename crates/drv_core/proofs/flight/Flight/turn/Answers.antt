@@ -1,6 +1,6 @@
 use Rattle.drv_core.proofs.flight.Flight.turn.Goals as goal
-use Rattle.drv_core.specs.Fleet.{chosen, closed}
-use Rattle.drv_core.specs.FleetView.{fleet_of}
+use Rattle.drv_core.specs.Code.Fleet.{chosen, closed}
+use Rattle.drv_core.specs.Code.FleetView.{fleet_of}
 use Rattle.std.proofs.Common.{ap, ◌∙◌}
 
 pub returns : goal.returns

@@ -1,8 +1,8 @@
 use Rattle.drv_core.proofs.Fleets.{worked_is}
 use Rattle.drv_core.proofs.flight.Flight.work.Goals as goal
-use Rattle.drv_core.specs.FleetView.{fleet_of}
-use Rattle.drv_core.specs.Machine.{after}
-use Rattle.drv_core.specs.Source.{stage_at}
+use Rattle.drv_core.specs.Code.FleetView.{fleet_of}
+use Rattle.drv_core.specs.Code.Machine.{after}
+use Rattle.drv_core.specs.Code.Source.{stage_at}
 use Rattle.drv_words.specs.Places.{no_job}
 use Rattle.std.proofs.Common.{ap, ◌∙◌, get_or}
 use Rattle.std.proofs.lemmas.List.{get_or_read}

@@ -1,7 +1,7 @@
 use Rattle.drv_core.proofs.Notes.{drop_lefts}
 use Rattle.drv_core.proofs.leftovers.Leftovers.seek.Goals as goal
-use Rattle.drv_core.specs.LeftoverView.{remains_of}
-use Rattle.drv_core.specs.Remains.{sought}
+use Rattle.drv_core.specs.Code.LeftoverView.{remains_of}
+use Rattle.drv_core.specs.Code.Remains.{sought}
 use Rattle.std.proofs.Common.{◌∙◌, ap}
 
 pub returns : goal.returns

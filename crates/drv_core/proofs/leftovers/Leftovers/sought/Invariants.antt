@@ -1,6 +1,6 @@
 use Rattle.drv_core.proofs.leftovers.Leftovers.sought.Given as goal
-use Rattle.drv_core.specs.LeftoverView.{lefts_of, remains_of}
-use Rattle.drv_core.specs.Remains.{sought}
+use Rattle.drv_core.specs.Code.LeftoverView.{lefts_of, remains_of}
+use Rattle.drv_core.specs.Code.Remains.{sought}
 use Rattle.std.proofs.Common.{◌≡◌, ◌-◌, drop, length}
 
 -- the first from here on is the first of all

@@ -1,8 +1,8 @@
 use Rattle.drv_core.proofs.Matches.{fresh_matches}
 use Rattle.drv_core.proofs.work.Work.new.Goals as goal
 use Rattle.drv_core.specs.Needed.{needed}
-use Rattle.drv_core.specs.Position.{flown}
-use Rattle.drv_core.specs.Starting.{first_position}
+use Rattle.drv_core.specs.Code.Position.{flown}
+use Rattle.drv_core.specs.Code.Starting.{first_position}
 use Rattle.std.proofs.Common.{◌≡◌, ◌≤◌, ◌∙◌, ap, subst, sym}
 use Rattle.std.specs.Vec.{vec_capacity}
 

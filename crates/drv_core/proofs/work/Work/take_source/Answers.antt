@@ -1,8 +1,8 @@
 use Rattle.drv_core.proofs.work.Work.take_source.Goals as goal
-use Rattle.drv_core.specs.Fleet.{taken}
-use Rattle.drv_core.specs.FleetView.{fleet_of}
-use Rattle.drv_core.specs.Position.{flown}
-use Rattle.drv_core.specs.PositionView.{position_of}
+use Rattle.drv_core.specs.Code.Fleet.{taken}
+use Rattle.drv_core.specs.Code.FleetView.{fleet_of}
+use Rattle.drv_core.specs.Code.Position.{flown}
+use Rattle.drv_core.specs.Code.PositionView.{position_of}
 use Rattle.std.proofs.Common.{◌∙◌, ap}
 
 pub returns : goal.returns

@@ -1,8 +1,8 @@
 use Rattle.drv_machine.proofs.Ends.{none_ends, plain_ends, well_given}
 use Rattle.drv_machine.proofs.machine.Machine.end_word.Goals as goal
 use Rattle.drv_machine.specs.Cutting.{word_done}
-use Rattle.drv_machine.specs.Held.{open_word}
-use Rattle.drv_machine.specs.Running.{Machine, run}
+use Rattle.drv_machine.specs.Code.Held.{open_word}
+use Rattle.drv_machine.specs.Code.Running.{Machine, run}
 use Rattle.drv_machine.specs.Working.{Break, puts}
 use Rattle.drv_system.specs.Known.{Is}
 use Rattle.std.proofs.Common.{Ok, Some, [], ◌∷◌, ap, sym, ◌∙◌}

@@ -1,6 +1,6 @@
 use Rattle.drv_machine.proofs.Cutter.{one_byte}
 use Rattle.drv_machine.proofs.machine.Machine.put_item.Goals as goal
-use Rattle.drv_machine.specs.Running.{run}
+use Rattle.drv_machine.specs.Code.Running.{run}
 use Rattle.drv_machine.specs.Working.{bytes}
 use Rattle.drv_machine.specs.declared.fault.MachineFault.TheVariants.{Memory}
 use Rattle.drv_system.specs.Gives.{GivesKnown}

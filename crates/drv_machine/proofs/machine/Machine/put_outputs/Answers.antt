@@ -3,7 +3,7 @@ use Rattle.drv_machine.proofs.Cutter.{put_last}
 use Rattle.drv_machine.proofs.Lists.{link_outputs, no_input}
 use Rattle.drv_machine.proofs.Steps.{gives_as}
 use Rattle.drv_machine.proofs.machine.Machine.put_outputs.Goals as goal
-use Rattle.drv_machine.specs.Running.{Machine, run}
+use Rattle.drv_machine.specs.Code.Running.{Machine, run}
 use Rattle.drv_machine.specs.Working.{Break, puts, words}
 use Rattle.std.proofs.Common.{[], ◌∷◌, ap, sym, ◌∙◌}
 

@@ -2,7 +2,7 @@ use Rattle.drv_machine.proofs.Cutter.{put_failed, put_last, put_then, whole_fail
 use Rattle.drv_machine.proofs.EmitSteps.{switch_is}
 use Rattle.drv_machine.proofs.machine.Machine.put_switch.Goals as goal
 use Rattle.drv_machine.specs.Context.{argument, names}
-use Rattle.drv_machine.specs.Running.{run}
+use Rattle.drv_machine.specs.Code.Running.{run}
 use Rattle.drv_machine.specs.Working.{Break, Put, puts, word_of}
 use Rattle.drv_match.specs.Matching.{name_at}
 use Rattle.drv_words.specs.Bytes.{hyphen}

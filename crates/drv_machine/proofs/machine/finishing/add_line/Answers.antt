@@ -1,7 +1,7 @@
 use Rattle.drv_machine.proofs.Finished.{one_ended, one_joined}
 use Rattle.drv_machine.proofs.machine.finishing.add_line.Goals as goal
 use Rattle.drv_machine.specs.Cutting.{Line}
-use Rattle.drv_machine.specs.Held.{made}
+use Rattle.drv_machine.specs.Code.Held.{made}
 use Rattle.drv_machine.specs.Outcome.{command}
 use Rattle.drv_words.specs.declared.plan.Command.{Command}
 use Rattle.std.proofs.Common.{◌++◌, ◌∙◌, ap, sym}

@@ -1,7 +1,7 @@
 use Rattle.drv_machine.proofs.machine.finishing.groups_of.Given as goal
-use Rattle.drv_machine.specs.Asked.{Asked}
+use Rattle.drv_machine.specs.Code.Asked.{Asked}
 use Rattle.drv_machine.specs.Cutting.{Line}
-use Rattle.drv_machine.specs.Grouping.{grouped}
+use Rattle.drv_machine.specs.Code.Grouping.{grouped}
 use Rattle.drv_machine.specs.Outcome.{groups}
 use Rattle.drv_system.specs.Asking.{Extends}
 use Rattle.drv_system.specs.Facts.{Facts}

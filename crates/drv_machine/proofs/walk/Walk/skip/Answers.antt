@@ -1,7 +1,7 @@
 use Rattle.drv_machine.proofs.Lying.{lies_past, past_later, place_in}
 use Rattle.drv_machine.proofs.TurnSteps.{at_item, left_at}
 use Rattle.drv_machine.proofs.walk.Walk.skip.Goals as goal
-use Rattle.drv_machine.specs.Walking.{Left}
+use Rattle.drv_machine.specs.Code.Walking.{Left}
 use Rattle.drv_machine.specs.declared.walk.Walk.{Walk}
 use Rattle.std.proofs.Common.{ap, arith, subst, sym, ◌<◌, ℕ}
 

@@ -1,5 +1,5 @@
 use Rattle.drv_machine.proofs.walk.Walk.skip.Given as goal
-use Rattle.drv_machine.specs.Walking.{Lies}
+use Rattle.drv_machine.specs.Code.Walking.{Lies}
 use Rattle.drv_syntax.specs.Tree.{Items}
 use Rattle.std.proofs.Common.{◌-◌, ◌≡◌}
 

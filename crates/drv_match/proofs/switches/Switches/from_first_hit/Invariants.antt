@@ -1,5 +1,5 @@
 use Rattle.drv_match.proofs.switches.Switches.from_first_hit.Given as goal
-use Rattle.drv_match.specs.Indexed.{SameHits}
+use Rattle.drv_match.specs.Code.Indexed.{SameHits}
 use Rattle.std.proofs.Common.{◌-◌, ◌≤◌, drop, length}
 
 abbrev pub invariant-loop-at : goal.invariant-loop-at

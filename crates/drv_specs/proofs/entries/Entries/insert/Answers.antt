@@ -1,6 +1,6 @@
 use Rattle.drv_specs.proofs.Keys.{entries_with, set_of}
 use Rattle.drv_specs.proofs.entries.Entries.insert.Goals as goal
-use Rattle.drv_specs.specs.Keyed.{entries_of}
+use Rattle.drv_specs.specs.Code.Keyed.{entries_of}
 use Rattle.indexmap.specs.IndexMap.{insert_entry}
 use Rattle.std.proofs.Common.{◌∙◌, ap, nat_eq}
 use Rattle.std.specs.Cmp.Lexicographic.{pointwise}

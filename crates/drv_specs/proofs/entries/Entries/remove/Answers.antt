@@ -1,6 +1,6 @@
 use Rattle.drv_specs.proofs.Keys.{entries_without, set_of}
 use Rattle.drv_specs.proofs.entries.Entries.remove.Goals as goal
-use Rattle.drv_specs.specs.Keyed.{entries_of}
+use Rattle.drv_specs.specs.Code.Keyed.{entries_of}
 use Rattle.std.proofs.Common.{◌∙◌, ap}
 
 pub returns : goal.returns

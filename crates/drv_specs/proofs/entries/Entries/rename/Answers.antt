@@ -1,6 +1,6 @@
 use Rattle.drv_specs.proofs.Keys.{entries_renamed, entries_unnamed, set_of}
 use Rattle.drv_specs.proofs.entries.Entries.rename.Goals as goal
-use Rattle.drv_specs.specs.Keyed.{entries_of}
+use Rattle.drv_specs.specs.Code.Keyed.{entries_of}
 use Rattle.drv_specs.specs.Sets.{Set, text_of}
 use Rattle.std.proofs.Common.{◌∙◌, Some, ap, nat_eq, sym}
 use Rattle.std.specs.Cmp.Lexicographic.{pointwise}

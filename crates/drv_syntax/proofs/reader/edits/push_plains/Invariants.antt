@@ -1,5 +1,5 @@
 use Rattle.drv_syntax.proofs.reader.edits.push_plains.Given as goal
-use Rattle.drv_syntax.specs.Reader.Steps.{plain_tokens}
+use Rattle.drv_syntax.specs.Code.Steps.{plain_tokens}
 use Rattle.std.proofs.Common.{◌≡◌, ◌+◌, ◌++◌, drop, length}
 use Rattle.std.specs.Prelude.{vec_capacity, vec_len}
 

@@ -1,6 +1,6 @@
 use Rattle.std.proofs.Common.{◌≡◌, ◌≤◌, ◌+◌, ◌*◌, length}
-use Rattle.drv_syntax.specs.Reader.Steps as steps
-use Rattle.drv_syntax.specs.Reader.States.{state}
+use Rattle.drv_syntax.specs.Code.Steps as steps
+use Rattle.drv_syntax.specs.Code.States.{state}
 use Rattle.drv_syntax.proofs.reader.reading.read.Given as goal
 
 abbrev pub invariant-loop-left : goal.invariant-loop-left

@@ -1,5 +1,5 @@
 use Rattle.drv_syntax.proofs.reader.runs.run_length.Given as goal
-use Rattle.drv_syntax.specs.Reader.Steps.{runs}
+use Rattle.drv_syntax.specs.Code.Steps.{runs}
 use Rattle.std.proofs.Common.{◌≡◌, ◌≤◌, ◌+◌, ◌-◌, drop, length}
 use Rattle.std.specs.List.{prefix_len}
 

@@ -1,6 +1,6 @@
 use Rattle.drv_syntax.proofs.Runs.{turn_takes}
 use Rattle.drv_syntax.proofs.reader.turns.byte_turn.Goals as goal
-use Rattle.drv_syntax.specs.Reader.States.{state}
+use Rattle.drv_syntax.specs.Code.States.{state}
 
 pub returns-clause-does : goal.returns-clause-does
 returns-clause-does c =

@@ -1,6 +1,6 @@
 use Rattle.drv_syntax.proofs.Runs.{percent_takes}
 use Rattle.drv_syntax.proofs.reader.turns.directive_turn.Goals as goal
-use Rattle.drv_syntax.specs.Reader.States.{state}
+use Rattle.drv_syntax.specs.Code.States.{state}
 
 pub returns-in_ok-taken-in-len1-up-clause-does : goal.returns-in_ok-taken-in-len1-up-clause-does
 returns-in_ok-taken-in-len1-up-clause-does c =

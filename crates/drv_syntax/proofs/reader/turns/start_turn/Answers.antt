@@ -1,6 +1,6 @@
 use Rattle.drv_syntax.proofs.Runs.{run_takes}
 use Rattle.drv_syntax.proofs.reader.turns.start_turn.Goals as goal
-use Rattle.drv_syntax.specs.Reader.States.{state}
+use Rattle.drv_syntax.specs.Code.States.{state}
 use Rattle.std.proofs.Common.{arith}
 
 pub returns-clause-does : goal.returns-clause-does

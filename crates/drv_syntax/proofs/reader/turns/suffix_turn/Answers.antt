@@ -1,6 +1,6 @@
 use Rattle.drv_syntax.proofs.Runs.{fault_there, run_fails, run_steps, same_stage, step_there, suffix_takes}
 use Rattle.drv_syntax.proofs.reader.turns.suffix_turn.Goals as goal
-use Rattle.drv_syntax.specs.Reader.States.{state}
+use Rattle.drv_syntax.specs.Code.States.{state}
 use Rattle.drv_syntax.specs.declared.reader.stages.ListStage.TheVariants as stages
 use Rattle.drv_syntax.specs.declared.reader.stages.Stage.TheVariants as at
 use Rattle.std.proofs.Common.{arith, get_or, ◌+◌, refl}

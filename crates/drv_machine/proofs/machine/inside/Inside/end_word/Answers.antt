@@ -1,6 +1,6 @@
 use Rattle.drv_machine.proofs.Ends.{all_ended}
 use Rattle.drv_machine.proofs.machine.inside.Inside.end_word.Goals as goal
-use Rattle.drv_machine.specs.Held.{ended_in}
+use Rattle.drv_machine.specs.Code.Held.{ended_in}
 use Rattle.std.proofs.Common.{ap, ◌∙◌}
 
 pub returns : goal.returns

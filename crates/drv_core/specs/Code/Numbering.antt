@@ -1,5 +1,5 @@
 use Rattle.drv_core.specs.Outcomes.{File}
-use Rattle.drv_core.specs.Remains.{Left}
+use Rattle.drv_core.specs.Code.Remains.{Left}
 use Rattle.std.specs.Cmp.Lexicographic.{pointwise}
 use Rattle.std.specs.Prelude.{◌≡◌, ◌+◌, List, [], ◌∷◌, ◌++◌, None, Option, Some, if◌then◌else◌, length, nat_eq, unwrap_or, ℕ}
 

@@ -1,5 +1,5 @@
 use Rattle.drv_machine.specs.Cutting.{word_done}
-use Rattle.drv_machine.specs.Running.{Machine}
+use Rattle.drv_machine.specs.Code.Running.{Machine}
 use Rattle.drv_machine.specs.Working.{◌>>-◌, Answer}
 use Rattle.drv_system.specs.Known.{Is}
 use Rattle.drv_words.specs.declared.plan.Command.{Command}

@@ -1,4 +1,4 @@
-use Rattle.drv_core.specs.Machine.{ClaimReport, Claims, Closing, Ended, RemovalReport, Removals, Stage, StartReport, Starts, WaitReport, Waits}
+use Rattle.drv_core.specs.Code.Machine.{ClaimReport, Claims, Closing, Ended, RemovalReport, Removals, Stage, StartReport, Starts, WaitReport, Waits}
 use Rattle.drv_core.specs.declared.source.Point.{Point}
 use Rattle.drv_core.specs.declared.source.Point.TheVariants as point
 use Rattle.drv_core.specs.declared.source.Source.{Source}

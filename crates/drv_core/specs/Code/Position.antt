@@ -1,10 +1,10 @@
-use Rattle.drv_core.specs.Counting.{noting, place_at}
-use Rattle.drv_core.specs.Course.{Done, Link, Phase, Removals, Report, Sources}
-use Rattle.drv_core.specs.Fleet.{Fleet, Worker, asked_of, stage_in, taken, worker_in}
-use Rattle.drv_core.specs.Machine.{after, asks, left, remove_of}
+use Rattle.drv_core.specs.Code.Counting.{noting, place_at}
+use Rattle.drv_core.specs.Code.Course.{Done, Link, Phase, Removals, Report, Sources}
+use Rattle.drv_core.specs.Code.Fleet.{Fleet, Worker, asked_of, stage_in, taken, worker_in}
+use Rattle.drv_core.specs.Code.Machine.{after, asks, left, remove_of}
 use Rattle.drv_core.specs.Outcomes.{answer_code}
-use Rattle.drv_core.specs.Remains.{Remains, passing, seeking}
-use Rattle.drv_core.specs.Source.{HasRoom}
+use Rattle.drv_core.specs.Code.Remains.{Remains, passing, seeking}
+use Rattle.drv_core.specs.Code.Source.{HasRoom}
 use Rattle.drv_core.specs.Story.{event, removal_failed}
 use Rattle.drv_words.specs.declared.answers.Answer.{Answer}
 use Rattle.drv_words.specs.declared.plan.Job.{Job}

@@ -1,10 +1,10 @@
-use Rattle.drv_core.specs.Course.{Done, Link, Phase, Removals, Report, Sources, link_of}
+use Rattle.drv_core.specs.Code.Course.{Done, Link, Phase, Removals, Report, Sources, link_of}
 use Rattle.drv_core.specs.Filled.{AllFilled, Filled}
-use Rattle.drv_core.specs.Fleet.{Fleet, able, selected, stage_in}
-use Rattle.drv_core.specs.Machine.{inside, is_kind}
+use Rattle.drv_core.specs.Code.Fleet.{Fleet, able, selected, stage_in}
+use Rattle.drv_core.specs.Code.Machine.{inside, is_kind}
 use Rattle.drv_core.specs.Needed.{needed}
-use Rattle.drv_core.specs.Position.{Position, moved, next_of}
-use Rattle.drv_core.specs.Starting.{fresh_position}
+use Rattle.drv_core.specs.Code.Position.{Position, moved, next_of}
+use Rattle.drv_core.specs.Code.Starting.{fresh_position}
 use Rattle.drv_words.specs.declared.answers.Answer.{Answer}
 use Rattle.drv_words.specs.declared.plan.Plan.{Plan}
 use Rattle.drv_words.specs.declared.steps.Step.{Step}

@@ -12,14 +12,14 @@ use Rattle.drv_syntax.specs.declared.reader.stages.Form.TheVariants as forms
 use Rattle.drv_syntax.specs.declared.reader.stages.Form.{Form}
 use Rattle.drv_syntax.specs.declared.directives.Directive.TheVariants as directives
 use Rattle.drv_syntax.specs.declared.directives.Directive.{Directive}
-use Rattle.drv_syntax.specs.Reader.HeadActions as heads
-use Rattle.drv_syntax.specs.Reader.HeadActions.{ChoiceAction, HeadAction}
+use Rattle.drv_syntax.specs.Code.HeadActions as heads
+use Rattle.drv_syntax.specs.Code.HeadActions.{ChoiceAction, HeadAction}
 use Rattle.drv_syntax.specs.declared.reader.stages.HeadStage.TheVariants as places
 use Rattle.drv_syntax.specs.declared.reader.stages.HeadStage.{HeadStage}
 use Rattle.drv_syntax.specs.declared.reader.actions.Single.TheVariants as singles
 use Rattle.drv_syntax.specs.declared.reader.actions.Single.{Single}
-use Rattle.drv_syntax.specs.Reader.ListActions as acts
-use Rattle.drv_syntax.specs.Reader.ListActions.{ListAction, ListTurn}
+use Rattle.drv_syntax.specs.Code.ListActions as acts
+use Rattle.drv_syntax.specs.Code.ListActions.{ListAction, ListTurn}
 use Rattle.drv_syntax.specs.declared.reader.stages.ListKind.TheVariants as lists
 use Rattle.drv_syntax.specs.declared.reader.stages.ListKind.{ListKind}
 use Rattle.drv_syntax.specs.declared.reader.stages.ListStage.TheVariants as stages

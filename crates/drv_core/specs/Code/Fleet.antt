@@ -1,4 +1,4 @@
-use Rattle.drv_core.specs.Machine.{Ended, Stage, after, asks, awaits, begin, inside, left}
+use Rattle.drv_core.specs.Code.Machine.{Ended, Stage, after, asks, awaits, begin, inside, left}
 use Rattle.drv_core.specs.Outcomes.{greatest, none}
 use Rattle.drv_words.specs.Places.{no_job}
 use Rattle.drv_words.specs.declared.answers.Answer.{Answer}

@@ -1,9 +1,9 @@
 use Rattle.drv_machine.specs.Atoms.{arguments, brace_step, choices_step, each_hit, found_step, has_value, items_step, judged, levels_left, matching, named_file, value_step}
-use Rattle.drv_machine.specs.ByKind.{labelled}
+use Rattle.drv_machine.specs.Code.ByKind.{labelled}
 use Rattle.drv_machine.specs.Context.{Context, argument, names}
 use Rattle.drv_machine.specs.Cutting.{Cut, file_begun, file_done, words_in_file}
-use Rattle.drv_machine.specs.Running.{Machine, run}
-use Rattle.drv_machine.specs.Standing.{Part, Stands}
+use Rattle.drv_machine.specs.Code.Running.{Machine, run}
+use Rattle.drv_machine.specs.Code.Standing.{Part, Stands}
 use Rattle.drv_machine.specs.Working.{◌>>-◌, ◌>>=◌, ◌>>◌, Answer, Break, Levels, Step, To, most_open, nothing, opened, puts, word_of}
 use Rattle.drv_machine.specs.declared.fault.MachineFault.TheVariants.{Memory}
 use Rattle.drv_machine.specs.declared.fault.MachineFault.{MachineFault}

@@ -1,7 +1,7 @@
-use Rattle.drv_core.specs.Course.{Done, Link, Phase, Removals, Report, Sources}
-use Rattle.drv_core.specs.FleetView.{fleet_of, worker_of}
-use Rattle.drv_core.specs.LeftoverView.{remains_of}
-use Rattle.drv_core.specs.Position.{Position}
+use Rattle.drv_core.specs.Code.Course.{Done, Link, Phase, Removals, Report, Sources}
+use Rattle.drv_core.specs.Code.FleetView.{fleet_of, worker_of}
+use Rattle.drv_core.specs.Code.LeftoverView.{remains_of}
+use Rattle.drv_core.specs.Code.Position.{Position}
 use Rattle.drv_core.specs.declared.work.Part.{Part}
 use Rattle.drv_core.specs.declared.work.Part.TheVariants as part
 use Rattle.drv_core.specs.declared.work.Work.{Work}

@@ -1,8 +1,8 @@
 use Rattle.drv_machine.specs.Atoms.{added, choices_step, emitted, first_true, judged, leaf_step, noted, switch_atoms, temp_step, truth}
 use Rattle.drv_machine.specs.Context.{Context, names}
 use Rattle.drv_machine.specs.Names.{is_word, language_of, suffix_of}
-use Rattle.drv_machine.specs.Running.{Machine, run}
-use Rattle.drv_machine.specs.Standing.{Part, Stands}
+use Rattle.drv_machine.specs.Code.Running.{Machine, run}
+use Rattle.drv_machine.specs.Code.Standing.{Part, Stands}
 use Rattle.drv_machine.specs.Working.{◌>>=◌, Atom, Break, End, Levels, Piped, Step, bytes, change, give, look, nothing, puts, refuse}
 use Rattle.drv_machine.specs.declared.asking.Judged.TheVariants as found
 use Rattle.drv_machine.specs.declared.asking.Judged.{Judged}

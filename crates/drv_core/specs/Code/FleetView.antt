@@ -1,5 +1,5 @@
-use Rattle.drv_core.specs.Fleet.{Fleet, Worker}
-use Rattle.drv_core.specs.Source.{stage_at}
+use Rattle.drv_core.specs.Code.Fleet.{Fleet, Worker}
+use Rattle.drv_core.specs.Code.Source.{stage_at}
 use Rattle.drv_core.specs.declared.flight.Flight.{Flight}
 use Rattle.drv_core.specs.declared.source.Source.{Source}
 use Rattle.std.specs.Prelude.{map}

@@ -1,4 +1,4 @@
-use Rattle.drv_core.specs.Leftovers.{temp_files}
+use Rattle.drv_core.specs.Code.Leftovers.{temp_files}
 use Rattle.drv_core.specs.Outcomes.{File, Told, each_once, is_claimed, marked_files, none}
 use Rattle.drv_core.specs.Windowed.{total}
 use Rattle.drv_words.specs.declared.answers.Answer.{Answer}

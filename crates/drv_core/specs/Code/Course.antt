@@ -1,6 +1,6 @@
-use Rattle.drv_core.specs.Due.{due_files, tally}
-use Rattle.drv_core.specs.Fleet.{Fleet, asked_of, fresh_fleet, taken}
-use Rattle.drv_core.specs.Machine.{Ended, Stage, after, asks, begin, left, remove_of}
+use Rattle.drv_core.specs.Code.Due.{due_files, tally}
+use Rattle.drv_core.specs.Code.Fleet.{Fleet, asked_of, fresh_fleet, taken}
+use Rattle.drv_core.specs.Code.Machine.{Ended, Stage, after, asks, begin, left, remove_of}
 use Rattle.drv_core.specs.Outcomes.{File, answer_code, greatest, none}
 use Rattle.drv_core.specs.Story.{event, removal_failed}
 use Rattle.drv_words.specs.Places.{no_job}

@@ -1,4 +1,4 @@
-use Rattle.drv_core.specs.Remains.{Left, Remains}
+use Rattle.drv_core.specs.Code.Remains.{Left, Remains}
 use Rattle.drv_words.specs.declared.answers.Answer.{Answer}
 use Rattle.drv_words.specs.declared.answers.Answer.TheVariants as answer
 use Rattle.drv_words.specs.declared.answers.ClaimAnswer.{ClaimAnswer}

@@ -1,8 +1,8 @@
 use Rattle.drv_words.specs.Bytes as ascii
 use Rattle.drv_syntax.specs.Bytes.{is_of, is_space}
 use Rattle.drv_syntax.specs.Labels.{Label, no_label, star_label, word_label}
-use Rattle.drv_syntax.specs.Reader.Marks.{byte_labels}
-use Rattle.drv_syntax.specs.Reader.Turns.{behind_pattern, behind_test, called_label, chooses, choice_action, emits, head_action, single_kind, single_label, list_turn, percent_action, start_action, taken_word}
+use Rattle.drv_syntax.specs.Code.Marks.{byte_labels}
+use Rattle.drv_syntax.specs.Code.Turns.{behind_pattern, behind_test, called_label, chooses, choice_action, emits, head_action, single_kind, single_label, list_turn, percent_action, start_action, taken_word}
 use Rattle.drv_syntax.specs.declared.fault.SyntaxFault.TheVariants.{BadDirective, EmptyTest, Unclosed}
 use Rattle.drv_syntax.specs.declared.fault.SyntaxFault.{SyntaxFault}
 use Rattle.drv_syntax.specs.declared.reader.stages.Behind.TheVariants as behinds
@@ -15,13 +15,13 @@ use Rattle.drv_syntax.specs.declared.reader.stages.Form.{Form}
 use Rattle.drv_syntax.specs.declared.reader.stages.Frame.TheVariants as frames
 use Rattle.drv_syntax.specs.declared.reader.stages.Frame.{Frame}
 use Rattle.drv_syntax.specs.declared.reader.stages.Head.{Head}
-use Rattle.drv_syntax.specs.Reader.HeadActions as heads
-use Rattle.drv_syntax.specs.Reader.HeadActions.{ChoiceAction, HeadAction}
+use Rattle.drv_syntax.specs.Code.HeadActions as heads
+use Rattle.drv_syntax.specs.Code.HeadActions.{ChoiceAction, HeadAction}
 use Rattle.drv_syntax.specs.declared.reader.stages.HeadStage.TheVariants as places
 use Rattle.drv_syntax.specs.declared.reader.actions.Single.TheVariants as singles
 use Rattle.drv_syntax.specs.declared.reader.actions.Single.{Single}
-use Rattle.drv_syntax.specs.Reader.ListActions as acts
-use Rattle.drv_syntax.specs.Reader.ListActions.{ListAction, ListTurn}
+use Rattle.drv_syntax.specs.Code.ListActions as acts
+use Rattle.drv_syntax.specs.Code.ListActions.{ListAction, ListTurn}
 use Rattle.drv_syntax.specs.declared.reader.stages.ListKind.TheVariants as lists
 use Rattle.drv_syntax.specs.declared.reader.stages.ListKind.{ListKind}
 use Rattle.drv_syntax.specs.declared.reader.stages.ListStage.TheVariants as stages

@@ -1,7 +1,7 @@
 use Rattle.drv_core.specs.Outcomes.{status_from}
-use Rattle.drv_core.specs.Position.{Position, next_of}
-use Rattle.drv_core.specs.PositionView.{position_of}
-use Rattle.drv_core.specs.Reached.{Kept}
+use Rattle.drv_core.specs.Code.Position.{Position, next_of}
+use Rattle.drv_core.specs.Code.PositionView.{position_of}
+use Rattle.drv_core.specs.Code.Reached.{Kept}
 use Rattle.drv_core.specs.Run.{Run, action_of}
 use Rattle.drv_core.specs.declared.work.Work.{Work}
 use Rattle.drv_words.specs.declared.plan.Plan.{Plan}

@@ -1,4 +1,4 @@
-use Rattle.drv_core.specs.Remains.{Left, Remains}
+use Rattle.drv_core.specs.Code.Remains.{Left, Remains}
 use Rattle.drv_core.specs.declared.leftovers.Leftover.{Leftover}
 use Rattle.drv_core.specs.declared.leftovers.Leftovers.{Leftovers as Kept}
 use Rattle.std.specs.Prelude.{List, map}

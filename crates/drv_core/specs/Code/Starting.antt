@@ -1,9 +1,9 @@
-use Rattle.drv_core.specs.Counting.{fresh_remains}
-use Rattle.drv_core.specs.Course.{Sources, link_of}
-use Rattle.drv_core.specs.Fleet.{fresh, fresh_fleet}
-use Rattle.drv_core.specs.Leftovers.{all_files}
-use Rattle.drv_core.specs.Numbering.{lefts}
-use Rattle.drv_core.specs.Position.{Position, flown}
+use Rattle.drv_core.specs.Code.Counting.{fresh_remains}
+use Rattle.drv_core.specs.Code.Course.{Sources, link_of}
+use Rattle.drv_core.specs.Code.Fleet.{fresh, fresh_fleet}
+use Rattle.drv_core.specs.Code.Leftovers.{all_files}
+use Rattle.drv_core.specs.Code.Numbering.{lefts}
+use Rattle.drv_core.specs.Code.Position.{Position, flown}
 use Rattle.drv_words.specs.declared.plan.Plan.{Plan}
 use Rattle.std.specs.Prelude.{[], length, ℕ}
 

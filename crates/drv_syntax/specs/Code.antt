@@ -1,0 +1,7 @@
+-- How the code goes over its input, step by step: what stands between the code and the definitions. No public contract rests on these.
+pub mod HeadActions
+pub mod ListActions
+pub mod Marks
+pub mod States
+pub mod Steps
+pub mod Turns
