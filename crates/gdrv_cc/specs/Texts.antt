@@ -2,6 +2,7 @@ use Rattle.drv_cc.specs.declared.refusal.Refusal.TheVariants.{NoArgument, NoInpu
 use Rattle.drv_cc.specs.declared.refusal.Refusal.{Refusal}
 use Rattle.drv_words.specs.Bytes.{at_sign}
 use Rattle.std.specs.Cmp.Lexicographic.{pointwise}
+use Rattle.std.specs.List.{list_any, starts_with}
 use Rattle.std.specs.Prelude.{◌==◌, ◌||◌, Bool, List, [], ◌∷◌, ◌++◌, None, Option, Some, codes, if◌then◌else◌, nat_eq, ℕ}
 
 -- What the user is told, in the words of gcc's driver where it has them.
@@ -77,3 +78,14 @@ unwritten_text name before path specs machine = error_line name (quoted before p
 -- behind a run that did not find a program
 abbrev pub gone_text : List ℕ → List ℕ → List ℕ → List ℕ
 gone_text name specs machine = name ++ codes ": note: where the compiler of the spec file is gone, " ++ writing specs machine ++ codes " anew\n"
+
+-- An option that a self spec of a spec file gives (GCC manual, "Spec Files"; GCC Internals, "Driver") is no program, and is what such a run
+-- did not find.
+abbrev pub names_specs : List ℕ → Bool
+names_specs word = starts_with nat_eq word (codes "-specs=")
+
+abbrev pub unworked_text : List ℕ → List ℕ
+unworked_text name = name ++ codes ": note: an option that a 'self_spec' of the line's spec files gives is not carried out\n"
+
+abbrev pub hint_text : List ℕ → List ℕ → List ℕ → List (List ℕ) → List ℕ
+hint_text name specs machine words = (if list_any names_specs words then unworked_text name else []) ++ gone_text name specs machine

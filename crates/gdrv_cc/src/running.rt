@@ -6,7 +6,7 @@ use crate::asking::own_arguments;
 use crate::calling::Calling;
 use crate::outcome::{Outcome, answered};
 use crate::places::{texts_for, texts_or};
-use crate::texts::{add_absent, gone, unwritten};
+use crate::texts::{add_absent, hint, unwritten};
 use drv_cc::{Call, Stages, Variable};
 use drv_run::{Ending, drive};
 use drv_system::{Event, HostSystem, PathKind, System, call, clock_seed, complain};
@@ -98,32 +98,18 @@ fn is_absent(event: &Event) -> bool {
     )
 }
 
-/// Says, where a run did not find a program, how the spec file is written anew.
-fn hint(
-    rt: &HostRuntime,
-    calling: &Calling,
-    specs: &Word,
-    journal: &[Event],
-) -> Result<(), AllocError> {
-    if journal.iter().any(is_absent) {
-        let (name, machine) = (calling.name.as_bytes(), calling.machine.as_bytes());
-        let text = gone(rt.alloc(), name, specs.as_bytes(), machine)?;
-        complain(rt, text.as_bytes());
-    }
-    Ok(())
-}
-
-/// Has the driver carry out words, with variables for its children.
+/// Has the driver carry out words, with variables for its children. Where the run does not find a program, the hint is told.
 fn drive_words(
     rt: &HostRuntime,
-    calling: &Calling,
-    specs: &Word,
     words: Listing<Word>,
     variables: &[Variable],
+    hint: &Word,
 ) -> Result<Ending, AllocError> {
     let mut sys = system_with(rt, variables)?;
     let ending = drive(rt.alloc(), &mut sys, words, clock_seed(rt));
-    hint(rt, calling, specs, sys.journal())?;
+    if sys.journal().iter().any(is_absent) {
+        complain(rt, hint.as_bytes());
+    }
     Ok(ending)
 }
 
@@ -155,7 +141,14 @@ pub fn run(
         line.inputs.as_slice(),
         sys,
     )?;
+    let hint = hint(
+        rt.alloc(),
+        calling.name.as_bytes(),
+        specs.as_bytes(),
+        calling.machine.as_bytes(),
+        line.words.as_slice(),
+    )?;
     let words = words_for(rt.alloc(), specs, line.words, line.stages, sys)?;
-    let ending = drive_words(rt, calling, specs, words, line.children.as_slice())?;
+    let ending = drive_words(rt, words, line.children.as_slice(), &hint)?;
     Ok(Outcome::Ended(ending))
 }

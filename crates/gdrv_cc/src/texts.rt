@@ -1,8 +1,9 @@
 //! What the user is told.
 
-ghost use Rattle.gdrv_cc.specs.Texts.{absent_text, error_line, file_said, gone_text, lacking, meant, quoted, refusal_text, takes_file, takes_goal, takes_macro, takes_path, unknown_text, unwritten_text, writing};
+ghost use Rattle.gdrv_cc.specs.Texts.{absent_text, error_line, file_said, gone_text, hint_text, lacking, meant, names_specs, quoted, refusal_text, takes_file, takes_goal, takes_macro, takes_path, unknown_text, unworked_text, unwritten_text, writing};
+ghost use Rattle.std.specs.List.{list_any};
 ghost use Rattle.std.specs.Option.{option_copied};
-ghost use Rattle.std.specs.Prelude.{◌≡◌, ◌∷◌, ◌++◌, [], IfOk, OnOk, codes};
+ghost use Rattle.std.specs.Prelude.{◌≡◌, ◌∷◌, ◌++◌, [], IfOk, OnOk, codes, if◌then◌else◌};
 
 use drv_cc::Refusal;
 use drv_words::Word;
@@ -228,13 +229,55 @@ pub fn unwritten(
     Ok(line)
 }
 
-/// What is told behind a run that did not find a program.
-pub fn gone(alloc: Global, name: &[u8], specs: &[u8], machine: &[u8]) -> Result<Word, AllocError>
-    ensures { IfOk result (λ line. line ≡ gone_text name.now specs.now machine.now) }
+/// Adds what is told where the compiler of the spec file may be gone.
+fn add_gone(text: &mut Word, name: &[u8], specs: &[u8], machine: &[u8]) -> Result<(), AllocError>
+    ensures { OnOk result (text.new ≡ text.old ++ gone_text name.now specs.now machine.now) }
 {
-    let mut line = Word::from_bytes(alloc, name)?;
-    line.extend_from_slice(b": note: where the compiler of the spec file is gone, ")?;
-    add_writing(&mut line, specs, machine)?;
-    line.extend_from_slice(b" anew\n")?;
-    Ok(line)
+    text.extend_from_slice(name)?;
+    text.extend_from_slice(b": note: where the compiler of the spec file is gone, ")?;
+    add_writing(text, specs, machine)?;
+    text.extend_from_slice(b" anew\n")
+}
+
+/// Whether a word names a spec file.
+fn names_specs(word: &Word) -> bool
+    ensures { result ≡ names_specs word.now }
+{
+    word.as_bytes().starts_with(b"-specs=")
+}
+
+/// Whether a line names a spec file.
+fn have_specs(words: &[Word]) -> bool
+    ensures { result ≡ list_any names_specs words.now }
+{
+    words.iter().any(names_specs)
+}
+
+/// What is told of an option that a spec file of the line may give, where the line names one.
+fn unworked(alloc: Global, name: &[u8], words: &[Word]) -> Result<Word, AllocError>
+    ensures { IfOk result (λ text. text ≡ (if list_any names_specs words.now then unworked_text name.now else [])) }
+{
+    let mut text = Word::empty(alloc);
+    if have_specs(words) {
+        text.extend_from_slice(name)?;
+        text.extend_from_slice(
+            b": note: an option that a 'self_spec' of the line's spec files gives is not carried out\n",
+        )?;
+    }
+    Ok(text)
+}
+
+/// What is told behind a run of a line with these words that did not find a program.
+pub fn hint(
+    alloc: Global,
+    name: &[u8],
+    specs: &[u8],
+    machine: &[u8],
+    words: &[Word],
+) -> Result<Word, AllocError>
+    ensures { IfOk result (λ text. text ≡ hint_text name.now specs.now machine.now words.now) }
+{
+    let mut text = unworked(alloc, name, words)?;
+    add_gone(&mut text, name, specs, machine)?;
+    Ok(text)
 }
