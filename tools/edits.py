@@ -15,6 +15,8 @@ GOAL = re.compile(r"note: (?:\./)?(src/\S+?):(\d+):\d+: it is not proved (.*)")
 ERROR = re.compile(r"(?:\./)?proofs/(\S+)/\w+\.antt:\d+:\d+: error: (.*)")
 OF_NAMES = re.compile(r"has no field|is not in scope|has no `|was not admitted")
 ENDED = re.compile(r"fn (\S+): (?:not proved|no proof)")
+# A goal that stands in the line of its function alone, where the search for it broke off.
+BROKEN = re.compile(r"fn \S+: no proof: .*(`search` did not prove .*)")
 UNREAD = re.compile(r"(?:\./)?(\S+?):\d+:\d+: error: (?:`[^`]*`: )?(.*)")
 OF_TEXT = re.compile(r"is not in scope|has no field|is no name|operand is missing|expected the end|cannot continue")
 
@@ -175,7 +177,7 @@ def lost_goals(said):
     """The goals of functions that a check says are not proved."""
     found, goals, errors = [], [], {}
     for line in said.split("\n"):
-        goal, error, ended = GOAL.match(line), ERROR.match(line), ENDED.match(line)
+        goal, error, ended, broken = (it.match(line) for it in (GOAL, ERROR, ENDED, BROKEN))
         if goal:
             goals.append((goal[1], int(goal[2]), goal[3]))
         elif error and not OF_NAMES.search(error[2]):
@@ -185,6 +187,7 @@ def lost_goals(said):
             if ended:
                 proof = "/".join(ended[1].split("::")[1:])
                 goals += [("", 0, errors[proof])] if proof in errors else []
+                goals += [("", 0, broken[1])] if broken and not goals else []
                 found += [Lost(ended[1], *it) for it in goals]
             goals = []
     return found
