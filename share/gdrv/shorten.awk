@@ -22,7 +22,7 @@ key != "" { text[key] = text[key] (text[key] == "" ? "" : "\n") $0; next }
     text[key] = ""
 }
 
-# The text from `at` of `whole` on, up to one of some bytes, with what is decided left out.
+# The text, or the tests before a body, from `at` of `whole` on, up to one of some bytes, with what is decided left out.
 function shortened(stops,    out, byte) {
     out = ""
     while (at <= length(whole)) {
@@ -66,26 +66,6 @@ function reference(name) {
     return name in text ? "%(" name ")" : ""
 }
 
-# The tests before a body.
-function tests(    out, byte) {
-    out = ""
-    while (at <= length(whole)) {
-        byte = substr(whole, at, 1)
-        if (byte == "\\") {
-            out = out substr(whole, at, 2)
-            at += 2
-        } else if (substr(whole, at, 2) == "%:") {
-            out = out up_to(")")
-        } else if (index(":;}", byte)) {
-            break
-        } else {
-            out = out byte
-            at++
-        }
-    }
-    return out
-}
-
 # What is left of tests: `always`, `never`, or those that a line decides.
 function left_of(asked,    count, list, n, test, negated, out) {
     gsub(/[ \t\n]/, "", asked)
@@ -106,7 +86,7 @@ function braces(    open, out, asked, left, body, decided) {
     open = up_to("{")
     out = ""
     for (;;) {
-        asked = tests()
+        asked = shortened(":;}")
         if (substr(whole, at, 1) == "}") {
             at++
             return left_of(asked) == "never" ? "" : open asked "}"
