@@ -93,7 +93,8 @@ impl Front {
         prefix: &[u8],
         word: &[u8],
     ) -> Result<(), AllocError>
-        ensures { OnOk result (self.new ≡ with_items self.old (Operand (prefix.now ++ word.now) ∷ [])) }
+        ensures { OnOk result (self.new
+            ≡ with_items self.old (Operand (prefix.now ++ word.now) ∷ [])) }
     {
         self.has_operand = true;
         add_word(alloc, &mut self.others, prefix, word)
@@ -106,7 +107,8 @@ impl Front {
         option: Taking,
         argument: &[u8],
     ) -> Result<(), C99Fault>
-        ensures { Gives fault.Memory (λ u. self.new) result (noted self.old (given option argument.now)) }
+        ensures { Gives fault.Memory (λ u. self.new) result
+            (noted self.old (given option argument.now)) }
     {
         let added = match option {
             Taking::Define => add_pair(alloc, &mut self.defined, b"-D", argument),
@@ -126,7 +128,8 @@ impl Front {
 
     /// Moves its words behind others: what is defined, what is undefined, and all else.
     fn move_behind(&mut self, alloc: Global, words: &mut Vec<Word>) -> Result<(), AllocError>
-        ensures { OnOk result (words.new.items ≡ words.old.items ++ self.old.defined ++ self.old.undefined ++ self.old.others) }
+        ensures { OnOk result (words.new.items
+            ≡ words.old.items ++ self.old.defined ++ self.old.undefined ++ self.old.others) }
     {
         move_list(mem::replace(&mut self.defined, Listing::new(alloc)), words)?;
         move_list(

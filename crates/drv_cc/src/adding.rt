@@ -75,7 +75,8 @@ fn add_library(alloc: Global, folder: &[u8], words: &mut Listing<Word>) -> Resul
 
 /// Adds a prefix for each folder of `COMPILER_PATH`.
 fn add_prefixes(alloc: Global, path: &[u8], words: &mut Listing<Word>) -> Result<(), AllocError>
-    ensures { OnOk result (words.new ≡ words.old ++ flat_map prefix_words (folders (Some path.now))) }
+    ensures { OnOk result (words.new
+        ≡ words.old ++ flat_map prefix_words (folders (Some path.now))) }
 {
     for folder in path.split(|byte| *byte == b':') {
         add_prefix(alloc, folder, words)?;
@@ -85,7 +86,8 @@ fn add_prefixes(alloc: Global, path: &[u8], words: &mut Listing<Word>) -> Result
 
 /// Adds a word for each folder of `LIBRARY_PATH`.
 fn add_libraries(alloc: Global, path: &[u8], words: &mut Listing<Word>) -> Result<(), AllocError>
-    ensures { OnOk result (words.new ≡ words.old ++ flat_map library_words (folders (Some path.now))) }
+    ensures { OnOk result (words.new
+        ≡ words.old ++ flat_map library_words (folders (Some path.now))) }
 {
     for folder in path.split(|byte| *byte == b':') {
         add_library(alloc, folder, words)?;
@@ -167,12 +169,14 @@ fn add_folder_words(
     }
 }
 
-/// Whether an option speaks against pipes, or has them already (GCC manual, "Overall Options", -pipe).
+/// Whether an option speaks against pipes, or has them already (GCC manual, "Overall Options",
+/// -pipe).
 fn is_unpiped(item: &Item) -> bool
     ensures { result ≡ is_among unpiped item.now.name }
 {
     stands_in(
-        b"-pipe -save-temps -save-temps=cwd -save-temps=obj -S -E -M -MM -fsyntax-only -no-integrated-cpp",
+        b"-pipe -save-temps -save-temps=cwd -save-temps=obj -S -E -M -MM -fsyntax-only \
+          -no-integrated-cpp",
         item.name.as_bytes(),
     )
 }

@@ -12,13 +12,19 @@ use crate::words::add_joined;
 use drv_words::{Listing, Word};
 use std::alloc::{AllocError, Global};
 
-/// The checks that `undefined` stands for (GCC manual, "Instrumentation Options", -fsanitize=undefined).
+/// The checks that `undefined` stands for (GCC manual, "Instrumentation Options",
+/// -fsanitize=undefined).
 const UNDEFINED: &[u8] =
-    b"shift-base shift-exponent integer-divide-by-zero unreachable vla-bound return null signed-integer-overflow bool enum bounds alignment nonnull-attribute returns-nonnull-attribute object-size vptr pointer-overflow builtin";
+    b"shift-base shift-exponent integer-divide-by-zero unreachable vla-bound return null \
+      signed-integer-overflow bool enum bounds alignment nonnull-attribute \
+      returns-nonnull-attribute object-size vptr pointer-overflow builtin";
 
 /// The checks that need the library of undefined behaviour.
 const UBSAN: &[u8] =
-    b"float-divide-by-zero float-cast-overflow bounds-strict shift-base shift-exponent integer-divide-by-zero unreachable vla-bound return null signed-integer-overflow bool enum bounds alignment nonnull-attribute returns-nonnull-attribute object-size vptr pointer-overflow builtin";
+    b"float-divide-by-zero float-cast-overflow bounds-strict shift-base shift-exponent \
+      integer-divide-by-zero unreachable vla-bound return null signed-integer-overflow bool enum \
+      bounds alignment nonnull-attribute returns-nonnull-attribute object-size vptr \
+      pointer-overflow builtin";
 
 /// Whether a name stands for a check.
 fn stands_for(check: &[u8], name: &[u8]) -> bool

@@ -24,13 +24,40 @@ const RINGS: [&[u8]; 11] = [
     b"-fdiagnostics-color= -fdiagnostics-color=always -fdiagnostics-color=never",
 ];
 
-/// Options that no other sign of theirs takes back (GCC Internals, "Option Properties", RejectNegative).
+/// Options that no other sign of theirs takes back (GCC Internals, "Option Properties",
+/// RejectNegative).
 const UNPAIRED: &[u8] =
-    b"-g -g0 -g1 -g2 -g3 -ggdb -ggdb0 -ggdb1 -ggdb2 -ggdb3 -gdwarf -gdwarf-2 -gdwarf-3 -gdwarf-4 -gdwarf-5 -gstabs -gstabs+ -gbtf -gctf -gvms -gxcoff -gxcoff+ -gdwarf32 -gdwarf64 -gen-decls -fstack-protector-all -fstack-protector-explicit -fstack-protector-strong -fstack-usage -fcallgraph-info -fprofile-info-section -mred-zone -mno-red-zone -mhard-float -msse4 -mno-sse4 -mfancy-math-387 -mno-fancy-math-387 -mpc32 -mpc64 -mpc80 -mgeneral-regs-only -mno-push-args -m96bit-long-double -m128bit-long-double -malign-stringops -mno-align-stringops -mno-default -mdispatch-scheduler -mdump-tune-features -msseregparm";
+    b"-g -g0 -g1 -g2 -g3 -ggdb -ggdb0 -ggdb1 -ggdb2 -ggdb3 -gdwarf -gdwarf-2 -gdwarf-3 -gdwarf-4 \
+      -gdwarf-5 -gstabs -gstabs+ -gbtf -gctf -gvms -gxcoff -gxcoff+ -gdwarf32 -gdwarf64 -gen-decls \
+      -fstack-protector-all -fstack-protector-explicit -fstack-protector-strong -fstack-usage \
+      -fcallgraph-info -fprofile-info-section -mred-zone -mno-red-zone -mhard-float -msse4 \
+      -mno-sse4 -mfancy-math-387 -mno-fancy-math-387 -mpc32 -mpc64 -mpc80 -mgeneral-regs-only \
+      -mno-push-args -m96bit-long-double -m128bit-long-double -malign-stringops \
+      -mno-align-stringops -mno-default -mdispatch-scheduler -mdump-tune-features -msseregparm";
 
 /// Options that gcc takes and does nothing for.
-const IGNORED: &[u8] =
-    b"-Wargument-mismatch -Wchkp -Whsa -Wimport -Wmudflap -Wunreachable-code -Wunsafe-loop-optimizations -fall-virtual -falt-external-templates -fargument-alias -fargument-noalias -fargument-noalias-anything -fargument-noalias-global -fbranch-target-load-optimize -fbranch-target-load-optimize2 -fbtr-bb-exclusive -fcheck-data-deps -fcheck-pointer-bounds -fchkp-check-incomplete-type -fchkp-check-read -fchkp-check-write -fchkp-first-field-has-own-bounds -fchkp-flexible-struct-trailing-arrays -fchkp-instrument-calls -fchkp-instrument-marked-only -fchkp-narrow-bounds -fchkp-narrow-to-innermost-array -fchkp-optimize -fchkp-store-bounds -fchkp-treat-zero-dynamic-size-as-infinite -fchkp-use-fast-string-functions -fchkp-use-nochk-string-functions -fchkp-use-static-bounds -fchkp-use-static-const-bounds -fchkp-use-wrappers -fchkp-zero-input-bounds-for-main -fcilkplus -fconserve-space -fcse-skip-blocks -fdeduce-init-list -fdefault-inline -fdump-core -feliminate-dwarf2-dups -fenum-int-equiv -fexternal-templates -ffor-scope -fforce-addr -ffriend-injection -fguiding-decls -fhonor-std -fhuge-objects -fipa-cp-alignment -fipa-matrix-reorg -fipa-struct-reorg -flabels-ok -floop-flatten -floop-optimize -flto-odr-type-merging -fmudflap -fmudflapir -fmudflapth -fname-mangling-version- -fnew-abi -fnonnull-objects -foptimize-register-move -foptional-diags -fregmove -frepo -frerun-loop-opt -fsched2-use-traces -fsee -fsquangle -fstrength-reduce -fstrict-prototype -fthis-is-variable -ftree-coalesce-inlined-vars -ftree-copyrename -ftree-loop-if-convert-stores -ftree-salias -ftree-store-ccp -ftree-store-copy-prop -ftree-vect-loop-version -funsafe-loop-optimizations -fvtable-gc -fvtable-thunks -fwhole-file -fxref -fzee -gcoff -gcoff1 -gcoff2 -gcoff3 -mmitigate-rop -mmpx -mpcommit";
+const IGNORED: &[u8] = b"-Wargument-mismatch -Wchkp -Whsa -Wimport -Wmudflap -Wunreachable-code \
+      -Wunsafe-loop-optimizations -fall-virtual -falt-external-templates -fargument-alias \
+      -fargument-noalias -fargument-noalias-anything -fargument-noalias-global \
+      -fbranch-target-load-optimize -fbranch-target-load-optimize2 -fbtr-bb-exclusive \
+      -fcheck-data-deps -fcheck-pointer-bounds -fchkp-check-incomplete-type -fchkp-check-read \
+      -fchkp-check-write -fchkp-first-field-has-own-bounds -fchkp-flexible-struct-trailing-arrays \
+      -fchkp-instrument-calls -fchkp-instrument-marked-only -fchkp-narrow-bounds \
+      -fchkp-narrow-to-innermost-array -fchkp-optimize -fchkp-store-bounds \
+      -fchkp-treat-zero-dynamic-size-as-infinite -fchkp-use-fast-string-functions \
+      -fchkp-use-nochk-string-functions -fchkp-use-static-bounds -fchkp-use-static-const-bounds \
+      -fchkp-use-wrappers -fchkp-zero-input-bounds-for-main -fcilkplus -fconserve-space \
+      -fcse-skip-blocks -fdeduce-init-list -fdefault-inline -fdump-core -feliminate-dwarf2-dups \
+      -fenum-int-equiv -fexternal-templates -ffor-scope -fforce-addr -ffriend-injection \
+      -fguiding-decls -fhonor-std -fhuge-objects -fipa-cp-alignment -fipa-matrix-reorg \
+      -fipa-struct-reorg -flabels-ok -floop-flatten -floop-optimize -flto-odr-type-merging \
+      -fmudflap -fmudflapir -fmudflapth -fname-mangling-version- -fnew-abi -fnonnull-objects \
+      -foptimize-register-move -foptional-diags -fregmove -frepo -frerun-loop-opt \
+      -fsched2-use-traces -fsee -fsquangle -fstrength-reduce -fstrict-prototype -fthis-is-variable \
+      -ftree-coalesce-inlined-vars -ftree-copyrename -ftree-loop-if-convert-stores -ftree-salias \
+      -ftree-store-ccp -ftree-store-copy-prop -ftree-vect-loop-version -funsafe-loop-optimizations \
+      -fvtable-gc -fvtable-thunks -fwhole-file -fxref -fzee -gcoff -gcoff1 -gcoff2 -gcoff3 \
+      -mmitigate-rop -mmpx -mpcommit";
 
 /// The rings.
 fn rings() -> &'static [&'static [u8]]
@@ -69,7 +96,8 @@ pub(crate) fn is(name: &[u8], other: &[u8]) -> bool
 
 /// The ring in which a name stands.
 fn ring_of(name: &[u8]) -> Option<&'static [u8]>
-    ensures { option_map (λ ring. ring.now) result ≡ find (λ ring. is_among (texts ring) name.now) rings }
+    ensures { option_map (λ ring. ring.now) result
+        ≡ find (λ ring. is_among (texts ring) name.now) rings }
 {
     for ring in rings() {
         if stands_in(ring, name) {

@@ -72,7 +72,8 @@ fn refused_or_run(
     around: &Surroundings,
     items: &[Item],
 ) -> Result<Answer, AllocError>
-    ensures { IfOk result (λ answer. answer ≡ refused_or_run around.now items.now (refusals named.now items.now)) }
+    ensures { IfOk result (λ answer. answer
+        ≡ refused_or_run around.now items.now (refusals named.now items.now)) }
 {
     let refused = refusals(alloc, named, items)?;
     if 0 < refused.len() {
@@ -98,13 +99,15 @@ fn answer_of(
     }
 }
 
-/// What a line of `gcc` comes to (GCC manual, "Invoking GCC"): a question for the compiler, refusals, or words for the driver.
+/// What a line of `gcc` comes to (GCC manual, "Invoking GCC"): a question for the compiler,
+/// refusals, or words for the driver.
 ///
-/// `args` are the words of the line without the program's name, response files expanded; `known` are the names of options beyond
-/// this crate's table, as `gcc --completion=-` says them, those that end with `=` with any argument; `named` are names of switches that
-/// spec files of the line have, which no option has to be, those that end with `*` with any rest. Of the words each is spelled
-/// as gcc's driver hands it on, of options of one class the last stays, and behind them stands what gcc's driver adds: words that
-/// begin with `--gdrv-` are for the spec file.
+/// `args` are the words of the line without the program's name, response files expanded; `known`
+/// are the names of options beyond this crate's table, as `gcc --completion=-` says them, those
+/// that end with `=` with any argument; `named` are names of switches that spec files of the line
+/// have, which no option has to be, those that end with `*` with any rest. Of the words each is
+/// spelled as gcc's driver hands it on, of options of one class the last stays, and behind them
+/// stands what gcc's driver adds: words that begin with `--gdrv-` are for the spec file.
 ///
 /// # Errors
 /// An allocation was refused.

@@ -48,7 +48,8 @@ pub(crate) fn stem(name: &[u8]) -> &[u8]
     }
 }
 
-/// A name's last suffix with its period, which doesn't count in first place; empty where it has none.
+/// A name's last suffix with its period, which doesn't count in first place; empty where it has
+/// none.
 pub(crate) fn suffix(name: &[u8]) -> &[u8]
     ensures { result.now ≡ suffix name.now }
 {

@@ -85,7 +85,8 @@ fn beyond(alloc: Global, known: &[Word], word: &[u8], name: &[u8]) -> Result<Ite
 
 /// How a word begins that no row fits.
 fn start_renamed(alloc: Global, known: &[Word], word: &[u8]) -> Result<Start, AllocError>
-    ensures { IfOk result (λ start. start_shown start ≡ start_renamed known.now word.now (renamed word.now) (first_row (renamed word.now))) }
+    ensures { IfOk result (λ start. start_shown start
+        ≡ start_renamed known.now word.now (renamed word.now) (first_row (renamed word.now))) }
 {
     let name = renamed(alloc, word)?;
     match first_row(name.as_bytes()) {
@@ -114,7 +115,8 @@ fn start_of(alloc: Global, known: &[Word], word: &[u8]) -> Result<Start, AllocEr
     }
 }
 
-/// Notes a word, where the option of a row wants its argument or none does; what it gives is the row that wants the next word.
+/// Notes a word, where the option of a row wants its argument or none does; what it gives is the
+/// row that wants the next word.
 #[tactic(auto, using(crate::proofs::Noted::wanted_noted, crate::proofs::Noted::wants_noted, crate::proofs::Noted::whole_noted))]
 fn note_word(
     alloc: Global,

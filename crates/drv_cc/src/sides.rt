@@ -162,7 +162,8 @@ fn named(items: &[Item]) -> Kinds
 
 /// Adds the name and the suffix of the only source of which the compiler is told a name.
 fn add_base(alloc: Global, items: &[Item], words: &mut Listing<Word>) -> Result<(), AllocError>
-    ensures { OnOk result (words.new ≡ words.old ++ base_words items.now (only (sides.sources (named items.now) items.now))) }
+    ensures { OnOk result (words.new
+        ≡ words.old ++ base_words items.now (only (sides.sources (named items.now) items.now))) }
 {
     if let Some(name) = only_source(named(items), items) {
         add_base_of(alloc, items, name, words)?;
@@ -204,7 +205,8 @@ fn add_output_dependencies(
     items: &[Item],
     words: &mut Listing<Word>,
 ) -> Result<(), AllocError>
-    ensures { OnOk result (words.new ≡ words.old ++ dependency_words (last_argument (codes "-o") items.now)) }
+    ensures { OnOk result (words.new
+        ≡ words.old ++ dependency_words (last_argument (codes "-o") items.now)) }
 {
     if let Some(output) = last_argument(items, b"-o") {
         add_dependencies_of(alloc, output, words)?;
@@ -254,7 +256,8 @@ fn add_aux_of(
 
 /// Adds the name of files that stay beside the only source's output, if there is one alone.
 fn add_only_aux(alloc: Global, items: &[Item], words: &mut Listing<Word>) -> Result<(), AllocError>
-    ensures { OnOk result (words.new ≡ words.old ++ aux_words items.now (only (sides.sources worked items.now))) }
+    ensures { OnOk result (words.new
+        ≡ words.old ++ aux_words items.now (only (sides.sources worked items.now))) }
 {
     if let Some(name) = only_source(Kinds::Worked, items) {
         add_aux_of(alloc, items, name, words)?;
@@ -274,7 +277,8 @@ fn add_aux(alloc: Global, items: &[Item], words: &mut Listing<Word>) -> Result<(
 
 /// Adds what the names of side files begin with.
 fn add_beginning(alloc: Global, items: &[Item], words: &mut Listing<Word>) -> Result<(), AllocError>
-    ensures { OnOk result (words.new ≡ words.old ++ with_value (codes "--gdrv-dir=") (beginning items.now)) }
+    ensures { OnOk result (words.new
+        ≡ words.old ++ with_value (codes "--gdrv-dir=") (beginning items.now)) }
 {
     let beginning = beginning(alloc, items)?;
     add_value(alloc, words, b"--gdrv-dir=", beginning.as_bytes())

@@ -59,7 +59,8 @@ pub(crate) enum Part {
     Lacking,
 }
 
-/// Options that are alike, in one text: between blanks an option, or an option, a `>` and the name that it is called by.
+/// Options that are alike, in one text: between blanks an option, or an option, a `>` and the name
+/// that it is called by.
 #[derive(Clone, Copy)]
 pub(crate) struct Section {
     /// How they take their argument.
@@ -138,7 +139,8 @@ fn name_of(entry: &[u8]) -> &[u8]
 
 /// The first entry of a text whose option fits a word.
 fn entry_of(takes: Takes, entries: &'static [u8], word: &[u8]) -> Option<&'static [u8]>
-    ensures { option_map (λ entry. entry.now) result ≡ find (λ entry. option_fits takes word.now (option_of entry)) (texts entries.now) }
+    ensures { option_map (λ entry. entry.now) result
+        ≡ find (λ entry. option_fits takes word.now (option_of entry)) (texts entries.now) }
 {
     entries
         .split(|byte| *byte == b' ')
@@ -163,7 +165,8 @@ impl Section {
 /// The first row of a section that fits a word.
 #[tactic(auto, using(crate::proofs::Sections::found_row))]
 fn row_in(section: &Section, word: &[u8]) -> Option<Row>
-    ensures { option_map shown result ≡ find (fits word.now) (section_rows (section_shown section.now)) }
+    ensures { option_map shown result
+        ≡ find (fits word.now) (section_rows (section_shown section.now)) }
 {
     let entry = entry_of(section.takes, section.entries, word)?;
     Some(section.row_of(entry))

@@ -12,8 +12,8 @@ use std::str::from_utf8;
 /// How many bytes of an argument there is room for at first.
 const ROOM: usize = 4096;
 
-/// How many bytes the argument at a place has, which are then the first ones of the room; none if there is no such argument. The
-/// room is doubled until they fit.
+/// How many bytes the argument at a place has, which are then the first ones of the room; none if
+/// there is no such argument. The room is doubled until they fit.
 fn argument_length(rt: &HostRuntime, place: usize, room: &mut Vec<u8>) -> io::Result<Option<usize>>
     ensures { IfOk result (λ found. IfSome found (λ n. n ≤ length room.new.items)) }
 {
@@ -53,8 +53,9 @@ fn add_arguments(
     Ok(())
 }
 
-/// The arguments of this process, without the program's name, in their order and with all of their bytes. The kit promises nothing of what
-/// its runtime gives for an argument, so no clause says which these are.
+/// The arguments of this process, without the program's name, in their order and with all of their
+/// bytes. The kit promises nothing of what its runtime gives for an argument, so no clause says
+/// which these are.
 ///
 /// # Errors
 /// `OutOfMemory`, or another kind where one of them is no UTF-8.
@@ -66,7 +67,8 @@ pub fn arguments(rt: &HostRuntime) -> io::Result<Listing<Word>> {
     Ok(words)
 }
 
-/// The name by which this process was called, with its folder where it was given; empty where it has none.
+/// The name by which this process was called, with its folder where it was given; empty where it
+/// has none.
 ///
 /// # Errors
 /// `OutOfMemory`, or another kind where it is no UTF-8.

@@ -44,7 +44,8 @@ impl FactTable {
     /// What a path leads to: the answer of the table, or else the system's, which the table keeps.
     pub fn kind<S: System>(&mut self, sys: &mut S, path: &Word) -> Result<PathKind, AllocError>
         ensures asks { Asks (S.events sys.old) (S.events sys.new) self.old self.new }
-        ensures consults { Consults (S.events sys.old) (S.events sys.new) self.old self.new (event.Kind path.now) (kind_of self.old path.now) result (kind_of self.new path.now) }
+        ensures consults { Consults (S.events sys.old) (S.events sys.new) self.old self.new
+            (event.Kind path.now) (kind_of self.old path.now) result (kind_of self.new path.now) }
         ensures known { IfOk result (λ kind. kind_of self.new path.now ≡ Some kind) }
     {
         if let Some(kind) = self.kinds.get(path) {
@@ -66,7 +67,8 @@ impl FactTable {
     /// Asks for the bytes of a file, unless the table has the answer: `read_answer` then gives it.
     pub fn read<S: System>(&mut self, sys: &mut S, path: &Word) -> Result<(), AllocError>
         ensures asks { Asks (S.events sys.old) (S.events sys.new) self.old self.new }
-        ensures consults { Consults (S.events sys.old) (S.events sys.new) self.old self.new (event.Read path.now) (read_of self.old path.now) result (read_of self.new path.now) }
+        ensures consults { Consults (S.events sys.old) (S.events sys.new) self.old self.new
+            (event.Read path.now) (read_of self.old path.now) result (read_of self.new path.now) }
         ensures known { OnOk result (IsSome (read_of self.new path.now)) }
     {
         if self.reads.has(path) {
@@ -93,10 +95,13 @@ impl FactTable {
         self.reads.get(path).unwrap()
     }
 
-    /// Asks for the value of a variable, unless the table has the answer: `variable_answer` then gives it.
+    /// Asks for the value of a variable, unless the table has the answer: `variable_answer` then
+    /// gives it.
     pub fn variable<S: System>(&mut self, sys: &mut S, name: &Word) -> Result<(), AllocError>
         ensures asks { Asks (S.events sys.old) (S.events sys.new) self.old self.new }
-        ensures consults { Consults (S.events sys.old) (S.events sys.new) self.old self.new (event.Variable name.now) (variable_of self.old name.now) result (variable_of self.new name.now) }
+        ensures consults { Consults (S.events sys.old) (S.events sys.new) self.old self.new
+            (event.Variable name.now) (variable_of self.old name.now) result
+            (variable_of self.new name.now) }
         ensures known { OnOk result (IsSome (variable_of self.new name.now)) }
     {
         if self.variables.has(name) {
@@ -126,7 +131,10 @@ impl FactTable {
 
 /// What is known from a journal is, for each path and each name, the first answer in it.
 pub fn first_answers_law()
-    ensures reads { (events : List Event) (path : List ℕ) → read_of (learn no_facts events) path ≡ first_read path events }
-    ensures kinds { (events : List Event) (path : List ℕ) → kind_of (learn no_facts events) path ≡ first_kind path events }
-    ensures variables { (events : List Event) (name : List ℕ) → variable_of (learn no_facts events) name ≡ first_variable name events }
+    ensures reads { (events : List Event) (path : List ℕ)
+        → read_of (learn no_facts events) path ≡ first_read path events }
+    ensures kinds { (events : List Event) (path : List ℕ)
+        → kind_of (learn no_facts events) path ≡ first_kind path events }
+    ensures variables { (events : List Event) (name : List ℕ)
+        → variable_of (learn no_facts events) name ≡ first_variable name events }
 {}

@@ -18,7 +18,8 @@ fn create_private(rt: &HostRuntime, path: &str) -> io::Result<File> {
         .open(rt, path)
 }
 
-/// Makes a new private file of these bytes. One that could not be written whole is taken away again.
+/// Makes a new private file of these bytes. One that could not be written whole is taken away
+/// again.
 pub fn make_file(rt: &HostRuntime, path: &str, contents: &[u8]) -> ClaimAnswer {
     let mut file = match create_private(rt, path) {
         Ok(file) => file,

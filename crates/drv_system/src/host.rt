@@ -28,8 +28,8 @@ const MOMENT: u64 = 500;
 
 /// The files, the environment, the standard streams and the children of this process.
 ///
-/// A path or a name that is no text, or has a zero byte, is answered as one that nothing has; a file of such a name can't be claimed,
-/// and a command with such a word is not started.
+/// A path or a name that is no text, or has a zero byte, is answered as one that nothing has; a
+/// file of such a name can't be claimed, and a command with such a word is not started.
 #[derive(Drop)]
 pub struct HostSystem {
     rt: HostRuntime,
@@ -169,8 +169,9 @@ impl System for HostSystem {
     }
 
     #[tactic(auto, using(crate::proofs::Holding::holds_behind, crate::proofs::Holding::holds_step, crate::proofs::Holding::holds_is_new))]
-    /// Starts a program that is looked for along PATH where its name has no slash. A file that is neither a program nor begins
-    /// with `#!` is not started. A child has this process's standard streams but for the pipes, and no other open file.
+    /// Starts a program that is looked for along PATH where its name has no slash. A file that is
+    /// neither a program nor begins with `#!` is not started. A child has this process's standard
+    /// streams but for the pipes, and no other open file.
     fn start(&mut self, plan: &Plan, place: Place, from_pipe: bool, to_pipe: bool) -> StartAnswer {
         let step = Step::Start {
             place,
@@ -306,7 +307,8 @@ fn value_of(rt: &HostRuntime, name: &str) -> Result<Option<Word>, AllocError> {
 
 /// Writes a text, all of it or with the answer that it failed.
 fn tell<W: Write>(stream: &mut W, text: &Word) -> TellAnswer
-    ensures { result ≡ tell.Told → Appends (W.contents stream.old) (W.contents stream.new) text.now }
+    ensures { result ≡ tell.Told
+        → Appends (W.contents stream.old) (W.contents stream.new) text.now }
 {
     match stream.write_all(text.as_bytes()) {
         Ok(()) => TellAnswer::Told,

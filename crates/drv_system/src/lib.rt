@@ -1,4 +1,5 @@
-//! The outside of a compiler driver: files, variables, streams and children, what was asked and made of them, and what is known from it.
+//! The outside of a compiler driver: files, variables, streams and children, what was asked and
+//! made of them, and what is known from it.
 #![tactic(auto)]
 
 mod answer_map;

@@ -23,7 +23,8 @@ pub fn note_read(
     path: &Word,
     answer: &ReadAnswer,
 ) -> Result<(), AllocError>
-    ensures event { OnOk result (journal.new.items ≡ journal.old.items ++ event.Read path.now answer.now ∷ []) }
+    ensures event { OnOk result (journal.new.items
+        ≡ journal.old.items ++ event.Read path.now answer.now ∷ []) }
     ensures memory { OnErr result (journal.new.items ≡ journal.old.items) }
 {
     let event = Event::Read(path.clone()?, answer.clone()?);
@@ -32,7 +33,8 @@ pub fn note_read(
 
 /// Notes what a path leads to.
 pub fn note_kind(journal: &mut Vec<Event>, path: &Word, kind: PathKind) -> Result<(), AllocError>
-    ensures event { OnOk result (journal.new.items ≡ journal.old.items ++ event.Kind path.now kind ∷ []) }
+    ensures event { OnOk result (journal.new.items
+        ≡ journal.old.items ++ event.Kind path.now kind ∷ []) }
     ensures memory { OnErr result (journal.new.items ≡ journal.old.items) }
 {
     let event = Event::Kind(path.clone()?, kind);
@@ -45,7 +47,8 @@ pub fn note_variable(
     name: &Word,
     value: &Option<Word>,
 ) -> Result<(), AllocError>
-    ensures event { OnOk result (journal.new.items ≡ journal.old.items ++ event.Variable name.now value.now ∷ []) }
+    ensures event { OnOk result (journal.new.items
+        ≡ journal.old.items ++ event.Variable name.now value.now ∷ []) }
     ensures memory { OnErr result (journal.new.items ≡ journal.old.items) }
 {
     let event = Event::Variable(name.clone()?, copied(value)?);
@@ -58,7 +61,8 @@ pub fn note_said(
     text: &Word,
     answer: TellAnswer,
 ) -> Result<(), AllocError>
-    ensures event { OnOk result (journal.new.items ≡ journal.old.items ++ event.Say text.now answer ∷ []) }
+    ensures event { OnOk result (journal.new.items
+        ≡ journal.old.items ++ event.Say text.now answer ∷ []) }
     ensures memory { OnErr result (journal.new.items ≡ journal.old.items) }
 {
     let event = Event::Say(text.clone()?, answer);
@@ -67,7 +71,8 @@ pub fn note_said(
 
 /// Notes a text that was written to standard output.
 pub fn note_put(journal: &mut Vec<Event>, text: &Word, answer: TellAnswer) -> Result<(), AllocError>
-    ensures event { OnOk result (journal.new.items ≡ journal.old.items ++ event.Put text.now answer ∷ []) }
+    ensures event { OnOk result (journal.new.items
+        ≡ journal.old.items ++ event.Put text.now answer ∷ []) }
     ensures memory { OnErr result (journal.new.items ≡ journal.old.items) }
 {
     let event = Event::Put(text.clone()?, answer);

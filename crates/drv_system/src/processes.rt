@@ -79,8 +79,9 @@ fn spawn_made(
     Ok((made.spawn(rt)?, None))
 }
 
-/// Starts a command, with these variables beside those of this process. It reads the end that is given, or else this process's standard
-/// input, and writes a new pipe, whose other end is given back, or else this process's standard output.
+/// Starts a command, with these variables beside those of this process. It reads the end that is
+/// given, or else this process's standard input, and writes a new pipe, whose other end is given
+/// back, or else this process's standard output.
 pub fn spawn(
     rt: &HostRuntime,
     alloc: Global,
@@ -138,8 +139,8 @@ pub fn wait_for(children: &mut Vec<Option<Child>>, id: u64) -> WaitAnswer
     }
 }
 
-/// Whether the child of this number has ended, without waiting for it. One that was waited for has, and one that can't be asked for is
-/// taken for one that has.
+/// Whether the child of this number has ended, without waiting for it. One that was waited for has,
+/// and one that can't be asked for is taken for one that has.
 pub fn has_ended(children: &mut Vec<Option<Child>>, id: u64) -> bool
     ensures len { vec_len children.new ≡ vec_len children.old }
     ensures room { vec_capacity children.new ≡ vec_capacity children.old }

@@ -34,8 +34,8 @@ pub fn read_path<R: Files>(rt: &R, alloc: Global, path: &str) -> Result<ReadAnsw
     }
 }
 
-/// Reads what is open to its end: all bytes that it has left, where these are known, or the answer that they are more than a file may
-/// have, or that a read failed.
+/// Reads what is open to its end: all bytes that it has left, where these are known, or the answer
+/// that they are more than a file may have, or that a read failed.
 pub fn read_to_end<F: Read + Drop>(alloc: Global, file: F) -> Result<ReadAnswer, AllocError>
     ensures read { IfOk result (ReadsAs (F.remaining file)) }
     ensures within { IfOk result IsWithinLimit }
@@ -95,7 +95,8 @@ impl<F: Read> Source<F> {
         ensures reads { self.new.reads ≡ self.old.reads + 1 }
         ensures failed { self.new.failed ≡ is_failure result }
         ensures bound { ReadsAtMost result buffer.new }
-        ensures bytes { ReadConsumes (F.remaining self.old.file) (F.remaining self.new.file) result buffer.new }
+        ensures bytes { ReadConsumes
+            (F.remaining self.old.file) (F.remaining self.new.file) result buffer.new }
         ensures end { IfOk result (λ n. n ≡ 0 → IsAtEnd (F.remaining self.new.file)) }
     {
         self.reads += 1;
@@ -110,7 +111,8 @@ impl<F: Read> Source<F> {
         }
     }
 
-    /// Reads to the end, by at most so many reads. A file that does not end within the bounds is not read.
+    /// Reads to the end, by at most so many reads. A file that does not end within the bounds is
+    /// not read.
     fn read_within(&mut self, alloc: Global, most: u32) -> Result<ReadAnswer, AllocError>
         requires { self.old.reads ≡ 0 }
         ensures read { IfOk result (ReadsAs (F.remaining self.old.file)) }

@@ -25,7 +25,8 @@ fn line_of(
     name: Option<&Word>,
     behind: &[u8],
 ) -> Result<Word, AllocError>
-    ensures { IfOk result (λ line. line ≡ line_of before.now (option_copied name.entry) behind.now) }
+    ensures { IfOk result (λ line. line
+        ≡ line_of before.now (option_copied name.entry) behind.now) }
 {
     let mut line = Word::from_bytes(alloc, b"gdrv: ")?;
     line.extend_from_slice(before)?;
@@ -35,7 +36,8 @@ fn line_of(
     Ok(line)
 }
 
-/// The line that tells of a step that failed: `gdrv: `, its text with the path or the program, and a newline.
+/// The line that tells of a step that failed: `gdrv: `, its text with the path or the program, and
+/// a newline.
 pub fn report_line(alloc: Global, plan: &Plan, note: Note) -> Result<Word, AllocError>
     ensures { IfOk result (λ line. line ≡ note_line plan.now note) }
 {

@@ -22,10 +22,12 @@ use drv_words::{
 use std::alloc::{AllocError, Global};
 use std::marker::Model;
 
-/// A system that answers from lists, for tests and trials: a path or name is looked for in its list, and the first counts.
+/// A system that answers from lists, for tests and trials: a path or name is looked for in its
+/// list, and the first counts.
 ///
-/// A step of a run takes the next answer of its list, if that is one of the step's kind. Any other answer stays, and blocks those
-/// behind it; the step is then answered Claimed, Started, Exit(0) or Removed. Children are numbered from 0, whatever the list says.
+/// A step of a run takes the next answer of its list, if that is one of the step's kind. Any other
+/// answer stays, and blocks those behind it; the step is then answered Claimed, Started, Exit(0) or
+/// Removed. Children are numbered from 0, whatever the list says.
 #[derive(Drop)]
 pub struct ScriptSystem {
     files: Listing<(Word, Option<Word>)>,
@@ -48,7 +50,13 @@ impl Model for ScriptSystem {
     ghost Value = { Scripted };
 
     ghost view = { λ s. record {
-      script = record { files = s.files; dirs = s.dirs; variables = s.variables; answers = drop s.taken s.answers; mute = s.mute };
+      script = record {
+        files = s.files;
+        dirs = s.dirs;
+        variables = s.variables;
+        answers = drop s.taken s.answers;
+        mute = s.mute;
+      };
       journal = s.journal.items;
       children = s.children;
       spare_events = vec_capacity s.journal - vec_len s.journal;
@@ -58,7 +66,8 @@ impl Model for ScriptSystem {
 }
 
 impl ScriptSystem {
-    /// A system that has these files, folders and variables, and gives these answers to the steps of a run.
+    /// A system that has these files, folders and variables, and gives these answers to the steps
+    /// of a run.
     ///
     /// A file without bytes cannot be read. It takes no memory.
     pub fn new(
@@ -68,7 +77,14 @@ impl ScriptSystem {
         variables: Listing<(Word, Word)>,
         answers: Listing<Answer>,
     ) -> ScriptSystem
-        ensures script { result.script ≡ record { files = files; dirs = dirs; variables = variables; answers = answers; mute = false } }
+        ensures script { result.script
+            ≡ record {
+              files = files;
+              dirs = dirs;
+              variables = variables;
+              answers = answers;
+              mute = false;
+            } }
         ensures journal { result.journal ≡ [] }
         ensures children { result.children ≡ 0 }
     {
@@ -123,7 +139,8 @@ impl System for ScriptSystem {
     /// The bytes of the file, where it is listed with some.
     #[tactic(auto, using(crate::proofs::Holding::numbered_beside, crate::proofs::Holding::numbered_same))]
     fn read_file(&mut self, path: &Word) -> Result<ReadAnswer, AllocError>
-        ensures event { IfOk result (λ answer. self.new.journal ≡ self.old.journal ++ event.Read path.now answer ∷ []) }
+        ensures event { IfOk result (λ answer. self.new.journal
+            ≡ self.old.journal ++ event.Read path.now answer ∷ []) }
         ensures within { IfOk result IsWithinLimit }
         ensures memory { OnErr result (self.new.journal ≡ self.old.journal) }
         ensures answer { IfOk result (λ answer. answer ≡ scripted_read self.old.script path.now) }
@@ -138,7 +155,8 @@ impl System for ScriptSystem {
     /// Plain for a file of the list, Dir for a folder.
     #[tactic(auto, using(crate::proofs::Holding::numbered_beside, crate::proofs::Holding::numbered_same))]
     fn kind(&mut self, path: &Word) -> Result<PathKind, AllocError>
-        ensures event { IfOk result (λ kind. self.new.journal ≡ self.old.journal ++ event.Kind path.now kind ∷ []) }
+        ensures event { IfOk result (λ kind. self.new.journal
+            ≡ self.old.journal ++ event.Kind path.now kind ∷ []) }
         ensures memory { OnErr result (self.new.journal ≡ self.old.journal) }
         ensures answer { IfOk result (λ kind. kind ≡ scripted_kind self.old.script path.now) }
         ensures script { self.new.script ≡ self.old.script }
@@ -152,7 +170,8 @@ impl System for ScriptSystem {
     /// The value of the variable, where it is listed.
     #[tactic(auto, using(crate::proofs::Holding::numbered_beside, crate::proofs::Holding::numbered_same))]
     fn variable(&mut self, name: &Word) -> Result<Option<Word>, AllocError>
-        ensures event { IfOk result (λ value. self.new.journal ≡ self.old.journal ++ event.Variable name.now value ∷ []) }
+        ensures event { IfOk result (λ value. self.new.journal
+            ≡ self.old.journal ++ event.Variable name.now value ∷ []) }
         ensures memory { OnErr result (self.new.journal ≡ self.old.journal) }
         ensures answer { IfOk result (λ value. value ≡ scripted_variable self.old.script name.now) }
         ensures script { self.new.script ≡ self.old.script }
@@ -166,7 +185,8 @@ impl System for ScriptSystem {
     /// Told, until `mute` was called.
     #[tactic(auto, using(crate::proofs::Holding::numbered_beside, crate::proofs::Holding::numbered_same))]
     fn say(&mut self, text: &Word) -> Result<TellAnswer, AllocError>
-        ensures event { IfOk result (λ answer. self.new.journal ≡ self.old.journal ++ event.Say text.now answer ∷ []) }
+        ensures event { IfOk result (λ answer. self.new.journal
+            ≡ self.old.journal ++ event.Say text.now answer ∷ []) }
         ensures memory { OnErr result (self.new.journal ≡ self.old.journal) }
         ensures answer { IfOk result (λ answer. answer ≡ scripted_telling self.old.script) }
         ensures script { self.new.script ≡ self.old.script }
@@ -180,7 +200,8 @@ impl System for ScriptSystem {
     /// Told, until `mute` was called.
     #[tactic(auto, using(crate::proofs::Holding::numbered_beside, crate::proofs::Holding::numbered_same))]
     fn put(&mut self, text: &Word) -> Result<TellAnswer, AllocError>
-        ensures event { IfOk result (λ answer. self.new.journal ≡ self.old.journal ++ event.Put text.now answer ∷ []) }
+        ensures event { IfOk result (λ answer. self.new.journal
+            ≡ self.old.journal ++ event.Put text.now answer ∷ []) }
         ensures memory { OnErr result (self.new.journal ≡ self.old.journal) }
         ensures answer { IfOk result (λ answer. answer ≡ scripted_telling self.old.script) }
         ensures script { self.new.script ≡ self.old.script }
@@ -205,10 +226,12 @@ impl System for ScriptSystem {
     #[tactic(auto, using(crate::proofs::Holding::numbered_step))]
     fn claim(&mut self, plan: &Plan, place: Place) -> ClaimAnswer
         requires room { 0 < self.old.spare_events }
-        ensures event { self.new.journal ≡ self.old.journal ++ made (step.Claim place) (answer.Claim result) ∷ [] }
+        ensures event { self.new.journal
+            ≡ self.old.journal ++ made (step.Claim place) (answer.Claim result) ∷ [] }
         ensures room { self.old.spare_events ≤ self.new.spare_events + 1 }
         ensures answer { result ≡ scripted_claim self.old.script }
-        ensures script { self.new.script ≡ behind (claim_in (front self.old.script)) self.old.script }
+        ensures script { self.new.script
+            ≡ behind (claim_in (front self.old.script)) self.old.script }
         ensures started { self.new.children ≡ self.old.children }
     {
         let _asked = plan;
@@ -225,11 +248,14 @@ impl System for ScriptSystem {
     #[tactic(auto, using(crate::proofs::Holding::numbered_start, crate::proofs::Holding::script_is_new))]
     fn start(&mut self, plan: &Plan, place: Place, from_pipe: bool, to_pipe: bool) -> StartAnswer
         requires room { 0 < self.old.spare_events }
-        ensures event { self.new.journal ≡ self.old.journal ++ made (step.Start place from_pipe to_pipe) (answer.Start result) ∷ [] }
+        ensures event { self.new.journal
+            ≡ self.old.journal
+            ++ made (step.Start place from_pipe to_pipe) (answer.Start result) ∷ [] }
         ensures fresh { fits_start (run_of self.old.journal) result ≡ true }
         ensures room { self.old.spare_events ≤ self.new.spare_events + 1 }
         ensures answer { result ≡ scripted_start self.old.children self.old.script }
-        ensures script { self.new.script ≡ behind (start_in (front self.old.script)) self.old.script }
+        ensures script { self.new.script
+            ≡ behind (start_in (front self.old.script)) self.old.script }
         ensures started { self.new.children ≡ children_behind self.old.children result }
     {
         let _asked = plan;
@@ -251,7 +277,8 @@ impl System for ScriptSystem {
     #[tactic(auto, using(crate::proofs::Holding::numbered_step))]
     fn close_pipe(&mut self)
         requires room { 0 < self.old.spare_events }
-        ensures event { self.new.journal ≡ self.old.journal ++ made step.ClosePipe answer.Closed ∷ [] }
+        ensures event { self.new.journal
+            ≡ self.old.journal ++ made step.ClosePipe answer.Closed ∷ [] }
         ensures room { self.old.spare_events ≤ self.new.spare_events + 1 }
         ensures script { self.new.script ≡ self.old.script }
         ensures started { self.new.children ≡ self.old.children }
@@ -265,10 +292,12 @@ impl System for ScriptSystem {
     #[tactic(auto, using(crate::proofs::Holding::numbered_step))]
     fn wait(&mut self, place: Place, id: u64) -> WaitAnswer
         requires room { 0 < self.old.spare_events }
-        ensures event { self.new.journal ≡ self.old.journal ++ made (step.Wait place id) (answer.Wait result) ∷ [] }
+        ensures event { self.new.journal
+            ≡ self.old.journal ++ made (step.Wait place id) (answer.Wait result) ∷ [] }
         ensures room { self.old.spare_events ≤ self.new.spare_events + 1 }
         ensures answer { result ≡ scripted_wait self.old.script }
-        ensures script { self.new.script ≡ behind (wait_in (front self.old.script)) self.old.script }
+        ensures script { self.new.script
+            ≡ behind (wait_in (front self.old.script)) self.old.script }
         ensures started { self.new.children ≡ self.old.children }
     {
         let taken = wait_of(front_of(self.answers.as_slice(), self.taken));
@@ -299,10 +328,12 @@ impl System for ScriptSystem {
     #[tactic(auto, using(crate::proofs::Holding::numbered_step))]
     fn remove(&mut self, plan: &Plan, place: Place) -> RemoveAnswer
         requires room { 0 < self.old.spare_events }
-        ensures event { self.new.journal ≡ self.old.journal ++ made (step.Remove place) (answer.Remove result) ∷ [] }
+        ensures event { self.new.journal
+            ≡ self.old.journal ++ made (step.Remove place) (answer.Remove result) ∷ [] }
         ensures room { self.old.spare_events ≤ self.new.spare_events + 1 }
         ensures answer { result ≡ scripted_removal self.old.script }
-        ensures script { self.new.script ≡ behind (removal_in (front self.old.script)) self.old.script }
+        ensures script { self.new.script
+            ≡ behind (removal_in (front self.old.script)) self.old.script }
         ensures started { self.new.children ≡ self.old.children }
     {
         let _asked = plan;
@@ -320,7 +351,8 @@ impl System for ScriptSystem {
     #[tactic(auto, using(crate::proofs::Holding::numbered_step))]
     fn report(&mut self, plan: &Plan, note: Note) -> TellAnswer
         requires room { 0 < self.old.spare_events }
-        ensures event { self.new.journal ≡ self.old.journal ++ made (step.Report note) (answer.Reported (is_told result)) ∷ [] }
+        ensures event { self.new.journal
+            ≡ self.old.journal ++ made (step.Report note) (answer.Reported (is_told result)) ∷ [] }
         ensures room { self.old.spare_events ≤ self.new.spare_events + 1 }
         ensures answer { result ≡ scripted_telling self.old.script }
         ensures script { self.new.script ≡ self.old.script }
@@ -347,7 +379,8 @@ fn front_of(answers: &[Answer], taken: usize) -> Option<Answer>
 /// Takes the answer in front, if it is used.
 #[tactic(auto, using(crate::proofs::Scripted::one_less, crate::proofs::Scripted::none_less))]
 fn take(answers: &[Answer], taken: &mut usize, is_used: bool)
-    ensures { drop taken.new answers.now ≡ (if is_used then drop 1 (drop taken.old answers.now) else drop taken.old answers.now) }
+    ensures { drop taken.new answers.now
+        ≡ (if is_used then drop 1 (drop taken.old answers.now) else drop taken.old answers.now) }
 {
     if !is_used {
         return;

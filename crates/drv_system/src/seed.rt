@@ -39,8 +39,8 @@ fn seed_of(text: &[u8]) -> Option<u32>
     Some(high * 65536 + low)
 }
 
-/// The seed of temporary names: the variable GDRV_SEED where it has eight hexadecimal digits, otherwise the low 32
-/// bits of the clock's nanoseconds.
+/// The seed of temporary names: the variable GDRV_SEED where it has eight hexadecimal digits,
+/// otherwise the low 32 bits of the clock's nanoseconds.
 pub fn clock_seed(rt: &HostRuntime) -> u32 {
     if let Ok(digits) = env::var(rt, "GDRV_SEED")
         && let Some(seed) = seed_of(digits.as_bytes())

@@ -15,9 +15,11 @@ use std::alloc::AllocError;
 
 /// What a driver may ask of the outside, say to it, and have done there.
 ///
-/// Each call but `has_ended` and `pause` adds one event to the journal, which holds the call's argument and its answer. A call that
-/// answers `AllocError` adds none, and has said nothing. The steps of a run (`claim`, `start`, `close_pipe`, `wait`, `remove`, `report`) never answer
-/// want of memory: they need room that `reserve_events` made, and a system that lacks memory for more answers that the step failed.
+/// Each call but `has_ended` and `pause` adds one event to the journal, which holds the call's
+/// argument and its answer. A call that answers `AllocError` adds none, and has said nothing. The
+/// steps of a run (`claim`, `start`, `close_pipe`, `wait`, `remove`, `report`) never answer want of
+/// memory: they need room that `reserve_events` made, and a system that lacks memory for more
+/// answers that the step failed.
 pub trait System {
     ghost use Rattle.drv_system.specs.declared.event.Event.{Event};
 
@@ -34,28 +36,33 @@ pub trait System {
 
     /// Reads the whole file at a path. What is read has at most 16,777,216 bytes.
     fn read_file(&mut self, path: &Word) -> Result<ReadAnswer, AllocError>
-        ensures event { IfOk result (λ answer. events self.new ≡ events self.old ++ event.Read path.now answer ∷ []) }
+        ensures event { IfOk result (λ answer. events self.new
+            ≡ events self.old ++ event.Read path.now answer ∷ []) }
         ensures within { IfOk result IsWithinLimit }
         ensures memory { OnErr result (events self.new ≡ events self.old) };
 
     /// Asks what a path leads to.
     fn kind(&mut self, path: &Word) -> Result<PathKind, AllocError>
-        ensures event { IfOk result (λ kind. events self.new ≡ events self.old ++ event.Kind path.now kind ∷ []) }
+        ensures event { IfOk result (λ kind. events self.new
+            ≡ events self.old ++ event.Kind path.now kind ∷ []) }
         ensures memory { OnErr result (events self.new ≡ events self.old) };
 
     /// Asks for the value of a variable of the environment.
     fn variable(&mut self, name: &Word) -> Result<Option<Word>, AllocError>
-        ensures event { IfOk result (λ value. events self.new ≡ events self.old ++ event.Variable name.now value ∷ []) }
+        ensures event { IfOk result (λ value. events self.new
+            ≡ events self.old ++ event.Variable name.now value ∷ []) }
         ensures memory { OnErr result (events self.new ≡ events self.old) };
 
     /// Writes a text to standard error.
     fn say(&mut self, text: &Word) -> Result<TellAnswer, AllocError>
-        ensures event { IfOk result (λ answer. events self.new ≡ events self.old ++ event.Say text.now answer ∷ []) }
+        ensures event { IfOk result (λ answer. events self.new
+            ≡ events self.old ++ event.Say text.now answer ∷ []) }
         ensures memory { OnErr result (events self.new ≡ events self.old) };
 
     /// Writes a text to standard output.
     fn put(&mut self, text: &Word) -> Result<TellAnswer, AllocError>
-        ensures event { IfOk result (λ answer. events self.new ≡ events self.old ++ event.Put text.now answer ∷ []) }
+        ensures event { IfOk result (λ answer. events self.new
+            ≡ events self.old ++ event.Put text.now answer ∷ []) }
         ensures memory { OnErr result (events self.new ≡ events self.old) };
 
     /// Makes room for so many more events, and as many more children.
@@ -64,24 +71,28 @@ pub trait System {
         ensures children { OnOk result (count ≤ spare_children self.new) }
         ensures unchanged { events self.new ≡ events self.old };
 
-    /// Makes a new file for a temporary of the plan, and writes its contents. Nothing that has the name already is touched, and a
-    /// file that could not be written whole is taken away again.
+    /// Makes a new file for a temporary of the plan, and writes its contents. Nothing that has the
+    /// name already is touched, and a file that could not be written whole is taken away again.
     fn claim(&mut self, plan: &Plan, place: Place) -> ClaimAnswer
         requires place { is_temp plan.now place ≡ true }
         requires room { 0 < spare_events self.old }
-        ensures event { events self.new ≡ events self.old ++ made (step.Claim place) (answer.Claim result) ∷ [] }
+        ensures event { events self.new
+            ≡ events self.old ++ made (step.Claim place) (answer.Claim result) ∷ [] }
         ensures room { spare_events self.old ≤ spare_events self.new + 1 }
         ensures children { spare_children self.old ≤ spare_children self.new };
 
-    /// Starts a command of the plan. It reads the pipe that is pending, or this process's standard input, and writes a new pipe,
-    /// which is then the pending one, or this process's standard output. The number of a child is new in the journal. Behind a
-    /// start that failed the pipe that was pending still is.
+    /// Starts a command of the plan. It reads the pipe that is pending, or this process's standard
+    /// input, and writes a new pipe, which is then the pending one, or this process's standard
+    /// output. The number of a child is new in the journal. Behind a start that failed the pipe
+    /// that was pending still is.
     fn start(&mut self, plan: &Plan, place: Place, from_pipe: bool, to_pipe: bool) -> StartAnswer
         requires place { is_command plan.now place ≡ true }
         requires pipe { from_pipe ≡ pipe_pending (run_of (events self.old)) }
         requires room { 0 < spare_events self.old }
         requires children { 0 < spare_children self.old }
-        ensures event { events self.new ≡ events self.old ++ made (step.Start place from_pipe to_pipe) (answer.Start result) ∷ [] }
+        ensures event { events self.new
+            ≡ events self.old
+            ++ made (step.Start place from_pipe to_pipe) (answer.Start result) ∷ [] }
         ensures fresh { fits_start (run_of (events self.old)) result ≡ true }
         ensures room { spare_events self.old ≤ spare_events self.new + 1 }
         ensures children { spare_children self.old ≤ spare_children self.new + 1 };
@@ -90,7 +101,8 @@ pub trait System {
     fn close_pipe(&mut self)
         requires pipe { pipe_pending (run_of (events self.old)) ≡ true }
         requires room { 0 < spare_events self.old }
-        ensures event { events self.new ≡ events self.old ++ made step.ClosePipe answer.Closed ∷ [] }
+        ensures event { events self.new
+            ≡ events self.old ++ made step.ClosePipe answer.Closed ∷ [] }
         ensures room { spare_events self.old ≤ spare_events self.new + 1 }
         ensures children { spare_children self.old ≤ spare_children self.new };
 
@@ -98,12 +110,13 @@ pub trait System {
     fn wait(&mut self, place: Place, id: u64) -> WaitAnswer
         requires open { is_child_open place id (events self.old) ≡ true }
         requires room { 0 < spare_events self.old }
-        ensures event { events self.new ≡ events self.old ++ made (step.Wait place id) (answer.Wait result) ∷ [] }
+        ensures event { events self.new
+            ≡ events self.old ++ made (step.Wait place id) (answer.Wait result) ∷ [] }
         ensures room { spare_events self.old ≤ spare_events self.new + 1 }
         ensures children { spare_children self.old ≤ spare_children self.new };
 
-    /// Whether the child of this number has ended, as far as that is known without waiting. It adds no event and promises nothing:
-    /// how a child ended is what `wait` answers.
+    /// Whether the child of this number has ended, as far as that is known without waiting. It adds
+    /// no event and promises nothing: how a child ended is what `wait` answers.
     fn has_ended(&mut self, id: u64) -> bool
         ensures unchanged { events self.new ≡ events self.old }
         ensures room { spare_events self.old ≤ spare_events self.new }
@@ -116,7 +129,8 @@ pub trait System {
     fn remove(&mut self, plan: &Plan, place: Place) -> RemoveAnswer
         requires place { is_file plan.now place ≡ true }
         requires room { 0 < spare_events self.old }
-        ensures event { events self.new ≡ events self.old ++ made (step.Remove place) (answer.Remove result) ∷ [] }
+        ensures event { events self.new
+            ≡ events self.old ++ made (step.Remove place) (answer.Remove result) ∷ [] }
         ensures room { spare_events self.old ≤ spare_events self.new + 1 }
         ensures children { spare_children self.old ≤ spare_children self.new };
 
@@ -124,7 +138,8 @@ pub trait System {
     fn report(&mut self, plan: &Plan, note: Note) -> TellAnswer
         requires note { is_note plan.now note ≡ true }
         requires room { 0 < spare_events self.old }
-        ensures event { events self.new ≡ events self.old ++ made (step.Report note) (answer.Reported (is_told result)) ∷ [] }
+        ensures event { events self.new
+            ≡ events self.old ++ made (step.Report note) (answer.Reported (is_told result)) ∷ [] }
         ensures room { spare_events self.old ≤ spare_events self.new + 1 }
         ensures children { spare_children self.old ≤ spare_children self.new };
 }
