@@ -100,7 +100,8 @@ impl Flight {
     pub(crate) fn take(&mut self, jobs: &[Job], answer: Answer)
         requires jobs { self.old.current < length jobs.now }
         requires sources { self.old.current < length self.old.sources.items }
-        requires children { HasRoom (stage_in (fleet_of self.old) self.old.current) (worker_in (fleet_of self.old) self.old.current).room }
+        requires children { HasRoom (stage_in (fleet_of self.old) self.old.current)
+            (worker_in (fleet_of self.old) self.old.current).room }
         requires room { length self.old.begun.items < vec_capacity self.old.begun }
         ensures { fleet_of self.new ≡ taken jobs.now (fleet_of self.old) answer }
     {
@@ -115,8 +116,10 @@ impl Flight {
     fn work(&mut self, jobs: &[Job], answer: Answer)
         requires jobs { self.old.current < length jobs.now }
         requires sources { self.old.current < length self.old.sources.items }
-        requires children { HasRoom (stage_in (fleet_of self.old) self.old.current) (worker_in (fleet_of self.old) self.old.current).room }
-        ensures fleet { fleet_of self.new ≡ worked (get_or jobs.now self.old.current no_job) (fleet_of self.old) answer }
+        requires children { HasRoom (stage_in (fleet_of self.old) self.old.current)
+            (worker_in (fleet_of self.old) self.old.current).room }
+        ensures fleet { fleet_of self.new
+            ≡ worked (get_or jobs.now self.old.current no_job) (fleet_of self.old) answer }
         ensures current { self.new.current ≡ self.old.current }
         ensures begun { self.new.begun.items ≡ self.old.begun.items }
         ensures capacity { vec_capacity self.new.begun ≡ vec_capacity self.old.begun }
@@ -222,9 +225,12 @@ impl Flight {
         all || !self.awaits(number)
     }
 
-    /// The source of this number among those that have begun and may go on, or else the next that begins.
+    /// The source of this number among those that have begun and may go on, or else the next that
+    /// begins.
     fn nth_going(&self, choice: usize) -> usize
-        ensures { result ≡ get_or (filter (may_go (all_fly (fleet_of self.now)) (fleet_of self.now)) self.now.begun.items) choice self.now.next }
+        ensures { result ≡ get_or
+            (filter (may_go (all_fly (fleet_of self.now)) (fleet_of self.now)) self.now.begun.items)
+            choice self.now.next }
     {
         let all = self.all_fly();
         let mut left = choice;
@@ -242,7 +248,8 @@ impl Flight {
 
     /// How many of those that have begun may go on.
     fn count_going(&self) -> usize
-        ensures going { result ≡ length (filter (may_go (all_fly (fleet_of self.now)) (fleet_of self.now)) self.now.begun.items) }
+        ensures going { result ≡ length (filter
+            (may_go (all_fly (fleet_of self.now)) (fleet_of self.now)) self.now.begun.items) }
         ensures few { result ≤ length self.now.begun.items }
     {
         let all = self.all_fly();

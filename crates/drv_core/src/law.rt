@@ -9,28 +9,36 @@ ghost use Rattle.drv_words.specs.declared.plan.Plan.{Plan};
 ghost use Rattle.drv_words.specs.declared.steps.RunEvent.{RunEvent};
 ghost use Rattle.std.specs.Prelude.{◌∷◌, ◌++◌, [], List, ℕ};
 
-/// The law that every run with several sources in flight is, source by source, a run with one at a time that has the same
-/// answers: so the same status, reports and removals; and that it starts, job by job, the same commands.
+/// The law that every run with several sources in flight is, source by source, a run with one at a
+/// time that has the same answers: so the same status, reports and removals; and that it starts,
+/// job by job, the same commands.
 pub fn interleaving_law()
     ensures answers { Rearranges }
     ensures commands { StartsTheSame }
 {}
 
-/// The law that in the events of a whole run the commands of each job that were started are those of its planned list up to its first failure
-/// (`started`), so the first ones of it, and all of it where the job did not fail. The link has nothing to do where a source failed.
+/// The law that in the events of a whole run the commands of each job that were started are those
+/// of its planned list up to its first failure (`started`), so the first ones of it, and all of it
+/// where the job did not fail. The link has nothing to do where a source failed.
 pub fn started_first()
-    ensures { (plan : Plan) (N : ℕ) (o : Answers) (events : List RunEvent) → Windowed plan N o events → EachStartsFirst plan events 0 (plan.jobs ++ link_run plan.link o.jobs ∷ []) (o.jobs ++ o.link ∷ []) }
+    ensures { (plan : Plan) (N : ℕ) (o : Answers) (events : List RunEvent)
+        → Windowed plan N o events → EachStartsFirst plan events 0
+        (plan.jobs ++ link_run plan.link o.jobs ∷ []) (o.jobs ++ o.link ∷ []) }
 {}
 
-/// The law that in the events of a whole run each child that was started is waited for once, behind its start and at its place, that
-/// no other wait is made, and that no place starts a second child.
+/// The law that in the events of a whole run each child that was started is waited for once, behind
+/// its start and at its place, that no other wait is made, and that no place starts a second child.
 pub fn waiting_law()
-    ensures { (plan : Plan) (N : ℕ) (o : Answers) (events : List RunEvent) → Windowed plan N o events → (k : ℕ) → WaitsForEach k events }
+    ensures { (plan : Plan) (N : ℕ) (o : Answers) (events : List RunEvent)
+        → Windowed plan N o events → (k : ℕ) → WaitsForEach k events }
 {}
 
-/// The law that in the events of a whole run the link claims or starts something exactly where every source succeeded, and that a source
-/// failed exactly where one of its claims, starts and waits has a code other than 0.
+/// The law that in the events of a whole run the link claims or starts something exactly where
+/// every source succeeded, and that a source failed exactly where one of its claims, starts and
+/// waits has a code other than 0.
 pub fn linking_law()
-    ensures link { (plan : Plan) (N : ℕ) (o : Answers) (events : List RunEvent) → Windowed plan N o events → LinksWhere plan o events }
-    ensures sources { (plan : Plan) (N : ℕ) (o : Answers) (events : List RunEvent) → Windowed plan N o events → FailsWhere plan o events }
+    ensures link { (plan : Plan) (N : ℕ) (o : Answers) (events : List RunEvent)
+        → Windowed plan N o events → LinksWhere plan o events }
+    ensures sources { (plan : Plan) (N : ℕ) (o : Answers) (events : List RunEvent)
+        → Windowed plan N o events → FailsWhere plan o events }
 {}

@@ -1,13 +1,12 @@
-//! The files that may be left at the end of a run: the temporaries and the marked files of the jobs that make calls.
+//! The files that may be left at the end of a run: the temporaries and the marked files of the jobs
+//! that make calls.
 
 ghost use Rattle.drv_core.specs.Code.LeftoverView.{left_of, lefts_of, remains_of};
 ghost use Rattle.drv_core.specs.Code.Leftovers.{all_files, files_from, job_files, temp_files};
-ghost use Rattle.drv_core.specs.Code.Numbering.{Noted, lefts};
+ghost use Rattle.drv_core.specs.Code.Numbering.{Noted, lefts, number_in, numbered_too};
 ghost use Rattle.drv_core.specs.Outcomes.{File, marked_files};
 ghost use Rattle.drv_core.specs.Code.Counting.{counting, fresh_remains, noting, noting_claim, place_at};
 ghost use Rattle.drv_core.specs.Code.Remains.{is_due, is_left, passing, seeking, sought};
-ghost use Rattle.std.specs.Cmp.Lexicographic.{pointwise};
-ghost use Rattle.std.specs.Map.{lookup};
 ghost use Rattle.std.specs.Prelude.{◌≡◌, ◌-◌, ◌++◌, ◌∷◌, ◌<◌, ◌^◌, [], IfOk, List, OnOk, Some, cond, drop, false, get_or, if◌then◌else◌, length, nat_eq, unwrap_or, ℕ};
 
 use drv_words::{Answer, ClaimAnswer, Job, Place, Plan, Step, Word};
@@ -22,7 +21,8 @@ pub(crate) struct Leftover {
     pub(crate) first: usize,
 }
 
-/// The temporaries and the marked files of the jobs that make calls, in the order in which they are removed.
+/// The temporaries and the marked files of the jobs that make calls, in the order in which they are
+/// removed.
 #[derive(Drop)]
 pub(crate) struct Leftovers {
     pub(crate) files: Vec<Leftover>,
@@ -40,7 +40,7 @@ pub(crate) struct Leftovers {
 
 /// The number of a path, or a new one.
 fn number_of(known: &HashMap<&Word, usize>, path: &Word, new: usize) -> usize
-    ensures { result ≡ unwrap_or (lookup (λ k. pointwise nat_eq path.now k.now) known.now.entries) new }
+    ensures { result ≡ unwrap_or (number_in known.now.entries (λ k. k.now) path.now) new }
 {
     match known.get(&path) {
         Some(first) => *first,
@@ -55,8 +55,8 @@ fn note_path<'p>(
     first: usize,
     number: usize,
 ) -> Result<(), AllocError>
-    ensures { OnOk result ((p : List ℕ) → lookup (λ k. pointwise nat_eq p k.now) known.new.entries
-        ≡ (if nat_eq first number then cond (pointwise nat_eq path.now p) (Some number) (lookup (λ k. pointwise nat_eq p k.now) known.old.entries) else lookup (λ k. pointwise nat_eq p k.now) known.old.entries)) }
+    ensures { OnOk result ((p : List ℕ) → number_in known.new.entries (λ k. k.now) p
+        ≡ numbered_too path.now first number (number_in known.old.entries (λ k. k.now)) p) }
 {
     if first == number {
         known.insert(path, number)?;
@@ -72,8 +72,10 @@ fn add_file<'p>(
     place: Place,
     path: &'p Word,
 ) -> Result<(), AllocError>
-    ensures { (before : List File) → Noted before (lefts_of files.old.items) (λ p. lookup (λ k. pointwise nat_eq p k.now) known.old.entries)
-        → OnOk result (Noted (before ++ record { place = place; path = path.now } ∷ []) (lefts_of files.new.items) (λ p. lookup (λ k. pointwise nat_eq p k.now) known.new.entries)) }
+    ensures { (before : List File)
+        → Noted before (lefts_of files.old.items) (number_in known.old.entries (λ k. k.now))
+        → OnOk result (Noted (before ++ record { place = place; path = path.now } ∷ [])
+        (lefts_of files.new.items) (number_in known.new.entries (λ k. k.now))) }
 {
     let number = files.len();
     let first = number_of(known, path, number);
@@ -89,8 +91,10 @@ fn add_temps<'p>(
     number: usize,
     job: &'p Job,
 ) -> Result<(), AllocError>
-    ensures { (before : List File) → Noted before (lefts_of files.old.items) (λ p. lookup (λ k. pointwise nat_eq p k.now) known.old.entries)
-        → OnOk result (Noted (before ++ temp_files number 0 job.now.temps) (lefts_of files.new.items) (λ p. lookup (λ k. pointwise nat_eq p k.now) known.new.entries)) }
+    ensures { (before : List File)
+        → Noted before (lefts_of files.old.items) (number_in known.old.entries (λ k. k.now))
+        → OnOk result (Noted (before ++ temp_files number 0 job.now.temps)
+        (lefts_of files.new.items) (number_in known.new.entries (λ k. k.now))) }
 {
     for (index, temp) in job.temps.as_slice().iter().enumerate() {
         add_file(files, known, Place::Temp { job: number, index }, &temp.path)?;
@@ -105,8 +109,10 @@ fn add_marked<'p>(
     number: usize,
     job: &'p Job,
 ) -> Result<(), AllocError>
-    ensures { (before : List File) → Noted before (lefts_of files.old.items) (λ p. lookup (λ k. pointwise nat_eq p k.now) known.old.entries)
-        → OnOk result (Noted (before ++ marked_files number 0 job.now.marked) (lefts_of files.new.items) (λ p. lookup (λ k. pointwise nat_eq p k.now) known.new.entries)) }
+    ensures { (before : List File)
+        → Noted before (lefts_of files.old.items) (number_in known.old.entries (λ k. k.now))
+        → OnOk result (Noted (before ++ marked_files number 0 job.now.marked)
+        (lefts_of files.new.items) (number_in known.new.entries (λ k. k.now))) }
 {
     for (index, path) in job.marked.as_slice().iter().enumerate() {
         add_file(files, known, Place::Marked { job: number, index }, path)?;
@@ -121,8 +127,10 @@ fn add_job<'p>(
     number: usize,
     job: &'p Job,
 ) -> Result<(), AllocError>
-    ensures { (before : List File) → Noted before (lefts_of files.old.items) (λ p. lookup (λ k. pointwise nat_eq p k.now) known.old.entries)
-        → OnOk result (Noted (before ++ job_files number job.now) (lefts_of files.new.items) (λ p. lookup (λ k. pointwise nat_eq p k.now) known.new.entries)) }
+    ensures { (before : List File)
+        → Noted before (lefts_of files.old.items) (number_in known.old.entries (λ k. k.now))
+        → OnOk result (Noted (before ++ job_files number job.now)
+        (lefts_of files.new.items) (number_in known.new.entries (λ k. k.now))) }
 {
     if job.groups.as_slice().is_empty() {
         return Ok(());
@@ -137,8 +145,10 @@ fn add_sources<'p>(
     known: &mut HashMap<&'p Word, usize>,
     jobs: &'p [Job],
 ) -> Result<(), AllocError>
-    ensures { (before : List File) → Noted before (lefts_of files.old.items) (λ p. lookup (λ k. pointwise nat_eq p k.now) known.old.entries)
-        → OnOk result (Noted (before ++ files_from 0 jobs.now) (lefts_of files.new.items) (λ p. lookup (λ k. pointwise nat_eq p k.now) known.new.entries)) }
+    ensures { (before : List File)
+        → Noted before (lefts_of files.old.items) (number_in known.old.entries (λ k. k.now))
+        → OnOk result (Noted (before ++ files_from 0 jobs.now)
+        (lefts_of files.new.items) (number_in known.new.entries (λ k. k.now))) }
 {
     for (number, job) in jobs.iter().enumerate() {
         add_job(files, known, number, job)?;
@@ -165,7 +175,8 @@ fn files_of(alloc: Global, plan: &Plan) -> Result<Vec<Leftover>, AllocError>
 impl Leftovers {
     /// Nothing was claimed or removed. Want of memory is the only error.
     pub(crate) fn new(alloc: Global, plan: &Plan) -> Result<Leftovers, AllocError>
-        ensures { IfOk result (λ made. remains_of made ≡ fresh_remains (lefts [] (all_files plan.now)) (length plan.now.jobs)) }
+        ensures { IfOk result (λ made. remains_of made
+            ≡ fresh_remains (lefts [] (all_files plan.now)) (length plan.now.jobs)) }
     {
         let files = files_of(alloc, plan)?;
         let gone = vec![in alloc; false; files.len()]?;
@@ -236,7 +247,8 @@ impl Leftovers {
 
     /// Whether a file is a temporary that was claimed, or a marked file of a job that was worked.
     fn is_left(&self, place: Place) -> bool
-        ensures { result ≡ is_left self.now.claimed.items self.now.sources self.now.is_linked place }
+        ensures { result
+            ≡ is_left self.now.claimed.items self.now.sources self.now.is_linked place }
     {
         match place {
             Place::Command { .. } => false,
@@ -268,7 +280,8 @@ impl Leftovers {
 
     /// The number of the next file that is to be removed, from this one on.
     fn sought(&self, from: usize) -> usize
-        ensures { result ≡ sought (remains_of self.now) from (lefts_of (drop from self.now.files.items)) }
+        ensures { result
+            ≡ sought (remains_of self.now) from (lefts_of (drop from self.now.files.items)) }
     {
         let mut at = from;
         while at < self.files.len() && !self.is_due(self.files[at]) {

@@ -5,9 +5,9 @@ ghost use Rattle.std.specs.Prelude.{◌≡◌, ◌+◌, ◌*◌};
 
 use drv_words::{Job, Plan};
 
-/// The number of events that a run of this plan has at most: four for a command, two for a temporary, and two for each
-/// path of a temporary, marked file or file to be removed on failure. None where `usize` has no such number. It takes no
-/// memory.
+/// The number of events that a run of this plan has at most: four for a command, two for a
+/// temporary, and two for each path of a temporary, marked file or file to be removed on failure.
+/// None where `usize` has no such number. It takes no memory.
 #[tactic(auto, using(crate::proofs::Needs::too_many, crate::proofs::Needs::one_more, crate::proofs::Needs::all_jobs))]
 pub fn events_needed(plan: &Plan) -> Option<usize>
     ensures { result ≡ fitting (needed plan.now) }

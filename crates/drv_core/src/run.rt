@@ -22,11 +22,12 @@ use drv_words::{Answer, Plan, RunEvent};
 use std::alloc::{AllocError, Global};
 use std::marker::Model;
 
-/// The run of a plan, which is lent to it. It makes no call itself: `next` says which step is made next, and `answer` takes what
-/// that step was answered. Room for all its events is got by `new`, and no later call takes memory.
+/// The run of a plan, which is lent to it. It makes no call itself: `next` says which step is made
+/// next, and `answer` takes what that step was answered. Room for all its events is got by `new`,
+/// and no later call takes memory.
 ///
-/// Contracts see the plan, whether codes are passed on, how many sources may be under way at once, the events so far, and what
-/// `next` gives.
+/// Contracts see the plan, whether codes are passed on, how many sources may be under way at once,
+/// the events so far, and what `next` gives.
 #[derive(Drop)]
 pub struct Run<'a> {
     plan: &'a Plan,
@@ -74,9 +75,11 @@ fn look(plan: &Plan, pass_codes: bool, work: &Work) -> Action
 /// The work goes on by the answer to what was asked.
 fn advance(plan: &Plan, work: &mut Work, answer: Answer)
     requires stands { Stands plan.now work.old }
-    requires kind { (s : Step) → next_of plan.now (position_of work.old) ≡ Some s → is_kind s answer ≡ true }
+    requires kind { (s : Step) → next_of plan.now (position_of work.old) ≡ Some s
+        → is_kind s answer ≡ true }
     ensures stands { Stands plan.now work.new }
-    ensures moved { (s : Step) → next_of plan.now (position_of work.old) ≡ Some s → position_of work.new ≡ moved plan.now (position_of work.old) s answer }
+    ensures moved { (s : Step) → next_of plan.now (position_of work.old) ≡ Some s
+        → position_of work.new ≡ moved plan.now (position_of work.old) s answer }
     ensures window { work.new.flight.window ≡ work.old.flight.window }
 {
     match work.asks(plan) {
@@ -97,9 +100,10 @@ fn turn(plan: &Plan, work: &mut Work, choice: usize)
 }
 
 impl<'a> Run<'a> {
-    /// Nothing of the plan was worked yet. At most `window` sources are under way at once, which is 1 to 64; where `pass_codes`,
-    /// the status is the greatest code (GCC manual, "Overall Options", `-pass-exit-codes`). Want of memory is the only error, also
-    /// where `usize` has no number for the events that can come.
+    /// Nothing of the plan was worked yet. At most `window` sources are under way at once, which is
+    /// 1 to 64; where `pass_codes`, the status is the greatest code (GCC manual, "Overall Options",
+    /// `-pass-exit-codes`). Want of memory is the only error, also where `usize` has no number for
+    /// the events that can come.
     pub fn new(
         alloc: Global,
         plan: &'a Plan,
@@ -112,7 +116,8 @@ impl<'a> Run<'a> {
         ensures pass_codes { IfOk result (λ run. run.pass_codes ≡ pass_codes) }
         ensures window { IfOk result (λ run. run.window ≡ window) }
         ensures events { IfOk result (λ run. run.events ≡ []) }
-        ensures first { IfOk result (λ run. IsOfFirst run.plan run.window run.events (step_in run.action)) }
+        ensures first { IfOk result
+            (λ run. IsOfFirst run.plan run.window run.events (step_in run.action)) }
     {
         let work = Work::new(alloc, plan, window)?;
         Ok(Run {
@@ -126,23 +131,30 @@ impl<'a> Run<'a> {
     pub fn next(&self) -> Action
         ensures action { result ≡ self.now.action }
         ensures beginning { IsBeginning self.now.plan self.now.window self.now.events }
-        ensures possible { IfMake result (λ step. can_make self.now.plan self.now.events step ≡ true) }
+        ensures possible { IfMake result
+            (λ step. can_make self.now.plan self.now.events step ≡ true) }
         ensures bound { length self.now.events ≤ needed self.now.plan }
         ensures fewer { IfMake result (λ step. length self.now.events < needed self.now.plan) }
-        ensures unfinished { IfMake result (λ step. IsWhole self.now.plan self.now.window self.now.events → ⊥) }
-        ensures whole { IfDone result (λ status. IsWhole self.now.plan self.now.window self.now.events) }
-        ensures status { IfDone result (λ status. (o : Answers) → Windowed self.now.plan self.now.window o self.now.events → status ≡ status_of self.now.pass_codes o) }
+        ensures unfinished { IfMake result
+            (λ step. IsWhole self.now.plan self.now.window self.now.events → ⊥) }
+        ensures whole { IfDone result
+            (λ status. IsWhole self.now.plan self.now.window self.now.events) }
+        ensures status { IfDone result (λ status. (o : Answers)
+            → Windowed self.now.plan self.now.window o self.now.events
+            → status ≡ status_of self.now.pass_codes o) }
     {
         look(self.plan, self.pass_codes, &self.work)
     }
 
-    /// What the step of `next` was answered, by an answer of its kind; the number of a child that was started is new. Behind a block
-    /// of a source comes one of the first source that may go on.
+    /// What the step of `next` was answered, by an answer of its kind; the number of a child that
+    /// was started is new. Behind a block of a source comes one of the first source that may go on.
     pub fn answer(&mut self, answer: Answer)
         requires more { IfDone self.old.action (λ status. ⊥) }
         requires fits { IfMake self.old.action (λ step. fits self.old.events step answer ≡ true) }
-        ensures events { IfMake self.old.action (λ step. self.new.events ≡ self.old.events ++ event step answer ∷ []) }
-        ensures first { IsOfFirst self.new.plan self.new.window self.new.events (step_in self.new.action) }
+        ensures events { IfMake self.old.action (λ step. self.new.events
+            ≡ self.old.events ++ event step answer ∷ []) }
+        ensures first { IsOfFirst self.new.plan self.new.window self.new.events
+            (step_in self.new.action) }
         ensures plan { self.new.plan ≡ self.old.plan }
         ensures pass_codes { self.new.pass_codes ≡ self.old.pass_codes }
         ensures window { self.new.window ≡ self.old.window }
@@ -157,28 +169,34 @@ impl<'a> Run<'a> {
         self.work.events.as_slice()
     }
 
-    /// The status of the run, which is whole: 0 where all codes are 0, else 1, or the greatest code where codes are passed on.
+    /// The status of the run, which is whole: 0 where all codes are 0, else 1, or the greatest code
+    /// where codes are passed on.
     pub fn status(&self) -> u8
         requires { IfMake self.now.action (λ step. ⊥) }
         ensures done { self.now.action ≡ action.Done result }
-        ensures status { (o : Answers) → Windowed self.now.plan self.now.window o self.now.events → result ≡ status_of self.now.pass_codes o }
+        ensures status { (o : Answers) → Windowed self.now.plan self.now.window o self.now.events
+            → result ≡ status_of self.now.pass_codes o }
     {
         status_code(self.pass_codes, self.work.code)
     }
 
-    /// How many sources may go on, where the events so far are whole blocks of the sources and a source has more to do; else 1. Without
-    /// `choose` it is the first of them that goes on.
+    /// How many sources may go on, where the events so far are whole blocks of the sources and a
+    /// source has more to do; else 1. Without `choose` it is the first of them that goes on.
     pub fn choices(&self) -> usize
         ensures { ChoicesAre self.now.plan self.now.window self.now.events result }
     {
         self.work.choices(self.plan)
     }
 
-    /// The next block is that of the source of this number among those that may go on, which are counted from 0 in plan order.
+    /// The next block is that of the source of this number among those that may go on, which are
+    /// counted from 0 in plan order.
     pub fn choose(&mut self, choice: usize)
         requires { IsChoice self.old.plan self.old.window self.old.events choice }
-        ensures next { (b : BetweenBlocks self.old.plan self.old.window self.old.events) → IsNextOf self.old.plan self.old.window self.old.events b choice (step_in self.new.action) }
-        ensures elsewhere { (BetweenBlocks self.old.plan self.old.window self.old.events → ⊥) → self.new ≡ self.old }
+        ensures next { (b : BetweenBlocks self.old.plan self.old.window self.old.events)
+            → IsNextOf self.old.plan self.old.window self.old.events b choice
+            (step_in self.new.action) }
+        ensures elsewhere { (BetweenBlocks self.old.plan self.old.window self.old.events → ⊥)
+            → self.new ≡ self.old }
         ensures plan { self.new.plan ≡ self.old.plan }
         ensures pass_codes { self.new.pass_codes ≡ self.old.pass_codes }
         ensures window { self.new.window ≡ self.old.window }

@@ -206,7 +206,8 @@ impl Source {
 
     /// The start of the next command of a group.
     fn start(&self, number: usize, job: &Job, group: usize) -> Step
-        ensures { Some result ≡ asks number job.now (Starts group self.now.started_before self.now.children.items) }
+        ensures { Some result
+            ≡ asks number job.now (Starts group self.now.started_before self.now.children.items) }
     {
         let index = self.children.as_slice().len();
         Step::Start {
@@ -218,7 +219,8 @@ impl Source {
 
     /// The wait for the child of this number.
     fn wait(&self, job: usize, group: usize, index: usize) -> Step
-        ensures { result ≡ step.Wait (place.Command job group index) (get_or self.now.children.items index 0) }
+        ensures { result
+            ≡ step.Wait (place.Command job group index) (get_or self.now.children.items index 0) }
     {
         let id = match self.children.as_slice().get(index) {
             Some(id) => *id,
@@ -277,7 +279,8 @@ impl Source {
     /// A start was answered.
     fn take_start(&mut self, job: &Job, group: usize, started: StartAnswer)
         requires room { length self.old.children.items < vec_capacity self.old.children }
-        ensures stage { stage_at self.new ≡ after_start job.now group self.old.started_before self.old.children.items started }
+        ensures stage { stage_at self.new
+            ≡ after_start job.now group self.old.started_before self.old.children.items started }
         ensures capacity { vec_capacity self.new.children ≡ vec_capacity self.old.children }
     {
         match started {
@@ -296,7 +299,8 @@ impl Source {
 
     /// A refused start was told.
     fn take_refusal(&mut self, job: &Job, group: usize, why: NotStarted, told: bool)
-        ensures stage { stage_at self.new ≡ after_refusal job.now group self.old.started_before self.old.children.items why told }
+        ensures stage { stage_at self.new
+            ≡ after_refusal job.now group self.old.started_before self.old.children.items why told }
         ensures capacity { vec_capacity self.new.children ≡ vec_capacity self.old.children }
     {
         if self.children.as_slice().len() > 0 {
@@ -308,7 +312,9 @@ impl Source {
 
     /// A wait was answered.
     fn take_wait(&mut self, job: &Job, group: usize, index: usize, fault: bool, ended: WaitAnswer)
-        ensures stage { stage_at self.new ≡ after_wait job.now group self.old.started_before self.old.children.items index fault ended }
+        ensures stage { stage_at self.new
+            ≡ after_wait job.now group self.old.started_before self.old.children.items
+            index fault ended }
         ensures capacity { vec_capacity self.new.children ≡ vec_capacity self.old.children }
     {
         match ended {
@@ -333,7 +339,9 @@ impl Source {
 
     /// Goes on behind a child that was waited for.
     fn pass_wait(&mut self, job: &Job, group: usize, index: usize, fault: bool)
-        ensures stage { stage_at self.new ≡ enter_waits job.now group self.old.started_before self.old.children.items (index + 1) fault }
+        ensures stage { stage_at self.new
+            ≡ enter_waits job.now group self.old.started_before self.old.children.items
+            (index + 1) fault }
         ensures capacity { vec_capacity self.new.children ≡ vec_capacity self.old.children }
     {
         if is_followed(index, self.children.as_slice().len()) {
@@ -357,7 +365,9 @@ impl Source {
 
     /// The children of a group are waited for, from this one on.
     fn enter_waits(&mut self, job: &Job, group: usize, index: usize, fault: bool)
-        ensures stage { stage_at self.new ≡ enter_waits job.now group self.old.started_before self.old.children.items index fault }
+        ensures stage { stage_at self.new
+            ≡ enter_waits job.now group self.old.started_before self.old.children.items
+            index fault }
         ensures capacity { vec_capacity self.new.children ≡ vec_capacity self.old.children }
     {
         if index < self.children.as_slice().len() {
@@ -379,7 +389,9 @@ impl Source {
 
     /// A group has ended: the job goes on, or has failed.
     fn end_group(&mut self, job: &Job, group: usize, fault: bool)
-        ensures stage { stage_at self.new ≡ end_group job.now group (self.old.started_before || not (none self.old.children.items)) fault }
+        ensures stage { stage_at self.new
+            ≡ end_group job.now group
+            (self.old.started_before || not (none self.old.children.items)) fault }
         ensures capacity { vec_capacity self.new.children ≡ vec_capacity self.old.children }
     {
         let started = self.started_before || self.has_child();
@@ -410,8 +422,8 @@ impl Source {
         }
     }
 
-    /// Nothing has begun, and there is room for the children of each group, of which none is empty. Want of memory is the only
-    /// error.
+    /// Nothing has begun, and there is room for the children of each group, of which none is empty.
+    /// Want of memory is the only error.
     pub(crate) fn new(alloc: Global, job: &Job) -> Result<Source, AllocError>
         ensures fresh { IfOk result (λ made. worker_of made ≡ fresh job.now) }
         ensures filled { OnOk result (Filled job.now) }

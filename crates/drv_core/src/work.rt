@@ -98,7 +98,8 @@ fn wait_code(ended: WaitAnswer) -> u8
     }
 }
 
-/// The link, of which nothing has begun, or nothing to do where there is none. Want of memory is the only error.
+/// The link, of which nothing has begun, or nothing to do where there is none. Want of memory is
+/// the only error.
 fn link_source(alloc: Global, plan: &Plan) -> Result<Source, AllocError>
     ensures fresh { IfOk result (λ made. worker_of made ≡ fresh (link_of plan.now.link)) }
     ensures filled { OnOk result (Filled (link_of plan.now.link)) }
@@ -121,11 +122,12 @@ fn room_for(alloc: Global, plan: &Plan) -> Result<Vec<RunEvent>, AllocError>
 }
 
 impl Work {
-    /// The parts of a run, where there may be no source to begin with. There is room for all that comes, and no group is empty. Want
-    /// of memory is the only error.
+    /// The parts of a run, where there may be no source to begin with. There is room for all that
+    /// comes, and no group is empty. Want of memory is the only error.
     fn prepared(alloc: Global, plan: &Plan, window: usize) -> Result<Work, AllocError>
         requires { window ≤ 64 }
-        ensures fresh { IfOk result (λ made. position_of made ≡ first_position plan.now window (vec_capacity made.events)) }
+        ensures fresh { IfOk result (λ made. position_of made
+            ≡ first_position plan.now window (vec_capacity made.events)) }
         ensures room { IfOk result (λ made. needed plan.now ≤ vec_capacity made.events) }
         ensures filled { OnOk result (AllFilled plan.now.jobs × Filled (link_of plan.now.link)) }
     {
@@ -139,10 +141,12 @@ impl Work {
         })
     }
 
-    /// Nothing has begun, and there is room for all that comes. No group is empty. Want of memory is the only error.
+    /// Nothing has begun, and there is room for all that comes. No group is empty. Want of memory
+    /// is the only error.
     pub(crate) fn new(alloc: Global, plan: &Plan, window: usize) -> Result<Work, AllocError>
         requires { window ≤ 64 }
-        ensures fresh { IfOk result (λ made. position_of made ≡ fresh_position plan.now window (vec_capacity made.events)) }
+        ensures fresh { IfOk result (λ made. position_of made
+            ≡ fresh_position plan.now window (vec_capacity made.events)) }
         ensures room { IfOk result (λ made. needed plan.now ≤ vec_capacity made.events) }
         ensures filled { OnOk result (AllFilled plan.now.jobs × Filled (link_of plan.now.link)) }
     {
@@ -167,7 +171,8 @@ impl Work {
 
     /// What is asked next for the link.
     fn asks_link(&self, plan: &Plan) -> Option<Step>
-        ensures { result ≡ link_asks (length plan.now.jobs) plan.now.link (worker_of self.now.link) }
+        ensures { result
+            ≡ link_asks (length plan.now.jobs) plan.now.link (worker_of self.now.link) }
     {
         match &plan.link {
             Some(job) => self.link.asks(plan.jobs.len(), job),
@@ -199,7 +204,8 @@ impl Work {
     pub(crate) fn take(&mut self, plan: &Plan, step: Step, answer: Answer)
         requires ready { Ready plan.now (position_of self.old) }
         requires room { length self.old.events.items < vec_capacity self.old.events }
-        requires few { (k : ℕ) → get_or self.old.leftovers.claimed.items k 0 ≤ length self.old.events.items }
+        requires few { (k : ℕ)
+            → get_or self.old.leftovers.claimed.items k 0 ≤ length self.old.events.items }
         ensures { position_of self.new ≡ moved plan.now (position_of self.old) step answer }
     {
         self.keep(step, answer);
@@ -215,7 +221,8 @@ impl Work {
     /// Keeps an answer.
     fn keep(&mut self, step: Step, answer: Answer)
         requires room { length self.old.events.items < vec_capacity self.old.events }
-        requires few { (k : ℕ) → get_or self.old.leftovers.claimed.items k 0 ≤ length self.old.events.items }
+        requires few { (k : ℕ)
+            → get_or self.old.leftovers.claimed.items k 0 ≤ length self.old.events.items }
         ensures { position_of self.new ≡ kept (position_of self.old) step answer }
     {
         self.events.push_reserved(RunEvent { step, answer });
@@ -227,7 +234,9 @@ impl Work {
     /// A source goes on.
     fn take_source(&mut self, plan: &Plan, answer: Answer)
         requires { FleetReady plan.now (position_of self.old).fleet }
-        ensures { position_of self.new ≡ flown (record (position_of self.old) { fleet = taken plan.now.jobs (position_of self.old).fleet answer }) }
+        ensures { position_of self.new ≡ flown (record (position_of self.old) {
+          fleet = taken plan.now.jobs (position_of self.old).fleet answer;
+        }) }
     {
         self.flight.take(plan.jobs.as_slice(), answer);
         self.leave_sources();
@@ -268,7 +277,9 @@ impl Work {
     /// The link goes on by an answer.
     fn take_link(&mut self, plan: &Plan, answer: Answer)
         requires { HasRoom (position_of self.old).link.stage (position_of self.old).link.room }
-        ensures { position_of self.new ≡ linked (record (position_of self.old) { link = link_after plan.now.link (position_of self.old).link answer }) }
+        ensures { position_of self.new ≡ linked (record (position_of self.old) {
+          link = link_after plan.now.link (position_of self.old).link answer;
+        }) }
     {
         self.work_link(plan, answer);
         self.enter_link();
@@ -277,7 +288,9 @@ impl Work {
     /// The link's source goes on by an answer.
     fn work_link(&mut self, plan: &Plan, answer: Answer)
         requires { HasRoom (position_of self.old).link.stage (position_of self.old).link.room }
-        ensures { position_of self.new ≡ record (position_of self.old) { link = link_after plan.now.link (position_of self.old).link answer } }
+        ensures { position_of self.new ≡ record (position_of self.old) {
+          link = link_after plan.now.link (position_of self.old).link answer;
+        } }
     {
         match &plan.link {
             Some(job) => self.link.take(job, answer),
