@@ -7,7 +7,7 @@ ghost use Rattle.drv_core.specs.Code.Numbering.{Noted, lefts, number_in, numbere
 ghost use Rattle.drv_core.specs.Outcomes.{File, marked_files};
 ghost use Rattle.drv_core.specs.Code.Counting.{counting, fresh_remains, noting, noting_claim, place_at};
 ghost use Rattle.drv_core.specs.Code.Remains.{is_due, is_left, passing, seeking, sought};
-ghost use Rattle.std.specs.Prelude.{◌≡◌, ◌-◌, ◌++◌, ◌∷◌, ◌<◌, ◌^◌, [], IfOk, List, OnOk, Some, cond, drop, false, get_or, if◌then◌else◌, length, nat_eq, unwrap_or, ℕ};
+ghost use Rattle.std.specs.Prelude.{◌≡◌, ◌-◌, ◌++◌, ◌∷◌, ◌<◌, ◌^◌, [], IfOk, List, OnOk, drop, false, get_or, length, unwrap_or, ℕ};
 
 use drv_words::{Answer, ClaimAnswer, Job, Place, Plan, Step, Word};
 use std::alloc::{AllocError, Global};

@@ -22,23 +22,50 @@ use std::alloc::{AllocError, Global};
 #[derive(Clone, Copy)]
 pub(crate) enum Point {
     /// The temporary of this number is claimed next.
-    Claims(usize),
+    Claims {
+        index: usize,
+    },
     /// It was not claimed, and that is told.
-    ClaimReport(usize, ClaimAnswer),
+    ClaimReport {
+        index: usize,
+        answer: ClaimAnswer,
+    },
     /// The next command of this group is started.
-    Starts(usize),
+    Starts {
+        group: usize,
+    },
     /// It was not started, and that is told.
-    StartReport(usize, NotStarted),
+    StartReport {
+        group: usize,
+        why: NotStarted,
+    },
     /// The pipe that it would have read is closed.
-    Closing(usize, NotStarted, bool),
+    Closing {
+        group: usize,
+        why: NotStarted,
+        told: bool,
+    },
     /// A child of the group is waited for; whether the group has a fault so far.
-    Waits(usize, usize, bool),
+    Waits {
+        group: usize,
+        index: usize,
+        fault: bool,
+    },
     /// It ended otherwise than by itself, and that is told.
-    WaitReport(usize, usize, bool, WaitAnswer),
+    WaitReport {
+        group: usize,
+        index: usize,
+        fault: bool,
+        answer: WaitAnswer,
+    },
     /// This file is removed after a failure.
-    Removals(usize),
+    Removals {
+        index: usize,
+    },
     /// It could not be removed, and that is told.
-    RemovalReport(usize),
+    RemovalReport {
+        index: usize,
+    },
     /// Nothing is left to do.
     Ended,
 }
@@ -170,22 +197,28 @@ impl Source {
         ensures { result ≡ asks number job.now (stage_at self.now) }
     {
         match self.point {
-            Point::Claims(index) => Some(Step::Claim(Place::Temp { job: number, index })),
-            Point::ClaimReport(index, _) => Some(Step::Report(Note::NotClaimed(Place::Temp {
+            Point::Claims { index } => Some(Step::Claim(Place::Temp { job: number, index })),
+            Point::ClaimReport { index, .. } => Some(Step::Report(Note::NotClaimed(Place::Temp {
                 job: number,
                 index,
             }))),
-            Point::Starts(group) => Some(self.start(number, job, group)),
-            Point::StartReport(group, _) => Some(Step::Report(Note::NotStarted(self.place(
+            Point::Starts { group } => Some(self.start(number, job, group)),
+            Point::StartReport { group, .. } => Some(Step::Report(Note::NotStarted(self.place(
                 number, group,
             )))),
-            Point::Closing(_, _, _) => Some(Step::ClosePipe),
-            Point::Waits(group, index, _) => Some(self.wait(number, group, index)),
-            Point::WaitReport(group, index, _, answer) => Some(Step::Report(wait_note(
-                number, group, index, answer,
-            ))),
-            Point::Removals(index) => Some(Step::Remove(Place::OnFailure { job: number, index })),
-            Point::RemovalReport(index) => Some(Step::Report(Note::NotRemoved(Place::OnFailure {
+            Point::Closing { .. } => Some(Step::ClosePipe),
+            Point::Waits { group, index, .. } => Some(self.wait(number, group, index)),
+            Point::WaitReport {
+                group,
+                index,
+                answer,
+                ..
+            } => Some(Step::Report(wait_note(number, group, index, answer))),
+            Point::Removals { index } => Some(Step::Remove(Place::OnFailure {
+                job: number,
+                index,
+            })),
+            Point::RemovalReport { index } => Some(Step::Report(Note::NotRemoved(Place::OnFailure {
                 job: number,
                 index,
             }))),
@@ -239,21 +272,24 @@ impl Source {
         ensures capacity { vec_capacity self.new.children ≡ vec_capacity self.old.children }
     {
         match self.point {
-            Point::Claims(index) => self.take_claim(job, index, claim_of(answer)),
-            Point::ClaimReport(_, _) => self.point = Point::Ended,
-            Point::Starts(group) => self.take_start(job, group, start_of(answer)),
-            Point::StartReport(group, why) => self.take_refusal(job, group, why, told_of(answer)),
-            Point::Closing(group, _, _) => self.enter_waits(job, group, 0, true),
-            Point::Waits(group, index, fault) => self.take_wait(
+            Point::Claims { index } => self.take_claim(job, index, claim_of(answer)),
+            Point::ClaimReport { .. } => self.point = Point::Ended,
+            Point::Starts { group } => self.take_start(job, group, start_of(answer)),
+            Point::StartReport { group, why } => self.take_refusal(
                 job,
+                group,
+                why,
+                told_of(answer),
+            ),
+            Point::Closing { group, .. } => self.enter_waits(job, group, 0, true),
+            Point::Waits {
                 group,
                 index,
                 fault,
-                wait_of(answer),
-            ),
-            Point::WaitReport(group, index, _, _) => self.pass_wait(job, group, index, true),
-            Point::Removals(index) => self.take_removal(job, index, remove_of(answer)),
-            Point::RemovalReport(index) => self.pass_removal(job, index),
+            } => self.take_wait(job, group, index, fault, wait_of(answer)),
+            Point::WaitReport { group, index, .. } => self.pass_wait(job, group, index, true),
+            Point::Removals { index } => self.take_removal(job, index, remove_of(answer)),
+            Point::RemovalReport { index } => self.pass_removal(job, index),
             Point::Ended => {}
         }
     }
@@ -266,13 +302,19 @@ impl Source {
         match claimed {
             ClaimAnswer::Claimed => {
                 if is_followed(index, job.temps.len()) {
-                    self.point = Point::Claims(index + 1);
+                    self.point = Point::Claims { index: index + 1 };
                 } else {
                     self.enter_group(job, 0, false);
                 }
             }
-            ClaimAnswer::Taken => self.point = Point::ClaimReport(index, claimed),
-            ClaimAnswer::Failed => self.point = Point::ClaimReport(index, claimed),
+            ClaimAnswer::Taken => self.point = Point::ClaimReport {
+                index,
+                answer: claimed,
+            },
+            ClaimAnswer::Failed => self.point = Point::ClaimReport {
+                index,
+                answer: claimed,
+            },
         }
     }
 
@@ -288,12 +330,12 @@ impl Source {
                 let count = self.children.as_slice().len();
                 self.children.push_reserved(id);
                 if is_followed(count, group_len(job, group)) {
-                    self.point = Point::Starts(group);
+                    self.point = Point::Starts { group };
                 } else {
                     self.enter_waits(job, group, 0, false);
                 }
             }
-            StartAnswer::NotStarted(why) => self.point = Point::StartReport(group, why),
+            StartAnswer::NotStarted(why) => self.point = Point::StartReport { group, why },
         }
     }
 
@@ -304,7 +346,7 @@ impl Source {
         ensures capacity { vec_capacity self.new.children ≡ vec_capacity self.old.children }
     {
         if self.children.as_slice().len() > 0 {
-            self.point = Point::Closing(group, why, told);
+            self.point = Point::Closing { group, why, told };
         } else {
             self.enter_waits(job, group, 0, true);
         }
@@ -319,8 +361,18 @@ impl Source {
     {
         match ended {
             WaitAnswer::Exit(code) => self.pass_wait(job, group, index, fault || code != 0),
-            WaitAnswer::Signal => self.point = Point::WaitReport(group, index, fault, ended),
-            WaitAnswer::Lost => self.point = Point::WaitReport(group, index, fault, ended),
+            WaitAnswer::Signal => self.point = Point::WaitReport {
+                group,
+                index,
+                fault,
+                answer: ended,
+            },
+            WaitAnswer::Lost => self.point = Point::WaitReport {
+                group,
+                index,
+                fault,
+                answer: ended,
+            },
         }
     }
 
@@ -333,7 +385,7 @@ impl Source {
             RemoveAnswer::Removed => self.pass_removal(job, index),
             RemoveAnswer::Missing => self.pass_removal(job, index),
             RemoveAnswer::NotPlain => self.pass_removal(job, index),
-            RemoveAnswer::Failed => self.point = Point::RemovalReport(index),
+            RemoveAnswer::Failed => self.point = Point::RemovalReport { index },
         }
     }
 
@@ -345,7 +397,11 @@ impl Source {
         ensures capacity { vec_capacity self.new.children ≡ vec_capacity self.old.children }
     {
         if is_followed(index, self.children.as_slice().len()) {
-            self.point = Point::Waits(group, index + 1, fault);
+            self.point = Point::Waits {
+                group,
+                index: index + 1,
+                fault,
+            };
         } else {
             self.end_group(job, group, fault);
         }
@@ -357,7 +413,7 @@ impl Source {
         ensures capacity { vec_capacity self.new.children ≡ vec_capacity self.old.children }
     {
         if is_followed(index, job.on_failure.len()) {
-            self.point = Point::Removals(index + 1);
+            self.point = Point::Removals { index: index + 1 };
         } else {
             self.point = Point::Ended;
         }
@@ -371,7 +427,11 @@ impl Source {
         ensures capacity { vec_capacity self.new.children ≡ vec_capacity self.old.children }
     {
         if index < self.children.as_slice().len() {
-            self.point = Point::Waits(group, index, fault);
+            self.point = Point::Waits {
+                group,
+                index,
+                fault,
+            };
         } else {
             self.end_group(job, group, fault);
         }
@@ -397,7 +457,7 @@ impl Source {
         let started = self.started_before || self.has_child();
         if fault {
             if started && job.on_failure.len() > 0 {
-                self.point = Point::Removals(0);
+                self.point = Point::Removals { index: 0 };
             } else {
                 self.point = Point::Ended;
             }
@@ -416,7 +476,7 @@ impl Source {
         self.started_before = started_before;
         self.children.clear();
         if group < job.groups.len() {
-            self.point = Point::Starts(group);
+            self.point = Point::Starts { group };
         } else {
             self.point = Point::Ended;
         }
@@ -453,15 +513,15 @@ impl Source {
         ensures { result ≡ left (stage_at self.now) }
     {
         match self.point {
-            Point::Claims(_) => true,
-            Point::ClaimReport(_, _) => true,
-            Point::Starts(_) => true,
-            Point::StartReport(_, _) => true,
-            Point::Closing(_, _, _) => true,
-            Point::Waits(_, _, _) => true,
-            Point::WaitReport(_, _, _, _) => true,
-            Point::Removals(_) => true,
-            Point::RemovalReport(_) => true,
+            Point::Claims { .. } => true,
+            Point::ClaimReport { .. } => true,
+            Point::Starts { .. } => true,
+            Point::StartReport { .. } => true,
+            Point::Closing { .. } => true,
+            Point::Waits { .. } => true,
+            Point::WaitReport { .. } => true,
+            Point::Removals { .. } => true,
+            Point::RemovalReport { .. } => true,
             Point::Ended => false,
         }
     }
@@ -471,15 +531,15 @@ impl Source {
         ensures { result ≡ awaits (stage_at self.now) }
     {
         match self.point {
-            Point::Claims(_) => false,
-            Point::ClaimReport(_, _) => false,
-            Point::Starts(_) => false,
-            Point::StartReport(_, _) => false,
-            Point::Closing(_, _, _) => false,
-            Point::Waits(_, index, _) => index < self.children.as_slice().len(),
-            Point::WaitReport(_, _, _, _) => false,
-            Point::Removals(_) => false,
-            Point::RemovalReport(_) => false,
+            Point::Claims { .. } => false,
+            Point::ClaimReport { .. } => false,
+            Point::Starts { .. } => false,
+            Point::StartReport { .. } => false,
+            Point::Closing { .. } => false,
+            Point::Waits { index, .. } => index < self.children.as_slice().len(),
+            Point::WaitReport { .. } => false,
+            Point::Removals { .. } => false,
+            Point::RemovalReport { .. } => false,
             Point::Ended => false,
         }
     }
@@ -489,15 +549,15 @@ impl Source {
         ensures { result ≡ inside (stage_at self.now) }
     {
         match self.point {
-            Point::Claims(_) => false,
-            Point::ClaimReport(_, _) => true,
-            Point::Starts(_) => self.has_child(),
-            Point::StartReport(_, _) => true,
-            Point::Closing(_, _, _) => true,
-            Point::Waits(_, _, _) => false,
-            Point::WaitReport(_, _, _, _) => true,
-            Point::Removals(_) => false,
-            Point::RemovalReport(_) => true,
+            Point::Claims { .. } => false,
+            Point::ClaimReport { .. } => true,
+            Point::Starts { .. } => self.has_child(),
+            Point::StartReport { .. } => true,
+            Point::Closing { .. } => true,
+            Point::Waits { .. } => false,
+            Point::WaitReport { .. } => true,
+            Point::Removals { .. } => false,
+            Point::RemovalReport { .. } => true,
             Point::Ended => false,
         }
     }
@@ -510,7 +570,7 @@ impl Source {
         if job.groups.as_slice().is_empty() {
             self.point = Point::Ended;
         } else if job.temps.len() > 0 {
-            self.point = Point::Claims(0);
+            self.point = Point::Claims { index: 0 };
         } else {
             self.enter_group(job, 0, false);
         }
