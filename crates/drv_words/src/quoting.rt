@@ -7,11 +7,12 @@ ghost use Rattle.std.specs.Prelude.{◌≡◌, ◌++◌, IfOk, OnOk};
 use crate::Word;
 use std::alloc::{AllocError, Global};
 
-/// Whether a byte needs no quotes: a letter, a digit or one of `./-_`.
+/// Whether a byte needs no quotes: a letter, a digit or one of `./-_`. Small letters come first, since most bytes are
+/// those; `-`, `.` and `/` stand right before the digits.
 pub(crate) fn is_plain_byte(byte: u8) -> bool
     ensures { result ≡ is_plain byte }
 {
-    byte.is_ascii_alphanumeric() || matches!(byte, b'.' | b'/' | b'-' | b'_')
+    matches!(byte, b'a'..=b'z' | b'-'..=b'9' | b'A'..=b'Z' | b'_')
 }
 
 /// Whether a backslash stands before a byte between double quotes.
