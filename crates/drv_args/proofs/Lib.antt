@@ -2,6 +2,7 @@ pub mod Asked
 pub mod Expanding
 pub mod FrontLaws
 pub mod JobCounts
+pub mod LastBytes
 pub mod LineSteps
 pub mod Lookups
 pub mod OneExpansion

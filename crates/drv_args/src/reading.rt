@@ -4,11 +4,11 @@ ghost use Rattle.drv_args.specs.Code.Building.{line_with, start_shown};
 ghost use Rattle.drv_args.specs.Fronts.{by_effect, is_bad, items_of, start_of};
 ghost use Rattle.drv_args.specs.Lines.{line_of_items, line_read};
 ghost use Rattle.drv_args.specs.Code.Lookup.{shown};
-ghost use Rattle.drv_args.specs.Options.{row_fits};
+ghost use Rattle.drv_args.specs.Options.{form_fits, row_fits};
 ghost use Rattle.drv_args.specs.declared.fault.ArgsFault.TheVariants as fault;
 ghost use Rattle.drv_words.specs.Gives.{Gives};
 ghost use Rattle.std.specs.Option.{option_map};
-ghost use Rattle.std.specs.Prelude.{◌≡◌, drop, find, length, map};
+ghost use Rattle.std.specs.Prelude.{◌≡◌, drop, find, length, map, true};
 
 use crate::building::LineBuilder;
 use crate::jobs::jobs_named;
@@ -21,10 +21,24 @@ use std::alloc::Global;
 /// How many words a line may have.
 const MOST_ARGUMENTS: usize = 65536;
 
+/// Whether the last byte of an option stands in its place in a word, as it does in each word that the option fits. Most
+/// options are told from a word by it alone.
+fn may_end(option: &[u8], word: &[u8]) -> bool
+    ensures { (form : Form) → form_fits form option.now word.now ≡ true → result ≡ true }
+{
+    match option {
+        [.., last] => option.len() <= word.len() && word[option.len() - 1] == *last,
+        [] => true,
+    }
+}
+
 /// Whether a row fits a word.
 fn does_fit(row: &Row, word: &[u8]) -> bool
     ensures { result ≡ row_fits word.now (shown row.now) }
 {
+    if !may_end(row.option, word) {
+        return false;
+    }
     match row.form {
         Form::Exact | Form::Separate => row.option == word,
         Form::Joined | Form::Either => word.starts_with(row.option),
