@@ -1,5 +1,6 @@
 use Rattle.drv_syntax.specs.Labels.{Label, no_label, part_label, star_label, word_label}
-use Rattle.drv_syntax.specs.Code.Marks.{Within, byte_labels, byte_marks, marked_label, marked_labels}
+use Rattle.drv_syntax.specs.Code.Marks.{byte_labels, byte_marks}
+use Rattle.drv_syntax.specs.Marks.{Within, marked_label, marked_labels}
 use Rattle.drv_syntax.specs.declared.labels.Mark.{Mark}
 use Rattle.drv_syntax.specs.declared.token.TestKind.TheVariants as asking
 use Rattle.drv_syntax.specs.declared.token.TestKind.{TestKind}
@@ -33,14 +34,10 @@ within_get n (x ∷ marks) zero d w h = w.0
 within_get n (x ∷ marks) (suc place) d w h = within_get n marks place d w.1 (omega arith)
 
 -- where the word of the label at this place stands
-pub within_at : (words : List ℕ) (marks : List Mark) (now : List Label) (place : ℕ) (m : Mark) → marked_labels words marks ≡ now → Within (length words) marks → place < length now
-    → m ≡ get_or marks place m → (m.start ≤ m.end) × (m.end ≤ length words)
-within_at words marks now place m e w h f =
-    subst (λ (x : Mark). (x.start ≤ x.end) × (x.end ≤ length words)) (sym f) (within_get (length words) marks place m w (subst (λ (n : ℕ). place < n) (sym (ap (λ ls. length ls) e) ∙ length-map marks (λ x. marked_label words x)) h))
-
-pub within_end : (words part : List ℕ) (marks : List Mark) (now : List Label) (place : ℕ) (m : Mark) → marked_labels words marks ≡ now → Within (length words) marks → place < length now
-    → m ≡ get_or marks place m → part ≡ words → m.end ≤ length part
-within_end words part marks now place m e w h f g = subst (λ (ws : List ℕ). m.end ≤ length ws) (sym g) (within_at words marks now place m e w h f).1
+pub within_at : (words : List ℕ) (marks : List Mark) (now : List Label) (place : ℕ) (d : Mark) → marked_labels words marks ≡ now → Within (length words) marks → place < length now
+    → ((get_or marks place d).start ≤ (get_or marks place d).end) × ((get_or marks place d).end ≤ length words)
+within_at words marks now place d e w h =
+    within_get (length words) marks place d w (subst (λ (n : ℕ). place < n) (sym (ap (λ ls. length ls) e) ∙ length-map marks (λ x. marked_label words x)) h)
 
 -- a word within the words stays what it is when words are added
 pub part_kept : (words more : List ℕ) (a b : ℕ) → a ≤ b → b ≤ length words → take (b - a) (drop a (words ++ more)) ≡ take (b - a) (drop a words)

@@ -4,6 +4,7 @@ pub mod Contexts
 pub mod Directives
 pub mod Fronts
 pub mod Labels
+pub mod Marks
 pub mod Outcome
 pub mod Parsed
 pub mod Refusals
@@ -11,3 +12,4 @@ pub mod Spelling
 pub mod Stars
 pub mod Tokens
 pub mod Tree
+pub mod Written

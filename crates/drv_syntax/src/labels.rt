@@ -2,10 +2,11 @@
 
 ghost use Rattle.drv_syntax.specs.Labels.{no_label, part_label, star_label, word_label};
 ghost use Rattle.drv_syntax.specs.Code.Marks.{byte_labels, byte_marks};
-ghost use Rattle.std.specs.Prelude.{◌≡◌, ◌<◌, ◌≤◌, ◌+◌, ◌^◌, ◌++◌, ◌∷◌, [], false, get_or, length, Ok, slice_set, take, vec_capacity, vec_len};
+ghost use Rattle.std.specs.Prelude.{◌≡◌, ◌<◌, ◌≤◌, ◌+◌, ◌^◌, ◌++◌, ◌∷◌, [], false, length, Ok, slice_set, take, vec_capacity, vec_len};
 ghost use Rattle.drv_words.specs.Gives.{Gives};
 
 use crate::fault::SyntaxFault;
+use crate::lent::LentLabels;
 use crate::token::TestKind;
 use std::alloc::Global;
 use std::marker::Model;
@@ -36,7 +37,7 @@ pub struct Labels {
 
 impl Model for Labels {
     ghost use Rattle.drv_syntax.specs.Labels.{Label};
-    ghost use Rattle.drv_syntax.specs.Code.Marks.{Within, marked_labels};
+    ghost use Rattle.drv_syntax.specs.Marks.{Within, marked_labels};
     ghost use Rattle.std.specs.Prelude.{List, length};
 
     ghost Value = { List Label };
@@ -217,44 +218,10 @@ impl Labels {
         self.marks.len()
     }
 
-    /// The word of the one at this place.
-    pub fn word(&self, place: usize) -> &[u8]
-        requires { place < length self.now }
-        ensures { result.now ≡ (get_or self.now place no_label).word }
+    /// The labels, lent.
+    pub fn lent(&self) -> LentLabels<'_>
+        ensures { result ≡ self.now }
     {
-        let mark = self.marks[place];
-        &self.words[mark.start as usize..mark.end as usize]
-    }
-
-    /// Whether a star stands behind its word.
-    pub fn starred(&self, place: usize) -> bool
-        requires { place < length self.now }
-        ensures { result ≡ (get_or self.now place no_label).starred }
-    {
-        self.marks[place].starred
-    }
-
-    /// Whether a `!` stands before its word.
-    pub fn negated(&self, place: usize) -> bool
-        requires { place < length self.now }
-        ensures { result ≡ (get_or self.now place no_label).negated }
-    {
-        self.marks[place].negated
-    }
-
-    /// What its test asks.
-    pub fn asks(&self, place: usize) -> TestKind
-        requires { place < length self.now }
-        ensures { result ≡ (get_or self.now place no_label).asks }
-    {
-        self.marks[place].asks
-    }
-
-    /// Whether the X of its alternative has a `%*` of its own.
-    pub fn holds_star(&self, place: usize) -> bool
-        requires { place < length self.now }
-        ensures { result ≡ (get_or self.now place no_label).holds_star }
-    {
-        self.marks[place].holds_star
+        LentLabels::new(self.words.as_slice(), self.marks.as_slice())
     }
 }

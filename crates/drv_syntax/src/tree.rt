@@ -4,25 +4,37 @@ ghost use Rattle.drv_syntax.specs.Labels.{label_at, labels_of};
 ghost use Rattle.drv_syntax.specs.Outcome.{parsed};
 ghost use Rattle.drv_syntax.specs.Parsed.{tree_of};
 ghost use Rattle.drv_syntax.specs.Tokens.{tokens_of};
+ghost use Rattle.drv_syntax.specs.Written.{IsTree};
 ghost use Rattle.drv_words.specs.Gives.{Gives};
 ghost use Rattle.std.specs.Prelude.{◌≡◌, ◌<◌, IfOk, length};
 
 use crate::fault::SyntaxFault;
 use crate::labels::Labels;
+use crate::lent::LentLabels;
 use crate::reader::read_parts;
 use crate::token::{TestKind, Token};
-use std::alloc::Global;
+use crate::written::WrittenTree;
+use std::alloc::{AllocError, Global};
 use std::marker::Model;
+
+/// What is kept of a tree.
+#[derive(Drop)]
+enum Parts {
+    /// The list of its parts and what they name, as they were read.
+    Read { tokens: Vec<Token>, labels: Labels },
+    /// Constants of the code.
+    Written(WrittenTree),
+}
 
 /// A spec text that has a tree, the list of its parts and what they name. Clauses see the text; its tree is `tree_of` it.
 #[derive(Drop)]
 pub struct SpecTree {
     text: Vec<u8>,
-    tokens: Vec<Token>,
-    labels: Labels,
+    parts: Parts,
 }
 
 impl Model for SpecTree {
+    ghost use Rattle.drv_syntax.specs.Code.Parts.{HasWords, labels_in, tokens_in};
     ghost use Rattle.drv_syntax.specs.Outcome.{parsed};
     ghost use Rattle.drv_syntax.specs.Parsed.{listed};
     ghost use Rattle.std.specs.Prelude.{◌≡◌, List, Ok, ℕ};
@@ -31,10 +43,21 @@ impl Model for SpecTree {
 
     ghost view = { λ t. t.text.items };
 
-    ghost invariant = { λ t. listed (parsed t.text.items) ≡ Ok (t.tokens.items, t.labels) };
+    ghost invariant = { λ t. (listed (parsed t.text.items) ≡ Ok (tokens_in t.parts, labels_in t.parts)) × HasWords t.parts };
 }
 
 impl SpecTree {
+    /// The tree of a text that stands in the code with it.
+    pub fn written(alloc: Global, tree: WrittenTree) -> Result<SpecTree, AllocError>
+        requires { IsTree tree }
+        ensures { IfOk result (λ t. t ≡ tree.text.now) }
+    {
+        Ok(SpecTree {
+            text: Vec::from_slice(alloc, tree.text)?,
+            parts: Parts::Written(tree),
+        })
+    }
+
     /// The text.
     pub fn text(&self) -> &[u8]
         ensures { result.now ≡ self.now }
@@ -47,14 +70,21 @@ impl SpecTree {
     pub fn tokens(&self) -> &[Token]
         ensures { result.now ≡ tokens_of (tree_of self.now) }
     {
-        self.tokens.as_slice()
+        match &self.parts {
+            Parts::Read { tokens, .. } => tokens.as_slice(),
+            Parts::Written(tree) => tree.tokens,
+        }
     }
 
     #[tactic(auto, using(crate::proofs::WalkNames::listed_labels))]
-    fn labels(&self) -> &Labels
-        ensures { result.now ≡ labels_of (tree_of self.now) }
+    fn labels(&self) -> LentLabels<'_>
+        ensures { result ≡ labels_of (tree_of self.now) }
     {
-        &self.labels
+        let tree = match &self.parts {
+            Parts::Read { labels, .. } => return labels.lent(),
+            Parts::Written(tree) => tree,
+        };
+        LentLabels::new(tree.words, tree.marks)
     }
 
     /// What the part at this place names, without escapes: a byte, a suffix, an option, a text, a name, or the word of a
@@ -112,7 +142,6 @@ pub fn parse(alloc: Global, text: &[u8]) -> Result<SpecTree, SyntaxFault>
     let text = Vec::from_slice(alloc, text)?;
     Ok(SpecTree {
         text,
-        tokens,
-        labels,
+        parts: Parts::Read { tokens, labels },
     })
 }

@@ -3,4 +3,4 @@ use Rattle.drv_syntax.proofs.tree.SpecTree.negated.Goals as goal
 use Rattle.drv_syntax.specs.Parsed.{tree_of}
 
 pub negated-requires : goal.negated-requires
-negated-requires c = label_within (tree_of c.args.self.now) c.args.place c.labels.result.now c.labels.ensures c.requires
+negated-requires c = label_within (tree_of c.args.self.now) c.args.place c.labels.result c.labels.ensures c.requires

@@ -1,0 +1,17 @@
+//! Trees that stand in the code.
+
+use crate::labels::Mark;
+use crate::token::Token;
+
+/// A spec text and its tree, as constants.
+#[derive(Clone, Copy)]
+pub struct WrittenTree {
+    /// The text.
+    pub text: &'static [u8],
+    /// The list of its parts.
+    pub tokens: &'static [Token],
+    /// The words that the parts name.
+    pub words: &'static [u8],
+    /// Where the word of each part stands among these, and what is said of it.
+    pub marks: &'static [Mark],
+}
