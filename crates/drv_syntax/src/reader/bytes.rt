@@ -7,14 +7,16 @@ ghost use Rattle.std.specs.Prelude.{◌≡◌, ◌++◌, ◌∷◌, []};
 pub fn is_word(b: u8) -> bool
     ensures { result ≡ bytes.is_word b }
 {
-    b.is_ascii_alphanumeric() || matches!(b, b'_' | b'-' | b'+' | b'=' | b',' | b'.' | b'@')
+    b.is_ascii_lowercase()
+        || b.is_ascii_alphanumeric()
+        || matches!(b, b'_' | b'-' | b'+' | b'=' | b',' | b'.' | b'@')
 }
 
 /// In the name of a named text.
 pub fn is_name(b: u8) -> bool
     ensures { result ≡ bytes.is_name b }
 {
-    b.is_ascii_alphanumeric() || matches!(b, b'_' | b'.' | b'+' | b'-')
+    b.is_ascii_lowercase() || b.is_ascii_alphanumeric() || matches!(b, b'_' | b'.' | b'+' | b'-')
 }
 
 /// In a suffix.

@@ -108,7 +108,7 @@ fn finish(n: u32, w: &mut Walk) -> Result<(), SyntaxFault>
     }
 }
 
-/// Where a text begins, with room for the parts of a short one, and for a word.
+/// Where a text begins, with room for the parts of a short one.
 fn started(alloc: Global, size: usize) -> Result<Walk, SyntaxFault>
     ensures { Gives SyntaxFault.Memory state result (Ok steps.started) }
 {
@@ -124,7 +124,7 @@ fn started(alloc: Global, size: usize) -> Result<Walk, SyntaxFault>
         waiting: Vec::new(alloc),
         tokens: Vec::with_capacity(alloc, count)?,
         labels: Labels::with_capacity(alloc, count)?,
-        word: Vec::with_capacity(alloc, 64)?,
+        word: Vec::new(alloc),
         kept: 0,
         trailing: 0,
         holds_star: false,

@@ -20,12 +20,13 @@ use bstr::ByteSlice;
 fn stands(kind: ListKind, b: u8) -> bool
     ensures { result ≡ steps.runs kind b }
 {
-    match b {
-        b'\\' | b'%' | b'|' | b' ' | b'\t' | b'\n' => false,
-        b';' | b'}' => !matches!(kind, ListKind::InX),
-        b')' => !matches!(kind, ListKind::InArguments),
-        _ => true,
-    }
+    b.is_ascii_lowercase()
+        || match b {
+            b'\\' | b'%' | b'|' | b' ' | b'\t' | b'\n' => false,
+            b';' | b'}' => !matches!(kind, ListKind::InX),
+            b')' => !matches!(kind, ListKind::InArguments),
+            _ => true,
+        }
 }
 
 /// How many bytes a text begins with that stand for themselves in such a list. Most runs have few bytes, so each is tested.
