@@ -41,4 +41,5 @@ pub mod Unrefused
 pub mod Wanted
 pub mod RunLengths
 pub mod Runs
+pub mod TestTurns
 pub mod Words

@@ -12,6 +12,7 @@ mod reading;
 mod runs;
 mod stages;
 mod steps;
+mod test_turns;
 mod turns;
 mod walk;
 

@@ -26,14 +26,15 @@ fn empty(at: u32) -> Result<(), SyntaxFault>
     Err(SyntaxFault::EmptyTest(at as usize))
 }
 
-fn at(head: Head, form: Form, stage: HeadStage) -> Stage
+/// A place in braces.
+pub fn at(head: Head, form: Form, stage: HeadStage) -> Stage
     ensures { result ≡ Stage.Braces head form stage }
 {
     Stage::Braces { head, form, stage }
 }
 
 /// Behind a test or a pattern.
-fn behind_test(
+pub fn behind_test(
     head: Head,
     form: Form,
     behind: Behind,

@@ -7,13 +7,13 @@ ghost use Rattle.std.specs.Prelude.{◌≡◌, ◌<◌, ◌≤◌, ◌^◌, ◌+
 use crate::directives::SayKind;
 use crate::fault::SyntaxFault;
 use crate::reader::edits::with_plains;
-use crate::reader::head_steps::test_word;
 use crate::reader::list_steps::{hide_word, name_text, saying_text, start, suffix_run};
 use crate::reader::runs::{
     extend, front, name_length, run_length, said_length, suffix_length, word_length,
 };
-use crate::reader::stages::{Form, Head, HeadStage, ListStage, Stage};
+use crate::reader::stages::{HeadStage, ListStage, Stage};
 use crate::reader::steps::step;
+use crate::reader::test_turns::{choice_turn, due_turn, negated_turn, word_turn};
 use crate::reader::walk::Walk;
 use crate::token::TempKind;
 
@@ -108,33 +108,6 @@ fn saying_turn(
     Ok(size + 1)
 }
 
-/// In the word of a test: the rest of it, and the byte behind it.
-fn word_turn(
-    head: Head,
-    form: Form,
-    start: u32,
-    negated: bool,
-    n: u32,
-    text: &[u8],
-    w: &mut Walk,
-) -> Result<usize, SyntaxFault>
-    requires here { w.old.stage ≡ Stage.Braces head form (HeadStage.TestWord start negated) }
-    requires room { length w.old.tokens.items < 2 ^ 29 }
-    requires place { n + length text.now < 2 ^ 30 }
-    requires trail { w.old.trailing < 2 ^ 29 }
-    ensures does { Reads n text.now (state w.old) (state w.new) result }
-    ensures size { IfOk result (λ taken. length w.new.tokens.items ≤ length w.old.tokens.items + 4 * taken) }
-    ensures trail { IfOk result (λ taken. w.new.trailing ≤ w.old.trailing + 4 * taken) }
-{
-    let size = word_length(text);
-    extend(size, text, w)?;
-    if size == text.len() {
-        return Ok(size);
-    }
-    test_word(head, form, start, negated, n + size as u32, text[size], w)?;
-    Ok(size + 1)
-}
-
 /// What the first bytes of a text make of the state, where they go on as the byte before them did, with the byte behind them:
 /// how many.
 fn run(n: u32, text: &[u8], w: &mut Walk) -> Result<usize, SyntaxFault>
@@ -150,11 +123,15 @@ fn run(n: u32, text: &[u8], w: &mut Walk) -> Result<usize, SyntaxFault>
         Stage::List(ListStage::NameText { at }) => name_turn(at, n, text, w),
         Stage::List(ListStage::HideWord { at }) => hide_turn(at, n, text, w),
         Stage::List(ListStage::SayingText { at, kind }) => saying_turn(at, kind, n, text, w),
-        Stage::Braces {
-            head,
-            form,
-            stage: HeadStage::TestWord { start, negated },
-        } => word_turn(head, form, start, negated, n, text, w),
+        Stage::Choice { head, later } => choice_turn(head, later, n, text, w),
+        Stage::Braces { head, form, stage } => match stage {
+            HeadStage::TestDue => due_turn(head, form, n, text, w),
+            HeadStage::TestNegated { start } => negated_turn(head, form, start, n, text, w),
+            HeadStage::TestWord { start, negated } => word_turn(
+                head, form, start, negated, n, text, w,
+            ),
+            _ => Ok(0),
+        },
         _ => Ok(0),
     }
 }

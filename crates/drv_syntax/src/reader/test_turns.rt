@@ -1,0 +1,192 @@
+//! The word of a test, and what ends it, in one turn.
+
+ghost use Rattle.drv_syntax.specs.Bytes as bytes;
+ghost use Rattle.drv_syntax.specs.Code.States.{Reads, state};
+ghost use Rattle.drv_syntax.specs.Code.Steps as steps;
+ghost use Rattle.std.specs.Prelude.{◌≡◌, ◌<◌, ◌≤◌, ◌^◌, ◌+◌, ◌*◌, ◌∷◌, ◌&&◌, [], IfOk, Ok, get_or, length, not, true};
+
+use crate::fault::SyntaxFault;
+use crate::reader::bytes::{is_mark, is_word};
+use crate::reader::head_steps::{at, behind_test, test_word};
+use crate::reader::runs::{extend, word_length};
+use crate::reader::stages::{Behind, Form, Head, HeadStage, Stage};
+use crate::reader::walk::Walk;
+
+/// Behind the word of a test: what ends it, with the byte behind a star.
+fn word_end(
+    head: Head,
+    form: Form,
+    start: u32,
+    negated: bool,
+    n: u32,
+    text: &[u8],
+    w: &mut Walk,
+) -> Result<usize, SyntaxFault>
+    requires here { w.old.stage ≡ Stage.Braces head form (HeadStage.TestWord start negated) }
+    requires room { length w.old.tokens.items < 2 ^ 29 }
+    requires place { n + length text.now < 2 ^ 30 }
+    requires trail { w.old.trailing < 2 ^ 29 }
+    ensures does { Reads n text.now (state w.old) (state w.new) result }
+    ensures size { IfOk result (λ taken. length w.new.tokens.items ≤ length w.old.tokens.items + 4 * taken) }
+    ensures trail { IfOk result (λ taken. w.new.trailing ≤ w.old.trailing + 4 * taken) }
+{
+    if text.is_empty() {
+        return Ok(0);
+    }
+    if text[0] != b'*' || text.len() == 1 {
+        test_word(head, form, start, negated, n, text[0], w)?;
+        return Ok(1);
+    }
+    let behind = Behind::Switch {
+        start,
+        end: n + 1,
+        negated,
+        starred: true,
+    };
+    w.stage = at(head, form, HeadStage::BehindTest(behind));
+    behind_test(head, form, behind, n + 1, text[1], w)?;
+    Ok(2)
+}
+
+/// In the word of a test: the rest of it, and what ends it.
+pub fn word_turn(
+    head: Head,
+    form: Form,
+    start: u32,
+    negated: bool,
+    n: u32,
+    text: &[u8],
+    w: &mut Walk,
+) -> Result<usize, SyntaxFault>
+    requires here { w.old.stage ≡ Stage.Braces head form (HeadStage.TestWord start negated) }
+    requires room { length w.old.tokens.items < 2 ^ 29 }
+    requires place { n + length text.now < 2 ^ 30 }
+    requires trail { w.old.trailing < 2 ^ 29 }
+    ensures does { Reads n text.now (state w.old) (state w.new) result }
+    ensures size { IfOk result (λ taken. length w.new.tokens.items ≤ length w.old.tokens.items + 4 * taken) }
+    ensures trail { IfOk result (λ taken. w.new.trailing ≤ w.old.trailing + 4 * taken) }
+{
+    let size = word_length(text);
+    extend(size, text, w)?;
+    let more = word_end(
+        head,
+        form,
+        start,
+        negated,
+        n + size as u32,
+        &text[size..],
+        w,
+    )?;
+    Ok(size + more)
+}
+
+/// A word of a test begins with the first byte: the word, and what ends it.
+fn begun_turn(
+    head: Head,
+    form: Form,
+    start: u32,
+    negated: bool,
+    n: u32,
+    text: &[u8],
+    w: &mut Walk,
+) -> Result<usize, SyntaxFault>
+    requires word { bytes.is_word (get_or text.now 0 0) ≡ true }
+    requires begins { steps.step (state w.old) n (get_or text.now 0 0) ≡ Ok (steps.at_stage (Stage.Braces head form (HeadStage.TestWord start negated))
+        (steps.with_word (get_or text.now 0 0 ∷ []) (state w.old))) }
+    requires room { length w.old.tokens.items < 2 ^ 29 }
+    requires place { n + length text.now < 2 ^ 30 }
+    requires trail { w.old.trailing < 2 ^ 29 }
+    ensures does { Reads n text.now (state w.old) (state w.new) result }
+    ensures size { IfOk result (λ taken. length w.new.tokens.items ≤ length w.old.tokens.items + 4 * taken) }
+    ensures trail { IfOk result (λ taken. w.new.trailing ≤ w.old.trailing + 4 * taken) }
+{
+    let size = word_length(text);
+    w.stage = at(head, form, HeadStage::TestWord { start, negated });
+    w.word.clear();
+    extend(size, text, w)?;
+    let more = word_end(
+        head,
+        form,
+        start,
+        negated,
+        n + size as u32,
+        &text[size..],
+        w,
+    )?;
+    Ok(size + more)
+}
+
+/// A word of a test can begin with the byte.
+fn begins_word(b: u8) -> bool
+    ensures { result ≡ (bytes.is_word b && not (bytes.is_mark b)) }
+{
+    is_word(b) && !is_mark(b)
+}
+
+/// Where an alternative begins: a word of a test, if one begins here, and what ends it.
+pub fn choice_turn(
+    head: Head,
+    later: bool,
+    n: u32,
+    text: &[u8],
+    w: &mut Walk,
+) -> Result<usize, SyntaxFault>
+    requires here { w.old.stage ≡ Stage.Choice head later }
+    requires room { length w.old.tokens.items < 2 ^ 29 }
+    requires place { n + length text.now < 2 ^ 30 }
+    requires trail { w.old.trailing < 2 ^ 29 }
+    ensures does { Reads n text.now (state w.old) (state w.new) result }
+    ensures size { IfOk result (λ taken. length w.new.tokens.items ≤ length w.old.tokens.items + 4 * taken) }
+    ensures trail { IfOk result (λ taken. w.new.trailing ≤ w.old.trailing + 4 * taken) }
+{
+    if text.is_empty() || !begins_word(text[0]) {
+        return Ok(0);
+    }
+    let form = if later { Form::Later } else { Form::Fresh };
+    begun_turn(head, form, n, false, n, text, w)
+}
+
+/// Behind `|`: a word of a test, if one begins here, and what ends it.
+pub fn due_turn(
+    head: Head,
+    form: Form,
+    n: u32,
+    text: &[u8],
+    w: &mut Walk,
+) -> Result<usize, SyntaxFault>
+    requires here { w.old.stage ≡ Stage.Braces head form HeadStage.TestDue }
+    requires room { length w.old.tokens.items < 2 ^ 29 }
+    requires place { n + length text.now < 2 ^ 30 }
+    requires trail { w.old.trailing < 2 ^ 29 }
+    ensures does { Reads n text.now (state w.old) (state w.new) result }
+    ensures size { IfOk result (λ taken. length w.new.tokens.items ≤ length w.old.tokens.items + 4 * taken) }
+    ensures trail { IfOk result (λ taken. w.new.trailing ≤ w.old.trailing + 4 * taken) }
+{
+    if text.is_empty() || !begins_word(text[0]) {
+        return Ok(0);
+    }
+    begun_turn(head, form, n, false, n, text, w)
+}
+
+/// Behind the `!` of a test: its word, if one begins here, and what ends it.
+pub fn negated_turn(
+    head: Head,
+    form: Form,
+    start: u32,
+    n: u32,
+    text: &[u8],
+    w: &mut Walk,
+) -> Result<usize, SyntaxFault>
+    requires here { w.old.stage ≡ Stage.Braces head form (HeadStage.TestNegated start) }
+    requires room { length w.old.tokens.items < 2 ^ 29 }
+    requires place { n + length text.now < 2 ^ 30 }
+    requires trail { w.old.trailing < 2 ^ 29 }
+    ensures does { Reads n text.now (state w.old) (state w.new) result }
+    ensures size { IfOk result (λ taken. length w.new.tokens.items ≤ length w.old.tokens.items + 4 * taken) }
+    ensures trail { IfOk result (λ taken. w.new.trailing ≤ w.old.trailing + 4 * taken) }
+{
+    if text.is_empty() || !begins_word(text[0]) {
+        return Ok(0);
+    }
+    begun_turn(head, form, start, true, n, text, w)
+}
