@@ -8,10 +8,9 @@ use Rattle.drv_specs.specs.Kept.{Kept}
 use Rattle.drv_specs.specs.Lines.{lines_of}
 use Rattle.drv_specs.specs.Loading.{all_carried, including, loaded, most_files, set_in, then_by}
 use Rattle.drv_specs.specs.Sets.{Set, no_specs}
-use Rattle.drv_specs.specs.declared.fault.SpecsFault.{SpecsFault}
 use Rattle.drv_system.specs.Facts.{no_facts}
 use Rattle.drv_system.specs.Known.{Is}
-use Rattle.std.proofs.Common.{◌≡◌, ◌∙◌, [], Ok, Result, ap, false, refl, subst, sym, true}
+use Rattle.std.proofs.Common.{◌≡◌, ◌∙◌, [], Ok, ap, false, refl, subst, sym, true}
 use Rattle.std.specs.List.{IsDistinct}
 
 -- The sets that are there before any file is loaded keep what every set keeps.
@@ -43,5 +42,5 @@ builtin_kept = loaded_keeps no_facts nowhere no_specs builtin_specs (dumped buil
 pub kept_empty : (set : Set) → set ≡ no_specs → Kept set
 kept_empty set is = subst Kept (sym is) empty_kept
 
-pub kept_builtin : (set : Set) (given : Result Set SpecsFault) → Ok builtin_specs ≡ given → given ≡ Ok set → Kept set
-kept_builtin set given is same = let inside : builtin_specs ≡ set = cc in subst Kept inside builtin_kept
+pub kept_builtin : (set : Set) → set ≡ builtin_specs → Kept set
+kept_builtin set is = subst Kept (sym is) builtin_kept

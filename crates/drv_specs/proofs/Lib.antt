@@ -17,4 +17,5 @@ pub mod Sliced
 pub mod Tabled
 pub mod TreeChecks
 pub mod Trimming
+pub mod WrittenTrees
 mod Rows

@@ -2,6 +2,7 @@
 #![tactic(auto)]
 
 mod builtin_specs;
+mod builtin_trees;
 mod bytes;
 mod changing;
 mod directive;

@@ -1,22 +1,52 @@
-use Rattle.drv_specs.specs.Sets.{Set, put, with_pair_text}
-use Rattle.drv_specs.specs.declared.builtin_specs.Row.{Row}
-use Rattle.drv_specs.specs.declared.fault.SpecsFault.{SpecsFault}
-use Rattle.std.specs.Prelude.{Err, List, [], ◌∷◌, Ok, Result, ℕ}
+use Rattle.drv_specs.specs.Sets.{Set, is_no_text, with_named, with_pair}
+use Rattle.drv_specs.specs.declared.builtin_specs.Named.{Named}
+use Rattle.drv_specs.specs.declared.builtin_specs.Pair.{Pair}
+use Rattle.drv_specs.specs.declared.builtin_specs.PairText.TheVariants.{Alone, Worked}
+use Rattle.drv_specs.specs.declared.builtin_specs.PairText.{PairText}
+use Rattle.drv_syntax.specs.Marks.{marked_labels}
+use Rattle.drv_syntax.specs.Outcome.{parsed}
+use Rattle.drv_syntax.specs.Parsed.{listed}
+use Rattle.drv_syntax.specs.declared.labels.Mark.{Mark}
+use Rattle.drv_syntax.specs.declared.written.WrittenTree.{WrittenTree}
+use Rattle.std.specs.Prelude.{◌≡◌, ◌&&◌, Bool, List, [], ◌∷◌, Ok, false, length, nat_le, true, ℕ}
 
--- Rows of a table put into a set one after another, for the code alone.
+-- Rows of tables put into a set one after another, for the code alone.
 
-abbrev pub shown : Row → List ℕ × List ℕ
-shown row = (row.key.now, row.text.now)
+abbrev pub named_shown : Named → List ℕ × List ℕ
+named_shown row = (row.name.now, row.tree.text.now)
 
--- what comes after a step that was not refused
-abbrev pub then_set : Result Set SpecsFault → (Set → Result Set SpecsFault) → Result Set SpecsFault
-then_set (Ok set) next = next set
-then_set (Err fault) next = Err fault
+abbrev pub text_shown : PairText → List ℕ
+text_shown (Alone text) = text.now
+text_shown (Worked tree) = tree.text.now
 
-abbrev pub all_put : Set → List (List ℕ × List ℕ) → Result Set SpecsFault
-all_put set [] = Ok set
-all_put set (entry ∷ entries) = then_set (put set entry.0 entry.1) (λ set'. all_put set' entries)
+abbrev pub pair_shown : Pair → List ℕ × List ℕ
+pair_shown row = (row.key.now, text_shown row.text)
 
-abbrev pub all_added : Set → List (List ℕ × List ℕ) → Result Set SpecsFault
-all_added set [] = Ok set
-all_added set (entry ∷ entries) = then_set (with_pair_text set entry.0 entry.1) (λ set'. all_added set' entries)
+-- each mark's word lies within so many bytes
+abbrev pub are_within : ℕ → List Mark → Bool
+are_within n [] = true
+are_within n (m ∷ marks) = (nat_le m.start m.end && nat_le m.end n) && are_within n marks
+
+-- what is written beside a text is its tree, by computation
+pub record IsWritten (tree : WrittenTree) : Type 0 where
+  pub parts : listed (parsed tree.text.now) ≡ Ok (tree.tokens.now, marked_labels tree.words.now tree.marks.now)
+  pub words : are_within (length tree.words.now) tree.marks.now ≡ true
+
+abbrev pub IsNamedRow : Named → Type 0
+IsNamedRow row = IsWritten row.tree
+
+-- a pair has a tree beside its text where that is one that is worked
+abbrev pub IsPairText : PairText → Type 0
+IsPairText (Alone text) = is_no_text text.now ≡ true
+IsPairText (Worked tree) = (is_no_text tree.text.now ≡ false) × IsWritten tree
+
+abbrev pub IsPairRow : Pair → Type 0
+IsPairRow row = IsPairText row.text
+
+abbrev pub all_put : Set → List (List ℕ × List ℕ) → Set
+all_put set [] = set
+all_put set (entry ∷ entries) = all_put (with_named set entry.0 entry.1) entries
+
+abbrev pub all_added : Set → List (List ℕ × List ℕ) → Set
+all_added set [] = set
+all_added set (pair ∷ pairs) = all_added (with_pair set pair.0 pair.1) pairs

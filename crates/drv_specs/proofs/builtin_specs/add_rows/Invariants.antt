@@ -1,6 +1,6 @@
-use Rattle.drv_specs.specs.Code.Tables.{all_added, shown}
+use Rattle.drv_specs.specs.Code.Tables.{all_added, pair_shown}
 use Rattle.std.proofs.Common.{◌≡◌, drop, map}
 use Rattle.drv_specs.proofs.builtin_specs.add_rows.Given as goal
 
 abbrev pub invariant-loop-row : goal.invariant-loop-row
-invariant-loop-row l = all_added l.entries (map shown (drop l.row-index l.rows)) ≡ all_added l.fn.entries (map shown l.rows)
+invariant-loop-row l = all_added l.entries (map pair_shown (drop l.row-index l.rows)) ≡ all_added l.fn.entries (map pair_shown l.rows)

@@ -4,4 +4,7 @@ use Rattle.std.proofs.Common.{refl}
 
 pub returns : goal.returns
 unfolding builtin_named
-returns c = refl
+returns c = record {
+  texts = refl;
+  trees = (record { parts = refl; words = refl }, (record { parts = refl; words = refl }, (record { parts = refl; words = refl }, (record { parts = refl; words = refl }, (record { parts = refl; words = refl }, (record { parts = refl; words = refl }, (record { parts = refl; words = refl }, (record { parts = refl; words = refl }, (record { parts = refl; words = refl }, (record { parts = refl; words = refl }, (record { parts = refl; words = refl }, (record { parts = refl; words = refl }, (record { parts = refl; words = refl }, (record { parts = refl; words = refl }, (record { parts = refl; words = refl }, (record { parts = refl; words = refl }, (record { parts = refl; words = refl }, (record { parts = refl; words = refl }, (record { parts = refl; words = refl }, tt)))))))))))))))))));
+}

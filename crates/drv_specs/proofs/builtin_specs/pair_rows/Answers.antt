@@ -4,4 +4,7 @@ use Rattle.std.proofs.Common.{refl}
 
 pub returns : goal.returns
 unfolding builtin_pairs
-returns c = refl
+returns c = record {
+  texts = refl;
+  trees = (refl, (refl, (refl, (refl, (refl, (refl, (refl, (refl, (refl, (refl, (refl, (refl, (refl, (refl, (refl, (refl, (refl, (refl, (refl, (refl, (refl, (refl, (refl, ((refl, record { parts = refl; words = refl }), ((refl, record { parts = refl; words = refl }), ((refl, record { parts = refl; words = refl }), ((refl, record { parts = refl; words = refl }), tt)))))))))))))))))))))))))));
+}

@@ -1,6 +1,6 @@
-use Rattle.drv_specs.specs.Code.Tables.{all_put, shown}
+use Rattle.drv_specs.specs.Code.Tables.{all_put, named_shown}
 use Rattle.std.proofs.Common.{◌≡◌, drop, map}
 use Rattle.drv_specs.proofs.builtin_specs.put_rows.Given as goal
 
 abbrev pub invariant-loop-row : goal.invariant-loop-row
-invariant-loop-row l = all_put l.entries (map shown (drop l.row-index l.rows)) ≡ all_put l.fn.entries (map shown l.rows)
+invariant-loop-row l = all_put l.entries (map named_shown (drop l.row-index l.rows)) ≡ all_put l.fn.entries (map named_shown l.rows)

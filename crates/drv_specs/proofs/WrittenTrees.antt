@@ -1,0 +1,27 @@
+use Rattle.drv_specs.specs.Code.Tables.{IsWritten, are_within}
+use Rattle.drv_syntax.specs.Marks.{Within}
+use Rattle.drv_syntax.specs.Written.{IsTree}
+use Rattle.drv_syntax.specs.declared.labels.Mark.{Mark}
+use Rattle.drv_syntax.specs.declared.written.WrittenTree.{WrittenTree}
+use Rattle.std.proofs.Common.{◌≡◌, ◌≤◌, ℕ, Bool, true, false, List, [], ◌∷◌, arith, length, refl}
+use Rattle.std.proofs.lemmas.Bool.Decides.{nat_tests}
+use Rattle.std.specs.Prelude.{◌&&◌, nat_le}
+
+-- Trees that stand in the code are those of their texts.
+
+both : (s t : Bool) → (s && t) ≡ true → (s ≡ true) × (t ≡ true)
+both true true e = (refl, refl)
+both true false e = absurd cc
+both false t e = absurd cc
+
+within_tested : (n : ℕ) (marks : List Mark) → are_within n marks ≡ true → Within n marks
+within_tested n [] e = tt
+within_tested n (m ∷ marks) e =
+    let here : (nat_le m.start m.end && nat_le m.end n) ≡ true = (both _ _ e).0
+    in ((below m.start m.end (both _ _ here).0, below m.end n (both _ _ here).1), within_tested n marks (both _ _ e).1)
+  where
+    below : (a b : ℕ) → nat_le a b ≡ true → a ≤ b
+    below a b t = grind (arith, nat_tests)
+
+pub is_tree : (tree : WrittenTree) → IsWritten tree → IsTree tree
+is_tree tree is = record { parts = is.parts; words = within_tested (length tree.words.now) tree.marks.now is.words }
