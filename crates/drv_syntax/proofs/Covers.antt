@@ -14,7 +14,7 @@ use Rattle.drv_syntax.specs.Outcome as o
 use Rattle.drv_syntax.specs.Outcome.{Goes, Got, Head, Here, Opens, Place, WaitsCall, WaitsTest, WaitsX, Waiting, fresh, join, join_choices, join_tests, list_in, placed, read, tested, turn}
 use Rattle.drv_syntax.specs.Spelling as s
 use Rattle.drv_syntax.specs.Spelling.{AreChoices, AreItems, AreLater, AreSpaces, AreTests, At, IsAsked, IsBrace, IsDirective, IsItem, IsSign, Spells, Stops, span}
-use Rattle.drv_syntax.specs.Tree.{Asked, Brace, Choices, Item, Items, Pattern, Span, Tests, alternative, more, no_choice, no_test, none, test}
+use Rattle.drv_syntax.specs.Tree.{Asked, Brace, Choices, HasLanguage, HasResult, HasSuffix, HasSwitch, Item, Items, Pattern, Span, Tests, alternative, more, no_choice, no_test, none, test}
 use Rattle.std.proofs.Common.{◌≡◌, ◌∙◌, ◌+◌, Bool, false, true, List, [], ◌∷◌, ap, arith, refl, subst, sym, ℕ}
 use Rattle.std.specs.Prelude.{◌==◌, Option, Some}
 
@@ -54,6 +54,19 @@ pub sign_read : {size : ℕ} {u v w : List ℕ} {negated : Bool} {ws : List Wait
 sign_read h asked (s.plain_sign g) k p asks bang n a = k p n n (asks n) a
 sign_read {ws = ws} h asked (s.not_sign sp) k p asks bang n a =
     goes (bang n) (and_then (spaces_read ws (o.TestNegated h n) (negated_space h n) (n + 1) sp) (λ m f. k (o.TestNegated h n) m n (negated_asks h n m) (omega (arith, a, f))))
+
+-- behind a . or , and its word no star stands
+abbrev pub Unstarred : Asked → List ℕ → Type 0
+Unstarred (HasSwitch p) w = Unit {0}
+Unstarred (HasSuffix word) w = Stops (λ b. b == 42) w
+Unstarred (HasLanguage word) w = Stops (λ b. b == 42) w
+Unstarred (HasResult name arguments) w = Unit {0}
+
+unstarred : (asked : Asked) (w : List ℕ) → Stops (λ b. b == 42) w → Unstarred asked w
+unstarred (HasSwitch p) w st = tt
+unstarred (HasSuffix word) w st = st
+unstarred (HasLanguage word) w st = st
+unstarred (HasResult name arguments) w st = tt
 
 mutual
   pub items_read : {size : ℕ} {c : Context} {text rest : List ℕ} {items : Items} → AreItems size c text items rest → (ws : List Waiting) (past : Items) (n : ℕ) → At size n text
@@ -145,7 +158,7 @@ mutual
       let b : At size x u = further size n x text u a f in
       and_then (to {r = λ _. behind_asked (head c past at kind cs before) i j negated asked}
       (λ y g. same_asked size i j x y u w (head c past at kind cs before) negated asked ai aj b (further size x y u w b g))
-      (sign_read (head c past at kind cs before) asked sign (λ r y start g h. asked_read d e ws past at kind cs before g h (no_star 58 refl sp' refl)) p asks bang x b))
+      (sign_read (head c past at kind cs before) asked sign (λ r y start g h. asked_leads d e ws past at kind cs before g h (unstarred asked w (no_star 58 refl sp' refl))) p asks bang x b))
       (λ y g. and_then (spaces_read ws (behind_asked (head c past at kind cs before) i j negated asked)
       (behind_space (head c past at kind cs before) (patterns_of (head c past at kind cs before) i j negated asked) (tested (head c past at kind cs before) i j negated asked) false) y sp')
       (λ z h. k z before (patterns_of (head c past at kind cs before) i j negated asked) (omega (arith, b, g, h)))))
@@ -155,7 +168,7 @@ mutual
       let b : At size x u = further size n x text u a f in
       and_then (to {r = λ _. behind_asked (head c past at kind cs before) i j negated asked}
       (λ y g. same_asked size i j x y u w (head c past at kind cs before) negated asked ai aj b (further size x y u w b g))
-      (sign_read (head c past at kind cs before) asked sign (λ r y start g h. asked_read d e ws past at kind cs before g h (no_star 124 refl sp' refl)) p asks bang x b))
+      (sign_read (head c past at kind cs before) asked sign (λ r y start g h. asked_leads d e ws past at kind cs before g h (unstarred asked w (no_star 124 refl sp' refl))) p asks bang x b))
       (λ y g. and_then (spaces_read ws (behind_asked (head c past at kind cs before) i j negated asked)
       (behind_space (head c past at kind cs before) (patterns_of (head c past at kind cs before) i j negated asked) (tested (head c past at kind cs before) i j negated asked) false) y sp')
       (λ z h. goes refl
@@ -165,13 +178,13 @@ mutual
       (λ m middle patterns r. subst (λ (y : Tests). Leads ws (o.BehindTest (choosing (list c past) at kind cs middle) patterns (Some y) false) m end vs q last)
       (sym (join_tests_assoc before (test (span i j) negated asked no_test) tests)) (k m middle patterns r))))))
 
-  pub asked_read : {size : ℕ} {c c' : Context} {v w : List ℕ} {asked : Asked} {p : Place} {n start : ℕ} {negated : Bool} → IsAsked size c' v asked w → in_braces c ≡ c' → (ws : List Waiting) (past : Items)
-      (at : ℕ) (kind : BraceKind) (cs : Choices) (before : Tests) → Asks p n (head c past at kind cs before) start negated → At size n v → Stops (λ b. b == 42) w
+  pub asked_leads : {size : ℕ} {c c' : Context} {v w : List ℕ} {asked : Asked} {p : Place} {n start : ℕ} {negated : Bool} → IsAsked size c' v asked w → in_braces c ≡ c' → (ws : List Waiting) (past : Items)
+      (at : ℕ) (kind : BraceKind) (cs : Choices) (before : Tests) → Asks p n (head c past at kind cs before) start negated → At size n v → Unstarred asked w
       → Leads ws p n v ws (λ m. behind_asked (head c past at kind cs before) start m negated asked) w
-  asked_read (s.switch g q) e ws past at kind cs before asks a st = pattern_read ws (asks_words asks g) q
-  asked_read (s.suffix q) e ws past at kind cs before asks a st = marked_read ws 46 refl asks q st
-  asked_read (s.language q) e ws past at kind cs before asks a st = marked_read ws 44 refl asks q st
-  asked_read {size} {c} {p = p} {n} {start} {negated} (s.result (s.call {text} {name} {rest} {arguments} lv fn d)) e ws past at kind cs before asks a st =
+  asked_leads (s.switch g q) e ws past at kind cs before asks a st = pattern_read ws (asks_words asks g) q
+  asked_leads (s.suffix q) e ws past at kind cs before asks a st = marked_read ws 46 refl asks q st
+  asked_leads (s.language q) e ws past at kind cs before asks a st = marked_read ws 44 refl asks q st
+  asked_leads {size} {c} {p = p} {n} {start} {negated} (s.result (s.call {text} {name} {rest} {arguments} lv fn d)) e ws past at kind cs before asks a st =
       let h : turn p n 37 ≡ Goes (o.TestPercent (head c past at kind cs before) start negated n) = asks.byte 37 refl refl refl ∙ rw (ap (λ (x : Context). x.levels == 0) e ∙ lv) refl in
       goes h (goes refl (and_then
       (name_read n (o.TestFunction (head c past at kind cs before) start negated n) (λ x. Opens (list_in (in_arguments (in_braces c))) (WaitsTest (head c past at kind cs before) start negated x)) (λ x k y. refl)
@@ -180,6 +193,11 @@ mutual
       (name_end n (o.TestFunction (head c past at kind cs before) start negated n) (λ x. Opens (list_in (in_arguments (in_braces c))) (WaitsTest (head c past at kind cs before) start negated x)) (λ x k y. refl)
       name m fn ∙ ap (λ (x : Context). Opens (list_in (in_arguments x)) (WaitsTest (head c past at kind cs before) start negated name)) e)
       (and_then (items_read d (WaitsTest (head c past at kind cs before) start negated name ∷ ws) none (m + 1) (omega (arith, a, g))) (λ k r. closes refl refl)))))
+
+pub asked_read : {size : ℕ} {c c' : Context} {v w : List ℕ} {asked : Asked} {p : Place} {n start : ℕ} {negated : Bool} → IsAsked size c' v asked w → in_braces c ≡ c' → (ws : List Waiting) (past : Items)
+    (at : ℕ) (kind : BraceKind) (cs : Choices) (before : Tests) → Asks p n (head c past at kind cs before) start negated → At size n v → Stops (λ b. b == 42) w
+    → Leads ws p n v ws (λ m. behind_asked (head c past at kind cs before) start m negated asked) w
+asked_read {w = w} {asked} d e ws past at kind cs before asks a st = asked_leads d e ws past at kind cs before asks a (unstarred asked w st)
 
 pub spelled_is_read : (text : List ℕ) (items : Items) → Spells text items → read text ≡ Got items
 spelled_is_read text items d = (items_read d [] none 0 (omega arith)).is

@@ -21,7 +21,7 @@ pub record First (ws : List Waiting) (p : Place) (n : ℕ) (text : List ℕ) (he
   pub closing : (m : ℕ) → Closing ws (place m) m rest here at kind (before ++ (span n m, pat) ∷ [])
 
 -- a word that begins with a mark
-marked_first : {b : ℕ} {rest end word : List ℕ} → is_mark b ≡ true → IsQuoted is_word (b ∷ rest) word end → (others : List ℕ) × (word ≡ b ∷ others) × IsQuoted is_word rest others end
+pub marked_first : {b : ℕ} {rest end word : List ℕ} → is_mark b ≡ true → IsQuoted is_word (b ∷ rest) word end → (others : List ℕ) × (word ≡ b ∷ others) × IsQuoted is_word rest others end
 marked_first {b} e (s.quoted_stop f g) = differs (sym (each (λ (x : ℕ). is_word x ≡ true) (46 ∷ 44 ∷ []) b e (refl, (refl, tt))) ∙ g)
 marked_first e (s.quoted_escape q) = differs (sym e)
 marked_first e (s.quoted_byte {run = run} f g q) = (run, refl, q)
@@ -53,17 +53,17 @@ pub same_span : (size k l i j : ℕ) (u v : List ℕ) → At size k u → At siz
 same_span size k l i j u v a b c d = ap (λ (x : ℕ). span x l) (same_place size k i u a c) ∙ ap (span i) (same_place size l j v b d)
 
 module _ (ws : List Waiting) (here : Here) (at : ℕ) (kind : BraceKind) where
-  abbrev head : o.Head
+  abbrev pub head : o.Head
   head = fresh here at kind
 
   -- a mark alone
-  abbrev alone : ℕ → ℕ → ℕ → List (Span × Pattern)
+  abbrev pub alone : ℕ → ℕ → ℕ → List (Span × Pattern)
   alone start mark m = (span start m, pattern (mark ∷ []) false) ∷ []
 
-  abbrev at_mark : ℕ → ℕ → Place
+  abbrev pub at_mark : ℕ → ℕ → Place
   at_mark start mark = o.TestMark head start false mark
 
-  mark_blank : (start mark m b : ℕ) → is_space b ≡ true → turn (at_mark start mark) m b ≡ Goes (o.BehindTest head (Some (alone start mark m)) None true)
+  pub mark_blank : (start mark m b : ℕ) → is_space b ≡ true → turn (at_mark start mark) m b ≡ Goes (o.BehindTest head (Some (alone start mark m)) None true)
   mark_blank start mark m b e =
       each (λ (x : ℕ). turn (at_mark start mark) m x ≡ Goes (o.BehindTest head (Some (alone start mark m)) None true)) (32 ∷ 9 ∷ 10 ∷ []) b e (refl, (refl, (refl, tt)))
 
@@ -91,16 +91,20 @@ module _ (ws : List Waiting) (here : Here) (at : ℕ) (kind : BraceKind) where
       place : ℕ → Place
       place m = o.BehindTest head (Some ((span n m, pattern (b ∷ c ∷ word) false) ∷ [])) (o.tested head n m false (o.marked b (c ∷ word))) false
 
+  -- behind a mark, a word and a star
+  abbrev pub starred : ℕ → ℕ → List ℕ → ℕ → Place
+  starred n b word m = o.BehindTest head (Some ((span n m, pattern (b ∷ word) true) ∷ [])) None false
+
+  pub starred_leads : (n b : ℕ) (text end word : List ℕ) → is_mark b ≡ true → IsQuoted is_word text word (42 ∷ end) → Leads ws (o.ChoiceStart head) n (b ∷ text) ws (starred n b word) end
+  starred_leads n b text end [] e q = rw (no_word q refl) (goes (asks_mark (start_asks head n) b e) (one refl))
+  starred_leads n b text end (c ∷ word) e q =
+      and_then (goes (asks_mark (start_asks head n) b e) (quoted_from (marked_word head n false b) ws (record { byte = λ x g k. rw (g, k) refl; escape = refl }) q)) (λ m fits. one refl)
+
   first_starred : (n b : ℕ) (text end word : List ℕ) → is_mark b ≡ true → IsQuoted is_word text word (42 ∷ end) → FirstMarked n b text word true end
-  first_starred n b text end [] e q = rw (no_word q refl) (record {
-    place = λ m. o.BehindTest head (Some ((span n m, pattern (b ∷ []) true) ∷ [])) None false;
-    leads = goes (asks_mark (start_asks head n) b e) (one refl);
-    closing = λ m. behind_closing ws m end here at kind [] ((span n m, pattern (b ∷ []) true) ∷ []) None false;
-  })
-  first_starred n b text end (c ∷ word) e q = record {
-    place = λ m. o.BehindTest head (Some ((span n m, pattern (b ∷ c ∷ word) true) ∷ [])) None false;
-    leads = and_then (goes (asks_mark (start_asks head n) b e) (quoted_from (marked_word head n false b) ws (record { byte = λ x g k. rw (g, k) refl; escape = refl }) q)) (λ m fits. one refl);
-    closing = λ m. behind_closing ws m end here at kind [] ((span n m, pattern (b ∷ c ∷ word) true) ∷ []) None false;
+  first_starred n b text end word e q = record {
+    place = starred n b word;
+    leads = starred_leads n b text end word e q;
+    closing = λ m. behind_closing ws m end here at kind [] ((span n m, pattern (b ∷ word) true) ∷ []) None false;
   }
 
   first_of_mark : (n b : ℕ) {text rest end : List ℕ} {pat : Pattern} → is_mark b ≡ true → text ≡ b ∷ rest → IsPattern text pat end

@@ -16,10 +16,11 @@ pub mod MarkedWords
 pub mod Names
 pub mod Parts
 pub mod Patterns
+pub mod RefusalBytes
+pub mod RefusalEnds
 pub mod Refusals
 pub mod RefusalsRead
 pub mod RefusalKinds
-pub mod RefusedAt
 pub mod Rows
 pub mod RowsBraces
 pub mod RowsDue

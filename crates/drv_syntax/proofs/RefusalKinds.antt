@@ -1,55 +1,46 @@
-use Rattle.drv_syntax.proofs.RefusalsRead.{refusals}
-use Rattle.drv_syntax.proofs.Refusals.{refused_fronts}
-use Rattle.drv_syntax.proofs.RefusedAt as refused
-use Rattle.drv_syntax.proofs.RefusedAt.{IsRefused, Refuses}
-use Rattle.drv_syntax.specs.Outcome.{Bad, read}
-use Rattle.drv_syntax.specs.Refusals as r
-use Rattle.drv_syntax.specs.Refusals.{AFirstTest, ATest, AnItem, Due, Ends, IsBadDirective, IsEmptyTest, IsMixedStar, IsStarOutside, IsTooNested, IsUnknownFunction, NoMore}
+use Rattle.drv_syntax.proofs.Covers.{spelled_is_read}
+use Rattle.drv_syntax.proofs.RefusalEnds.{refusals}
+use Rattle.drv_syntax.proofs.Refusals as fronts
+use Rattle.drv_syntax.specs.Fronts.{Front}
+use Rattle.drv_syntax.specs.Outcome.{Bad, Out, judged, parsed, read, text_limit}
+use Rattle.drv_syntax.specs.Refusals.{IsRefused}
+use Rattle.drv_syntax.specs.Spelling.{Spells}
+use Rattle.drv_syntax.specs.Tree.{Items}
 use Rattle.drv_syntax.specs.declared.fault.SyntaxFault.{SyntaxFault}
-use Rattle.drv_syntax.specs.declared.fault.SyntaxFault.TheVariants.{BadDirective, EmptyTest, MixedStar, StarOutside, TooNested, UnknownFunction}
-use Rattle.std.proofs.Common.{◌≡◌, ◌∙◌, ◌+◌, ◌-◌, ◌++◌, List, [], ◌∷◌, ap, arith, length, length-append, subst, take, ℕ}
+use Rattle.drv_syntax.specs.declared.fault.SyntaxFault.TheVariants.{TextTooLong, Unclosed}
+use Rattle.std.proofs.Common.{◌≡◌, ◌<◌, ◌≤◌, ◌∙◌, ◌+◌, ◌-◌, ◌++◌, List, false, true, ap, arith, length, refl, subst, take, ℕ}
 use Rattle.std.proofs.Math.Seq.{take-length}
+use Rattle.std.proofs.lemmas.Bool.Decides.{nat_tests}
+use Rattle.std.specs.Prelude.{Err, Ok, nat_le}
 
--- A text that ends in the byte that no longer fits is refused at that byte, whatever follows.
+-- A text that ends in the byte that no longer fits is refused at that byte, whatever follows; and what is parsed, by the grammar.
 
 at_end : (text : List ℕ) (k : ℕ) (fault : SyntaxFault) → read text ≡ Bad k fault → k + 1 ≡ length text → (rest : List ℕ) → read (text ++ rest) ≡ Bad (length text - 1) fault
 at_end text k fault e f rest =
     let whole : take (k + 1) text ≡ text = ap (λ (j : ℕ). take j text) f ∙ take-length text in
     let last : k ≡ length text - 1 = omega (arith, f) in
     subst (λ (ys : List ℕ). read (ys ++ rest) ≡ Bad (length text - 1) fault) whole
-    (subst (λ (j : ℕ). read (take (k + 1) text ++ rest) ≡ Bad j fault) last ((refused_fronts text k fault e).3 rest))
+    (subst (λ (j : ℕ). read (take (k + 1) text ++ rest) ≡ Bad j fault) last ((fronts.refused_fronts text k fault e).3 rest))
 
-ends : {text last : List ℕ} {due : Due} {n : ℕ} (k : ℕ) (fault : SyntaxFault) → Ends text due n last → Refuses (length text) due last k fault → k + 1 ≡ length text → (rest : List ℕ)
-    → read (text ++ rest) ≡ Bad (length text - 1) fault
-ends {text} {last} {due} k fault d f e = at_end text k fault (refusals text k fault (record { due = due; rest = last; reached = d.reached; refused = f })) e
+pub refusal_kinds : (text rest : List ℕ) (fault : SyntaxFault) → IsRefused text fault → read (text ++ rest) ≡ Bad (length text - 1) fault
+refusal_kinds text rest fault x = let y = refusals text fault x in at_end text y.0 fault y.1 y.2 rest
 
-pub star_outside : (text rest : List ℕ) (n : ℕ) → IsStarOutside text n → read (text ++ rest) ≡ Bad (length text - 1) (StarOutside n)
-star_outside text rest n (r.in_no_x d e) = ends (n + 1) (StarOutside n) d (refused.star_outside d.place e) (omega (arith, d.place)) rest
+-- what a text of an allowed size gives
+within : (text : List ℕ) (out : Out) → length text ≤ text_limit → read text ≡ out → parsed text ≡ judged out
+within text out h e =
+    let f : nat_le (length text) text_limit ≡ true = grind (arith, nat_tests) in
+    rw (f, e) refl
 
-pub mixed_star : (text rest : List ℕ) (n : ℕ) → IsMixedStar text n → read (text ++ rest) ≡ Bad (length text - 1) (MixedStar n)
-mixed_star text rest n (r.in_mixed_x d e) = ends (n + 1) (MixedStar n) d (refused.mixed_star d.place e) (omega (arith, d.place)) rest
+pub parsed_tree : (text : List ℕ) (items : Items) → length text ≤ text_limit → Spells text items → parsed text ≡ Ok items
+parsed_tree text items h d = within text _ h (spelled_is_read text items d)
 
-pub too_nested : (text rest : List ℕ) (n : ℕ) → IsTooNested text n → read (text ++ rest) ≡ Bad (length text - 1) (TooNested n)
-too_nested text rest n (r.item_within_all d a e f) = ends (n + 1) (TooNested n) d (refused.too_nested d.place a e f) (omega (arith, d.place)) rest
-too_nested text rest n (r.test_within_all d e) = ends n (TooNested n) d (refused.test_too_nested d.place e) (omega (arith, d.place)) rest
+pub parsed_refusal : (text rest : List ℕ) (fault : SyntaxFault) → length (text ++ rest) ≤ text_limit → IsRefused text fault → parsed (text ++ rest) ≡ Err fault
+parsed_refusal text rest fault h x = within (text ++ rest) _ h (refusal_kinds text rest fault x)
 
-pub unknown_function : (text rest : List ℕ) (n : ℕ) → IsUnknownFunction text n → read (text ++ rest) ≡ Bad (length text - 1) (UnknownFunction n)
-unknown_function text rest n (r.not_a_front name b d a e f g) =
-    ends (n + 2 + length name) (UnknownFunction n) d (refused.no_function name b [] d.place a e f g) (omega (arith, d.place, length-append name (b ∷ []))) rest
-unknown_function text rest n (r.not_a_name name d a e f) =
-    ends (n + 2 + length name) (UnknownFunction n) d (refused.short_function name [] d.place a e f) (omega (arith, d.place, length-append name (40 ∷ []))) rest
-unknown_function text rest n (r.test_not_a_front name b d a e f g) =
-    ends (n + 2 + length name) (UnknownFunction n) d (refused.test_no_function name b [] d.place a e f g) (omega (arith, d.place, length-append name (b ∷ []))) rest
-unknown_function text rest n (r.test_not_a_name name d a e f) =
-    ends (n + 2 + length name) (UnknownFunction n) d (refused.test_short_function name [] d.place a e f) (omega (arith, d.place, length-append name (40 ∷ []))) rest
+pub parsed_cut : (text : List ℕ) → length text ≤ text_limit → Front text → ((items : Items) → Spells text items → ⊥) → (at : ℕ) × (parsed text ≡ Err (Unclosed at))
+parsed_cut text h f g = let y = fronts.cut_front text f g in (y.0, within text _ h y.1)
 
-pub empty_test : (text rest : List ℕ) (n : ℕ) → IsEmptyTest text n → read (text ++ rest) ≡ Bad (length text - 1) (EmptyTest n)
-empty_test text rest n (r.empty_pattern d a e f) = ends (n + 1 + 1) (EmptyTest n) d (refused.no_pattern d.place a e f) (omega (arith, d.place)) rest
-empty_test text rest n (r.empty_test {m = m} d a e f g h) = ends m (EmptyTest n) d (refused.no_test_there d.place a e f g h) (omega (arith, d.place)) rest
-empty_test text rest n (r.first_default {m = m} d) = ends m (EmptyTest n) d (refused.first_is_default d.place) (omega (arith, d.place)) rest
-empty_test text rest n (r.default_not_last {m = m} d) = ends m (EmptyTest n) d (refused.default_goes_on d.place) (omega (arith, d.place)) rest
-
-pub bad_directive : (text rest : List ℕ) (n : ℕ) → IsBadDirective text n → read (text ++ rest) ≡ Bad (length text - 1) (BadDirective n)
-bad_directive text rest n (r.not_allowed_here d a) = ends (n + 1) (BadDirective n) d (refused.not_allowed d.place a) (omega (arith, d.place)) rest
-bad_directive text rest n (r.no_such_directive d a e) = ends (n + 1) (BadDirective n) d (refused.no_directive d.place a e) (omega (arith, d.place)) rest
-bad_directive text rest n (r.no_call d a e) = ends (n + 1) (BadDirective n) d (refused.test_no_call d.place a e) (omega (arith, d.place)) rest
+pub parsed_long : (text : List ℕ) → text_limit < length text → parsed text ≡ Err TextTooLong
+parsed_long text h =
+    let f : nat_le (length text) text_limit ≡ false = grind (arith, nat_tests) in
+    rw f refl

@@ -28,8 +28,8 @@ pub one_byte : (size n b : ℕ) (text : List ℕ) → At size n (b ∷ text) →
 one_byte size n b text a = omega arith
 
 -- a byte that is none of these is not the first of them
-none : (x : ℕ) (xs : List ℕ) (b : ℕ) → is_of (x ∷ xs) b ≡ false → ((b == x) ≡ false) × (is_of xs b ≡ false)
-none x xs b h = by (b == x) refl h
+pub not_of : (x : ℕ) (xs : List ℕ) (b : ℕ) → is_of (x ∷ xs) b ≡ false → ((b == x) ≡ false) × (is_of xs b ≡ false)
+not_of x xs b h = by (b == x) refl h
   where
     by : (z : Bool) → (b == x) ≡ z → is_of (x ∷ xs) b ≡ false → ((b == x) ≡ false) × (is_of xs b ≡ false)
     by true e h = differs (rw e at h)
@@ -88,7 +88,7 @@ module _ (size : ℕ) (K : Outside) where
       when (After size K b text) (is_blank b) _ _ h (λ e g. single here n b text Blank a (s.blank e) g) (λ e4 h.
       when (After size K b text) (b == 10) _ _ h (λ e g. rw (same b 10 e) (single here n 10 text (newline_in here.context.in_arguments) a s.newline g)) (λ e5 h.
       when (After size K b text) (b == 124) _ _ h (λ e g. rw (same b 124 e) (single here n 124 text (bar_in here.context.in_arguments) a s.pipe g)) (λ e6 h.
-      let f : is_plain b ≡ true = (let x = none 32 (9 ∷ []) b e4 in rw (e1, e2, e6, x.0, (none 9 [] b x.1).0, e5) refl) in
+      let f : is_plain b ≡ true = (let x = not_of 32 (9 ∷ []) b e4 in rw (e1, e2, e6, x.0, (not_of 9 [] b x.1).0, e5) refl) in
       single here n b text (Plain b) a (s.plain f e3) h))))))
 
   -- suffixes

@@ -1,23 +1,73 @@
 use Rattle.drv_words.specs.Bytes as ascii
-use Rattle.drv_syntax.specs.Bytes.{is_function, is_function_front, is_space, is_word}
+use Rattle.drv_syntax.specs.Bytes.{is_function, is_function_front, is_mark, is_name, is_of, is_space, is_word}
 use Rattle.drv_syntax.specs.Directives.{directive_of, is_allowed}
 use Rattle.drv_syntax.specs.declared.directives.BraceKind.{BraceKind}
 use Rattle.drv_syntax.specs.declared.directives.Directive.{Directive}
-use Rattle.drv_syntax.specs.declared.directives.Directive.TheVariants.{Nowhere, WithBraces, WithCall, WithMarkedBraces, WithPattern}
+use Rattle.drv_syntax.specs.declared.directives.Directive.TheVariants.{Nowhere, WithBraces, WithCall, WithMarkedBraces, WithName, WithOption, WithPattern}
+use Rattle.drv_syntax.specs.declared.fault.SyntaxFault.{SyntaxFault}
+use Rattle.drv_syntax.specs.declared.fault.SyntaxFault.TheVariants.{BadDirective, EmptyTest, MixedStar, StarOutside, TooNested, UnknownFunction}
 use Rattle.drv_syntax.specs.Contexts.{Context, Mixed, Nobody, in_arguments, in_braces, in_x, top}
-use Rattle.drv_syntax.specs.Spelling.{AreItems, AreSpaces, AreTests, At, IsAsked, IsItem, IsSign}
-use Rattle.drv_syntax.specs.Tree.{Asked, Item, Items, Tests, no_test}
-use Rattle.std.specs.Prelude.{◌≡◌, ◌==◌, Bool, false, true, List, [], ◌∷◌, ◌++◌, codes, length, ℕ}
+use Rattle.drv_syntax.specs.Spelling.{AreItems, AreSpaces, AreTests, At, IsAsked, IsItem, IsPattern, IsQuoted, IsRun, IsSign, Stops}
+use Rattle.drv_syntax.specs.Tree.{Asked, HasResult, Item, Items, Pattern, Tests, no_test, pattern}
+use Rattle.std.specs.Prelude.{◌≡◌, ◌≤◌, ◌==◌, Bool, false, true, List, [], ◌∷◌, ◌++◌, codes, length, ℕ}
 
--- Which fault a text is refused for, by where its last byte stands in the grammar. Each definition is over the shortest
--- prefix that is no front: it ends in the byte that no longer fits (GCC manual, "Spec Files"; this project's profile).
+-- Which fault a text is refused for, by where its last byte stands in the grammar. All is over the shortest prefix that is
+-- no front: it ends in the byte that no longer fits (GCC manual, "Spec Files"; this project's profile).
 
--- what is due where a text is open
+-- where a test stands in braces
+pub data Order : Type 0 where
+  AtFront : Order  -- at their front: they may be patterns
+  AtNext : Order  -- at the front of a later alternative, which may be the default
+  AtBar : Order  -- behind a bar
+
+-- at a test there, with a ! or without, the braces may still be patterns
+abbrev pub may_emit : Order → Bool → Bool
+may_emit AtFront false = true
+may_emit AtFront true = false
+may_emit AtNext negated = false
+may_emit AtBar negated = false
+
+-- in place of what a test asks there, the byte is the colon of a default
+abbrev pub is_default : Order → Bool → ℕ → Bool
+is_default AtFront negated b = false
+is_default AtNext false b = b == ascii.colon
+is_default AtNext true b = false
+is_default AtBar negated b = false
+
+-- what is due where a text is open; a number is the place of the % of the braces that are open
 pub data Due : Type 0 where
   AnItem : Context → Due  -- an item, in a list with this context
-  ATest : Context → ℕ → Due  -- what a test asks, in braces with this context inside, whose % has this place
-  AFirstTest : ℕ → Due  -- the first test of braces whose % has this place
-  NoMore : ℕ → Due  -- the end of braces whose % has this place, behind the X of a default
+  ATest : Context → ℕ → Order → Bool → Due  -- what a test asks, with a ! or without; this is the context inside the braces
+  AWord : ℕ → Due  -- the word behind the . or , of a test
+  APattern : ℕ → Due  -- a pattern, behind &
+  AnEnd : ℕ → List ℕ → Due  -- one of these bytes, behind a test or a pattern
+  BehindMark : ℕ → Due  -- right behind a . or , that may be a pattern
+  PastMark : ℕ → Due  -- behind such a mark and white space
+  NoMore : ℕ → Due  -- the end of the braces, behind the X of a default
+
+-- what may stand behind a test, behind a pattern, and behind what may be either
+abbrev pub ends_test : List ℕ
+ends_test = codes ":|"
+
+abbrev pub ends_pattern : List ℕ
+ends_pattern = codes "}&"
+
+abbrev pub ends_either : List ℕ
+ends_either = codes ":|}&"
+
+-- behind an & of patterns, in braces whose % has the place n
+pub data ReachesPatterns (n : ℕ) : List ℕ → Due → List ℕ → Type 0 where
+  pattern_due : {text rest : List ℕ} → AreSpaces text rest → ReachesPatterns n text (APattern n) rest
+  pattern_ends : {t u v rest : List ℕ} {p : Pattern} → AreSpaces t u → IsPattern u p v → AreSpaces v rest → ReachesPatterns n t (AnEnd n ends_pattern) rest
+  behind_and : {t u v w rest : List ℕ} {p : Pattern} {due : Due} → AreSpaces t u → IsPattern u p v → AreSpaces v (ascii.ampersand ∷ w) → ReachesPatterns n w due rest → ReachesPatterns n t due rest
+
+-- in braces that are patterns, or are not alternatives yet
+pub data ReachesEmits (n : ℕ) : List ℕ → Due → List ℕ → Type 0 where
+  starred_ends : {mark : ℕ} {t u v word rest : List ℕ} → AreSpaces t (mark ∷ u) → is_mark mark ≡ true → IsPattern (mark ∷ u) (pattern word true) v → AreSpaces v rest
+      → ReachesEmits n t (AnEnd n ends_pattern) rest
+  behind_mark : {mark : ℕ} {t rest : List ℕ} → AreSpaces t (mark ∷ rest) → is_mark mark ≡ true → IsPattern (mark ∷ rest) (pattern (mark ∷ []) false) rest → ReachesEmits n t (BehindMark n) rest
+  past_mark : {mark b : ℕ} {t u rest : List ℕ} → AreSpaces t (mark ∷ b ∷ u) → is_mark mark ≡ true → is_space b ≡ true → AreSpaces u rest → ReachesEmits n t (PastMark n) rest
+  behind_first : {t u v w rest : List ℕ} {p : Pattern} {due : Due} → AreSpaces t u → IsPattern u p v → AreSpaces v (ascii.ampersand ∷ w) → ReachesPatterns n w due rest → ReachesEmits n t due rest
 
 mutual
   -- a list leads to a place where this is due, and to the rest of the text there
@@ -31,36 +81,52 @@ mutual
   pub data ReachesIn (size : ℕ) : Context → ℕ → Directive → List ℕ → Due → List ℕ → Type 0 where
     in_call : {c : Context} {n : ℕ} {text rest : List ℕ} {due : Due} (name : List ℕ) → (c.levels == 0) ≡ false → is_function name ≡ true → Reaches size (in_arguments c) text due rest
         → ReachesIn size c n WithCall (name ++ ascii.opening_parenthesis ∷ text) due rest
-    in_place : {c : Context} {n : ℕ} {text rest : List ℕ} {due : Due} → (c.levels == 0) ≡ false → ReachesChoices size (in_braces c) n text due rest → ReachesIn size c n WithBraces text due rest
-    in_marked : {c : Context} {n : ℕ} {kind : BraceKind} {text rest : List ℕ} {due : Due} → (c.levels == 0) ≡ false → ReachesChoices size (in_braces c) n text due rest
+    in_place : {c : Context} {n : ℕ} {text rest : List ℕ} {due : Due} → (c.levels == 0) ≡ false → ReachesBrace size (in_braces c) n text due rest → ReachesIn size c n WithBraces text due rest
+    in_marked : {c : Context} {n : ℕ} {kind : BraceKind} {text rest : List ℕ} {due : Due} → (c.levels == 0) ≡ false → ReachesBrace size (in_braces c) n text due rest
         → ReachesIn size c n (WithMarkedBraces kind) (ascii.opening_brace ∷ text) due rest
-    to_first : {c : Context} {n : ℕ} {text rest : List ℕ} → (c.levels == 0) ≡ false → AreSpaces text rest → ReachesIn size c n WithBraces text (AFirstTest n) rest
-    to_marked_first : {c : Context} {n : ℕ} {kind : BraceKind} {text rest : List ℕ} → (c.levels == 0) ≡ false → AreSpaces text rest
-        → ReachesIn size c n (WithMarkedBraces kind) (ascii.opening_brace ∷ text) (AFirstTest n) rest
 
-  -- in alternatives
-  pub data ReachesChoices (size : ℕ) : Context → ℕ → List ℕ → Due → List ℕ → Type 0 where
-    to_tests : {c : Context} {n : ℕ} {text rest : List ℕ} {due : Due} → ReachesTests size c n text due rest → ReachesChoices size c n text due rest
-    to_x : {c : Context} {n : ℕ} {text mid rest : List ℕ} {tests : Tests} {due : Due} → AreTests size c text tests (ascii.colon ∷ mid) → Reaches size (in_x c tests) mid due rest
-        → ReachesChoices size c n text due rest
-    behind_x : {c : Context} {n : ℕ} {text mid next rest : List ℕ} {tests : Tests} {items : Items} {due : Due} → AreTests size c text tests (ascii.colon ∷ mid)
-        → AreItems size (in_x c tests) mid items (ascii.semicolon ∷ next) → ReachesLater size c n next due rest → ReachesChoices size c n text due rest
+  -- inside braces
+  pub data ReachesBrace (size : ℕ) : Context → ℕ → List ℕ → Due → List ℕ → Type 0 where
+    in_emits : {c : Context} {n : ℕ} {text rest : List ℕ} {due : Due} → ReachesEmits n text due rest → ReachesBrace size c n text due rest
+    in_choices : {c : Context} {n : ℕ} {text rest : List ℕ} {due : Due} → ReachesChoices size c n AtFront text due rest → ReachesBrace size c n text due rest
+
+  -- in alternatives, of which the first stands there
+  pub data ReachesChoices (size : ℕ) : Context → ℕ → Order → List ℕ → Due → List ℕ → Type 0 where
+    to_tests : {c : Context} {n : ℕ} {order : Order} {text rest : List ℕ} {due : Due} → ReachesTests size c n order text due rest → ReachesChoices size c n order text due rest
+    to_x : {c : Context} {n : ℕ} {order : Order} {text mid rest : List ℕ} {tests : Tests} {due : Due} → AreTests size c text tests (ascii.colon ∷ mid) → Reaches size (in_x c tests) mid due rest
+        → ReachesChoices size c n order text due rest
+    behind_x : {c : Context} {n : ℕ} {order : Order} {text mid next rest : List ℕ} {tests : Tests} {items : Items} {due : Due} → AreTests size c text tests (ascii.colon ∷ mid)
+        → AreItems size (in_x c tests) mid items (ascii.semicolon ∷ next) → ReachesLater size c n next due rest → ReachesChoices size c n order text due rest
 
   -- in alternatives behind the first
   pub data ReachesLater (size : ℕ) : Context → ℕ → List ℕ → Due → List ℕ → Type 0 where
-    to_next : {c : Context} {n : ℕ} {text rest : List ℕ} {due : Due} → ReachesChoices size c n text due rest → ReachesLater size c n text due rest
+    to_next : {c : Context} {n : ℕ} {text rest : List ℕ} {due : Due} → ReachesChoices size c n AtNext text due rest → ReachesLater size c n text due rest
     to_default : {c : Context} {n : ℕ} {text mid rest : List ℕ} {due : Due} → AreSpaces text (ascii.colon ∷ mid) → Reaches size (in_x c no_test) mid due rest → ReachesLater size c n text due rest
     behind_default : {c : Context} {n : ℕ} {text mid rest : List ℕ} {items : Items} → AreSpaces text (ascii.colon ∷ mid) → AreItems size (in_x c no_test) mid items (ascii.semicolon ∷ rest)
         → ReachesLater size c n text (NoMore n) (ascii.semicolon ∷ rest)
 
-  -- in tests
-  pub data ReachesTests (size : ℕ) : Context → ℕ → List ℕ → Due → List ℕ → Type 0 where
-    test_due : {c : Context} {n : ℕ} {text mid rest : List ℕ} {negated : Bool} → AreSpaces text mid → IsSign mid negated rest → ReachesTests size c n text (ATest c n) rest
-    in_asked : {c : Context} {n : ℕ} {text mid inner rest : List ℕ} {negated : Bool} {due : Due} (name : List ℕ) → AreSpaces text mid
-        → IsSign mid negated (ascii.percent ∷ ascii.colon ∷ name ++ ascii.opening_parenthesis ∷ inner) → (c.levels == 0) ≡ false → is_function name ≡ true → Reaches size (in_arguments c) inner due rest
-        → ReachesTests size c n text due rest
-    behind_bar : {c : Context} {n : ℕ} {t u v w x rest : List ℕ} {negated : Bool} {asked : Asked} {due : Due} → AreSpaces t u → IsSign u negated v → IsAsked size c v asked w
-        → AreSpaces w (ascii.bar ∷ x) → ReachesTests size c n x due rest → ReachesTests size c n t due rest
+  -- in tests, of which the first stands there
+  pub data ReachesTests (size : ℕ) : Context → ℕ → Order → List ℕ → Due → List ℕ → Type 0 where
+    in_test : {c : Context} {n : ℕ} {order : Order} {t u v rest : List ℕ} {negated : Bool} {due : Due} → AreSpaces t u → IsSign u negated v → ReachesAsked size c n order negated v due rest
+        → ReachesTests size c n order t due rest
+    behind_bar : {c : Context} {n : ℕ} {order : Order} {t u v w x rest : List ℕ} {negated : Bool} {asked : Asked} {due : Due} → AreSpaces t u → IsSign u negated v → IsAsked size c v asked w
+        → AreSpaces w (ascii.bar ∷ x) → ReachesTests size c n AtBar x due rest → ReachesTests size c n order t due rest
+
+  -- in a test and behind it
+  pub data ReachesAsked (size : ℕ) : Context → ℕ → Order → Bool → List ℕ → Due → List ℕ → Type 0 where
+    asked_due : {c : Context} {n : ℕ} {order : Order} {negated : Bool} {rest : List ℕ} → ReachesAsked size c n order negated rest (ATest c n order negated) rest
+    word_due : {c : Context} {n mark : ℕ} {order : Order} {negated : Bool} {rest : List ℕ} → may_emit order negated ≡ false → is_mark mark ≡ true
+        → ReachesAsked size c n order negated (mark ∷ rest) (AWord n) rest
+    in_function : {c : Context} {n : ℕ} {order : Order} {negated : Bool} {text rest : List ℕ} {due : Due} (name : List ℕ) → (c.levels == 0) ≡ false → is_function name ≡ true
+        → Reaches size (in_arguments c) text due rest → ReachesAsked size c n order negated (ascii.percent ∷ ascii.colon ∷ name ++ ascii.opening_parenthesis ∷ text) due rest
+    test_ends : {c : Context} {n : ℕ} {order : Order} {negated : Bool} {text mid rest : List ℕ} {asked : Asked} → may_emit order negated ≡ false → IsAsked size c text asked mid → AreSpaces mid rest
+        → ReachesAsked size c n order negated text (AnEnd n ends_test) rest
+    call_ends : {c : Context} {n : ℕ} {order : Order} {negated : Bool} {text mid name rest : List ℕ} {arguments : Items} → IsAsked size c text (HasResult name arguments) mid → AreSpaces mid rest
+        → ReachesAsked size c n order negated text (AnEnd n ends_test) rest
+    switch_ends : {c : Context} {n : ℕ} {text mid rest : List ℕ} {p : Pattern} → Stops is_mark text → IsPattern text p mid → AreSpaces mid rest
+        → ReachesAsked size c n AtFront false text (AnEnd n ends_either) rest
+    marked_ends : {c : Context} {n mark b : ℕ} {text mid word rest : List ℕ} → is_mark mark ≡ true → IsQuoted is_word text (b ∷ word) mid → Stops (λ x. x == ascii.asterisk) mid → AreSpaces mid rest
+        → ReachesAsked size c n AtFront false (mark ∷ text) (AnEnd n ends_either) rest
 
 -- a directive that opens braces or arguments
 abbrev pub nests : Directive → Bool
@@ -73,46 +139,60 @@ nests _ = false
 abbrev pub Empty : ℕ → Type 0
 Empty b = ((b == ascii.backslash) ≡ false) × (is_word b ≡ false) × ((b == ascii.asterisk) ≡ false)
 
--- a text leads to a place where this is due, and ends in these bytes, which begin at the place n
-pub record Ends (text : List ℕ) (due : Due) (n : ℕ) (last : List ℕ) : Type 0 where
-  pub reached : Reaches (length text) top text due last
-  pub place : At (length text) n last
-
--- %* in no X
-pub data IsStarOutside (text : List ℕ) (n : ℕ) : Type 0 where
-  in_no_x : {c : Context} → Ends text (AnItem c) n (codes "%*") → c.owner ≡ Nobody → IsStarOutside text n
-
--- %* in an X without tests, or with a test that is no starred pattern or has a !
-pub data IsMixedStar (text : List ℕ) (n : ℕ) : Type 0 where
-  in_mixed_x : {c : Context} → Ends text (AnItem c) n (codes "%*") → c.owner ≡ Mixed → IsMixedStar text n
-
--- braces or arguments within 64 others: the {, W, @ or : behind a %, where that may stand, or the % of a test
-pub data IsTooNested (text : List ℕ) (n : ℕ) : Type 0 where
-  item_within_all : {c : Context} {b : ℕ} → Ends text (AnItem c) n (ascii.percent ∷ b ∷ []) → is_allowed c.in_arguments b ≡ true → nests (directive_of b) ≡ true → (c.levels == 0) ≡ true
-      → IsTooNested text n
-  test_within_all : {c : Context} {at : ℕ} → Ends text (ATest c at) n (ascii.percent ∷ []) → (c.levels == 0) ≡ true → IsTooNested text n
-
 -- behind %: the front of a function's name and a byte that it can't go on with, or a ( behind a front that is no name
-pub data IsUnknownFunction (text : List ℕ) (n : ℕ) : Type 0 where
-  not_a_front : {c : Context} (name : List ℕ) (b : ℕ) → Ends text (AnItem c) n (ascii.percent ∷ ascii.colon ∷ name ++ b ∷ []) → (c.levels == 0) ≡ false → is_function_front name ≡ true
-      → is_function_front (name ++ b ∷ []) ≡ false → (b == ascii.opening_parenthesis) ≡ false → IsUnknownFunction text n
-  not_a_name : {c : Context} (name : List ℕ) → Ends text (AnItem c) n (ascii.percent ∷ ascii.colon ∷ name ++ ascii.opening_parenthesis ∷ []) → (c.levels == 0) ≡ false
-      → is_function_front name ≡ true → is_function name ≡ false → IsUnknownFunction text n
-  test_not_a_front : {c : Context} {at : ℕ} (name : List ℕ) (b : ℕ) → Ends text (ATest c at) n (ascii.percent ∷ ascii.colon ∷ name ++ b ∷ []) → (c.levels == 0) ≡ false
-      → is_function_front name ≡ true → is_function_front (name ++ b ∷ []) ≡ false → (b == ascii.opening_parenthesis) ≡ false → IsUnknownFunction text n
-  test_not_a_name : {c : Context} {at : ℕ} (name : List ℕ) → Ends text (ATest c at) n (ascii.percent ∷ ascii.colon ∷ name ++ ascii.opening_parenthesis ∷ []) → (c.levels == 0) ≡ false
-      → is_function_front name ≡ true → is_function name ≡ false → IsUnknownFunction text n
+pub data IsNoFunction : List ℕ → Type 0 where
+  not_a_front : (name : List ℕ) (b : ℕ) → is_function_front name ≡ true → is_function_front (name ++ b ∷ []) ≡ false → (b == ascii.opening_parenthesis) ≡ false → IsNoFunction (name ++ b ∷ [])
+  not_a_name : (name : List ℕ) → is_function_front name ≡ true → is_function name ≡ false → IsNoFunction (name ++ ascii.opening_parenthesis ∷ [])
 
--- a pattern or a test without a word and a star, and a default that is first or not last; n is the place of the directive's %
-pub data IsEmptyTest (text : List ℕ) (n : ℕ) : Type 0 where
-  empty_pattern : {c : Context} {b x : ℕ} → Ends text (AnItem c) n (ascii.percent ∷ b ∷ x ∷ []) → is_allowed c.in_arguments b ≡ true → directive_of b ≡ WithPattern → Empty x → IsEmptyTest text n
-  empty_test : {c : Context} {m b : ℕ} → Ends text (ATest c n) m (b ∷ []) → Empty b → is_space b ≡ false → (b == ascii.exclamation_mark) ≡ false → (b == ascii.colon) ≡ false
-      → (b == ascii.percent) ≡ false → IsEmptyTest text n
-  first_default : {m : ℕ} → Ends text (AFirstTest n) m (ascii.colon ∷ []) → IsEmptyTest text n
-  default_not_last : {m : ℕ} → Ends text (NoMore n) m (ascii.semicolon ∷ []) → IsEmptyTest text n
+-- behind the byte of a directive, up to a byte with which it can't be whole any more
+pub data Breaks : Context → Directive → List ℕ → Type 0 where
+  no_option : {c : Context} {b : ℕ} → (b == ascii.opening_brace) ≡ false → Breaks c WithOption (b ∷ [])
+  empty_option : {c : Context} → Breaks c WithOption (codes "{}")
+  no_name : {c : Context} {b : ℕ} → is_name b ≡ false → Breaks c WithName (b ∷ [])
+  open_name : {c : Context} {b : ℕ} {text name : List ℕ} → IsRun is_name text name (b ∷ []) → length name ≤ 255 → (b == ascii.closing_parenthesis) ≡ false → Breaks c WithName text
+  long_name : {c : Context} {text name : List ℕ} → IsRun is_name text name [] → length name ≡ 256 → Breaks c WithName text
+  no_brace : {c : Context} {kind : BraceKind} {b : ℕ} → (c.levels == 0) ≡ false → (b == ascii.opening_brace) ≡ false → Breaks c (WithMarkedBraces kind) (b ∷ [])
 
--- no such directive, or not allowed where it stands; behind the % of a test, no colon
-pub data IsBadDirective (text : List ℕ) (n : ℕ) : Type 0 where
-  not_allowed_here : {c : Context} {b : ℕ} → Ends text (AnItem c) n (ascii.percent ∷ b ∷ []) → is_allowed c.in_arguments b ≡ false → IsBadDirective text n
-  no_such_directive : {c : Context} {b : ℕ} → Ends text (AnItem c) n (ascii.percent ∷ b ∷ []) → is_allowed c.in_arguments b ≡ true → directive_of b ≡ Nowhere → IsBadDirective text n
-  no_call : {c : Context} {at b : ℕ} → Ends text (ATest c at) n (ascii.percent ∷ b ∷ []) → (c.levels == 0) ≡ false → (b == ascii.colon) ≡ false → IsBadDirective text n
+-- where this is due, a text ends in the byte that no longer fits, and this is its fault
+pub data Refuses (size : ℕ) : Due → List ℕ → SyntaxFault → Type 0 where
+  -- %* in no X, and in an X without tests, or with a test that is no starred pattern or has a !
+  star_outside : {c : Context} {n : ℕ} → At size n (codes "%*") → c.owner ≡ Nobody → Refuses size (AnItem c) (codes "%*") (StarOutside n)
+  mixed_star : {c : Context} {n : ℕ} → At size n (codes "%*") → c.owner ≡ Mixed → Refuses size (AnItem c) (codes "%*") (MixedStar n)
+  -- braces or arguments within 64 others: the {, W, @ or : behind a %, where that may stand, or the % of a test
+  item_within_all : {c : Context} {n b : ℕ} → At size n (ascii.percent ∷ b ∷ []) → is_allowed c.in_arguments b ≡ true → nests (directive_of b) ≡ true → (c.levels == 0) ≡ true
+      → Refuses size (AnItem c) (ascii.percent ∷ b ∷ []) (TooNested n)
+  test_within_all : {c : Context} {at n : ℕ} {order : Order} {negated : Bool} → At size n (ascii.percent ∷ []) → (c.levels == 0) ≡ true
+      → Refuses size (ATest c at order negated) (ascii.percent ∷ []) (TooNested n)
+  -- the name of no function
+  item_no_function : {c : Context} {n : ℕ} {last : List ℕ} → At size n (ascii.percent ∷ ascii.colon ∷ last) → (c.levels == 0) ≡ false → IsNoFunction last
+      → Refuses size (AnItem c) (ascii.percent ∷ ascii.colon ∷ last) (UnknownFunction n)
+  test_no_function : {c : Context} {at n : ℕ} {order : Order} {negated : Bool} {last : List ℕ} → At size n (ascii.percent ∷ ascii.colon ∷ last) → (c.levels == 0) ≡ false → IsNoFunction last
+      → Refuses size (ATest c at order negated) (ascii.percent ∷ ascii.colon ∷ last) (UnknownFunction n)
+  -- a pattern or a test without a word and a star: behind %< and %>, in braces, behind a . or , and behind &
+  hides_nothing : {c : Context} {n b x : ℕ} → At size n (ascii.percent ∷ b ∷ x ∷ []) → is_allowed c.in_arguments b ≡ true → directive_of b ≡ WithPattern → Empty x
+      → Refuses size (AnItem c) (ascii.percent ∷ b ∷ x ∷ []) (EmptyTest n)
+  no_test_there : {c : Context} {at b : ℕ} {order : Order} {negated : Bool} → Empty b → is_space b ≡ false → (b == ascii.percent) ≡ false → is_default order negated b ≡ false
+      → Refuses size (ATest c at order negated) (b ∷ []) (EmptyTest at)
+  no_word : {at b : ℕ} → (b == ascii.backslash) ≡ false → is_word b ≡ false → Refuses size (AWord at) (b ∷ []) (EmptyTest at)
+  no_pattern : {at b : ℕ} → Empty b → is_space b ≡ false → Refuses size (APattern at) (b ∷ []) (EmptyTest at)
+  mark_alone : {at b : ℕ} → is_space b ≡ false → is_of ends_pattern b ≡ false → Refuses size (BehindMark at) (b ∷ []) (EmptyTest at)
+  mark_is_no_test : {at b : ℕ} → is_of ends_test b ≡ true → Refuses size (PastMark at) (b ∷ []) (EmptyTest at)
+  -- a default that is not last
+  default_goes_on : {at : ℕ} → Refuses size (NoMore at) (ascii.semicolon ∷ []) (EmptyTest at)
+  -- no such directive, or not allowed where it stands; inside one; behind the % of a test no colon; behind a test or a pattern
+  not_allowed : {c : Context} {n b : ℕ} → At size n (ascii.percent ∷ b ∷ []) → is_allowed c.in_arguments b ≡ false → Refuses size (AnItem c) (ascii.percent ∷ b ∷ []) (BadDirective n)
+  no_directive : {c : Context} {n b : ℕ} → At size n (ascii.percent ∷ b ∷ []) → is_allowed c.in_arguments b ≡ true → directive_of b ≡ Nowhere
+      → Refuses size (AnItem c) (ascii.percent ∷ b ∷ []) (BadDirective n)
+  breaks_off : {c : Context} {n b : ℕ} {last : List ℕ} → At size n (ascii.percent ∷ b ∷ last) → is_allowed c.in_arguments b ≡ true → Breaks c (directive_of b) last
+      → Refuses size (AnItem c) (ascii.percent ∷ b ∷ last) (BadDirective n)
+  no_call : {c : Context} {at n b : ℕ} {order : Order} {negated : Bool} → At size n (ascii.percent ∷ b ∷ []) → (c.levels == 0) ≡ false → (b == ascii.colon) ≡ false
+      → Refuses size (ATest c at order negated) (ascii.percent ∷ b ∷ []) (BadDirective n)
+  no_end : {at b : ℕ} {ends : List ℕ} → is_space b ≡ false → is_of ends b ≡ false → Refuses size (AnEnd at ends) (b ∷ []) (BadDirective at)
+  no_end_past_mark : {at b : ℕ} → is_space b ≡ false → is_of ends_either b ≡ false → Refuses size (PastMark at) (b ∷ []) (BadDirective at)
+
+-- a text ends in the byte that no longer fits, and this is its fault
+pub record IsRefused (text : List ℕ) (fault : SyntaxFault) : Type 0 where
+  pub due : Due
+  pub last : List ℕ
+  pub reached : Reaches (length text) top text due last
+  pub refused : Refuses (length text) due last fault

@@ -1,13 +1,13 @@
 //! Laws of the grammar. The functions do nothing: each is its contract.
 
 ghost use Rattle.drv_syntax.specs.Fronts.{Front};
-ghost use Rattle.drv_syntax.specs.Outcome.{Bad, Cut, Got, Unrefused, read};
-ghost use Rattle.drv_syntax.specs.Refusals.{IsBadDirective, IsEmptyTest, IsMixedStar, IsStarOutside, IsTooNested, IsUnknownFunction};
+ghost use Rattle.drv_syntax.specs.Outcome.{Bad, Cut, Got, Unrefused, parsed, read, text_limit};
+ghost use Rattle.drv_syntax.specs.Refusals.{IsRefused};
 ghost use Rattle.drv_syntax.specs.Spelling.{Spells};
 ghost use Rattle.drv_syntax.specs.Tree.{Items};
 ghost use Rattle.drv_syntax.specs.declared.fault.SyntaxFault.{SyntaxFault};
-ghost use Rattle.drv_syntax.specs.declared.fault.SyntaxFault.TheVariants.{BadDirective, EmptyTest, MixedStar, StarOutside, TooNested, UnknownFunction};
-ghost use Rattle.std.specs.Prelude.{◌≡◌, ◌<◌, ◌≤◌, ◌+◌, ◌-◌, ◌++◌, List, length, take, ℕ};
+ghost use Rattle.drv_syntax.specs.declared.fault.SyntaxFault.TheVariants.{TextTooLong, Unclosed};
+ghost use Rattle.std.specs.Prelude.{◌≡◌, ◌<◌, ◌≤◌, ◌+◌, ◌-◌, ◌++◌, Err, List, Ok, length, take, ℕ};
 
 /// A refused text is refused at the end of its shortest prefix that is no front: each prefix before it is a front, with that
 /// byte it is refused there whatever follows, and no text that begins so is a front.
@@ -58,12 +58,15 @@ pub fn unrefused_is_front()
 {}
 
 /// A text that ends in the byte that no longer fits is refused at that byte, whatever follows, by the fault of its case.
-/// The places are those of the directives concerned.
 pub fn refusal_kinds()
-    ensures star_outside { (text rest : List ℕ) (n : ℕ) → IsStarOutside text n → read (text ++ rest) ≡ Bad (length text - 1) (StarOutside n) }
-    ensures mixed_star { (text rest : List ℕ) (n : ℕ) → IsMixedStar text n → read (text ++ rest) ≡ Bad (length text - 1) (MixedStar n) }
-    ensures too_nested { (text rest : List ℕ) (n : ℕ) → IsTooNested text n → read (text ++ rest) ≡ Bad (length text - 1) (TooNested n) }
-    ensures unknown_function { (text rest : List ℕ) (n : ℕ) → IsUnknownFunction text n → read (text ++ rest) ≡ Bad (length text - 1) (UnknownFunction n) }
-    ensures empty_test { (text rest : List ℕ) (n : ℕ) → IsEmptyTest text n → read (text ++ rest) ≡ Bad (length text - 1) (EmptyTest n) }
-    ensures bad_directive { (text rest : List ℕ) (n : ℕ) → IsBadDirective text n → read (text ++ rest) ≡ Bad (length text - 1) (BadDirective n) }
+    ensures { (text rest : List ℕ) (fault : SyntaxFault) → IsRefused text fault → read (text ++ rest) ≡ Bad (length text - 1) fault }
+{}
+
+/// What a text is parsed to, by the grammar: its tree, the fault of its shortest prefix that is no front, that it is cut
+/// short, or that it is too long.
+pub fn parsed_by_grammar()
+    ensures tree { (text : List ℕ) (items : Items) → length text ≤ text_limit → Spells text items → parsed text ≡ Ok items }
+    ensures refusal { (text rest : List ℕ) (fault : SyntaxFault) → length (text ++ rest) ≤ text_limit → IsRefused text fault → parsed (text ++ rest) ≡ Err fault }
+    ensures cut { (text : List ℕ) → length text ≤ text_limit → Front text → ((items : Items) → Spells text items → ⊥) → (at : ℕ) × (parsed text ≡ Err (Unclosed at)) }
+    ensures too_long { (text : List ℕ) → text_limit < length text → parsed text ≡ Err TextTooLong }
 {}

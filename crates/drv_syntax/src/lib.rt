@@ -14,8 +14,8 @@ mod written;
 pub use fault::SyntaxFault;
 pub use labels::Mark;
 pub use laws::{
-    cut_front, front_is_unrefused, front_prefix, one_tree, read_is_spelled, refusal_kinds,
-    refused_behind_front, shortest_prefix, spelled_is_read, unrefused_is_front,
+    cut_front, front_is_unrefused, front_prefix, one_tree, parsed_by_grammar, read_is_spelled,
+    refusal_kinds, refused_behind_front, shortest_prefix, spelled_is_read, unrefused_is_front,
 };
 pub use token::{Leaf, TempKind, TestKind, Token, TokenKind};
 pub use tree::{SpecTree, parse};

@@ -1,0 +1,14 @@
+use Rattle.drv_syntax.proofs.RefusalKinds as kinds
+use Rattle.drv_syntax.proofs.laws.parsed_by_grammar.Goals as goal
+
+pub returns-clause-tree : goal.returns-clause-tree
+returns-clause-tree c = kinds.parsed_tree
+
+pub returns-clause-refusal : goal.returns-clause-refusal
+returns-clause-refusal c = kinds.parsed_refusal
+
+pub returns-clause-cut : goal.returns-clause-cut
+returns-clause-cut c = kinds.parsed_cut
+
+pub returns-clause-too_long : goal.returns-clause-too_long
+returns-clause-too_long c = kinds.parsed_long
