@@ -25,6 +25,7 @@ UNCALLED = "Drop", "Model"
 NO_CLAUSE = "no clause says what the runtime gives"
 NO_PROMISE = "what it answers is a hint for the order of a run, of which nothing is promised"
 REASONS = {
+    "drv_syntax::SpecTree::empty": "it can't be refused memory, and a text with a byte takes some",
     "drv_words::Listing::new": "a list of items of any type has no other value without one",
     "drv_system::FactTable::read_answer": "it lends an answer of the table, and has no other at hand",
     "drv_system::arguments": NO_CLAUSE,

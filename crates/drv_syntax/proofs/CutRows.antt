@@ -27,7 +27,7 @@ use Rattle.std.specs.Prelude.{◌==◌, nat_le}
 -- The rows of items and functions, backwards: where the text ends inside a directive behind a byte, it does so before it, or
 -- the directive has ended before the byte.
 
-le_true : {m n : ℕ} → nat_le m n ≡ true → m ≤ n
+pub le_true : {m n : ℕ} → nat_le m n ≡ true → m ≤ n
 le_true h = grind (arith, nat_tests)
 
 pub escape_out : (f : ℕ → Bool) (text : List ℕ) → Escaped f text → RunsOut f (92 ∷ text)

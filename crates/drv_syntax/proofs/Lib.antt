@@ -23,6 +23,7 @@ pub mod RefusalsRead
 pub mod RefusalKinds
 pub mod Rows
 pub mod RowsBraces
+pub mod Resuming
 pub mod RowsDue
 pub mod RowsTests
 pub mod Shortest

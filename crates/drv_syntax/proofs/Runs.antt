@@ -4,7 +4,7 @@ use Rattle.drv_syntax.specs.Bytes.{is_name, is_suffix, is_word}
 use Rattle.drv_syntax.specs.Labels.{Label, word_label}
 use Rattle.drv_syntax.specs.Code.Marks.{byte_labels}
 use Rattle.drv_syntax.specs.Code.States.{Reads, Turns}
-use Rattle.drv_syntax.specs.Code.Steps.{Walk, at_stage, plain_tokens, runs, said, step, step_at, then_walk, walk, with_part, with_plains, with_word}
+use Rattle.drv_syntax.specs.Code.Steps.{Walk, at_stage, pass, plain_tokens, runs, said, step, step_at, then_walk, with_part, with_plains, with_word}
 use Rattle.drv_syntax.specs.Code.Turns.{part}
 use Rattle.drv_syntax.specs.declared.directives.SayKind.{SayKind}
 use Rattle.drv_syntax.specs.declared.fault.SyntaxFault.TheVariants.{Memory}
@@ -36,57 +36,57 @@ walked v = Ok v
 
 -- a place where each byte of a class goes to the word's end, while the word is shorter than this
 module _ (f : ℕ → Bool) (m : ℕ) (place : List ℕ → Walk) (adds : (p : List ℕ) (n b : ℕ) → length p < m → f b ≡ true → step (place p) n b ≡ Ok (place (p ++ b ∷ []))) where
-  word_on : (k : ℕ) (p : List ℕ) (n : ℕ) (text : List ℕ) → k ≤ prefix_len f text → length p + k ≤ m → walk (place p) n text ≡ walk (place (p ++ take k text)) (n + k) (drop k text)
-  word_on zero p n text h l = ap (λ (q : List ℕ). walk (place q) n text) (sym (append-nil p)) ∙ ap (λ (i : ℕ). walk (place (p ++ [])) i text) (omega arith)
+  word_on : (k : ℕ) (p : List ℕ) (n : ℕ) (text : List ℕ) → k ≤ prefix_len f text → length p + k ≤ m → pass (place p) n text ≡ pass (place (p ++ take k text)) (n + k) (drop k text)
+  word_on zero p n text h l = ap (λ (q : List ℕ). pass (place q) n text) (sym (append-nil p)) ∙ ap (λ (i : ℕ). pass (place (p ++ [])) i text) (omega arith)
   word_on (suc k) p n [] h l = absurd (omega (arith, h))
   word_on (suc k) p n (b ∷ text) h l = by (f b) refl h (λ x y. word_on k (p ++ b ∷ []) (n + 1) text x y)
     where
       by : (t : Bool) → f b ≡ t → suc k ≤ (if t then 1 + prefix_len f text else 0)
-          → (k ≤ prefix_len f text → length (p ++ b ∷ []) + k ≤ m → walk (place (p ++ b ∷ [])) (n + 1) text ≡ walk (place ((p ++ b ∷ []) ++ take k text)) (n + 1 + k) (drop k text))
-          → walk (place p) n (b ∷ text) ≡ walk (place (p ++ b ∷ take k text)) (n + suc k) (drop k text)
+          → (k ≤ prefix_len f text → length (p ++ b ∷ []) + k ≤ m → pass (place (p ++ b ∷ [])) (n + 1) text ≡ pass (place ((p ++ b ∷ []) ++ take k text)) (n + 1 + k) (drop k text))
+          → pass (place p) n (b ∷ text) ≡ pass (place (p ++ b ∷ take k text)) (n + suc k) (drop k text)
       by false e g ih = absurd (omega (arith, g))
       by true e g ih =
-          ap (λ (r : Result Walk SyntaxFault). then_walk r (λ x. walk x (n + 1) text)) (adds p n b (omega (arith, l)) e)
+          ap (λ (r : Result Walk SyntaxFault). then_walk r (λ x. pass x (n + 1) text)) (adds p n b (omega (arith, l)) e)
           ∙ ih (omega (arith, g)) (omega (arith, l, length-append p (b ∷ [])))
-          ∙ ap (λ (q : List ℕ). walk (place q) (n + 1 + k) (drop k text)) (append_assoc p (b ∷ []) (take k text))
-          ∙ ap (λ (i : ℕ). walk (place (p ++ b ∷ take k text)) i (drop k text)) (omega arith)
+          ∙ ap (λ (q : List ℕ). pass (place q) (n + 1 + k) (drop k text)) (append_assoc p (b ∷ []) (take k text))
+          ∙ ap (λ (i : ℕ). pass (place (p ++ b ∷ take k text)) i (drop k text)) (omega arith)
 
 -- the same of a state at that place
 module _ (v : Walk) (stage : Stage) (here : v.stage ≡ stage) (f : ℕ → Bool) (m : ℕ)
     (adds : (p : List ℕ) (n b : ℕ) → length p < m → f b ≡ true → step (at_stage stage (with_word p v)) n b ≡ Ok (at_stage stage (with_word (p ++ b ∷ []) v))) where
-  word_take : (k n : ℕ) (text : List ℕ) → k ≤ prefix_len f text → length v.word + k ≤ m → walk v n text ≡ walk (with_word (v.word ++ take k text) v) (n + k) (drop k text)
+  word_take : (k n : ℕ) (text : List ℕ) → k ≤ prefix_len f text → length v.word + k ≤ m → pass v n text ≡ pass (with_word (v.word ++ take k text) v) (n + k) (drop k text)
   word_take k n text h l =
-      ap (λ (s : Stage). walk (at_stage s v) n text) here
+      ap (λ (s : Stage). pass (at_stage s v) n text) here
       ∙ word_on f m (λ p. at_stage stage (with_word p v)) adds k v.word n text h l
-      ∙ ap (λ (s : Stage). walk (at_stage s (with_word (v.word ++ take k text) v)) (n + k) (drop k text)) (sym here)
+      ∙ ap (λ (s : Stage). pass (at_stage s (with_word (v.word ++ take k text) v)) (n + k) (drop k text)) (sym here)
 
 -- in the word of a test
 pub word_takes : (v u : Walk) (head : Head) (form : Form) (start : ℕ) (negated : Bool) (k n : ℕ) (text : List ℕ) → v.stage ≡ at.Braces head form (places.TestWord start negated)
-    → k ≡ prefix_len is_word text → walked (with_word (v.word ++ take k text) v) ≡ walked u → walk v n text ≡ walk u (n + k) (drop k text)
+    → k ≡ prefix_len is_word text → walked (with_word (v.word ++ take k text) v) ≡ walked u → pass v n text ≡ pass u (n + k) (drop k text)
 word_takes v u head form start negated k n text h e d =
     word_take v (at.Braces head form (places.TestWord start negated)) h is_word (length v.word + k) (λ p i b l g. rw (other is_word b 92 g refl, g) refl) k n text (omega (arith, e)) (omega arith)
-    ∙ ap (λ (r : Result Walk SyntaxFault). then_walk r (λ x. walk x (n + k) (drop k text))) d
+    ∙ ap (λ (r : Result Walk SyntaxFault). then_walk r (λ x. pass x (n + k) (drop k text))) d
 
 -- in a suffix
 pub suffix_takes : (v u : Walk) (start : ℕ) (kind : TempKind) (k n : ℕ) (text : List ℕ) → v.stage ≡ at.List (stages.SuffixRun start kind)
-    → k ≡ prefix_len is_suffix text → walked (with_word (v.word ++ take k text) v) ≡ walked u → walk v n text ≡ walk u (n + k) (drop k text)
+    → k ≡ prefix_len is_suffix text → walked (with_word (v.word ++ take k text) v) ≡ walked u → pass v n text ≡ pass u (n + k) (drop k text)
 suffix_takes v u start kind k n text h e d =
     word_take v (at.List (stages.SuffixRun start kind)) h is_suffix (length v.word + k) (λ p i b l g. rw g refl) k n text (omega (arith, e)) (omega arith)
-    ∙ ap (λ (r : Result Walk SyntaxFault). then_walk r (λ x. walk x (n + k) (drop k text))) d
+    ∙ ap (λ (r : Result Walk SyntaxFault). then_walk r (λ x. pass x (n + k) (drop k text))) d
 
 -- in the name of a text
 pub name_takes : (v u : Walk) (start k n : ℕ) (text : List ℕ) → v.stage ≡ at.List (stages.NameText start)
-    → k ≡ prefix_len is_name text → length v.word + k ≤ 255 → walked (with_word (v.word ++ take k text) v) ≡ walked u → walk v n text ≡ walk u (n + k) (drop k text)
+    → k ≡ prefix_len is_name text → length v.word + k ≤ 255 → walked (with_word (v.word ++ take k text) v) ≡ walked u → pass v n text ≡ pass u (n + k) (drop k text)
 name_takes v u start k n text h e l d =
     word_take v (at.List (stages.NameText start)) h is_name 255 (λ p i b m g. rw (g, within (length p + 1) 255 (omega (arith, m))) refl) k n text (omega (arith, e)) l
-    ∙ ap (λ (r : Result Walk SyntaxFault). then_walk r (λ x. walk x (n + k) (drop k text))) d
+    ∙ ap (λ (r : Result Walk SyntaxFault). then_walk r (λ x. pass x (n + k) (drop k text))) d
 
 -- in the word of %<
 pub hide_takes : (v u : Walk) (start k n : ℕ) (text : List ℕ) → v.stage ≡ at.List (stages.HideWord start)
-    → k ≡ prefix_len is_word text → walked (with_word (v.word ++ take k text) v) ≡ walked u → walk v n text ≡ walk u (n + k) (drop k text)
+    → k ≡ prefix_len is_word text → walked (with_word (v.word ++ take k text) v) ≡ walked u → pass v n text ≡ pass u (n + k) (drop k text)
 hide_takes v u start k n text h e d =
     word_take v (at.List (stages.HideWord start)) h is_word (length v.word + k) (λ p i b l g. rw (other is_word b 92 g refl, g) refl) k n text (omega (arith, e)) (omega arith)
-    ∙ ap (λ (r : Result Walk SyntaxFault). then_walk r (λ x. walk x (n + k) (drop k text))) d
+    ∙ ap (λ (r : Result Walk SyntaxFault). then_walk r (λ x. pass x (n + k) (drop k text))) d
 
 -- in a text for the user
 said_step : (kind : ListKind) (saying : SayKind) (start : ℕ) (v : Walk) (p : List ℕ) (n b : ℕ) → v.context.kind ≡ kind → said kind b ≡ true
@@ -97,10 +97,10 @@ said_step lists.InX saying start v p n b k g =
 said_step lists.InArguments saying start v p n b k g = rw (k, other (said lists.InArguments) b 92 g refl, other (said lists.InArguments) b 10 g refl) refl
 
 pub said_takes : (v u : Walk) (start : ℕ) (saying : SayKind) (k n : ℕ) (text : List ℕ) → v.stage ≡ at.List (stages.SayingText start saying)
-    → k ≡ prefix_len (said v.context.kind) text → walked (with_word (v.word ++ take k text) v) ≡ walked u → walk v n text ≡ walk u (n + k) (drop k text)
+    → k ≡ prefix_len (said v.context.kind) text → walked (with_word (v.word ++ take k text) v) ≡ walked u → pass v n text ≡ pass u (n + k) (drop k text)
 said_takes v u start saying k n text h e d =
     word_take v (at.List (stages.SayingText start saying)) h (said v.context.kind) (length v.word + k) (λ p i b l g. said_step v.context.kind saying start v p i b refl g) k n text (omega (arith, e)) (omega arith)
-    ∙ ap (λ (r : Result Walk SyntaxFault). then_walk r (λ x. walk x (n + k) (drop k text))) d
+    ∙ ap (λ (r : Result Walk SyntaxFault). then_walk r (λ x. pass x (n + k) (drop k text))) d
 
 -- a byte that stands for itself
 run_step : (kind : ListKind) (n b : ℕ) (v : Walk) → v.stage ≡ at.List stages.Start → v.context.kind ≡ kind → runs kind b ≡ true
@@ -119,12 +119,12 @@ module _ (c : Context) (waiting : List Frame) (holds : Bool) where
       record { stage = at.List stages.Start; context = c; waiting = waiting; tokens = tokens; labels = labels; word = []; kept = kept; trailing = 0; holds_star = holds }
 
   plains_on : (k : ℕ) (tokens : List Token) (labels : List Label) (n : ℕ) (text : List ℕ) → k ≤ prefix_len (runs c.kind) text
-      → walk (behind_plain tokens labels n) n text
-      ≡ walk (behind_plain (tokens ++ plain_tokens n (length tokens + 1) (take k text)) (labels ++ byte_labels (take k text)) (n + k)) (n + k) (drop k text)
+      → pass (behind_plain tokens labels n) n text
+      ≡ pass (behind_plain (tokens ++ plain_tokens n (length tokens + 1) (take k text)) (labels ++ byte_labels (take k text)) (n + k)) (n + k) (drop k text)
   plains_on zero tokens labels n text h =
-      ap (λ (ts : List Token). walk (behind_plain ts labels n) n text) (sym (append-nil tokens))
-      ∙ ap (λ (ls : List Label). walk (behind_plain (tokens ++ []) ls n) n text) (sym (append-nil labels))
-      ∙ ap (λ (i : ℕ). walk (behind_plain (tokens ++ []) (labels ++ []) i) i text) (omega arith)
+      ap (λ (ts : List Token). pass (behind_plain ts labels n) n text) (sym (append-nil tokens))
+      ∙ ap (λ (ls : List Label). pass (behind_plain (tokens ++ []) ls n) n text) (sym (append-nil labels))
+      ∙ ap (λ (i : ℕ). pass (behind_plain (tokens ++ []) (labels ++ []) i) i text) (omega arith)
   plains_on (suc k) tokens labels n [] h = absurd (omega (arith, h))
   plains_on (suc k) tokens labels n (b ∷ text) h = by (runs c.kind b) refl h (λ x. plains_on k (tokens ++ token ∷ []) (labels ++ word_label (b ∷ []) ∷ []) (n + 1) text x)
     where
@@ -132,18 +132,18 @@ module _ (c : Context) (waiting : List Frame) (holds : Bool) where
       token = record { kind = kinds.Plain; start = n; end = n + 1; next = length tokens + 1 }
 
       by : (t : Bool) → runs c.kind b ≡ t → suc k ≤ (if t then 1 + prefix_len (runs c.kind) text else 0)
-          → (k ≤ prefix_len (runs c.kind) text → walk (behind_plain (tokens ++ token ∷ []) (labels ++ word_label (b ∷ []) ∷ []) (n + 1)) (n + 1) text
-          ≡ walk (behind_plain ((tokens ++ token ∷ []) ++ plain_tokens (n + 1) (length (tokens ++ token ∷ []) + 1) (take k text)) ((labels ++ word_label (b ∷ []) ∷ []) ++ byte_labels (take k text)) (n + 1 + k)) (n + 1 + k) (drop k text))
-          → walk (behind_plain tokens labels n) n (b ∷ text)
-          ≡ walk (behind_plain (tokens ++ token ∷ plain_tokens (n + 1) (length tokens + 1 + 1) (take k text)) (labels ++ word_label (b ∷ []) ∷ byte_labels (take k text)) (n + suc k)) (n + suc k) (drop k text)
+          → (k ≤ prefix_len (runs c.kind) text → pass (behind_plain (tokens ++ token ∷ []) (labels ++ word_label (b ∷ []) ∷ []) (n + 1)) (n + 1) text
+          ≡ pass (behind_plain ((tokens ++ token ∷ []) ++ plain_tokens (n + 1) (length (tokens ++ token ∷ []) + 1) (take k text)) ((labels ++ word_label (b ∷ []) ∷ []) ++ byte_labels (take k text)) (n + 1 + k)) (n + 1 + k) (drop k text))
+          → pass (behind_plain tokens labels n) n (b ∷ text)
+          ≡ pass (behind_plain (tokens ++ token ∷ plain_tokens (n + 1) (length tokens + 1 + 1) (take k text)) (labels ++ word_label (b ∷ []) ∷ byte_labels (take k text)) (n + suc k)) (n + suc k) (drop k text)
       by false e g ih = absurd (omega (arith, g))
       by true e g ih =
-          ap (λ (r : Result Walk SyntaxFault). then_walk r (λ x. walk x (n + 1) text)) (run_step c.kind n b (behind_plain tokens labels n) refl refl e)
+          ap (λ (r : Result Walk SyntaxFault). then_walk r (λ x. pass x (n + 1) text)) (run_step c.kind n b (behind_plain tokens labels n) refl refl e)
           ∙ ih (omega (arith, g))
-          ∙ ap (λ (m : ℕ). walk (behind_plain ((tokens ++ token ∷ []) ++ plain_tokens (n + 1) (m + 1) (take k text)) ((labels ++ word_label (b ∷ []) ∷ []) ++ byte_labels (take k text)) (n + 1 + k)) (n + 1 + k) (drop k text)) (length-append tokens (token ∷ []))
-          ∙ ap (λ (ts : List Token). walk (behind_plain ts ((labels ++ word_label (b ∷ []) ∷ []) ++ byte_labels (take k text)) (n + 1 + k)) (n + 1 + k) (drop k text)) (append_assoc tokens (token ∷ []) (plain_tokens (n + 1) (length tokens + 1 + 1) (take k text)))
-          ∙ ap (λ (ls : List Label). walk (behind_plain (tokens ++ token ∷ plain_tokens (n + 1) (length tokens + 1 + 1) (take k text)) ls (n + 1 + k)) (n + 1 + k) (drop k text)) (append_assoc labels (word_label (b ∷ []) ∷ []) (byte_labels (take k text)))
-          ∙ ap (λ (i : ℕ). walk (behind_plain (tokens ++ token ∷ plain_tokens (n + 1) (length tokens + 1 + 1) (take k text)) (labels ++ word_label (b ∷ []) ∷ byte_labels (take k text)) i) i (drop k text)) (omega arith)
+          ∙ ap (λ (m : ℕ). pass (behind_plain ((tokens ++ token ∷ []) ++ plain_tokens (n + 1) (m + 1) (take k text)) ((labels ++ word_label (b ∷ []) ∷ []) ++ byte_labels (take k text)) (n + 1 + k)) (n + 1 + k) (drop k text)) (length-append tokens (token ∷ []))
+          ∙ ap (λ (ts : List Token). pass (behind_plain ts ((labels ++ word_label (b ∷ []) ∷ []) ++ byte_labels (take k text)) (n + 1 + k)) (n + 1 + k) (drop k text)) (append_assoc tokens (token ∷ []) (plain_tokens (n + 1) (length tokens + 1 + 1) (take k text)))
+          ∙ ap (λ (ls : List Label). pass (behind_plain (tokens ++ token ∷ plain_tokens (n + 1) (length tokens + 1 + 1) (take k text)) ls (n + 1 + k)) (n + 1 + k) (drop k text)) (append_assoc labels (word_label (b ∷ []) ∷ []) (byte_labels (take k text)))
+          ∙ ap (λ (i : ℕ). pass (behind_plain (tokens ++ token ∷ plain_tokens (n + 1) (length tokens + 1 + 1) (take k text)) (labels ++ word_label (b ∷ []) ∷ byte_labels (take k text)) i) i (drop k text)) (omega arith)
 
 -- their tokens, one after another
 pub tokens_step : (old new all : List Token) (n next i : ℕ) (run : List ℕ) → i < length run → new ≡ old ++ record { kind = kinds.Plain; start = n; end = n + 1; next = next + 1 } ∷ []
@@ -156,7 +156,7 @@ tokens_step old new all n next i run h e f =
 
 -- where an item begins
 pub plains_take : (v u : Walk) (k n : ℕ) (text run : List ℕ) → v.stage ≡ at.List stages.Start → k ≡ prefix_len (runs v.context.kind) text → 0 < k → run ≡ take k text → k ≤ length text
-    → walked (with_plains n run v) ≡ walked u → walk v n text ≡ walk u (n + k) (drop k text)
+    → walked (with_plains n run v) ≡ walked u → pass v n text ≡ pass u (n + k) (drop k text)
 plains_take v u zero n text run h e positive f w d = absurd (omega (arith, positive))
 plains_take v u (suc k) n [] run h e positive f w d = absurd (omega (arith, w))
 plains_take v u (suc k) n (b ∷ text) run h e positive f w d = by (runs v.context.kind b) refl e
@@ -164,43 +164,43 @@ plains_take v u (suc k) n (b ∷ text) run h e positive f w d = by (runs v.conte
     token : Token
     token = record { kind = kinds.Plain; start = n; end = n + 1; next = length v.tokens + 1 }
 
-    whole : walk (with_plains n (b ∷ take k text) v) (n + suc k) (drop k text) ≡ walk u (n + suc k) (drop k text)
-    whole = ap (λ (r : List ℕ). walk (with_plains n r v) (n + suc k) (drop k text)) (sym f) ∙ ap (λ (r : Result Walk SyntaxFault). then_walk r (λ x. walk x (n + suc k) (drop k text))) d
+    whole : pass (with_plains n (b ∷ take k text) v) (n + suc k) (drop k text) ≡ pass u (n + suc k) (drop k text)
+    whole = ap (λ (r : List ℕ). pass (with_plains n r v) (n + suc k) (drop k text)) (sym f) ∙ ap (λ (r : Result Walk SyntaxFault). then_walk r (λ x. pass x (n + suc k) (drop k text))) d
 
-    by : (t : Bool) → runs v.context.kind b ≡ t → suc k ≡ (if t then 1 + prefix_len (runs v.context.kind) text else 0) → walk v n (b ∷ text) ≡ walk u (n + suc k) (drop k text)
+    by : (t : Bool) → runs v.context.kind b ≡ t → suc k ≡ (if t then 1 + prefix_len (runs v.context.kind) text else 0) → pass v n (b ∷ text) ≡ pass u (n + suc k) (drop k text)
     by false g e = absurd (omega (arith, e))
     by true g e =
-        ap (λ (r : Result Walk SyntaxFault). then_walk r (λ x. walk x (n + 1) text)) (run_step v.context.kind n b v h refl g)
+        ap (λ (r : Result Walk SyntaxFault). then_walk r (λ x. pass x (n + 1) text)) (run_step v.context.kind n b v h refl g)
         ∙ plains_on v.context v.waiting v.holds_star k (v.tokens ++ token ∷ []) (v.labels ++ word_label (b ∷ []) ∷ []) (n + 1) text (omega (arith, e))
-        ∙ ap (λ (m : ℕ). walk (behind_plain v.context v.waiting v.holds_star ((v.tokens ++ token ∷ []) ++ plain_tokens (n + 1) (m + 1) (take k text)) ((v.labels ++ word_label (b ∷ []) ∷ []) ++ byte_labels (take k text)) (n + 1 + k)) (n + 1 + k) (drop k text)) (length-append v.tokens (token ∷ []))
-        ∙ ap (λ (ts : List Token). walk (behind_plain v.context v.waiting v.holds_star ts ((v.labels ++ word_label (b ∷ []) ∷ []) ++ byte_labels (take k text)) (n + 1 + k)) (n + 1 + k) (drop k text)) (append_assoc v.tokens (token ∷ []) (plain_tokens (n + 1) (length v.tokens + 1 + 1) (take k text)))
-        ∙ ap (λ (ls : List Label). walk (behind_plain v.context v.waiting v.holds_star (v.tokens ++ token ∷ plain_tokens (n + 1) (length v.tokens + 1 + 1) (take k text)) ls (n + 1 + k)) (n + 1 + k) (drop k text)) (append_assoc v.labels (word_label (b ∷ []) ∷ []) (byte_labels (take k text)))
-        ∙ ap (λ (i : ℕ). walk (behind_plain v.context v.waiting v.holds_star (v.tokens ++ token ∷ plain_tokens (n + 1) (length v.tokens + 1 + 1) (take k text)) (v.labels ++ word_label (b ∷ []) ∷ byte_labels (take k text)) i) (n + 1 + k) (drop k text)) kept
-        ∙ ap (λ (i : ℕ). walk (with_plains n (b ∷ take k text) v) i (drop k text)) (omega arith)
+        ∙ ap (λ (m : ℕ). pass (behind_plain v.context v.waiting v.holds_star ((v.tokens ++ token ∷ []) ++ plain_tokens (n + 1) (m + 1) (take k text)) ((v.labels ++ word_label (b ∷ []) ∷ []) ++ byte_labels (take k text)) (n + 1 + k)) (n + 1 + k) (drop k text)) (length-append v.tokens (token ∷ []))
+        ∙ ap (λ (ts : List Token). pass (behind_plain v.context v.waiting v.holds_star ts ((v.labels ++ word_label (b ∷ []) ∷ []) ++ byte_labels (take k text)) (n + 1 + k)) (n + 1 + k) (drop k text)) (append_assoc v.tokens (token ∷ []) (plain_tokens (n + 1) (length v.tokens + 1 + 1) (take k text)))
+        ∙ ap (λ (ls : List Label). pass (behind_plain v.context v.waiting v.holds_star (v.tokens ++ token ∷ plain_tokens (n + 1) (length v.tokens + 1 + 1) (take k text)) ls (n + 1 + k)) (n + 1 + k) (drop k text)) (append_assoc v.labels (word_label (b ∷ []) ∷ []) (byte_labels (take k text)))
+        ∙ ap (λ (i : ℕ). pass (behind_plain v.context v.waiting v.holds_star (v.tokens ++ token ∷ plain_tokens (n + 1) (length v.tokens + 1 + 1) (take k text)) (v.labels ++ word_label (b ∷ []) ∷ byte_labels (take k text)) i) (n + 1 + k) (drop k text)) kept
+        ∙ ap (λ (i : ℕ). pass (with_plains n (b ∷ take k text) v) i (drop k text)) (omega arith)
         ∙ whole
       where
         kept : n + 1 + k ≡ n + length (b ∷ take k text)
         kept = omega (arith, length-take-le k text (omega (arith, w)))
 
 -- a refusal
-pub reads_fault : (v u : Walk) (n : ℕ) (text : List ℕ) (r : Result ℕ SyntaxFault) (fault : SyntaxFault) → IsErrAnd r (λ e. e ≡ fault) → (fault ≡ Memory) ⊎ (walk v n text ≡ Err fault) → Reads n text v u r
+pub reads_fault : (v u : Walk) (n : ℕ) (text : List ℕ) (r : Result ℕ SyntaxFault) (fault : SyntaxFault) → IsErrAnd r (λ e. e ≡ fault) → (fault ≡ Memory) ⊎ (pass v n text ≡ Err fault) → Reads n text v u r
 reads_fault v u n text (Ok taken) fault is h = absurd is
-reads_fault v u n text (Err e) fault is h = subst (λ (x : SyntaxFault). (x ≡ Memory) ⊎ (walk v n text ≡ Err x)) (sym is) h
+reads_fault v u n text (Err e) fault is h = subst (λ (x : SyntaxFault). (x ≡ Memory) ⊎ (pass v n text ≡ Err x)) (sym is) h
 
 -- a run, and the byte behind it
-module _ (v m : Walk) (n k b : ℕ) (text : List ℕ) (within : k < length text) (is : b ≡ get_or text k 0) (run : walk v n text ≡ walk m (n + k) (drop k text)) where
-  run_on : walk v n text ≡ walk m (n + k) (b ∷ drop (k + 1) text)
-  run_on = run ∙ ap (λ (t : List ℕ). walk m (n + k) t) (drop_more text k 0 within ∙ ap (λ (x : ℕ). x ∷ drop (k + 1) text) (sym is))
+module _ (v m : Walk) (n k b : ℕ) (text : List ℕ) (within : k < length text) (is : b ≡ get_or text k 0) (run : pass v n text ≡ pass m (n + k) (drop k text)) where
+  run_on : pass v n text ≡ pass m (n + k) (b ∷ drop (k + 1) text)
+  run_on = run ∙ ap (λ (t : List ℕ). pass m (n + k) t) (drop_more text k 0 within ∙ ap (λ (x : ℕ). x ∷ drop (k + 1) text) (sym is))
 
-  pub run_steps : (u : Walk) → step m (n + k) b ≡ Ok u → (k + 1 ≤ length text) × (walk v n text ≡ walk u (n + (k + 1)) (drop (k + 1) text))
+  pub run_steps : (u : Walk) → step m (n + k) b ≡ Ok u → (k + 1 ≤ length text) × (pass v n text ≡ pass u (n + (k + 1)) (drop (k + 1) text))
   run_steps u e = (
     omega (arith, within),
-    run_on ∙ ap (λ (r : Result Walk SyntaxFault). then_walk r (λ x. walk x (n + k + 1) (drop (k + 1) text))) e ∙ ap (λ (i : ℕ). walk u i (drop (k + 1) text)) (omega arith),
+    run_on ∙ ap (λ (r : Result Walk SyntaxFault). then_walk r (λ x. pass x (n + k + 1) (drop (k + 1) text))) e ∙ ap (λ (i : ℕ). pass u i (drop (k + 1) text)) (omega arith),
   )
 
   pub run_fails : (u : Walk) (r : Result ℕ SyntaxFault) (fault : SyntaxFault) → IsErrAnd r (λ e. e ≡ fault) → (fault ≡ Memory) ⊎ (step m (n + k) b ≡ Err fault) → Reads n text v u r
   run_fails u r fault is (inl e) = reads_fault v u n text r fault is (inl e)
-  run_fails u r fault is (inr e) = reads_fault v u n text r fault is (inr (run_on ∙ ap (λ (r : Result Walk SyntaxFault). then_walk r (λ x. walk x (n + k + 1) (drop (k + 1) text))) e))
+  run_fails u r fault is (inr e) = reads_fault v u n text r fault is (inr (run_on ∙ ap (λ (r : Result Walk SyntaxFault). then_walk r (λ x. pass x (n + k + 1) (drop (k + 1) text))) e))
 
 abbrev stage_in : Result Walk SyntaxFault → Stage
 stage_in (Ok w) = w.stage
@@ -218,39 +218,39 @@ fault_there m stage n b fault h (inl e) = inl e
 fault_there m stage n b fault h (inr e) = inr (step_there m stage n b (Err fault) h e)
 
 -- a byte, and those behind it
-pub turn_takes : (v x u : Walk) (n b taken : ℕ) (text : List ℕ) → step v n b ≡ Ok x → walk x (n + 1) text ≡ walk u (n + 1 + taken) (drop taken text) → walk v n (b ∷ text) ≡ walk u (n + 1 + taken) (drop taken text)
-turn_takes v x u n b taken text h g = ap (λ (r : Result Walk SyntaxFault). then_walk r (λ y. walk y (n + 1) text)) h ∙ g
+pub turn_takes : (v x u : Walk) (n b taken : ℕ) (text : List ℕ) → step v n b ≡ Ok x → pass x (n + 1) text ≡ pass u (n + 1 + taken) (drop taken text) → pass v n (b ∷ text) ≡ pass u (n + 1 + taken) (drop taken text)
+turn_takes v x u n b taken text h g = ap (λ (r : Result Walk SyntaxFault). then_walk r (λ y. pass y (n + 1) text)) h ∙ g
 
 -- a byte that stands for itself, and those behind it that do
 pub run_takes : (v u : Walk) (n b : ℕ) (text behind run : List ℕ) (k : ℕ) → text ≡ b ∷ behind → v.stage ≡ at.List stages.Start → k ≡ prefix_len (runs v.context.kind) text → 0 < k → run ≡ take k text → k ≤ length text
-    → walked (with_plains n run v) ≡ walked u → (k - 1 ≤ length behind) × (walk v n (b ∷ behind) ≡ walk u (n + 1 + (k - 1)) (drop (k - 1) behind))
+    → walked (with_plains n run v) ≡ walked u → (k - 1 ≤ length behind) × (pass v n (b ∷ behind) ≡ pass u (n + 1 + (k - 1)) (drop (k - 1) behind))
 run_takes v u n b text behind run k f h e positive g w d =
     by k positive (omega (arith, w, ap (λ (xs : List ℕ). length xs) f))
-    (ap (λ (t : List ℕ). walk v n t) (sym f) ∙ plains_take v u k n text run h e positive g w d ∙ ap (λ (t : List ℕ). walk u (n + k) (drop k t)) f)
+    (ap (λ (t : List ℕ). pass v n t) (sym f) ∙ plains_take v u k n text run h e positive g w d ∙ ap (λ (t : List ℕ). pass u (n + k) (drop k t)) f)
   where
-    by : (k : ℕ) → 0 < k → k ≤ 1 + length behind → walk v n (b ∷ behind) ≡ walk u (n + k) (drop k (b ∷ behind))
-        → (k - 1 ≤ length behind) × (walk v n (b ∷ behind) ≡ walk u (n + 1 + (k - 1)) (drop (k - 1) behind))
+    by : (k : ℕ) → 0 < k → k ≤ 1 + length behind → pass v n (b ∷ behind) ≡ pass u (n + k) (drop k (b ∷ behind))
+        → (k - 1 ≤ length behind) × (pass v n (b ∷ behind) ≡ pass u (n + 1 + (k - 1)) (drop (k - 1) behind))
     by zero positive l x = absurd (omega (arith, positive))
     by (suc j) positive l x =
         let less : suc j - 1 ≡ j = omega arith in
-        (omega (arith, l), x ∙ ap (λ (i : ℕ). walk u i (drop j behind)) (omega arith) ∙ ap (λ (z : ℕ). walk u (n + 1 + z) (drop z behind)) (sym less))
+        (omega (arith, l), x ∙ ap (λ (i : ℕ). pass u i (drop j behind)) (omega arith) ∙ ap (λ (z : ℕ). pass u (n + 1 + z) (drop z behind)) (sym less))
 
 -- the %, and those behind it
-pub percent_walk : (v : Walk) (n : ℕ) (text : List ℕ) → v.stage ≡ at.List stages.Start → walk v n (37 ∷ text) ≡ walk (at_stage (at.List (stages.Percent n)) v) (n + 1) text
+pub percent_walk : (v : Walk) (n : ℕ) (text : List ℕ) → v.stage ≡ at.List stages.Start → pass v n (37 ∷ text) ≡ pass (at_stage (at.List (stages.Percent n)) v) (n + 1) text
 percent_walk v n text h = rw h refl
 
 pub percent_takes : (v u : Walk) (n taken : ℕ) (behind : List ℕ) → v.stage ≡ at.List stages.Start → 1 ≤ length behind
     → Turns (n + 1) (get_or behind 0 0) (take (length behind - 1) (drop 1 behind)) (at_stage (at.List (stages.Percent n)) v) u (Ok taken)
-    → (taken + 1 ≤ length behind) × (walk v n (37 ∷ behind) ≡ walk u (n + 1 + (taken + 1)) (drop (taken + 1) behind))
+    → (taken + 1 ≤ length behind) × (pass v n (37 ∷ behind) ≡ pass u (n + 1 + (taken + 1)) (drop (taken + 1) behind))
 percent_takes v u n taken [] h some e = absurd (omega (arith, some))
 percent_takes v u n taken (b ∷ inside) h some e = (
   omega (arith, e.0, ap (λ (xs : List ℕ). length xs) whole),
   percent_walk v n (b ∷ inside) h
-      ∙ ap (λ (xs : List ℕ). walk (at_stage (at.List (stages.Percent n)) v) (n + 1) (b ∷ xs)) (sym whole)
+      ∙ ap (λ (xs : List ℕ). pass (at_stage (at.List (stages.Percent n)) v) (n + 1) (b ∷ xs)) (sym whole)
       ∙ e.1
-      ∙ ap (λ (xs : List ℕ). walk u (n + 1 + 1 + taken) (drop taken xs)) whole
-      ∙ ap (λ (i : ℕ). walk u i (drop taken inside)) (omega arith)
-      ∙ ap (λ (z : ℕ). walk u (n + 1 + (taken + 1)) (drop z (b ∷ inside))) skip,
+      ∙ ap (λ (xs : List ℕ). pass u (n + 1 + 1 + taken) (drop taken xs)) whole
+      ∙ ap (λ (i : ℕ). pass u i (drop taken inside)) (omega arith)
+      ∙ ap (λ (z : ℕ). pass u (n + 1 + (taken + 1)) (drop z (b ∷ inside))) skip,
 )
   where
     whole : take (length (b ∷ inside) - 1) inside ≡ inside

@@ -2,7 +2,7 @@ use Rattle.drv_syntax.proofs.Leads.{other}
 use Rattle.drv_syntax.proofs.Runs.{reads_fault, walked, word_takes}
 use Rattle.drv_syntax.specs.Bytes.{is_mark, is_word}
 use Rattle.drv_syntax.specs.Code.States.{Reads}
-use Rattle.drv_syntax.specs.Code.Steps.{Walk, at_stage, form_at, step, then_walk, walk, with_word}
+use Rattle.drv_syntax.specs.Code.Steps.{Walk, at_stage, form_at, pass, step, then_walk, with_word}
 use Rattle.drv_syntax.specs.declared.fault.SyntaxFault.TheVariants.{Memory}
 use Rattle.drv_syntax.specs.declared.fault.SyntaxFault.{SyntaxFault}
 use Rattle.drv_syntax.specs.declared.reader.stages.Behind.TheVariants as behinds
@@ -18,46 +18,46 @@ use Rattle.std.specs.Prelude.{◌&&◌, not, IsErrAnd, Result, Err, Ok}
 -- The word of a test, and what ends it.
 
 -- some bytes, and those behind them
-module _ (v m : Walk) (n k : ℕ) (text rest : List ℕ) (within : k ≤ length text) (is : rest ≡ drop k text) (run : walk v n text ≡ walk m (n + k) (drop k text)) where
-  run_rest : walk v n text ≡ walk m (n + k) rest
-  run_rest = run ∙ ap (λ (t : List ℕ). walk m (n + k) t) (sym is)
+module _ (v m : Walk) (n k : ℕ) (text rest : List ℕ) (within : k ≤ length text) (is : rest ≡ drop k text) (run : pass v n text ≡ pass m (n + k) (drop k text)) where
+  run_rest : pass v n text ≡ pass m (n + k) rest
+  run_rest = run ∙ ap (λ (t : List ℕ). pass m (n + k) t) (sym is)
 
-  pub reads_on : (u : Walk) (more : ℕ) → (more ≤ length rest) × (walk m (n + k) rest ≡ walk u (n + k + more) (drop more rest))
-      → (k + more ≤ length text) × (walk v n text ≡ walk u (n + (k + more)) (drop (k + more) text))
+  pub reads_on : (u : Walk) (more : ℕ) → (more ≤ length rest) × (pass m (n + k) rest ≡ pass u (n + k + more) (drop more rest))
+      → (k + more ≤ length text) × (pass v n text ≡ pass u (n + (k + more)) (drop (k + more) text))
   reads_on u more h = (
     omega (arith, h.0, within, ap (λ (t : List ℕ). length t) is, length-drop k text),
     run_rest
         ∙ h.1
-        ∙ ap (λ (t : List ℕ). walk u (n + k + more) (drop more t)) is
-        ∙ ap (λ (t : List ℕ). walk u (n + k + more) t) (drop-drop more k text)
-        ∙ ap (λ (i : ℕ). walk u i (drop (k + more) text)) (omega arith),
+        ∙ ap (λ (t : List ℕ). pass u (n + k + more) (drop more t)) is
+        ∙ ap (λ (t : List ℕ). pass u (n + k + more) t) (drop-drop more k text)
+        ∙ ap (λ (i : ℕ). pass u i (drop (k + more) text)) (omega arith),
   )
 
-  pub reads_fails : (u : Walk) (r : Result ℕ SyntaxFault) (fault : SyntaxFault) → IsErrAnd r (λ e. e ≡ fault) → (fault ≡ Memory) ⊎ (walk m (n + k) rest ≡ Err fault) → Reads n text v u r
+  pub reads_fails : (u : Walk) (r : Result ℕ SyntaxFault) (fault : SyntaxFault) → IsErrAnd r (λ e. e ≡ fault) → (fault ≡ Memory) ⊎ (pass m (n + k) rest ≡ Err fault) → Reads n text v u r
   reads_fails u r fault e (inl h) = reads_fault v u n text r fault e (inl h)
   reads_fails u r fault e (inr h) = reads_fault v u n text r fault e (inr (run_rest ∙ h))
 
 -- the first byte
-pub step_takes : (v u : Walk) (n : ℕ) (text : List ℕ) → 0 < length text → step v n (get_or text 0 0) ≡ Ok u → (1 ≤ length text) × (walk v n text ≡ walk u (n + 1) (drop 1 text))
+pub step_takes : (v u : Walk) (n : ℕ) (text : List ℕ) → 0 < length text → step v n (get_or text 0 0) ≡ Ok u → (1 ≤ length text) × (pass v n text ≡ pass u (n + 1) (drop 1 text))
 step_takes v u n [] h e = absurd (omega (arith, h))
-step_takes v u n (b ∷ text) h e = (omega arith, ap (λ (r : Result Walk SyntaxFault). then_walk r (λ x. walk x (n + 1) text)) e)
+step_takes v u n (b ∷ text) h e = (omega arith, ap (λ (r : Result Walk SyntaxFault). then_walk r (λ x. pass x (n + 1) text)) e)
 
 pub step_fails : (v u : Walk) (n : ℕ) (text : List ℕ) (r : Result ℕ SyntaxFault) (fault : SyntaxFault) → 0 < length text → IsErrAnd r (λ e. e ≡ fault)
     → (fault ≡ Memory) ⊎ (step v n (get_or text 0 0) ≡ Err fault) → Reads n text v u r
 step_fails v u n text r fault l e (inl h) = reads_fault v u n text r fault e (inl h)
 step_fails v u n [] r fault l e (inr h) = absurd (omega (arith, l))
-step_fails v u n (b ∷ text) r fault l e (inr h) = reads_fault v u n (b ∷ text) r fault e (inr (ap (λ (r : Result Walk SyntaxFault). then_walk r (λ x. walk x (n + 1) text)) h))
+step_fails v u n (b ∷ text) r fault l e (inr h) = reads_fault v u n (b ∷ text) r fault e (inr (ap (λ (r : Result Walk SyntaxFault). then_walk r (λ x. pass x (n + 1) text)) h))
 
 -- a star behind the word
 abbrev pub behind_star : Head → Form → ℕ → Bool → ℕ → Walk → Walk
 behind_star head form start negated n v = at_stage (at.Braces head form (places.BehindTest (behinds.Switch start (n + 1) negated true))) v
 
 pub star_takes : (v : Walk) (head : Head) (form : Form) (start : ℕ) (negated : Bool) (n : ℕ) (text : List ℕ) → v.stage ≡ at.Braces head form (places.TestWord start negated) → 0 < length text
-    → get_or text 0 0 ≡ 42 → walk v n text ≡ walk (behind_star head form start negated n v) (n + 1) (drop 1 text)
+    → get_or text 0 0 ≡ 42 → pass v n text ≡ pass (behind_star head form start negated n v) (n + 1) (drop 1 text)
 star_takes v head form start negated n [] h l e = absurd (omega (arith, l))
 star_takes v head form start negated n (b ∷ text) h l e =
-    ap (λ (x : ℕ). walk v n (x ∷ text)) e
-    ∙ ap (λ (r : Result Walk SyntaxFault). then_walk r (λ x. walk x (n + 1) text)) starred
+    ap (λ (x : ℕ). pass v n (x ∷ text)) e
+    ∙ ap (λ (r : Result Walk SyntaxFault). then_walk r (λ x. pass x (n + 1) text)) starred
   where
     starred : step v n 42 ≡ Ok (behind_star head form start negated n v)
     starred = rw h refl
@@ -65,14 +65,14 @@ star_takes v head form start negated n (b ∷ text) h l e =
 -- a word begins
 pub begun_takes : (v u : Walk) (head : Head) (form : Form) (start : ℕ) (negated : Bool) (k n : ℕ) (text : List ℕ) → is_word (get_or text 0 0) ≡ true
     → step v n (get_or text 0 0) ≡ Ok (at_stage (at.Braces head form (places.TestWord start negated)) (with_word (get_or text 0 0 ∷ []) v)) → k ≡ prefix_len is_word text
-    → walked (with_word (take k text) (at_stage (at.Braces head form (places.TestWord start negated)) v)) ≡ walked u → walk v n text ≡ walk u (n + k) (drop k text)
+    → walked (with_word (take k text) (at_stage (at.Braces head form (places.TestWord start negated)) v)) ≡ walked u → pass v n text ≡ pass u (n + k) (drop k text)
 begun_takes v u head form start negated k n [] w b e d = absurd cc
 begun_takes v u head form start negated zero n (x ∷ text) w b e d = absurd (let z : 0 ≡ 1 + prefix_len is_word text = e ∙ rw w refl in omega (arith, z))
 begun_takes v u head form start negated (suc k) n (x ∷ text) w b e d =
-    ap (λ (r : Result Walk SyntaxFault). then_walk r (λ y. walk y (n + 1) text)) b
+    ap (λ (r : Result Walk SyntaxFault). then_walk r (λ y. pass y (n + 1) text)) b
     ∙ word_takes (at_stage (at.Braces head form (places.TestWord start negated)) (with_word (x ∷ []) v)) u head form start negated k (n + 1) text refl
     (let z : suc k ≡ 1 + prefix_len is_word text = e ∙ rw w refl in omega (arith, z)) d
-    ∙ ap (λ (i : ℕ). walk u i (drop k text)) (omega arith)
+    ∙ ap (λ (i : ℕ). pass u i (drop k text)) (omega arith)
 
 abbrev begins : ℕ → Bool
 begins b = is_word b && not (is_mark b)

@@ -3,6 +3,7 @@ pub mod HeadActions
 pub mod ListActions
 pub mod Marks
 pub mod Parts
+pub mod Resuming
 pub mod States
 pub mod Steps
 pub mod Turns

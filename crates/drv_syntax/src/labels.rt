@@ -68,6 +68,16 @@ fn push_marks(start: u32, run: &[u8], marks: &mut Vec<Mark>)
 }
 
 impl Labels {
+    /// None yet, which takes no memory.
+    pub fn new(alloc: Global) -> Labels
+        ensures { result ≡ [] }
+    {
+        Labels {
+            words: Vec::new(alloc),
+            marks: Vec::new(alloc),
+        }
+    }
+
     /// None yet, with room for so many, and for a byte each.
     pub fn with_capacity(alloc: Global, count: usize) -> Result<Labels, SyntaxFault>
         ensures { Gives SyntaxFault.Memory (λ made. made) result (Ok []) }

@@ -4,6 +4,7 @@ mod actions;
 mod acts;
 mod bytes;
 mod edits;
+mod ending;
 mod head_steps;
 mod list_steps;
 mod naming;
@@ -16,4 +17,5 @@ mod test_turns;
 mod turns;
 mod walk;
 
-pub use reading::read_parts;
+pub use ending::Ended;
+pub use reading::{read_behind, read_nothing, read_text};

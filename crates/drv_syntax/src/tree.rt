@@ -6,22 +6,25 @@ ghost use Rattle.drv_syntax.specs.Parsed.{tree_of};
 ghost use Rattle.drv_syntax.specs.Tokens.{tokens_of};
 ghost use Rattle.drv_syntax.specs.Written.{IsTree};
 ghost use Rattle.drv_words.specs.Gives.{Gives};
-ghost use Rattle.std.specs.Prelude.{◌≡◌, ◌<◌, IfOk, length};
+ghost use Rattle.std.specs.Prelude.{◌≡◌, ◌<◌, ◌++◌, [], IfOk, length};
 
 use crate::fault::SyntaxFault;
 use crate::labels::Labels;
 use crate::lent::LentLabels;
-use crate::reader::read_parts;
+use crate::reader::{Ended, read_behind, read_nothing, read_text};
 use crate::token::{TestKind, Token};
 use crate::written::WrittenTree;
 use std::alloc::{AllocError, Global};
 use std::marker::Model;
 
+/// The most bytes of a text.
+const TEXT_LIMIT: usize = 1_048_576;
+
 /// What is kept of a tree.
 #[derive(Drop)]
 enum Parts {
-    /// The list of its parts and what they name, as they were read.
-    Read { tokens: Vec<Token>, labels: Labels },
+    /// What the text came to, as it was read.
+    Read(Ended),
     /// Constants of the code.
     Written(WrittenTree),
 }
@@ -34,16 +37,14 @@ pub struct SpecTree {
 }
 
 impl Model for SpecTree {
-    ghost use Rattle.drv_syntax.specs.Code.Parts.{HasWords, labels_in, tokens_in};
-    ghost use Rattle.drv_syntax.specs.Outcome.{parsed};
-    ghost use Rattle.drv_syntax.specs.Parsed.{listed};
-    ghost use Rattle.std.specs.Prelude.{◌≡◌, List, Ok, ℕ};
+    ghost use Rattle.drv_syntax.specs.Code.Parts.{IsKept};
+    ghost use Rattle.std.specs.Prelude.{List, ℕ};
 
     ghost Value = { List ℕ };
 
     ghost view = { λ t. t.text.items };
 
-    ghost invariant = { λ t. (listed (parsed t.text.items) ≡ Ok (tokens_in t.parts, labels_in t.parts)) × HasWords t.parts };
+    ghost invariant = { λ t. IsKept t.text.items t.parts };
 }
 
 impl SpecTree {
@@ -56,6 +57,17 @@ impl SpecTree {
             text: Vec::from_slice(alloc, tree.text)?,
             parts: Parts::Written(tree),
         })
+    }
+
+    /// The tree of a text without bytes. It takes no memory.
+    #[tactic(auto, using(crate::proofs::Resuming::ended_nothing))]
+    pub fn empty(alloc: Global) -> SpecTree
+        ensures { result ≡ [] }
+    {
+        SpecTree {
+            text: Vec::new(alloc),
+            parts: Parts::Read(read_nothing(alloc)),
+        }
     }
 
     /// The text.
@@ -71,7 +83,7 @@ impl SpecTree {
         ensures { result.now ≡ tokens_of (tree_of self.now) }
     {
         match &self.parts {
-            Parts::Read { tokens, .. } => tokens.as_slice(),
+            Parts::Read(ended) => ended.walk.tokens.as_slice(),
             Parts::Written(tree) => tree.tokens,
         }
     }
@@ -81,7 +93,7 @@ impl SpecTree {
         ensures { result ≡ labels_of (tree_of self.now) }
     {
         let tree = match &self.parts {
-            Parts::Read { labels, .. } => return labels.lent(),
+            Parts::Read(ended) => return ended.walk.labels.lent(),
             Parts::Written(tree) => tree,
         };
         LentLabels::new(tree.words, tree.marks)
@@ -127,21 +139,47 @@ impl SpecTree {
     {
         self.labels().holds_star(place)
     }
+
+    /// The tree of the text with more behind it, or its first fault. What was read of the text isn't read again where an item ends
+    /// with it, or where a blank follows that ends the last one: where it doesn't end in a text for the user.
+    #[tactic(auto, using(crate::proofs::WalkReads::parsed_long, crate::proofs::Resuming::tree_more, crate::proofs::Resuming::fault_more, crate::proofs::Resuming::ended_more, crate::proofs::Resuming::short_kept))]
+    pub fn extended(self, alloc: Global, more: &[u8]) -> Result<SpecTree, SyntaxFault>
+        ensures tree { Gives SyntaxFault.Memory tree_of result (parsed (self ++ more.now)) }
+        ensures text { IfOk result (λ t. t ≡ self ++ more.now) }
+    {
+        let start = self.text().len();
+        if more.len() > TEXT_LIMIT - start {
+            return Err(SyntaxFault::TextTooLong);
+        }
+        let SpecTree { mut text, parts } = self;
+        text.extend_from_slice(more)?;
+        let Parts::Read(ended) = parts else {
+            return parse(alloc, &text);
+        };
+        if !ended.ending.goes_on(more) {
+            return parse(alloc, text.as_slice());
+        }
+        let ended = read_behind(start as u32, more, ended.walk)?;
+        Ok(SpecTree {
+            text,
+            parts: Parts::Read(ended),
+        })
+    }
 }
 
 /// The tree of a text, or its first fault.
-#[tactic(auto, using(crate::proofs::WalkReads::parsed_long, crate::proofs::WalkReads::given_parts, crate::proofs::WalkReads::given_tree, crate::proofs::WalkReads::given_fault))]
+#[tactic(auto, using(crate::proofs::WalkReads::parsed_long, crate::proofs::Resuming::tree_first, crate::proofs::Resuming::fault_first, crate::proofs::Resuming::ended_first))]
 pub fn parse(alloc: Global, text: &[u8]) -> Result<SpecTree, SyntaxFault>
     ensures tree { Gives SyntaxFault.Memory tree_of result (parsed text.now) }
     ensures text { IfOk result (λ t. t ≡ text.now) }
 {
-    if text.len() > 1_048_576 {
+    if text.len() > TEXT_LIMIT {
         return Err(SyntaxFault::TextTooLong);
     }
-    let (tokens, labels) = read_parts(alloc, text)?;
+    let ended = read_text(alloc, text)?;
     let text = Vec::from_slice(alloc, text)?;
     Ok(SpecTree {
         text,
-        parts: Parts::Read { tokens, labels },
+        parts: Parts::Read(ended),
     })
 }

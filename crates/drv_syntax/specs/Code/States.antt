@@ -1,5 +1,5 @@
 use Rattle.drv_syntax.specs.Labels.{Label}
-use Rattle.drv_syntax.specs.Code.Steps.{Walk, walk}
+use Rattle.drv_syntax.specs.Code.Steps.{Walk, pass}
 use Rattle.drv_syntax.specs.declared.fault.SyntaxFault.TheVariants.{Memory}
 use Rattle.drv_syntax.specs.declared.fault.SyntaxFault.{SyntaxFault}
 use Rattle.drv_syntax.specs.declared.token.Token.{Token}
@@ -22,10 +22,10 @@ parts_in (Err fault) = Err fault
 
 -- a turn takes the byte b at the place n and so many of those behind it: what is left comes to the same, or to this fault
 abbrev pub Turns : ℕ → ℕ → List ℕ → Walk → Walk → Result ℕ SyntaxFault → Type 0
-Turns n b behind old new (Ok taken) = (taken ≤ length behind) × (walk old n (b ∷ behind) ≡ walk new (n + 1 + taken) (drop taken behind))
-Turns n b behind old new (Err fault) = (fault ≡ Memory) ⊎ (walk old n (b ∷ behind) ≡ Err fault)
+Turns n b behind old new (Ok taken) = (taken ≤ length behind) × (pass old n (b ∷ behind) ≡ pass new (n + 1 + taken) (drop taken behind))
+Turns n b behind old new (Err fault) = (fault ≡ Memory) ⊎ (pass old n (b ∷ behind) ≡ Err fault)
 
 -- a text is read on from the place n: so many of its first bytes are taken, and what is left comes to the same, or to this fault
 abbrev pub Reads : ℕ → List ℕ → Walk → Walk → Result ℕ SyntaxFault → Type 0
-Reads n text old new (Ok taken) = (taken ≤ length text) × (walk old n text ≡ walk new (n + taken) (drop taken text))
-Reads n text old new (Err fault) = (fault ≡ Memory) ⊎ (walk old n text ≡ Err fault)
+Reads n text old new (Ok taken) = (taken ≤ length text) × (pass old n text ≡ pass new (n + taken) (drop taken text))
+Reads n text old new (Err fault) = (fault ≡ Memory) ⊎ (pass old n text ≡ Err fault)

@@ -438,6 +438,11 @@ abbrev pub then_walk : Result Walk SyntaxFault → (Walk → Result Walk SyntaxF
 then_walk (Ok w) again = again w
 then_walk (Err fault) again = Err fault
 
+-- what bytes make of a state, the first of which has the place n
+abbrev pub pass : Walk → ℕ → List ℕ → Result Walk SyntaxFault
+pass w n [] = Ok w
+pass w n (b ∷ text) = then_walk (step w n b) (λ v. pass v (n + 1) text)
+
 -- what the rest of a text comes to, of which the next byte has the place n
 abbrev pub walk : Walk → ℕ → List ℕ → Result Walk SyntaxFault
 walk w n [] = finish n w

@@ -1,18 +1,19 @@
-//! The tokens of a whole text and their labels, or its fault.
+//! What a whole text comes to, or its fault.
 
 ghost use Rattle.drv_syntax.specs.Code.Steps as steps;
-ghost use Rattle.drv_syntax.specs.Code.States.{parts_in, state};
+ghost use Rattle.drv_syntax.specs.Code.Resuming.{Follows};
+ghost use Rattle.drv_syntax.specs.Code.States.{state};
 ghost use Rattle.drv_words.specs.Gives.{Gives};
-ghost use Rattle.std.specs.Prelude.{◌≡◌, ◌<◌, ◌≤◌, ◌^◌, ◌+◌, length, OnOk, Ok, reverse};
+ghost use Rattle.std.specs.Prelude.{◌≡◌, ◌<◌, ◌≤◌, ◌^◌, ◌+◌, ◌*◌, IfOk, length, OnOk, Ok, reverse};
 
 use crate::fault::SyntaxFault;
 use crate::labels::Labels;
 use crate::reader::actions::{Part, Single, Taken};
 use crate::reader::edits::with_part;
+use crate::reader::ending::{Ended, Ending};
 use crate::reader::stages::{Context, Frame, ListKind, ListStage, Stage, StarOwner};
 use crate::reader::turns::turn;
 use crate::reader::walk::Walk;
-use crate::token::Token;
 use std::alloc::Global;
 
 fn end_part(
@@ -24,7 +25,9 @@ fn end_part(
 ) -> Result<(), SyntaxFault>
     requires room { length w.old.tokens.items < 2 ^ 30 }
     requires trail { w.old.trailing < 2 ^ 30 }
-    ensures { Gives SyntaxFault.Memory (λ _. state w.new) result (steps.end_part single taken start end (state w.old)) }
+    ensures does { Gives SyntaxFault.Memory (λ _. state w.new) result (steps.end_part single taken start end (state w.old)) }
+    ensures size { OnOk result (length w.new.tokens.items ≤ length w.old.tokens.items + 1) }
+    ensures trail { OnOk result (w.new.trailing ≤ w.old.trailing + 1) }
 {
     with_part(
         Part {
@@ -46,7 +49,9 @@ fn unclosed(at: u32) -> Result<(), SyntaxFault>
 fn finish_list(stage: ListStage, n: u32, w: &mut Walk) -> Result<(), SyntaxFault>
     requires room { length w.old.tokens.items < 2 ^ 30 }
     requires trail { w.old.trailing < 2 ^ 30 }
-    ensures { Gives SyntaxFault.Memory (λ _. state w.new) result (steps.finish_list stage n (state w.old)) }
+    ensures does { Gives SyntaxFault.Memory (λ _. state w.new) result (steps.finish_list stage n (state w.old)) }
+    ensures size { OnOk result (length w.new.tokens.items ≤ length w.old.tokens.items + 1) }
+    ensures trail { OnOk result (w.new.trailing ≤ w.old.trailing + 1) }
 {
     match stage {
         ListStage::Start => Ok(()),
@@ -96,7 +101,9 @@ fn place_of(frame: Frame) -> u32
 fn finish(n: u32, w: &mut Walk) -> Result<(), SyntaxFault>
     requires room { length w.old.tokens.items < 2 ^ 30 }
     requires trail { w.old.trailing < 2 ^ 30 }
-    ensures { Gives SyntaxFault.Memory (λ _. state w.new) result (steps.finish n (state w.old)) }
+    ensures does { Gives SyntaxFault.Memory (λ _. state w.new) result (steps.finish n (state w.old)) }
+    ensures size { OnOk result (length w.new.tokens.items ≤ length w.old.tokens.items + 1) }
+    ensures trail { OnOk result (w.new.trailing ≤ w.old.trailing + 1) }
 {
     if !w.waiting.is_empty() {
         return unclosed(place_of(w.waiting[0]));
@@ -108,12 +115,11 @@ fn finish(n: u32, w: &mut Walk) -> Result<(), SyntaxFault>
     }
 }
 
-/// Where a text begins, with room for the parts of a short one.
-fn started(alloc: Global, size: usize) -> Result<Walk, SyntaxFault>
-    ensures { Gives SyntaxFault.Memory state result (Ok steps.started) }
+/// Where a text begins, which takes no memory.
+fn begun(alloc: Global) -> Walk
+    ensures { state result ≡ steps.started }
 {
-    let count = if size < 4096 { size } else { 4096 };
-    Ok(Walk {
+    Walk {
         stage: Stage::List(ListStage::Start),
         context: Context {
             kind: ListKind::Top,
@@ -122,38 +128,95 @@ fn started(alloc: Global, size: usize) -> Result<Walk, SyntaxFault>
             levels: 64,
         },
         waiting: Vec::new(alloc),
-        tokens: Vec::with_capacity(alloc, count)?,
-        labels: Labels::with_capacity(alloc, count)?,
+        tokens: Vec::new(alloc),
+        labels: Labels::new(alloc),
         word: Vec::new(alloc),
         kept: 0,
         trailing: 0,
         holds_star: false,
-    })
+    }
 }
 
-/// What a whole text makes of the state in which it begins.
-fn read(text: &[u8], w: &mut Walk) -> Result<(), SyntaxFault>
-    requires short { length text.now ≤ 1048576 }
-    requires none { length w.old.tokens.items ≡ 0 }
-    requires bare { w.old.trailing ≡ 0 }
-    ensures { Gives SyntaxFault.Memory (λ _. state w.new) result (steps.walk (state w.old) 0 text.now) }
+/// Where a text begins, with room for the parts of a short one.
+fn started(alloc: Global, size: usize) -> Result<Walk, SyntaxFault>
+    ensures { Gives SyntaxFault.Memory state result (Ok steps.started) }
 {
-    let mut n = 0;
+    let count = if size < 4096 { size } else { 4096 };
+    let mut walk = begun(alloc);
+    walk.tokens = Vec::with_capacity(alloc, count)?;
+    walk.labels = Labels::with_capacity(alloc, count)?;
+    Ok(walk)
+}
+
+/// What the bytes of a text make of a state, the first of which has this place.
+fn read(start: u32, text: &[u8], w: &mut Walk) -> Result<(), SyntaxFault>
+    requires short { start + length text.now ≤ 1048576 }
+    requires room { length w.old.tokens.items ≤ 5 * start + 1 }
+    requires trail { w.old.trailing ≤ 5 * start + 1 }
+    ensures does { Gives SyntaxFault.Memory (λ _. state w.new) result (steps.pass (state w.old) start text.now) }
+    ensures size { OnOk result (length w.new.tokens.items ≤ length w.old.tokens.items + 4 * length text.now) }
+    ensures trail { OnOk result (w.new.trailing ≤ w.old.trailing + 4 * length text.now) }
+{
+    let mut n = start;
     let mut left = text;
     while let [b, behind @ ..] = left {
         let taken = turn(n, *b, left, behind, w)?;
         left = &behind[taken..];
         n += 1 + taken as u32;
     }
-    finish(text.len() as u32, w)
+    Ok(())
 }
 
-/// The tokens of a text, and their labels.
-pub fn read_parts(alloc: Global, text: &[u8]) -> Result<(Vec<Token>, Labels), SyntaxFault>
-    requires { length text.now ≤ 1048576 }
-    ensures { Gives SyntaxFault.Memory (λ v. (v.0.items, v.1)) result (parts_in (steps.walk steps.started 0 text.now)) }
+/// The same, and the end of the text behind them: how it ends.
+#[tactic(auto, using(crate::proofs::Resuming::walked_to, crate::proofs::Resuming::walk_fails, crate::proofs::Resuming::followed))]
+fn read_to_end(start: u32, text: &[u8], w: &mut Walk) -> Result<Ending, SyntaxFault>
+    requires short { start + length text.now ≤ 1048576 }
+    requires room { length w.old.tokens.items ≤ 5 * start + 1 }
+    requires trail { w.old.trailing ≤ 5 * start + 1 }
+    ensures does { Gives SyntaxFault.Memory (λ _. state w.new) result (steps.walk (state w.old) start text.now) }
+    ensures resumes { IfOk result (λ ending. Follows ending (state w.old) start text.now (state w.new)) }
+    ensures size { OnOk result (length w.new.tokens.items ≤ length w.old.tokens.items + 4 * length text.now + 1) }
+    ensures trail { OnOk result (w.new.trailing ≤ w.old.trailing + 4 * length text.now + 1) }
 {
-    let mut w = started(alloc, text.len())?;
-    read(text, &mut w)?;
-    Ok((w.tokens, w.labels))
+    read(start, text, w)?;
+    let ending = Ending::at(w.stage);
+    finish(start + text.len() as u32, w)?;
+    Ok(ending)
+}
+
+/// What a text comes to, the first bytes of which have come to this state, so many: by the rest of it.
+pub fn read_behind(start: u32, more: &[u8], walk: Walk) -> Result<Ended, SyntaxFault>
+    requires short { start + length more.now ≤ 1048576 }
+    requires room { length walk.tokens.items ≤ 5 * start + 1 }
+    requires trail { walk.trailing ≤ 5 * start + 1 }
+    ensures does { Gives SyntaxFault.Memory (λ e. state e.walk) result (steps.walk (state walk) start more.now) }
+    ensures resumes { IfOk result (λ e. Follows e.ending (state walk) start more.now (state e.walk)) }
+    ensures size { IfOk result (λ e. length e.walk.tokens.items ≤ length walk.tokens.items + 4 * length more.now + 1) }
+    ensures trail { IfOk result (λ e. e.walk.trailing ≤ walk.trailing + 4 * length more.now + 1) }
+{
+    let mut walk = walk;
+    let ending = read_to_end(start, more, &mut walk)?;
+    Ok(Ended { walk, ending })
+}
+
+/// What a text comes to.
+pub fn read_text(alloc: Global, text: &[u8]) -> Result<Ended, SyntaxFault>
+    requires { length text.now ≤ 1048576 }
+    ensures does { Gives SyntaxFault.Memory (λ e. state e.walk) result (steps.walk steps.started 0 text.now) }
+    ensures resumes { IfOk result (λ e. Follows e.ending steps.started 0 text.now (state e.walk)) }
+    ensures size { IfOk result (λ e. length e.walk.tokens.items ≤ 4 * length text.now + 1) }
+    ensures trail { IfOk result (λ e. e.walk.trailing ≤ 4 * length text.now + 1) }
+{
+    read_behind(0, text, started(alloc, text.len())?)
+}
+
+/// What a text without bytes comes to. It takes no memory.
+pub fn read_nothing(alloc: Global) -> Ended
+    ensures begun { state result.walk ≡ steps.started }
+    ensures ending { result.ending ≡ Ending.Item }
+{
+    Ended {
+        walk: begun(alloc),
+        ending: Ending::Item,
+    }
 }

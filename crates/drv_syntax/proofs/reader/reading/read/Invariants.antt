@@ -6,10 +6,10 @@ use Rattle.drv_syntax.proofs.reader.reading.read.Given as goal
 abbrev pub invariant-loop-left : goal.invariant-loop-left
 invariant-loop-left l =
     record {
-      same : steps.walk (state l.w) l.n l.left ≡ steps.walk (state l.fn.w) 0 l.text;
-      place : l.n + length l.left ≡ length l.text;
-      room : length l.w.tokens.items ≤ 4 * l.n;
-      trail : l.w.trailing ≤ 4 * l.n;
+      same : steps.pass (state l.w) l.n l.left ≡ steps.pass (state l.fn.w) l.start l.text;
+      place : l.n + length l.left ≡ l.start + length l.text;
+      room : length l.w.tokens.items + 4 * l.start ≤ length l.fn.w.tokens.items + 4 * l.n;
+      trail : l.w.trailing + 4 * l.start ≤ l.fn.w.trailing + 4 * l.n;
     }
 
 abbrev pub decreases-loop-left : goal.decreases-loop-left

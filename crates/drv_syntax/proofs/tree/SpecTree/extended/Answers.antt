@@ -1,0 +1,15 @@
+use Rattle.drv_syntax.proofs.Resuming.{ended_there, read_of, refused_more}
+use Rattle.drv_syntax.proofs.tree.SpecTree.extended.Goals as goal
+use Rattle.std.proofs.Common.{ap, arith, length, sym}
+
+pub returns-in_err-ended-clause-tree : goal.returns-in_err-ended-clause-tree
+returns-in_err-ended-clause-tree c =
+    refused_more c.self.inside.text.items c.args.self c.args.more.now c.extend_from_slice.new.self.items (length c.text-start.result.now) c.in-Read.ended (read_of c.self.inside.text.items c.in-Read.is c.self.invariant) c.self.view_is
+    (ap length c.text-start.ensures) (omega (arith, c.if-more-start.false)) (sym c.if-not-goes_on.ensures) c.from_residual-in_err-ended.result c.in_err-ended.field-0.0 c.from_residual-in_err-ended.ensures.1
+    c.in_err-ended.ensures.does
+
+pub invariant_of-result : goal.invariant_of-result
+invariant_of-result c =
+    ended_there c.self.inside.text.items c.args.self c.args.more.now c.extend_from_slice.new.self.items (length c.text-start.result.now) c.in-Read.ended (read_of c.self.inside.text.items c.in-Read.is c.self.invariant) c.self.view_is
+    (ap length c.text-start.ensures) (omega (arith, c.if-more-start.false)) (sym c.if-not-goes_on.ensures) c.in_ok-ended.ended c.in_ok-extend_from_slice.ensures.items c.in_ok-ended.ensures.does
+    c.in_ok-ended.ensures.resumes c.in_ok-ended.ensures.size c.in_ok-ended.ensures.trail
