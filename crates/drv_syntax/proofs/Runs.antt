@@ -258,3 +258,8 @@ percent_takes v u n taken (b ∷ inside) h some e = (
 
     skip : suc taken ≡ taken + 1
     skip = omega arith
+
+-- bytes that stand for themselves, or none
+pub plains_read : (v u : Walk) (k n : ℕ) (text run : List ℕ) → v.stage ≡ at.List stages.Start → k ≡ prefix_len (runs v.context.kind) text → 0 < k → run ≡ take k text → k ≤ length text
+    → walked (with_plains n run v) ≡ walked u → (k ≤ length text) × (pass v n text ≡ pass u (n + k) (drop k text))
+plains_read v u k n text run h e positive f w d = (w, plains_take v u k n text run h e positive f w d)

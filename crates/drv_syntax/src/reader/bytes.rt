@@ -4,6 +4,7 @@ ghost use Rattle.drv_syntax.specs.Bytes as bytes;
 ghost use Rattle.std.specs.Prelude.{◌≡◌, ◌++◌, ◌∷◌, []};
 
 /// In a word of a test.
+#[inline(always)]
 pub fn is_word(b: u8) -> bool
     ensures { result ≡ bytes.is_word b }
 {

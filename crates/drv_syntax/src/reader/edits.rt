@@ -220,6 +220,7 @@ fn push_plains(n: u32, run: &[u8], tokens: &mut Vec<Token>)
 }
 
 /// Bytes that stand for themselves, the first of them at this place.
+#[inline(always)]
 pub fn with_plains(n: u32, run: &[u8], w: &mut Walk) -> Result<(), SyntaxFault>
     requires room { length w.old.tokens.items + length run.now < 2 ^ 31 }
     requires place { n + length run.now < 2 ^ 31 }

@@ -34,6 +34,7 @@ pub fn at(head: Head, form: Form, stage: HeadStage) -> Stage
 }
 
 /// Behind a test or a pattern.
+#[inline(never)]
 pub fn behind_test(
     head: Head,
     form: Form,
@@ -63,6 +64,7 @@ pub fn behind_test(
 }
 
 /// In a word, with a `!` or without.
+#[inline(always)]
 pub fn test_word(
     head: Head,
     form: Form,

@@ -92,7 +92,8 @@ pub fn start(n: u32, b: u8, w: &mut Walk) -> Result<(), SyntaxFault>
 }
 
 /// Behind the `%` at a place.
-fn percent(at: u32, n: u32, b: u8, w: &mut Walk) -> Result<(), SyntaxFault>
+#[inline(always)]
+pub fn percent(at: u32, n: u32, b: u8, w: &mut Walk) -> Result<(), SyntaxFault>
     requires room { length w.old.tokens.items < 2 ^ 31 }
     requires place { n < 2 ^ 31 }
     requires trail { w.old.trailing < 2 ^ 31 }

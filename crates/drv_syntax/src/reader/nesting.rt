@@ -288,6 +288,7 @@ pub fn untested(at: u32, behind: Behind) -> SyntaxFault
 }
 
 /// The pattern.
+#[inline(always)]
 pub fn with_pattern(behind: Behind, w: &mut Walk) -> Result<(), SyntaxFault>
     requires { length w.old.tokens.items < 2 ^ 31 }
     ensures does { Gives SyntaxFault.Memory (λ _. state w.new) result (Ok (steps.with_pattern behind (state w.old))) }
@@ -299,6 +300,7 @@ pub fn with_pattern(behind: Behind, w: &mut Walk) -> Result<(), SyntaxFault>
 }
 
 /// The test, in its alternative.
+#[inline(always)]
 pub fn with_test(form: Form, behind: Behind, w: &mut Walk) -> Result<(), SyntaxFault>
     requires { length w.old.tokens.items < 2 ^ 31 }
     ensures does { Gives SyntaxFault.Memory (λ _. state w.new) result (Ok (steps.with_test form behind (state w.old))) }

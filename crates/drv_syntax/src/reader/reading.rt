@@ -137,14 +137,16 @@ fn begun(alloc: Global) -> Walk
     }
 }
 
-/// Where a text begins, with room for the parts of a short one.
+/// Where a text begins, with room for the parts of a short one, and for the words of a long one.
 fn started(alloc: Global, size: usize) -> Result<Walk, SyntaxFault>
     ensures { Gives SyntaxFault.Memory state result (Ok steps.started) }
 {
     let count = if size < 4096 { size } else { 4096 };
+    let word = if size < 64 { 0 } else { 64 };
     let mut walk = begun(alloc);
     walk.tokens = Vec::with_capacity(alloc, count)?;
     walk.labels = Labels::with_capacity(alloc, count)?;
+    walk.word = Vec::with_capacity(alloc, word)?;
     Ok(walk)
 }
 

@@ -16,7 +16,7 @@ use crate::reader::walk::Walk;
 use bstr::ByteSlice;
 
 /// The byte stands for itself in such a list.
-#[inline]
+#[inline(always)]
 fn stands(kind: ListKind, b: u8) -> bool
     ensures { result ≡ steps.runs kind b }
 {
@@ -30,6 +30,7 @@ fn stands(kind: ListKind, b: u8) -> bool
 }
 
 /// How many bytes a text begins with that stand for themselves in such a list. Most runs have few bytes, so each is tested.
+#[inline(always)]
 pub fn run_length(kind: ListKind, text: &[u8]) -> usize
     ensures run { result ≡ prefix_len (steps.runs kind) text.now }
     ensures within { result ≤ length text.now }

@@ -13,6 +13,7 @@ use crate::reader::stages::{Behind, Form, Head, HeadStage, Stage};
 use crate::reader::walk::Walk;
 
 /// Behind the word of a test: what ends it, with the byte behind a star.
+#[inline(always)]
 fn word_end(
     head: Head,
     form: Form,
@@ -49,6 +50,7 @@ fn word_end(
 }
 
 /// In the word of a test: the rest of it, and what ends it.
+#[inline(never)]
 pub fn word_turn(
     head: Head,
     form: Form,
@@ -81,6 +83,7 @@ pub fn word_turn(
 }
 
 /// A word of a test begins with the first byte: the word, and what ends it.
+#[inline(never)]
 fn begun_turn(
     head: Head,
     form: Form,
@@ -117,6 +120,7 @@ fn begun_turn(
 }
 
 /// A word of a test can begin with the byte.
+#[inline(always)]
 fn begins_word(b: u8) -> bool
     ensures { result ≡ (bytes.is_word b && not (bytes.is_mark b)) }
 {
@@ -124,6 +128,7 @@ fn begins_word(b: u8) -> bool
 }
 
 /// Where an alternative begins: a word of a test, if one begins here, and what ends it.
+#[inline(always)]
 pub fn choice_turn(
     head: Head,
     later: bool,
@@ -147,6 +152,7 @@ pub fn choice_turn(
 }
 
 /// Behind `|`: a word of a test, if one begins here, and what ends it.
+#[inline(always)]
 pub fn due_turn(
     head: Head,
     form: Form,
@@ -169,6 +175,7 @@ pub fn due_turn(
 }
 
 /// Behind the `!` of a test: its word, if one begins here, and what ends it.
+#[inline(always)]
 pub fn negated_turn(
     head: Head,
     form: Form,

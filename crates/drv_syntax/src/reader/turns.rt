@@ -6,8 +6,9 @@ ghost use Rattle.std.specs.Prelude.{◌≡◌, ◌<◌, ◌≤◌, ◌^◌, ◌+
 
 use crate::directives::SayKind;
 use crate::fault::SyntaxFault;
-use crate::reader::edits::with_plains;
-use crate::reader::list_steps::{hide_word, name_text, saying_text, start, suffix_run};
+use crate::reader::bytes::is_blank;
+use crate::reader::edits::{with_blank, with_plains};
+use crate::reader::list_steps::{hide_word, name_text, percent, saying_text, suffix_run};
 use crate::reader::runs::{
     extend, front, name_length, run_length, said_length, suffix_length, word_length,
 };
@@ -18,6 +19,7 @@ use crate::reader::walk::Walk;
 use crate::token::TempKind;
 
 /// In a suffix: the rest of it, and the byte behind it.
+#[inline(never)]
 fn suffix_turn(
     at: u32,
     kind: TempKind,
@@ -43,6 +45,7 @@ fn suffix_turn(
 }
 
 /// In the name of a text: the rest of it, and the byte behind it.
+#[inline(never)]
 fn name_turn(at: u32, n: u32, text: &[u8], w: &mut Walk) -> Result<usize, SyntaxFault>
     requires here { w.old.stage ≡ Stage.List (ListStage.NameText at) }
     requires room { length w.old.tokens.items < 2 ^ 29 }
@@ -65,6 +68,7 @@ fn name_turn(at: u32, n: u32, text: &[u8], w: &mut Walk) -> Result<usize, Syntax
 }
 
 /// In the word of `%<`: the rest of it, and the byte behind it.
+#[inline(never)]
 fn hide_turn(at: u32, n: u32, text: &[u8], w: &mut Walk) -> Result<usize, SyntaxFault>
     requires here { w.old.stage ≡ Stage.List (ListStage.HideWord at) }
     requires room { length w.old.tokens.items < 2 ^ 29 }
@@ -84,6 +88,7 @@ fn hide_turn(at: u32, n: u32, text: &[u8], w: &mut Walk) -> Result<usize, Syntax
 }
 
 /// In a text for the user: the rest of it, and the byte behind it.
+#[inline(never)]
 fn saying_turn(
     at: u32,
     kind: SayKind,
@@ -108,8 +113,27 @@ fn saying_turn(
     Ok(size + 1)
 }
 
+/// Where an item begins: the bytes that stand for themselves.
+#[inline(always)]
+fn plain_turn(n: u32, text: &[u8], w: &mut Walk) -> Result<usize, SyntaxFault>
+    requires here { w.old.stage ≡ Stage.List ListStage.Start }
+    requires room { length w.old.tokens.items < 2 ^ 29 }
+    requires place { n + length text.now < 2 ^ 30 }
+    requires trail { w.old.trailing < 2 ^ 29 }
+    ensures does { Reads n text.now (state w.old) (state w.new) result }
+    ensures size { IfOk result (λ taken. length w.new.tokens.items ≤ length w.old.tokens.items + 4 * taken) }
+    ensures trail { IfOk result (λ taken. w.new.trailing ≤ w.old.trailing + 4 * taken) }
+{
+    let size = run_length(w.context.kind, text);
+    if size != 0 {
+        with_plains(n, front(text, size), w)?;
+    }
+    Ok(size)
+}
+
 /// What the first bytes of a text make of the state, where they go on as the byte before them did, with the byte behind them:
 /// how many.
+#[inline(always)]
 fn run(n: u32, text: &[u8], w: &mut Walk) -> Result<usize, SyntaxFault>
     requires room { length w.old.tokens.items < 2 ^ 29 }
     requires place { n + length text.now < 2 ^ 30 }
@@ -137,6 +161,7 @@ fn run(n: u32, text: &[u8], w: &mut Walk) -> Result<usize, SyntaxFault>
 }
 
 /// What the byte at this place and those that go on as it did make of the state: how many of those behind it.
+#[inline(never)]
 fn byte_turn(n: u32, b: u8, behind: &[u8], w: &mut Walk) -> Result<usize, SyntaxFault>
     requires room { length w.old.tokens.items < 2 ^ 28 }
     requires place { n + 1 + length behind.now < 2 ^ 30 }
@@ -151,6 +176,7 @@ fn byte_turn(n: u32, b: u8, behind: &[u8], w: &mut Walk) -> Result<usize, Syntax
 }
 
 /// The `%` of an item at this place, and what goes on behind it: how many bytes of that.
+#[inline(always)]
 fn directive_turn(n: u32, behind: &[u8], w: &mut Walk) -> Result<usize, SyntaxFault>
     requires here { w.old.stage ≡ Stage.List ListStage.Start }
     requires room { length w.old.tokens.items < 2 ^ 28 }
@@ -163,15 +189,18 @@ fn directive_turn(n: u32, behind: &[u8], w: &mut Walk) -> Result<usize, SyntaxFa
     w.stage = Stage::List(ListStage::Percent { at: n });
     match behind {
         [b, inside @ ..] => {
-            let taken = byte_turn(n + 1, *b, inside, w)?;
+            let place = n + 1;
+            percent(n, place, *b, w)?;
+            let taken = run(place + 1, inside, w)?;
             Ok(taken + 1)
         }
         [] => Ok(0),
     }
 }
 
-/// Where an item begins, at a byte that is no `%`: what this byte and those behind it that stand for themselves make of the
-/// state: how many of those behind it.
+/// Where an item begins, at a byte that is no `%`: what this byte and those that go on behind it make of the state: how many of
+/// those behind it.
+#[inline(always)]
 fn start_turn(n: u32, b: u8, text: &[u8], behind: &[u8], w: &mut Walk) -> Result<usize, SyntaxFault>
     requires here { w.old.stage ≡ Stage.List ListStage.Start }
     requires text { text.now ≡ b ∷ behind.now }
@@ -183,10 +212,13 @@ fn start_turn(n: u32, b: u8, text: &[u8], behind: &[u8], w: &mut Walk) -> Result
     ensures size { IfOk result (λ taken. length w.new.tokens.items ≤ length w.old.tokens.items + 4 * (taken + 1)) }
     ensures trail { IfOk result (λ taken. w.new.trailing ≤ w.old.trailing + 4 * (taken + 1)) }
 {
+    if is_blank(b) {
+        with_blank(n, w)?;
+        return plain_turn(n + 1, behind, w);
+    }
     let size = run_length(w.context.kind, text);
     if size == 0 {
-        start(n, b, w)?;
-        return Ok(0);
+        return byte_turn(n, b, behind, w);
     }
     with_plains(n, front(text, size), w)?;
     Ok(size - 1)
@@ -194,6 +226,7 @@ fn start_turn(n: u32, b: u8, text: &[u8], behind: &[u8], w: &mut Walk) -> Result
 
 /// What the first byte of a text, at this place, and some of those behind it make of the state: how many of those behind
 /// it.
+#[inline(always)]
 pub fn turn(n: u32, b: u8, text: &[u8], behind: &[u8], w: &mut Walk) -> Result<usize, SyntaxFault>
     requires text { text.now ≡ b ∷ behind.now }
     requires longer { length text.now ≡ 1 + length behind.now }
