@@ -2,6 +2,8 @@ pub mod Arguments
 pub mod AskedCalls
 pub mod ChoiceSteps
 pub mod ChoiceTurns
+pub mod CutRows
+pub mod CutRuns
 pub mod Cutter
 pub mod Directives
 pub mod Draws
@@ -25,6 +27,7 @@ pub mod Onward
 pub mod Opened
 pub mod Parts
 pub mod Rows
+pub mod Runs
 pub mod Settling
 pub mod Standing
 pub mod Steps

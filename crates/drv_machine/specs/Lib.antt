@@ -1,6 +1,7 @@
 pub mod Atoms
 pub mod Code
 pub mod Context
+pub mod Cuts
 pub mod Cutting
 pub mod Names
 pub mod Outcome

@@ -5,6 +5,7 @@ mod asking;
 mod braces;
 mod calling;
 mod context;
+mod cut_laws;
 mod emitting;
 mod failing;
 mod fault;
@@ -24,6 +25,7 @@ mod walk;
 mod whole;
 
 pub use context::{Context, Source};
+pub use cut_laws::cut_law;
 pub use fault::MachineFault;
 pub use grammar::function_names;
 pub use outcome::Outcome;

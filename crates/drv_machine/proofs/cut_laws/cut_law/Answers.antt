@@ -1,0 +1,11 @@
+use Rattle.drv_machine.proofs.CutRuns.{each_found, output_is, removed_are}
+use Rattle.drv_machine.proofs.cut_laws.cut_law.Goals as goal
+
+pub returns-clause-output : goal.returns-clause-output
+returns-clause-output c = output_is
+
+pub returns-clause-removed : goal.returns-clause-removed
+returns-clause-removed c = removed_are
+
+pub returns-clause-found : goal.returns-clause-found
+returns-clause-found c = each_found

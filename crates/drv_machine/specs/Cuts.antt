@@ -1,0 +1,121 @@
+use Rattle.drv_machine.specs.Context.{Context}
+use Rattle.drv_machine.specs.Cutting.{found_file, found_script, script_option}
+use Rattle.drv_machine.specs.Working.{◌>>-◌, Answer, Atom, Break, Marked, Open, Piped, Put, Without}
+use Rattle.drv_machine.specs.declared.machine.marking.Mark.TheVariants.{AsFile, AsOutput, AsRemoved, AsScript}
+use Rattle.drv_system.specs.Facts.{Facts}
+use Rattle.drv_system.specs.Known.{Is}
+use Rattle.std.specs.List.{filter, flat_map, list_any}
+use Rattle.std.specs.Prelude.{◌&&◌, Bool, List, [], ◌∷◌, ◌++◌, Option, None, Some, Ok, false, if◌then◌else◌, map, not, true, ℕ}
+
+-- What a list of atoms is cut into, said of the list as it stands (this project's profile). `Cutting` says it atom by atom.
+
+-- a word ends here
+abbrev pub ends_word : Atom → Bool
+ends_word Break = true
+ends_word Piped = true
+ends_word atom = false
+
+-- a word is open here
+abbrev pub opens_word : Atom → Bool
+opens_word (Put b) = true
+opens_word Open = true
+opens_word atom = false
+
+-- its byte
+abbrev pub byte_of : Atom → List ℕ
+byte_of (Put b) = b ∷ []
+byte_of atom = []
+
+-- the marks
+abbrev pub is_removed : Atom → Bool
+is_removed (Marked AsRemoved) = true
+is_removed atom = false
+
+abbrev pub is_output : Atom → Bool
+is_output (Marked AsOutput) = true
+is_output atom = false
+
+abbrev pub is_file : Atom → Bool
+is_file (Marked AsFile) = true
+is_file atom = false
+
+abbrev pub is_script : Atom → Bool
+is_script (Marked AsScript) = true
+is_script atom = false
+
+-- %V
+abbrev pub is_bar : Atom → Bool
+is_bar Without = true
+is_bar atom = false
+
+-- atoms between two places where a word ends, and what stands behind them
+pub record Run : Type 0 where
+  pub atoms : List Atom
+  pub behind : List Atom
+
+-- the runs that end; these atoms stand before, since a word ended
+abbrev pub runs : List Atom → List Atom → List Run
+runs before [] = []
+runs before (atom ∷ atoms) = if ends_word atom then record { atoms = before; behind = atoms } ∷ runs [] atoms else runs (before ++ atom ∷ []) atoms
+
+-- a run is a word where one is open in it
+abbrev pub is_word : Run → Bool
+is_word run = list_any opens_word run.atoms
+
+abbrev pub words_behind : List Atom → List Atom → List Run
+words_behind before atoms = filter is_word (runs before atoms)
+
+abbrev pub words : List Atom → List Run
+words atoms = words_behind [] atoms
+
+-- a %V stands behind the beginning of the word
+abbrev pub is_barred : List Atom → Bool
+is_barred [] = false
+is_barred (atom ∷ atoms) = if opens_word atom then list_any is_bar atoms else is_barred atoms
+
+-- the output: the last word that is marked as one and begins behind the last %V
+abbrev pub may_be_output : Run → Bool
+may_be_output word = list_any is_output word.atoms && not (is_barred (word.atoms ++ word.behind))
+
+abbrev pub last_of : {X : Type 0} → List X → Option X
+last_of [] = None
+last_of {X = X} (x ∷ xs) = by (last_of xs)
+  where
+    by : Option X → Option X
+    by None = Some x
+    by (Some later) = Some later
+
+abbrev pub output : List Atom → Option Run
+output atoms = last_of (filter may_be_output (words atoms))
+
+-- the words that are marked as removed
+abbrev pub is_removed_word : Run → Bool
+is_removed_word word = list_any is_removed word.atoms
+
+abbrev pub removed : List Atom → List Run
+removed atoms = filter is_removed_word (words atoms)
+
+-- answers for the items of a list
+abbrev pub each : {X Y : Type 0} → (X → Answer Y) → List X → Answer (List Y)
+each answer [] = Is (Ok [])
+each answer (x ∷ xs) = answer x >>- λ y. each answer xs >>- λ ys. Is (Ok (y ∷ ys))
+
+-- that there is an answer, or what stops it
+abbrev pub whether : {X : Type 0} → Answer X → Answer (Unit {0})
+whether answer = answer >>- λ x. Is (Ok tt)
+
+abbrev pub if_any : {X Y : Type 0} → (X → Answer Y) → Option X → Answer (Option Y)
+if_any answer None = Is (Ok None)
+if_any answer (Some x) = answer x >>- λ y. Is (Ok (Some y))
+
+module _ (F : Facts) (C : Context) where
+  -- what a word ends as, of which its marks say whether it is looked for
+  abbrev pub path : Run → Answer (List ℕ)
+  path word =
+      if list_any is_script word.atoms then found_script F C (flat_map byte_of word.atoms)
+      else if list_any is_file word.atoms then found_file F C (flat_map byte_of word.atoms)
+      else Is (Ok (flat_map byte_of word.atoms))
+
+  -- the words of the command that it gives
+  abbrev pub texts : Run → Answer (List (List ℕ))
+  texts word = path word >>- λ name. Is (Ok (if list_any is_script word.atoms then script_option ∷ name ∷ [] else name ∷ []))
