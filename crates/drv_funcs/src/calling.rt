@@ -27,7 +27,7 @@ pub fn call<S: System>(
     alloc: Global,
     function: Function,
     args: &[Word],
-    switches: &Switches,
+    switches: &Switches<'_>,
     hidden: &Hidden,
     in_link: bool,
     outputs: &mut Listing<Word>,

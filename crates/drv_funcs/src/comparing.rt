@@ -28,7 +28,7 @@ fn behind(bytes: &[u8], size: usize) -> &[u8]
 fn value_of(
     alloc: Global,
     prefix: &Word,
-    switches: &Switches,
+    switches: &Switches<'_>,
     hidden: &Hidden,
 ) -> Result<Option<Word>, AllocError>
     requires { length hidden.now ≡ length switches.now }
@@ -92,7 +92,7 @@ fn word_if(
 pub fn version_compare(
     alloc: Global,
     args: &[Word],
-    switches: &Switches,
+    switches: &Switches<'_>,
     hidden: &Hidden,
 ) -> Result<Option<Word>, FuncsFault>
     requires { length hidden.now ≡ length switches.now }
@@ -112,7 +112,7 @@ fn with_versions(
     alloc: Global,
     operator: Operator,
     args: &[Word],
-    switches: &Switches,
+    switches: &Switches<'_>,
     hidden: &Hidden,
 ) -> Result<Option<Word>, FuncsFault>
     requires { length hidden.now ≡ length switches.now }

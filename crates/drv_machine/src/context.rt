@@ -37,8 +37,8 @@ impl<'a> Model for Source<'a> {
 #[derive(Drop)]
 pub struct Context<'a> {
     line: &'a Line,
-    /// The line's switches, ready for patterns.
-    matcher: Switches,
+    /// The line's switches, ready for patterns, by their names that it lends.
+    matcher: Switches<'a>,
     /// Whether `-pipe` stands on the line.
     is_piping: bool,
     texts: &'a SpecSet,
@@ -147,7 +147,7 @@ impl<'a> Context<'a> {
     }
 
     /// The switches, ready for patterns.
-    pub(crate) fn switches(&self) -> &Switches
+    pub(crate) fn switches(&self) -> &Switches<'a>
         ensures { result.now ≡ names self.now }
     {
         &self.matcher

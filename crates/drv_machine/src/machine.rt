@@ -331,7 +331,7 @@ impl Machine {
     }
 
     /// Hides every switch that a pattern names. It takes no memory.
-    pub(crate) fn hide(&mut self, switches: &Switches, pattern: &Pattern<'_>)
+    pub(crate) fn hide(&mut self, switches: &Switches<'_>, pattern: &Pattern<'_>)
         requires { length self.old.world.hidden ≡ length switches.now }
         ensures does { self.new ≡ record self.old { world = record self.old.world { hidden = hidden_by pattern.now switches.now self.old.world.hidden } } }
         ensures sized { length self.new.world.hidden ≡ length self.old.world.hidden }

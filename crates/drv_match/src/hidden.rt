@@ -20,7 +20,7 @@ impl Model for Hidden {
 
 impl Hidden {
     /// No switch of these is hidden. Want of memory is the only error.
-    pub fn new(alloc: Global, switches: &Switches) -> Result<Hidden, AllocError>
+    pub fn new(alloc: Global, switches: &Switches<'_>) -> Result<Hidden, AllocError>
         ensures { IfOk result (λ hidden. hidden ≡ replicate (length switches.now) false) }
     {
         Ok(Hidden {

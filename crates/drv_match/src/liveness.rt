@@ -11,7 +11,7 @@ use std::alloc::{AllocError, Global};
 
 /// For each switch whether no later one cancels it. The order is that of the places by name, so that switches of one
 /// name stand together, and what cancels them is looked up once. Want of memory is the only error.
-pub fn live_flags(alloc: Global, names: &Names, order: &[usize]) -> Result<Vec<bool>, AllocError>
+pub fn live_flags(alloc: Global, names: &Names<'_>, order: &[usize]) -> Result<Vec<bool>, AllocError>
     requires { IsOrder names.now order.now }
     ensures { IfOk result (λ flags. IsLiveness names.now flags.items) }
 {
@@ -23,7 +23,7 @@ pub fn live_flags(alloc: Global, names: &Names, order: &[usize]) -> Result<Vec<b
 /// Marks in as many flags as there are switches which of those are live.
 fn mark_live(
     alloc: Global,
-    names: &Names,
+    names: &Names<'_>,
     order: &[usize],
     flags: &mut Vec<bool>,
 ) -> Result<(), AllocError>
@@ -46,7 +46,7 @@ fn mark_live(
 }
 
 /// The place of the last optimization level, or 0 if there is none.
-fn last_level(names: &Names) -> usize
+fn last_level(names: &Names<'_>) -> usize
     ensures { IsLast is_level names.now result }
 {
     let mut place = names.len();
@@ -62,7 +62,7 @@ fn last_level(names: &Names) -> usize
 /// The place of the last switch that cancels an earlier one of this name, or 0 if there is none. What is cancelled are
 /// switches before that place. The form is room for a name that is looked up.
 fn last_cancelling(
-    names: &Names,
+    names: &Names<'_>,
     order: &[usize],
     level: usize,
     name: &[u8],
@@ -87,7 +87,7 @@ fn last_cancelling(
 }
 
 /// The place of the last switch of this name, or 0 if there is none.
-fn last_named(names: &Names, order: &[usize], name: &[u8]) -> usize
+fn last_named(names: &Names<'_>, order: &[usize], name: &[u8]) -> usize
     requires { IsOrder names.now order.now }
     ensures { IsLast (pointwise nat_eq name.now) names.now result }
 {

@@ -8,7 +8,7 @@ use crate::pattern::Pattern;
 use std::alloc::{AllocError, Global};
 
 /// All places of these names, by name, then by place. Want of memory is the only error.
-pub fn places_by_name(alloc: Global, names: &Names) -> Result<Vec<usize>, AllocError>
+pub fn places_by_name(alloc: Global, names: &Names<'_>) -> Result<Vec<usize>, AllocError>
     ensures { IfOk result (λ order. IsOrder names.now order.items) }
 {
     let mut order: Vec<usize> = (0..names.len()).collect(alloc)?;
@@ -17,7 +17,7 @@ pub fn places_by_name(alloc: Global, names: &Names) -> Result<Vec<usize>, AllocE
 }
 
 /// Where, within the places by name, those stand that the pattern names: the start, and the end behind them.
-pub fn block_of(names: &Names, order: &[usize], pattern: &Pattern<'_>) -> (usize, usize)
+pub fn block_of(names: &Names<'_>, order: &[usize], pattern: &Pattern<'_>) -> (usize, usize)
     requires { IsOrder names.now order.now }
     ensures { IsBlock names.now order.now pattern.now result.0 result.1 }
 {

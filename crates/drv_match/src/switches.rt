@@ -15,17 +15,17 @@ use drv_words::Listing;
 use std::alloc::{AllocError, Global};
 use std::marker::Model;
 
-/// The switches of a command line, seen as the list of their names in order.
+/// The switches of a command line, which are lent, seen as the list of their names in order.
 #[derive(Debug, Drop)]
-pub struct Switches {
-    names: Names,
+pub struct Switches<'a> {
+    names: Names<'a>,
     /// All places, by name, then by place.
     order: Vec<usize>,
     /// For each switch whether no later one cancels it.
     live: Vec<bool>,
 }
 
-impl Model for Switches {
+impl<'a> Model for Switches<'a> {
     ghost use Rattle.drv_match.specs.Code.Indexed.{IsIndex};
     ghost use Rattle.std.specs.Prelude.{List, ℕ};
 
@@ -36,12 +36,12 @@ impl Model for Switches {
     ghost invariant = { λ s. IsIndex s.names s.order.items s.live.items };
 }
 
-impl Switches {
-    /// The switches of a line, whose names are copied. Want of memory is the only error.
-    pub fn new(alloc: Global, switches: &[Switch]) -> Result<Switches, AllocError>
+impl<'a> Switches<'a> {
+    /// The switches of a line, ready for patterns. Want of memory is the only error.
+    pub fn new(alloc: Global, switches: &'a [Switch]) -> Result<Switches<'a>, AllocError>
         ensures { IfOk result (λ made. made ≡ map (λ switch. switch.name) switches.now) }
     {
-        let names = Names::of(alloc, switches)?;
+        let names = Names::of(switches);
         let order = places_by_name(alloc, &names)?;
         let live = live_flags(alloc, &names, &order)?;
         Ok(Switches { names, order, live })
@@ -55,7 +55,7 @@ impl Switches {
     }
 
     /// The name of the switch at this place, without its first `-`. It takes no memory.
-    pub fn name(&self, i: usize) -> &[u8]
+    pub fn name(&self, i: usize) -> &'a [u8]
         requires { i < length self.now }
         ensures { result.now ≡ name_at self.now i }
     {

@@ -32,10 +32,9 @@ fn named(alloc: Global, names: &[Word]) -> Result<Vec<Switch>, AllocError> {
 }
 
 /// The switches that a text names.
-fn switches_of(alloc: Global, names: &Word) -> Result<Switches, AllocError> {
+fn switches_of(alloc: Global, names: &Word) -> Result<Vec<Switch>, AllocError> {
     let names = split(alloc, names.as_bytes())?;
-    let switches = named(alloc, names.as_slice())?;
-    Switches::new(alloc, &switches)
+    named(alloc, names.as_slice())
 }
 
 /// The outputs that a text names, if there is one.
@@ -119,7 +118,7 @@ impl Called<'_> {
         alloc: Global,
         sys: &mut S,
         function: Function,
-        switches: &Switches,
+        switches: &Switches<'_>,
         outputs: &mut Listing<Word>,
     ) -> Result<Option<Word>, FuncsFault> {
         let hidden = Hidden::new(alloc, switches)?;
@@ -143,7 +142,7 @@ impl Called<'_> {
         alloc: Global,
         sys: &mut S,
         function: Function,
-        switches: &Switches,
+        switches: &Switches<'_>,
         out: &mut Transcript,
     ) -> Result<(), AllocError> {
         let mut outputs = outputs_of(alloc, self.outputs)?;
@@ -164,7 +163,8 @@ impl Called<'_> {
         let Some(function) = Function::named(self.name.as_bytes()) else {
             return out.add(b"no function");
         };
-        let switches = switches_of(alloc, self.switches)?;
+        let line = switches_of(alloc, self.switches)?;
+        let switches = Switches::new(alloc, &line)?;
         self.try_with(alloc, sys, function, &switches, out)
     }
 }
