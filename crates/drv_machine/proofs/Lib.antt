@@ -25,6 +25,7 @@ pub mod Marks
 pub mod NamedTexts
 pub mod Onward
 pub mod Opened
+pub mod Outputs
 pub mod Parts
 pub mod Rows
 pub mod Runs

@@ -4,7 +4,7 @@ ghost use Rattle.drv_machine.specs.Code.Asked.{Asked};
 ghost use Rattle.drv_machine.specs.Atoms.{added, broken_word, folders_step, noted, options_step, outputs_step};
 ghost use Rattle.drv_machine.specs.Context as specs;
 ghost use Rattle.drv_machine.specs.Code.Running.{run};
-ghost use Rattle.drv_machine.specs.Working.{change, is_among, puts, whole_word, words};
+ghost use Rattle.drv_machine.specs.Working.{Break, change, is_among, puts, whole_word, words};
 ghost use Rattle.drv_search.specs.Search.{folder_options};
 ghost use Rattle.drv_system.specs.Asking.{Extends};
 ghost use Rattle.drv_system.specs.Facts.{Facts};
@@ -19,6 +19,7 @@ use drv_search::dir_options;
 use drv_system::System;
 use drv_words::{Listing, Word};
 use std::alloc::{AllocError, Global};
+use std::mem;
 
 /// Copies of words.
 pub(crate) fn copied_words(alloc: Global, words: &[Word]) -> Result<Listing<Word>, AllocError>
@@ -112,7 +113,40 @@ impl Machine {
         self.put_words(options.as_slice(), context, outside)
     }
 
-    /// The outputs of the jobs so far are put, each as a word of its own.
+    /// Whole words are put behind a break.
+    #[tactic(auto, using(crate::proofs::AskedCalls::asked_none))]
+    fn put_apart<S: System>(
+        &mut self,
+        list: &[Word],
+        context: &Context<'_>,
+        outside: &mut Outside<'_, S>,
+    ) -> Result<(), MachineFault>
+        ensures asks { Asked S.events outside.old outside.new }
+        ensures does { (F : Facts) → Extends outside.new.facts.now F → GivesKnown MachineFault.Memory (λ u. (tt, self.new)) result (run F context.now self.old (puts (Break ∷ words list.now))) }
+        ensures sized { length self.new.world.hidden ≡ length self.old.world.hidden }
+        ensures uncounted { OnOk result (self.new.world.items ≡ self.old.world.items) }
+    {
+        self.end_word(context, outside)?;
+        self.put_words(list, context, outside)
+    }
+
+    /// Takes the outputs of the jobs so far out.
+    fn take_outputs(&mut self) -> Listing<Word>
+        ensures taken { result ≡ self.old.world.outputs }
+        ensures left { self.new ≡ record self.old { world = record self.old.world { outputs = [] } } }
+    {
+        mem::replace(&mut self.outputs, Listing::new(self.alloc))
+    }
+
+    /// Puts the outputs of the jobs so far back.
+    fn give_back(&mut self, outputs: Listing<Word>)
+        ensures { self.new ≡ record self.old { world = record self.old.world { outputs = outputs } } }
+    {
+        self.outputs = outputs;
+    }
+
+    /// The outputs of the jobs so far are put, each as a word of its own. They are taken out while they are put, so that none is
+    /// copied twice.
     ///
     /// # Errors
     /// `NotInLink` in a text other than the link's.
@@ -130,9 +164,10 @@ impl Machine {
         if context.input().is_some() {
             return Err(MachineFault::NotInLink);
         }
-        let outputs = copied_words(self.alloc, self.outputs.as_slice())?;
-        self.end_word(context, outside)?;
-        self.put_words(outputs.as_slice(), context, outside)
+        let outputs = self.take_outputs();
+        let put = self.put_apart(outputs.as_slice(), context, outside);
+        self.give_back(outputs);
+        put
     }
 
     /// Lists of bytes are put, with a break behind each.

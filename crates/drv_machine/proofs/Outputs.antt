@@ -1,0 +1,48 @@
+use Rattle.drv_machine.proofs.Lists.{link_outputs}
+use Rattle.drv_machine.specs.Atoms.{outputs_step}
+use Rattle.drv_machine.specs.Code.Running.{Machine, run}
+use Rattle.drv_machine.specs.Context.{Context}
+use Rattle.drv_machine.specs.Cutting.{Cut, all_taken}
+use Rattle.drv_machine.specs.Working.{◌>>-◌, Answer, Atom, Break, puts, words}
+use Rattle.drv_machine.specs.declared.fault.MachineFault.TheVariants.{Memory}
+use Rattle.drv_machine.specs.declared.fault.MachineFault.{MachineFault}
+use Rattle.drv_system.specs.Facts.{Facts}
+use Rattle.drv_system.specs.Gives.{GivesKnown}
+use Rattle.drv_system.specs.Known.{Is, Unasked}
+use Rattle.std.proofs.Common.{◌≡◌, ◌∙◌, Err, List, [], ◌∷◌, None, Ok, Result, ap, inl, inr, refl, subst, sym, ℕ}
+
+-- Outputs that are taken out of the machine while words are put, and given back behind them.
+
+abbrev pub holding : List (List ℕ) → Machine → Machine
+holding outputs s = record s { world = record s.world { outputs = outputs } }
+
+abbrev given_back : List (List ℕ) → Unit {0} × Machine → Answer (Unit {0} × Machine)
+given_back outputs r = Is (Ok (tt, holding outputs r.1))
+
+held : (F : Facts) (C : Context) (s : Machine) (atoms : List Atom) (outputs : List (List ℕ)) → run F C (holding outputs s) (puts atoms) ≡ (run F C (holding [] s) (puts atoms) >>- given_back outputs)
+held F C s atoms outputs = by (all_taken F C s.cut atoms)
+  where
+    with_cut : List (List ℕ) → Cut → Answer (Unit {0} × Machine)
+    with_cut list d = Is (Ok (tt, record { cut = d; world = record s.world { outputs = list } }))
+
+    by : (a : Answer Cut) → (a >>- λ d. with_cut outputs d) ≡ ((a >>- λ d. with_cut [] d) >>- given_back outputs)
+    by (Is (Ok c)) = refl
+    by (Is (Err fault)) = refl
+    by Unasked = refl
+
+-- what is put meanwhile is put as if they had stayed
+pub put_held : (F : Facts) (C : Context) (s t : Machine) (atoms : List Atom) (outputs : List (List ℕ)) (result : Result (Unit {0}) MachineFault)
+    → GivesKnown Memory (λ u. (tt, t)) result (run F C (holding [] s) (puts atoms)) → GivesKnown Memory (λ u. (tt, holding outputs t)) result (run F C (holding outputs s) (puts atoms))
+put_held F C s t atoms outputs (Ok u) is = held F C s atoms outputs ∙ ap (λ a. a >>- given_back outputs) is
+put_held F C s t atoms outputs (Err e) (inl memory) = inl memory
+put_held F C s t atoms outputs (Err e) (inr is) = inr (held F C s atoms outputs ∙ ap (λ a. a >>- given_back outputs) is)
+
+pub outputs_put : (F : Facts) (C : Context) (s m t u : Machine) (outs list : List (List ℕ)) (result : Result (Unit {0}) MachineFault)
+    → C.input ≡ None → outs ≡ s.world.outputs → list ≡ outs → m ≡ holding [] s → u ≡ holding outs t
+    → GivesKnown Memory (λ v. (tt, t)) result (run F C m (puts (Break ∷ words list))) → GivesKnown Memory (λ v. (tt, u)) result (run F C s (outputs_step F C))
+outputs_put F C s m t u outs list result none taken same left back put =
+    let out = subst (λ (n : Machine). GivesKnown Memory (λ v. (tt, t)) result (run F C n (puts (Break ∷ words list)))) left put in
+    let all = subst (λ (xs : List (List ℕ)). GivesKnown Memory (λ v. (tt, t)) result (run F C (holding [] s) (puts (Break ∷ words xs)))) (same ∙ taken) out in
+    let whole = put_held F C s t (Break ∷ words s.world.outputs) s.world.outputs result all in
+    let given = subst (λ (n : Machine). GivesKnown Memory (λ v. (tt, n)) result (run F C s (puts (Break ∷ words s.world.outputs)))) (sym (back ∙ ap (λ o. holding o t) taken)) whole in
+    subst (λ a. GivesKnown Memory (λ v. (tt, u)) result a) (sym (link_outputs F C s none)) given
