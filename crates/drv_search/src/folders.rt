@@ -90,7 +90,7 @@ fn push_machine_option<S: System>(
 }
 
 /// Adds the options for the folders under a prefix.
-#[tactic(auto, using(crate::proofs::Asked::asks_further))]
+#[tactic(auto, using(drv_system::proofs::Asking::asks_then))]
 fn push_options<S: System>(
     alloc: Global,
     options: &mut Listing<Word>,
@@ -109,7 +109,7 @@ fn push_options<S: System>(
 }
 
 /// Adds the options for the folders under prefixes.
-#[tactic(auto, using(crate::proofs::Asked::asks_further, crate::proofs::Options::all_added))]
+#[tactic(auto, using(drv_system::proofs::Asking::asks_then, crate::proofs::Options::all_added))]
 fn push_all<S: System>(
     alloc: Global,
     options: &mut Listing<Word>,

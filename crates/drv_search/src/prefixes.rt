@@ -73,7 +73,7 @@ fn prefix_of<S: System>(dir: &Word, sys: &mut S, facts: &mut FactTable) -> Resul
 }
 
 /// The prefixes that the arguments of `-B` stand for.
-#[tactic(auto, using(crate::proofs::Asked::asks_further))]
+#[tactic(auto, using(drv_system::proofs::Asking::asks_then))]
 fn given_prefixes<S: System>(
     alloc: Global,
     dirs: &[Word],

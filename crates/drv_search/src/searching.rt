@@ -86,7 +86,7 @@ fn bare_hit<S: System>(
 }
 
 /// What is found under one prefix: in the machine's folder, or else in the prefix itself.
-#[tactic(auto, using(crate::proofs::Asked::asks_further))]
+#[tactic(auto, using(drv_system::proofs::Asking::asks_then))]
 fn found_under<S: System>(
     alloc: Global,
     prefix: &[u8],
@@ -104,7 +104,7 @@ fn found_under<S: System>(
 }
 
 /// What is found under prefixes. Behind the first hit nothing is asked.
-#[tactic(auto, using(crate::proofs::Asked::asks_further))]
+#[tactic(auto, using(drv_system::proofs::Asking::asks_then))]
 fn search<S: System>(
     alloc: Global,
     prefixes: &[Word],
