@@ -1,4 +1,3 @@
-pub mod Asked
 pub mod Bodies
 pub mod Booleans
 pub mod BuiltinKept

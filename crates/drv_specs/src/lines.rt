@@ -28,7 +28,8 @@ pub(crate) struct Body<'a> {
 /// A text's first line, and what stands behind its newline, if it has one.
 #[tactic(auto, using(crate::proofs::Found::line_found, crate::proofs::Found::line_clean, crate::proofs::Found::line_alone))]
 pub(crate) fn cut_line(text: &[u8]) -> (&[u8], Option<&[u8]>)
-    ensures whole { text.now ≡ result.0.now ++ bytes_from (option_map (λ behind. behind.now) result.1) }
+    ensures whole { text.now
+        ≡ result.0.now ++ bytes_from (option_map (λ behind. behind.now) result.1) }
     ensures line { list_all (λ b. not (ends_line b)) result.0.now ≡ true }
 {
     match text.find_byte(b'\n') {
@@ -41,9 +42,12 @@ pub(crate) fn cut_line(text: &[u8]) -> (&[u8], Option<&[u8]>)
 fn full_line<'a>(lines: Lines<'a>) -> Option<(&'a [u8], Lines<'a>)>
     requires { lines.number + size_left lines < 2 ^ 64 }
     ensures none { IfNone result (body_lines (lines_left lines.entry) ≡ []) }
-    ensures outside { IfNone result ((n : ℕ) → read_lines true n (lines_left lines.entry) ≡ read_lines false n (lines_left lines.entry)) }
-    ensures bytes { IfSome result (λ found. bytes_from (text_left lines.entry) ≡ newline ∷ found.0.now ++ bytes_from (text_left found.1)) }
-    ensures lines { IfSome result (λ found. lines_left lines.entry ≡ found.0.now ∷ lines_left found.1) }
+    ensures outside { IfNone result ((n : ℕ) → read_lines true n (lines_left lines.entry)
+        ≡ read_lines false n (lines_left lines.entry)) }
+    ensures bytes { IfSome result (λ found. bytes_from (text_left lines.entry)
+        ≡ newline ∷ found.0.now ++ bytes_from (text_left found.1)) }
+    ensures lines { IfSome result (λ found. lines_left lines.entry
+        ≡ found.0.now ∷ lines_left found.1) }
     ensures full { IfSome result (λ found. is_empty_line found.0.now ≡ false) }
     ensures number { IfSome result (λ found. found.1.number ≡ lines.entry.number + 1) }
 {
@@ -67,7 +71,8 @@ fn full_line<'a>(lines: Lines<'a>) -> Option<(&'a [u8], Lines<'a>)>
 /// The first lines of a text, of so many bytes with a newline before each.
 fn front(text: Option<&[u8]>, size: usize) -> &[u8]
     requires { size ≤ length (bytes_from (option_map (λ bytes. bytes.now) text)) }
-    ensures { result.now ≡ drop 1 (take size (bytes_from (option_map (λ bytes. bytes.now) text.entry))) }
+    ensures { result.now
+        ≡ drop 1 (take size (bytes_from (option_map (λ bytes. bytes.now) text.entry))) }
 {
     match text {
         Some(text) => &text[..size.saturating_sub(1)],
@@ -79,8 +84,10 @@ fn front(text: Option<&[u8]>, size: usize) -> &[u8]
 pub(crate) fn cut_body<'a>(lines: Lines<'a>) -> Body<'a>
     requires { lines.number + size_left lines < 2 ^ 64 }
     ensures body { result.text.now ≡ join_with_byte newline (body_lines (lines_left lines.entry)) }
-    ensures left { read_lines true lines.entry.number (lines_left lines.entry) ≡ directives_left result.left }
-    ensures room { result.left.number + size_left result.left ≤ lines.entry.number + size_left lines.entry }
+    ensures left { read_lines true lines.entry.number (lines_left lines.entry)
+        ≡ directives_left result.left }
+    ensures room { result.left.number + size_left result.left
+        ≤ lines.entry.number + size_left lines.entry }
     ensures fewer { size_left result.left ≤ size_left lines.entry }
 {
     let mut left = lines;

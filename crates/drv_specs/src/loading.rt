@@ -33,7 +33,8 @@ fn text_read(
     path: Word,
     answer: &ReadAnswer,
 ) -> Result<Vec<u8>, SpecsFault>
-    ensures { Gives fault.Memory (λ left. left.items) result (read_left (text_read pass_missing path answer.now)) }
+    ensures { Gives fault.Memory (λ left. left.items) result
+        (read_left (text_read pass_missing path answer.now)) }
 {
     match answer {
         ReadAnswer::Read(text) => Ok(settled(alloc, text.as_bytes())?),
@@ -53,7 +54,9 @@ fn file_text<S: System>(
     facts: &mut FactTable,
 ) -> Result<Vec<u8>, SpecsFault>
     ensures asks { Asks (S.events sys.old) (S.events sys.new) facts.old facts.new }
-    ensures text { (F : Facts) → Extends facts.new F → GivesKnown fault.Memory (λ left. left.items) result (settled_file F prefixes.now pass_missing name.now) }
+    ensures text { (F : Facts) → Extends facts.new F
+        → GivesKnown fault.Memory (λ left. left.items) result
+        (settled_file F prefixes.now pass_missing name.now) }
 {
     let name = Word::from_bytes(alloc, name)?;
     let path = find_file(alloc, prefixes, &name, sys, facts)?;
@@ -62,8 +65,9 @@ fn file_text<S: System>(
     text_read(alloc, pass_missing, path, answer)
 }
 
-/// Carries out the directives of a settled text, in which so many more files may stand in one another.
-#[tactic(auto, using(crate::proofs::Asked::asks_further))]
+/// Carries out the directives of a settled text, in which so many more files may stand in one
+/// another.
+#[tactic(auto, using(drv_system::proofs::Asking::asks_then))]
 fn carry_out<S: System>(
     entries: &mut Entries,
     files: &mut usize,
@@ -74,7 +78,10 @@ fn carry_out<S: System>(
     facts: &mut FactTable,
 ) -> Result<(), SpecsFault>
     ensures asks { Asks (S.events sys.old) (S.events sys.new) facts.old facts.new }
-    ensures carried { (F : Facts) → Extends facts.new F → GivesKnown fault.Memory (λ _. record { set = entries.new; files = files.new }) result (all_carried (including F prefixes.now levels) (record { set = entries.old; files = files.old }) (read_settled text.now)) }
+    ensures carried { (F : Facts) → Extends facts.new F
+        → GivesKnown fault.Memory (λ _. record { set = entries.new; files = files.new }) result
+        (all_carried (including F prefixes.now levels)
+        (record { set = entries.old; files = files.old }) (read_settled text.now)) }
 {
     let mut reader = Reader::new(text);
     while let Some(directive) = reader.next() {
@@ -104,8 +111,9 @@ fn carry_out<S: System>(
     Ok(())
 }
 
-/// A copy of entries, on which the directives of a settled text are carried out, in which so many more files may be read.
-#[tactic(auto, using(crate::proofs::Asked::asks_further))]
+/// A copy of entries, on which the directives of a settled text are carried out, in which so many
+/// more files may be read.
+#[tactic(auto, using(drv_system::proofs::Asking::asks_then))]
 fn draft_of<S: System>(
     entries: &Entries,
     files: usize,
@@ -115,7 +123,9 @@ fn draft_of<S: System>(
     facts: &mut FactTable,
 ) -> Result<Entries, SpecsFault>
     ensures asks { Asks (S.events sys.old) (S.events sys.new) facts.old facts.new }
-    ensures works { (F : Facts) → Extends facts.new F → GivesKnown fault.Memory (λ draft. draft) result (worked F prefixes.now entries.now files (read_settled text.now)) }
+    ensures works { (F : Facts) → Extends facts.new F
+        → GivesKnown fault.Memory (λ draft. draft) result
+        (worked F prefixes.now entries.now files (read_settled text.now)) }
 {
     let mut draft = entries.copied()?;
     let mut files = files;
@@ -125,9 +135,9 @@ fn draft_of<S: System>(
 }
 
 impl SpecSet {
-    /// Carries out the directives of a settled text, in which so many more files may be read, on a copy that then takes the place of
-    /// the set.
-    #[tactic(auto, using(crate::proofs::Asked::asks_further))]
+    /// Carries out the directives of a settled text, in which so many more files may be read, on a
+    /// copy that then takes the place of the set.
+    #[tactic(auto, using(drv_system::proofs::Asking::asks_then))]
     fn work<S: System>(
         &mut self,
         files: usize,
@@ -138,7 +148,9 @@ impl SpecSet {
     ) -> Result<(), SpecsFault>
         requires { IsSettled text.now }
         ensures asks { Asks (S.events sys.old) (S.events sys.new) facts.old facts.new }
-        ensures works { (F : Facts) → Extends facts.new F → GivesKnown fault.Memory (λ _. self.new) result (worked F prefixes.now self.old files (read_settled text.now)) }
+        ensures works { (F : Facts) → Extends facts.new F
+            → GivesKnown fault.Memory (λ _. self.new) result
+            (worked F prefixes.now self.old files (read_settled text.now)) }
         ensures kept { OnErr result (self.new ≡ self.old) }
     {
         let draft = draft_of(&self.entries, files, text, prefixes, sys, facts)?;
@@ -146,12 +158,13 @@ impl SpecSet {
         Ok(())
     }
 
-    /// Carries out the directives of a text (GCC manual, "Spec Files"). After an error the set is as it was.
+    /// Carries out the directives of a text (GCC manual, "Spec Files"). After an error the set is
+    /// as it was.
     ///
     /// # Errors
-    /// The first refusal in the order of the lines, those of included files in their places: `BadLine`, `BadName`,
-    /// `TrailingBackslash`, `AliasOfAlias`, `RenameMissing`, `RenameTaken`, `Syntax`, `IncludeTooDeep`,
-    /// `TooManyIncludes`, `NoSuchFile` and `Unreadable`.
+    /// The first refusal in the order of the lines, those of included files in their places:
+    /// `BadLine`, `BadName`, `TrailingBackslash`, `AliasOfAlias`, `RenameMissing`, `RenameTaken`,
+    /// `Syntax`, `IncludeTooDeep`, `TooManyIncludes`, `NoSuchFile` and `Unreadable`.
     #[tactic(auto, unfolding(crate::specs::Loading::loaded))]
     pub fn load<S: System>(
         &mut self,
@@ -161,17 +174,21 @@ impl SpecSet {
         facts: &mut FactTable,
     ) -> Result<(), SpecsFault>
         ensures asks { Asks (S.events sys.old) (S.events sys.new) facts.old facts.new }
-        ensures loads { (F : Facts) → Extends facts.new F → GivesKnown fault.Memory (λ _. self.new) result (loaded F prefixes.now self.old text.now) }
+        ensures loads { (F : Facts) → Extends facts.new F
+            → GivesKnown fault.Memory (λ _. self.new) result
+            (loaded F prefixes.now self.old text.now) }
         ensures kept { OnErr result (self.new ≡ self.old) }
     {
         let text = settled(self.entries.alloc(), text)?;
         self.work(MOST_FILES, text.as_slice(), prefixes, sys, facts)
     }
 
-    /// Carries out the directives of the file of this name, found as libraries are. After an error the set is as it was.
+    /// Carries out the directives of the file of this name, found as libraries are. After an error
+    /// the set is as it was.
     ///
     /// # Errors
-    /// Those of `load`. The file counts as one that is read, and is the first of those that stand in one another.
+    /// Those of `load`. The file counts as one that is read, and is the first of those that stand
+    /// in one another.
     pub fn load_file<S: System>(
         &mut self,
         name: &Word,
@@ -180,7 +197,9 @@ impl SpecSet {
         facts: &mut FactTable,
     ) -> Result<(), SpecsFault>
         ensures asks { Asks (S.events sys.old) (S.events sys.new) facts.old facts.new }
-        ensures loads { (F : Facts) → Extends facts.new F → GivesKnown fault.Memory (λ _. self.new) result (file_loaded F prefixes.now self.old name.now) }
+        ensures loads { (F : Facts) → Extends facts.new F
+            → GivesKnown fault.Memory (λ _. self.new) result
+            (file_loaded F prefixes.now self.old name.now) }
         ensures kept { OnErr result (self.new ≡ self.old) }
     {
         let name = name.as_bytes();

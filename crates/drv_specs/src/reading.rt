@@ -78,15 +78,19 @@ fn by_keyword<'a>(number: usize, line: &'a [u8]) -> Directive<'a>
     Directive::Bad(number)
 }
 
-/// Where a body begins: behind the colon of its line, or where nothing stands there but blanks, with the next line.
+/// Where a body begins: behind the colon of its line, or where nothing stands there but blanks,
+/// with the next line.
 fn body_start<'a>(text: &'a [u8], line: &[u8], value: &[u8], lines: Lines<'a>) -> Lines<'a>
     requires whole { text.now ≡ line.now ++ bytes_from (text_left lines) }
     requires line { list_all (λ b. not (ends_line b)) line.now ≡ true }
     requires value { Ends line.now value.now }
     requires number { 0 < lines.number }
-    ensures body { body_lines (lines_left result) ≡ first_line value.now ++ body_lines (lines_left lines.entry) }
-    ensures left { read_lines true result.number (lines_left result) ≡ read_lines true lines.entry.number (lines_left lines.entry) }
-    ensures room { result.number + size_left result ≤ lines.entry.number + (length value.now + size_left lines.entry) }
+    ensures body { body_lines (lines_left result)
+        ≡ first_line value.now ++ body_lines (lines_left lines.entry) }
+    ensures left { read_lines true result.number (lines_left result)
+        ≡ read_lines true lines.entry.number (lines_left lines.entry) }
+    ensures room { result.number + size_left result
+        ≤ lines.entry.number + (length value.now + size_left lines.entry) }
     ensures fewer { size_left result ≤ 1 + length value.now + size_left lines.entry }
 {
     let rest = without_blanks(value);
@@ -106,9 +110,13 @@ fn with_colon<'a>(text: &'a [u8], line: &[u8], start: &'a [u8], lines: Lines<'a>
     requires start { Ends line.now start.now }
     requires number { 0 < lines.number }
     requires room { lines.number + length text.now < 2 ^ 64 }
-    ensures directive { found result.directive ≡ by_colon (lines.entry.number - 1) start.now (lines_left lines.entry) (position is_colon start.now) ∷ [] }
-    ensures left { read_lines true lines.entry.number (lines_left lines.entry) ≡ directives_left result.left }
-    ensures room { result.left.number + size_left result.left ≤ lines.entry.number + length text.now }
+    ensures directive { found result.directive
+        ≡ by_colon (lines.entry.number - 1) start.now (lines_left lines.entry)
+        (position is_colon start.now) ∷ [] }
+    ensures left { read_lines true lines.entry.number (lines_left lines.entry)
+        ≡ directives_left result.left }
+    ensures room { result.left.number + size_left result.left
+        ≤ lines.entry.number + length text.now }
     ensures fewer { size_left result.left ≤ length text.now }
 {
     let Some(at) = start.find_byte(b':') else {
@@ -142,7 +150,8 @@ fn is_keyword(start: &[u8]) -> bool
 /// What the first line of a text begins, which has this number and stands in no body.
 fn begin<'a>(number: usize, text: &'a [u8]) -> Begun<'a>
     requires { number + 1 + length text.now < 2 ^ 64 }
-    ensures directives { read_lines false number (lines_of text.now) ≡ found result.directive ++ directives_left result.left }
+    ensures directives { read_lines false number (lines_of text.now)
+        ≡ found result.directive ++ directives_left result.left }
     ensures room { result.left.number + size_left result.left ≤ number + 1 + length text.now }
     ensures fewer { size_left result.left ≤ length text.now }
 {
@@ -170,9 +179,11 @@ fn begin<'a>(number: usize, text: &'a [u8]) -> Begun<'a>
 /// The next directive of lines, if there is one, and the lines behind it.
 fn next_of<'a>(lines: Lines<'a>) -> Begun<'a>
     requires { lines.number + size_left lines < 2 ^ 64 }
-    ensures directives { directives_left lines.entry ≡ found result.directive ++ directives_left result.left }
+    ensures directives { directives_left lines.entry
+        ≡ found result.directive ++ directives_left result.left }
     ensures end { IfNone result.directive (directives_left lines.entry ≡ []) }
-    ensures room { result.left.number + size_left result.left ≤ lines.entry.number + size_left lines.entry }
+    ensures room { result.left.number + size_left result.left
+        ≤ lines.entry.number + size_left lines.entry }
 {
     let mut left = lines;
     while let Some(text) = left.text {
