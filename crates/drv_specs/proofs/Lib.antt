@@ -6,9 +6,11 @@ pub mod Changes
 pub mod Dumps
 pub mod Found
 pub mod GoodBodies
+pub mod Joining
 pub mod Keeping
 pub mod Keys
 pub mod Lining
+pub mod ReadLines
 pub mod Reloads
 pub mod SettledLines
 pub mod SettledTexts

@@ -6,4 +6,5 @@ pub mod Dumping
 pub mod Kept
 pub mod Lines
 pub mod Loading
+pub mod Reading
 pub mod Sets

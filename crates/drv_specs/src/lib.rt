@@ -19,5 +19,5 @@ mod text;
 
 pub use builtin_specs::builtin;
 pub use fault::SpecsFault;
-pub use laws::{dump_reloads, loading_keeps};
+pub use laws::{directives_are_read, dump_reloads, loading_keeps};
 pub use set::SpecSet;
