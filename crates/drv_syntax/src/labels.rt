@@ -166,6 +166,7 @@ impl Labels {
 
     /// One more for each of these bytes, which names it.
     #[tactic(auto, using(crate::proofs::MarkedWords::within_more, crate::proofs::MarkedWords::within_run, crate::proofs::MarkedWords::labels_run))]
+    #[inline(always)]
     pub fn push_bytes(&mut self, run: &[u8]) -> Result<(), SyntaxFault>
         ensures { Gives SyntaxFault.Memory (λ _. self.new) result (Ok (self.old ++ byte_labels run.now)) }
     {

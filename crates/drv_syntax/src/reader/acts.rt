@@ -17,6 +17,7 @@ use crate::reader::walk::Walk;
 use crate::token::TokenKind;
 
 /// `}` behind a pattern.
+#[inline(always)]
 pub fn act_ends(
     head: Head,
     form: Form,
@@ -56,6 +57,7 @@ pub fn act_joins(head: Head, form: Form, behind: Behind, w: &mut Walk) -> Result
 }
 
 /// `:` behind a test.
+#[inline(always)]
 pub fn act_asks(
     head: Head,
     form: Form,

@@ -159,6 +159,7 @@ fn is_star(single: Single) -> bool
 }
 
 /// An item without parts inside it.
+#[inline(always)]
 pub fn with_part(p: Part, w: &mut Walk) -> Result<(), SyntaxFault>
     requires room { length w.old.tokens.items + 1 < 2 ^ 32 }
     requires trail { w.old.trailing + 1 < 2 ^ 32 }

@@ -45,7 +45,7 @@ fn refused(at: u32) -> Result<(), SyntaxFault>
 }
 
 /// An item ends.
-#[inline]
+#[inline(always)]
 fn item(single: Single, taken: Taken, start: u32, end: u32, w: &mut Walk) -> Result<(), SyntaxFault>
     requires room { length w.old.tokens.items < 2 ^ 31 }
     requires trail { w.old.trailing < 2 ^ 31 }

@@ -49,6 +49,7 @@ pub fn name_word(word: &[u8], labels: &mut Labels) -> Result<(), SyntaxFault>
 }
 
 /// An item without parts inside it, with this word.
+#[inline(always)]
 pub fn name_single(single: Single, word: &[u8], labels: &mut Labels) -> Result<(), SyntaxFault>
     ensures { Gives SyntaxFault.Memory (λ _. labels.new) result (Ok (labels.old ++ walk.single_label single word.now ∷ [])) }
 {
@@ -64,6 +65,7 @@ pub fn name_single(single: Single, word: &[u8], labels: &mut Labels) -> Result<(
 }
 
 /// A pattern, with this word.
+#[inline(always)]
 pub fn name_pattern(behind: Behind, word: &[u8], labels: &mut Labels) -> Result<(), SyntaxFault>
     ensures { Gives SyntaxFault.Memory (λ _. labels.new) result (Ok (labels.old ++ walk.behind_pattern behind word.now ∷ [])) }
 {
@@ -86,6 +88,7 @@ fn mark_asks(mark: u8) -> TestKind
 }
 
 /// A test that asks no function, with this word.
+#[inline(always)]
 pub fn name_test(behind: Behind, word: &[u8], labels: &mut Labels) -> Result<(), SyntaxFault>
     ensures { Gives SyntaxFault.Memory (λ _. labels.new) result (Ok (labels.old ++ walk.behind_test behind word.now ∷ [])) }
 {
