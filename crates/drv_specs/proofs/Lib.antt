@@ -1,3 +1,4 @@
+pub mod Appending
 pub mod Bodies
 pub mod Booleans
 pub mod BuiltinKept

@@ -2,20 +2,20 @@
 
 ghost use Rattle.drv_specs.specs.Loading.{change};
 ghost use Rattle.drv_specs.specs.Code.Slices.{shown};
-ghost use Rattle.drv_specs.specs.Sets.{append, begins_with_at, by_tree, is_alias, is_key, is_key_byte, is_key_text, is_name, is_name_byte, is_no_text, is_not_installed, is_sized, pair_text, put, Set, with_body, with_name, with_pair_body, with_pair_text, with_text};
+ghost use Rattle.drv_specs.specs.Sets.{append, appended_text, begins_with_at, by_tree, is_alias, is_key, is_key_byte, is_key_text, is_name, is_name_byte, is_no_text, is_not_installed, is_sized, pair_text, put, Set, with_body, with_name, with_pair_body, with_pair_text, with_text};
 ghost use Rattle.drv_specs.specs.Blanks.{is_white};
 ghost use Rattle.drv_specs.specs.declared.fault.SpecsFault.TheVariants as fault;
 ghost use Rattle.drv_syntax.specs.Outcome.{parsed};
 ghost use Rattle.drv_words.specs.Gives.{Gives};
 ghost use Rattle.std.specs.List.{list_all};
-ghost use Rattle.std.specs.Prelude.{◌≡◌, IfOk};
+ghost use Rattle.std.specs.Prelude.{◌≡◌, ◌++◌, IfOk};
 
 use crate::SpecsFault;
-use crate::bytes::{has_byte, is_blank, is_white, without_end_white, without_first};
+use crate::bytes::{has_byte, is_blank, is_white, without_end_white, without_first, without_white};
 use crate::directive::Directive;
 use crate::entries::Entries;
 use crate::settling::ends_with_backslash;
-use crate::text::Text;
+use crate::text::{Text, joined};
 use drv_syntax::{SyntaxFault, parse};
 use drv_words::Word;
 use std::alloc::Global;
@@ -141,6 +141,41 @@ fn parsed_text(alloc: Global, name: &[u8], text: &[u8]) -> Result<Text, SpecsFau
     }
 }
 
+/// A text with more behind it, which is refused if that has no tree.
+#[tactic(auto, using(crate::proofs::TreeChecks::tree_given, crate::proofs::TreeChecks::tree_refused))]
+fn extended_text(alloc: Global, name: &[u8], text: Text, more: &[u8]) -> Result<Text, SpecsFault>
+    ensures tree { (set : Set) → Gives fault.Memory (λ _. set) result (by_tree name.now set (parsed (text ++ more.now))) }
+    ensures text { IfOk result (λ whole. whole ≡ text ++ more.now) }
+{
+    match text.extended(alloc, more) {
+        Ok(text) => Ok(text),
+        Err(SyntaxFault::Memory) => Err(SpecsFault::Memory),
+        Err(fault) => Err(SpecsFault::Syntax {
+            name: Word::from_bytes(alloc, name)?,
+            fault,
+        }),
+    }
+}
+
+/// What comes of adding to the text of a name, if it has one.
+fn appended_text(
+    alloc: Global,
+    name: &[u8],
+    text: Option<Text>,
+    addition: &[u8],
+) -> Result<Text, SpecsFault>
+    ensures tree { (set : Set) → Gives fault.Memory (λ _. set) result (by_tree name.now set (parsed (appended_text text addition.now))) }
+    ensures text { IfOk result (λ whole. whole ≡ appended_text text addition.now) }
+{
+    match text {
+        Some(text) => extended_text(alloc, name, text, addition),
+        None => {
+            let text = joined(alloc, b" ", without_white(addition))?;
+            parsed_text(alloc, name, text.as_bytes())
+        }
+    }
+}
+
 impl Entries {
     /// Puts a text that has a tree.
     pub(crate) fn put(&mut self, name: &[u8], text: &[u8]) -> Result<(), SpecsFault>
@@ -158,8 +193,10 @@ impl Entries {
         if is_all_white(addition) {
             return Ok(());
         }
-        let text = self.appended(name, addition)?;
-        self.put(name, text.as_bytes())
+        let text = self.take(name)?;
+        let text = appended_text(self.alloc(), name, text, addition)?;
+        self.insert(name, text)?;
+        Ok(())
     }
 
     /// Does what a body says to a name.

@@ -1,14 +1,14 @@
 //! Named texts and suffix pairs, as the directives of a file change them.
 
 ghost use Rattle.drv_specs.specs.Code.Keyed.{entries_of};
-ghost use Rattle.drv_specs.specs.Sets.{appended_text, deleted, no_specs, text_of, with_named, with_pair, worked_text};
+ghost use Rattle.drv_specs.specs.Sets.{deleted, no_specs, text_of, with_named, with_pair, worked_text};
 ghost use Rattle.std.specs.Cmp.Lexicographic.{pointwise};
 ghost use Rattle.std.specs.Map.{set_key};
 ghost use Rattle.std.specs.Option.{option_map};
-ghost use Rattle.std.specs.Prelude.{◌≡◌, ◌++◌, IfOk, None, OnOk, is_some, nat_eq, option_and_then, slice_get};
+ghost use Rattle.std.specs.Prelude.{◌≡◌, [], IfOk, None, OnOk, is_some, nat_eq, option_and_then, slice_get};
 
-use crate::bytes::without_white;
 use crate::text::Text;
+use drv_syntax::SpecTree;
 use drv_words::{Listing, Word};
 use indexmap::IndexMap;
 use std::alloc::{AllocError, Global};
@@ -33,15 +33,6 @@ impl Model for Entries {
     ghost view = { λ e. record { named = entries_of e.named.entries; pairs = e.pairs } };
 
     ghost invariant = { λ e. e.trees.items ≡ map worked_text e.pairs };
-}
-
-/// A text and another behind it.
-fn joined(alloc: Global, front: &[u8], back: &[u8]) -> Result<Word, AllocError>
-    ensures { IfOk result (λ text. text ≡ front.now ++ back.now) }
-{
-    let mut text = Word::from_bytes(alloc, front)?;
-    text.extend_from_slice(back)?;
-    Ok(text)
 }
 
 /// Copies of pairs.
@@ -139,14 +130,15 @@ impl Entries {
         }
     }
 
-    /// The text that comes of adding to the text of a name.
-    pub(crate) fn appended(&self, name: &[u8], addition: &[u8]) -> Result<Word, AllocError>
-        ensures { IfOk result (λ text. text ≡ appended_text (text_of self.now name.now) addition.now) }
+    /// Takes the text of a name, if there is one. Under the name an empty one stands then.
+    pub(crate) fn take(&mut self, name: &[u8]) -> Result<Option<Text>, AllocError>
+        ensures taken { IfOk result (λ taken. taken ≡ text_of self.old name.now) }
+        ensures left { OnOk result (self.new ≡ with_named self.old name.now []) }
     {
-        match self.text(name) {
-            Some(text) => joined(self.alloc, text.tree().text(), addition),
-            None => joined(self.alloc, b" ", without_white(addition)),
-        }
+        let key = name.to_vec(self.alloc)?;
+        let empty = Text::new(self.alloc, SpecTree::empty(self.alloc))?;
+        let taken = self.named.insert(key, empty)?;
+        Ok(taken)
     }
 
     /// Puts a text under a name: a name that is there keeps its place, a new one goes last.

@@ -1,11 +1,39 @@
 //! A text that has a tree.
 
-ghost use Rattle.std.specs.Prelude.{◌≡◌, IfOk};
+ghost use Rattle.drv_syntax.specs.Outcome.{parsed};
+ghost use Rattle.drv_syntax.specs.Parsed.{tree_of};
+ghost use Rattle.drv_syntax.specs.declared.fault.SyntaxFault.TheVariants as syntax;
+ghost use Rattle.drv_words.specs.Gives.{Gives};
+ghost use Rattle.std.specs.Prelude.{◌≡◌, ◌++◌, IfOk};
 
-use drv_syntax::SpecTree;
+use drv_syntax::{SpecTree, SyntaxFault, parse};
+use drv_words::Word;
 use std::alloc::{AllocError, Global};
 use std::marker::Model;
 use std::rc::Rc;
+
+/// A text and another behind it.
+pub(crate) fn joined(alloc: Global, front: &[u8], back: &[u8]) -> Result<Word, AllocError>
+    ensures { IfOk result (λ text. text ≡ front.now ++ back.now) }
+{
+    let mut text = Word::from_bytes(alloc, front)?;
+    text.extend_from_slice(back)?;
+    Ok(text)
+}
+
+/// The tree of a text with more behind it. Where no other text shares the tree of the first, that one is read on.
+fn extended_tree(alloc: Global, shared: Rc<SpecTree>, more: &[u8]) -> Result<SpecTree, SyntaxFault>
+    ensures tree { Gives syntax.Memory tree_of result (parsed (shared.value ++ more.now)) }
+    ensures text { IfOk result (λ tree. tree ≡ shared.value ++ more.now) }
+{
+    match Rc::try_unwrap(shared) {
+        Ok(tree) => tree.extended(alloc, more),
+        Err(shared) => {
+            let text = joined(alloc, shared.as_ref().text(), more)?;
+            parse(alloc, text.as_bytes())
+        }
+    }
+}
 
 /// A text that has a tree. Its copies share the tree.
 #[derive(Drop)]
@@ -39,6 +67,15 @@ impl Text {
         Ok(Text {
             shared: Rc::new(alloc, tree)?,
         })
+    }
+
+    /// The text with more behind it, if that has a tree.
+    pub(crate) fn extended(self, alloc: Global, more: &[u8]) -> Result<Text, SyntaxFault>
+        ensures tree { Gives syntax.Memory tree_of result (parsed (self ++ more.now)) }
+        ensures text { IfOk result (λ text. text ≡ self ++ more.now) }
+    {
+        let tree = extended_tree(alloc, self.shared, more)?;
+        Ok(Text::new(alloc, tree)?)
     }
 
     /// The tree.
