@@ -1,3 +1,4 @@
+use Rattle.drv_machine.specs.Atoms.{added}
 use Rattle.drv_machine.specs.Context.{Context, is_piping}
 use Rattle.drv_machine.specs.Cutting.{Cut, Line}
 use Rattle.drv_machine.specs.Code.Grouping.{ahead, grouped}
@@ -159,6 +160,14 @@ one_new kept new file files among e =
     ∙ filter_same (λ f. not (pointwise nat_eq file f) && not (is_among kept f)) (λ f. not (is_among (kept ++ file ∷ []) f)) (once files) (λ f. among_more kept file f))
     ∙ sym (append_assoc kept (file ∷ []) (others_than (kept ++ file ∷ []) (once files)))
     ∙ ap (λ ks. ks ++ others_than ks (once files)) (sym e)
+
+pub one_added : (kept new : List (List ℕ)) (file : List ℕ) (files : List (List ℕ)) → new ≡ added file kept
+    → kept ++ others_than kept (once (file ∷ files)) ≡ new ++ others_than new (once files)
+one_added kept new file files e = by (is_among kept file) refl
+  where
+    by : (b : Bool) → is_among kept file ≡ b → kept ++ others_than kept (once (file ∷ files)) ≡ new ++ others_than new (once files)
+    by true among = again kept file files among ∙ ap (λ ks. ks ++ others_than ks (once files)) (sym (e ∙ ap (λ b. if b then kept else kept ++ file ∷ []) among))
+    by false among = one_new kept new file files among (e ∙ ap (λ b. if b then kept else kept ++ file ∷ []) among)
 
 pub all_once : (kept : List (List ℕ)) → kept ++ others_than kept (once []) ≡ kept
 all_once kept = append-nil kept

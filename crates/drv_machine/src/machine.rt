@@ -19,6 +19,7 @@ mod cutter;
 mod filing;
 mod finishing;
 mod functions;
+mod indexed;
 mod inside;
 mod lists;
 mod marking;
@@ -31,6 +32,7 @@ use drv_match::{Hidden, Pattern, Switches};
 use drv_system::System;
 use drv_words::{Listing, Word};
 pub(crate) use finishing::outcome_of;
+use indexed::IndexedWords;
 use inside::Inside;
 use lists::copied_words;
 pub(crate) use marking::{Mark, Marking};
@@ -88,7 +90,7 @@ pub(crate) struct Machine {
     inside: Inside,
     hidden: Hidden,
     /// What `%x` has added so far.
-    options: Listing<Word>,
+    options: IndexedWords,
     /// The names of the job's temporaries.
     drawn: Listing<Drawn>,
     /// The number of the next name that is drawn.
@@ -152,7 +154,7 @@ impl Machine {
             output: None,
             inside: Inside::new(alloc),
             hidden: Hidden::new(alloc, context.switches())?,
-            options: copied_words(alloc, context.options())?,
+            options: IndexedWords::new(alloc, copied_words(alloc, context.options())?),
             drawn: Listing::new(alloc),
             number: context.number(),
             outputs: copied_words(alloc, context.outputs())?,

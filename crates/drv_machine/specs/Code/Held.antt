@@ -1,9 +1,12 @@
 use Rattle.drv_machine.specs.Cutting.{word_done}
 use Rattle.drv_machine.specs.Code.Running.{Machine}
-use Rattle.drv_machine.specs.Working.{◌>>-◌, Answer}
+use Rattle.drv_machine.specs.Working.{◌>>-◌, Answer, is_among}
 use Rattle.drv_system.specs.Known.{Is}
 use Rattle.drv_words.specs.declared.plan.Command.{Command}
-use Rattle.std.specs.Prelude.{◌≡◌, ◌-◌, ◌++◌, Bool, List, [], ◌∷◌, None, Ok, Option, Some, false, replicate, true, ℕ}
+use Rattle.std.specs.BTreeSet.{BTreeSet, contains}
+use Rattle.std.specs.Cmp.Lexicographic.{slice_cmp}
+use Rattle.std.specs.Ordering.{nat_cmp}
+use Rattle.std.specs.Prelude.{◌≡◌, ◌-◌, ◌++◌, Bool, List, [], ◌∷◌, None, Ok, Option, Some, false, replicate, true, ⊤, ℕ}
 
 -- How the code holds what is cut. Private clauses alone cite it.
 
@@ -32,3 +35,12 @@ word_found s words found = found >>- by
   where
     by : List ℕ → Answer (Unit {0} × Machine)
     by path = Is (Ok (tt, record s { cut = word_done s.cut (words path) path }))
+
+-- an index of a list: whether a word is in it
+abbrev pub Indexes : BTreeSet (List ℕ) → List (List ℕ) → Type 0
+Indexes index list = (word : List ℕ) → contains (slice_cmp nat_cmp) index word ≡ is_among list word
+
+-- a list, and an index of it where there is one
+abbrev pub IndexedBy : Option (BTreeSet (List ℕ)) → List (List ℕ) → Type 0
+IndexedBy None list = ⊤
+IndexedBy (Some index) list = Indexes index list

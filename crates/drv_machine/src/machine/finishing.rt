@@ -6,7 +6,6 @@ ghost use Rattle.drv_machine.specs.Cutting as cutting;
 ghost use Rattle.drv_machine.specs.Code.Grouping.{grouped};
 ghost use Rattle.drv_machine.specs.Code.Held.{made};
 ghost use Rattle.drv_machine.specs.Outcome.{command, ends_piped, finished, groups, job, lasting, most_piped, once};
-ghost use Rattle.drv_machine.specs.Working.{is_among};
 ghost use Rattle.drv_system.specs.Asking.{Extends};
 ghost use Rattle.drv_system.specs.Facts.{Facts};
 ghost use Rattle.drv_system.specs.Gives.{GivesKnown};
@@ -14,8 +13,7 @@ ghost use Rattle.drv_system.specs.Known.{Is};
 ghost use Rattle.std.specs.List.{list_any};
 ghost use Rattle.std.specs.Prelude.{◌≡◌, ◌&&◌, ◌||◌, ◌∷◌, ◌++◌, [], IfOk, List, Ok, OnOk, length, map, nat_lt};
 
-use super::lists::is_among;
-use super::{Drawn, Line, Machine};
+use super::{Drawn, IndexedWords, Line, Machine};
 use crate::outside::Outside;
 use crate::{Context, MachineFault, Outcome};
 use drv_search::find_program;
@@ -47,10 +45,19 @@ pub(crate) fn outcome_of<S: System>(
         job,
         notices: mem::replace(&mut machine.notices, Listing::new(alloc)),
         outs: mem::replace(&mut machine.outputs, Listing::new(alloc)),
-        accumulated: mem::replace(&mut machine.options, Listing::new(alloc)),
+        accumulated: options_of(machine),
         next_number: machine.number,
         cost: machine.items,
     })
+}
+
+/// What `%x` has added, which is moved out of the machine.
+fn options_of(machine: &mut Machine) -> Listing<Word>
+    ensures options { result ≡ machine.old.world.options }
+    ensures others { machine.new ≡ record machine.old { world = record machine.old.world { options = [] } } }
+{
+    let none = IndexedWords::new(machine.alloc, Listing::new(machine.alloc));
+    mem::replace(&mut machine.options, none).into_listing()
 }
 
 /// The job of a machine's text. Words are moved out of the machine.
@@ -236,30 +243,26 @@ fn temps_of(alloc: Global, drawn: Listing<Drawn>) -> Result<Listing<Temp>, Alloc
     Ok(temps)
 }
 
-/// Whether a file is a temporary of the job.
-fn is_temp(drawn: &[Drawn], file: &[u8]) -> bool
-    ensures { result ≡ is_among (map (λ name. name.path) drawn.now) file.now }
+/// The paths of the names that were drawn.
+fn paths_of(alloc: Global, drawn: &[Drawn]) -> Result<IndexedWords, AllocError>
+    ensures { IfOk result (λ paths. paths ≡ map (λ name. name.path) drawn.now) }
 {
+    let mut paths = Listing::new(alloc);
     for name in drawn {
-        if file == name.path.as_bytes() {
-            return true;
-        }
+        paths.push(name.path.clone()?)?;
     }
-    false
+    Ok(IndexedWords::new(alloc, paths))
 }
 
 /// Files, each once. Words are moved.
 fn once(alloc: Global, files: Listing<Word>) -> Result<Listing<Word>, AllocError>
     ensures { IfOk result (λ kept. kept ≡ once files) }
 {
-    let mut kept = Listing::new(alloc);
+    let mut kept = IndexedWords::new(alloc, Listing::new(alloc));
     for file in files.into_vec() {
-        if is_among(kept.as_slice(), file.as_bytes()) {
-            continue;
-        }
-        kept.push(file)?;
+        kept.add(file)?;
     }
-    Ok(kept)
+    Ok(kept.into_listing())
 }
 
 /// Files, each once, and without the job's own temporaries. Words are moved.
@@ -271,8 +274,12 @@ fn lasting(
     ensures { IfOk result (λ kept. kept ≡ lasting (map (λ name. name.path) drawn.now) files) }
 {
     let mut kept = Listing::new(alloc);
+    if files.is_empty() {
+        return Ok(kept);
+    }
+    let mut paths = paths_of(alloc, drawn)?;
     for file in once(alloc, files)?.into_vec() {
-        if is_temp(drawn, file.as_bytes()) {
+        if paths.has(&file)? {
             continue;
         }
         kept.push(file)?;

@@ -211,10 +211,7 @@ impl Machine {
         ensures sized { length self.new.world.hidden ≡ length self.old.world.hidden }
         ensures uncounted { OnOk result (self.new.world.items ≡ self.old.world.items) }
     {
-        if is_among(self.options.as_slice(), option) {
-            return Ok(());
-        }
-        self.options.push(Word::from_bytes(self.alloc, option)?)?;
+        self.options.add(Word::from_bytes(self.alloc, option)?)?;
         Ok(())
     }
 

@@ -5,4 +5,7 @@ use Rattle.std.specs.List.{filter}
 use Rattle.std.specs.Prelude.{not}
 
 abbrev pub invariant-loop-file : goal.invariant-loop-file
-invariant-loop-file l = l.kept ≡ filter (λ file. not (is_among (map (λ name. name.path) l.drawn) file)) l.yielded
+invariant-loop-file l = record {
+  paths : l.paths ≡ map (λ name. name.path) l.drawn;
+  kept : l.kept ≡ filter (λ file. not (is_among (map (λ name. name.path) l.drawn) file)) l.yielded;
+}

@@ -1,4 +1,4 @@
-use Rattle.drv_machine.proofs.Finished.{again, all_once, none_kept, one_new, was_among}
+use Rattle.drv_machine.proofs.Finished.{all_once, none_kept, one_added}
 use Rattle.drv_machine.proofs.machine.finishing.once.Goals as goal
 use Rattle.drv_machine.specs.Outcome.{once}
 use Rattle.std.proofs.lemmas.Iterator.Adapters.{YieldsList-from_vec}
@@ -7,17 +7,12 @@ use Rattle.std.proofs.lemmas.List.{map-id}
 use Rattle.std.proofs.Common.{arith, [], ◌∷◌, ◌≡◌, ◌∙◌, ap, append-nil, append_assoc, sym}
 
 pub loop-file-init : goal.loop-file-init
-loop-file-init c rest = none_kept c.new-kept.result (once rest) c.new-kept.ensures
-
-pub loop-file-preserved-then-is_among : goal.loop-file-preserved-then-is_among
-loop-file-preserved-then-is_among c rest =
-    ap once (append_assoc c.loop-file.yielded (c.in-Some.file ∷ []) rest) ∙ c.loop-file.invariant (c.in-Some.file ∷ rest)
-    ∙ again c.loop-file.kept c.in-Some.file rest (was_among _ _ _ _ _ _ c.is_among.ensures c.as_slice.ensures c.as_bytes.ensures c.if-is_among.true)
+loop-file-init c rest = none_kept c.new-kept.result (once rest) (c.new-kept.ensures ∙ c.new.ensures)
 
 pub loop-file-preserved : goal.loop-file-preserved
 loop-file-preserved c rest =
     ap once (append_assoc c.loop-file.yielded (c.in-Some.file ∷ []) rest) ∙ c.loop-file.invariant (c.in-Some.file ∷ rest)
-    ∙ one_new c.loop-file.kept c.push.new.self c.in-Some.file rest (was_among _ _ _ _ _ _ c.is_among.ensures c.as_slice.ensures c.as_bytes.ensures c.if-is_among.false) c.in_ok-push.ensures.ok
+    ∙ one_added c.loop-file.kept c.add.new.self c.in-Some.file rest c.in_ok-add.ensures
 
 pub returns : goal.returns
 returns c =
@@ -25,4 +20,4 @@ returns c =
     let ended =
     YieldsList-end (YieldsList-from_vec {s = c.into_iter-file-iterator.result} c.into_vec-file-items.result.items given.0 (omega (arith, given.1, c.into_vec-file-items.result.ok.0))) c.loop-file.yielded c.loop-file.file-iterator c.loop-file.yielded_by c.next.result c.next.new.self c.in-None.is c.next.ensures.steps in
     let all : c.loop-file.yielded ≡ c.args.files = sym (map-id c.loop-file.yielded) ∙ ended.0 ∙ c.into_vec-file-items.ensures in
-    sym (ap once (sym all ∙ sym (append-nil c.loop-file.yielded)) ∙ c.loop-file.invariant [] ∙ all_once c.loop-file.kept)
+    c.into_listing.ensures ∙ sym (ap once (sym all ∙ sym (append-nil c.loop-file.yielded)) ∙ c.loop-file.invariant [] ∙ all_once c.loop-file.kept)

@@ -1,0 +1,5 @@
+use Rattle.drv_machine.proofs.machine.finishing.paths_of.Given as goal
+use Rattle.std.proofs.Common.{drop, map, ◌≡◌, ◌++◌}
+
+abbrev pub invariant-loop-name : goal.invariant-loop-name
+invariant-loop-name l = l.paths ++ map (λ name. name.path) (drop l.name-index l.drawn) ≡ map (λ name. name.path) l.drawn

@@ -1,0 +1,9 @@
+use Rattle.drv_machine.proofs.machine.indexed.index_of.Given as goal
+use Rattle.drv_machine.specs.Working.{is_among}
+use Rattle.std.proofs.Common.{drop, List, ◌≡◌, ◌||◌, ℕ}
+use Rattle.std.specs.BTreeSet.{contains}
+use Rattle.std.specs.Cmp.Lexicographic.{slice_cmp}
+use Rattle.std.specs.Ordering.{nat_cmp}
+
+abbrev pub invariant-loop-word : goal.invariant-loop-word
+invariant-loop-word l = (other : List ℕ) → (contains (slice_cmp nat_cmp) l.index other || is_among (drop l.word-index l.words) other) ≡ is_among l.words other
