@@ -1,4 +1,3 @@
-pub mod Asked
 mod BuiltinPlans
 pub mod Ends
 mod LanguageRows

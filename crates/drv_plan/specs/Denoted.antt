@@ -138,13 +138,13 @@ abbrev pub with_link : Facts → Set → Going → Planned (Option Job × Going)
 with_link F set g = if length g.outputs == 0 then Is (Ok (None, g)) else with_text F (text_of set (codes "link_command")) g
 
 -- a word between two texts
-abbrev pub around : List ℕ → List ℕ → List ℕ → List ℕ
-around before behind word = before ++ word ++ behind
+abbrev pub between : List ℕ → List ℕ → List ℕ → List ℕ
+between before behind word = before ++ word ++ behind
 
 -- without a link each file that is the linker's is told
 abbrev pub unused : Option Job → List (List ℕ) → List (List ℕ)
 unused (Some link) names = []
-unused None names = map (around (codes "warning: ") (codes ": linker input file unused because linking not done")) names
+unused None names = map (between (codes "warning: ") (codes ": linker input file unused because linking not done")) names
 
 -- the notices: what texts tell, and behind it the files that no link takes
 abbrev pub notices : Option Job → Going → List (List ℕ)

@@ -118,8 +118,8 @@ impl<'a> Going<'a> {
         Ok(())
     }
 
-    /// Works a text for what the context has, and keeps what goes on to the next one. It asks the system only where the
-    /// table has no answer.
+    /// Works a text for what the context has, and keeps what goes on to the next one. It asks the
+    /// system only where the table has no answer.
     ///
     /// # Errors
     /// The machine's refusal of the text.
@@ -131,7 +131,9 @@ impl<'a> Going<'a> {
         facts: &mut FactTable,
     ) -> Result<Job, PlanFault>
         ensures asks { Asks (S.events sys.old) (S.events sys.new) facts.old facts.new }
-        ensures works { (F : Facts) → Extends facts.new F → GivesKnown PlanFault.Memory (λ job. (job, self.new)) result (worked F text.now self.old) }
+        ensures works { (F : Facts) → Extends facts.new F
+            → GivesKnown PlanFault.Memory (λ job. (job, self.new)) result
+            (worked F text.now self.old) }
         ensures apart { IfErr result (λ fault. fault ≢ PlanFault.Machine machine.Memory) }
     {
         let mut done = run(alloc, text, &self.context, sys, facts)?;
@@ -153,7 +155,9 @@ impl<'a> Going<'a> {
         facts: &mut FactTable,
     ) -> Result<(), PlanFault>
         ensures asks { Asks (S.events sys.old) (S.events sys.new) facts.old facts.new }
-        ensures works { (F : Facts) → Extends facts.new F → GivesKnown PlanFault.Memory (λ _. self.new) result (with_source F place source.entry text.now self.old) }
+        ensures works { (F : Facts) → Extends facts.new F
+            → GivesKnown PlanFault.Memory (λ _. self.new) result
+            (with_source F place source.entry text.now self.old) }
         ensures apart { IfErr result (λ fault. fault ≢ PlanFault.Machine machine.Memory) }
     {
         self.context.set_input(Some(source));
@@ -174,7 +178,9 @@ impl<'a> Going<'a> {
         facts: &mut FactTable,
     ) -> Result<Job, PlanFault>
         ensures asks { Asks (S.events sys.old) (S.events sys.new) facts.old facts.new }
-        ensures works { (F : Facts) → Extends facts.new F → GivesKnown PlanFault.Memory (λ job. (job, self.new)) result (worked F text.now (for_link self.old)) }
+        ensures works { (F : Facts) → Extends facts.new F
+            → GivesKnown PlanFault.Memory (λ job. (job, self.new)) result
+            (worked F text.now (for_link self.old)) }
         ensures apart { IfErr result (λ fault. fault ≢ PlanFault.Machine machine.Memory) }
     {
         let outputs = mem::replace(&mut self.outputs, Listing::new(alloc));

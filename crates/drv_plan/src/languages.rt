@@ -65,7 +65,8 @@ fn is_of_language(language: &[u8], key: &[u8]) -> bool
     }
 }
 
-/// Whether two texts end with the same byte, or one has none: most texts that don't end with another show it by this alone.
+/// Whether two texts end with the same byte, or one has none: most texts that don't end with
+/// another show it by this alone.
 fn end_alike(text: &[u8], end: &[u8]) -> bool
     ensures { result ≡ false → ends_with nat_eq text.now end.now ≡ false }
 {
@@ -98,7 +99,8 @@ fn fits(wanted: Wanted<'_>, key: &[u8]) -> bool
 
 /// The place of the last pair whose key fits.
 fn last_place(wanted: Wanted<'_>, pairs: &[(Word, Word)]) -> Option<usize>
-    ensures { option_map (λ pair. pair.1) (option_and_then (slice_get pairs.now) result) ≡ last_text (fits wanted.entry) pairs.now }
+    ensures { option_map (λ pair. pair.1) (option_and_then (slice_get pairs.now) result)
+        ≡ last_text (fits wanted.entry) pairs.now }
 {
     let mut left = pairs.len();
     while left > 0 {
@@ -123,7 +125,8 @@ enum PairText<'a> {
 
 /// What a pair's text is, which has a tree if it is one that is worked.
 fn pair_text<'a>(tree: Option<&'a SpecTree>, text: &'a [u8]) -> PairText<'a>
-    requires { option_map (λ tree. tree.now) tree ≡ (if is_no_text text.now then None else Some text.now) }
+    requires { option_map (λ tree. tree.now) tree
+        ≡ (if is_no_text text.now then None else Some text.now) }
     ensures { shown result ≡ pair_text text.now }
 {
     match (tree, text) {
@@ -149,7 +152,8 @@ fn by_language<'a>(
     set: &'a SpecSet,
     language: &'a [u8],
 ) -> Result<Chosen<'a>, PlanFault>
-    ensures gives { Gives fault.Memory (λ chosen. chosen) result (by_language set.now language.now) }
+    ensures gives { Gives fault.Memory (λ chosen. chosen) result
+        (by_language set.now language.now) }
     ensures apart { IfErr result (λ refusal. refusal ≢ fault.Machine machine.Memory) }
 {
     match last_pair(set, Wanted::Language(language)) {
@@ -192,12 +196,13 @@ fn is_standard_input(name: &[u8]) -> bool
     matches!(name, [b'-'])
 }
 
-/// What an input is worked with, or none where it is the linker's (GCC manual, "Overall Options", -x): a file is worked in the
-/// language that `-x` gave it; without one standard input is in C, and the suffix of any other decides.
+/// What an input is worked with, or none where it is the linker's (GCC manual, "Overall Options",
+/// -x): a file is worked in the language that `-x` gave it; without one standard input is in C, and
+/// the suffix of any other decides.
 ///
 /// # Errors
-/// `UnknownLanguage` with the language that no pair has, and `NotInstalled` with the compiler that a pair says isn't
-/// installed.
+/// `UnknownLanguage` with the language that no pair has, and `NotInstalled` with the compiler that
+/// a pair says isn't installed.
 pub fn language<'a>(
     alloc: Global,
     input: &'a Input,

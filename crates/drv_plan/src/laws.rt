@@ -12,11 +12,13 @@ ghost use Rattle.std.specs.Prelude.{◌≡◌, Ok, ℕ};
 
 use drv_specs::SpecSet;
 
-/// The law that the dump of a set, loaded over the set, changes no plan, unless a named text begins with `+` and a blank: then
-/// that text would be taken as an addition. It gives nothing.
+/// The law that the dump of a set, loaded over the set, changes no plan, unless a named text begins
+/// with `+` and a blank: then that text would be taken as an addition. It gives nothing.
 pub fn reload_law(set: &SpecSet)
     ensures { Plain set.now → (F : Facts) (prefixes : Prefixes)
-        → (after : Set) × (loaded F prefixes set.now (dumped set.now) ≡ Is (Ok after)) × ((G : Facts) (line : Line) (seed : ℕ) → denoted G line after seed ≡ denoted G line set.now seed) }
+        → (after : Set) × (loaded F prefixes set.now (dumped set.now) ≡ Is (Ok after))
+        × ((G : Facts) (line : Line) (seed : ℕ)
+        → denoted G line after seed ≡ denoted G line set.now seed) }
 {
     set.reloads_over_itself();
 }

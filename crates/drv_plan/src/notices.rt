@@ -1,6 +1,6 @@
 //! The notices of a plan.
 
-ghost use Rattle.drv_plan.specs.Denoted.{around, notices, unused};
+ghost use Rattle.drv_plan.specs.Denoted.{between, notices, unused};
 ghost use Rattle.std.specs.Prelude.{◌≡◌, ◌++◌, IfOk, OnOk, map};
 
 use crate::going::Going;
@@ -15,8 +15,8 @@ const UNUSED_FRONT: &[u8] = b"warning: ";
 const UNUSED_END: &[u8] = b": linker input file unused because linking not done";
 
 /// A word between two texts, in one allocation.
-fn around(alloc: Global, before: &[u8], behind: &[u8], word: &[u8]) -> Result<Word, AllocError>
-    ensures { IfOk result (λ text. text ≡ around before.now behind.now word.now) }
+fn between(alloc: Global, before: &[u8], behind: &[u8], word: &[u8]) -> Result<Word, AllocError>
+    ensures { IfOk result (λ text. text ≡ between before.now behind.now word.now) }
 {
     let room = (before.len() + behind.len()).saturating_add(word.len());
     let mut text = Vec::with_capacity(alloc, room)?;
@@ -34,15 +34,16 @@ fn push_all(
     behind: &[u8],
     words: &[Word],
 ) -> Result<(), AllocError>
-    ensures { OnOk result (list.new ≡ list.old ++ map (around before.now behind.now) words.now) }
+    ensures { OnOk result (list.new ≡ list.old ++ map (between before.now behind.now) words.now) }
 {
     for word in words {
-        list.push(around(alloc, before, behind, word.as_bytes())?)?;
+        list.push(between(alloc, before, behind, word.as_bytes())?)?;
     }
     Ok(())
 }
 
-/// Adds the notices of files that are the linker's, of which there is one for each where there is no link.
+/// Adds the notices of files that are the linker's, of which there is one for each where there is
+/// no link.
 fn push_unused(
     alloc: Global,
     list: &mut Listing<Word>,
@@ -57,7 +58,8 @@ fn push_unused(
     }
 }
 
-/// The notices of a plan with this link: those of texts, which are moved, and behind them those of files that no link takes.
+/// The notices of a plan with this link: those of texts, which are moved, and behind them those of
+/// files that no link takes.
 pub(crate) fn notices_of(
     alloc: Global,
     link: &Option<Job>,

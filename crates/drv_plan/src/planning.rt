@@ -51,7 +51,9 @@ fn link_with<S: System>(
     facts: &mut FactTable,
 ) -> Result<Option<Job>, PlanFault>
     ensures asks { Asks (S.events sys.old) (S.events sys.new) facts.old facts.new }
-    ensures works { (F : Facts) → Extends facts.new F → GivesKnown PlanFault.Memory (λ link. (link, going.new)) result (with_text F (Some text.now) going.old) }
+    ensures works { (F : Facts) → Extends facts.new F
+        → GivesKnown PlanFault.Memory (λ link. (link, going.new)) result
+        (with_text F (Some text.now) going.old) }
     ensures apart { IfErr result (λ fault. fault ≢ PlanFault.Machine machine.Memory) }
 {
     let job = going.work_link(alloc, text, sys, facts)?;
@@ -67,7 +69,9 @@ fn link_of<S: System>(
     facts: &mut FactTable,
 ) -> Result<Option<Job>, PlanFault>
     ensures asks { Asks (S.events sys.old) (S.events sys.new) facts.old facts.new }
-    ensures works { (F : Facts) → Extends facts.new F → GivesKnown PlanFault.Memory (λ link. (link, going.new)) result (with_link F set.now going.old) }
+    ensures works { (F : Facts) → Extends facts.new F
+        → GivesKnown PlanFault.Memory (λ link. (link, going.new)) result
+        (with_link F set.now going.old) }
     ensures apart { IfErr result (λ fault. fault ≢ PlanFault.Machine machine.Memory) }
 {
     if is_empty_link(going.outputs.as_slice()) {
@@ -100,7 +104,8 @@ fn finish<S: System>(
     facts: &mut FactTable,
 ) -> Result<Plan, PlanFault>
     ensures asks { Asks (S.events sys.old) (S.events sys.new) facts.old facts.new }
-    ensures works { (F : Facts) → Extends facts.new F → GivesKnown PlanFault.Memory (λ plan. plan) result (finished F set.now going.old) }
+    ensures works { (F : Facts) → Extends facts.new F
+        → GivesKnown PlanFault.Memory (λ plan. plan) result (finished F set.now going.old) }
     ensures apart { IfErr result (λ fault. fault ≢ PlanFault.Machine machine.Memory) }
 {
     let link = link_of(alloc, set, going, sys, facts)?;
@@ -108,7 +113,7 @@ fn finish<S: System>(
 }
 
 /// The plan of inputs, behind what was worked before them.
-#[tactic(auto, using(crate::proofs::Asked::asks_further))]
+#[tactic(auto, using(drv_system::proofs::Asking::asks_then))]
 fn plan_inputs<'a, S: System>(
     alloc: Global,
     set: &'a SpecSet,
@@ -118,7 +123,9 @@ fn plan_inputs<'a, S: System>(
     facts: &mut FactTable,
 ) -> Result<Plan, PlanFault>
     ensures asks { Asks (S.events sys.old) (S.events sys.new) facts.old facts.new }
-    ensures works { (F : Facts) → Extends facts.new F → GivesKnown PlanFault.Memory (λ plan. plan) result (then_by (with_inputs F set.now 0 inputs.now going.old) (λ g. finished F set.now g)) }
+    ensures works { (F : Facts) → Extends facts.new F
+        → GivesKnown PlanFault.Memory (λ plan. plan) result
+        (then_by (with_inputs F set.now 0 inputs.now going.old) (λ g. finished F set.now g)) }
     ensures apart { IfErr result (λ fault. fault ≢ PlanFault.Machine machine.Memory) }
 {
     add_inputs(alloc, set, inputs, going, sys, facts)?;
@@ -135,21 +142,24 @@ fn planned<'a, S: System>(
     facts: &mut FactTable,
 ) -> Result<Plan, PlanFault>
     ensures asks { Asks (S.events sys.old) (S.events sys.new) facts.old facts.new }
-    ensures works { (F : Facts) → Extends facts.new F → GivesKnown PlanFault.Memory (λ plan. plan) result (planned F set.now inputs.now context.entry) }
+    ensures works { (F : Facts) → Extends facts.new F
+        → GivesKnown PlanFault.Memory (λ plan. plan) result
+        (planned F set.now inputs.now context.entry) }
     ensures apart { IfErr result (λ fault. fault ≢ PlanFault.Machine machine.Memory) }
 {
     let mut going = Going::new(alloc, context);
     plan_inputs(alloc, set, inputs, &mut going, sys, facts)
 }
 
-/// The plan of a line over its specs: each source worked with the text of its language, in the order of the line, and the
-/// link, where there is one (GCC manual, "Overall Options" and "Spec Files"). Names of temporaries have this seed. It asks
-/// the system only where the table has no answer.
+/// The plan of a line over its specs: each source worked with the text of its language, in the
+/// order of the line, and the link, where there is one (GCC manual, "Overall Options" and "Spec
+/// Files"). Names of temporaries have this seed. It asks the system only where the table has no
+/// answer.
 ///
 /// # Errors
-/// The first refusal in the order of the inputs, with the link behind them: `UnknownLanguage` and `NotInstalled` of a file, and
-/// the machine's refusal of a text.
-#[tactic(auto, using(crate::proofs::Asked::asks_further))]
+/// The first refusal in the order of the inputs, with the link behind them: `UnknownLanguage` and
+/// `NotInstalled` of a file, and the machine's refusal of a text.
+#[tactic(auto, using(drv_system::proofs::Asking::asks_then))]
 pub fn plan<S: System>(
     alloc: Global,
     line: &Line,
@@ -159,7 +169,8 @@ pub fn plan<S: System>(
     facts: &mut FactTable,
 ) -> Result<Plan, PlanFault>
     ensures asks { Asks (S.events sys.old) (S.events sys.new) facts.old facts.new }
-    ensures plans { (F : Facts) → Extends facts.new F → GivesKnown PlanFault.Memory (λ p. p) result (denoted F line.now set.now seed) }
+    ensures plans { (F : Facts) → Extends facts.new F
+        → GivesKnown PlanFault.Memory (λ p. p) result (denoted F line.now set.now seed) }
     ensures apart { IfErr result (λ fault. fault ≢ PlanFault.Machine machine.Memory) }
 {
     let prefixes = Prefixes::new(alloc, line.settings.prefixes.as_slice(), sys, facts)?;

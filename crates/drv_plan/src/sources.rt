@@ -38,7 +38,9 @@ fn add_file<'a, S: System>(
     facts: &mut FactTable,
 ) -> Result<(), PlanFault>
     ensures asks { Asks (S.events sys.old) (S.events sys.new) facts.old facts.new }
-    ensures works { (F : Facts) → Extends facts.new F → GivesKnown PlanFault.Memory (λ _. going.new) result (with_file F place name.now (Ok chosen.entry) going.old) }
+    ensures works { (F : Facts) → Extends facts.new F
+        → GivesKnown PlanFault.Memory (λ _. going.new) result
+        (with_file F place name.now (Ok chosen.entry) going.old) }
     ensures apart { IfErr result (λ fault. fault ≢ PlanFault.Machine machine.Memory) }
 {
     let Some(chosen) = chosen else {
@@ -60,7 +62,9 @@ fn add_input<'a, S: System>(
     facts: &mut FactTable,
 ) -> Result<(), PlanFault>
     ensures asks { Asks (S.events sys.old) (S.events sys.new) facts.old facts.new }
-    ensures works { (F : Facts) → Extends facts.new F → GivesKnown PlanFault.Memory (λ _. going.new) result (with_input F set.now place input.now going.old) }
+    ensures works { (F : Facts) → Extends facts.new F
+        → GivesKnown PlanFault.Memory (λ _. going.new) result
+        (with_input F set.now place input.now going.old) }
     ensures apart { IfErr result (λ fault. fault ≢ PlanFault.Machine machine.Memory) }
 {
     let chosen = language(alloc, input, set)?;
@@ -80,8 +84,9 @@ fn add_input<'a, S: System>(
 /// The inputs of a line in their order. It asks the system only where the table has no answer.
 ///
 /// # Errors
-/// The first refusal in the order of the inputs: of a file's language, or the machine's of its text.
-#[tactic(auto, using(crate::proofs::Asked::asks_further))]
+/// The first refusal in the order of the inputs: of a file's language, or the machine's of its
+/// text.
+#[tactic(auto, using(drv_system::proofs::Asking::asks_then))]
 pub(crate) fn add_inputs<'a, S: System>(
     alloc: Global,
     set: &'a SpecSet,
@@ -91,7 +96,9 @@ pub(crate) fn add_inputs<'a, S: System>(
     facts: &mut FactTable,
 ) -> Result<(), PlanFault>
     ensures asks { Asks (S.events sys.old) (S.events sys.new) facts.old facts.new }
-    ensures works { (F : Facts) → Extends facts.new F → GivesKnown PlanFault.Memory (λ _. going.new) result (with_inputs F set.now 0 inputs.now going.old) }
+    ensures works { (F : Facts) → Extends facts.new F
+        → GivesKnown PlanFault.Memory (λ _. going.new) result
+        (with_inputs F set.now 0 inputs.now going.old) }
     ensures apart { IfErr result (λ fault. fault ≢ PlanFault.Machine machine.Memory) }
 {
     for (place, input) in inputs.iter().enumerate() {

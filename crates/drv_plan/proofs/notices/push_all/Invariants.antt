@@ -1,6 +1,6 @@
 use Rattle.drv_plan.proofs.notices.push_all.Given as goal
-use Rattle.drv_plan.specs.Denoted.{around}
+use Rattle.drv_plan.specs.Denoted.{between}
 use Rattle.std.proofs.Common.{◌≡◌, ◌++◌, drop, map}
 
 abbrev pub invariant-loop-word : goal.invariant-loop-word
-invariant-loop-word l = l.list ++ map (around l.before l.behind) (drop l.word-index l.words) ≡ l.fn.list ++ map (around l.before l.behind) l.words
+invariant-loop-word l = l.list ++ map (between l.before l.behind) (drop l.word-index l.words) ≡ l.fn.list ++ map (between l.before l.behind) l.words
