@@ -1,4 +1,3 @@
-pub mod Asked
 pub mod Expanding
 pub mod FrontLaws
 pub mod JobCounts

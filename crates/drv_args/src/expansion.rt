@@ -26,7 +26,7 @@ fn named_file(alloc: Global, word: &Word) -> Result<Option<Word>, AllocError>
 }
 
 /// The words that replace a word: those of the response file that it names, if that can be read.
-#[tactic(auto, using(crate::proofs::Asked::asks_further))]
+#[tactic(auto, using(drv_system::proofs::Asking::asks_then))]
 fn replacement<S: System>(
     alloc: Global,
     word: &Word,
@@ -72,8 +72,8 @@ fn name_files(words: &[Word]) -> bool
     words.iter().any(names_file)
 }
 
-/// Puts the words of a file in place of the word that named it: at the end of those that stay, where none of them names a file,
-/// and otherwise on the stack, the first on top.
+/// Puts the words of a file in place of the word that named it: at the end of those that stay,
+/// where none of them names a file, and otherwise on the stack, the first on top.
 fn put_words(
     stack: &mut Vec<Word>,
     words: &mut Listing<Word>,
@@ -88,7 +88,7 @@ fn put_words(
 }
 
 /// Replaces each argument that names a file.
-#[tactic(auto, using(crate::proofs::Asked::asks_further))]
+#[tactic(auto, using(drv_system::proofs::Asking::asks_then))]
 fn expand_all<S: System>(
     alloc: Global,
     args: Listing<Word>,
@@ -118,12 +118,12 @@ fn expand_all<S: System>(
     })
 }
 
-/// Replaces each argument `@PATH` by the words of that response file, expanded in turn (GCC manual, "Overall
-/// Options"). A file that is missing or can't be read leaves its argument as it is.
+/// Replaces each argument `@PATH` by the words of that response file, expanded in turn (GCC manual,
+/// "Overall Options"). A file that is missing or can't be read leaves its argument as it is.
 ///
 /// # Errors
-/// `ResponseTooLarge` for a file of more than 16,777,216 bytes, and `TooManyFiles` where more than 2,000 words
-/// would be replaced; the first of them in the order of the words counts.
+/// `ResponseTooLarge` for a file of more than 16,777,216 bytes, and `TooManyFiles` where more than
+/// 2,000 words would be replaced; the first of them in the order of the words counts.
 pub fn expand<S: System>(
     alloc: Global,
     args: Listing<Word>,

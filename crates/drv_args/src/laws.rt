@@ -6,17 +6,22 @@ ghost use Rattle.drv_args.specs.declared.fault.ArgsFault.{ArgsFault};
 ghost use Rattle.drv_system.specs.Facts.{Facts};
 ghost use Rattle.std.specs.Prelude.{◌≡◌, ◌↔◌, Err, List, Ok, ℕ};
 
-/// A law: words respond to one list of words and leave one number of replacements, or they are refused for one
-/// reason, and never both.
+/// A law: words respond to one list of words and leave one number of replacements, or they are
+/// refused for one reason, and never both.
 pub fn one_expansion()
-    ensures responds { (F : Facts) (left a b : ℕ) (words out out' : List (List ℕ)) → Responds F left words a out → Responds F left words b out' → (a ≡ b) × (out ≡ out') }
-    ensures refused { (F : Facts) (left : ℕ) (words : List (List ℕ)) (f g : ArgsFault) → Refuses F left words f → Refuses F left words g → f ≡ g }
-    ensures never_both { (F : Facts) (left a : ℕ) (words out : List (List ℕ)) (fault : ArgsFault) → Responds F left words a out → Refuses F left words fault → ⊥ }
+    ensures responds { (F : Facts) (left a b : ℕ) (words out out' : List (List ℕ))
+        → Responds F left words a out → Responds F left words b out' → (a ≡ b) × (out ≡ out') }
+    ensures refused { (F : Facts) (left : ℕ) (words : List (List ℕ)) (f g : ArgsFault)
+        → Refuses F left words f → Refuses F left words g → f ≡ g }
+    ensures never_both { (F : Facts) (left a : ℕ) (words out : List (List ℕ)) (fault : ArgsFault)
+        → Responds F left words a out → Refuses F left words fault → ⊥ }
 {}
 
-/// A law: the items that words are read as are those of a concatenation of fronts, each fitted by its first
-/// row, and a refusal is that of the first offending word.
+/// A law: the items that words are read as are those of a concatenation of fronts, each fitted by
+/// its first row, and a refusal is that of the first offending word.
 pub fn items_are_fronts()
-    ensures reads { (words : List (List ℕ)) (items : List Item) → (Reads words items ↔ (items_of words ≡ Ok items)) }
-    ensures offends { (words : List (List ℕ)) (fault : ArgsFault) → (Offends words fault ↔ (items_of words ≡ Err fault)) }
+    ensures reads { (words : List (List ℕ)) (items : List Item)
+        → (Reads words items ↔ (items_of words ≡ Ok items)) }
+    ensures offends { (words : List (List ℕ)) (fault : ArgsFault)
+        → (Offends words fault ↔ (items_of words ≡ Err fault)) }
 {}
