@@ -3,11 +3,25 @@
 ghost use Rattle.drv_funcs.specs.Outcome.{in_link_alone, removed, replaced};
 ghost use Rattle.drv_funcs.specs.declared.function.Function.TheVariants.{RemoveOutfile, ReplaceOutfile};
 ghost use Rattle.drv_words.specs.Gives.{Gives};
-ghost use Rattle.std.specs.Prelude.{◌≡◌, OnErr};
+ghost use Rattle.std.specs.Cmp.Lexicographic.{pointwise};
+ghost use Rattle.std.specs.List.{list_any};
+ghost use Rattle.std.specs.Prelude.{◌≡◌, OnErr, nat_eq};
 
 use crate::{FuncsFault, Function};
 use drv_words::{Listing, Word};
 use std::alloc::Global;
+
+/// Whether one of the outputs is this word.
+fn is_output(outputs: &[Word], word: &Word) -> bool
+    ensures { result ≡ list_any (λ output. pointwise nat_eq output word.now) outputs.now }
+{
+    for output in outputs {
+        if output == word {
+            return true;
+        }
+    }
+    false
+}
 
 /// Each output that is the old word becomes the new one, in the link alone. On an error they are as they were.
 pub fn replace_outfile(
@@ -25,6 +39,9 @@ pub fn replace_outfile(
     let [old, new] = args else {
         return Err(FuncsFault::WrongCount(Function::ReplaceOutfile));
     };
+    if !is_output(outputs.as_slice(), old) {
+        return Ok(());
+    }
     let mut changed = Listing::new(alloc);
     for output in outputs.as_slice() {
         let word = if output == old { new } else { output };
@@ -50,6 +67,9 @@ pub fn remove_outfile(
     let [old] = args else {
         return Err(FuncsFault::WrongCount(Function::RemoveOutfile));
     };
+    if !is_output(outputs.as_slice(), old) {
+        return Ok(());
+    }
     let mut changed = Listing::new(alloc);
     for output in outputs.as_slice() {
         if output != old {
