@@ -1,11 +1,12 @@
 use Rattle.drv_machine.proofs.WorkedTexts.{linking}
-use Rattle.drv_machine.specs.Cuts.{each, if_any, output, path, removed, words}
+use Rattle.drv_machine.specs.Cuts.{each, has_stray_pipe, if_any, lines, output, path, removed, words}
+use Rattle.drv_machine.specs.Cutting.{Line}
 use Rattle.drv_machine.specs.Working.{Answer, Atom, Break, End, Marked, Open, Piped, Put, Without}
 use Rattle.drv_machine.specs.declared.machine.marking.Mark.TheVariants.{AsOutput, AsRemoved}
 use Rattle.drv_system.specs.Facts.{Facts}
 use Rattle.drv_system.specs.Known.{Is}
-use Rattle.std.proofs.Common.{◌≡◌, List, [], ◌∷◌, codes, refl, ℕ}
-use Rattle.std.specs.Prelude.{None, Ok, Option, Some}
+use Rattle.std.proofs.Common.{◌≡◌, List, [], ◌∷◌, codes, false, refl, true, ℕ}
+use Rattle.std.specs.Prelude.{Bool, None, Ok, Option, Some}
 
 -- Lists of atoms and what is said of them as they stand, by computation. The expected values were worked out by hand from
 -- the profile.
@@ -16,7 +17,23 @@ letter_a = 97
 abbrev letter_b : ℕ
 letter_b = 98
 
+-- whether a pipe is stray: |, a|b, a|| and a|%V
+no_word_before : has_stray_pipe (Piped ∷ Break ∷ End ∷ []) ≡ true
+no_word_before = refl
+
+word_behind : has_stray_pipe (Put letter_a ∷ Piped ∷ Put letter_b ∷ Break ∷ End ∷ []) ≡ true
+word_behind = refl
+
+pipe_behind : has_stray_pipe (Put letter_a ∷ Piped ∷ Piped ∷ Break ∷ End ∷ []) ≡ true
+pipe_behind = refl
+
+nothing_behind : has_stray_pipe (Put letter_a ∷ Piped ∷ Without ∷ Break ∷ End ∷ Put letter_b ∷ Break ∷ End ∷ []) ≡ false
+nothing_behind = refl
+
 module _ (F : Facts) where
+  abbrev lines_are : List Atom → Answer (List Line)
+  lines_are atoms = lines F (linking []) atoms
+
   abbrev words_are : List Atom → Answer (List (List ℕ))
   words_are atoms = each (path F (linking [])) (words atoms)
 
@@ -49,3 +66,11 @@ module _ (F : Facts) where
   -- a%d b %d
   removed_once : removed_are (Put letter_a ∷ Marked AsRemoved ∷ Break ∷ Put letter_b ∷ Break ∷ Marked AsRemoved ∷ Break ∷ []) ≡ Is (Ok (codes "a" ∷ []))
   removed_once = refl
+
+  -- a | and b, with an empty line between them; and a, of which the command ends before the word does
+  two_commands : lines_are (Put letter_a ∷ Piped ∷ Break ∷ End ∷ Break ∷ End ∷ Put letter_b ∷ Break ∷ End ∷ [])
+      ≡ Is (Ok (record { words = codes "a" ∷ []; piped = true } ∷ record { words = codes "b" ∷ []; piped = false } ∷ []))
+  two_commands = refl
+
+  ends_later : lines_are (Put letter_a ∷ End ∷ Put letter_b ∷ Break ∷ End ∷ []) ≡ Is (Ok (record { words = codes "ab" ∷ []; piped = false } ∷ []))
+  ends_later = refl

@@ -1,11 +1,11 @@
 use Rattle.drv_machine.specs.Context.{Context}
-use Rattle.drv_machine.specs.Cutting.{found_file, found_script, script_option}
-use Rattle.drv_machine.specs.Working.{◌>>-◌, Answer, Atom, Break, Marked, Open, Piped, Put, Without}
+use Rattle.drv_machine.specs.Cutting.{Line, found_file, found_script, no_line, script_option}
+use Rattle.drv_machine.specs.Working.{◌>>-◌, Answer, Atom, Break, End, FileFrom, Marked, Open, Piped, Put, Without}
 use Rattle.drv_machine.specs.declared.machine.marking.Mark.TheVariants.{AsFile, AsOutput, AsRemoved, AsScript}
 use Rattle.drv_system.specs.Facts.{Facts}
 use Rattle.drv_system.specs.Known.{Is}
 use Rattle.std.specs.List.{filter, flat_map, list_any}
-use Rattle.std.specs.Prelude.{◌&&◌, Bool, List, [], ◌∷◌, ◌++◌, Option, None, Some, Ok, false, if◌then◌else◌, map, not, true, ℕ}
+use Rattle.std.specs.Prelude.{◌&&◌, ◌||◌, Bool, List, [], ◌∷◌, ◌++◌, Option, None, Some, Ok, false, if◌then◌else◌, map, not, true, ℕ}
 
 -- What a list of atoms is cut into, said of the list as it stands (this project's profile). `Cutting` says it atom by atom.
 
@@ -119,3 +119,91 @@ module _ (F : Facts) (C : Context) where
   -- the words of the command that it gives
   abbrev pub texts : Run → Answer (List (List ℕ))
   texts word = path word >>- λ name. Is (Ok (if list_any is_script word.atoms then script_option ∷ name ∷ [] else name ∷ []))
+
+-- what a command is made of, in order: words that end, what words are made of before, and pipes
+pub data Piece : Type 0 where
+  Word : Run → Piece
+  Part : Piece
+  Pipe : Piece
+
+abbrev pub is_part : Atom → Bool
+is_part (Put b) = true
+is_part Open = true
+is_part (Marked mark) = true
+is_part atom = false
+
+abbrev pub part_of : Atom → List Piece
+part_of atom = if is_part atom then Part ∷ [] else []
+
+-- the word that a run ends as, if it is one
+abbrev pub word_of : Run → List Piece
+word_of run = if is_word run then Word run ∷ [] else []
+
+-- the commands that end; this run and these pieces stand before
+abbrev pub commands : List Atom → List Piece → List Atom → List (List Piece)
+commands run pieces [] = []
+commands run pieces (Break ∷ atoms) = commands [] (pieces ++ word_of (record { atoms = run; behind = atoms })) atoms
+commands run pieces (Piped ∷ atoms) = commands [] ((pieces ++ word_of (record { atoms = run; behind = atoms })) ++ Pipe ∷ []) atoms
+commands run pieces (End ∷ atoms) = pieces ∷ commands (run ++ End ∷ []) [] atoms
+commands run pieces (atom ∷ atoms) = commands (run ++ atom ∷ []) (pieces ++ part_of atom) atoms
+
+-- the command that has not ended
+abbrev pub open_command : List Atom → List Piece → List Atom → List Piece
+open_command run pieces [] = pieces
+open_command run pieces (Break ∷ atoms) = open_command [] (pieces ++ word_of (record { atoms = run; behind = atoms })) atoms
+open_command run pieces (Piped ∷ atoms) = open_command [] ((pieces ++ word_of (record { atoms = run; behind = atoms })) ++ Pipe ∷ []) atoms
+open_command run pieces (End ∷ atoms) = open_command (run ++ End ∷ []) [] atoms
+open_command run pieces (atom ∷ atoms) = open_command (run ++ atom ∷ []) (pieces ++ part_of atom) atoms
+
+abbrev pub is_end_of_word : Piece → Bool
+is_end_of_word (Word word) = true
+is_end_of_word piece = false
+
+abbrev pub is_pipe : Piece → Bool
+is_pipe Pipe = true
+is_pipe piece = false
+
+-- a pipe is stray where no word stands before it in its command
+abbrev pub lacks_word : List Piece → Bool
+lacks_word [] = false
+lacks_word (Word word ∷ pieces) = false
+lacks_word (Part ∷ pieces) = lacks_word pieces
+lacks_word (Pipe ∷ pieces) = true
+
+-- and where part of a word or a pipe stands behind it
+abbrev pub has_more : List Piece → Bool
+has_more [] = false
+has_more (Word word ∷ pieces) = has_more pieces
+has_more (Part ∷ pieces) = has_more pieces
+has_more (Pipe ∷ pieces) = list_any (λ piece. not (is_end_of_word piece)) pieces
+
+abbrev pub is_stray : List Piece → Bool
+is_stray pieces = lacks_word pieces || has_more pieces
+
+abbrev pub has_stray_pipe : List Atom → Bool
+has_stray_pipe atoms = list_any is_stray (commands [] [] atoms) || is_stray (open_command [] [] atoms)
+
+-- a command without a word and a pipe is dropped
+abbrev pub is_nil : List (List ℕ) → Bool
+is_nil [] = true
+is_nil (word ∷ words) = false
+
+abbrev pub is_kept : Line → Bool
+is_kept line = line.piped || not (is_nil line.words)
+
+-- the file of a %@ begins
+abbrev pub begins_file : Atom → Bool
+begins_file FileFrom = true
+begins_file atom = false
+
+module _ (F : Facts) (C : Context) where
+  -- the words of a command, and whether a pipe stands in it
+  abbrev pub line_of : List Piece → Answer Line
+  line_of [] = Is (Ok no_line)
+  line_of (Word word ∷ pieces) = texts F C word >>- λ words. line_of pieces >>- λ line. Is (Ok (record { words = words ++ line.words; piped = line.piped }))
+  line_of (Part ∷ pieces) = line_of pieces
+  line_of (Pipe ∷ pieces) = line_of pieces >>- λ line. Is (Ok (record { words = line.words; piped = true }))
+
+  -- the commands that are kept
+  abbrev pub lines : List Atom → Answer (List Line)
+  lines atoms = each line_of (commands [] [] atoms) >>- λ found. Is (Ok (filter is_kept found))

@@ -1,12 +1,13 @@
 //! Laws of the cut of a text. The functions do nothing: each is its contract.
 
 ghost use Rattle.drv_machine.specs.Context as specs;
-ghost use Rattle.drv_machine.specs.Cuts.{each, if_any, output, path, removed, whether, words};
-ghost use Rattle.drv_machine.specs.Cutting.{Cut, all_taken, nothing_cut};
-ghost use Rattle.drv_machine.specs.Working.{Atom};
+ghost use Rattle.drv_machine.specs.Cuts.{begins_file, each, has_stray_pipe, if_any, line_of, lines, open_command, output, path, removed, whether, words};
+ghost use Rattle.drv_machine.specs.Cutting.{Cut, all_taken, argument_words, nothing_cut};
+ghost use Rattle.drv_machine.specs.Working.{◌>>-◌, Atom, Break};
 ghost use Rattle.drv_system.specs.Facts.{Facts};
 ghost use Rattle.drv_system.specs.Known.{Is};
-ghost use Rattle.std.specs.Prelude.{◌≡◌, List, Ok};
+ghost use Rattle.std.specs.List.{list_any};
+ghost use Rattle.std.specs.Prelude.{◌≡◌, ◌∷◌, ◌++◌, [], List, Ok, false, ℕ};
 
 /// The law that a list of atoms is cut as the list as it stands says: the output is the last word that is
 /// marked as one and begins behind the last `%V`, the removed files are the words that are marked so, and the
@@ -18,4 +19,18 @@ pub fn cut_law()
         → all_taken F C nothing_cut atoms ≡ Is (Ok c) → each (path F C) (removed atoms) ≡ Is (Ok c.removed) }
     ensures found { (F : Facts) (C : specs.Context) (atoms : List Atom)
         → whether (all_taken F C nothing_cut atoms) ≡ whether (each (path F C) (words atoms)) }
+{}
+
+/// The law that a list of atoms in which no file begins is cut into the commands that the list as it stands says: the words
+/// of a command are those that end in it, a command without a word and a pipe is dropped, and a pipe is stray exactly
+/// where no word stands before it in its command, or part of a word or a pipe stands behind it. The words of
+/// arguments are those of their last command. It takes and gives nothing.
+pub fn command_law()
+    ensures lines { (F : Facts) (C : specs.Context) (atoms : List Atom) (c : Cut) → list_any begins_file atoms ≡ false
+        → all_taken F C nothing_cut atoms ≡ Is (Ok c) → lines F C atoms ≡ Is (Ok c.lines) }
+    ensures stray { (F : Facts) (C : specs.Context) (atoms : List Atom) (c : Cut) → list_any begins_file atoms ≡ false
+        → all_taken F C nothing_cut atoms ≡ Is (Ok c) → has_stray_pipe atoms ≡ c.stray }
+    ensures arguments { (F : Facts) (C : specs.Context) (atoms : List Atom) (found : List (List ℕ))
+        → list_any begins_file atoms ≡ false → argument_words F C atoms ≡ Is (Ok found)
+        → (line_of F C (open_command [] [] (atoms ++ Break ∷ [])) >>- λ line. Is (Ok line.words)) ≡ Is (Ok found) }
 {}

@@ -1,0 +1,11 @@
+use Rattle.drv_machine.proofs.CutLines.{arguments_are, lines_are, stray_is}
+use Rattle.drv_machine.proofs.cut_laws.command_law.Goals as goal
+
+pub returns-clause-lines : goal.returns-clause-lines
+returns-clause-lines c = lines_are
+
+pub returns-clause-stray : goal.returns-clause-stray
+returns-clause-stray c = stray_is
+
+pub returns-clause-arguments : goal.returns-clause-arguments
+returns-clause-arguments c = arguments_are
