@@ -1,4 +1,4 @@
-use Rattle.drv_machine.proofs.Runs.{Course, Opened, any_behind, bare, breaks, breaks_bare, course, moved, moves, opened_by, over, pipes, pipes_bare, with_word}
+use Rattle.drv_machine.proofs.Runs.{Course, any_behind, bare, breaks, breaks_bare, course, moves, opened_by, over, pipes, pipes_bare, with_word}
 use Rattle.drv_machine.specs.Context.{Context}
 use Rattle.drv_machine.specs.Cuts.{Part, Piece, Pipe, Run, Word, begins_file, commands, each, has_more, has_stray_pipe, is_end_of_word, is_kept, is_nil, is_pipe, is_script, is_stray, lacks_word, line_of, lines, open_command, opens_word, path, texts, word_of}
 use Rattle.drv_machine.specs.Cutting.{Cut, Line, all_taken, argument_words, file_done, inside_done, line_done, line_ended, no_line, nothing_cut, pipe_done, pipe_ended, script_option}

@@ -6,7 +6,7 @@ use Rattle.drv_machine.specs.declared.machine.marking.Mark.TheVariants.{AsOutput
 use Rattle.drv_system.specs.Facts.{Facts}
 use Rattle.drv_system.specs.Known.{Is}
 use Rattle.std.proofs.Common.{◌≡◌, List, [], ◌∷◌, codes, false, refl, true, ℕ}
-use Rattle.std.specs.Prelude.{Bool, None, Ok, Option, Some}
+use Rattle.std.specs.Prelude.{None, Ok, Option, Some}
 
 -- Lists of atoms and what is said of them as they stand, by computation. The expected values were worked out by hand from
 -- the profile.

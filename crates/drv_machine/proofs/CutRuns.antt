@@ -1,10 +1,9 @@
-use Rattle.drv_machine.proofs.Laws.{then_same, then_then}
-use Rattle.drv_machine.proofs.Runs.{Course, Opened, bare, bare_ends, breaks, breaks_bare, broken_is, course, end_kept, ended, ended_as, file_kept, moved, moves, moves_on, name_of, open_in, opened_by, over, pipe_kept, pipes, pipes_bare, with_word, word_ends, words_moved}
+use Rattle.drv_machine.proofs.Laws.{then_then}
+use Rattle.drv_machine.proofs.Runs.{Course, bare, bare_ends, breaks, breaks_bare, broken_is, course, end_kept, ended, ended_as, file_kept, moved, moves, moves_on, name_of, open_in, opened_by, over, pipe_kept, pipes, pipes_bare, with_word, word_ends, words_moved}
 use Rattle.drv_machine.specs.Context.{Context}
-use Rattle.drv_machine.specs.Cuts.{Run, each, ends_word, if_any, is_bar, is_barred, is_output, is_removed, is_removed_word, last_of, may_be_output, opens_word, output, path, removed, whether, words, words_behind}
-use Rattle.drv_machine.specs.Cutting.{Cut, all_taken, inside_done, nothing_cut, pipe_ended, taken}
+use Rattle.drv_machine.specs.Cuts.{Run, each, if_any, is_bar, is_barred, is_output, is_removed, is_removed_word, last_of, may_be_output, opens_word, output, path, removed, whether, words, words_behind}
+use Rattle.drv_machine.specs.Cutting.{Cut, all_taken, inside_done, nothing_cut, pipe_ended}
 use Rattle.drv_machine.specs.Working.{◌>>-◌, Answer, Atom, Break, End, FileFrom, FileTo, From, Marked, Open, Piped, Put, To, Without}
-use Rattle.drv_machine.specs.declared.fault.MachineFault.{MachineFault}
 use Rattle.drv_system.specs.Facts.{Facts}
 use Rattle.drv_system.specs.Known.{Is, Unasked}
 use Rattle.std.proofs.Common.{◌≡◌, ◌∙◌, ◌++◌, ◌||◌, Bool, List, [], ◌∷◌, None, Err, Ok, Option, Some, ap, append-nil, append_assoc, false, refl, subst, sym, true, ℕ}

@@ -1,13 +1,12 @@
 use Rattle.drv_machine.specs.Context.{Context}
-use Rattle.drv_machine.specs.Cuts.{Run, byte_of, ends_word, is_bar, is_barred, is_file, is_output, is_removed, is_script, opens_word, path, words_behind}
-use Rattle.drv_machine.specs.Cutting.{Cut, Line, all_taken, broken, file_begun, file_done, found_file, found_script, in_word, inside_done, line_done, line_ended, marked, no_line, no_marks, pipe_done, pipe_ended, script_option, taken, touched, word_done}
+use Rattle.drv_machine.specs.Cuts.{byte_of, ends_word, is_bar, is_barred, is_file, is_output, is_removed, is_script, opens_word, path, words_behind}
+use Rattle.drv_machine.specs.Cutting.{Cut, Line, all_taken, broken, file_begun, file_done, found_file, found_script, in_word, inside_done, line_done, line_ended, marked, no_line, no_marks, pipe_done, pipe_ended, script_option, touched}
 use Rattle.drv_machine.specs.Working.{◌>>-◌, Answer, Atom, Break, End, FileFrom, FileTo, From, Marked, Open, Piped, Put, To, Without}
 use Rattle.drv_machine.specs.declared.fault.MachineFault.{MachineFault}
-use Rattle.drv_machine.specs.declared.machine.marking.Mark.{Mark}
 use Rattle.drv_machine.specs.declared.machine.marking.Mark.TheVariants.{AsFile, AsOutput, AsRemoved, AsScript}
 use Rattle.drv_system.specs.Facts.{Facts}
 use Rattle.drv_system.specs.Known.{Is, Unasked}
-use Rattle.std.proofs.Common.{◌≡◌, ◌∙◌, ◌++◌, ◌||◌, Bool, List, [], ◌∷◌, None, Err, Ok, Option, Some, ap, append-nil, append_assoc, false, refl, rules, subst, sym, true, ℕ}
+use Rattle.std.proofs.Common.{◌≡◌, ◌∙◌, ◌++◌, ◌||◌, Bool, List, [], ◌∷◌, None, Err, Ok, Option, Some, ap, append-nil, false, refl, subst, sym, true, ℕ}
 use Rattle.std.specs.List.{flat_map, list_any}
 use Rattle.std.specs.Option.{unwrap_or}
 use Rattle.std.proofs.lemmas.Grind.{flat_map-append}

@@ -5,7 +5,7 @@ use Rattle.drv_machine.specs.declared.machine.marking.Mark.TheVariants.{AsFile, 
 use Rattle.drv_system.specs.Facts.{Facts}
 use Rattle.drv_system.specs.Known.{Is}
 use Rattle.std.specs.List.{filter, flat_map, list_any}
-use Rattle.std.specs.Prelude.{◌&&◌, ◌||◌, Bool, List, [], ◌∷◌, ◌++◌, Option, None, Some, Ok, false, if◌then◌else◌, map, not, true, ℕ}
+use Rattle.std.specs.Prelude.{◌&&◌, ◌||◌, Bool, List, [], ◌∷◌, ◌++◌, Option, None, Some, Ok, false, if◌then◌else◌, not, true, ℕ}
 
 -- What a list of atoms is cut into, said of the list as it stands (this project's profile). `Cutting` says it atom by atom.
 
