@@ -68,7 +68,7 @@ brace_cut size here at kind text e (inr (x, l)) = absurd x
 module _ (size : ℕ) (K : Outside) (ending : (c : Context) (all : Items) (rest : List ℕ) → AreFrontItems size c rest → K c all rest) where
   -- a list that ends with the text, or in an item here
   pub list_cut : (here : Here) (text : List ℕ) → AreFrontItems size here.context text → WantsList size K here text
-  list_cut here text f = record { items = none; rest = text; spelled = λ e. s.no_item e; front = λ g. g; outside = ending here.context (join here.done none) text f }
+  list_cut here text f = record { items = none; rest = text; spelled = λ e. s.no_item e; front = λ g. g; reached = λ due last g. g; outside = ending here.context (join here.done none) text f }
 
   pub item_cut_row : (here : Here) (n b : ℕ) (text : List ℕ) → CutAfter size K b text (turn_item here n b) → WantsList size K here (b ∷ text)
   item_cut_row here n b text h =
@@ -87,7 +87,7 @@ module _ (size : ℕ) (K : Outside) (ending : (c : Context) (all : Items) (rest 
     where
       by : Beyond size K w c l.items l.rest → WantsList size (Inside size K w) (record { context = c; done = none }) text ⊎ InsideCut size w c text
       by (inl f) = inr (inl (l.front f))
-      by (inr (b, rest, q, k, e, f, a, r, inl g)) = inl (record { items = l.items; rest = l.rest; spelled = l.spelled; front = l.front; outside = (b, rest, q, k, e, f, a, r, g) })
+      by (inr (b, rest, q, k, e, f, a, r, inl g)) = inl (record { items = l.items; rest = l.rest; spelled = l.spelled; front = l.front; reached = l.reached; outside = (b, rest, q, k, e, f, a, r, g) })
       by (inr (b, rest, q, k, e, f, a, r, inr g)) =
           inr (inr (l.items, b, rest, q, k, subst (AreItems size c text l.items) e (l.spelled (rw e (s.list_ends f))), f, subst (At size k) e a, r, g))
 

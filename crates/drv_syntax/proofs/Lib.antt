@@ -28,6 +28,11 @@ pub mod RowsDue
 pub mod RowsTests
 pub mod Shortest
 pub mod Sound
+pub mod Stuck
+pub mod StuckDue
+pub mod StuckRows
+pub mod StuckRuns
+pub mod StuckTests
 pub mod WalkHeadRows
 pub mod WalkHeads
 pub mod WalkListRows

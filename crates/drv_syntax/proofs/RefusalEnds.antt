@@ -34,14 +34,6 @@ front_read at P opened e ws w (x ∷ others) n b rest h =
     let g : is_function_front ((w ++ x ∷ []) ++ others) ≡ true = ap is_function_front (append_assoc w (x ∷ []) others) ∙ h in
     goes (e w n x ∙ rw (front_front (w ++ x ∷ []) others g) refl) (to (λ m f. ap P (append_assoc w (x ∷ []) others)) (front_read at P opened e ws (w ++ x ∷ []) others (n + 1) b rest g))
 
-allowed_star : (x : Bool) → is_allowed x 42 ≡ true
-allowed_star true = refl
-allowed_star false = refl
-
-allowed_colon : (x : Bool) → is_allowed x 58 ≡ true
-allowed_colon true = refl
-allowed_colon false = refl
-
 star_nobody : (here : Here) (at end : ℕ) (owner : Owner) → owner ≡ Nobody → o.turn_star here at end owner ≡ Refused (StarOutside at)
 star_nobody here at end owner e = ap (λ (x : Owner). o.turn_star here at end x) e
 
@@ -63,10 +55,10 @@ nested_directive here at end WithBraces e lv = rw lv refl
 nested_directive here at end (WithMarkedBraces kind) e lv = rw lv refl
 
 -- no function's name behind %:
-unknown : (ws : List Waiting) (p : Place) (m : ℕ) (P : List ℕ → Place) (opened : List ℕ → Turn) → ((w : List ℕ) (n b : ℕ) → turn (P w) n b ≡ o.turn_function m w b (opened w) (P (w ++ b ∷ [])))
-    → (name rest : List ℕ) (b n : ℕ) → n ≡ m → is_function_front name ≡ true → run ws p m (37 ∷ 58 ∷ name ++ b ∷ rest) ≡ run ws (P []) (m + 1 + 1) (name ++ b ∷ rest)
-    → turn (P name) (m + 1 + 1 + length name) b ≡ Refused (UnknownFunction m) → run ws p m (37 ∷ 58 ∷ name ++ b ∷ rest) ≡ Bad (n + 2 + length name) (UnknownFunction n)
-unknown ws p m P opened e name rest b n x f first last =
+unknown : (ws : List Waiting) (p : Place) (m c : ℕ) (P : List ℕ → Place) (opened : List ℕ → Turn) → ((w : List ℕ) (n b : ℕ) → turn (P w) n b ≡ o.turn_function m w b (opened w) (P (w ++ b ∷ [])))
+    → (name rest : List ℕ) (b n : ℕ) → n ≡ m → is_function_front name ≡ true → run ws p m (37 ∷ c ∷ name ++ b ∷ rest) ≡ run ws (P []) (m + 1 + 1) (name ++ b ∷ rest)
+    → turn (P name) (m + 1 + 1 + length name) b ≡ Refused (UnknownFunction m) → run ws p m (37 ∷ c ∷ name ++ b ∷ rest) ≡ Bad (n + 2 + length name) (UnknownFunction n)
+unknown ws p m c P opened e name rest b n x f first last =
     let l = front_read m P opened e ws [] name (m + 1 + 1) b rest f in
     let y : l.at ≡ m + 1 + 1 + length name = omega (arith, l.fits, length-append name (b ∷ rest)) in
     let k : n + 2 + length name ≡ m + 1 + 1 + length name = omega (arith, x) in
@@ -136,18 +128,20 @@ module _ (size : ℕ) (c : Context) (ws : List Waiting) (past : Items) (m : ℕ)
   abbrev ItemGiven : List ℕ → SyntaxFault → Type 0
   ItemGiven text fault = Given size ws (at_item c past) m text fault
 
-  item_unknown : (name : List ℕ) (b : ℕ) → At size m (37 ∷ 58 ∷ name ++ b ∷ []) → (c.levels == 0) ≡ false → is_function_front name ≡ true
-      → turn (o.FunctionName (list c past) m name) (m + 1 + 1 + length name) b ≡ Refused (UnknownFunction m) → ItemGiven (37 ∷ 58 ∷ name ++ b ∷ []) (UnknownFunction m)
-  item_unknown name b a lv f e = (
+  item_unknown : (x : ℕ) (name : List ℕ) (b : ℕ) → At size m (37 ∷ x ∷ name ++ b ∷ []) → is_allowed c.in_arguments x ≡ true → directive_of x ≡ WithCall → (c.levels == 0) ≡ false
+      → is_function_front name ≡ true
+      → turn (o.FunctionName (list c past) m name) (m + 1 + 1 + length name) b ≡ Refused (UnknownFunction m) → ItemGiven (37 ∷ x ∷ name ++ b ∷ []) (UnknownFunction m)
+  item_unknown x name b a al d lv f e = (
     m + 2 + length name,
-    unknown ws (at_item c past) m (o.FunctionName (list c past) m) (λ w. Opens (list_in (in_arguments c)) (WaitsCall (list c past) m w)) (λ w k y. refl) name [] b m refl f
-        (rw (allowed_colon c.in_arguments, lv) refl) e,
+    unknown ws (at_item c past) m x (o.FunctionName (list c past) m) (λ w. Opens (list_in (in_arguments c)) (WaitsCall (list c past) m w)) (λ w k y. refl) name [] b m refl f
+        (rw (al, d, lv) refl) e,
     omega (arith, a, length-append name (b ∷ [])),
   )
 
-  item_no_function : {last : List ℕ} → IsNoFunction last → At size m (37 ∷ 58 ∷ last) → (c.levels == 0) ≡ false → ItemGiven (37 ∷ 58 ∷ last) (UnknownFunction m)
-  item_no_function (r.not_a_front name b f g k) a lv = item_unknown name b a lv f (rw (g, k) refl)
-  item_no_function (r.not_a_name name f g) a lv = item_unknown name 40 a lv f (rw (bracket_ends name, g) refl)
+  item_no_function : {last : List ℕ} (x : ℕ) → IsNoFunction last → At size m (37 ∷ x ∷ last) → is_allowed c.in_arguments x ≡ true → directive_of x ≡ WithCall → (c.levels == 0) ≡ false
+      → ItemGiven (37 ∷ x ∷ last) (UnknownFunction m)
+  item_no_function x (r.not_a_front name b f g k) a al d lv = item_unknown x name b a al d lv f (rw (g, k) refl)
+  item_no_function x (r.not_a_name name f g) a al d lv = item_unknown x name 40 a al d lv f (rw (bracket_ends name, g) refl)
 
   broken : {last : List ℕ} (b : ℕ) (f : Directive) → Breaks c f last → is_allowed c.in_arguments b ≡ true → directive_of b ≡ f → At size m (37 ∷ b ∷ last) → ItemGiven (37 ∷ b ∷ last) (BadDirective m)
   broken b f (r.no_option g) e d a = (m + 1 + 1, rw (e, d, g) refl, omega (arith, a))
@@ -168,19 +162,19 @@ module _ (size : ℕ) (c : Context) (ws : List Waiting) (past : Items) (m : ℕ)
       subst (λ (j : ℕ). ItemGiven (37 ∷ b ∷ []) (BadDirective j)) (same_place size m i (37 ∷ b ∷ []) a ai) (m + 1, rw (e, f) refl, omega (arith, a))
   item_refused (r.breaks_off {n = i} {b} {last} ai e f) a =
       subst (λ (j : ℕ). ItemGiven (37 ∷ b ∷ last) (BadDirective j)) (same_place size m i (37 ∷ b ∷ last) a ai) (broken b (directive_of b) f e refl a)
-  item_refused (r.star_outside {n = i} ai f) a =
-      subst (λ (j : ℕ). ItemGiven (37 ∷ 42 ∷ []) (StarOutside j)) (same_place size m i (37 ∷ 42 ∷ []) a ai)
-      (m + 1, rw (allowed_star c.in_arguments, star_nobody (list c past) m (m + 1 + 1) c.owner f) refl, omega (arith, a))
-  item_refused (r.mixed_star {n = i} ai f) a =
-      subst (λ (j : ℕ). ItemGiven (37 ∷ 42 ∷ []) (MixedStar j)) (same_place size m i (37 ∷ 42 ∷ []) a ai)
-      (m + 1, rw (allowed_star c.in_arguments, star_mixed (list c past) m (m + 1 + 1) c.owner f) refl, omega (arith, a))
+  item_refused (r.star_outside {n = i} {b} ai al d f) a =
+      subst (λ (j : ℕ). ItemGiven (37 ∷ b ∷ []) (StarOutside j)) (same_place size m i (37 ∷ b ∷ []) a ai)
+      (m + 1, rw (al, d, star_nobody (list c past) m (m + 1 + 1) c.owner f) refl, omega (arith, a))
+  item_refused (r.mixed_star {n = i} {b} ai al d f) a =
+      subst (λ (j : ℕ). ItemGiven (37 ∷ b ∷ []) (MixedStar j)) (same_place size m i (37 ∷ b ∷ []) a ai)
+      (m + 1, rw (al, d, star_mixed (list c past) m (m + 1 + 1) c.owner f) refl, omega (arith, a))
   item_refused (r.item_within_all {n = i} {b} ai e f lv) a =
       subst (λ (j : ℕ). ItemGiven (37 ∷ b ∷ []) (TooNested j)) (same_place size m i (37 ∷ b ∷ []) a ai)
       (m + 1, rw (e, nested_directive (list c past) m (m + 1 + 1) (directive_of b) f lv) refl, omega (arith, a))
   item_refused (r.hides_nothing {n = i} {b} {x} ai e f (x1, x2, x3)) a =
       subst (λ (j : ℕ). ItemGiven (37 ∷ b ∷ x ∷ []) (EmptyTest j)) (same_place size m i (37 ∷ b ∷ x ∷ []) a ai) (m + 1 + 1, rw (e, f, x1, x2, x3) refl, omega (arith, a))
-  item_refused (r.item_no_function {n = i} {last} ai lv f) a =
-      subst (λ (j : ℕ). ItemGiven (37 ∷ 58 ∷ last) (UnknownFunction j)) (same_place size m i (37 ∷ 58 ∷ last) a ai) (item_no_function f a lv)
+  item_refused (r.item_no_function {n = i} {b} {last} ai al d lv f) a =
+      subst (λ (j : ℕ). ItemGiven (37 ∷ b ∷ last) (UnknownFunction j)) (same_place size m i (37 ∷ b ∷ last) a ai) (item_no_function b f a al d lv)
 
 -- a test's refusal
 module _ (size : ℕ) (c : Context) (ws : List Waiting) (q : Place) (m : ℕ) (h : Head) (start : ℕ) (negated : Bool) (e : in_braces h.here.context ≡ c) (asks : Asks q m h start negated) where
@@ -192,7 +186,7 @@ module _ (size : ℕ) (c : Context) (ws : List Waiting) (q : Place) (m : ℕ) (h
   test_unknown name b a lv f g =
       let w : turn q m 37 ≡ Goes (o.TestPercent h start negated m) = percent_goes lv in (
         m + 2 + length name,
-        unknown ws q m (o.TestFunction h start negated m) (λ v. Opens (list_in (in_arguments (in_braces h.here.context))) (WaitsTest h start negated v)) (λ v z y. refl) name [] b m refl f (rw w refl) g,
+        unknown ws q m 58 (o.TestFunction h start negated m) (λ v. Opens (list_in (in_arguments (in_braces h.here.context))) (WaitsTest h start negated v)) (λ v z y. refl) name [] b m refl f (rw w refl) g,
         omega (arith, a, length-append name (b ∷ [])),
       )
 

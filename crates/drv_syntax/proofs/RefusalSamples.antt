@@ -18,7 +18,7 @@ no_directive : IsRefused (codes "x%q") (BadDirective 1)
 no_directive = refused (codes "x%q") (BadDirective 1) (AnItem top) (codes "%q") (r.behind_item (s.plain refl refl) r.item_due) (r.no_directive refl refl refl)
 
 star_outside : IsRefused (codes "%*") (StarOutside 0)
-star_outside = refused (codes "%*") (StarOutside 0) (AnItem top) (codes "%*") r.item_due (r.star_outside refl refl)
+star_outside = refused (codes "%*") (StarOutside 0) (AnItem top) (codes "%*") r.item_due (r.star_outside refl refl refl refl)
 
 -- the test of a switch
 abbrev one_switch : Tests
@@ -29,7 +29,7 @@ mixed_star =
     refused (codes "%{a:%*") (MixedStar 4) (AnItem (in_x (in_braces top) one_switch)) (codes "%*")
     (r.in_directive {n = 0} refl refl (r.in_place refl (r.in_choices (r.to_x
     (s.last_test {n = 2} {m = 3} s.no_space refl (s.plain_sign (s.at_byte refl)) (s.switch (s.at_byte refl) (s.unstarred (s.quoted_byte refl refl (s.quoted_stop refl refl)) (s.at_byte refl))) refl s.no_space)
-    r.item_due)))) (r.mixed_star refl refl)
+    r.item_due)))) (r.mixed_star refl refl refl refl)
 
 no_pattern : IsRefused (codes "%<:") (EmptyTest 0)
 no_pattern = refused (codes "%<:") (EmptyTest 0) (AnItem top) (codes "%<:") r.item_due (r.hides_nothing refl refl refl (refl, refl, refl))
@@ -69,7 +69,7 @@ no_option : IsRefused (codes "%x{}") (BadDirective 0)
 no_option = refused (codes "%x{}") (BadDirective 0) (AnItem top) (codes "%x{}") r.item_due (r.breaks_off refl refl r.empty_option)
 
 no_function : IsRefused (codes "%:getx") (UnknownFunction 0)
-no_function = refused (codes "%:getx") (UnknownFunction 0) (AnItem top) (codes "%:getx") r.item_due (r.item_no_function refl refl (r.not_a_front (codes "get") 120 refl refl refl))
+no_function = refused (codes "%:getx") (UnknownFunction 0) (AnItem top) (codes "%:getx") r.item_due (r.item_no_function refl refl refl refl (r.not_a_front (codes "get") 120 refl refl refl))
 
 short_function : IsRefused (codes "%:get(") (UnknownFunction 0)
-short_function = refused (codes "%:get(") (UnknownFunction 0) (AnItem top) (codes "%:get(") r.item_due (r.item_no_function refl refl (r.not_a_name (codes "get") refl refl))
+short_function = refused (codes "%:get(") (UnknownFunction 0) (AnItem top) (codes "%:get(") r.item_due (r.item_no_function refl refl refl refl (r.not_a_name (codes "get") refl refl))

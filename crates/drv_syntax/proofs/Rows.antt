@@ -8,6 +8,7 @@ use Rattle.drv_syntax.specs.Contexts.{Context, bar_in, is_end, is_said, newline_
 use Rattle.drv_syntax.specs.Fronts.{whole_item}
 use Rattle.drv_syntax.specs.Outcome as o
 use Rattle.drv_syntax.specs.Outcome.{Here, Place, Turn, join, placed, turn, turn_item}
+use Rattle.drv_syntax.specs.Refusals.{behind_item}
 use Rattle.drv_syntax.specs.Spelling as s
 use Rattle.drv_syntax.specs.Spelling.{AreChoices, AreTests, At, IsItem, IsPattern, IsQuoted, IsRun, IsSuffix, Stops, span}
 use Rattle.drv_syntax.specs.Tree as tree
@@ -64,6 +65,7 @@ module _ (size : ℕ) (K : Outside) where
     rest = e.list.rest;
     spelled = λ f. s.next_item a d e.fits (e.list.spelled f);
     front = λ f. whole_item d (e.list.front f);
+    reached = λ due last f. behind_item d (e.list.reached due last f);
     outside = subst (λ (x : Items). K here.context x e.list.rest) (join_assoc here.done (more (span n e.m) item tree.none) e.list.items) e.list.outside;
   }
 
@@ -84,7 +86,7 @@ module _ (size : ℕ) (K : Outside) where
       (λ e g. rw (same b 92 e, g.2) (item_ended here n (92 ∷ g.0 ∷ g.1) g.1 (Escape g.0) (omega (arith, a, ap length g.2)) s.escape g.3)) (λ e1 h.
       when (After size K b text) (b == 37) _ _ h (λ e g. rw (same b 37 e) (percent_list here n text a g)) (λ e2 h.
       when (After size K b text) (is_end here.context.kind b) _ _ h
-      (λ e g. record { items = tree.none; rest = b ∷ text; spelled = λ f. s.no_item f; front = λ f. f; outside = rw (join_none here.done) (g refl here.context e) }) (λ e3 h.
+      (λ e g. record { items = tree.none; rest = b ∷ text; spelled = λ f. s.no_item f; front = λ f. f; reached = λ due last f. f; outside = rw (join_none here.done) (g refl here.context e) }) (λ e3 h.
       when (After size K b text) (is_blank b) _ _ h (λ e g. single here n b text Blank a (s.blank e) g) (λ e4 h.
       when (After size K b text) (b == 10) _ _ h (λ e g. rw (same b 10 e) (single here n 10 text (newline_in here.context.in_arguments) a s.newline g)) (λ e5 h.
       when (After size K b text) (b == 124) _ _ h (λ e g. rw (same b 124 e) (single here n 124 text (bar_in here.context.in_arguments) a s.pipe g)) (λ e6 h.

@@ -134,7 +134,7 @@ module _ (size : ℕ) (out : Items) where
   Done = Around size [] out
 
   no_more : (here : Here) → here.done ≡ out → WantsList size Done here []
-  no_more here e = record { items = none; rest = []; spelled = λ f. s.no_item f; front = λ f. f; outside = (refl, join_none here.done ∙ e) }
+  no_more here e = record { items = none; rest = []; spelled = λ f. s.no_item f; front = λ f. f; reached = λ due last f. f; outside = (refl, join_none here.done ∙ e) }
 
   finished : (p : Place) (n : ℕ) → At size n [] → finish p n ≡ Got out → Wanted size Done p []
   finished (o.AtItem here) n a e = no_more here (got _ _ e)

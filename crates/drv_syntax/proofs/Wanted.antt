@@ -6,6 +6,7 @@ use Rattle.drv_syntax.specs.Contexts.{Context, in_arguments, in_braces, in_x, is
 use Rattle.drv_syntax.specs.Fronts.{AreFrontItems}
 use Rattle.drv_syntax.specs.Outcome as o
 use Rattle.drv_syntax.specs.Outcome.{Head, Here, On, Place, Turn, Waiting, emitted, join, join_choices, join_tests, placed, resume, tested}
+use Rattle.drv_syntax.specs.Refusals.{Due, Reaches}
 use Rattle.drv_syntax.specs.Spelling.{AreItems, AreLater, ArePatterns, AreSpaces, AreTests, At, EndsList, EndsSaying, IsAsked, IsDirective, IsPattern, IsQuoted, IsRun, IsSuffix, Stops}
 use Rattle.drv_syntax.specs.Tree.{AddOption, Asked, Choices, Choose, Emit, Escape, Function, HasResult, HasSwitch, Hide, Item, Items, NamedText, Pattern, Span, TempName, Tests, alternative, no_choice, no_test, pattern}
 use Rattle.drv_syntax.specs.declared.token.TempKind.{TempKind}
@@ -46,6 +47,7 @@ pub record WantsList (size : ℕ) (K : Outside) (here : Here) (text : List ℕ) 
   pub rest : List ℕ
   pub spelled : EndsList here.context.kind rest → AreItems size here.context text items rest
   pub front : AreFrontItems size here.context rest → AreFrontItems size here.context text
+  pub reached : (due : Due) (last : List ℕ) → Reaches size here.context rest due last → Reaches size here.context text due last
   pub outside : K here.context (join here.done items) rest
 
 -- an item from this place on, up to the rest

@@ -3,7 +3,7 @@ use Rattle.drv_syntax.specs.Bytes.{is_function, is_function_front, is_mark, is_n
 use Rattle.drv_syntax.specs.Directives.{directive_of, is_allowed}
 use Rattle.drv_syntax.specs.declared.directives.BraceKind.{BraceKind}
 use Rattle.drv_syntax.specs.declared.directives.Directive.{Directive}
-use Rattle.drv_syntax.specs.declared.directives.Directive.TheVariants.{Nowhere, WithBraces, WithCall, WithMarkedBraces, WithName, WithOption, WithPattern}
+use Rattle.drv_syntax.specs.declared.directives.Directive.TheVariants.{Nowhere, OfStar, WithBraces, WithCall, WithMarkedBraces, WithName, WithOption, WithPattern}
 use Rattle.drv_syntax.specs.declared.fault.SyntaxFault.{SyntaxFault}
 use Rattle.drv_syntax.specs.declared.fault.SyntaxFault.TheVariants.{BadDirective, EmptyTest, MixedStar, StarOutside, TooNested, UnknownFunction}
 use Rattle.drv_syntax.specs.Contexts.{Context, Mixed, Nobody, in_arguments, in_braces, in_x, top}
@@ -156,16 +156,18 @@ pub data Breaks : Context → Directive → List ℕ → Type 0 where
 -- where this is due, a text ends in the byte that no longer fits, and this is its fault
 pub data Refuses (size : ℕ) : Due → List ℕ → SyntaxFault → Type 0 where
   -- %* in no X, and in an X without tests, or with a test that is no starred pattern or has a !
-  star_outside : {c : Context} {n : ℕ} → At size n (codes "%*") → c.owner ≡ Nobody → Refuses size (AnItem c) (codes "%*") (StarOutside n)
-  mixed_star : {c : Context} {n : ℕ} → At size n (codes "%*") → c.owner ≡ Mixed → Refuses size (AnItem c) (codes "%*") (MixedStar n)
+  star_outside : {c : Context} {n b : ℕ} → At size n (ascii.percent ∷ b ∷ []) → is_allowed c.in_arguments b ≡ true → directive_of b ≡ OfStar → c.owner ≡ Nobody
+      → Refuses size (AnItem c) (ascii.percent ∷ b ∷ []) (StarOutside n)
+  mixed_star : {c : Context} {n b : ℕ} → At size n (ascii.percent ∷ b ∷ []) → is_allowed c.in_arguments b ≡ true → directive_of b ≡ OfStar → c.owner ≡ Mixed
+      → Refuses size (AnItem c) (ascii.percent ∷ b ∷ []) (MixedStar n)
   -- braces or arguments within 64 others: the {, W, @ or : behind a %, where that may stand, or the % of a test
   item_within_all : {c : Context} {n b : ℕ} → At size n (ascii.percent ∷ b ∷ []) → is_allowed c.in_arguments b ≡ true → nests (directive_of b) ≡ true → (c.levels == 0) ≡ true
       → Refuses size (AnItem c) (ascii.percent ∷ b ∷ []) (TooNested n)
   test_within_all : {c : Context} {at n : ℕ} {order : Order} {negated : Bool} → At size n (ascii.percent ∷ []) → (c.levels == 0) ≡ true
       → Refuses size (ATest c at order negated) (ascii.percent ∷ []) (TooNested n)
   -- the name of no function
-  item_no_function : {c : Context} {n : ℕ} {last : List ℕ} → At size n (ascii.percent ∷ ascii.colon ∷ last) → (c.levels == 0) ≡ false → IsNoFunction last
-      → Refuses size (AnItem c) (ascii.percent ∷ ascii.colon ∷ last) (UnknownFunction n)
+  item_no_function : {c : Context} {n b : ℕ} {last : List ℕ} → At size n (ascii.percent ∷ b ∷ last) → is_allowed c.in_arguments b ≡ true → directive_of b ≡ WithCall → (c.levels == 0) ≡ false
+      → IsNoFunction last → Refuses size (AnItem c) (ascii.percent ∷ b ∷ last) (UnknownFunction n)
   test_no_function : {c : Context} {at n : ℕ} {order : Order} {negated : Bool} {last : List ℕ} → At size n (ascii.percent ∷ ascii.colon ∷ last) → (c.levels == 0) ≡ false → IsNoFunction last
       → Refuses size (ATest c at order negated) (ascii.percent ∷ ascii.colon ∷ last) (UnknownFunction n)
   -- a pattern or a test without a word and a star: behind %< and %>, in braces, behind a . or , and behind &

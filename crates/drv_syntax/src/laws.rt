@@ -62,6 +62,11 @@ pub fn refusal_kinds()
     ensures { (text rest : List ℕ) (fault : SyntaxFault) → IsRefused text fault → read (text ++ rest) ≡ Bad (length text - 1) fault }
 {}
 
+/// A text that is refused has at its place one of these cases: up to that byte it is refused for this fault by the grammar.
+pub fn refused_kinds()
+    ensures { (text : List ℕ) (k : ℕ) (fault : SyntaxFault) → read text ≡ Bad k fault → IsRefused (take (k + 1) text) fault }
+{}
+
 /// What a text is parsed to, by the grammar: its tree, the fault of its shortest prefix that is no front, that it is cut
 /// short, or that it is too long.
 pub fn parsed_by_grammar()
