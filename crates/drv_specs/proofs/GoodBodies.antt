@@ -8,6 +8,8 @@ use Rattle.drv_specs.specs.Kept.{Each, begins_line, is_body, is_text, sees}
 use Rattle.drv_specs.specs.Lines.{is_empty_line, is_kept, lines_of, settled, trimmed, without_front, words_of}
 use Rattle.drv_specs.specs.Sets.{ends_with_backslash}
 use Rattle.drv_words.specs.Bytes.{asterisk, greater_than, less_than, newline, number_sign, percent}
+use Rattle.drv_specs.specs.declared.directive.IfMissing.TheVariants.{PassOver, Refuse}
+use Rattle.drv_specs.specs.declared.directive.IfMissing.{IfMissing}
 use Rattle.std.proofs.Common.{◌≡◌, ◌⊎◌, ◌+◌, ◌-◌, ◌∙◌, ◌==◌, ◌&&◌, ◌||◌, Bool, List, [], ◌∷◌, ◌++◌, None, Option, Some, ap, codes, drop, false, filter, if◌then◌else◌, inl, inr, length, nat_eq, not, position, refl, suc, sym, take, true, zero, ℕ}
 use Rattle.std.specs.Cmp.Lexicographic.{pointwise}
 use Rattle.std.specs.List.{ends_with, join_with_byte, list_all}
@@ -21,7 +23,7 @@ abbrev pub IsGood : Directive → Type 0
 IsGood (Text name body) = IsBody body
 IsGood (Pair key body) = ((key ≡ []) ⊎ (begins_line key ≡ true)) × IsBody body
 IsGood (Rename old new) = Unit {0}
-IsGood (Include pass name) = Unit {0}
+IsGood (Include missing name) = Unit {0}
 IsGood (Bad n) = Unit {0}
 
 pub each_append : {X : Type 0} (P : X → Type 0) (xs ys : List X) → Each P xs → Each P ys → Each P (xs ++ ys)
@@ -181,11 +183,11 @@ renamed_good n (old ∷ []) = tt
 renamed_good n (old ∷ new ∷ []) = tt
 renamed_good n (old ∷ new ∷ word ∷ words) = tt
 
-included_good : (n : ℕ) (pass : Bool) (text : List ℕ) → IsGood (included n pass text)
-included_good n pass [] = tt
-included_good n pass (b ∷ text) = by (b == less_than && ends_with nat_eq text (greater_than ∷ []))
+included_good : (n : ℕ) (missing : IfMissing) (text : List ℕ) → IsGood (included n missing text)
+included_good n missing [] = tt
+included_good n missing (b ∷ text) = by (b == less_than && ends_with nat_eq text (greater_than ∷ []))
   where
-    by : (whole : Bool) → IsGood (if whole then Include pass (take (length text - 1) text) else Bad n)
+    by : (whole : Bool) → IsGood (if whole then Include missing (take (length text - 1) text) else Bad n)
     by true = tt
     by false = tt
 
@@ -194,12 +196,12 @@ keyword_good n line [] = tt
 keyword_good n line (word ∷ words) = by (pointwise nat_eq word (codes "%rename")) (pointwise nat_eq word (codes "%include")) (pointwise nat_eq word (codes "%include_noerr"))
   where
     by : (rename include noerr : Bool) → IsGood (if rename then renamed n words
-        else if include then included n false (trimmed (drop (length word) line))
-        else if noerr then included n true (trimmed (drop (length word) line))
+        else if include then included n Refuse (trimmed (drop (length word) line))
+        else if noerr then included n PassOver (trimmed (drop (length word) line))
         else Bad n)
     by true include noerr = renamed_good n words
-    by false true noerr = included_good n false (trimmed (drop (length word) line))
-    by false false true = included_good n true (trimmed (drop (length word) line))
+    by false true noerr = included_good n Refuse (trimmed (drop (length word) line))
+    by false false true = included_good n PassOver (trimmed (drop (length word) line))
     by false false false = tt
 
 -- a line that begins with none of the marks of other forms

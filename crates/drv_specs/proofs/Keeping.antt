@@ -6,15 +6,17 @@ use Rattle.drv_specs.specs.Code.Slices.{IsSettled}
 use Rattle.drv_specs.specs.Kept.{Each, Kept}
 use Rattle.drv_specs.specs.Loading.{Carried, Including, all_carried, carried, changed, file_carried, file_loaded, file_text, including, loaded, most_files, set_in, then_by, worked}
 use Rattle.drv_specs.specs.Sets.{Set, with_name, with_pair_body, with_text}
+use Rattle.drv_specs.specs.declared.directive.IfMissing.TheVariants.{Refuse}
+use Rattle.drv_specs.specs.declared.directive.IfMissing.{IfMissing}
 use Rattle.drv_specs.specs.declared.fault.SpecsFault.{SpecsFault}
 use Rattle.drv_system.specs.Facts.{Facts}
 use Rattle.drv_system.specs.Known.{Is, Known, Unasked}
-use Rattle.std.proofs.Common.{◌≡◌, Bool, Err, List, [], ◌∷◌, Ok, Result, false, refl, subst, suc, zero, ℕ, ap, sym, ◌∙◌}
+use Rattle.std.proofs.Common.{◌≡◌, Err, List, [], ◌∷◌, Ok, Result, refl, subst, suc, zero, ℕ, ap, sym, ◌∙◌}
 
 -- Loading keeps what every set keeps.
 
 abbrev pub Keeps : Including → Type 0
-Keeps inc = (c : Carried) (pass : Bool) (name : List ℕ) (c' : Carried) → inc c pass name ≡ Is (Ok c') → Kept c.set → Kept c'.set
+Keeps inc = (c : Carried) (missing : IfMissing) (name : List ℕ) (c' : Carried) → inc c missing name ≡ Is (Ok c') → Kept c.set → Kept c'.set
 
 changed_keeps : (set : Set) (files : ℕ) (given : Result Set SpecsFault) (c' : Carried) → changed files given ≡ Is (Ok c') → ((set' : Set) → given ≡ Ok set' → Kept set') → Kept c'.set
 changed_keeps set files (Ok set') c' is kept = let same : set' ≡ c'.set = cc in subst Kept same (kept set' refl)
@@ -24,7 +26,7 @@ carried_keeps : (inc : Including) → Keeps inc → (c : Carried) (directive : D
 carried_keeps inc keeps c (Text name body) c' good is kept = changed_keeps c.set c.files (with_text c.set name body) c' is (λ set' is'. text_keeps c.set name body set' good is' kept)
 carried_keeps inc keeps c (Pair key body) c' good is kept = changed_keeps c.set c.files (with_pair_body c.set key body) c' is (λ set' is'. pair_keeps c.set key body set' good.0 good.1 is' kept)
 carried_keeps inc keeps c (Rename old new) c' good is kept = changed_keeps c.set c.files (with_name c.set old new) c' is (λ set' is'. name_keeps c.set old new set' is' kept)
-carried_keeps inc keeps c (Include pass name) c' good is kept = keeps c pass name c' is kept
+carried_keeps inc keeps c (Include missing name) c' good is kept = keeps c missing name c' is kept
 carried_keeps inc keeps c (Bad n) c' good is kept = absurd cc
 
 all_keep : (inc : Including) → Keeps inc → (directives : List Directive) (c c' : Carried) → Each IsGood directives → all_carried inc c directives ≡ Is (Ok c') → Kept c.set → Kept c'.set
@@ -38,9 +40,9 @@ all_keep inc keeps (directive ∷ directives) c c' good is kept = by (carried in
     by (Is (Ok d)) given is' later = later d is' (carried_keeps inc keeps c directive d good.0 given kept)
 
 module _ (F : Facts) (prefixes : Prefixes) where
-  file_keeps : (inc : Including) → Keeps inc → (set : Set) (files : ℕ) (pass : Bool) (name : List ℕ) (c' : Carried) → file_carried F prefixes inc set files pass name ≡ Is (Ok c') → Kept set → Kept c'.set
-  file_keeps inc keeps set zero pass name c' is kept = absurd cc
-  file_keeps inc keeps set (suc left) pass name c' is kept = by (file_text F prefixes pass name) is
+  file_keeps : (inc : Including) → Keeps inc → (set : Set) (files : ℕ) (missing : IfMissing) (name : List ℕ) (c' : Carried) → file_carried F prefixes inc set files missing name ≡ Is (Ok c') → Kept set → Kept c'.set
+  file_keeps inc keeps set zero missing name c' is kept = absurd cc
+  file_keeps inc keeps set (suc left) missing name c' is kept = by (file_text F prefixes missing name) is
     where
       by : (given : Known (Result (List ℕ) SpecsFault)) → then_by given (λ text. all_carried inc (record { set = set; files = left }) (directives_of text)) ≡ Is (Ok c') → Kept c'.set
       by Unasked is' = absurd cc
@@ -49,8 +51,8 @@ module _ (F : Facts) (prefixes : Prefixes) where
 
   including_keeps : (levels : ℕ) → Keeps (including F prefixes levels)
   unfolding including
-  including_keeps zero c pass name c' is kept = absurd cc
-  including_keeps (suc levels) c pass name c' is kept = file_keeps (including F prefixes levels) (including_keeps levels) c.set c.files pass name c' is kept
+  including_keeps zero c missing name c' is kept = absurd cc
+  including_keeps (suc levels) c missing name c' is kept = file_keeps (including F prefixes levels) (including_keeps levels) c.set c.files missing name c' is kept
 
   set_by : (given : Known (Result Carried SpecsFault)) (set' : Set) → then_by given set_in ≡ Is (Ok set') → ((c : Carried) → given ≡ Is (Ok c) → Kept c.set) → Kept set'
   set_by Unasked set' is kept = absurd cc
@@ -73,5 +75,5 @@ module _ (F : Facts) (prefixes : Prefixes) where
   pub file_loaded_keeps : (set set' : Set) (name : List ℕ) → Kept set → file_loaded F prefixes set name ≡ Is (Ok set') → Kept set'
   unfolding file_loaded
   file_loaded_keeps set set' name kept is =
-      set_by (including F prefixes 16 (record { set = set; files = most_files }) false name) set' is
-      (λ c given. including_keeps 16 (record { set = set; files = most_files }) false name c given kept)
+      set_by (including F prefixes 16 (record { set = set; files = most_files }) Refuse name) set' is
+      (λ c given. including_keeps 16 (record { set = set; files = most_files }) Refuse name c given kept)

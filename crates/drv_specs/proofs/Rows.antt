@@ -4,6 +4,7 @@ use Rattle.drv_specs.specs.Dumping.{dumped}
 use Rattle.drv_specs.specs.Loading.{all_carried, file_loaded, including, loaded}
 use Rattle.drv_specs.specs.Sets.{Set, no_specs, text_of}
 use Rattle.drv_specs.specs.Directives.{Include}
+use Rattle.drv_specs.specs.declared.directive.IfMissing.TheVariants.{PassOver, Refuse}
 use Rattle.drv_specs.specs.declared.fault.SpecsFault.TheVariants.{AliasOfAlias, BadLine, BadName, IncludeTooDeep, NoSuchFile, RenameMissing, RenameTaken, Syntax, TooManyIncludes, TrailingBackslash, Unreadable}
 use Rattle.drv_specs.specs.declared.fault.SpecsFault.{SpecsFault}
 use Rattle.drv_syntax.specs.declared.fault.SyntaxFault.TheVariants.{BadDirective, Unclosed}
@@ -421,15 +422,15 @@ unfolding loaded including
 unasked = refl
 
 -- 2,000 files may be read, and one more may not
-most_files : all_carried (including (with_file (codes "e") (read.Read [])) here 15) (record { set = no_specs; files = 2000 }) (replicate 2000 (Include false (codes "e"))) ≡ Is (Ok (record { set = no_specs; files = 0 }))
+most_files : all_carried (including (with_file (codes "e") (read.Read [])) here 15) (record { set = no_specs; files = 2000 }) (replicate 2000 (Include Refuse (codes "e"))) ≡ Is (Ok (record { set = no_specs; files = 0 }))
 unfolding including
 most_files = refl
 
-one_file_more : all_carried (including (with_file (codes "e") (read.Read [])) here 15) (record { set = no_specs; files = 2000 }) (replicate 2001 (Include false (codes "e"))) ≡ Is (Err TooManyIncludes)
+one_file_more : all_carried (including (with_file (codes "e") (read.Read [])) here 15) (record { set = no_specs; files = 2000 }) (replicate 2001 (Include Refuse (codes "e"))) ≡ Is (Err TooManyIncludes)
 unfolding including
 one_file_more = refl
 
-missing_files_count : all_carried (including (with_file (codes "e") read.Missing) here 15) (record { set = no_specs; files = 2000 }) (replicate 2001 (Include true (codes "e"))) ≡ Is (Err TooManyIncludes)
+missing_files_count : all_carried (including (with_file (codes "e") read.Missing) here 15) (record { set = no_specs; files = 2000 }) (replicate 2001 (Include PassOver (codes "e"))) ≡ Is (Err TooManyIncludes)
 unfolding including
 missing_files_count = refl
 

@@ -1,6 +1,8 @@
 use Rattle.drv_specs.specs.Blanks.{has_byte, is_blank}
 use Rattle.drv_words.specs.Bytes.{colon, greater_than, number_sign, less_than, newline, percent, asterisk}
 use Rattle.drv_specs.specs.Lines.{is_empty_line, lines_of, settled, trimmed, without_front, words_of}
+use Rattle.drv_specs.specs.declared.directive.IfMissing.{IfMissing}
+use Rattle.drv_specs.specs.declared.directive.IfMissing.TheVariants.{PassOver, Refuse}
 use Rattle.std.specs.Cmp.Lexicographic.{pointwise}
 use Rattle.std.specs.List.{ends_with, join_with_byte, position}
 use Rattle.std.specs.Prelude.{◌+◌, ◌-◌, ◌==◌, ◌&&◌, Bool, List, [], ◌∷◌, ◌++◌, None, Option, Some, codes, drop, false, filter, if◌then◌else◌, length, nat_eq, take, true, ℕ}
@@ -12,7 +14,7 @@ pub data Directive : Type 0 where
   Text : List ℕ → List ℕ → Directive  -- a name, and its body
   Pair : List ℕ → List ℕ → Directive  -- a suffix or a language, and its body
   Rename : List ℕ → List ℕ → Directive  -- a text's name, and its new name
-  Include : Bool → List ℕ → Directive  -- whether a missing file is passed over, and the file
+  Include : IfMissing → List ℕ → Directive  -- what becomes of it where its file is missing, and the file
   Bad : ℕ → Directive  -- the line of this number is none
 
 -- what a line begins: nothing, a directive of one line, or one with a body
@@ -22,9 +24,9 @@ pub data Start : Type 0 where
   WithBody : Directive → Start
 
 -- %include: the file stands between a < and the last >, and is all that stands there
-abbrev pub included : ℕ → Bool → List ℕ → Directive
-included n pass [] = Bad n
-included n pass (b ∷ text) = if b == less_than && ends_with nat_eq text (greater_than ∷ []) then Include pass (take (length text - 1) text) else Bad n
+abbrev pub included : ℕ → IfMissing → List ℕ → Directive
+included n missing [] = Bad n
+included n missing (b ∷ text) = if b == less_than && ends_with nat_eq text (greater_than ∷ []) then Include missing (take (length text - 1) text) else Bad n
 
 -- %rename: two names
 abbrev pub renamed : ℕ → List (List ℕ) → Directive
@@ -38,8 +40,8 @@ abbrev pub by_keyword : ℕ → List ℕ → List (List ℕ) → Directive
 by_keyword n line [] = Bad n
 by_keyword n line (word ∷ words) =
     if pointwise nat_eq word (codes "%rename") then renamed n words
-    else if pointwise nat_eq word (codes "%include") then included n false (trimmed (drop (length word) line))
-    else if pointwise nat_eq word (codes "%include_noerr") then included n true (trimmed (drop (length word) line))
+    else if pointwise nat_eq word (codes "%include") then included n Refuse (trimmed (drop (length word) line))
+    else if pointwise nat_eq word (codes "%include_noerr") then included n PassOver (trimmed (drop (length word) line))
     else Bad n
 
 -- a body: what stands behind the colon, if anything does, and the lines up to the next one that is empty

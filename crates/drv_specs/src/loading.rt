@@ -10,7 +10,7 @@ ghost use Rattle.drv_system.specs.Gives.{GivesKnown};
 ghost use Rattle.drv_words.specs.Gives.{Gives};
 ghost use Rattle.std.specs.Prelude.{◌≡◌, OnErr};
 
-use crate::directive::Directive;
+use crate::directive::{Directive, IfMissing};
 use crate::entries::Entries;
 use crate::reading::Reader;
 use crate::settling::settled;
@@ -29,17 +29,19 @@ const MOST_LEVELS: usize = 16;
 /// What is left of the text that an answer gives.
 fn text_read(
     alloc: Global,
-    pass_missing: bool,
+    if_missing: IfMissing,
     path: Word,
     answer: &ReadAnswer,
 ) -> Result<Vec<u8>, SpecsFault>
     ensures { Gives fault.Memory (λ left. left.items) result
-        (read_left (text_read pass_missing path answer.now)) }
+        (read_left (text_read if_missing path answer.now)) }
 {
     match answer {
         ReadAnswer::Read(text) => Ok(settled(alloc, text.as_bytes())?),
-        ReadAnswer::Missing if pass_missing => Ok(Vec::new(alloc)),
-        ReadAnswer::Missing => Err(SpecsFault::NoSuchFile(path)),
+        ReadAnswer::Missing => match if_missing {
+            IfMissing::PassOver => Ok(Vec::new(alloc)),
+            IfMissing::Refuse => Err(SpecsFault::NoSuchFile(path)),
+        },
         ReadAnswer::Failed | ReadAnswer::TooLarge => Err(SpecsFault::Unreadable(path)),
     }
 }
@@ -47,7 +49,7 @@ fn text_read(
 /// What is left of the text that a spec file gives.
 fn file_text<S: System>(
     alloc: Global,
-    pass_missing: bool,
+    if_missing: IfMissing,
     name: &[u8],
     prefixes: &Prefixes,
     sys: &mut S,
@@ -56,13 +58,13 @@ fn file_text<S: System>(
     ensures asks { Asks (S.events sys.old) (S.events sys.new) facts.old facts.new }
     ensures text { (F : Facts) → Extends facts.new F
         → GivesKnown fault.Memory (λ left. left.items) result
-        (settled_file F prefixes.now pass_missing name.now) }
+        (settled_file F prefixes.now if_missing name.now) }
 {
     let name = Word::from_bytes(alloc, name)?;
     let path = find_file(alloc, prefixes, &name, sys, facts)?;
     facts.read(sys, &path)?;
     let answer = facts.read_answer(&path);
-    text_read(alloc, pass_missing, path, answer)
+    text_read(alloc, if_missing, path, answer)
 }
 
 /// Carries out the directives of a settled text, in which so many more files may stand in one
@@ -86,7 +88,7 @@ fn carry_out<S: System>(
     let mut reader = Reader::new(text);
     while let Some(directive) = reader.next() {
         match directive {
-            Directive::Include { pass_missing, file } => {
+            Directive::Include { if_missing, file } => {
                 if levels == 0 {
                     return Err(SpecsFault::IncludeTooDeep);
                 }
@@ -94,7 +96,7 @@ fn carry_out<S: System>(
                     return Err(SpecsFault::TooManyIncludes);
                 }
                 *files -= 1;
-                let text = file_text(entries.alloc(), pass_missing, file, prefixes, sys, facts)?;
+                let text = file_text(entries.alloc(), if_missing, file, prefixes, sys, facts)?;
                 carry_out(
                     entries,
                     files,
@@ -203,7 +205,14 @@ impl SpecSet {
         ensures kept { OnErr result (self.new ≡ self.old) }
     {
         let name = name.as_bytes();
-        let text = file_text(self.entries.alloc(), false, name, prefixes, sys, facts)?;
+        let text = file_text(
+            self.entries.alloc(),
+            IfMissing::Refuse,
+            name,
+            prefixes,
+            sys,
+            facts,
+        )?;
         self.work(MOST_FILES - 1, text.as_slice(), prefixes, sys, facts)
     }
 }

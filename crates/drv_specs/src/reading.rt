@@ -7,7 +7,7 @@ ghost use Rattle.std.specs.List.{list_all, position};
 ghost use Rattle.std.specs.Prelude.{◌≡◌, ◌<◌, ◌≤◌, ◌^◌, ◌+◌, ◌-◌, ◌∷◌, ◌++◌, [], IfNone, false, length, not, true};
 
 use crate::bytes::{behind, has_byte, trimmed, without_blanks, without_last};
-use crate::directive::Directive;
+use crate::directive::{Directive, IfMissing};
 use crate::lines::{Lines, cut_body, cut_line, next_word};
 use bstr::ByteSlice;
 use std::marker::Model;
@@ -46,12 +46,12 @@ fn renamed<'a>(number: usize, text: &'a [u8]) -> Directive<'a>
 }
 
 /// The directive of a line `%include`, by what stands behind that.
-fn included<'a>(number: usize, pass_missing: bool, text: &'a [u8]) -> Directive<'a>
-    ensures { shown result ≡ included number pass_missing text.now }
+fn included<'a>(number: usize, if_missing: IfMissing, text: &'a [u8]) -> Directive<'a>
+    ensures { shown result ≡ included number if_missing text.now }
 {
     match text {
         [b'<', file @ ..] if file.ends_with(b">") => Directive::Include {
-            pass_missing,
+            if_missing,
             file: without_last(file),
         },
         _ => Directive::Bad(number),
@@ -70,10 +70,10 @@ fn by_keyword<'a>(number: usize, line: &'a [u8]) -> Directive<'a>
     }
     let rest = trimmed(behind(line, word.len()));
     if word == b"%include".as_slice() {
-        return included(number, false, rest);
+        return included(number, IfMissing::Refuse, rest);
     }
     if word == b"%include_noerr".as_slice() {
-        return included(number, true, rest);
+        return included(number, IfMissing::PassOver, rest);
     }
     Directive::Bad(number)
 }

@@ -3,6 +3,7 @@ use Rattle.drv_specs.specs.Directives as specs
 use Rattle.drv_specs.specs.Directives.{read_lines}
 use Rattle.drv_specs.specs.Lines.{is_kept, joined_onto, lines_of, settled}
 use Rattle.drv_specs.specs.Loading.{file_text}
+use Rattle.drv_specs.specs.declared.directive.IfMissing.{IfMissing}
 use Rattle.drv_specs.specs.declared.directive.Directive.TheVariants.{Bad, Include, Pair, Rename, Text}
 use Rattle.drv_specs.specs.declared.directive.Directive.{Directive}
 use Rattle.drv_specs.specs.declared.lines.Lines.{Lines}
@@ -49,7 +50,7 @@ abbrev pub shown : Directive → specs.Directive
 shown (Text name body) = specs.Text name.now body.now
 shown (Pair key body) = specs.Pair key.now body.now
 shown (Rename old new) = specs.Rename old.now new.now
-shown (Include pass file) = specs.Include pass file.now
+shown (Include missing file) = specs.Include missing file.now
 shown (Bad n) = specs.Bad n
 
 -- a line without the blanks at its front that begins nothing, or a directive of one line
@@ -75,5 +76,5 @@ abbrev pub read_left : Result (List ℕ) SpecsFault → Result (List ℕ) SpecsF
 read_left (Ok text) = Ok (settled text)
 read_left (Err fault) = Err fault
 
-abbrev pub settled_file : Facts → Prefixes → Bool → List ℕ → Known (Result (List ℕ) SpecsFault)
-settled_file F prefixes pass name = file_text F prefixes pass name >>= λ given. Is (read_left given)
+abbrev pub settled_file : Facts → Prefixes → IfMissing → List ℕ → Known (Result (List ℕ) SpecsFault)
+settled_file F prefixes missing name = file_text F prefixes missing name >>= λ given. Is (read_left given)

@@ -20,24 +20,24 @@ returns-in_err-carry_out-in-Include-clause-asks g n c = asks_then c.loop-directi
 
 pub returns-then-levels-eq0-clause-carried : goal.returns-then-levels-eq0-clause-carried
 returns-then-levels-eq0-clause-carried g n c F e =
-    inr (deep_refused F c.args.prefixes.now c.loop-directive.entries c.loop-directive.files c.args.levels c.loop-directive.reader c.next.new.self c.in-Include.pass_missing c.in-Include.file.now
+    inr (deep_refused F c.args.prefixes.now c.loop-directive.entries c.loop-directive.files c.args.levels c.loop-directive.reader c.next.new.self c.in-Include.if_missing c.in-Include.file.now
     (all_carried (including F c.args.prefixes.now c.args.levels) (record { set = c.args.entries.now; files = c.args.files.now }) (read_settled c.args.text.now))
-    (taken c.loop-directive.reader c.next.new.self c.next.result c.in-Some.directive (Include c.in-Include.pass_missing c.in-Include.file.now) c.next.ensures.directives c.in-Some.is (ap shown c.in-Include.is)) (c.loop-directive.invariant.rest F e) c.if-levels-eq0.true)
+    (taken c.loop-directive.reader c.next.new.self c.next.result c.in-Some.directive (Include c.in-Include.if_missing c.in-Include.file.now) c.next.ensures.directives c.in-Some.is (ap shown c.in-Include.is)) (c.loop-directive.invariant.rest F e) c.if-levels-eq0.true)
 
 pub returns-then-files-eq0-clause-carried : goal.returns-then-files-eq0-clause-carried
 returns-then-files-eq0-clause-carried g n c F e =
-    inr (many_refused F c.args.prefixes.now c.loop-directive.entries c.loop-directive.files c.args.levels c.loop-directive.reader c.next.new.self c.in-Include.pass_missing c.in-Include.file.now
+    inr (many_refused F c.args.prefixes.now c.loop-directive.entries c.loop-directive.files c.args.levels c.loop-directive.reader c.next.new.self c.in-Include.if_missing c.in-Include.file.now
     (all_carried (including F c.args.prefixes.now c.args.levels) (record { set = c.args.entries.now; files = c.args.files.now }) (read_settled c.args.text.now))
-    (taken c.loop-directive.reader c.next.new.self c.next.result c.in-Some.directive (Include c.in-Include.pass_missing c.in-Include.file.now) c.next.ensures.directives c.in-Some.is (ap shown c.in-Include.is)) (c.loop-directive.invariant.rest F e) (c.args.levels - 1) (omega arith) c.if-files-eq0.true)
+    (taken c.loop-directive.reader c.next.new.self c.next.result c.in-Some.directive (Include c.in-Include.if_missing c.in-Include.file.now) c.next.ensures.directives c.in-Some.is (ap shown c.in-Include.is)) (c.loop-directive.invariant.rest F e) (c.args.levels - 1) (omega arith) c.if-files-eq0.true)
 
 pub returns-in_err-text-in-Include-clause-carried : goal.returns-in_err-text-in-Include-clause-carried
 returns-in_err-text-in-Include-clause-carried g n c F e =
     refusal_given c.in_err-text-in-Include.field-0.0 c.from_residual.result _
     (all_carried (including F c.args.prefixes.now c.args.levels) (record { set = c.args.entries.now; files = c.args.files.now }) (read_settled c.args.text.now))
     c.from_residual.ensures.1
-    (unread_refused F c.args.prefixes.now c.loop-directive.entries c.loop-directive.files c.args.levels c.loop-directive.reader c.next.new.self c.in-Include.pass_missing c.in-Include.file.now
+    (unread_refused F c.args.prefixes.now c.loop-directive.entries c.loop-directive.files c.args.levels c.loop-directive.reader c.next.new.self c.in-Include.if_missing c.in-Include.file.now
     (all_carried (including F c.args.prefixes.now c.args.levels) (record { set = c.args.entries.now; files = c.args.files.now }) (read_settled c.args.text.now))
-    (taken c.loop-directive.reader c.next.new.self c.next.result c.in-Some.directive (Include c.in-Include.pass_missing c.in-Include.file.now) c.next.ensures.directives c.in-Some.is (ap shown c.in-Include.is)) (c.loop-directive.invariant.rest F (extends_then (asks_extends c.file_text.ensures.asks) e))
+    (taken c.loop-directive.reader c.next.new.self c.next.result c.in-Some.directive (Include c.in-Include.if_missing c.in-Include.file.now) c.next.ensures.directives c.in-Some.is (ap shown c.in-Include.is)) (c.loop-directive.invariant.rest F (extends_then (asks_extends c.file_text.ensures.asks) e))
     (c.args.levels - 1) (c.loop-directive.files - 1) (omega arith) (omega arith) c.in_err-text-in-Include.field-0.0 (c.in_err-text-in-Include.ensures.text F e))
 
 pub returns-in_err-carry_out-in-Include-clause-carried : goal.returns-in_err-carry_out-in-Include-clause-carried
@@ -45,9 +45,9 @@ returns-in_err-carry_out-in-Include-clause-carried g n c F e =
     refusal_given c.in_err-carry_out-in-Include.field-0.0 c.from_residual-in_err-carry_out-in-Include.result _
     (all_carried (including F c.args.prefixes.now c.args.levels) (record { set = c.args.entries.now; files = c.args.files.now }) (read_settled c.args.text.now))
     c.from_residual-in_err-carry_out-in-Include.ensures.1
-    (worked_refused F c.args.prefixes.now c.loop-directive.entries c.loop-directive.files c.args.levels c.loop-directive.reader c.next.new.self c.in-Include.pass_missing c.in-Include.file.now
+    (worked_refused F c.args.prefixes.now c.loop-directive.entries c.loop-directive.files c.args.levels c.loop-directive.reader c.next.new.self c.in-Include.if_missing c.in-Include.file.now
     (all_carried (including F c.args.prefixes.now c.args.levels) (record { set = c.args.entries.now; files = c.args.files.now }) (read_settled c.args.text.now))
-    (taken c.loop-directive.reader c.next.new.self c.next.result c.in-Some.directive (Include c.in-Include.pass_missing c.in-Include.file.now) c.next.ensures.directives c.in-Some.is (ap shown c.in-Include.is)) (c.loop-directive.invariant.rest F (extends_then (asks_extends c.file_text.ensures.asks) (extends_then (asks_extends c.carry_out.ensures.asks) e)))
+    (taken c.loop-directive.reader c.next.new.self c.next.result c.in-Some.directive (Include c.in-Include.if_missing c.in-Include.file.now) c.next.ensures.directives c.in-Some.is (ap shown c.in-Include.is)) (c.loop-directive.invariant.rest F (extends_then (asks_extends c.file_text.ensures.asks) (extends_then (asks_extends c.carry_out.ensures.asks) e)))
     (c.args.levels - 1) (c.loop-directive.files - 1) (omega arith) (omega arith) c.in_ok-text-in-Include.text.items c.as_slice.result.now c.in_err-carry_out-in-Include.field-0.0
     (c.in_ok-text-in-Include.ensures.text F (extends_then (asks_extends c.carry_out.ensures.asks) e)) c.as_slice.ensures.value (c.in_err-carry_out-in-Include.ensures.carried F e))
 
@@ -55,9 +55,9 @@ pub loop-directive-preserved-in-Include : goal.loop-directive-preserved-in-Inclu
 loop-directive-preserved-in-Include g n c = record {
   asks = asks_then c.loop-directive.invariant.asks (asks_then c.file_text.ensures.asks c.carry_out.ensures.asks);
   rest = λ F e.
-      worked_more F c.args.prefixes.now c.loop-directive.entries c.loop-directive.files c.args.levels c.loop-directive.reader c.next.new.self c.in-Include.pass_missing c.in-Include.file.now
+      worked_more F c.args.prefixes.now c.loop-directive.entries c.loop-directive.files c.args.levels c.loop-directive.reader c.next.new.self c.in-Include.if_missing c.in-Include.file.now
       (all_carried (including F c.args.prefixes.now c.args.levels) (record { set = c.args.entries.now; files = c.args.files.now }) (read_settled c.args.text.now))
-      (taken c.loop-directive.reader c.next.new.self c.next.result c.in-Some.directive (Include c.in-Include.pass_missing c.in-Include.file.now) c.next.ensures.directives c.in-Some.is (ap shown c.in-Include.is)) (c.loop-directive.invariant.rest F (extends_then (asks_extends c.file_text.ensures.asks) (extends_then (asks_extends c.carry_out.ensures.asks) e)))
+      (taken c.loop-directive.reader c.next.new.self c.next.result c.in-Some.directive (Include c.in-Include.if_missing c.in-Include.file.now) c.next.ensures.directives c.in-Some.is (ap shown c.in-Include.is)) (c.loop-directive.invariant.rest F (extends_then (asks_extends c.file_text.ensures.asks) (extends_then (asks_extends c.carry_out.ensures.asks) e)))
       (c.args.levels - 1) (c.loop-directive.files - 1) (omega arith) (omega arith) c.in_ok-text-in-Include.text.items c.as_slice.result.now (record { set = c.carry_out.new.entries; files = c.carry_out.new.files })
       (c.in_ok-text-in-Include.ensures.text F (extends_then (asks_extends c.carry_out.ensures.asks) e)) c.as_slice.ensures.value (c.in_ok-carry_out-in-Include.ensures.carried F e);
 }

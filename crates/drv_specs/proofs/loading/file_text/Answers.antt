@@ -15,5 +15,5 @@ returns-clause-asks g c = asks_then c.find_file.ensures.asks c.read.ensures.asks
 
 pub returns-clause-text : goal.returns-clause-text
 returns-clause-text g c F e =
-    text_given _ (λ left. left.items) F c.read.new.self c.args.prefixes.now c.args.pass_missing c.args.name.now c.in_ok-path.path c.read_answer-answer.result.now c.text_read.result
+    text_given _ (λ left. left.items) F c.read.new.self c.args.prefixes.now c.args.if_missing c.args.name.now c.in_ok-path.path c.read_answer-answer.result.now c.text_read.result
     (ap (λ n. file_found F c.args.prefixes.now n) (sym c.in_ok-name.ensures) ∙ c.in_ok-path.ensures.path F (extends_then (asks_extends c.read.ensures.asks) e)) e c.read_answer-answer.ensures c.text_read.ensures

@@ -2,10 +2,11 @@ use Rattle.drv_specs.proofs.Carrying.{file_read, file_unread, given_alike, read_
 use Rattle.drv_specs.proofs.set.SpecSet.load_file.Goals as goal
 use Rattle.drv_specs.specs.Directives.{read_settled}
 use Rattle.drv_specs.specs.Loading.{file_loaded, file_text, worked}
+use Rattle.drv_specs.specs.declared.directive.IfMissing.TheVariants.{Refuse}
 use Rattle.drv_specs.specs.declared.fault.SpecsFault.TheVariants.{Memory}
 use Rattle.drv_system.proofs.Asking.{asks_extends, asks_then, extends_refl, extends_then}
 use Rattle.drv_system.specs.Known.{Is}
-use Rattle.std.proofs.Common.{◌≡◌, ◌⊎◌, ◌∙◌, Err, ap, false, subst}
+use Rattle.std.proofs.Common.{◌≡◌, ◌⊎◌, ◌∙◌, Err, ap, subst}
 
 pub returns-in_err-text-clause-asks : goal.returns-in_err-text-clause-asks
 returns-in_err-text-clause-asks g c = c.file_text.ensures.asks
@@ -28,5 +29,5 @@ returns-clause-loads g c F e =
 
 pub work-requires : goal.work-requires
 work-requires g c =
-    let file = read_file (file_text c.file_text.new.facts c.args.prefixes.now false c.as_bytes-name.result.now) c.in_ok-text.text.items (c.in_ok-text.ensures.text c.file_text.new.facts (extends_refl c.file_text.new.facts)) in
+    let file = read_file (file_text c.file_text.new.facts c.args.prefixes.now Refuse c.as_bytes-name.result.now) c.in_ok-text.text.items (c.in_ok-text.ensures.text c.file_text.new.facts (extends_refl c.file_text.new.facts)) in
     (file.0, c.as_slice.ensures.value ∙ file.1.1)
