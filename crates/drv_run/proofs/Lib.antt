@@ -1,4 +1,3 @@
-pub mod Asked
 pub mod Behind
 mod Choices
 pub mod Endings

@@ -1,5 +1,6 @@
 -- How the code goes over its input, step by step: what stands between the code and the definitions. No public contract rests on these.
+pub mod Fronting
 pub mod Making
-pub mod Planning
+pub mod Deciding
 pub mod Telling
 pub mod Wording

@@ -1,4 +1,5 @@
-//! Which source goes on where several may: one whose child has ended, so that no other waits behind it.
+//! Which source goes on where several may: one whose child has ended, so that no other waits behind
+//! it.
 
 ghost use Rattle.drv_core.specs.Choices.{ChoicesAre};
 ghost use Rattle.std.specs.Prelude.{◌≡◌, ◌≤◌};
@@ -19,8 +20,8 @@ fn would_wait<S: System>(sys: &mut S, action: Action) -> bool
     }
 }
 
-/// Has the first source go on, of those that may, whose next step is no wait for a child that has not ended. Answers whether there
-/// is one.
+/// Has the first source go on, of those that may, whose next step is no wait for a child that has
+/// not ended. Answers whether there is one.
 #[tactic(auto, using(crate::proofs::Choices::is_choice))]
 fn choose_ready<S: System>(sys: &mut S, run: &mut Run<'_>, count: usize) -> bool
     requires { ChoicesAre run.old.plan run.old.window run.old.events count }
@@ -41,7 +42,8 @@ fn choose_ready<S: System>(sys: &mut S, run: &mut Run<'_>, count: usize) -> bool
     false
 }
 
-/// Has a source go on that need not wait, where several may; where each would wait, the one whose child is the first to end.
+/// Has a source go on that need not wait, where several may; where each would wait, the one whose
+/// child is the first to end.
 #[tactic(auto, using(crate::proofs::Choices::choices_kept))]
 pub(crate) fn choose_source<S: System>(sys: &mut S, run: &mut Run<'_>)
     ensures events { S.events sys.new ≡ S.events sys.old }

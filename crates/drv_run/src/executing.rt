@@ -12,12 +12,13 @@ use drv_system::System;
 use drv_words::Plan;
 use std::alloc::{AllocError, Global};
 
-/// Carries out a plan, with at most `window` of its sources under way at once, and gives the exit status: 0, or 1 where a
-/// command failed or something was not made or started; with `pass_codes` the greatest code instead. Of several sources that may
-/// go on, one does that need not wait.
+/// Carries out a plan, with at most `window` of its sources under way at once, and gives the exit
+/// status: 0, or 1 where a command failed or something was not made or started; with `pass_codes`
+/// the greatest code instead. Of several sources that may go on, one does that need not wait.
 ///
 /// # Errors
-/// Want of memory, of which nothing was made or started; behind the first step it is no error any more.
+/// Want of memory, of which nothing was made or started; behind the first step it is no error any
+/// more.
 pub fn execute<S: System>(
     alloc: Global,
     sys: &mut S,
@@ -28,7 +29,9 @@ pub fn execute<S: System>(
     requires pipe { pipe_pending (run_of (S.events sys.old)) ≡ false }
     requires some { 1 ≤ window }
     requires most { window ≤ 64 }
-    ensures executed { IfOk result (λ status. Executed plan.now pass_codes window (S.events sys.old) (S.events sys.new) status) }
+    ensures executed { IfOk result
+        (λ status. Executed plan.now pass_codes window
+        (S.events sys.old) (S.events sys.new) status) }
     ensures memory { OnErr result (S.events sys.new ≡ S.events sys.old) }
 {
     let Some(count) = events_needed(plan) else {

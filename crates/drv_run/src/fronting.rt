@@ -2,6 +2,7 @@
 
 ghost use Rattle.drv_c99.specs.declared.fault.C99Fault.TheVariants as c99_fault;
 ghost use Rattle.drv_run.specs.Drives.{IsApart, behind_c99, fronted, is_c99};
+ghost use Rattle.drv_run.specs.Code.Fronting.{is_of_c99};
 ghost use Rattle.drv_run.specs.Code.Wording.{GivesWords};
 ghost use Rattle.drv_system.specs.Asking.{Asks, Extends};
 ghost use Rattle.drv_system.specs.Facts.{Facts};
@@ -10,10 +11,19 @@ ghost use Rattle.std.specs.Prelude.{◌≡◌, IfErr};
 
 use crate::ending::Ending;
 use drv_args::{Expanded, expand};
-use drv_c99::{C99Fault, front};
+use drv_c99::C99Fault;
 use drv_system::{FactTable, System};
 use drv_words::{Listing, Word};
 use std::alloc::Global;
+
+/// The front that makes words of the driver of the words of a line.
+#[derive(Clone, Copy)]
+enum Front {
+    /// They are the driver's own.
+    Driver,
+    /// They are those of `c99`.
+    C99,
+}
 
 /// Whether the first argument selects the front of `c99`.
 fn is_c99(args: &[Word]) -> bool
@@ -25,35 +35,39 @@ fn is_c99(args: &[Word]) -> bool
     }
 }
 
-/// The arguments without a first one that selects the front of `c99`. It takes no memory.
-fn behind_c99(args: Listing<Word>) -> Listing<Word>
-    ensures { result ≡ behind_c99 args }
+/// The front that is selected, and the arguments behind what selects it. It takes no memory.
+fn cut_front(args: Listing<Word>) -> (Front, Listing<Word>)
+    ensures front { is_of_c99 result.0 ≡ is_c99 args }
+    ensures behind { result.1 ≡ behind_c99 args }
 {
     if is_c99(args.as_slice()) {
         let mut words = args.into_vec();
         let _ = words.remove(0);
-        return Listing::from_vec(words);
+        return (Front::C99, Listing::from_vec(words));
     }
-    args
+    (Front::Driver, args)
 }
 
-/// The words of `c99` as words of the driver, where its front was selected.
-fn fronted(alloc: Global, selected: bool, expanded: Expanded) -> Result<Expanded, C99Fault>
-    ensures { Gives c99_fault.Memory (λ words. words) result (fronted selected expanded) }
+/// The words of a front as words of the driver.
+fn fronted(alloc: Global, selected: Front, expanded: Expanded) -> Result<Expanded, C99Fault>
+    ensures { Gives c99_fault.Memory (λ words. words) result
+        (fronted (is_of_c99 selected) expanded) }
 {
-    if selected {
-        let from_file = expanded.from_file;
-        let words = front(alloc, expanded.words.as_slice())?;
-        return Ok(Expanded { words, from_file });
+    match selected {
+        Front::Driver => Ok(expanded),
+        Front::C99 => {
+            let from_file = expanded.from_file;
+            let words = drv_c99::front(alloc, expanded.words.as_slice())?;
+            Ok(Expanded { words, from_file })
+        }
     }
-    Ok(expanded)
 }
 
 /// The words that arguments come to. It asks the system only where the table has no answer.
 ///
 /// # Errors
 /// The refusal of the response files, or of `c99`.
-#[tactic(auto, using(crate::proofs::Asked::asks_further))]
+#[tactic(auto, using(drv_system::proofs::Asking::asks_then))]
 pub(crate) fn words_of<S: System>(
     alloc: Global,
     args: Listing<Word>,
@@ -64,8 +78,8 @@ pub(crate) fn words_of<S: System>(
     ensures gives { (F : Facts) → Extends facts.new F → GivesWords F args result }
     ensures apart { IfErr result (λ ending. IsApart ending) }
 {
-    let selected = is_c99(args.as_slice());
-    let expanded = expand(alloc, behind_c99(args), sys, facts)?;
+    let (selected, behind) = cut_front(args);
+    let expanded = expand(alloc, behind, sys, facts)?;
     let words = fronted(alloc, selected, expanded)?;
     Ok(words)
 }

@@ -16,23 +16,32 @@ ghost use Rattle.std.specs.Prelude.{◌≡◌, [], Bool, List, ℕ};
 
 /// A law: arguments come to one work, or they are refused for one reason, and never both.
 pub fn one_ending()
-    ensures driven { (F : Facts) (args : List (List ℕ)) (seed : ℕ) (a b : Work) → Drives F args seed a → Drives F args seed b → a ≡ b }
-    ensures refused { (F : Facts) (args : List (List ℕ)) (seed : ℕ) (r s : Refusal) → Refuses F args seed r → Refuses F args seed s → r ≡ s }
-    ensures never_both { (F : Facts) (args : List (List ℕ)) (seed : ℕ) (work : Work) (refusal : Refusal) → Drives F args seed work → Refuses F args seed refusal → ⊥ }
+    ensures driven { (F : Facts) (args : List (List ℕ)) (seed : ℕ) (a b : Work)
+        → Drives F args seed a → Drives F args seed b → a ≡ b }
+    ensures refused { (F : Facts) (args : List (List ℕ)) (seed : ℕ) (r s : Refusal)
+        → Refuses F args seed r → Refuses F args seed s → r ≡ s }
+    ensures never_both { (F : Facts) (args : List (List ℕ)) (seed : ℕ) (work : Work) (refusal : Refusal)
+        → Drives F args seed work → Refuses F args seed refusal → ⊥ }
 {}
 
-/// A law: the plan of a line is the same whether it is shown, said or carried out, whose codes count, and how many sources are
-/// worked at once.
+/// A law: the plan of a line is the same whether it is shown, said or carried out, whose codes
+/// count, and how many sources are worked at once.
 pub fn same_plan()
-    ensures { (F : Facts) (line : Line) (set : Set) (seed : ℕ) (dry verbose pass_codes : Bool) (jobs : ℕ) → planned F (called_as dry verbose pass_codes jobs line) set seed ≡ planned F line set seed }
+    ensures { (F : Facts) (line : Line) (set : Set) (seed : ℕ)
+        (dry verbose pass_codes : Bool) (jobs : ℕ)
+        → planned F (called_as dry verbose pass_codes jobs line) set seed
+        ≡ planned F line set seed }
 {}
 
-/// A law: a call that is refused has asked, and nothing else: it has said and written nothing, and made no step of a run.
+/// A law: a call that is refused has asked, and nothing else: it has said and written nothing, and
+/// made no step of a run.
 pub fn refused_does_nothing()
-    ensures { (journal later : List Event) (args : List (List ℕ)) (seed : ℕ) (refusal : Refusal) → Drove journal later args seed (Refused refusal) → OnlyAsked journal later }
+    ensures { (journal later : List Event) (args : List (List ℕ)) (seed : ℕ) (refusal : Refusal)
+        → Drove journal later args seed (Refused refusal) → OnlyAsked journal later }
 {}
 
 /// A law: a plan that is shown is said, and no step of a run is made.
 pub fn shown_starts_nothing()
-    ensures { (plan : Plan) (status : ℕ) (said : List Event) → Does (Show plan) status said → run_of said ≡ [] }
+    ensures { (plan : Plan) (status : ℕ) (said : List Event) → Does (Show plan) status said
+        → run_of said ≡ [] }
 {}

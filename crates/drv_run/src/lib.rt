@@ -2,13 +2,13 @@
 #![tactic(auto)]
 
 mod choosing;
+mod deciding;
 mod driving;
 mod ending;
 mod executing;
 mod fronting;
 mod laws;
 mod making;
-mod planning;
 mod telling;
 mod wording;
 mod work;

@@ -20,9 +20,11 @@ pub(crate) fn status_of(answer: TellAnswer) -> u8
     }
 }
 
-/// Says a text, unless it is empty, and answers the exit status: 0, or 1 where it could not be said.
+/// Says a text, unless it is empty, and answers the exit status: 0, or 1 where it could not be
+/// said.
 fn say_text<S: System>(sys: &mut S, text: &Word) -> Result<u8, AllocError>
-    ensures says { IfOk result (λ status. SaysText (S.events sys.old) (S.events sys.new) text.now status) }
+    ensures says { IfOk result
+        (λ status. SaysText (S.events sys.old) (S.events sys.new) text.now status) }
     ensures memory { OnErr result (S.events sys.new ≡ S.events sys.old) }
 {
     if text.is_empty() {
@@ -53,7 +55,9 @@ fn notices_text(alloc: Global, notices: &[Word]) -> Result<Word, AllocError>
 
 /// Says the notices of a plan, if it has any.
 fn say_notices<S: System>(alloc: Global, sys: &mut S, plan: &Plan) -> Result<u8, AllocError>
-    ensures says { IfOk result (λ status. SaysText (S.events sys.old) (S.events sys.new) (notices_text plan.now.notices) status) }
+    ensures says { IfOk result
+        (λ status. SaysText (S.events sys.old) (S.events sys.new)
+        (notices_text plan.now.notices) status) }
     ensures memory { OnErr result (S.events sys.new ≡ S.events sys.old) }
 {
     let text = notices_text(alloc, plan.notices.as_slice())?;
@@ -62,16 +66,20 @@ fn say_notices<S: System>(alloc: Global, sys: &mut S, plan: &Plan) -> Result<u8,
 
 /// Says the commands of a plan, if it has any.
 fn say_commands<S: System>(alloc: Global, sys: &mut S, plan: &Plan) -> Result<u8, AllocError>
-    ensures says { IfOk result (λ status. SaysText (S.events sys.old) (S.events sys.new) (lines_text (lines_of plan.now)) status) }
+    ensures says { IfOk result
+        (λ status. SaysText (S.events sys.old) (S.events sys.new)
+        (lines_text (lines_of plan.now)) status) }
     ensures memory { OnErr result (S.events sys.new ≡ S.events sys.old) }
 {
     let text = render_plan(alloc, plan)?;
     say_text(sys, &text)
 }
 
-/// Says a plan: its notices, and then its commands. The exit status is 1 where the commands could not be said.
+/// Says a plan: its notices, and then its commands. The exit status is 1 where the commands could
+/// not be said.
 pub(crate) fn say_plan<S: System>(alloc: Global, sys: &mut S, plan: &Plan) -> Result<u8, AllocError>
-    ensures shows { IfOk result (λ status. ShowsPlan (S.events sys.old) (S.events sys.new) plan.now status) }
+    ensures shows { IfOk result
+        (λ status. ShowsPlan (S.events sys.old) (S.events sys.new) plan.now status) }
     ensures memory { OnErr result (OnlySays (S.events sys.old) (S.events sys.new)) }
 {
     let _noticed = say_notices(alloc, sys, plan)?;
@@ -79,14 +87,16 @@ pub(crate) fn say_plan<S: System>(alloc: Global, sys: &mut S, plan: &Plan) -> Re
     Ok(status)
 }
 
-/// Says what is told before a plan is carried out: its notices, and its commands too where that is asked for.
+/// Says what is told before a plan is carried out: its notices, and its commands too where that is
+/// asked for.
 pub(crate) fn announce<S: System>(
     alloc: Global,
     sys: &mut S,
     plan: &Plan,
     verbose: bool,
 ) -> Result<(), AllocError>
-    ensures announces { OnOk result (AnnouncesPlan (S.events sys.old) (S.events sys.new) verbose plan.now) }
+    ensures announces { OnOk result
+        (AnnouncesPlan (S.events sys.old) (S.events sys.new) verbose plan.now) }
     ensures memory { OnErr result (OnlySays (S.events sys.old) (S.events sys.new)) }
 {
     if verbose {

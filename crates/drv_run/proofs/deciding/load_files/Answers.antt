@@ -1,6 +1,6 @@
 use Rattle.drv_system.proofs.Asking.{asks_extends, asks_then, extends_then}
 use Rattle.drv_run.proofs.Files.{file_refused, file_taken, refusal_given}
-use Rattle.drv_run.proofs.planning.load_files.Goals as goal
+use Rattle.drv_run.proofs.deciding.load_files.Goals as goal
 use Rattle.drv_run.specs.Drives.{files_loaded}
 
 pub returns-in_err-load_file-clause-loads : goal.returns-in_err-load_file-clause-loads

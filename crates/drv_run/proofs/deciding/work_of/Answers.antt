@@ -1,6 +1,6 @@
 use Rattle.drv_args.proofs.JobCounts.{jobs_are_few}
 use Rattle.drv_run.proofs.Steps.{reading_ends, words_end}
-use Rattle.drv_run.proofs.planning.work_of.Goals as goal
+use Rattle.drv_run.proofs.deciding.work_of.Goals as goal
 use Rattle.drv_system.proofs.Asking.{asks_extends, extends_then}
 
 pub returns-in_err-words-clause-comes : goal.returns-in_err-words-clause-comes

@@ -1,6 +1,6 @@
 use Rattle.drv_system.specs.Asking.{Asks, Extends}
 use Rattle.drv_system.specs.Facts.{Facts}
-use Rattle.drv_run.proofs.planning.load_files.Given as goal
+use Rattle.drv_run.proofs.deciding.load_files.Given as goal
 use Rattle.drv_run.specs.Drives.{files_loaded}
 use Rattle.std.proofs.Common.{◌≡◌, drop}
 

@@ -1,5 +1,5 @@
 use Rattle.drv_run.proofs.Steps.{few_window, planning_ends, work_dumped, work_planned, work_refused}
-use Rattle.drv_run.proofs.planning.work_with_specs.Goals as goal
+use Rattle.drv_run.proofs.deciding.work_with_specs.Goals as goal
 use Rattle.drv_run.specs.Drives.{work_of}
 
 pub returns-then-line-clause-comes : goal.returns-then-line-clause-comes

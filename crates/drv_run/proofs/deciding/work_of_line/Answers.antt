@@ -1,5 +1,5 @@
 use Rattle.drv_run.proofs.Steps.{line_comes, loading_ends}
-use Rattle.drv_run.proofs.planning.work_of_line.Goals as goal
+use Rattle.drv_run.proofs.deciding.work_of_line.Goals as goal
 use Rattle.drv_system.proofs.Asking.{asks_extends, extends_then}
 
 pub returns-in_err-set-clause-comes : goal.returns-in_err-set-clause-comes

@@ -1,7 +1,7 @@
 //! What arguments come to.
 
 ghost use Rattle.drv_run.specs.Drives.{Comes, IsApart, files_loaded, specs_of, work_of};
-ghost use Rattle.drv_run.specs.Code.Planning.{ComesOfLine, ComesOfSpecs};
+ghost use Rattle.drv_run.specs.Code.Deciding.{ComesOfLine, ComesOfSpecs};
 ghost use Rattle.drv_run.specs.Code.Telling.{HasWindow, IsWindow};
 ghost use Rattle.drv_specs.specs.declared.fault.SpecsFault.TheVariants as specs_fault;
 ghost use Rattle.drv_system.specs.Asking.{Asks, Extends};
@@ -21,7 +21,7 @@ use drv_words::{Listing, Word};
 use std::alloc::Global;
 
 /// Loads files of specs, in their order.
-#[tactic(auto, using(crate::proofs::Asked::asks_further))]
+#[tactic(auto, using(drv_system::proofs::Asking::asks_then))]
 fn load_files<S: System>(
     set: &mut SpecSet,
     names: &[Word],
@@ -30,7 +30,9 @@ fn load_files<S: System>(
     facts: &mut FactTable,
 ) -> Result<(), SpecsFault>
     ensures asks { Asks (S.events sys.old) (S.events sys.new) facts.old facts.new }
-    ensures loads { (F : Facts) → Extends facts.new F → GivesKnown specs_fault.Memory (λ _. set.new) result (files_loaded F prefixes.now set.old names.now) }
+    ensures loads { (F : Facts) → Extends facts.new F
+        → GivesKnown specs_fault.Memory (λ _. set.new) result
+        (files_loaded F prefixes.now set.old names.now) }
 {
     for name in names {
         set.load_file(name, prefixes, sys, facts)?;
@@ -39,7 +41,7 @@ fn load_files<S: System>(
 }
 
 /// The specs of a line: the built-in ones, and what the files of `-specs=` make of them.
-#[tactic(auto, using(crate::proofs::Asked::asks_further))]
+#[tactic(auto, using(drv_system::proofs::Asking::asks_then))]
 fn specs_of<S: System>(
     alloc: Global,
     settings: &Settings,
@@ -47,7 +49,8 @@ fn specs_of<S: System>(
     facts: &mut FactTable,
 ) -> Result<SpecSet, SpecsFault>
     ensures asks { Asks (S.events sys.old) (S.events sys.new) facts.old facts.new }
-    ensures loads { (F : Facts) → Extends facts.new F → GivesKnown specs_fault.Memory (λ set. set) result (specs_of F settings.now) }
+    ensures loads { (F : Facts) → Extends facts.new F
+        → GivesKnown specs_fault.Memory (λ set. set) result (specs_of F settings.now) }
 {
     let prefixes = Prefixes::new(alloc, settings.prefixes.as_slice(), sys, facts)?;
     let mut set = builtin(alloc)?;
@@ -55,8 +58,8 @@ fn specs_of<S: System>(
     Ok(set)
 }
 
-/// What a line with these specs comes to: their dump, or its plan with what is done with it. It asks the system only where the
-/// table has no answer.
+/// What a line with these specs comes to: their dump, or its plan with what is done with it. It
+/// asks the system only where the table has no answer.
 ///
 /// # Errors
 /// The refusal of the plan.
@@ -70,7 +73,8 @@ fn work_with_specs<S: System>(
 ) -> Result<Work, Ending>
     requires { IsWindow line.now.settings.jobs }
     ensures asks { Asks (S.events sys.old) (S.events sys.new) facts.old facts.new }
-    ensures comes { (F : Facts) → Extends facts.new F → ComesOfSpecs (work_of F line.now set.now seed) result }
+    ensures comes { (F : Facts) → Extends facts.new F
+        → ComesOfSpecs (work_of F line.now set.now seed) result }
     ensures apart { IfErr result (λ ending. IsApart ending) }
     ensures window { IfOk result (λ work. HasWindow work) }
 {
@@ -81,11 +85,12 @@ fn work_with_specs<S: System>(
     Ok(work_with(&line.settings, plan))
 }
 
-/// What a line comes to: its spec files are loaded first. It asks the system only where the table has no answer.
+/// What a line comes to: its spec files are loaded first. It asks the system only where the table
+/// has no answer.
 ///
 /// # Errors
 /// The first refusal: of a spec file, or of the plan.
-#[tactic(auto, using(crate::proofs::Asked::asks_further))]
+#[tactic(auto, using(drv_system::proofs::Asking::asks_then))]
 fn work_of_line<S: System>(
     alloc: Global,
     line: &Line,
@@ -103,12 +108,13 @@ fn work_of_line<S: System>(
     work_with_specs(alloc, line, &set, seed, sys, facts)
 }
 
-/// What arguments come to: the words of the line read, spec files loaded, and then the dump of the specs, or the plan of the line
-/// with what is done with it. It asks the system only where the table has no answer.
+/// What arguments come to: the words of the line read, spec files loaded, and then the dump of the
+/// specs, or the plan of the line with what is done with it. It asks the system only where the
+/// table has no answer.
 ///
 /// # Errors
 /// The first refusal of these steps.
-#[tactic(auto, using(crate::proofs::Asked::asks_further))]
+#[tactic(auto, using(drv_system::proofs::Asking::asks_then))]
 pub(crate) fn work_of<S: System>(
     alloc: Global,
     args: Listing<Word>,

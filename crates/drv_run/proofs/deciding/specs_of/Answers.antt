@@ -1,6 +1,6 @@
 use Rattle.drv_system.proofs.Asking.{asks_extends, extends_then}
 use Rattle.drv_run.proofs.Files.{refusal_given, specs_given, specs_refused}
-use Rattle.drv_run.proofs.planning.specs_of.Goals as goal
+use Rattle.drv_run.proofs.deciding.specs_of.Goals as goal
 use Rattle.drv_run.specs.Drives.{specs_of}
 
 pub returns-in_err-load_files-clause-loads : goal.returns-in_err-load_files-clause-loads
