@@ -1,11 +1,11 @@
 use Rattle.drv_syntax.proofs.CutTests.{possible, possible_test}
 use Rattle.drv_syntax.proofs.Cuts.{Bare, Filled, Tested}
-use Rattle.drv_syntax.proofs.Leads.{differs, each, other, same}
+use Rattle.drv_syntax.proofs.Leads.{each, other, same}
 use Rattle.drv_syntax.proofs.Parts.{HasChoice, brace_resumes, join_tests_assoc}
 use Rattle.drv_syntax.proofs.Rows.{one_byte, pattern_from, when}
 use Rattle.drv_syntax.proofs.RowsBraces.{emitted_only, on_same, tested_only, tests_of, tests_space, unsigned}
 use Rattle.drv_syntax.proofs.RowsDue.{start_row, test_function_row}
-use Rattle.drv_syntax.proofs.Stuck.{Absent, Ends, InsideStuck, Stuck, StuckAfter, asked_stuck, behind_patterns, behind_tests, choice_stuck, due_stuck, emits_stuck, end_stuck, ends_of, later_stuck, list_stuck, mark_stuck, marked_behind, next_byte, order_by, order_of, patterns_stuck, result_stuck, some_stuck, start_stuck, starred_stuck, test_call_stuck, tests_left, word_stuck}
+use Rattle.drv_syntax.proofs.Stuck.{Absent, Ends, InsideStuck, Stuck, StuckAfter, asked_stuck, behind_patterns, behind_tests, choice_stuck, due_stuck, emits_stuck, end_stuck, ends_of, list_stuck, mark_stuck, next_byte, order_by, order_of, patterns_stuck, result_stuck, some_stuck, start_stuck, starred_stuck, test_call_stuck, word_stuck}
 use Rattle.drv_syntax.proofs.StuckRows.{call_longer, no_front, no_name_there, opened_list}
 use Rattle.drv_syntax.proofs.StuckTests.{tested_order, unmarked}
 use Rattle.drv_syntax.proofs.Wanted.{After, Inside, Of, Outside, Wanted, WantsList}
@@ -19,9 +19,9 @@ use Rattle.drv_syntax.specs.Refusals as r
 use Rattle.drv_syntax.specs.Refusals.{APattern, ATest, AWord, AnEnd, AtBar, AtFront, AtNext, BehindMark, Due, NoMore, Order, PastMark, ReachesAsked, ReachesChoices, ReachesEmits, ReachesLater, ReachesPatterns, ReachesTests, Refuses, ends_either, ends_pattern, ends_test, is_default, may_emit}
 use Rattle.drv_syntax.specs.Spelling as s
 use Rattle.drv_syntax.specs.Spelling.{AreItems, AreSpaces, At, IsAsked, IsPattern, IsQuoted, IsSign, Stops, span}
-use Rattle.drv_syntax.specs.Tree.{Asked, Choices, HasResult, HasSwitch, Items, Pattern, Span, Tests, choice, no_choice, no_test, none, pattern, test}
+use Rattle.drv_syntax.specs.Tree.{Choices, HasResult, HasSwitch, Items, Pattern, Span, Tests, choice, no_choice, no_test, none, pattern, test}
 use Rattle.std.proofs.Common.{◌≡◌, ◌∙◌, ◌+◌, ◌-◌, ◌++◌, ◌⊎◌, Bool, false, true, List, [], ◌∷◌, ap, append-nil, inl, inr, refl, subst, sym, ℕ}
-use Rattle.std.specs.Prelude.{◌==◌, None, Option, Some}
+use Rattle.std.specs.Prelude.{◌==◌}
 
 -- The rows of places where a test or a pattern is due, and of functions in tests, backwards, for a text that ends in the byte
 -- that no longer fits.

@@ -12,7 +12,7 @@ use Rattle.drv_syntax.specs.declared.directives.Directive.{Directive}
 use Rattle.drv_syntax.specs.declared.directives.Directive.TheVariants.{Named, Nowhere, OfStar, Whole, WithBraces, WithCall, WithMarkedBraces, WithName, WithOption, WithPattern, WithSaying, WithSuffix}
 use Rattle.drv_syntax.specs.declared.directives.SayKind.{SayKind}
 use Rattle.drv_syntax.specs.declared.fault.SyntaxFault.{SyntaxFault}
-use Rattle.drv_syntax.specs.declared.fault.SyntaxFault.TheVariants.{BadDirective, EmptyTest, MixedStar, StarOutside, TooNested, UnknownFunction}
+use Rattle.drv_syntax.specs.declared.fault.SyntaxFault.TheVariants.{BadDirective, EmptyTest, MixedStar, StarOutside, TooNested}
 use Rattle.drv_syntax.specs.Contexts.{Context, Mixed, Nobody, Owner, Starred, in_arguments, in_braces, is_end, is_said}
 use Rattle.drv_syntax.specs.Outcome as o
 use Rattle.drv_syntax.specs.Outcome.{Here, On, Opens, Place, Waiting, WaitsCall, fresh, join, list_in, placed, resume, turn, turn_item}
@@ -22,7 +22,7 @@ use Rattle.drv_syntax.specs.Spelling as s
 use Rattle.drv_syntax.specs.Spelling.{AreItems, AreTests, At, IsRun}
 use Rattle.drv_syntax.specs.Tree.{Hide, Items, TempName, no_test, none, pattern}
 use Rattle.drv_syntax.specs.declared.token.TempKind.{TempKind}
-use Rattle.std.proofs.Common.{◌≡◌, ◌≤◌, ◌∙◌, ◌+◌, ◌++◌, ◌⊎◌, Bool, false, true, List, [], ◌∷◌, ap, append-nil, append_assoc, arith, inl, inr, length, length-append, refl, subst, sym, ℕ}
+use Rattle.std.proofs.Common.{◌≡◌, ◌≤◌, ◌∙◌, ◌+◌, ◌++◌, ◌⊎◌, false, true, List, [], ◌∷◌, ap, append-nil, append_assoc, arith, inl, inr, length, length-append, refl, subst, sym, ℕ}
 use Rattle.std.proofs.lemmas.Bool.Decides.{nat_tests}
 use Rattle.std.specs.Prelude.{◌==◌, nat_le}
 

@@ -1,4 +1,4 @@
-use Rattle.drv_syntax.proofs.Leads.{differs, same}
+use Rattle.drv_syntax.proofs.Leads.{same}
 use Rattle.drv_syntax.proofs.Rows.{one_byte, when}
 use Rattle.drv_syntax.proofs.Shortest.{ends, not_bad, shortest}
 use Rattle.drv_syntax.proofs.Sound.{row}
@@ -7,7 +7,7 @@ use Rattle.drv_syntax.proofs.StuckDue.{negated_stuck_row, pattern_stuck_row, sta
 use Rattle.drv_syntax.proofs.StuckRows.{function_stuck_row, grown, hide_stuck_row, hide_word_stuck_row, item_stuck_row, name_stuck_row, option_stuck_row, percent_stuck_row, saying_stuck_row, suffix_percent_stuck_row, suffix_run_stuck_row, suffix_stuck_row}
 use Rattle.drv_syntax.proofs.StuckTests.{behind_stuck_row, mark_stuck_row, marked_stuck_row, word_stuck_row}
 use Rattle.drv_syntax.proofs.Wanted.{Outside, Wanted}
-use Rattle.drv_syntax.specs.Contexts.{Context, Kind, is_end, top}
+use Rattle.drv_syntax.specs.Contexts.{Context, top}
 use Rattle.drv_syntax.specs.Outcome as o
 use Rattle.drv_syntax.specs.Outcome.{Bad, Closes, Goes, Not, On, Opens, Out, Place, Refused, Resumed, Turn, Waiting, end_of, read, resume, run, turn}
 use Rattle.drv_syntax.specs.Refusals as r
@@ -15,7 +15,7 @@ use Rattle.drv_syntax.specs.Refusals.{IsRefused}
 use Rattle.drv_syntax.specs.Spelling.{At}
 use Rattle.drv_syntax.specs.Tree.{Items}
 use Rattle.drv_syntax.specs.declared.fault.SyntaxFault.{SyntaxFault}
-use Rattle.std.proofs.Common.{◌≡◌, ◌∙◌, ◌+◌, ◌++◌, ◌⊎◌, ap, append-nil, arith, List, [], ◌∷◌, inl, inr, length, refl, subst, sym, take, true, ℕ}
+use Rattle.std.proofs.Common.{◌≡◌, ◌∙◌, ◌+◌, ◌⊎◌, ap, append-nil, arith, List, [], ◌∷◌, inl, inr, length, refl, subst, sym, take, ℕ}
 use Rattle.std.proofs.lemmas.List.{length-take-le}
 use Rattle.std.specs.Prelude.{◌==◌}
 

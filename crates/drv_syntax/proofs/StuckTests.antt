@@ -5,7 +5,7 @@ use Rattle.drv_syntax.proofs.Parts.{HasChoice, brace_resumes, has_choice, join_t
 use Rattle.drv_syntax.proofs.Rows.{one_byte, pattern_longer, when}
 use Rattle.drv_syntax.proofs.RowsBraces.{on_same, rest_space}
 use Rattle.drv_syntax.proofs.RowsTests.{behind_marked, behind_row, behind_word}
-use Rattle.drv_syntax.proofs.Stuck.{Absent, InsideStuck, Stuck, StuckAfter, alone_stuck, behind_patterns, behind_tests, choice_stuck, due_stuck, end_due, end_stuck, ends_of, later_stuck, list_stuck, mark_stuck, marked_behind, marked_stuck, next_byte, order_by, some_stuck, start_stuck, tests_left, tests_stuck, word_stuck}
+use Rattle.drv_syntax.proofs.Stuck.{Absent, InsideStuck, Stuck, StuckAfter, alone_stuck, behind_patterns, behind_tests, choice_stuck, due_stuck, end_due, end_stuck, later_stuck, list_stuck, mark_stuck, marked_behind, marked_stuck, next_byte, order_by, some_stuck, start_stuck, tests_left, tests_stuck, word_stuck}
 use Rattle.drv_syntax.proofs.StuckRows.{choices_stuck, opened_list}
 use Rattle.drv_syntax.proofs.Wanted.{Inside, Of, Outside, Wanted, WantsList, rest_starred, rest_unstarred, tests_bar, tests_colon}
 use Rattle.drv_syntax.specs.Bytes.{is_of, is_space, is_word}
