@@ -1,17 +1,18 @@
 use Rattle.drv_args.specs.Fronts.{Item, items_of}
 use Rattle.drv_args.specs.Jobs.{in_range, jobs_named, number_of}
 use Rattle.drv_args.specs.Lines.{jobs_behind, judged, judged_line, last_jobs, line_fault, line_of, line_of_items, line_read}
-use Rattle.drv_args.specs.declared.fault.ArgsFault.TheVariants.{TooManyArguments}
+use Rattle.drv_args.specs.declared.fault.ArgsFault.TheVariants.{Memory, TooManyArguments}
 use Rattle.drv_args.specs.declared.fault.ArgsFault.{ArgsFault}
 use Rattle.drv_args.specs.declared.line.Expanded.{Expanded}
 use Rattle.drv_args.specs.declared.line.Line.{Line}
 use Rattle.drv_args.specs.declared.option_table.Effect.TheVariants as effect
 use Rattle.drv_args.specs.declared.option_table.Effect.{Effect}
 use Rattle.drv_words.specs.Bytes.{equals}
+use Rattle.drv_words.specs.Gives.{Gives}
 use Rattle.std.proofs.Common.{◌≡◌, ◌≤◌, ◌==◌, ◌&&◌, Bool, List, [], ◌∷◌, Err, None, Ok, Option, Result, Some, arith, false, length, refl, subst, true, ℕ}
 use Rattle.std.proofs.lemmas.Bool.{leb-true}
 use Rattle.std.specs.Option.{unwrap_or}
-use Rattle.std.specs.Prelude.{IfSome, if◌then◌else◌, nat_le, nat_lt}
+use Rattle.std.specs.Prelude.{IfOk, IfSome, if◌then◌else◌, nat_le, nat_lt}
 
 -- A line that was read has a number of jobs from 1 to 64.
 
@@ -71,9 +72,14 @@ items_few from_file (Ok items) line is =
     let some : 1 ≤ 1 = omega arith in let most : 1 ≤ 64 = omega arith in
     judged_few (line_of from_file items) line (line_fault (line_of from_file items)) (last_few 1 items (some, most)) is
 
-pub jobs_are_few : (expanded : Expanded) (line : Line) → line_read expanded ≡ Ok line → (1 ≤ line.settings.jobs) × (line.settings.jobs ≤ 64)
-jobs_are_few expanded line reads = by (nat_lt 65536 (length expanded.words)) reads
+line_few : (expanded : Expanded) (line : Line) → line_read expanded ≡ Ok line → Few line.settings.jobs
+line_few expanded line reads = by (nat_lt 65536 (length expanded.words)) reads
   where
     by : (many : Bool) → (if many then Err TooManyArguments else judged_line (line_of_items expanded.from_file (items_of expanded.words))) ≡ Ok line → Few line.settings.jobs
     by true is = absurd cc
     by false is = items_few expanded.from_file (items_of expanded.words) line is
+
+pub jobs_are_few : (expanded : Expanded) (result : Result Line ArgsFault) → Gives Memory (λ line. line) result (line_read expanded)
+    → IfOk result (λ line. (1 ≤ line.settings.jobs) × (line.settings.jobs ≤ 64))
+jobs_are_few expanded (Ok line) reads = line_few expanded line reads
+jobs_are_few expanded (Err fault) reads = tt

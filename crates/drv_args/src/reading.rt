@@ -8,7 +8,7 @@ ghost use Rattle.drv_args.specs.Options.{form_fits, row_fits};
 ghost use Rattle.drv_args.specs.declared.fault.ArgsFault.TheVariants as fault;
 ghost use Rattle.drv_words.specs.Gives.{Gives};
 ghost use Rattle.std.specs.Option.{option_map};
-ghost use Rattle.std.specs.Prelude.{◌≡◌, drop, find, length, map, true};
+ghost use Rattle.std.specs.Prelude.{◌≡◌, ◌≤◌, IfOk, drop, find, length, map, true};
 
 use crate::building::LineBuilder;
 use crate::jobs::jobs_named;
@@ -148,7 +148,8 @@ fn start_of<'a>(word: &'a [u8]) -> Start<'a>
 
 /// Adds what words give to a line.
 fn note_words(alloc: Global, builder: &mut LineBuilder, words: &[Word]) -> Result<(), ArgsFault>
-    ensures { Gives fault.Memory (λ u. builder.new.line) result (line_with builder.old (items_of words.now)) }
+    ensures { Gives fault.Memory (λ u. builder.new.line) result
+        (line_with builder.old (items_of words.now)) }
 {
     let mut left = words;
     while let [word, behind @ ..] = left {
@@ -176,20 +177,16 @@ fn note_words(alloc: Global, builder: &mut LineBuilder, words: &[Word]) -> Resul
 
 /// Reads words into a line.
 fn read_words(alloc: Global, words: &[Word], from_file: bool) -> Result<Line, ArgsFault>
-    ensures { Gives fault.Memory (λ line. line) result (line_of_items from_file (items_of words.now)) }
+    ensures { Gives fault.Memory (λ line. line) result
+        (line_of_items from_file (items_of words.now)) }
 {
     let mut builder = LineBuilder::new(alloc, from_file);
     note_words(alloc, &mut builder, words)?;
     Ok(builder.line)
 }
 
-/// Reads words by the option table: the first row that fits a word decides (GCC manual, "Overall Options").
-///
-/// # Errors
-/// `TooManyArguments` for more than 65,536 words; then at the first offending word `MissingArgument` or
-/// `BadJobs`, for each word that begins with `--jobs` but for `--jobs=N` with N from 1 to 64; then, unless the specs are
-/// dumped, the first of `NoInputs`, `StdinNeedsLanguage`, `OutputWithMany` and `OutputIsInput`.
-pub fn read(alloc: Global, expanded: &Expanded) -> Result<Line, ArgsFault>
+/// Reads the words of a line, and judges it.
+fn read_line(alloc: Global, expanded: &Expanded) -> Result<Line, ArgsFault>
     ensures { Gives fault.Memory (λ line. line) result (line_read expanded.now) }
 {
     let words = expanded.words.as_slice();
@@ -198,4 +195,20 @@ pub fn read(alloc: Global, expanded: &Expanded) -> Result<Line, ArgsFault>
     }
     let line = read_words(alloc, words, expanded.from_file)?;
     judge(line)
+}
+
+/// Reads words by the option table: the first row that fits a word decides (GCC manual, "Overall
+/// Options").
+///
+/// # Errors
+/// `TooManyArguments` for more than 65,536 words; then at the first offending word
+/// `MissingArgument` or `BadJobs`, for each word that begins with `--jobs` but for `--jobs=N` with
+/// N from 1 to 64; then, unless the specs are dumped, the first of `NoInputs`,
+/// `StdinNeedsLanguage`, `OutputWithMany` and `OutputIsInput`.
+#[tactic(auto, using(crate::proofs::JobCounts::jobs_are_few))]
+pub fn read(alloc: Global, expanded: &Expanded) -> Result<Line, ArgsFault>
+    ensures line { Gives fault.Memory (λ line. line) result (line_read expanded.now) }
+    ensures jobs { IfOk result (λ line. (1 ≤ line.settings.jobs) × (line.settings.jobs ≤ 64)) }
+{
+    read_line(alloc, expanded)
 }

@@ -1,5 +1,5 @@
 use Rattle.drv_args.proofs.Verdicts.{line_judged, line_refused}
-use Rattle.drv_args.proofs.reading.read.Goals as goal
+use Rattle.drv_args.proofs.reading.read_line.Goals as goal
 use Rattle.std.proofs.Common.{arith}
 
 pub returns-in_err-line : goal.returns-in_err-line
