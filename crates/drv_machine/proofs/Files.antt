@@ -41,7 +41,7 @@ module _ (F : Facts) (C : Context) (s : Machine) where
   no_end fault (inl memory) = inl memory
   no_end fault (inr e) = inr (ap (λ x. x >>- λ r. run F C (out_of_file r.1) (named_file F C (words_in_file r.1.cut))) e)
 
-some_there : (n : ℕ) → (suc n == 0) ≡ false
+pub some_there : (n : ℕ) → (suc n == 0) ≡ false
 some_there n = grind (arith, nat_tests)
 
 -- and it is named, if it has words

@@ -37,5 +37,6 @@ pub mod Steps
 pub mod Tables
 pub mod TrueTests
 pub mod TurnSteps
+pub mod WholeWords
 pub mod WorkSteps
 pub mod WorkedTexts

@@ -24,6 +24,7 @@ mod inside;
 mod lists;
 mod marking;
 mod naming;
+mod whole_words;
 
 use crate::outside::Outside;
 use crate::{Context, MachineFault};
@@ -310,6 +311,9 @@ impl Machine {
         ensures sized { length self.new.world.hidden ≡ length self.old.world.hidden }
         ensures uncounted { OnOk result (self.new.world.items ≡ self.old.world.items) }
     {
+        if !self.is_open && !self.marks.script && !self.marks.file {
+            return self.add_switch(context, i);
+        }
         self.put(b"-")?;
         self.put(context.switches().name(i))?;
         self.put_argument(context, i, outside)

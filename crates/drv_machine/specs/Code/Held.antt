@@ -1,4 +1,4 @@
-use Rattle.drv_machine.specs.Cutting.{word_done}
+use Rattle.drv_machine.specs.Cutting.{Cut, touched, word_done}
 use Rattle.drv_machine.specs.Code.Running.{Machine}
 use Rattle.drv_machine.specs.Working.{◌>>-◌, Answer, is_among}
 use Rattle.drv_system.specs.Known.{Is}
@@ -44,3 +44,11 @@ Indexes index list = (word : List ℕ) → contains (slice_cmp nat_cmp) index wo
 abbrev pub IndexedBy : Option (BTreeSet (List ℕ)) → List (List ℕ) → Type 0
 IndexedBy None list = ⊤
 IndexedBy (Some index) list = Indexes index list
+
+-- no word is open, and no mark takes the next one as a name
+abbrev pub IsBetweenWords : Cut → Type 0
+IsBetweenWords c = (c.word ≡ None) × (c.marks.script ≡ false) × (c.marks.file ≡ false)
+
+-- a word was put whole
+abbrev pub word_added : Machine → List ℕ → Machine
+word_added s word = record s { cut = word_done (touched s.cut) (word ∷ []) word }

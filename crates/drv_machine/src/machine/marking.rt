@@ -161,7 +161,7 @@ impl Machine {
 
     /// The open word has ended as this one.
     #[tactic(auto, using(crate::proofs::Ends::word_finished))]
-    fn finish_word(&mut self, word: Word) -> Result<(), MachineFault>
+    pub(crate) fn finish_word(&mut self, word: Word) -> Result<(), MachineFault>
         ensures ok { OnOk result (self.new ≡ record self.old { cut = word_done self.old.cut (word ∷ []) word }) }
         ensures memory { IfErr result (λ fault. fault ≡ MachineFault.Memory) }
         ensures same { self.new.world ≡ self.old.world }

@@ -1,0 +1,30 @@
+use Rattle.drv_machine.proofs.Ends.{well_given}
+use Rattle.drv_machine.proofs.WholeWords.{between_again, switch_alone, switch_with, whole_added}
+use Rattle.drv_machine.proofs.machine.Machine.add_switch.Goals as goal
+use Rattle.drv_machine.specs.Code.Held.{word_added}
+use Rattle.drv_machine.specs.Code.Running.{Machine}
+use Rattle.drv_match.specs.Matching.{name_at}
+use Rattle.drv_system.specs.Known.{Is}
+use Rattle.std.proofs.Common.{◌∙◌, ◌++◌, List, Ok, ap, sym, ℕ}
+
+pub returns-in_default-clause-does : goal.returns-in_default-clause-does
+returns-in_default-clause-does c F =
+    let C = c.args.context.now in
+    let named = c.name.ensures ∙ ap (λ ns. name_at ns c.args.i) c.switches.ensures in
+    let is = c.in_ok-extend_from_slice.ensures.ok ∙ ap (λ word. word ++ c.name.result.now) c.in_ok-word.ensures in
+    switch_alone F C c.args.self.now c.args.i c.name.result.now c.extend_from_slice.new.self c.requires.between named is (sym c.argument.ensures ∙ c.in_default.is)
+    ∙ ap (λ (m : Machine). Is (Ok (tt, m))) (sym c.in_ok-add_word.ensures.ok)
+
+pub returns-clause-does : goal.returns-clause-does
+returns-clause-does c F =
+    let C = c.args.context.now in
+    let s = c.args.self.now in
+    let named = c.name.ensures ∙ ap (λ ns. name_at ns c.args.i) c.switches.ensures in
+    let word = c.extend_from_slice.new.self in
+    let is = c.in_ok-extend_from_slice.ensures.ok ∙ ap (λ before. before ++ c.name.result.now) c.in_ok-word.ensures in
+    let both =
+    switch_with F C s c.args.i c.name.result.now word c.in-Some.argument c.requires.between named is (sym c.argument.ensures ∙ c.in-Some.is)
+    ∙ whole_added F C (word_added s word) c.in-Some.argument (between_again s word)
+    ∙ ap (λ (m : Machine). Is (Ok (tt, word_added m c.in-Some.argument))) (sym c.in_ok-add_word.ensures.ok)
+    ∙ ap (λ (w : List ℕ). Is (Ok (tt, word_added c.add_word.new.self w))) (sym c.in_ok-clone.ensures.cases) in
+    well_given c.add_word-2.new.self (word_added c.add_word.new.self c.in_ok-clone.field-0) c.add_word-2.result _ both c.add_word-2.ensures.ok c.add_word-2.ensures.memory

@@ -1,0 +1,44 @@
+//! Switches put as whole words, where no word is open.
+
+ghost use Rattle.drv_machine.specs.Atoms.{switch_atoms};
+ghost use Rattle.drv_machine.specs.Code.Held.{IsBetweenWords, word_added};
+ghost use Rattle.drv_machine.specs.Code.Running.{run};
+ghost use Rattle.drv_machine.specs.Context as specs;
+ghost use Rattle.drv_machine.specs.Working.{puts};
+ghost use Rattle.drv_system.specs.Facts.{Facts};
+ghost use Rattle.drv_system.specs.Gives.{GivesKnown};
+ghost use Rattle.std.specs.Prelude.{◌≡◌, ◌<◌, IfErr, OnOk, length};
+
+use super::Machine;
+use crate::{Context, MachineFault};
+use drv_words::Word;
+
+impl Machine {
+    /// A word is put whole.
+    fn add_word(&mut self, word: Word) -> Result<(), MachineFault>
+        requires { IsBetweenWords self.old.cut }
+        ensures ok { OnOk result (self.new ≡ word_added self.old word) }
+        ensures memory { IfErr result (λ fault. fault ≡ MachineFault.Memory) }
+        ensures same { self.new.world ≡ self.old.world }
+    {
+        self.is_stray |= self.is_piped;
+        self.finish_word(word)
+    }
+
+    /// The switch at a place and its argument are put, each as a whole word.
+    pub(crate) fn add_switch(&mut self, context: &Context<'_>, i: usize) -> Result<(), MachineFault>
+        requires at { i < length context.now.switches }
+        requires between { IsBetweenWords self.old.cut }
+        ensures does { (F : Facts) → GivesKnown MachineFault.Memory (λ u. (tt, self.new)) result (run F context.now self.old (puts (switch_atoms F context.now i))) }
+        ensures sized { length self.new.world.hidden ≡ length self.old.world.hidden }
+        ensures uncounted { OnOk result (self.new.world.items ≡ self.old.world.items) }
+    {
+        let mut word = Word::from_bytes(self.alloc, b"-")?;
+        word.extend_from_slice(context.switches().name(i))?;
+        self.add_word(word)?;
+        let Some(argument) = context.argument(i) else {
+            return Ok(());
+        };
+        self.add_word(argument.clone()?)
+    }
+}
