@@ -104,10 +104,6 @@ all_others (file ∷ files) = ap (λ fs. file ∷ fs) (all_others files)
 pub none_kept : (kept files : List (List ℕ)) → kept ≡ [] → files ≡ kept ++ others_than kept files
 none_kept kept files e = rw (e) (sym (all_others files))
 
--- what a call answered of the list and the file that it was handed
-pub was_among : (kept list : List (List ℕ)) (file bytes : List ℕ) (answer truth : Bool) → answer ≡ is_among list bytes → list ≡ kept → bytes ≡ file → answer ≡ truth → is_among kept file ≡ truth
-was_among kept list file bytes answer truth says same_list same_bytes is = ap (λ l. is_among l file) (sym same_list) ∙ ap (is_among list) (sym same_bytes) ∙ sym says ∙ is
-
 filter_same : {A : Type 0} (f g : A → Bool) (xs : List A) → ((x : A) → f x ≡ g x) → filter f xs ≡ filter g xs
 filter_same f g [] e = refl
 filter_same f g (x ∷ xs) e = ap (λ b. if b then x ∷ filter f xs else filter f xs) (e x) ∙ ap (λ ys. if g x then x ∷ ys else ys) (filter_same f g xs e)
