@@ -16,7 +16,7 @@ use Rattle.std.specs.Prelude.{◌==◌, None, Some, get_or, replicate}
 
 -- Atoms that are put one list after another, as the code puts them.
 
-or_again : (a b : Bool) → ((a || b) || b) ≡ (a || b)
+pub or_again : (a b : Bool) → ((a || b) || b) ≡ (a || b)
 or_again true b = refl
 or_again false true = refl
 or_again false false = refl

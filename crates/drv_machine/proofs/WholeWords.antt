@@ -1,4 +1,4 @@
-use Rattle.drv_machine.proofs.Cutter.{bytes_put, put_then}
+use Rattle.drv_machine.proofs.Cutter.{bytes_put, or_again, put_then}
 use Rattle.drv_machine.proofs.EmitSteps.{switch_is}
 use Rattle.drv_machine.proofs.Ends.{plain_ends}
 use Rattle.drv_machine.proofs.Files.{some_there}
@@ -12,16 +12,11 @@ use Rattle.drv_match.specs.Matching.{name_at}
 use Rattle.drv_system.specs.Facts.{Facts}
 use Rattle.drv_system.specs.Known.{Is}
 use Rattle.drv_words.specs.Bytes.{hyphen}
-use Rattle.std.proofs.Common.{◌≡◌, ◌∙◌, ◌++◌, ◌||◌, Bool, List, [], ◌∷◌, Ok, Option, Some, ap, append-nil, append_assoc, false, length, map, refl, sym, true, ℕ}
+use Rattle.std.proofs.Common.{◌≡◌, ◌∙◌, ◌++◌, List, [], ◌∷◌, Ok, Option, Some, ap, append-nil, append_assoc, false, length, map, refl, sym, ℕ}
 use Rattle.std.specs.Option.{unwrap_or}
 use Rattle.std.specs.Prelude.{None}
 
 -- Words that are put whole.
-
-or_again : (a b : Bool) → ((a || b) || b) ≡ (a || b)
-or_again true b = refl
-or_again false true = refl
-or_again false false = refl
 
 -- behind one no word is open
 pub between_again : (s : Machine) (word : List ℕ) → IsBetweenWords (word_added s word).cut
