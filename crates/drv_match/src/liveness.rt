@@ -11,7 +11,11 @@ use std::alloc::{AllocError, Global};
 
 /// For each switch whether no later one cancels it. The order is that of the places by name, so that switches of one
 /// name stand together, and what cancels them is looked up once. Want of memory is the only error.
-pub fn live_flags(alloc: Global, names: &Names<'_>, order: &[usize]) -> Result<Vec<bool>, AllocError>
+pub fn live_flags(
+    alloc: Global,
+    names: &Names<'_>,
+    order: &[usize],
+) -> Result<Vec<bool>, AllocError>
     requires { IsOrder names.now order.now }
     ensures { IfOk result (λ flags. IsLiveness names.now flags.items) }
 {
