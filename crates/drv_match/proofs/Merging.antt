@@ -3,7 +3,7 @@ use Rattle.drv_match.proofs.Parts.{all_hidden, any_filter, at_place, block_has, 
 use Rattle.drv_match.specs.Code.Indexed.{AreNamed, SameHits}
 use Rattle.drv_match.specs.Matching.{IsNextHit, any_hits, hits, is_any_hit, is_broad, is_hit, is_named, name_at}
 use Rattle.drv_match.specs.Pattern.{Pattern}
-use Rattle.std.proofs.Common.{◌≡◌, ◌<◌, ◌≤◌, ◌+◌, ◌-◌, ◌∙◌, ◌&&◌, ◌||◌, ◌==◌, All, Bool, false, true, List, [], ◌∷◌, ◌++◌, None, Option, Some, ap, append_assoc, append-nil, arith, drop, filter, get_or, if◌then◌else◌, length, nat_eq, nat_lt, refl, set, subst, suc, sym, take, zero, ℕ}
+use Rattle.std.proofs.Common.{◌≡◌, ◌<◌, ◌≤◌, ◌+◌, ◌-◌, ◌∙◌, ◌&&◌, ◌||◌, ◌==◌, All, Bool, false, true, List, [], ◌∷◌, ◌++◌, None, Some, ap, append_assoc, append-nil, arith, drop, filter, get_or, if◌then◌else◌, length, nat_eq, nat_lt, refl, set, subst, suc, sym, take, zero, ℕ}
 use Rattle.std.proofs.Math.Bool.{or-false}
 use Rattle.std.proofs.lemmas.Bool.{eqb-true}
 use Rattle.std.proofs.lemmas.Bool.Decides.{nat_tests}

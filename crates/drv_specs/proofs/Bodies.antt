@@ -1,11 +1,7 @@
 use Rattle.drv_words.specs.Bytes.{newline}
-use Rattle.drv_specs.specs.Directives.{Directive, Start, body_lines, body_of, directive_in, first_line, is_inside, read_lines, start_at}
-use Rattle.drv_specs.specs.Lines.{is_empty_line}
-use Rattle.std.proofs.Common.{◌≡◌, ◌<◌, ◌+◌, ◌∙◌, Bool, List, [], ◌∷◌, ◌++◌, ap, append_assoc, drop, false, flat_map, Err, IfOk, Ok, Result, length, refl, sym, ℕ}
-use Rattle.std.proofs.lemmas.List.{append-nil, drop_more}
-use Rattle.std.proofs.lemmas.Grind.{flat_map-append}
+use Rattle.std.proofs.Common.{◌≡◌, List, [], ◌∷◌, ◌++◌, ap, drop, flat_map, refl, ℕ}
+use Rattle.std.proofs.lemmas.List.{append-nil}
 use Rattle.std.specs.List.{join_with_byte}
-use Rattle.std.specs.Prelude.{get_or}
 
 -- Bodies, and lines one after another.
 

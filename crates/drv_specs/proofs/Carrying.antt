@@ -17,8 +17,7 @@ use Rattle.drv_system.specs.Gives.{GivesKnown}
 use Rattle.drv_system.specs.Known.{◌>>=◌, Is, Known, Unasked, asked}
 use Rattle.drv_system.specs.declared.event.ReadAnswer.{ReadAnswer}
 use Rattle.drv_words.specs.Gives.{Gives}
-use Rattle.std.proofs.Common.{◌≡◌, ◌⊎◌, ◌∙◌, Bor, IsErrAnd, Option, List, [], ◌∷◌, ◌++◌, Err, Ok, Result, Some, ap, inl, inr, refl, reverse, subst, suc, sym, zero, ℕ}
-use Rattle.std.proofs.lemmas.List.{reverse-append}
+use Rattle.std.proofs.Common.{◌≡◌, ◌⊎◌, ◌∙◌, Bor, IsErrAnd, Option, List, ◌∷◌, ◌++◌, Err, Ok, Result, Some, ap, inl, inr, refl, subst, suc, sym, zero, ℕ}
 
 -- Directives carried out one after another.
 

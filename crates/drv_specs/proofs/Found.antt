@@ -7,7 +7,7 @@ use Rattle.drv_words.specs.Bytes.{backslash, carriage_return, newline}
 use Rattle.std.proofs.Common.{◌≡◌, ◌<◌, ◌≤◌, ◌+◌, ◌-◌, ◌∙◌, ◌==◌, ◌&&◌, ◌||◌, Bool, List, [], ◌∷◌, ◌++◌, ap, append_assoc, arith, drop, eqb-true, false, filter, fold, if◌then◌else◌, length, nat_eq, not, refl, suc, sym, take, true, zero, ℕ}
 use Rattle.std.proofs.lemmas.List.{append-nil, drop_more, take-append-drop}
 use Rattle.std.specs.List.{ends_with, list_all}
-use Rattle.std.specs.Prelude.{None, Option, Some, get_or, slice_index}
+use Rattle.std.specs.Prelude.{None, Option, Some, slice_index}
 
 -- What a search for a byte finds, and what stands before it.
 

@@ -12,7 +12,7 @@ use Rattle.drv_system.specs.Facts.{Facts, no_facts}
 use Rattle.drv_system.specs.Known.{Is, Known, Unasked}
 use Rattle.drv_system.specs.declared.event.ReadAnswer.TheVariants as read
 use Rattle.drv_system.specs.declared.event.ReadAnswer.{ReadAnswer}
-use Rattle.std.proofs.Common.{◌≡◌, ◌++◌, Err, List, [], ◌∷◌, None, Ok, Option, Result, Some, false, map, refl, replicate, true, ℕ}
+use Rattle.std.proofs.Common.{◌≡◌, ◌++◌, Err, List, [], ◌∷◌, None, Ok, Option, Result, Some, map, refl, replicate, ℕ}
 use Rattle.std.specs.Prelude.{codes}
 
 -- Worked spec files, by computation.

@@ -5,11 +5,11 @@ use Rattle.drv_specs.proofs.Booleans.{and_first, and_second, not_true}
 use Rattle.drv_specs.proofs.Found.{clean_all, clean_front, fails_of, found_below, found_passes}
 use Rattle.drv_specs.proofs.Lining.{inside_next, one_piece, pieces_then}
 use Rattle.drv_specs.specs.Blanks.{has_byte, is_blank}
-use Rattle.drv_specs.specs.Directives.{Alone, Directive, Passed, Start, WithBody, body_lines, body_of, by_colon, by_keyword, directive_in, first_line, is_colon, is_inside, opens_body, read_lines, start_at, start_of}
+use Rattle.drv_specs.specs.Directives.{Alone, Directive, Passed, Start, WithBody, body_lines, by_colon, by_keyword, directive_in, first_line, is_colon, opens_body, read_lines, start_of}
 use Rattle.drv_specs.specs.Lines.{ends_line, is_empty_line, lines_of, pieces_from, without_front, words_of}
 use Rattle.drv_specs.specs.Code.Slices.{Ends, bytes_from, is_keyword, is_passed, lines_from}
 use Rattle.drv_words.specs.Bytes.{colon, newline, space, tab}
-use Rattle.std.proofs.Common.{◌≡◌, ◌<◌, ◌≤◌, ◌+◌, ◌-◌, ◌∙◌, ◌==◌, ◌&&◌, ◌||◌, Bool, List, [], ◌∷◌, ◌++◌, ap, append_assoc, arith, cond, drop, eqb-true, false, filter, flat_map, if◌then◌else◌, length, length-append, nat_lt, not, refl, suc, sym, take, true, zero, ℕ}
+use Rattle.std.proofs.Common.{◌≡◌, ◌<◌, ◌≤◌, ◌+◌, ◌-◌, ◌∙◌, ◌==◌, ◌&&◌, ◌||◌, Bool, List, [], ◌∷◌, ◌++◌, ap, append_assoc, arith, cond, drop, false, filter, flat_map, if◌then◌else◌, length, length-append, nat_lt, not, refl, suc, sym, take, true, zero, ℕ}
 use Rattle.std.proofs.Math.Seq.{drop-append_seam, take-add}
 use Rattle.std.proofs.lemmas.List.{append-nil, drop-drop, drop_more, take-append-drop, take_at}
 use Rattle.std.proofs.lemmas.List.Folds.{list_all-append}

@@ -1,5 +1,5 @@
 use Rattle.drv_specs.specs.Lines.{without_end, without_front}
-use Rattle.std.proofs.Common.{◌≡◌, ◌<◌, ◌≤◌, ◌+◌, ◌-◌, ◌∙◌, Bool, List, [], ◌∷◌, ◌++◌, ap, arith, cond, drop, false, if◌then◌else◌, length, nat_lt, not, refl, reverse, suc, sym, take, true, ℕ}
+use Rattle.std.proofs.Common.{◌≡◌, ◌<◌, ◌≤◌, ◌+◌, ◌-◌, ◌∙◌, Bool, List, [], ◌∷◌, ◌++◌, ap, arith, cond, drop, false, length, nat_lt, not, refl, reverse, suc, sym, take, true, ℕ}
 use Rattle.std.proofs.lemmas.Grind.{take_at_read}
 use Rattle.std.proofs.lemmas.Bool.Decides.{nat_tests}
 use Rattle.std.proofs.lemmas.List.Sums.{prefix_len-le-length}

@@ -1,8 +1,5 @@
-use Rattle.drv_args.proofs.LineSteps.{alone_next, first_line, last_line, wants_next}
+use Rattle.drv_args.proofs.LineSteps.{alone_next, last_line, wants_next}
 use Rattle.drv_args.proofs.reading.note_words.Goals as goal
-use Rattle.drv_args.specs.Code.Building.{line_with}
-use Rattle.drv_args.specs.Fronts.{items_of}
-use Rattle.std.proofs.Common.{◌∙◌, ap}
 
 pub loop-left-preserved-in-Alone : goal.loop-left-preserved-in-Alone
 loop-left-preserved-in-Alone c =

@@ -1,4 +1,4 @@
-use Rattle.drv_match.proofs.Merging.{flagged_all, flagged_from, place_kept, place_passed, places_done}
+use Rattle.drv_match.proofs.Merging.{flagged_all, flagged_from, place_kept, place_passed}
 use Rattle.drv_match.proofs.switches.Switches.merged_hits.Goals as goal
 use Rattle.std.proofs.Common.{ap, arith, false, length, sym, ◌<◌, ◌∙◌, ◌∷◌, ◌++◌}
 use Rattle.std.proofs.lemmas.List.{get_or_read}

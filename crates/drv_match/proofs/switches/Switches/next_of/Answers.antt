@@ -1,5 +1,4 @@
 use Rattle.drv_match.proofs.Merging.{is_next, is_none}
-use Rattle.drv_match.proofs.Parts.{named_within}
 use Rattle.drv_match.proofs.switches.Switches.next_of.Goals as goal
 use Rattle.std.proofs.Common.{arith}
 
