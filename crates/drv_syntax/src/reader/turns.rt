@@ -8,7 +8,7 @@ use crate::directives::SayKind;
 use crate::fault::SyntaxFault;
 use crate::reader::bytes::is_blank;
 use crate::reader::edits::{with_blank, with_plains};
-use crate::reader::list_steps::{hide_word, name_text, percent, saying_text, suffix_run};
+use crate::reader::list_steps::{hide_word, name_text, percent, saying_text, start, suffix_run};
 use crate::reader::runs::{
     extend, front, name_length, run_length, said_length, suffix_length, word_length,
 };
@@ -198,6 +198,23 @@ fn directive_turn(n: u32, behind: &[u8], w: &mut Walk) -> Result<usize, SyntaxFa
     }
 }
 
+/// Where an item begins, at a byte that does not stand for itself: what it and those that go on behind it make of the state: how
+/// many of those behind it.
+#[inline(always)]
+fn first_turn(n: u32, b: u8, behind: &[u8], w: &mut Walk) -> Result<usize, SyntaxFault>
+    requires here { w.old.stage ≡ Stage.List ListStage.Start }
+    requires room { length w.old.tokens.items < 2 ^ 28 }
+    requires place { n + 1 + length behind.now < 2 ^ 30 }
+    requires trail { w.old.trailing < 2 ^ 28 }
+    ensures does { Turns n b behind.now (state w.old) (state w.new) result }
+    ensures size { IfOk result (λ taken. length w.new.tokens.items ≤ length w.old.tokens.items + 4 * (taken + 1)) }
+    ensures trail { IfOk result (λ taken. w.new.trailing ≤ w.old.trailing + 4 * (taken + 1)) }
+{
+    start(n, b, w)?;
+    let taken = run(n + 1, behind, w)?;
+    Ok(taken)
+}
+
 /// Where an item begins, at a byte that is no `%`: what this byte and those that go on behind it make of the state: how many of
 /// those behind it.
 #[inline(always)]
@@ -218,7 +235,7 @@ fn start_turn(n: u32, b: u8, text: &[u8], behind: &[u8], w: &mut Walk) -> Result
     }
     let size = run_length(w.context.kind, text);
     if size == 0 {
-        return byte_turn(n, b, behind, w);
+        return first_turn(n, b, behind, w);
     }
     with_plains(n, front(text, size), w)?;
     Ok(size - 1)
