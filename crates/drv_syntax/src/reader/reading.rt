@@ -137,17 +137,16 @@ fn begun(alloc: Global) -> Walk
     }
 }
 
-/// Where a text begins, with room for the parts of a short one, and for the words of a long one.
-fn started(alloc: Global, size: usize) -> Result<Walk, SyntaxFault>
-    ensures { Gives SyntaxFault.Memory state result (Ok steps.started) }
+/// Room for the parts of a text of this size, if it is a short one.
+#[inline(always)]
+fn make_room(alloc: Global, size: usize, w: &mut Walk) -> Result<(), SyntaxFault>
+    requires { state w.old ≡ steps.started }
+    ensures { Gives SyntaxFault.Memory (λ _. state w.new) result (Ok steps.started) }
 {
     let count = if size < 4096 { size } else { 4096 };
-    let word = if size < 64 { 0 } else { 64 };
-    let mut walk = begun(alloc);
-    walk.tokens = Vec::with_capacity(alloc, count)?;
-    walk.labels = Labels::with_capacity(alloc, count)?;
-    walk.word = Vec::with_capacity(alloc, word)?;
-    Ok(walk)
+    w.tokens = Vec::with_capacity(alloc, count)?;
+    w.labels = Labels::with_capacity(alloc, count)?;
+    Ok(())
 }
 
 /// What the bytes of a text make of a state, the first of which has this place.
@@ -202,6 +201,7 @@ pub fn read_behind(start: u32, more: &[u8], walk: Walk) -> Result<Ended, SyntaxF
 }
 
 /// What a text comes to.
+#[inline(always)]
 pub fn read_text(alloc: Global, text: &[u8]) -> Result<Ended, SyntaxFault>
     requires { length text.now ≤ 1048576 }
     ensures does { Gives SyntaxFault.Memory (λ e. state e.walk) result (steps.walk steps.started 0 text.now) }
@@ -209,7 +209,10 @@ pub fn read_text(alloc: Global, text: &[u8]) -> Result<Ended, SyntaxFault>
     ensures size { IfOk result (λ e. length e.walk.tokens.items ≤ 4 * length text.now + 1) }
     ensures trail { IfOk result (λ e. e.walk.trailing ≤ 4 * length text.now + 1) }
 {
-    read_behind(0, text, started(alloc, text.len())?)
+    let mut walk = begun(alloc);
+    make_room(alloc, text.len(), &mut walk)?;
+    let ending = read_to_end(0, text, &mut walk)?;
+    Ok(Ended { walk, ending })
 }
 
 /// What a text without bytes comes to. It takes no memory.
