@@ -113,6 +113,12 @@ fn saying_turn(
     Ok(size + 1)
 }
 
+/// Whether a `%` stands first.
+#[inline(always)]
+fn begins_directive(text: &[u8]) -> bool {
+    matches!(text, [b'%', ..])
+}
+
 /// Where an item begins: the bytes that stand for themselves.
 #[inline(always)]
 fn plain_turn(n: u32, text: &[u8], w: &mut Walk) -> Result<usize, SyntaxFault>
@@ -231,6 +237,9 @@ fn start_turn(n: u32, b: u8, text: &[u8], behind: &[u8], w: &mut Walk) -> Result
 {
     if is_blank(b) {
         with_blank(n, w)?;
+        if begins_directive(behind) {
+            return Ok(0);
+        }
         return plain_turn(n + 1, behind, w);
     }
     let size = run_length(w.context.kind, text);
