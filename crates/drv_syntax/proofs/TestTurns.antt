@@ -1,19 +1,20 @@
-use Rattle.drv_syntax.proofs.Leads.{other}
+use Rattle.drv_syntax.proofs.Leads.{other, same}
 use Rattle.drv_syntax.proofs.Runs.{reads_fault, walked, word_takes}
 use Rattle.drv_syntax.specs.Bytes.{is_mark, is_word}
 use Rattle.drv_syntax.specs.Code.States.{Reads}
-use Rattle.drv_syntax.specs.Code.Steps.{Walk, at_stage, form_at, pass, step, then_walk, with_word}
-use Rattle.drv_syntax.specs.declared.fault.SyntaxFault.TheVariants.{Memory}
+use Rattle.drv_syntax.specs.Code.Steps.{Walk, act_head, at_stage, form_at, in_word, pass, step, then_walk, with_word}
+use Rattle.drv_syntax.specs.Code.Turns.{behind_action, chooses, emits}
+use Rattle.drv_syntax.specs.declared.fault.SyntaxFault.TheVariants.{BadDirective, Memory}
 use Rattle.drv_syntax.specs.declared.fault.SyntaxFault.{SyntaxFault}
 use Rattle.drv_syntax.specs.declared.reader.stages.Behind.TheVariants as behinds
 use Rattle.drv_syntax.specs.declared.reader.stages.Form.{Form}
 use Rattle.drv_syntax.specs.declared.reader.stages.Head.{Head}
 use Rattle.drv_syntax.specs.declared.reader.stages.HeadStage.TheVariants as places
 use Rattle.drv_syntax.specs.declared.reader.stages.Stage.TheVariants as at
-use Rattle.std.proofs.Common.{◌≡◌, ◌⊎◌, inl, inr, get_or, ◌∙◌, ◌+◌, ◌<◌, ◌≤◌, Bool, true, false, List, [], ◌∷◌, ap, arith, drop, length, refl, suc, sym, take, zero, ℕ}
+use Rattle.std.proofs.Common.{◌≡◌, ◌⊎◌, inl, inr, get_or, ◌∙◌, ◌+◌, ◌<◌, ◌≤◌, Bool, true, false, List, [], ◌∷◌, ap, arith, drop, if◌then◌else◌, length, refl, subst, suc, sym, take, zero, ℕ}
 use Rattle.std.proofs.lemmas.List.{drop-drop, length-drop}
 use Rattle.std.specs.List.{prefix_len}
-use Rattle.std.specs.Prelude.{◌&&◌, not, IsErrAnd, Result, Err, Ok}
+use Rattle.std.specs.Prelude.{◌&&◌, ◌==◌, ◌||◌, not, IsErrAnd, Result, Err, Ok}
 
 -- The word of a test, and what ends it.
 
@@ -61,6 +62,36 @@ star_takes v head form start negated n (b ∷ text) h l e =
   where
     starred : step v n 42 ≡ Ok (behind_star head form start negated n v)
     starred = rw h refl
+
+-- what ends it behind that star, which is refused
+stuck : (t : Bool) (x y : Walk) (found fault : SyntaxFault) (again : Walk → Result Walk SyntaxFault) → (if t then Ok x else Err found) ≡ Err fault → then_walk (if t then Ok y else Err found) again ≡ Err fault
+stuck true x y found fault again h = absurd cc
+stuck false x y found fault again h = h
+
+star_refused : (v : Walk) (head : Head) (form : Form) (start : ℕ) (negated : Bool) (word : List ℕ) (n b : ℕ) (text : List ℕ) (fault : SyntaxFault) (t : Bool) → (b == 125) ≡ t → (b == 125 || b == 58) ≡ true
+    → act_head head form (behind_action head.part.start (behinds.Switch start (n + 1) negated true) b) (n + 1) b (with_word word v) ≡ Err fault
+    → pass (in_word head form start negated word v) n (42 ∷ b ∷ text) ≡ Err fault
+star_refused v head form start negated word n b text fault true e g h = subst
+    (λ (x : ℕ). act_head head form (behind_action head.part.start (behinds.Switch start (n + 1) negated true) x) (n + 1) x (with_word word v) ≡ Err fault → pass (in_word head form start negated word v) n (42 ∷ x ∷ text) ≡ Err fault)
+    (sym (same b 125 e))
+    (stuck (emits form negated) _ _ (BadDirective head.part.start) fault (λ x. pass x (n + 1 + 1) text))
+    h
+star_refused v head form start negated word n b text fault false e g h = subst
+    (λ (x : ℕ). act_head head form (behind_action head.part.start (behinds.Switch start (n + 1) negated true) x) (n + 1) x (with_word word v) ≡ Err fault → pass (in_word head form start negated word v) n (42 ∷ x ∷ text) ≡ Err fault)
+    (sym (same b 58 (let z : (false || b == 58) ≡ true = ap (λ (t : Bool). t || b == 58) (sym e) ∙ g in z)))
+    (stuck (chooses form) _ _ (BadDirective head.part.start) fault (λ x. pass x (n + 1 + 1) text))
+    h
+
+pub star_fails : (v u : Walk) (head : Head) (form : Form) (start : ℕ) (negated : Bool) (word : List ℕ) (n : ℕ) (text : List ℕ) (r : Result ℕ SyntaxFault) (fault : SyntaxFault) → 2 ≤ length text
+    → get_or text 0 0 ≡ 42 → (get_or text 1 0 == 125 || get_or text 1 0 == 58) ≡ true → IsErrAnd r (λ e. e ≡ fault)
+    → (fault ≡ Memory) ⊎ (act_head head form (behind_action head.part.start (behinds.Switch start (n + 1) negated true) (get_or text 1 0)) (n + 1) (get_or text 1 0) (with_word word v) ≡ Err fault)
+    → Reads n text (in_word head form start negated word v) u r
+star_fails v u head form start negated word n text r fault l s e is (inl h) = reads_fault (in_word head form start negated word v) u n text r fault is (inl h)
+star_fails v u head form start negated word n [] r fault l s e is (inr h) = absurd (omega (arith, l))
+star_fails v u head form start negated word n (a ∷ []) r fault l s e is (inr h) = absurd (omega (arith, l))
+star_fails v u head form start negated word n (a ∷ b ∷ text) r fault l s e is (inr h) =
+    reads_fault (in_word head form start negated word v) u n (a ∷ b ∷ text) r fault is
+    (inr (ap (λ (x : ℕ). pass (in_word head form start negated word v) n (x ∷ b ∷ text)) s ∙ star_refused v head form start negated word n b text fault (b == 125) refl e h))
 
 -- a word begins
 pub begun_takes : (v u : Walk) (head : Head) (form : Form) (start : ℕ) (negated : Bool) (k n : ℕ) (text : List ℕ) → is_word (get_or text 0 0) ≡ true

@@ -140,6 +140,14 @@ at_stage stage w = record w { stage = stage }
 abbrev pub with_word : List ℕ → Walk → Walk
 with_word word w = record w { word = word }
 
+-- what most words of tests end with
+abbrev pub ends_word : ℕ → Bool
+ends_word b = b == ascii.closing_brace || b == ascii.colon
+
+-- in this word of a test
+abbrev pub in_word : Head → Form → ℕ → Bool → List ℕ → Walk → Walk
+in_word head form start negated word w = at_stage (at.Braces head form (places.TestWord start negated)) (with_word word w)
+
 -- behind an item that ends at this place, in a list with this context
 abbrev pub behind_item : Context → ℕ → Walk → Walk
 behind_item c end w = record { stage = at.List stages.Start; context = c; waiting = w.waiting; tokens = w.tokens; labels = w.labels; word = []; kept = end; trailing = 0; holds_star = w.holds_star }

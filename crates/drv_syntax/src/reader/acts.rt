@@ -2,15 +2,16 @@
 
 ghost use Rattle.drv_syntax.specs.Code.States.{Fits, state};
 ghost use Rattle.drv_syntax.specs.Code.Steps as steps;
+ghost use Rattle.drv_syntax.specs.Code.Turns as turns;
 ghost use Rattle.drv_words.specs.Gives.{Gives};
-ghost use Rattle.std.specs.Prelude.{◌≡◌, ◌<◌, ◌≤◌, ◌^◌, ◌+◌, length, OnOk, Ok};
+ghost use Rattle.std.specs.Prelude.{◌≡◌, ◌<◌, ◌≤◌, ◌^◌, ◌+◌, length, OnOk, Ok, true};
 
 use crate::fault::SyntaxFault;
 use crate::reader::bytes::is_space;
 use crate::reader::edits::close_token;
 use crate::reader::nesting::{
-    alternative_of, ask, behind_item, chooses, close_braces, emits, first_of, negates, starred_of,
-    stars, tests, untested, with_pattern, with_test,
+    alternative_of, ask, behind_item, chooses, close_braces, emits, first_of, lent_pattern,
+    lent_test, negates, starred_of, stars, tests, untested, with_pattern, with_test,
 };
 use crate::reader::stages::{Behind, Context, Form, Frame, Head, HeadStage, Open, Stage};
 use crate::reader::walk::Walk;
@@ -105,6 +106,83 @@ pub fn act_bars(head: Head, form: Form, behind: Behind, w: &mut Walk) -> Result<
         stage: HeadStage::TestDue,
     };
     Ok(())
+}
+
+/// `}` behind a pattern whose word is this one.
+#[inline(always)]
+fn ends_with(
+    head: Head,
+    form: Form,
+    behind: Behind,
+    word: &[u8],
+    n: u32,
+    w: &mut Walk,
+) -> Result<(), SyntaxFault>
+    requires room { length w.old.tokens.items < 2 ^ 31 }
+    requires place { n < 2 ^ 31 }
+    ensures does { Gives SyntaxFault.Memory (λ _. state w.new) result (steps.act_ends head form behind n (steps.with_word word.now (state w.old))) }
+    ensures fits { OnOk result (Fits w.old w.new) }
+{
+    if !emits(form, negates(behind)) {
+        return Err(SyntaxFault::BadDirective(head.part.start as usize));
+    }
+    lent_pattern(behind, word, w)?;
+    close_braces(head, true, n + 1, w.context, w);
+    Ok(())
+}
+
+/// `:` behind a test whose word is this one.
+#[inline(always)]
+fn asks_with(
+    head: Head,
+    form: Form,
+    behind: Behind,
+    word: &[u8],
+    n: u32,
+    w: &mut Walk,
+) -> Result<(), SyntaxFault>
+    requires room { length w.old.tokens.items < 2 ^ 31 }
+    requires place { n < 2 ^ 31 }
+    ensures does { Gives SyntaxFault.Memory (λ _. state w.new) result (steps.act_asks head form behind n (steps.with_word word.now (state w.old))) }
+    ensures fits { OnOk result (Fits w.old w.new) }
+{
+    if !(tests(behind) && chooses(form)) {
+        return Err(untested(head.part.start, behind));
+    }
+    let alternative = alternative_of(form, first_of(behind), w);
+    lent_test(form, behind, word, w)?;
+    ask(
+        head,
+        alternative,
+        true,
+        stars(form) && starred_of(behind),
+        n,
+        w,
+    )
+}
+
+/// `}` or `:` behind a test or a pattern whose word is this one.
+#[inline(never)]
+pub fn act_lent(
+    head: Head,
+    form: Form,
+    behind: Behind,
+    word: &[u8],
+    n: u32,
+    b: u8,
+    w: &mut Walk,
+) -> Result<(), SyntaxFault>
+    requires end { steps.ends_word b ≡ true }
+    requires room { length w.old.tokens.items < 2 ^ 31 }
+    requires place { n < 2 ^ 31 }
+    ensures does { Gives SyntaxFault.Memory (λ _. state w.new) result (steps.act_head head form (turns.behind_action head.part.start behind b) n b (steps.with_word word.now (state w.old))) }
+    ensures fits { OnOk result (Fits w.old w.new) }
+{
+    if b == b'}' {
+        ends_with(head, form, behind, word, n, w)
+    } else {
+        asks_with(head, form, behind, word, n, w)
+    }
 }
 
 fn trim(w: &mut Walk)

@@ -1,6 +1,7 @@
 //! What the bytes of spec texts can be.
 
 ghost use Rattle.drv_syntax.specs.Bytes as bytes;
+ghost use Rattle.drv_syntax.specs.Code.Steps.{ends_word};
 ghost use Rattle.std.specs.Prelude.{◌≡◌, ◌++◌, ◌∷◌, []};
 
 /// In a word of a test.
@@ -46,6 +47,14 @@ pub fn is_mark(b: u8) -> bool
     ensures { result ≡ bytes.is_mark b }
 {
     b == b'.' || b == b','
+}
+
+/// `}` or `:`, which most words of tests end with.
+#[inline(always)]
+pub fn ends_word(b: u8) -> bool
+    ensures { result ≡ ends_word b }
+{
+    b == b'}' || b == b':'
 }
 
 #[tactic(auto, using(crate::proofs::WalkNames::same_pointwise))]

@@ -299,6 +299,31 @@ pub fn with_pattern(behind: Behind, w: &mut Walk) -> Result<(), SyntaxFault>
     name_pattern(behind, &w.word, &mut w.labels)
 }
 
+/// The pattern, whose word is this one. It stays what it was.
+#[inline(always)]
+pub fn lent_pattern(behind: Behind, word: &[u8], w: &mut Walk) -> Result<(), SyntaxFault>
+    requires { length w.old.tokens.items < 2 ^ 31 }
+    ensures does { Gives SyntaxFault.Memory (λ _. steps.with_word word.now (state w.new)) result (Ok (steps.with_pattern behind (steps.with_word word.now (state w.old)))) }
+    ensures size { OnOk result (length w.new.tokens.items ≤ length w.old.tokens.items + 1) }
+    ensures trail { OnOk result (w.new.trailing ≤ w.old.trailing) }
+{
+    with_leaf(TokenKind::Pattern, first_of(behind), last_of(behind), w)?;
+    name_pattern(behind, word, &mut w.labels)
+}
+
+/// The test, whose word is this one, in its alternative.
+#[inline(always)]
+pub fn lent_test(form: Form, behind: Behind, word: &[u8], w: &mut Walk) -> Result<(), SyntaxFault>
+    requires { length w.old.tokens.items < 2 ^ 31 }
+    ensures does { Gives SyntaxFault.Memory (λ _. steps.with_word word.now (state w.new)) result (Ok (steps.with_test form behind (steps.with_word word.now (state w.old)))) }
+    ensures size { OnOk result (length w.new.tokens.items ≤ length w.old.tokens.items + 2) }
+    ensures trail { OnOk result (w.new.trailing ≤ w.old.trailing) }
+{
+    with_alternative(form, first_of(behind), w)?;
+    with_leaf(TokenKind::Test, first_of(behind), last_of(behind), w)?;
+    name_test(behind, word, &mut w.labels)
+}
+
 /// The test, in its alternative.
 #[inline(always)]
 pub fn with_test(form: Form, behind: Behind, w: &mut Walk) -> Result<(), SyntaxFault>

@@ -6,9 +6,10 @@ ghost use Rattle.drv_syntax.specs.Code.Steps as steps;
 ghost use Rattle.std.specs.Prelude.{◌≡◌, ◌<◌, ◌≤◌, ◌^◌, ◌+◌, ◌*◌, ◌∷◌, ◌&&◌, [], IfOk, Ok, get_or, length, not, true};
 
 use crate::fault::SyntaxFault;
-use crate::reader::bytes::{is_mark, is_word};
+use crate::reader::acts::act_lent;
+use crate::reader::bytes::{ends_word, is_mark, is_word};
 use crate::reader::head_steps::{at, behind_test, test_word};
-use crate::reader::runs::{extend, word_length};
+use crate::reader::runs::{extend, front, word_length};
 use crate::reader::stages::{Behind, Form, Head, HeadStage, Stage};
 use crate::reader::walk::Walk;
 
@@ -82,6 +83,75 @@ pub fn word_turn(
     Ok(size + more)
 }
 
+/// Behind a word of a test that is put here: what ends it, with the byte behind a star.
+#[inline(never)]
+fn put_end(
+    head: Head,
+    form: Form,
+    start: u32,
+    negated: bool,
+    word: &[u8],
+    n: u32,
+    text: &[u8],
+    w: &mut Walk,
+) -> Result<usize, SyntaxFault>
+    requires room { length w.old.tokens.items < 2 ^ 29 }
+    requires place { n + length text.now < 2 ^ 30 }
+    requires trail { w.old.trailing < 2 ^ 29 }
+    ensures does { Reads n text.now (steps.in_word head form start negated word.now (state w.old)) (state w.new) result }
+    ensures size { IfOk result (λ taken. length w.new.tokens.items ≤ length w.old.tokens.items + 4 * taken) }
+    ensures trail { IfOk result (λ taken. w.new.trailing ≤ w.old.trailing + 4 * taken) }
+{
+    w.stage = at(head, form, HeadStage::TestWord { start, negated });
+    w.word.clear();
+    w.word.extend_from_slice(word)?;
+    word_end(head, form, start, negated, n, text, w)
+}
+
+/// Behind a word of a test that was not yet put: what ends it, with the byte behind a star.
+#[inline(always)]
+fn lent_end(
+    head: Head,
+    form: Form,
+    start: u32,
+    negated: bool,
+    word: &[u8],
+    n: u32,
+    text: &[u8],
+    w: &mut Walk,
+) -> Result<usize, SyntaxFault>
+    requires room { length w.old.tokens.items < 2 ^ 29 }
+    requires place { n + length text.now < 2 ^ 30 }
+    requires trail { w.old.trailing < 2 ^ 29 }
+    ensures does { Reads n text.now (steps.in_word head form start negated word.now (state w.old)) (state w.new) result }
+    ensures size { IfOk result (λ taken. length w.new.tokens.items ≤ length w.old.tokens.items + 4 * taken) }
+    ensures trail { IfOk result (λ taken. w.new.trailing ≤ w.old.trailing + 4 * taken) }
+{
+    match text {
+        [b'*', b, ..] if ends_word(*b) => {
+            let behind = Behind::Switch {
+                start,
+                end: n + 1,
+                negated,
+                starred: true,
+            };
+            act_lent(head, form, behind, word, n + 1, *b, w)?;
+            Ok(2)
+        }
+        [b, ..] if ends_word(*b) => {
+            let behind = Behind::Switch {
+                start,
+                end: n,
+                negated,
+                starred: false,
+            };
+            act_lent(head, form, behind, word, n, *b, w)?;
+            Ok(1)
+        }
+        _ => put_end(head, form, start, negated, word, n, text, w),
+    }
+}
+
 /// A word of a test begins with the first byte: the word, and what ends it.
 #[inline(never)]
 fn begun_turn(
@@ -104,14 +174,12 @@ fn begun_turn(
     ensures trail { IfOk result (λ taken. w.new.trailing ≤ w.old.trailing + 4 * taken) }
 {
     let size = word_length(text);
-    w.stage = at(head, form, HeadStage::TestWord { start, negated });
-    w.word.clear();
-    extend(size, text, w)?;
-    let more = word_end(
+    let more = lent_end(
         head,
         form,
         start,
         negated,
+        front(text, size),
         n + size as u32,
         &text[size..],
         w,
