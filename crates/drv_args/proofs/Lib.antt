@@ -1,3 +1,4 @@
+pub mod Beginnings
 pub mod Expanding
 pub mod FrontLaws
 pub mod JobCounts

@@ -70,9 +70,14 @@ fn language_copy(language: &Option<Word>) -> Result<Option<Word>, AllocError>
 }
 
 impl LineBuilder {
-    /// A line without items.
-    pub(crate) fn new(alloc: Global, from_file: bool) -> LineBuilder
-        ensures { result ≡ begun from_file }
+    /// A line without items, which has room for so many of each kind that a word can be: it grows no list of them, which
+    /// would copy each item that is in it.
+    pub(crate) fn new(
+        alloc: Global,
+        room: usize,
+        from_file: bool,
+    ) -> Result<LineBuilder, AllocError>
+        ensures { IfOk result (λ made. made ≡ begun from_file) }
     {
         let settings = Settings {
             dry: false,
@@ -87,16 +92,16 @@ impl LineBuilder {
             jobs: 1,
         };
         let line = Line {
-            switches: Listing::new(alloc),
-            inputs: Listing::new(alloc),
+            switches: Listing::from_vec(Vec::with_capacity(alloc, room)?),
+            inputs: Listing::from_vec(Vec::with_capacity(alloc, room)?),
             asm_opts: Listing::new(alloc),
             cpp_opts: Listing::new(alloc),
             settings,
         };
-        LineBuilder {
+        Ok(LineBuilder {
             line,
             language: None,
-        }
+        })
     }
 
     fn add_switch(&mut self, name: Word, arg: Option<Word>) -> Result<(), AllocError>

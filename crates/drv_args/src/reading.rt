@@ -7,8 +7,9 @@ ghost use Rattle.drv_args.specs.Code.Lookup.{shown};
 ghost use Rattle.drv_args.specs.Options.{form_fits, row_fits};
 ghost use Rattle.drv_args.specs.declared.fault.ArgsFault.TheVariants as fault;
 ghost use Rattle.drv_words.specs.Gives.{Gives};
+ghost use Rattle.std.specs.List.{starts_with};
 ghost use Rattle.std.specs.Option.{option_map};
-ghost use Rattle.std.specs.Prelude.{◌≡◌, ◌≤◌, IfOk, drop, find, length, map, true};
+ghost use Rattle.std.specs.Prelude.{◌≡◌, ◌≤◌, IfOk, drop, find, length, map, nat_eq, true};
 
 use crate::building::LineBuilder;
 use crate::jobs::jobs_named;
@@ -32,6 +33,21 @@ fn may_end(option: &[u8], word: &[u8]) -> bool
     }
 }
 
+/// Whether a word begins with an option. Options are short, so that their bytes are compared one by one in place.
+fn begins_with(word: &[u8], option: &[u8]) -> bool
+    ensures { result ≡ starts_with nat_eq word.now option.now }
+{
+    if word.len() < option.len() {
+        return false;
+    }
+    for i in 0..option.len() {
+        if word[i] != option[i] {
+            return false;
+        }
+    }
+    true
+}
+
 /// Whether a row fits a word.
 fn does_fit(row: &Row, word: &[u8]) -> bool
     ensures { result ≡ row_fits word.now (shown row.now) }
@@ -41,7 +57,7 @@ fn does_fit(row: &Row, word: &[u8]) -> bool
     }
     match row.form {
         Form::Exact | Form::Separate => row.option == word,
-        Form::Joined | Form::Either => word.starts_with(row.option),
+        Form::Joined | Form::Either => begins_with(word, row.option),
     }
 }
 
@@ -180,7 +196,7 @@ fn read_words(alloc: Global, words: &[Word], from_file: bool) -> Result<Line, Ar
     ensures { Gives fault.Memory (λ line. line) result
         (line_of_items from_file (items_of words.now)) }
 {
-    let mut builder = LineBuilder::new(alloc, from_file);
+    let mut builder = LineBuilder::new(alloc, words.len(), from_file)?;
     note_words(alloc, &mut builder, words)?;
     Ok(builder.line)
 }

@@ -1,0 +1,31 @@
+use Rattle.std.proofs.Common.{◌≡◌, ◌<◌, ◌≤◌, ◌==◌, ◌&&◌, ◌+◌, ◌∙◌, Bool, List, [], ◌∷◌, ap, arith, drop, false, get_or, length, refl, sym, true, ℕ}
+use Rattle.std.proofs.lemmas.Bool.{ne_eqb}
+use Rattle.std.proofs.lemmas.List.{drop_all, drop_more}
+use Rattle.std.specs.List.{starts_with}
+use Rattle.std.specs.Prelude.{nat_eq}
+
+-- Whether a word begins with an option, byte by byte.
+
+abbrev pub begins : List ℕ → List ℕ → Bool
+begins [] word = true
+begins (a ∷ option) [] = false
+begins (a ∷ option) (b ∷ word) = (a == b) && begins option word
+
+pub begins_is : (option word : List ℕ) → starts_with nat_eq word option ≡ begins option word
+begins_is [] word = refl
+begins_is (a ∷ option) [] = refl
+begins_is (a ∷ option) (b ∷ word) = ap (λ e. (a == b) && e) (begins_is option word)
+
+begins_nothing : (rest word : List ℕ) → rest ≡ [] → begins rest word ≡ true
+begins_nothing [] word e = refl
+begins_nothing (a ∷ rest) word e = absurd cc
+
+pub begins_whole : (option word : List ℕ) (i : ℕ) → length option ≤ i → begins (drop i option) (drop i word) ≡ begins option word → true ≡ starts_with nat_eq word option
+begins_whole option word i end same = sym (begins_is option word ∙ sym same ∙ begins_nothing (drop i option) (drop i word) (drop_all i option end))
+
+differs : (a b : ℕ) (option word : List ℕ) → (b ≡ a → ⊥) → begins (a ∷ option) (b ∷ word) ≡ false
+differs a b option word apart = rw (ne_eqb a b (λ e. apart (sym e))) refl
+
+pub begins_apart : (option word : List ℕ) (i : ℕ) → i < length option → length option ≤ length word → (get_or word i 0 ≡ get_or option i 0 → ⊥) → begins (drop i option) (drop i word) ≡ begins option word → false ≡ starts_with nat_eq word option
+begins_apart option word i below within apart same =
+    sym (begins_is option word ∙ sym same ∙ (rw (drop_more option i 0 below, drop_more word i 0 (omega (arith, below, within))) (differs (get_or option i 0) (get_or word i 0) (drop (i + 1) option) (drop (i + 1) word) apart)))
