@@ -122,10 +122,10 @@ impl<'a> Switches<'a> {
             return Ok(Listing::new(alloc));
         };
         let others = self.from_first_hit(others, hidden);
-        if others.is_empty() {
-            return self.hits(alloc, first, hidden);
+        if !others.is_empty() || self.is_spread(first) {
+            return self.merged_hits(alloc, first, others, hidden);
         }
-        self.merged_hits(alloc, first, others, hidden)
+        self.hits(alloc, first, hidden)
     }
 
     /// The first switch from a place on that a pattern hits, if it hits one. It takes no memory.
@@ -195,6 +195,17 @@ impl<'a> Switches<'a> {
             at += 1;
         }
         &patterns[at..]
+    }
+
+    /// Whether a pattern names so many switches of several names that to go over the line is less work than to sort their
+    /// places. Those of one name are in order.
+    fn is_spread(&self, pattern: &Pattern<'_>) -> bool {
+        match self.named(pattern) {
+            named @ [first, .., last] => {
+                self.len() / 8 <= named.len() && self.names.get(*first) != self.names.get(*last)
+            }
+            _ => false,
+        }
     }
 
     /// The places that one of these patterns hits, in order, by a flag for each place.
