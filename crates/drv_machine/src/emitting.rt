@@ -61,6 +61,37 @@ fn put_switches<S: System>(
     Ok(())
 }
 
+/// How many words the switches at these places are, with their arguments.
+fn words_at(context: &Context<'_>, places: &[usize]) -> usize
+    requires { All (λ place. place < length context.now.switches) places.now }
+{
+    let mut count = 0_usize;
+    for place in places {
+        count = count.saturating_add(1);
+        if context.argument(*place).is_some() {
+            count = count.saturating_add(1);
+        }
+    }
+    count
+}
+
+/// Puts the switches at these places, for which it makes room first.
+fn put_all<S: System>(
+    context: &Context<'_>,
+    places: &[usize],
+    machine: &mut Machine,
+    outside: &mut Outside<'_, S>,
+) -> Result<(), MachineFault>
+    requires { All (λ place. place < length context.now.switches) places.now }
+    ensures asks { Asked S.events outside.old outside.new }
+    ensures does { (F : Facts) → Extends outside.new.facts.now F → GivesKnown MachineFault.Memory (λ u. (tt, machine.new)) result (run F context.now machine.old (puts (put_at F context.now places.now))) }
+    ensures sized { length machine.new.world.hidden ≡ length machine.old.world.hidden }
+    ensures uncounted { OnOk result (machine.new.world.items ≡ machine.old.world.items) }
+{
+    machine.make_room(words_at(context, places))?;
+    put_switches(context, places, machine, outside)
+}
+
 /// Puts each switch that one of the patterns hits which stand from one place up to another.
 #[tactic(auto, using(crate::proofs::AskedCalls::asked_none))]
 pub(crate) fn emit<S: System>(
@@ -84,5 +115,5 @@ pub(crate) fn emit<S: System>(
     let places = context
         .switches()
         .any_hits(alloc, patterns.as_slice(), hidden)?;
-    put_switches(context, places.as_slice(), machine, outside)
+    put_all(context, places.as_slice(), machine, outside)
 }

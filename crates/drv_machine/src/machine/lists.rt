@@ -25,7 +25,7 @@ use std::mem;
 pub(crate) fn copied_words(alloc: Global, words: &[Word]) -> Result<Listing<Word>, AllocError>
     ensures { IfOk result (λ copies. copies ≡ words.now) }
 {
-    let mut copies = Listing::new(alloc);
+    let mut copies = Listing::from_vec(Vec::with_capacity(alloc, words.len())?);
     for word in words {
         copies.push(word.clone()?)?;
     }

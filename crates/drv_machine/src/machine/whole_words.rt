@@ -11,9 +11,21 @@ ghost use Rattle.std.specs.Prelude.{◌≡◌, ◌<◌, IfErr, OnOk, length};
 
 use super::Machine;
 use crate::{Context, MachineFault};
-use drv_words::Word;
+use drv_words::{Listing, Word};
+use std::alloc::AllocError;
+use std::mem;
 
 impl Machine {
+    /// Makes room for so many words more of the open command, so that it isn't copied as it grows.
+    pub(crate) fn make_room(&mut self, count: usize) -> Result<(), AllocError>
+        ensures { self.new ≡ self.old }
+    {
+        let mut words = mem::replace(&mut self.line, Listing::new(self.alloc)).into_vec();
+        let made = words.reserve(count);
+        self.line = Listing::from_vec(words);
+        made
+    }
+
     /// A word is put whole.
     fn add_word(&mut self, word: Word) -> Result<(), MachineFault>
         requires { IsBetweenWords self.old.cut }
@@ -33,7 +45,8 @@ impl Machine {
         ensures sized { length self.new.world.hidden ≡ length self.old.world.hidden }
         ensures uncounted { OnOk result (self.new.world.items ≡ self.old.world.items) }
     {
-        let mut word = Word::from_bytes(self.alloc, b"-")?;
+        let mut word = Word::empty(self.alloc);
+        word.push(b'-')?;
         word.extend_from_slice(context.switches().name(i))?;
         self.add_word(word)?;
         let Some(argument) = context.argument(i) else {
