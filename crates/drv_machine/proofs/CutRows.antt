@@ -1,7 +1,7 @@
 use Rattle.drv_machine.proofs.WorkedTexts.{linking}
-use Rattle.drv_machine.specs.Cuts.{each, has_stray_pipe, if_any, lines, output, path, removed, words}
+use Rattle.drv_machine.specs.Cuts.{each, failure_files, has_stray_pipe, if_any, lines, output, path, path_of, removed, words}
 use Rattle.drv_machine.specs.Cutting.{Line}
-use Rattle.drv_machine.specs.Working.{Answer, Atom, Break, End, Marked, Open, Piped, Put, Without}
+use Rattle.drv_machine.specs.Working.{Answer, Atom, Break, End, From, Marked, Open, Piped, Put, To, Without}
 use Rattle.drv_machine.specs.declared.machine.marking.Mark.TheVariants.{AsOutput, AsRemoved}
 use Rattle.drv_system.specs.Facts.{Facts}
 use Rattle.drv_system.specs.Known.{Is}
@@ -43,6 +43,9 @@ module _ (F : Facts) where
   abbrev removed_are : List Atom → Answer (List (List ℕ))
   removed_are atoms = each (path F (linking [])) (removed atoms)
 
+  abbrev failures_are : List Atom → Answer (List (List ℕ))
+  failures_are atoms = each (path_of F (linking [])) (failure_files atoms)
+
   -- ab b, an empty word, and one that has not ended
   maximal : words_are (Put letter_a ∷ Put letter_b ∷ Break ∷ Break ∷ Put letter_b ∷ Piped ∷ Open ∷ Break ∷ End ∷ Put letter_a ∷ [])
       ≡ Is (Ok (codes "ab" ∷ codes "b" ∷ [] ∷ []))
@@ -66,6 +69,32 @@ module _ (F : Facts) where
   -- a%d b %d
   removed_once : removed_are (Put letter_a ∷ Marked AsRemoved ∷ Break ∷ Put letter_b ∷ Break ∷ Marked AsRemoved ∷ Break ∷ []) ≡ Is (Ok (codes "a" ∷ []))
   removed_once = refl
+
+  -- a%w %W{b a}: the word with its mark, and of two words the last
+  marked_then_last : failures_are (Put letter_a ∷ Marked AsOutput ∷ Break ∷ From ∷ Put letter_b ∷ Break ∷ Put letter_a ∷ Break ∷ To ∷ [])
+      ≡ Is (Ok (codes "a" ∷ codes "a" ∷ []))
+  marked_then_last = refl
+
+  -- a%W{b}, whose word began before, and a %W{}, in which none ends
+  began_before : failures_are (Put letter_a ∷ From ∷ Put letter_b ∷ Break ∷ To ∷ []) ≡ Is (Ok (codes "ab" ∷ []))
+  began_before = refl
+
+  none_inside : failures_are (Put letter_a ∷ Break ∷ From ∷ Break ∷ To ∷ []) ≡ Is (Ok [])
+  none_inside = refl
+
+  -- %W{a %W{b}}, %W{a %W{}} and %W{%W{a} b}: the inner one ends first
+  inner_words_count : failures_are (From ∷ Put letter_a ∷ Break ∷ From ∷ Put letter_b ∷ Break ∷ To ∷ Break ∷ To ∷ []) ≡ Is (Ok (codes "b" ∷ codes "b" ∷ []))
+  inner_words_count = refl
+
+  empty_inner : failures_are (From ∷ Put letter_a ∷ Break ∷ From ∷ Break ∷ To ∷ Break ∷ To ∷ []) ≡ Is (Ok (codes "a" ∷ []))
+  empty_inner = refl
+
+  word_behind_inner : failures_are (From ∷ From ∷ Put letter_a ∷ Break ∷ To ∷ Put letter_b ∷ Break ∷ To ∷ []) ≡ Is (Ok (codes "a" ∷ codes "b" ∷ []))
+  word_behind_inner = refl
+
+  -- an end of a %W that never began
+  never_began : failures_are (Put letter_a ∷ Break ∷ To ∷ []) ≡ Is (Ok [])
+  never_began = refl
 
   -- a | and b, with an empty line between them; and a, of which the command ends before the word does
   two_commands : lines_are (Put letter_a ∷ Piped ∷ Break ∷ End ∷ Break ∷ End ∷ Put letter_b ∷ Break ∷ End ∷ [])

@@ -2,6 +2,7 @@ pub mod Arguments
 pub mod AskedCalls
 pub mod ChoiceSteps
 pub mod ChoiceTurns
+pub mod CutFailures
 pub mod CutLines
 pub mod CutRows
 pub mod CutRuns

@@ -1,11 +1,11 @@
 use Rattle.drv_machine.specs.Context.{Context}
 use Rattle.drv_machine.specs.Cutting.{Line, found_file, found_script, no_line, script_option}
-use Rattle.drv_machine.specs.Working.{◌>>-◌, Answer, Atom, Break, End, FileFrom, Marked, Open, Piped, Put, Without}
+use Rattle.drv_machine.specs.Working.{◌>>-◌, Answer, Atom, Break, End, FileFrom, From, Marked, Open, Piped, Put, To, Without}
 use Rattle.drv_machine.specs.declared.machine.marking.Mark.TheVariants.{AsFile, AsOutput, AsRemoved, AsScript}
 use Rattle.drv_system.specs.Facts.{Facts}
 use Rattle.drv_system.specs.Known.{Is}
 use Rattle.std.specs.List.{filter, flat_map, list_any}
-use Rattle.std.specs.Prelude.{◌&&◌, ◌||◌, Bool, List, [], ◌∷◌, ◌++◌, Option, None, Some, Ok, false, if◌then◌else◌, not, true, ℕ}
+use Rattle.std.specs.Prelude.{◌&&◌, ◌||◌, Bool, List, [], ◌∷◌, ◌++◌, Option, None, Some, Ok, false, if◌then◌else◌, not, suc, true, zero, ℕ}
 
 -- What a list of atoms is cut into, said of the list as it stands (this project's profile). `Cutting` says it atom by atom.
 
@@ -108,13 +108,79 @@ abbrev pub if_any : {X Y : Type 0} → (X → Answer Y) → Option X → Answer 
 if_any answer None = Is (Ok None)
 if_any answer (Some x) = answer x >>- λ y. Is (Ok (Some y))
 
+-- a place of the list: the atoms before it, the nearest first, and the one there
+pub record Place : Type 0 where
+  pub before : List Atom
+  pub atom : Atom
+
+abbrev pub places_behind : List Atom → List Atom → List Place
+places_behind before [] = []
+places_behind before (atom ∷ atoms) =
+    record { before = before; atom = atom } ∷ places_behind (atom ∷ before) atoms
+
+abbrev pub places : List Atom → List Place
+places atoms = places_behind [] atoms
+
+-- the run that ends behind these atoms
+abbrev pub run_before : List Atom → List Atom
+run_before [] = []
+run_before (atom ∷ before) = if ends_word atom then [] else run_before before ++ atom ∷ []
+
+-- it is a word
+abbrev pub is_word_before : List Atom → Bool
+is_word_before before = list_any opens_word (run_before before)
+
+-- a %W begins before, that ends behind these atoms; so many, which end before, are passed
+abbrev pub has_begun : ℕ → List Atom → Bool
+has_begun passed [] = false
+has_begun zero (From ∷ before) = true
+has_begun (suc passed) (From ∷ before) = has_begun passed before
+has_begun passed (To ∷ before) = has_begun (suc passed) before
+has_begun passed (atom ∷ before) = has_begun passed before
+
+-- the last word that ends in it, if one does
+abbrev pub last_in : ℕ → List Atom → Option (List Atom)
+last_in passed [] = None
+last_in zero (From ∷ before) = None
+last_in (suc passed) (From ∷ before) = last_in passed before
+last_in passed (To ∷ before) = last_in (suc passed) before
+last_in passed (atom ∷ before) =
+    if ends_word atom && is_word_before before then Some (run_before before)
+    else last_in passed before
+
+-- none or one
+abbrev pub list_of : {X : Type 0} → Option X → List X
+list_of None = []
+list_of (Some x) = x ∷ []
+
+-- the word that ends behind these atoms, if it is marked as an output
+abbrev pub output_before : List Atom → List (List Atom)
+output_before before =
+    if is_word_before before && list_any is_output (run_before before) then run_before before ∷ []
+    else []
+
+-- The failure file of a place: where a %W ends the last word that ends in it, and where a word ends
+-- that is marked as an output that word.
+abbrev pub failure_at : Place → List (List Atom)
+failure_at place = by place.atom
+  where
+    by : Atom → List (List Atom)
+    by To = if has_begun zero place.before then list_of (last_in zero place.before) else []
+    by atom = if ends_word atom then output_before place.before else []
+
+abbrev pub failure_files : List Atom → List (List Atom)
+failure_files atoms = flat_map failure_at (places atoms)
+
 module _ (F : Facts) (C : Context) where
-  -- what a word ends as, of which its marks say whether it is looked for
+  -- what a word of these atoms ends as, of which its marks say whether it is looked for
+  abbrev pub path_of : List Atom → Answer (List ℕ)
+  path_of atoms =
+      if list_any is_script atoms then found_script F C (flat_map byte_of atoms)
+      else if list_any is_file atoms then found_file F C (flat_map byte_of atoms)
+      else Is (Ok (flat_map byte_of atoms))
+
   abbrev pub path : Run → Answer (List ℕ)
-  path word =
-      if list_any is_script word.atoms then found_script F C (flat_map byte_of word.atoms)
-      else if list_any is_file word.atoms then found_file F C (flat_map byte_of word.atoms)
-      else Is (Ok (flat_map byte_of word.atoms))
+  path word = path_of word.atoms
 
   -- the words of the command that it gives
   abbrev pub texts : Run → Answer (List (List ℕ))

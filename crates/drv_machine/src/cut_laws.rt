@@ -1,7 +1,7 @@
 //! Laws of the cut of a text. The functions do nothing: each is its contract.
 
 ghost use Rattle.drv_machine.specs.Context as specs;
-ghost use Rattle.drv_machine.specs.Cuts.{begins_file, each, has_stray_pipe, if_any, line_of, lines, open_command, output, path, removed, whether, words};
+ghost use Rattle.drv_machine.specs.Cuts.{begins_file, each, failure_files, has_stray_pipe, if_any, line_of, lines, open_command, output, path, path_of, removed, whether, words};
 ghost use Rattle.drv_machine.specs.Cutting.{Cut, all_taken, argument_words, nothing_cut};
 ghost use Rattle.drv_machine.specs.Working.{◌>>-◌, Atom, Break};
 ghost use Rattle.drv_system.specs.Facts.{Facts};
@@ -10,13 +10,17 @@ ghost use Rattle.std.specs.List.{list_any};
 ghost use Rattle.std.specs.Prelude.{◌≡◌, ◌∷◌, ◌++◌, [], List, Ok, false, ℕ};
 
 /// The law that a list of atoms is cut as the list as it stands says: the output is the last word that is
-/// marked as one and begins behind the last `%V`, the removed files are the words that are marked so, and the
+/// marked as one and begins behind the last `%V`, the removed files are the words that are marked so, the failure
+/// files are the words that are marked as outputs and of each `%W` the last word that ends in it, and the
 /// cut stops exactly where, of the words in their order, the first is not found. It takes and gives nothing.
 pub fn cut_law()
     ensures output { (F : Facts) (C : specs.Context) (atoms : List Atom) (c : Cut)
         → all_taken F C nothing_cut atoms ≡ Is (Ok c) → if_any (path F C) (output atoms) ≡ Is (Ok c.output) }
     ensures removed { (F : Facts) (C : specs.Context) (atoms : List Atom) (c : Cut)
         → all_taken F C nothing_cut atoms ≡ Is (Ok c) → each (path F C) (removed atoms) ≡ Is (Ok c.removed) }
+    ensures failures { (F : Facts) (C : specs.Context) (atoms : List Atom) (c : Cut)
+        → all_taken F C nothing_cut atoms ≡ Is (Ok c)
+        → each (path_of F C) (failure_files atoms) ≡ Is (Ok c.on_failure) }
     ensures found { (F : Facts) (C : specs.Context) (atoms : List Atom)
         → whether (all_taken F C nothing_cut atoms) ≡ whether (each (path F C) (words atoms)) }
 {}

@@ -1,3 +1,4 @@
+use Rattle.drv_machine.proofs.CutFailures.{failures_are}
 use Rattle.drv_machine.proofs.CutRuns.{each_found, output_is, removed_are}
 use Rattle.drv_machine.proofs.cut_laws.cut_law.Goals as goal
 
@@ -6,6 +7,9 @@ returns-clause-output c = output_is
 
 pub returns-clause-removed : goal.returns-clause-removed
 returns-clause-removed c = removed_are
+
+pub returns-clause-failures : goal.returns-clause-failures
+returns-clause-failures c = failures_are
 
 pub returns-clause-found : goal.returns-clause-found
 returns-clause-found c = each_found
