@@ -1,6 +1,7 @@
 //! A line that is built item by item.
 
-ghost use Rattle.drv_args.specs.Code.Building.{begun, noted, with_inputs, with_jobs, with_pieces, with_setting, with_switch};
+ghost use Rattle.drv_args.specs.Code.Building.{begun, noted, with_inputs, with_jobs, with_pieces};
+ghost use Rattle.drv_args.specs.Code.Building.{with_setting, with_switch};
 ghost use Rattle.drv_args.specs.Fronts.{item};
 ghost use Rattle.drv_args.specs.Lines.{language_of, pieces_of};
 ghost use Rattle.drv_args.specs.declared.line.Input.TheVariants as input;
@@ -9,7 +10,7 @@ ghost use Rattle.std.specs.Prelude.{◌≡◌, ◌∷◌, ◌++◌, [], IfOk, No
 
 use crate::jobs::jobs_named;
 use crate::option_table::{Effect, Setting, Tool};
-use crate::{Input, Line, Settings, Switch};
+use crate::{Expanded, Input, Line, Settings, Switch};
 use drv_words::{Listing, Word};
 use std::alloc::{AllocError, Global};
 
@@ -70,22 +71,19 @@ fn language_copy(language: &Option<Word>) -> Result<Option<Word>, AllocError>
 }
 
 impl LineBuilder {
-    /// A line without items, which has room for so many of each kind that a word can be: it grows no list of them, which
-    /// would copy each item that is in it.
-    pub(crate) fn new(
-        alloc: Global,
-        room: usize,
-        from_file: bool,
-    ) -> Result<LineBuilder, AllocError>
-        ensures { IfOk result (λ made. made ≡ begun from_file) }
+    /// A line without items, of what was expanded. It has room for so many of each kind that a word
+    /// can be, and grows no list of them, which would copy each item that is in it.
+    pub(crate) fn new(alloc: Global, expanded: &Expanded) -> Result<LineBuilder, AllocError>
+        ensures { IfOk result (λ made. made ≡ begun expanded.now.from_file) }
     {
+        let room = expanded.words.len();
         let settings = Settings {
             dry: false,
             verbose: false,
             dump: false,
             pass_codes: false,
             pipe: false,
-            from_file,
+            from_file: expanded.from_file,
             output: None,
             specs: Listing::new(alloc),
             prefixes: Listing::new(alloc),
@@ -125,7 +123,8 @@ impl LineBuilder {
         option: &[u8],
         argument: &[u8],
     ) -> Result<(), AllocError>
-        ensures { OnOk result (self.new ≡ with_switch self.old (drop 1 (option.now ++ argument.now)) None) }
+        ensures { OnOk result
+            (self.new ≡ with_switch self.old (drop 1 (option.now ++ argument.now)) None) }
     {
         self.add_switch(joined_name(alloc, option, argument)?, None)
     }
@@ -136,7 +135,8 @@ impl LineBuilder {
         option: &[u8],
         argument: &[u8],
     ) -> Result<(), AllocError>
-        ensures { OnOk result (self.new ≡ with_switch self.old (drop 1 option.now) (Some argument.now)) }
+        ensures { OnOk result
+            (self.new ≡ with_switch self.old (drop 1 option.now) (Some argument.now)) }
     {
         let name = Word::from_bytes(alloc, name_of(option))?;
         self.add_switch(name, Some(Word::from_bytes(alloc, argument)?))
@@ -151,7 +151,8 @@ impl LineBuilder {
 
     /// Adds a file with the language in force.
     fn add_file(&mut self, alloc: Global, name: &[u8]) -> Result<(), AllocError>
-        ensures { OnOk result (self.new ≡ with_inputs self.old (input.File name.now self.old.language ∷ [])) }
+        ensures { OnOk result
+            (self.new ≡ with_inputs self.old (input.File name.now self.old.language ∷ [])) }
     {
         let name = Word::from_bytes(alloc, name)?;
         let lang = language_copy(&self.language)?;
@@ -209,7 +210,8 @@ impl LineBuilder {
         setting: Setting,
         option: &[u8],
     ) -> Result<(), AllocError>
-        ensures { OnOk result (self.new ≡ noted self.old (item (given.TurnsOn setting) option.now [])) }
+        ensures { OnOk result
+            (self.new ≡ noted self.old (item (given.TurnsOn setting) option.now [])) }
     {
         self.turn_on(setting);
         if !setting.is_switch_too() {
@@ -234,7 +236,8 @@ impl LineBuilder {
         option: &[u8],
         argument: &[u8],
     ) -> Result<(), AllocError>
-        ensures { OnOk result (self.new ≡ noted self.old (item given.Prefix option.now argument.now)) }
+        ensures { OnOk result
+            (self.new ≡ noted self.old (item given.Prefix option.now argument.now)) }
     {
         let prefix = Word::from_bytes(alloc, argument)?;
         self.line.settings.prefixes.push(prefix)?;
@@ -248,7 +251,8 @@ impl LineBuilder {
         option: &[u8],
         argument: &[u8],
     ) -> Result<(), AllocError>
-        ensures { OnOk result (self.new ≡ noted self.old (item given.Output option.now argument.now)) }
+        ensures { OnOk result
+            (self.new ≡ noted self.old (item given.Output option.now argument.now)) }
     {
         self.line.settings.output = Some(Word::from_bytes(alloc, argument)?);
         self.add_switch_with(alloc, option, argument)
@@ -269,7 +273,8 @@ impl LineBuilder {
         option: &[u8],
         argument: &[u8],
     ) -> Result<(), AllocError>
-        ensures { OnOk result (self.new ≡ noted self.old (item given.Library option.now argument.now)) }
+        ensures { OnOk result
+            (self.new ≡ noted self.old (item given.Library option.now argument.now)) }
     {
         self.add_input(Input::Library(joined(alloc, option, argument)?))
     }

@@ -1,6 +1,8 @@
 //! The refusals of a whole line.
 
-ghost use Rattle.drv_args.specs.Lines.{has_many, has_switch, is_bare_stdin, is_file_input, is_file_named, is_input, is_sink, judged, line_fault, needs_language, output_fault, stops};
+ghost use Rattle.drv_args.specs.Lines.{has_many, has_switch, is_bare_stdin, is_file_input};
+ghost use Rattle.drv_args.specs.Lines.{is_file_named, is_input, is_sink, judged, line_fault};
+ghost use Rattle.drv_args.specs.Lines.{needs_language, output_fault, stops};
 ghost use Rattle.drv_args.specs.Code.Judging.{Finds};
 ghost use Rattle.drv_args.specs.declared.fault.ArgsFault.TheVariants as fault;
 ghost use Rattle.drv_words.specs.Gives.{Gives};

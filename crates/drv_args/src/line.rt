@@ -2,7 +2,8 @@
 
 use drv_words::{Listing, Word};
 
-/// A switch: the word without its first `-`, and its argument, if it takes one as a word of its own.
+/// A switch: the word without its first `-`, and its argument, if it takes one as a word of its
+/// own.
 #[derive(Debug, Drop)]
 pub struct Switch {
     pub name: Word,

@@ -164,8 +164,9 @@ const WITH_I: &[Row] = separate!(
     b"-iwithprefixbefore"
 );
 
-/// The rows whose option begins with `-` and this byte, in the order of the table (GCC manual, "Overall Options",
-/// "Directory Options", "Preprocessor Options", "Link Options"; which forms an option has is this project's profile).
+/// The rows whose option begins with `-` and this byte, in the order of the table (GCC manual,
+/// "Overall Options", "Directory Options", "Preprocessor Options", "Link Options"; which forms an
+/// option has is this project's profile).
 pub(crate) fn rows_behind(letter: u8) -> &'static [Row]
     ensures { map shown result.now ≡ filter (may_fit letter) option_table }
 {

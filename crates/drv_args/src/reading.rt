@@ -22,8 +22,8 @@ use std::alloc::Global;
 /// How many words a line may have.
 const MOST_ARGUMENTS: usize = 65536;
 
-/// Whether the last byte of an option stands in its place in a word, as it does in each word that the option fits. Most
-/// options are told from a word by it alone.
+/// Whether the last byte of an option stands in its place in a word, as it does in each word that
+/// the option fits. Most options are told from a word by it alone.
 fn may_end(option: &[u8], word: &[u8]) -> bool
     ensures { (form : Form) → form_fits form option.now word.now ≡ true → result ≡ true }
 {
@@ -192,12 +192,12 @@ fn note_words(alloc: Global, builder: &mut LineBuilder, words: &[Word]) -> Resul
 }
 
 /// Reads words into a line.
-fn read_words(alloc: Global, words: &[Word], from_file: bool) -> Result<Line, ArgsFault>
+fn read_words(alloc: Global, expanded: &Expanded) -> Result<Line, ArgsFault>
     ensures { Gives fault.Memory (λ line. line) result
-        (line_of_items from_file (items_of words.now)) }
+        (line_of_items expanded.now.from_file (items_of expanded.now.words)) }
 {
-    let mut builder = LineBuilder::new(alloc, words.len(), from_file)?;
-    note_words(alloc, &mut builder, words)?;
+    let mut builder = LineBuilder::new(alloc, expanded)?;
+    note_words(alloc, &mut builder, expanded.words.as_slice())?;
     Ok(builder.line)
 }
 
@@ -205,11 +205,10 @@ fn read_words(alloc: Global, words: &[Word], from_file: bool) -> Result<Line, Ar
 fn read_line(alloc: Global, expanded: &Expanded) -> Result<Line, ArgsFault>
     ensures { Gives fault.Memory (λ line. line) result (line_read expanded.now) }
 {
-    let words = expanded.words.as_slice();
-    if words.len() > MOST_ARGUMENTS {
+    if expanded.words.len() > MOST_ARGUMENTS {
         return Err(ArgsFault::TooManyArguments);
     }
-    let line = read_words(alloc, words, expanded.from_file)?;
+    let line = read_words(alloc, expanded)?;
     judge(line)
 }
 

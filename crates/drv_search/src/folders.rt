@@ -1,6 +1,7 @@
 //! The folders of libraries.
 
-ghost use Rattle.drv_search.specs.Search.{folder_options, folders_under, is_dir, machine_folder, options_for, without_slash};
+ghost use Rattle.drv_search.specs.Search.{folder_options, folders_under, is_dir, machine_folder};
+ghost use Rattle.drv_search.specs.Search.{options_for, without_slash};
 ghost use Rattle.drv_search.specs.Code.Telling.{TellsMore};
 ghost use Rattle.drv_system.specs.Asking.{Asks, Extends};
 ghost use Rattle.drv_system.specs.Facts.{Facts};
@@ -49,7 +50,8 @@ fn push_if_folder<S: System>(
     facts: &mut FactTable,
 ) -> Result<(), AllocError>
     ensures asks { Asks (S.events sys.old) (S.events sys.new) facts.old facts.new }
-    ensures option { TellsMore facts.new result (λ F. options_for F (path.now ∷ [])) options.old options.new }
+    ensures option { TellsMore facts.new result (λ F. options_for F (path.now ∷ []))
+        options.old options.new }
 {
     let kind = facts.kind(sys, path)?;
     if !is_dir(kind) {
@@ -68,7 +70,8 @@ fn push_option<S: System>(
     facts: &mut FactTable,
 ) -> Result<(), AllocError>
     ensures asks { Asks (S.events sys.old) (S.events sys.new) facts.old facts.new }
-    ensures option { TellsMore facts.new result (λ F. options_for F (without_slash path.now ∷ [])) options.old options.new }
+    ensures option { TellsMore facts.new result (λ F. options_for F (without_slash path.now ∷ []))
+        options.old options.new }
 {
     let folder = Word::from_bytes(alloc, without_slash(path))?;
     push_if_folder(alloc, options, &folder, sys, facts)
@@ -83,7 +86,9 @@ fn push_machine_option<S: System>(
     facts: &mut FactTable,
 ) -> Result<(), AllocError>
     ensures asks { Asks (S.events sys.old) (S.events sys.new) facts.old facts.new }
-    ensures option { TellsMore facts.new result (λ F. options_for F (without_slash (prefix.now ++ machine_folder) ∷ [])) options.old options.new }
+    ensures option { TellsMore facts.new result
+        (λ F. options_for F (without_slash (prefix.now ++ machine_folder) ∷ []))
+        options.old options.new }
 {
     let machine = machine_folder_under(alloc, prefix)?;
     push_option(alloc, options, machine.as_bytes(), sys, facts)
@@ -99,7 +104,8 @@ fn push_options<S: System>(
     facts: &mut FactTable,
 ) -> Result<(), AllocError>
     ensures asks { Asks (S.events sys.old) (S.events sys.new) facts.old facts.new }
-    ensures options { TellsMore facts.new result (λ F. options_for F (folders_under prefix.now)) options.old options.new }
+    ensures options { TellsMore facts.new result (λ F. options_for F (folders_under prefix.now))
+        options.old options.new }
 {
     push_machine_option(alloc, options, prefix, sys, facts)?;
     if !ends_with_slash(prefix) {
@@ -118,7 +124,8 @@ fn push_all<S: System>(
     facts: &mut FactTable,
 ) -> Result<(), AllocError>
     ensures asks { Asks (S.events sys.old) (S.events sys.new) facts.old facts.new }
-    ensures options { TellsMore facts.new result (λ F. options_for F (flat_map folders_under prefixes.now)) options.old options.new }
+    ensures options { TellsMore facts.new result
+        (λ F. options_for F (flat_map folders_under prefixes.now)) options.old options.new }
 {
     for prefix in prefixes {
         push_options(alloc, options, prefix.as_bytes(), sys, facts)?;
@@ -126,8 +133,8 @@ fn push_all<S: System>(
     Ok(())
 }
 
-/// The options `-L` for the folders of libraries: under each prefix the machine's folder, and the prefix itself where
-/// it ends with a slash. Want of memory is the only error.
+/// The options `-L` for the folders of libraries: under each prefix the machine's folder, and the
+/// prefix itself where it ends with a slash. Want of memory is the only error.
 #[tactic(auto, using(crate::proofs::Options::all_options))]
 pub fn dir_options<S: System>(
     alloc: Global,
@@ -136,7 +143,8 @@ pub fn dir_options<S: System>(
     facts: &mut FactTable,
 ) -> Result<Listing<Word>, AllocError>
     ensures asks { Asks (S.events sys.old) (S.events sys.new) facts.old facts.new }
-    ensures options { (F : Facts) → Extends facts.new F → IfOk result (λ options. folder_options F prefixes.now ≡ Is options) }
+    ensures options { (F : Facts) → Extends facts.new F
+        → IfOk result (λ options. folder_options F prefixes.now ≡ Is options) }
 {
     let mut options = Listing::new(alloc);
     let libraries = prefixes.libraries.as_slice();

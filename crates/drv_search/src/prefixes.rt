@@ -1,6 +1,8 @@
 //! The prefixes of a search: those of `-B`, and the folders behind them.
 
-ghost use Rattle.drv_search.specs.Search.{as_prefix, ends_with_slash, given_of, is_prefix, library_folders, machine_folder, prefix_of, prefixes_of, program_folders};
+ghost use Rattle.drv_search.specs.Search.{as_prefix, ends_with_slash, given_of, is_prefix};
+ghost use Rattle.drv_search.specs.Search.{library_folders, machine_folder, prefix_of, prefixes_of};
+ghost use Rattle.drv_search.specs.Search.{program_folders};
 ghost use Rattle.drv_search.specs.Code.Telling.{Tells};
 ghost use Rattle.drv_system.specs.Asking.{Asks, Extends};
 ghost use Rattle.drv_system.specs.Facts.{Facts};
@@ -110,7 +112,8 @@ fn with_folders(
     given: &[Word],
     folders: &[&[u8]],
 ) -> Result<Listing<Word>, AllocError>
-    ensures { IfOk result (λ prefixes. prefixes ≡ given.now ++ map (λ folder. folder.now) folders.now) }
+    ensures { IfOk result
+        (λ prefixes. prefixes ≡ given.now ++ map (λ folder. folder.now) folders.now) }
 {
     let mut prefixes = Listing::new(alloc);
     for prefix in given {
@@ -121,8 +124,8 @@ fn with_folders(
 }
 
 impl Prefixes {
-    /// Where names are looked for with these arguments of `-B`: one that is a folder gets the slash that it lacks. Want
-    /// of memory is the only error.
+    /// Where names are looked for with these arguments of `-B`: one that is a folder gets the slash
+    /// that it lacks. Want of memory is the only error.
     #[tactic(auto, using(crate::proofs::Candidates::prefixes_made))]
     pub fn new<S: System>(
         alloc: Global,
@@ -131,7 +134,8 @@ impl Prefixes {
         facts: &mut FactTable,
     ) -> Result<Prefixes, AllocError>
         ensures asks { Asks (S.events sys.old) (S.events sys.new) facts.old facts.new }
-        ensures prefixes { (F : Facts) → Extends facts.new F → IfOk result (λ made. prefixes_of F dirs.now ≡ Is made) }
+        ensures prefixes { (F : Facts) → Extends facts.new F
+            → IfOk result (λ made. prefixes_of F dirs.now ≡ Is made) }
     {
         let given = given_prefixes(alloc, dirs, sys, facts)?;
         let programs = with_folders(alloc, given.as_slice(), program_folders())?;

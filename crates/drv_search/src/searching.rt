@@ -1,6 +1,8 @@
 //! Programs, files and linker scripts looked for.
 
-ghost use Rattle.drv_search.specs.Search.{candidates, candidates_under, file_found, found, found_or_name, is_plain, is_searched, machine_folder, program_found, script_found};
+ghost use Rattle.drv_search.specs.Search.{candidates, candidates_under, file_found, found};
+ghost use Rattle.drv_search.specs.Search.{found_or_name, is_plain, is_searched, machine_folder};
+ghost use Rattle.drv_search.specs.Search.{program_found, script_found};
 ghost use Rattle.drv_search.specs.Code.Telling.{Tells};
 ghost use Rattle.drv_search.specs.declared.fault.SearchFault.TheVariants as fault;
 ghost use Rattle.drv_system.specs.Asking.{Asks, Extends};
@@ -64,7 +66,8 @@ fn machine_hit<S: System>(
     facts: &mut FactTable,
 ) -> Result<Option<Word>, AllocError>
     ensures asks { Asks (S.events sys.old) (S.events sys.new) facts.old facts.new }
-    ensures hit { Tells facts.new result (λ F. found F ((prefix.now ++ machine_folder ++ name.now) ∷ [])) }
+    ensures hit { Tells facts.new result
+        (λ F. found F ((prefix.now ++ machine_folder ++ name.now) ∷ [])) }
 {
     let path = machine_path(alloc, prefix, name)?;
     plain_at(path, sys, facts)
@@ -157,8 +160,9 @@ fn found_or_name<S: System>(
     }
 }
 
-/// The program of that name: the first plain file among its places. A name that is empty, has a slash or isn't found
-/// is answered as it is (GCC manual, "Directory Options", -B). Want of memory is the only error.
+/// The program of that name: the first plain file among its places. A name that is empty, has a
+/// slash or isn't found is answered as it is (GCC manual, "Directory Options", -B). Want of memory
+/// is the only error.
 pub fn find_program<S: System>(
     alloc: Global,
     prefixes: &Prefixes,
@@ -167,13 +171,15 @@ pub fn find_program<S: System>(
     facts: &mut FactTable,
 ) -> Result<Word, AllocError>
     ensures asks { Asks (S.events sys.old) (S.events sys.new) facts.old facts.new }
-    ensures path { (F : Facts) → Extends facts.new F → IfOk result (λ path. program_found F prefixes.now name.now ≡ Is path) }
+    ensures path { (F : Facts) → Extends facts.new F
+        → IfOk result (λ path. program_found F prefixes.now name.now ≡ Is path) }
 {
     found_or_name(alloc, prefixes.programs.as_slice(), name, sys, facts)
 }
 
-/// The file of that name, of the linker or of specs: the first plain file among its places. A name that is empty, has
-/// a slash or isn't found is answered as it is. Want of memory is the only error.
+/// The file of that name, of the linker or of specs: the first plain file among its places. A name
+/// that is empty, has a slash or isn't found is answered as it is. Want of memory is the only
+/// error.
 pub fn find_file<S: System>(
     alloc: Global,
     prefixes: &Prefixes,
@@ -182,12 +188,14 @@ pub fn find_file<S: System>(
     facts: &mut FactTable,
 ) -> Result<Word, AllocError>
     ensures asks { Asks (S.events sys.old) (S.events sys.new) facts.old facts.new }
-    ensures path { (F : Facts) → Extends facts.new F → IfOk result (λ path. file_found F prefixes.now name.now ≡ Is path) }
+    ensures path { (F : Facts) → Extends facts.new F
+        → IfOk result (λ path. file_found F prefixes.now name.now ≡ Is path) }
 {
     found_or_name(alloc, prefixes.libraries.as_slice(), name, sys, facts)
 }
 
-/// The linker script of that name: one with a slash if it is a plain file, any other where it is found.
+/// The linker script of that name: one with a slash if it is a plain file, any other where it is
+/// found.
 ///
 /// # Errors
 /// `ScriptMissing` with the name, where there is none.
@@ -199,7 +207,8 @@ pub fn find_script<S: System>(
     facts: &mut FactTable,
 ) -> Result<Word, SearchFault>
     ensures asks { Asks (S.events sys.old) (S.events sys.new) facts.old facts.new }
-    ensures path { (F : Facts) → Extends facts.new F → GivesKnown fault.Memory (λ path. path) result (script_found F prefixes.now name.now) }
+    ensures path { (F : Facts) → Extends facts.new F
+        → GivesKnown fault.Memory (λ path. path) result (script_found F prefixes.now name.now) }
 {
     let hit = if has_slash(name.as_bytes()) {
         plain_at(name.clone()?, sys, facts)?

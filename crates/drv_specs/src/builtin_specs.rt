@@ -1,7 +1,8 @@
 //! The built-in specs.
 
 ghost use Rattle.drv_specs.specs.Builtin.{builtin_named, builtin_pairs, builtin_specs};
-ghost use Rattle.drv_specs.specs.Code.Tables.{IsNamedRow, IsPairRow, IsWritten, all_added, all_put, named_shown, pair_shown, text_shown};
+ghost use Rattle.drv_specs.specs.Code.Tables.{IsNamedRow, IsPairRow, IsWritten, all_added, all_put};
+ghost use Rattle.drv_specs.specs.Code.Tables.{named_shown, pair_shown, text_shown};
 ghost use Rattle.drv_specs.specs.Sets.{with_named, with_pair};
 ghost use Rattle.std.specs.List.{All, AllByRecursion};
 ghost use Rattle.std.specs.Prelude.{◌≡◌, IfOk, OnOk, map};
@@ -124,7 +125,8 @@ fn builtin_entries(alloc: Global) -> Result<Entries, AllocError>
     Ok(entries)
 }
 
-/// The built-in specs (GCC manual, "Spec Files"), with their trees. Want of memory is the only error.
+/// The built-in specs (GCC manual, "Spec Files"), with their trees. Want of memory is the only
+/// error.
 pub fn builtin(alloc: Global) -> Result<SpecSet, AllocError>
     ensures { IfOk result (λ set. set ≡ builtin_specs) }
 {

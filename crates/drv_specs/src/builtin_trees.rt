@@ -3,7 +3,8 @@
 use crate::builtin_specs::{Named, Pair, PairText};
 use drv_syntax::{Leaf, Mark, TempKind, TestKind, Token, TokenKind, WrittenTree};
 
-/// The tokens of a tree: each what it is, where it begins and ends, and the place of the first one that isn't inside it.
+/// The tokens of a tree: each what it is, where it begins and ends, and the place of the first one
+/// that isn't inside it.
 macro_rules! tokens {
     ($($kind:ident $(($of:ident :: $one:ident))? $start:literal $end:literal $next:literal),*) => {
         &[$(Token {
@@ -15,7 +16,8 @@ macro_rules! tokens {
     };
 }
 
-/// The marks of a tree: each where its word begins and ends, whether a star stands behind it, and a `!` before it.
+/// The marks of a tree: each where its word begins and ends, whether a star stands behind it, and a
+/// `!` before it.
 macro_rules! marks {
     ($($start:literal $end:literal $starred:literal $negated:literal),*) => {
         &[$(Mark {

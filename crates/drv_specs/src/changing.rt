@@ -2,7 +2,11 @@
 
 ghost use Rattle.drv_specs.specs.Loading.{change};
 ghost use Rattle.drv_specs.specs.Code.Slices.{shown};
-ghost use Rattle.drv_specs.specs.Sets.{append, appended_text, begins_with_at, by_tree, is_alias, is_key, is_key_byte, is_key_text, is_name, is_name_byte, is_no_text, is_not_installed, is_sized, pair_text, put, Set, with_body, with_name, with_pair_body, with_pair_text, with_text};
+ghost use Rattle.drv_specs.specs.Sets.{append, appended_text, begins_with_at, by_tree, is_alias};
+ghost use Rattle.drv_specs.specs.Sets.{is_key, is_key_byte, is_key_text, is_name, is_name_byte};
+ghost use Rattle.drv_specs.specs.Sets.{is_no_text, is_not_installed, is_sized, pair_text, put, Set};
+ghost use Rattle.drv_specs.specs.Sets.{with_body, with_name, with_pair_body, with_pair_text};
+ghost use Rattle.drv_specs.specs.Sets.{with_text};
 ghost use Rattle.drv_specs.specs.Blanks.{is_white};
 ghost use Rattle.drv_specs.specs.declared.fault.SpecsFault.TheVariants as fault;
 ghost use Rattle.drv_syntax.specs.Outcome.{parsed};
@@ -128,7 +132,8 @@ fn pair_text(body: &[u8]) -> &[u8]
 /// The tree of a text, which is refused if it has none.
 #[tactic(auto, using(crate::proofs::TreeChecks::tree_given, crate::proofs::TreeChecks::tree_refused))]
 fn parsed_text(alloc: Global, name: &[u8], text: &[u8]) -> Result<Text, SpecsFault>
-    ensures tree { (set : Set) → Gives fault.Memory (λ _. set) result (by_tree name.now set (parsed text.now)) }
+    ensures tree { (set : Set) → Gives fault.Memory (λ _. set) result
+        (by_tree name.now set (parsed text.now)) }
     ensures text { IfOk result (λ parsed. parsed ≡ text.now) }
 {
     match parse(alloc, text) {
@@ -144,7 +149,8 @@ fn parsed_text(alloc: Global, name: &[u8], text: &[u8]) -> Result<Text, SpecsFau
 /// A text with more behind it, which is refused if that has no tree.
 #[tactic(auto, using(crate::proofs::TreeChecks::tree_given, crate::proofs::TreeChecks::tree_refused))]
 fn extended_text(alloc: Global, name: &[u8], text: Text, more: &[u8]) -> Result<Text, SpecsFault>
-    ensures tree { (set : Set) → Gives fault.Memory (λ _. set) result (by_tree name.now set (parsed (text ++ more.now))) }
+    ensures tree { (set : Set) → Gives fault.Memory (λ _. set) result
+        (by_tree name.now set (parsed (text ++ more.now))) }
     ensures text { IfOk result (λ whole. whole ≡ text ++ more.now) }
 {
     match text.extended(alloc, more) {
@@ -164,7 +170,8 @@ fn appended_text(
     text: Option<Text>,
     addition: &[u8],
 ) -> Result<Text, SpecsFault>
-    ensures tree { (set : Set) → Gives fault.Memory (λ _. set) result (by_tree name.now set (parsed (appended_text text addition.now))) }
+    ensures tree { (set : Set) → Gives fault.Memory (λ _. set) result
+        (by_tree name.now set (parsed (appended_text text addition.now))) }
     ensures text { IfOk result (λ whole. whole ≡ appended_text text addition.now) }
 {
     match text {
@@ -188,7 +195,8 @@ impl Entries {
 
     /// Adds to a text.
     fn append(&mut self, name: &[u8], addition: &[u8]) -> Result<(), SpecsFault>
-        ensures { Gives fault.Memory (λ _. self.new) result (append self.old name.now addition.now) }
+        ensures { Gives fault.Memory (λ _. self.new) result
+            (append self.old name.now addition.now) }
     {
         if is_all_white(addition) {
             return Ok(());
@@ -228,7 +236,8 @@ impl Entries {
 
     /// Adds a pair of this text.
     pub(crate) fn add_pair_text(&mut self, key: &[u8], text: &[u8]) -> Result<(), SpecsFault>
-        ensures { Gives fault.Memory (λ _. self.new) result (with_pair_text self.old key.now text.now) }
+        ensures { Gives fault.Memory (λ _. self.new) result
+            (with_pair_text self.old key.now text.now) }
     {
         if ends_with_backslash(text) {
             return Err(SpecsFault::TrailingBackslash(self.word(key)?));
@@ -247,7 +256,8 @@ impl Entries {
 
     /// Carries out a key with its body.
     fn add_pair(&mut self, key: &[u8], body: &[u8]) -> Result<(), SpecsFault>
-        ensures { Gives fault.Memory (λ _. self.new) result (with_pair_body self.old key.now body.now) }
+        ensures { Gives fault.Memory (λ _. self.new) result
+            (with_pair_body self.old key.now body.now) }
     {
         if !is_key(key) {
             return Err(SpecsFault::BadName(self.word(key)?));
@@ -280,7 +290,8 @@ impl Entries {
 
     /// Carries out a directive that reads no file.
     pub(crate) fn change(&mut self, directive: Directive<'_>) -> Result<(), SpecsFault>
-        ensures { Gives fault.Memory (λ _. self.new) result (change self.old (shown directive.entry)) }
+        ensures { Gives fault.Memory (λ _. self.new) result
+            (change self.old (shown directive.entry)) }
     {
         match directive {
             Directive::Text { name, body } => self.put_text(name, body),

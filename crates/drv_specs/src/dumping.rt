@@ -37,7 +37,8 @@ fn push_named(dump: &mut Word, name: &[u8], text: &[u8]) -> Result<(), AllocErro
 
 /// Adds the named texts.
 fn push_texts(dump: &mut Word, named: &IndexMap<Vec<u8>, Text>) -> Result<(), AllocError>
-    ensures { OnOk result (dump.new ≡ dump.old ++ flat_map named_text (entries_of named.now.entries)) }
+    ensures { OnOk result
+        (dump.new ≡ dump.old ++ flat_map named_text (entries_of named.now.entries)) }
 {
     for (name, text) in named.iter() {
         push_named(dump, name.as_slice(), text.tree().text())?;
@@ -66,12 +67,14 @@ fn dump_of(entries: &Entries) -> Result<Word, AllocError>
 }
 
 impl SpecSet {
-    /// The text of the set: its named texts and then its pairs, each with its name and a colon on a line before it and
-    /// an empty line behind it (GCC manual, "-dumpspecs"). Loaded into the empty set it gives this set again, unless a
-    /// named text begins with `+` and a blank. Want of memory is the only error.
+    /// The text of the set: its named texts and then its pairs, each with its name and a colon on a
+    /// line before it and an empty line behind it (GCC manual, "-dumpspecs"). Loaded into the empty
+    /// set it gives this set again, unless a named text begins with `+` and a blank. Want of memory
+    /// is the only error.
     pub fn dump(&self) -> Result<Word, AllocError>
         ensures text { IfOk result (λ text. text ≡ dumped self.now) }
-        ensures reloads { Plain self.now → (F : Facts) (prefixes : Prefixes) → IfOk result (λ text. loaded F prefixes no_specs text ≡ Is (Ok self.now)) }
+        ensures reloads { Plain self.now → (F : Facts) (prefixes : Prefixes)
+            → IfOk result (λ text. loaded F prefixes no_specs text ≡ Is (Ok self.now)) }
     {
         dump_of(&self.entries)
     }

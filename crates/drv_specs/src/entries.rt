@@ -1,11 +1,13 @@
 //! Named texts and suffix pairs, as the directives of a file change them.
 
 ghost use Rattle.drv_specs.specs.Code.Keyed.{entries_of};
-ghost use Rattle.drv_specs.specs.Sets.{deleted, no_specs, text_of, with_named, with_pair, worked_text};
+ghost use Rattle.drv_specs.specs.Sets.{deleted, no_specs, text_of, with_named, with_pair};
+ghost use Rattle.drv_specs.specs.Sets.{worked_text};
 ghost use Rattle.std.specs.Cmp.Lexicographic.{pointwise};
 ghost use Rattle.std.specs.Map.{set_key};
 ghost use Rattle.std.specs.Option.{option_map};
-ghost use Rattle.std.specs.Prelude.{◌≡◌, [], IfOk, None, OnOk, is_some, nat_eq, option_and_then, slice_get};
+ghost use Rattle.std.specs.Prelude.{◌≡◌, [], IfOk, None, OnOk, is_some, nat_eq, option_and_then};
+ghost use Rattle.std.specs.Prelude.{slice_get};
 
 use crate::text::Text;
 use drv_syntax::SpecTree;
@@ -14,7 +16,8 @@ use indexmap::IndexMap;
 use std::alloc::{AllocError, Global};
 use std::marker::Model;
 
-/// Named texts in order, and suffix pairs in order with the tree of each text that is worked. Contracts see the two lists.
+/// Named texts in order, and suffix pairs in order with the tree of each text that is worked.
+/// Contracts see the two lists.
 #[derive(Drop)]
 pub(crate) struct Entries {
     alloc: Global,
@@ -122,7 +125,8 @@ impl Entries {
 
     /// The text of the pair at a place, where it is one that is worked.
     pub(crate) fn pair_text(&self, place: usize) -> Option<&Text>
-        ensures { option_map (λ text. text.now) result ≡ option_and_then worked_text (slice_get self.now.pairs place) }
+        ensures { option_map (λ text. text.now) result
+            ≡ option_and_then worked_text (slice_get self.now.pairs place) }
     {
         match self.trees.get(place) {
             Some(Some(text)) => Some(text),
@@ -188,10 +192,13 @@ impl Entries {
         })
     }
 
-    /// Gives a text a new name, in its place: under the new name it goes last, and from there to the place of the old one.
+    /// Gives a text a new name, in its place: under the new name it goes last, and from there to
+    /// the place of the old one.
     pub(crate) fn rename(&mut self, old: &[u8], new: &[u8]) -> Result<(), AllocError>
         requires { text_of self.old new.now ≡ None }
-        ensures { OnOk result (self.new ≡ record self.old { named = set_key (pointwise nat_eq old.now) self.old.named new.now }) }
+        ensures { OnOk result (self.new ≡ record self.old {
+          named = set_key (pointwise nat_eq old.now) self.old.named new.now;
+        }) }
     {
         let Some(text) = self.named.get(old) else {
             return Ok(());

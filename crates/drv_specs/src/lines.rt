@@ -2,11 +2,13 @@
 
 ghost use Rattle.drv_specs.specs.Directives.{body_lines, read_lines};
 ghost use Rattle.drv_specs.specs.Lines.{ends_line, is_empty_line, words_of};
-ghost use Rattle.drv_specs.specs.Code.Slices.{bytes_from, directives_left, lines_left, size_left, text_left};
+ghost use Rattle.drv_specs.specs.Code.Slices.{bytes_from, directives_left, lines_left, size_left};
+ghost use Rattle.drv_specs.specs.Code.Slices.{text_left};
 ghost use Rattle.drv_words.specs.Bytes.{newline};
 ghost use Rattle.std.specs.List.{join_with_byte, list_all};
 ghost use Rattle.std.specs.Option.{option_map};
-ghost use Rattle.std.specs.Prelude.{◌≡◌, ◌<◌, ◌≤◌, ◌^◌, ◌+◌, ◌∷◌, ◌++◌, [], IfNone, IfSome, drop, false, length, not, take, true, ℕ};
+ghost use Rattle.std.specs.Prelude.{◌≡◌, ◌<◌, ◌≤◌, ◌^◌, ◌+◌, ◌∷◌, ◌++◌, [], IfNone, IfSome, drop};
+ghost use Rattle.std.specs.Prelude.{false, length, not, take, true, ℕ};
 
 use crate::bytes::{behind, has_byte, is_empty_line, without_blanks};
 use bstr::ByteSlice;

@@ -1,7 +1,8 @@
 //! Spec files loaded.
 
 ghost use Rattle.drv_specs.specs.Directives.{read_settled};
-ghost use Rattle.drv_specs.specs.Loading.{all_carried, file_loaded, including, loaded, text_read, worked};
+ghost use Rattle.drv_specs.specs.Loading.{all_carried, file_loaded, including, loaded, text_read};
+ghost use Rattle.drv_specs.specs.Loading.{worked};
 ghost use Rattle.drv_specs.specs.Code.Slices.{IsSettled, read_left, settled_file};
 ghost use Rattle.drv_specs.specs.declared.fault.SpecsFault.TheVariants as fault;
 ghost use Rattle.drv_system.specs.Asking.{Asks, Extends};

@@ -1,10 +1,13 @@
 //! The directives of a settled text, one after another.
 
-ghost use Rattle.drv_specs.specs.Directives.{body_lines, by_colon, by_key, by_keyword, first_line, included, is_colon, read_lines, read_settled, renamed};
+ghost use Rattle.drv_specs.specs.Directives.{body_lines, by_colon, by_key, by_keyword, first_line};
+ghost use Rattle.drv_specs.specs.Directives.{included, is_colon, read_lines, read_settled, renamed};
 ghost use Rattle.drv_specs.specs.Lines.{ends_line, lines_of, words_of};
-ghost use Rattle.drv_specs.specs.Code.Slices.{Ends, bytes_from, directives_left, found, is_keyword, is_passed, lines_left, shown, size_left, text_left};
+ghost use Rattle.drv_specs.specs.Code.Slices.{Ends, bytes_from, directives_left, found, is_keyword};
+ghost use Rattle.drv_specs.specs.Code.Slices.{is_passed, lines_left, shown, size_left, text_left};
 ghost use Rattle.std.specs.List.{list_all, position};
-ghost use Rattle.std.specs.Prelude.{◌≡◌, ◌<◌, ◌≤◌, ◌^◌, ◌+◌, ◌-◌, ◌∷◌, ◌++◌, [], IfNone, false, length, not, true};
+ghost use Rattle.std.specs.Prelude.{◌≡◌, ◌<◌, ◌≤◌, ◌^◌, ◌+◌, ◌-◌, ◌∷◌, ◌++◌, [], IfNone, false};
+ghost use Rattle.std.specs.Prelude.{length, not, true};
 
 use crate::bytes::{behind, has_byte, trimmed, without_blanks, without_last};
 use crate::directive::{Directive, IfMissing};

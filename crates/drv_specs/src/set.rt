@@ -10,7 +10,8 @@ use drv_words::Word;
 use std::alloc::Global;
 use std::marker::Model;
 
-/// Named texts in order and suffix pairs in order, each text that is worked with its tree. Contracts see the two lists.
+/// Named texts in order and suffix pairs in order, each text that is worked with its tree.
+/// Contracts see the two lists.
 pub struct SpecSet {
     pub(crate) entries: Entries,
 }
@@ -70,10 +71,11 @@ impl SpecSet {
         self.entries.pairs()
     }
 
-    /// The text of the pair at a place, with its tree, unless it is an alias or says that a language isn't installed. It
-    /// takes no memory.
+    /// The text of the pair at a place, with its tree, unless it is an alias or says that a
+    /// language isn't installed. It takes no memory.
     pub fn pair_tree(&self, place: usize) -> Option<&SpecTree>
-        ensures { option_map (λ tree. tree.now) result ≡ option_and_then worked_text (slice_get self.now.pairs place) }
+        ensures { option_map (λ tree. tree.now) result
+            ≡ option_and_then worked_text (slice_get self.now.pairs place) }
     {
         match self.entries.pair_text(place) {
             Some(text) => Some(text.tree()),

@@ -21,7 +21,8 @@ pub(crate) fn joined(alloc: Global, front: &[u8], back: &[u8]) -> Result<Word, A
     Ok(text)
 }
 
-/// The tree of a text with more behind it. Where no other text shares the tree of the first, that one is read on.
+/// The tree of a text with more behind it. Where no other text shares the tree of the first, that
+/// one is read on.
 fn extended_tree(alloc: Global, shared: Rc<SpecTree>, more: &[u8]) -> Result<SpecTree, SyntaxFault>
     ensures tree { Gives syntax.Memory tree_of result (parsed (shared.value ++ more.now)) }
     ensures text { IfOk result (λ tree. tree ≡ shared.value ++ more.now) }

@@ -7,10 +7,13 @@ use Rattle.std.proofs.Common.{◌≡◌, ◌∙◌, ap, rules, sym}
 
 pub returns-in_err-note_words : goal.returns-in_err-note_words
 returns-in_err-note_words c =
-    let e : line_with c.in_ok-builder.builder (items_of c.args.words.now) ≡ line_of_items c.args.from_file (items_of c.args.words.now) =
-    ap (λ b. line_with b (items_of c.args.words.now)) c.in_ok-builder.ensures ∙ first_line c.args.from_file (items_of c.args.words.now) in
+    let e : line_with c.in_ok-builder.builder (items_of c.as_slice.result.now) ≡ line_of_items c.args.expanded.now.from_file (items_of c.args.expanded.now.words) =
+    ap (λ words. line_with c.in_ok-builder.builder (items_of words)) c.as_slice.ensures
+    ∙ ap (λ b. line_with b (items_of c.args.expanded.now.words)) c.in_ok-builder.ensures ∙ first_line c.args.expanded.now.from_file (items_of c.args.expanded.now.words) in
     rw (← e) (search rules)
 
 pub returns : goal.returns
 returns c =
-    sym (first_line c.args.from_file (items_of c.args.words.now)) ∙ ap (λ b. line_with b (items_of c.args.words.now)) (sym c.in_ok-builder.ensures) ∙ c.in_ok-note_words.ensures
+    sym (first_line c.args.expanded.now.from_file (items_of c.args.expanded.now.words))
+    ∙ ap (λ b. line_with b (items_of c.args.expanded.now.words)) (sym c.in_ok-builder.ensures)
+    ∙ ap (λ words. line_with c.in_ok-builder.builder (items_of words)) (sym c.as_slice.ensures) ∙ c.in_ok-note_words.ensures
