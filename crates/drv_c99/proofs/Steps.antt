@@ -4,6 +4,8 @@ use Rattle.drv_c99.specs.declared.building.Front.{Front}
 use Rattle.drv_c99.specs.declared.fault.C99Fault.TheVariants.{Memory}
 use Rattle.drv_c99.specs.declared.fault.C99Fault.{C99Fault}
 use Rattle.drv_c99.specs.declared.option.Taking.{Taking}
+use Rattle.drv_c99.specs.declared.option.Part.TheVariants.{BehindEnd}
+use Rattle.drv_c99.specs.declared.option.Part.{Part}
 use Rattle.drv_words.specs.Gives.{Gives}
 use Rattle.std.specs.Prelude.{IsErrAnd}
 use Rattle.std.proofs.Common.{◌≡◌, ◌⊎◌, ◌≤◌, ◌-◌, Bool, inl, inr, List, arith, drop, get_or, length, take, [], ◌∷◌, ◌++◌, Err, Ok, Result, ap, append_assoc, false, refl, sym, true, ◌∙◌, ℕ}
@@ -14,24 +16,24 @@ use Rattle.std.proofs.lemmas.List.{append-nil, take_all}
 
 -- What the first word comes to, by how it begins.
 
-flag_first : (ended : Bool) (w : List ℕ) (words : List (List ℕ)) → start_of ended w ≡ Flag → items_of ended (w ∷ words) ≡ and_items (Ok (Passed (w ∷ []))) (items_of ended words)
-flag_first ended w [] starts = ap (λ s. at_last s w) starts
-flag_first ended w (n ∷ words) starts = ap (λ s. at_word s w n (items_of ended (n ∷ words)) (items_of ended words) (items_of true (n ∷ words))) starts
+flag_first : (part : Part) (w : List ℕ) (words : List (List ℕ)) → start_of part w ≡ Flag → items_of part (w ∷ words) ≡ and_items (Ok (Passed (w ∷ []))) (items_of part words)
+flag_first part w [] starts = ap (λ s. at_last s w) starts
+flag_first part w (n ∷ words) starts = ap (λ s. at_word s w n (items_of part (n ∷ words)) (items_of part words) (items_of BehindEnd (n ∷ words))) starts
 
-names_first : (ended : Bool) (prefix w : List ℕ) (words : List (List ℕ)) → start_of ended w ≡ Names prefix → items_of ended (w ∷ words) ≡ and_items (Ok (Operand (prefix ++ w))) (items_of ended words)
-names_first ended prefix w [] starts = ap (λ s. at_last s w) starts
-names_first ended prefix w (n ∷ words) starts = ap (λ s. at_word s w n (items_of ended (n ∷ words)) (items_of ended words) (items_of true (n ∷ words))) starts
+names_first : (part : Part) (prefix w : List ℕ) (words : List (List ℕ)) → start_of part w ≡ Names prefix → items_of part (w ∷ words) ≡ and_items (Ok (Operand (prefix ++ w))) (items_of part words)
+names_first part prefix w [] starts = ap (λ s. at_last s w) starts
+names_first part prefix w (n ∷ words) starts = ap (λ s. at_word s w n (items_of part (n ∷ words)) (items_of part words) (items_of BehindEnd (n ∷ words))) starts
 
-joined_first : (ended : Bool) (option : Taking) (argument w : List ℕ) (words : List (List ℕ)) → start_of ended w ≡ Joined option argument → items_of ended (w ∷ words) ≡ and_items (given option argument) (items_of ended words)
-joined_first ended option argument w [] starts = ap (λ s. at_last s w) starts
-joined_first ended option argument w (n ∷ words) starts = ap (λ s. at_word s w n (items_of ended (n ∷ words)) (items_of ended words) (items_of true (n ∷ words))) starts
+joined_first : (part : Part) (option : Taking) (argument w : List ℕ) (words : List (List ℕ)) → start_of part w ≡ Joined option argument → items_of part (w ∷ words) ≡ and_items (given option argument) (items_of part words)
+joined_first part option argument w [] starts = ap (λ s. at_last s w) starts
+joined_first part option argument w (n ∷ words) starts = ap (λ s. at_word s w n (items_of part (n ∷ words)) (items_of part words) (items_of BehindEnd (n ∷ words))) starts
 
-wants_first : (ended : Bool) (option : Taking) (w n : List ℕ) (words : List (List ℕ)) → start_of ended w ≡ Wants option → items_of ended (w ∷ n ∷ words) ≡ and_items (given option n) (items_of ended words)
-wants_first ended option w n words starts = ap (λ s. at_word s w n (items_of ended (n ∷ words)) (items_of ended words) (items_of true (n ∷ words))) starts
+wants_first : (part : Part) (option : Taking) (w n : List ℕ) (words : List (List ℕ)) → start_of part w ≡ Wants option → items_of part (w ∷ n ∷ words) ≡ and_items (given option n) (items_of part words)
+wants_first part option w n words starts = ap (λ s. at_word s w n (items_of part (n ∷ words)) (items_of part words) (items_of BehindEnd (n ∷ words))) starts
 
-ends_first : (ended : Bool) (w : List ℕ) (words : List (List ℕ)) → start_of ended w ≡ Ends → items_of ended (w ∷ words) ≡ items_of true words
-ends_first ended w [] starts = ap (λ s. at_last s w) starts
-ends_first ended w (n ∷ words) starts = ap (λ s. at_word s w n (items_of ended (n ∷ words)) (items_of ended words) (items_of true (n ∷ words))) starts
+ends_first : (part : Part) (w : List ℕ) (words : List (List ℕ)) → start_of part w ≡ Ends → items_of part (w ∷ words) ≡ items_of BehindEnd words
+ends_first part w [] starts = ap (λ s. at_last s w) starts
+ends_first part w (n ∷ words) starts = ap (λ s. at_word s w n (items_of part (n ∷ words)) (items_of part words) (items_of BehindEnd (n ∷ words))) starts
 
 -- An item noted first is what all items hold first.
 
@@ -50,34 +52,34 @@ behind_first word words = take_all (length (word ∷ words) - 1) words (omega ar
 
 -- The next word, by how it begins.
 
-next_is : (w : List ℕ) (words : List (List ℕ)) (ended : Bool) (f f' : Front) (r : Result Item C99Fault) (whole : Result (List (List ℕ)) C99Fault)
-    → items_of ended (w ∷ words) ≡ and_items r (items_of ended words) → noted f r ≡ Ok f' → front_with f (items_of ended (w ∷ words)) ≡ whole
-    → front_with f' (items_of ended (take (length (w ∷ words) - 1) words)) ≡ whole
-next_is w words ended f f' r whole first added so_far =
-    ap (λ l. front_with f' (items_of ended l)) (behind_first w words) ∙ note_rest f f' r (items_of ended words) added ∙ ap (front_with f) (sym first) ∙ so_far
+next_is : (w : List ℕ) (words : List (List ℕ)) (part : Part) (f f' : Front) (r : Result Item C99Fault) (whole : Result (List (List ℕ)) C99Fault)
+    → items_of part (w ∷ words) ≡ and_items r (items_of part words) → noted f r ≡ Ok f' → front_with f (items_of part (w ∷ words)) ≡ whole
+    → front_with f' (items_of part (take (length (w ∷ words) - 1) words)) ≡ whole
+next_is w words part f f' r whole first added so_far =
+    ap (λ l. front_with f' (items_of part l)) (behind_first w words) ∙ note_rest f f' r (items_of part words) added ∙ ap (front_with f) (sym first) ∙ so_far
 
-pub flag_next : (left : List (List ℕ)) (word bytes : List ℕ) (ended : Bool) (f f' : Front) (whole : Result (List (List ℕ)) C99Fault)
-    → 1 ≤ length left → word ≡ get_or left 0 word → bytes ≡ word → Flag ≡ start_of ended bytes → noted f (Ok (Passed (bytes ∷ []))) ≡ Ok f'
-    → front_with f (items_of ended left) ≡ whole → front_with f' (items_of ended (take (length left - 1) (drop 1 left))) ≡ whole
-flag_next [] word bytes ended f f' whole some first same starts added so_far = absurd (omega arith)
-flag_next (w ∷ words) word bytes ended f f' whole some first same starts added so_far =
+pub flag_next : (left : List (List ℕ)) (word bytes : List ℕ) (part : Part) (f f' : Front) (whole : Result (List (List ℕ)) C99Fault)
+    → 1 ≤ length left → word ≡ get_or left 0 word → bytes ≡ word → Flag ≡ start_of part bytes → noted f (Ok (Passed (bytes ∷ []))) ≡ Ok f'
+    → front_with f (items_of part left) ≡ whole → front_with f' (items_of part (take (length left - 1) (drop 1 left))) ≡ whole
+flag_next [] word bytes part f f' whole some first same starts added so_far = absurd (omega arith)
+flag_next (w ∷ words) word bytes part f f' whole some first same starts added so_far =
     let is = same ∙ first in
-    next_is w words ended f f' (Ok (Passed (w ∷ []))) whole (flag_first ended w words (ap (start_of ended) (sym is) ∙ sym starts)) (ap (λ b. noted f (Ok (Passed (b ∷ [])))) (sym is) ∙ added) so_far
+    next_is w words part f f' (Ok (Passed (w ∷ []))) whole (flag_first part w words (ap (start_of part) (sym is) ∙ sym starts)) (ap (λ b. noted f (Ok (Passed (b ∷ [])))) (sym is) ∙ added) so_far
 
-pub operand_next : (left : List (List ℕ)) (word bytes prefix : List ℕ) (ended : Bool) (f f' : Front) (whole : Result (List (List ℕ)) C99Fault)
-    → 1 ≤ length left → word ≡ get_or left 0 word → bytes ≡ word → Names prefix ≡ start_of ended bytes → noted f (Ok (Operand (prefix ++ bytes))) ≡ Ok f'
-    → front_with f (items_of ended left) ≡ whole → front_with f' (items_of ended (take (length left - 1) (drop 1 left))) ≡ whole
-operand_next [] word bytes prefix ended f f' whole some first same starts added so_far = absurd (omega arith)
-operand_next (w ∷ words) word bytes prefix ended f f' whole some first same starts added so_far =
+pub operand_next : (left : List (List ℕ)) (word bytes prefix : List ℕ) (part : Part) (f f' : Front) (whole : Result (List (List ℕ)) C99Fault)
+    → 1 ≤ length left → word ≡ get_or left 0 word → bytes ≡ word → Names prefix ≡ start_of part bytes → noted f (Ok (Operand (prefix ++ bytes))) ≡ Ok f'
+    → front_with f (items_of part left) ≡ whole → front_with f' (items_of part (take (length left - 1) (drop 1 left))) ≡ whole
+operand_next [] word bytes prefix part f f' whole some first same starts added so_far = absurd (omega arith)
+operand_next (w ∷ words) word bytes prefix part f f' whole some first same starts added so_far =
     let is = same ∙ first in
-    next_is w words ended f f' (Ok (Operand (prefix ++ w))) whole (names_first ended prefix w words (ap (start_of ended) (sym is) ∙ sym starts)) (ap (λ b. noted f (Ok (Operand (prefix ++ b)))) (sym is) ∙ added) so_far
+    next_is w words part f f' (Ok (Operand (prefix ++ w))) whole (names_first part prefix w words (ap (start_of part) (sym is) ∙ sym starts)) (ap (λ b. noted f (Ok (Operand (prefix ++ b)))) (sym is) ∙ added) so_far
 
-pub joined_next : (left : List (List ℕ)) (word bytes argument : List ℕ) (option : Taking) (ended : Bool) (f f' : Front) (whole : Result (List (List ℕ)) C99Fault)
-    → 1 ≤ length left → word ≡ get_or left 0 word → bytes ≡ word → Joined option argument ≡ start_of ended bytes → noted f (given option argument) ≡ Ok f'
-    → front_with f (items_of ended left) ≡ whole → front_with f' (items_of ended (take (length left - 1) (drop 1 left))) ≡ whole
-joined_next [] word bytes argument option ended f f' whole some first same starts added so_far = absurd (omega arith)
-joined_next (w ∷ words) word bytes argument option ended f f' whole some first same starts added so_far =
-    next_is w words ended f f' (given option argument) whole (joined_first ended option argument w words (ap (start_of ended) (sym (same ∙ first)) ∙ sym starts)) added so_far
+pub joined_next : (left : List (List ℕ)) (word bytes argument : List ℕ) (option : Taking) (part : Part) (f f' : Front) (whole : Result (List (List ℕ)) C99Fault)
+    → 1 ≤ length left → word ≡ get_or left 0 word → bytes ≡ word → Joined option argument ≡ start_of part bytes → noted f (given option argument) ≡ Ok f'
+    → front_with f (items_of part left) ≡ whole → front_with f' (items_of part (take (length left - 1) (drop 1 left))) ≡ whole
+joined_next [] word bytes argument option part f f' whole some first same starts added so_far = absurd (omega arith)
+joined_next (w ∷ words) word bytes argument option part f f' whole some first same starts added so_far =
+    next_is w words part f f' (given option argument) whole (joined_first part option argument w words (ap (start_of part) (sym (same ∙ first)) ∙ sym starts)) added so_far
 
 refused_rest : (f : Front) (r : Result Item C99Fault) (fault : C99Fault) (rest : Result (List Item) C99Fault) → noted f r ≡ Err fault → front_with f (and_items r rest) ≡ Err fault
 refused_rest f (Err e) fault rest is =
@@ -85,35 +87,35 @@ refused_rest f (Err e) fault rest is =
     ap Err same
 refused_rest f (Ok i) fault rest is = absurd cc
 
-joined_refused : (left : List (List ℕ)) (word bytes argument : List ℕ) (option : Taking) (ended : Bool) (f : Front) (fault : C99Fault) (whole : Result (List (List ℕ)) C99Fault)
-    → 1 ≤ length left → word ≡ get_or left 0 word → bytes ≡ word → Joined option argument ≡ start_of ended bytes → noted f (given option argument) ≡ Err fault
-    → front_with f (items_of ended left) ≡ whole → whole ≡ Err fault
-joined_refused [] word bytes argument option ended f fault whole some first same starts refused so_far = absurd (omega arith)
-joined_refused (w ∷ words) word bytes argument option ended f fault whole some first same starts refused so_far =
-    sym so_far ∙ ap (front_with f) (joined_first ended option argument w words (ap (start_of ended) (sym (same ∙ first)) ∙ sym starts)) ∙ refused_rest f (given option argument) fault (items_of ended words) refused
+joined_refused : (left : List (List ℕ)) (word bytes argument : List ℕ) (option : Taking) (part : Part) (f : Front) (fault : C99Fault) (whole : Result (List (List ℕ)) C99Fault)
+    → 1 ≤ length left → word ≡ get_or left 0 word → bytes ≡ word → Joined option argument ≡ start_of part bytes → noted f (given option argument) ≡ Err fault
+    → front_with f (items_of part left) ≡ whole → whole ≡ Err fault
+joined_refused [] word bytes argument option part f fault whole some first same starts refused so_far = absurd (omega arith)
+joined_refused (w ∷ words) word bytes argument option part f fault whole some first same starts refused so_far =
+    sym so_far ∙ ap (front_with f) (joined_first part option argument w words (ap (start_of part) (sym (same ∙ first)) ∙ sym starts)) ∙ refused_rest f (given option argument) fault (items_of part words) refused
 
-pub ends_next : (left : List (List ℕ)) (word bytes : List ℕ) (ended : Bool) (f : Front) (whole : Result (List (List ℕ)) C99Fault)
-    → 1 ≤ length left → word ≡ get_or left 0 word → bytes ≡ word → Ends ≡ start_of ended bytes
-    → front_with f (items_of ended left) ≡ whole → front_with f (items_of true (take (length left - 1) (drop 1 left))) ≡ whole
-ends_next [] word bytes ended f whole some first same starts so_far = absurd (omega arith)
-ends_next (w ∷ words) word bytes ended f whole some first same starts so_far =
-    ap (λ l. front_with f (items_of true l)) (behind_first w words) ∙ ap (front_with f) (sym (ends_first ended w words (ap (start_of ended) (sym (same ∙ first)) ∙ sym starts))) ∙ so_far
+pub ends_next : (left : List (List ℕ)) (word bytes : List ℕ) (part : Part) (f : Front) (whole : Result (List (List ℕ)) C99Fault)
+    → 1 ≤ length left → word ≡ get_or left 0 word → bytes ≡ word → Ends ≡ start_of part bytes
+    → front_with f (items_of part left) ≡ whole → front_with f (items_of BehindEnd (take (length left - 1) (drop 1 left))) ≡ whole
+ends_next [] word bytes part f whole some first same starts so_far = absurd (omega arith)
+ends_next (w ∷ words) word bytes part f whole some first same starts so_far =
+    ap (λ l. front_with f (items_of BehindEnd l)) (behind_first w words) ∙ ap (front_with f) (sym (ends_first part w words (ap (start_of part) (sym (same ∙ first)) ∙ sym starts))) ∙ so_far
 
 -- An option that wants the next word.
 
-pub wants_next : (left : List (List ℕ)) (word bytes next next_bytes : List ℕ) (option : Taking) (ended : Bool) (f f' : Front) (whole : Result (List (List ℕ)) C99Fault)
-    → 1 ≤ length left → word ≡ get_or left 0 word → bytes ≡ word → Wants option ≡ start_of ended bytes
+pub wants_next : (left : List (List ℕ)) (word bytes next next_bytes : List ℕ) (option : Taking) (part : Part) (f f' : Front) (whole : Result (List (List ℕ)) C99Fault)
+    → 1 ≤ length left → word ≡ get_or left 0 word → bytes ≡ word → Wants option ≡ start_of part bytes
     → 1 ≤ length (take (length left - 1) (drop 1 left)) → next ≡ get_or (take (length left - 1) (drop 1 left)) 0 next → next_bytes ≡ next → noted f (given option next_bytes) ≡ Ok f'
-    → front_with f (items_of ended left) ≡ whole
-    → front_with f' (items_of ended (take (length (take (length left - 1) (drop 1 left)) - 1) (drop 1 (take (length left - 1) (drop 1 left))))) ≡ whole
-wants_next [] word bytes next next_bytes option ended f f' whole some first same starts more second alike added so_far = absurd (omega arith)
-wants_next (w ∷ []) word bytes next next_bytes option ended f f' whole some first same starts more second alike added so_far = absurd (omega arith)
-wants_next (w ∷ n ∷ words) word bytes next next_bytes option ended f f' whole some first same starts more second alike added so_far =
+    → front_with f (items_of part left) ≡ whole
+    → front_with f' (items_of part (take (length (take (length left - 1) (drop 1 left)) - 1) (drop 1 (take (length left - 1) (drop 1 left))))) ≡ whole
+wants_next [] word bytes next next_bytes option part f f' whole some first same starts more second alike added so_far = absurd (omega arith)
+wants_next (w ∷ []) word bytes next next_bytes option part f f' whole some first same starts more second alike added so_far = absurd (omega arith)
+wants_next (w ∷ n ∷ words) word bytes next next_bytes option part f f' whole some first same starts more second alike added so_far =
     let behind = behind_first w (n ∷ words) in
     let is_next : next_bytes ≡ n = alike ∙ second ∙ ap (λ l. get_or l 0 next) behind in
-    ap (λ l. front_with f' (items_of ended l)) (ap (λ l. take (length l - 1) (drop 1 l)) behind ∙ behind_first n words)
-    ∙ note_rest f f' (given option n) (items_of ended words) (ap (λ b. noted f (given option b)) (sym is_next) ∙ added)
-    ∙ ap (front_with f) (sym (wants_first ended option w n words (ap (start_of ended) (sym (same ∙ first)) ∙ sym starts)))
+    ap (λ l. front_with f' (items_of part l)) (ap (λ l. take (length l - 1) (drop 1 l)) behind ∙ behind_first n words)
+    ∙ note_rest f f' (given option n) (items_of part words) (ap (λ b. noted f (given option b)) (sym is_next) ∙ added)
+    ∙ ap (front_with f) (sym (wants_first part option w n words (ap (start_of part) (sym (same ∙ first)) ∙ sym starts)))
     ∙ so_far
 
 refusal_given : (fault : C99Fault) (end : Result (List (List ℕ)) C99Fault) (result : Result (Unit {0}) C99Fault) (whole : Result (List (List ℕ)) C99Fault)
@@ -122,35 +124,35 @@ refusal_given fault end (Ok u) whole is refused = absurd is
 refusal_given fault end (Err e) whole is (inl memory) = inl (is ∙ memory)
 refusal_given fault end (Err e) whole is (inr refused) = inr (refused ∙ ap Err (sym is))
 
-pub joined_gives : (left : List (List ℕ)) (word bytes argument : List ℕ) (option : Taking) (ended : Bool) (f : Front) (fault : C99Fault) (end : Result (List (List ℕ)) C99Fault) (result : Result (Unit {0}) C99Fault) (whole : Result (List (List ℕ)) C99Fault)
-    → 1 ≤ length left → word ≡ get_or left 0 word → bytes ≡ word → Joined option argument ≡ start_of ended bytes → (fault ≡ Memory) ⊎ (noted f (given option argument) ≡ Err fault)
-    → IsErrAnd result (λ e. e ≡ fault) → front_with f (items_of ended left) ≡ whole → Goes end result whole
-joined_gives left word bytes argument option ended f fault end result whole some first same starts (inl memory) is so_far = refusal_given fault end result whole is (inl memory)
-joined_gives left word bytes argument option ended f fault end result whole some first same starts (inr refused) is so_far =
-    refusal_given fault end result whole is (inr (joined_refused left word bytes argument option ended f fault whole some first same starts refused so_far))
+pub joined_gives : (left : List (List ℕ)) (word bytes argument : List ℕ) (option : Taking) (part : Part) (f : Front) (fault : C99Fault) (end : Result (List (List ℕ)) C99Fault) (result : Result (Unit {0}) C99Fault) (whole : Result (List (List ℕ)) C99Fault)
+    → 1 ≤ length left → word ≡ get_or left 0 word → bytes ≡ word → Joined option argument ≡ start_of part bytes → (fault ≡ Memory) ⊎ (noted f (given option argument) ≡ Err fault)
+    → IsErrAnd result (λ e. e ≡ fault) → front_with f (items_of part left) ≡ whole → Goes end result whole
+joined_gives left word bytes argument option part f fault end result whole some first same starts (inl memory) is so_far = refusal_given fault end result whole is (inl memory)
+joined_gives left word bytes argument option part f fault end result whole some first same starts (inr refused) is so_far =
+    refusal_given fault end result whole is (inr (joined_refused left word bytes argument option part f fault whole some first same starts refused so_far))
 
 pub memory_goes : (end : Result (List (List ℕ)) C99Fault) (result : Result (Unit {0}) C99Fault) (whole : Result (List (List ℕ)) C99Fault) → IsErrAnd result (λ e. e ≡ Memory) → Goes end result whole
 memory_goes end result whole is = refusal_given Memory end result whole is (inl refl)
 
-wants_refused : (left : List (List ℕ)) (word bytes next next_bytes : List ℕ) (option : Taking) (ended : Bool) (f : Front) (fault : C99Fault) (whole : Result (List (List ℕ)) C99Fault)
-    → 1 ≤ length left → word ≡ get_or left 0 word → bytes ≡ word → Wants option ≡ start_of ended bytes
+wants_refused : (left : List (List ℕ)) (word bytes next next_bytes : List ℕ) (option : Taking) (part : Part) (f : Front) (fault : C99Fault) (whole : Result (List (List ℕ)) C99Fault)
+    → 1 ≤ length left → word ≡ get_or left 0 word → bytes ≡ word → Wants option ≡ start_of part bytes
     → 1 ≤ length (take (length left - 1) (drop 1 left)) → next ≡ get_or (take (length left - 1) (drop 1 left)) 0 next → next_bytes ≡ next → noted f (given option next_bytes) ≡ Err fault
-    → front_with f (items_of ended left) ≡ whole → whole ≡ Err fault
-wants_refused [] word bytes next next_bytes option ended f fault whole some first same starts more second alike refused so_far = absurd (omega arith)
-wants_refused (w ∷ []) word bytes next next_bytes option ended f fault whole some first same starts more second alike refused so_far = absurd (omega arith)
-wants_refused (w ∷ n ∷ words) word bytes next next_bytes option ended f fault whole some first same starts more second alike refused so_far =
+    → front_with f (items_of part left) ≡ whole → whole ≡ Err fault
+wants_refused [] word bytes next next_bytes option part f fault whole some first same starts more second alike refused so_far = absurd (omega arith)
+wants_refused (w ∷ []) word bytes next next_bytes option part f fault whole some first same starts more second alike refused so_far = absurd (omega arith)
+wants_refused (w ∷ n ∷ words) word bytes next next_bytes option part f fault whole some first same starts more second alike refused so_far =
     let is_next : next_bytes ≡ n = alike ∙ second ∙ ap (λ l. get_or l 0 next) (behind_first w (n ∷ words)) in
     sym so_far
-    ∙ ap (front_with f) (wants_first ended option w n words (ap (start_of ended) (sym (same ∙ first)) ∙ sym starts))
-    ∙ refused_rest f (given option n) fault (items_of ended words) (ap (λ b. noted f (given option b)) (sym is_next) ∙ refused)
+    ∙ ap (front_with f) (wants_first part option w n words (ap (start_of part) (sym (same ∙ first)) ∙ sym starts))
+    ∙ refused_rest f (given option n) fault (items_of part words) (ap (λ b. noted f (given option b)) (sym is_next) ∙ refused)
 
-pub wants_gives : (left : List (List ℕ)) (word bytes next next_bytes : List ℕ) (option : Taking) (ended : Bool) (f : Front) (fault : C99Fault) (end : Result (List (List ℕ)) C99Fault) (result : Result (Unit {0}) C99Fault) (whole : Result (List (List ℕ)) C99Fault)
-    → 1 ≤ length left → word ≡ get_or left 0 word → bytes ≡ word → Wants option ≡ start_of ended bytes
+pub wants_gives : (left : List (List ℕ)) (word bytes next next_bytes : List ℕ) (option : Taking) (part : Part) (f : Front) (fault : C99Fault) (end : Result (List (List ℕ)) C99Fault) (result : Result (Unit {0}) C99Fault) (whole : Result (List (List ℕ)) C99Fault)
+    → 1 ≤ length left → word ≡ get_or left 0 word → bytes ≡ word → Wants option ≡ start_of part bytes
     → 1 ≤ length (take (length left - 1) (drop 1 left)) → next ≡ get_or (take (length left - 1) (drop 1 left)) 0 next → next_bytes ≡ next
-    → (fault ≡ Memory) ⊎ (noted f (given option next_bytes) ≡ Err fault) → IsErrAnd result (λ e. e ≡ fault) → front_with f (items_of ended left) ≡ whole → Goes end result whole
-wants_gives left word bytes next next_bytes option ended f fault end result whole some first same starts more second alike (inl memory) is so_far = refusal_given fault end result whole is (inl memory)
-wants_gives left word bytes next next_bytes option ended f fault end result whole some first same starts more second alike (inr refused) is so_far =
-    refusal_given fault end result whole is (inr (wants_refused left word bytes next next_bytes option ended f fault whole some first same starts more second alike refused so_far))
+    → (fault ≡ Memory) ⊎ (noted f (given option next_bytes) ≡ Err fault) → IsErrAnd result (λ e. e ≡ fault) → front_with f (items_of part left) ≡ whole → Goes end result whole
+wants_gives left word bytes next next_bytes option part f fault end result whole some first same starts more second alike (inl memory) is so_far = refusal_given fault end result whole is (inl memory)
+wants_gives left word bytes next next_bytes option part f fault end result whole some first same starts more second alike (inr refused) is so_far =
+    refusal_given fault end result whole is (inr (wants_refused left word bytes next next_bytes option part f fault whole some first same starts more second alike refused so_far))
 
 -- A front without items, with those of a line.
 

@@ -2,6 +2,8 @@ use Rattle.drv_c99.specs.declared.fault.C99Fault.TheVariants.{BadLevel, MissingA
 use Rattle.drv_c99.specs.declared.fault.C99Fault.{C99Fault}
 use Rattle.drv_c99.specs.declared.option.Taking.TheVariants.{Define, IncludeFolder, Level, Library, LibraryFolder, Output, Undefine}
 use Rattle.drv_c99.specs.declared.option.Taking.{Taking}
+use Rattle.drv_c99.specs.declared.option.Part.TheVariants.{BeforeEnd, BehindEnd}
+use Rattle.drv_c99.specs.declared.option.Part.{Part}
 use Rattle.drv_words.specs.Bytes.{hyphen}
 use Rattle.std.specs.Cmp.Lexicographic.{pointwise}
 use Rattle.std.specs.List.{flat_map, list_any}
@@ -75,9 +77,9 @@ abbrev pub start_behind : List ℕ → Start
 start_behind [] = Names []
 start_behind (b ∷ rest) = if b == hyphen then hyphened_start rest else Names []
 
-abbrev pub start_of : Bool → List ℕ → Start
-start_of false word = start_before word
-start_of true word = start_behind word
+abbrev pub start_of : Part → List ℕ → Start
+start_of BeforeEnd word = start_before word
+start_of BehindEnd word = start_behind word
 
 -- an option with its argument: the level is 0 or 1, and a library has a name
 abbrev pub with_level : Bool → List ℕ → Result Item C99Fault
@@ -122,10 +124,10 @@ at_word (Wants option) word next from_next behind_next ended = and_items (given 
 at_word Ends word next from_next behind_next ended = ended
 at_word Unknown word next from_next behind_next ended = Err (UnknownOption word)
 
-abbrev pub items_of : Bool → List (List ℕ) → Result (List Item) C99Fault
-items_of ended [] = Ok []
-items_of ended (word ∷ []) = at_last (start_of ended word) word
-items_of ended (word ∷ next ∷ words) = at_word (start_of ended word) word next (items_of ended (next ∷ words)) (items_of ended words) (items_of true (next ∷ words))
+abbrev pub items_of : Part → List (List ℕ) → Result (List Item) C99Fault
+items_of part [] = Ok []
+items_of part (word ∷ []) = at_last (start_of part word) word
+items_of part (word ∷ next ∷ words) = at_word (start_of part word) word next (items_of part (next ∷ words)) (items_of part words) (items_of BehindEnd (next ∷ words))
 
 -- the words of the driver: the standard, what is defined, what is undefined, and all else in its order
 
@@ -160,4 +162,4 @@ front_of_items (Ok items) =
     else Err NoOperand
 
 abbrev pub front_of : List (List ℕ) → Result (List (List ℕ)) C99Fault
-front_of args = front_of_items (items_of false args)
+front_of args = front_of_items (items_of BeforeEnd args)

@@ -124,13 +124,21 @@ fn start_behind<'a>(word: &'a [u8]) -> Start<'a>
     }
 }
 
-/// How a word begins, where the options have ended or not.
-pub(crate) fn start_of<'a>(ended: bool, word: &'a [u8]) -> Start<'a>
-    ensures { start_shown result ≡ start_of ended word.now }
+/// Which part of a line a word stands in.
+#[derive(Clone, Copy)]
+pub(crate) enum Part {
+    /// That before the end of the options.
+    BeforeEnd,
+    /// That behind it.
+    BehindEnd,
+}
+
+/// How a word of a part begins.
+pub(crate) fn start_of<'a>(part: Part, word: &'a [u8]) -> Start<'a>
+    ensures { start_shown result ≡ start_of part word.now }
 {
-    if ended {
-        start_behind(word)
-    } else {
-        start_before(word)
+    match part {
+        Part::BeforeEnd => start_before(word),
+        Part::BehindEnd => start_behind(word),
     }
 }

@@ -2,26 +2,27 @@
 
 ghost use Rattle.drv_c99.specs.Code.Building.{Goes, finished, front_with};
 ghost use Rattle.drv_c99.specs.Front.{front_of, items_of};
+ghost use Rattle.drv_c99.specs.declared.option.Part.TheVariants.{BeforeEnd};
 ghost use Rattle.drv_c99.specs.declared.fault.C99Fault.TheVariants as fault;
 ghost use Rattle.drv_words.specs.Gives.{Gives};
 ghost use Rattle.std.specs.Prelude.{false};
 
 use crate::C99Fault;
 use crate::building::{Front, missing_argument};
-use crate::option::{Start, start_of};
+use crate::option::{Part, Start, start_of};
 use drv_words::{Listing, Word};
 use std::alloc::Global;
 
 /// Adds what words give to a front.
 fn add_words(alloc: Global, front: &mut Front, words: &[Word]) -> Result<(), C99Fault>
-    ensures { Goes (finished front.new) result (front_with front.old (items_of false words.now)) }
+    ensures { Goes (finished front.new) result (front_with front.old (items_of BeforeEnd words.now)) }
 {
-    let mut ended = false;
+    let mut part = Part::BeforeEnd;
     let mut left = words;
     while let [word, behind @ ..] = left {
         left = behind;
         let bytes = word.as_bytes();
-        match start_of(ended, bytes) {
+        match start_of(part, bytes) {
             Start::Flag => front.add_flag(alloc, bytes)?,
             Start::Operand { prefix } => front.add_operand(alloc, prefix, bytes)?,
             Start::Joined { option, argument } => front.add_option(alloc, option, argument)?,
@@ -32,7 +33,7 @@ fn add_words(alloc: Global, front: &mut Front, words: &[Word]) -> Result<(), C99
                 front.add_option(alloc, option, argument.as_bytes())?;
                 left = others;
             }
-            Start::Ends => ended = true,
+            Start::Ends => part = Part::BehindEnd,
             Start::Unknown => return Err(C99Fault::UnknownOption(word.clone()?)),
         }
     }

@@ -1,10 +1,11 @@
+use Rattle.drv_c99.specs.declared.option.Part.TheVariants.{BeforeEnd}
 use Rattle.drv_c99.proofs.Steps.{front_given, front_refused}
 use Rattle.drv_c99.proofs.translating.front.Goals as goal
 use Rattle.drv_c99.specs.Front.{items_of}
 use Rattle.std.specs.Prelude.{false}
 
 pub returns : goal.returns
-returns c = front_given _ (items_of false c.args.args.now) _ _ c.new-front.ensures c.in_ok-add_words.ensures c.finish.ensures
+returns c = front_given _ (items_of BeforeEnd c.args.args.now) _ _ c.new-front.ensures c.in_ok-add_words.ensures c.finish.ensures
 
 pub returns-in_err-add_words : goal.returns-in_err-add_words
-returns-in_err-add_words c = front_refused _ (items_of false c.args.args.now) _ _ c.new-front.ensures c.in_err-add_words.ensures c.from_residual.ensures.1
+returns-in_err-add_words c = front_refused _ (items_of BeforeEnd c.args.args.now) _ _ c.new-front.ensures c.in_err-add_words.ensures c.from_residual.ensures.1
