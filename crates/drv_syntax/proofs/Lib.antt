@@ -15,6 +15,7 @@ pub mod Leads
 pub mod MarkedWords
 pub mod Names
 pub mod Parts
+pub mod ParsedGrammar
 pub mod Patterns
 pub mod RefusalBytes
 pub mod RefusalEnds

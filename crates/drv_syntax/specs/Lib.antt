@@ -2,6 +2,7 @@ pub mod Bytes
 pub mod Code
 pub mod Contexts
 pub mod Directives
+pub mod Faults
 pub mod Fronts
 pub mod Labels
 pub mod Marks

@@ -1,12 +1,14 @@
 //! A spec text that has a tree.
 
+ghost use Rattle.drv_syntax.specs.Faults.{Refused};
 ghost use Rattle.drv_syntax.specs.Labels.{label_at, labels_of};
 ghost use Rattle.drv_syntax.specs.Outcome.{parsed};
 ghost use Rattle.drv_syntax.specs.Parsed.{tree_of};
+ghost use Rattle.drv_syntax.specs.Spelling.{Spells};
 ghost use Rattle.drv_syntax.specs.Tokens.{tokens_of};
 ghost use Rattle.drv_syntax.specs.Written.{IsTree};
 ghost use Rattle.drv_words.specs.Gives.{Gives};
-ghost use Rattle.std.specs.Prelude.{◌≡◌, ◌<◌, ◌++◌, [], IfOk, length};
+ghost use Rattle.std.specs.Prelude.{◌≡◌, ◌<◌, ◌⊎◌, ◌++◌, [], IfErr, IfOk, length};
 
 use crate::fault::SyntaxFault;
 use crate::labels::Labels;
@@ -146,6 +148,8 @@ impl SpecTree {
     pub fn extended(self, alloc: Global, more: &[u8]) -> Result<SpecTree, SyntaxFault>
         ensures tree { Gives SyntaxFault.Memory tree_of result (parsed (self ++ more.now)) }
         ensures text { IfOk result (λ t. t ≡ self ++ more.now) }
+        ensures spelled { IfOk result (λ t. Spells t (tree_of t)) }
+        ensures refused { IfErr result (λ e. (e ≡ SyntaxFault.Memory) ⊎ Refused (self ++ more.now) e) }
     {
         let start = self.text().len();
         if more.len() > TEXT_LIMIT - start {
@@ -168,10 +172,12 @@ impl SpecTree {
 }
 
 /// The tree of a text, or its first fault.
-#[tactic(auto, using(crate::proofs::WalkReads::parsed_long, crate::proofs::Resuming::tree_first, crate::proofs::Resuming::fault_first, crate::proofs::Resuming::ended_first))]
+#[tactic(auto, using(crate::proofs::WalkReads::parsed_long, crate::proofs::Resuming::tree_first, crate::proofs::Resuming::fault_first, crate::proofs::Resuming::ended_first, crate::proofs::ParsedGrammar::long_refused, crate::proofs::ParsedGrammar::first_spelled, crate::proofs::ParsedGrammar::first_refused))]
 pub fn parse(alloc: Global, text: &[u8]) -> Result<SpecTree, SyntaxFault>
     ensures tree { Gives SyntaxFault.Memory tree_of result (parsed text.now) }
     ensures text { IfOk result (λ t. t ≡ text.now) }
+    ensures spelled { IfOk result (λ t. Spells t (tree_of t)) }
+    ensures refused { IfErr result (λ e. (e ≡ SyntaxFault.Memory) ⊎ Refused text.now e) }
 {
     if text.len() > TEXT_LIMIT {
         return Err(SyntaxFault::TextTooLong);
