@@ -13,6 +13,7 @@ pub mod FrontLeads
 pub mod FrontsRead
 pub mod Leads
 pub mod MarkedWords
+pub mod Misfits
 pub mod Names
 pub mod Parts
 pub mod ParsedGrammar

@@ -1,10 +1,11 @@
 use Rattle.drv_syntax.proofs.Covers.{spelled_is_read}
 use Rattle.drv_syntax.proofs.CutRows.{le_true}
+use Rattle.drv_syntax.proofs.Misfits.{misfit_at}
 use Rattle.drv_syntax.proofs.Resuming.{fault_first, tree_first}
 use Rattle.drv_syntax.proofs.Sound.{read_is_spelled}
 use Rattle.drv_syntax.proofs.StuckRuns.{refused_kinds}
 use Rattle.drv_syntax.proofs.Unrefused.{unrefused_is_front}
-use Rattle.drv_syntax.specs.Faults.{Refused, cut_short, refused_at, too_long}
+use Rattle.drv_syntax.specs.Faults.{MemoryOrRefused, Refused, cut_short, misfit, too_long}
 use Rattle.drv_syntax.specs.Labels.{Label}
 use Rattle.drv_syntax.specs.Outcome.{Bad, Cut, Got, Out, judged, parsed, read, text_limit}
 use Rattle.drv_syntax.specs.Parsed.{listed, tree_in, tree_of}
@@ -18,7 +19,7 @@ use Rattle.drv_syntax.specs.declared.fault.SyntaxFault.TheVariants.{Memory, Text
 use Rattle.drv_syntax.specs.declared.fault.SyntaxFault.{SyntaxFault}
 use Rattle.drv_syntax.specs.declared.token.Token.{Token}
 use Rattle.drv_words.specs.Gives.{Gives}
-use Rattle.std.proofs.Common.{◌≡◌, ◌∙◌, ◌<◌, ◌≤◌, ◌⊎◌, Bool, List, false, true, ap, arith, inl, inr, length, refl, subst, sym, ℕ}
+use Rattle.std.proofs.Common.{◌≡◌, ◌∙◌, ◌<◌, ◌≤◌, Bool, List, false, true, ap, arith, inl, inr, length, refl, subst, sym, ℕ}
 use Rattle.std.proofs.lemmas.Bool.Decides.{nat_tests}
 use Rattle.std.specs.Prelude.{Err, IfErr, Ok, Result, if◌then◌else◌, nat_le}
 
@@ -69,7 +70,7 @@ module _ (text : List ℕ) where
       given : length text ≤ text_limit → (out : Out) → read text ≡ out → judged out ≡ Err fault → Refused text fault
       given short (Got items) e d = absurd cc
       given short (Cut at) e d = is_fault (err_is (Unclosed at) fault d) (cut_short short (unrefused_is_front text (inr (at, e))) (no_tree at e))
-      given short (Bad place other) e d = is_fault (err_is other fault d) (refused_at place short (refused_kinds text place other e))
+      given short (Bad place other) e d = is_fault (err_is other fault d) (misfit short (misfit_at text place other e) (refused_kinds text place other e))
 
       by : (fits : Bool) → nat_le (length text) text_limit ≡ fits → Refused text fault
       by true e = given (le_true e) (read text) refl (sym (ap by_size e) ∙ h)
@@ -94,7 +95,7 @@ module _ (text : List ℕ) where
   ended_spelled e is = listed_spelled (parsed text) refl is.0
 
   -- of what a call gives
-  pub given_refused : (given : Result (List ℕ) SyntaxFault) → Gives Memory tree_of given (parsed text) → IfErr given (λ e. (e ≡ Memory) ⊎ Refused text e)
+  pub given_refused : (given : Result (List ℕ) SyntaxFault) → Gives Memory tree_of given (parsed text) → IfErr given (MemoryOrRefused text)
   given_refused (Ok x) d = tt
   given_refused (Err fault) (inl m) = inl m
   given_refused (Err fault) (inr d) = inr (parsed_refused fault d)

@@ -19,7 +19,7 @@ take_within (suc j) (suc k) [] h = refl
 take_within (suc j) (suc k) (x ∷ xs) h = ap (λ (ys : List ℕ). x ∷ ys) (take_within j k xs (omega arith))
 
 -- what is taken is what is taken less, and what follows that
-taken_on : (j k : ℕ) (xs : List ℕ) → j ≤ k → take k xs ≡ take j xs ++ drop j (take k xs)
+pub taken_on : (j k : ℕ) (xs : List ℕ) → j ≤ k → take k xs ≡ take j xs ++ drop j (take k xs)
 taken_on j k xs h = sym (take-append-drop j (take k xs)) ∙ ap (λ (ys : List ℕ). ys ++ drop j (take k xs)) (take_within j k xs h)
 
 less_or_same : (j k : ℕ) → j < k + 1 → (j < k) ⊎ (j ≡ k)

@@ -1,5 +1,6 @@
 //! Laws of the grammar. The functions do nothing: each is its contract.
 
+ghost use Rattle.drv_syntax.specs.Faults.{IsMisfit};
 ghost use Rattle.drv_syntax.specs.Fronts.{Front};
 ghost use Rattle.drv_syntax.specs.Outcome.{Bad, Cut, Got, Unrefused, parsed, read, text_limit};
 ghost use Rattle.drv_syntax.specs.Refusals.{IsRefused};
@@ -20,6 +21,12 @@ pub fn shortest_prefix()
 /// A text that has a front, which with the next byte is none, is refused at that byte.
 pub fn refused_behind_front()
     ensures { (text : List ℕ) (k : ℕ) → k < length text → Front (take k text) → (Front (take (k + 1) text) → ⊥) → (fault : SyntaxFault) × (read text ≡ Bad k fault) }
+{}
+
+/// A text is refused at the byte behind its longest prefix that is a front, and at no other.
+pub fn refused_at_misfit()
+    ensures refused { (text : List ℕ) (place : ℕ) (fault : SyntaxFault) → read text ≡ Bad place fault → IsMisfit text place }
+    ensures misfit { (text : List ℕ) (place : ℕ) → IsMisfit text place → (fault : SyntaxFault) × (read text ≡ Bad place fault) }
 {}
 
 /// What a front begins with is a front.

@@ -1,6 +1,6 @@
 //! A spec text that has a tree.
 
-ghost use Rattle.drv_syntax.specs.Faults.{Refused};
+ghost use Rattle.drv_syntax.specs.Faults.{MemoryOrRefused};
 ghost use Rattle.drv_syntax.specs.Labels.{label_at, labels_of};
 ghost use Rattle.drv_syntax.specs.Outcome.{parsed};
 ghost use Rattle.drv_syntax.specs.Parsed.{tree_of};
@@ -8,7 +8,7 @@ ghost use Rattle.drv_syntax.specs.Spelling.{Spells};
 ghost use Rattle.drv_syntax.specs.Tokens.{tokens_of};
 ghost use Rattle.drv_syntax.specs.Written.{IsTree};
 ghost use Rattle.drv_words.specs.Gives.{Gives};
-ghost use Rattle.std.specs.Prelude.{◌≡◌, ◌<◌, ◌⊎◌, ◌++◌, [], IfErr, IfOk, length};
+ghost use Rattle.std.specs.Prelude.{◌≡◌, ◌<◌, ◌++◌, [], IfErr, IfOk, length};
 
 use crate::fault::SyntaxFault;
 use crate::labels::Labels;
@@ -149,7 +149,7 @@ impl SpecTree {
         ensures tree { Gives SyntaxFault.Memory tree_of result (parsed (self ++ more.now)) }
         ensures text { IfOk result (λ t. t ≡ self ++ more.now) }
         ensures spelled { IfOk result (λ t. Spells t (tree_of t)) }
-        ensures refused { IfErr result (λ e. (e ≡ SyntaxFault.Memory) ⊎ Refused (self ++ more.now) e) }
+        ensures refused { IfErr result (MemoryOrRefused (self ++ more.now)) }
     {
         let start = self.text().len();
         if more.len() > TEXT_LIMIT - start {
@@ -177,7 +177,7 @@ pub fn parse(alloc: Global, text: &[u8]) -> Result<SpecTree, SyntaxFault>
     ensures tree { Gives SyntaxFault.Memory tree_of result (parsed text.now) }
     ensures text { IfOk result (λ t. t ≡ text.now) }
     ensures spelled { IfOk result (λ t. Spells t (tree_of t)) }
-    ensures refused { IfErr result (λ e. (e ≡ SyntaxFault.Memory) ⊎ Refused text.now e) }
+    ensures refused { IfErr result (MemoryOrRefused text.now) }
 {
     if text.len() > TEXT_LIMIT {
         return Err(SyntaxFault::TextTooLong);
