@@ -1,5 +1,5 @@
 use Rattle.drv_syntax.proofs.Patterns.{Closing, asks_mark, asks_words, behind_closing, due_words, emitting, pattern_read, pattern_space, spaces_read, start_asks, start_space}
-use Rattle.drv_syntax.proofs.FrontLeads.{IsFrontFrom, ended, on}
+use Rattle.drv_syntax.proofs.FrontLeads.{IsFrontFrom, IsTreeOrCut, ended, on}
 use Rattle.drv_syntax.proofs.Leads.{Leads, and_then, differs, each, further, goes, one, same_place, same_run, to}
 use Rattle.drv_syntax.proofs.Words.{alike, at_front, marked_word, no_word, quoted_from, stops, stops_at}
 use Rattle.drv_syntax.specs.Bytes.{is_mark, is_space, is_word}
@@ -44,10 +44,10 @@ spaced blank byte k s.no_space e = rw e (one byte)
 spaced blank byte k (s.space {b} {text = others} f q) e = goes (blank b f) (k others (rw e at q))
 
 -- white space up to the end
-spaced_end : {ws : List Waiting} {p behind : Place} {m : ℕ} {text end : List ℕ} → ((b : ℕ) → is_space b ≡ true → turn p m b ≡ Goes behind)
-    → ((others : List ℕ) → AreSpaces others [] → IsFrontFrom ws behind (m + 1) others) → AreSpaces text end → end ≡ [] → IsFrontFrom ws p m text
-spaced_end {ws} {p} {m = m} blank k s.no_space e = rw e (ended ws p m)
-spaced_end blank k (s.space {b} {text = others} f q) e = on (blank b f) (k others (rw e at q))
+spaced_end : {place : ℕ} {ws : List Waiting} {p behind : Place} {m : ℕ} {text end : List ℕ} → IsTreeOrCut place (o.finish p m) → ((b : ℕ) → is_space b ≡ true → turn p m b ≡ Goes behind)
+    → ((others : List ℕ) → AreSpaces others [] → IsFrontFrom place ws behind (m + 1) others) → AreSpaces text end → end ≡ [] → IsFrontFrom place ws p m text
+spaced_end {ws = ws} {p} {m = m} g blank k s.no_space e = rw e (ended ws p m g)
+spaced_end g blank k (s.space {b} {text = others} f q) e = on (blank b f) (k others (rw e at q))
 
 pub same_span : (size k l i j : ℕ) (u v : List ℕ) → At size k u → At size l v → At size i u → At size j v → span k l ≡ span i j
 same_span size k l i j u v a b c d = ap (λ (x : ℕ). span x l) (same_place size k i u a c) ∙ ap (span i) (same_place size l j v b d)
@@ -71,7 +71,7 @@ module _ (ws : List Waiting) (here : Here) (at : ℕ) (kind : BraceKind) where
   mark_closing start mark m text = record {
     brace = λ q. spaced (mark_blank start mark m) refl (λ others r. (behind_closing ws (m + 1) others here at kind [] (alone start mark m) None true).brace r) q refl;
     and = λ q. spaced (mark_blank start mark m) refl (λ others r. (behind_closing ws (m + 1) others here at kind [] (alone start mark m) None true).and r) q refl;
-    end = λ q. spaced_end (mark_blank start mark m) (λ others r. (behind_closing ws (m + 1) others here at kind [] (alone start mark m) None true).end r) q refl;
+    end = λ q. spaced_end (inl refl) (mark_blank start mark m) (λ others r. (behind_closing ws (m + 1) others here at kind [] (alone start mark m) None true).end r) q refl;
   }
 
   abbrev FirstMarked : ℕ → ℕ → List ℕ → List ℕ → Bool → List ℕ → Type 0

@@ -5,6 +5,7 @@ mod RefusalSamples
 mod Samples
 pub mod Covers
 pub mod CutDue
+pub mod CutPlaces
 pub mod CutRows
 pub mod CutTests
 pub mod Cuts

@@ -1,10 +1,9 @@
-use Rattle.drv_syntax.proofs.Covers.{spelled_is_read}
+use Rattle.drv_syntax.proofs.CutPlaces.{cut_at}
 use Rattle.drv_syntax.proofs.CutRows.{le_true}
 use Rattle.drv_syntax.proofs.Misfits.{misfit_at}
 use Rattle.drv_syntax.proofs.Resuming.{fault_first, tree_first}
 use Rattle.drv_syntax.proofs.Sound.{read_is_spelled}
 use Rattle.drv_syntax.proofs.StuckRuns.{refused_kinds}
-use Rattle.drv_syntax.proofs.Unrefused.{unrefused_is_front}
 use Rattle.drv_syntax.specs.Faults.{MemoryOrRefused, Refused, cut_short, misfit, too_long}
 use Rattle.drv_syntax.specs.Labels.{Label}
 use Rattle.drv_syntax.specs.Outcome.{Bad, Cut, Got, Out, judged, parsed, read, text_limit}
@@ -58,18 +57,12 @@ module _ (text : List ℕ) where
   pub parsed_refused : (fault : SyntaxFault) → parsed text ≡ Err fault → Refused text fault
   parsed_refused fault h = by (nat_le (length text) text_limit) refl
     where
-      no_tree : (at : ℕ) → read text ≡ Cut at → (items : Items) → Spells text items → ⊥
-      no_tree at e items spells = clash (sym e ∙ spelled_is_read text items spells)
-        where
-          clash : Cut at ≡ Got items → ⊥
-          clash d = cc
-
       is_fault : {other : SyntaxFault} → other ≡ fault → Refused text other → Refused text fault
       is_fault e = subst (λ (f : SyntaxFault). Refused text f) e
 
       given : length text ≤ text_limit → (out : Out) → read text ≡ out → judged out ≡ Err fault → Refused text fault
       given short (Got items) e d = absurd cc
-      given short (Cut at) e d = is_fault (err_is (Unclosed at) fault d) (cut_short short (unrefused_is_front text (inr (at, e))) (no_tree at e))
+      given short (Cut at) e d = is_fault (err_is (Unclosed at) fault d) (cut_short short (cut_at text at e))
       given short (Bad place other) e d = is_fault (err_is other fault d) (misfit short (misfit_at text place other e) (refused_kinds text place other e))
 
       by : (fits : Bool) → nat_le (length text) text_limit ≡ fits → Refused text fault

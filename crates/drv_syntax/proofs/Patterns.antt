@@ -8,7 +8,7 @@ use Rattle.drv_syntax.specs.Outcome.{Goes, Head, Here, Place, Waiting, behind_pa
 use Rattle.drv_syntax.specs.Spelling as s
 use Rattle.drv_syntax.specs.Spelling.{ArePatterns, AreSpaces, At, IsPattern, IsQuoted, Stops, span}
 use Rattle.drv_syntax.specs.Tree.{Choices, Pattern, Span, Tests, choice, no_choice, no_test, pattern}
-use Rattle.std.proofs.Common.{◌≡◌, ◌∙◌, ◌+◌, Bool, false, true, List, [], ◌∷◌, refl, ℕ}
+use Rattle.std.proofs.Common.{◌≡◌, ◌∙◌, ◌+◌, Bool, false, true, List, [], ◌∷◌, inl, refl, ℕ}
 use Rattle.std.specs.Prelude.{◌==◌, Option, Some}
 
 -- White space and patterns in braces, as their places read them.
@@ -41,19 +41,20 @@ negated_space h start n b e = rw e refl
 -- a place where a test is due, at this place of the text, that began at `start`
 pub record Asks (p : Place) (n : ℕ) (h : Head) (start : ℕ) (negated : Bool) : Type 0 where
   pub byte : (b : ℕ) → is_space b ≡ false → (b == 33) ≡ false → (b == 58) ≡ false → turn p n b ≡ turn_asked h start negated n b
+  pub cut : (m : ℕ) → o.finish p m ≡ o.Cut h.at
 
 pub start_asks : (h : Head) (n : ℕ) → Asks (o.ChoiceStart h) n h n false
-start_asks h n = record { byte = λ b e f g. by h.choices b e f g }
+start_asks h n = record { byte = λ b e f g. by h.choices b e f g; cut = λ m. refl }
   where
     by : (cs : Choices) (b : ℕ) → is_space b ≡ false → (b == 33) ≡ false → (b == 58) ≡ false → o.turn_start h cs n b ≡ turn_asked h n false n b
     by no_choice b e f g = rw (e, f) refl
     by (choice x y z c) b e f g = rw (g, e, f) refl
 
 pub due_asks : (h : Head) (n : ℕ) → Asks (o.TestDue h) n h n false
-due_asks h n = record { byte = λ b e f g. rw (e, f) refl }
+due_asks h n = record { byte = λ b e f g. rw (e, f) refl; cut = λ m. refl }
 
 pub negated_asks : (h : Head) (start n : ℕ) → Asks (o.TestNegated h start) n h start true
-negated_asks h start n = record { byte = λ b e f g. rw e refl }
+negated_asks h start n = record { byte = λ b e f g. rw e refl; cut = λ m. refl }
 
 pub asks_word : {p : Place} {n start : ℕ} {h : Head} {negated : Bool} → Asks p n h start negated → (b : ℕ) → is_mark b ≡ false → (b == 92) ≡ false → is_word b ≡ true
     → turn p n b ≡ Goes (o.TestWord h start negated (b ∷ []))
@@ -109,14 +110,14 @@ choosing here at kind choices tests = record { here = here; at = at; kind = kind
 pub record Closing (ws : List Waiting) (p : Place) (n : ℕ) (text : List ℕ) (here : Here) (at : ℕ) (kind : BraceKind) (ps : List (Span × Pattern)) : Type 0 where
   pub brace : {rest : List ℕ} → AreSpaces text (125 ∷ rest) → Leads ws p n text ws (λ m. o.AtItem (emitted_item (emitting here at kind []) m ps)) rest
   pub and : {rest : List ℕ} → AreSpaces text (38 ∷ rest) → Leads ws p n text ws (λ _. o.PatternDue (emitting here at kind ps)) rest
-  pub end : AreSpaces text [] → IsFrontFrom ws p n text
+  pub end : AreSpaces text [] → IsFrontFrom at ws p n text
 
 pub behind_closing : (ws : List Waiting) (n : ℕ) (text : List ℕ) (here : Here) (at : ℕ) (kind : BraceKind) (before ps : List (Span × Pattern)) (ts : Option Tests) (bare : Bool)
     → Closing ws (o.BehindTest (emitting here at kind before) (Some ps) ts bare) n text here at kind ps
 behind_closing ws n text here at kind before ps ts bare = record {
   brace = λ q. and_then (spaces_read ws p (behind_space h (Some ps) ts bare) n q) (λ m fits. one refl);
   and = λ q. and_then (spaces_read ws p (behind_space h (Some ps) ts bare) n q) (λ m fits. one refl);
-  end = λ q. onto (spaces_read ws p (behind_space h (Some ps) ts bare) n q) (λ m fits. ended ws p m);
+  end = λ q. onto (spaces_read ws p (behind_space h (Some ps) ts bare) n q) (λ m fits. ended ws p m (inl refl));
 }
   where
     h : Head

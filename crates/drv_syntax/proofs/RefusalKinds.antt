@@ -1,6 +1,8 @@
 use Rattle.drv_syntax.proofs.Covers.{spelled_is_read}
+use Rattle.drv_syntax.proofs.CutPlaces.{cut_at}
 use Rattle.drv_syntax.proofs.RefusalEnds.{refusals}
 use Rattle.drv_syntax.proofs.Refusals as fronts
+use Rattle.drv_syntax.specs.Faults.{IsCutAt}
 use Rattle.drv_syntax.specs.Fronts.{Front}
 use Rattle.drv_syntax.specs.Outcome.{Bad, Out, judged, parsed, read, text_limit}
 use Rattle.drv_syntax.specs.Refusals.{IsRefused}
@@ -37,8 +39,8 @@ parsed_tree text items h d = within text _ h (spelled_is_read text items d)
 pub parsed_refusal : (text rest : List ℕ) (fault : SyntaxFault) → length (text ++ rest) ≤ text_limit → IsRefused text fault → parsed (text ++ rest) ≡ Err fault
 parsed_refusal text rest fault h x = within (text ++ rest) _ h (refusal_kinds text rest fault x)
 
-pub parsed_cut : (text : List ℕ) → length text ≤ text_limit → Front text → ((items : Items) → Spells text items → ⊥) → (at : ℕ) × (parsed text ≡ Err (Unclosed at))
-parsed_cut text h f g = let y = fronts.cut_front text f g in (y.0, within text _ h y.1)
+pub parsed_cut : (text : List ℕ) → length text ≤ text_limit → Front text → ((items : Items) → Spells text items → ⊥) → (place : ℕ) × IsCutAt text place × (parsed text ≡ Err (Unclosed place))
+parsed_cut text h f g = let y = fronts.cut_front text f g in (y.0, cut_at text y.0 y.1, within text _ h y.1)
 
 pub parsed_long : (text : List ℕ) → text_limit < length text → parsed text ≡ Err TextTooLong
 parsed_long text h =

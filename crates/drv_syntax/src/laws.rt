@@ -1,6 +1,6 @@
 //! Laws of the grammar. The functions do nothing: each is its contract.
 
-ghost use Rattle.drv_syntax.specs.Faults.{IsMisfit};
+ghost use Rattle.drv_syntax.specs.Faults.{IsCutAt, IsMisfit};
 ghost use Rattle.drv_syntax.specs.Fronts.{Front};
 ghost use Rattle.drv_syntax.specs.Outcome.{Bad, Cut, Got, Unrefused, parsed, read, text_limit};
 ghost use Rattle.drv_syntax.specs.Refusals.{IsRefused};
@@ -25,8 +25,10 @@ pub fn refused_behind_front()
 
 /// A text is refused at the byte behind its longest prefix that is a front, and at no other.
 pub fn refused_at_misfit()
-    ensures refused { (text : List ℕ) (place : ℕ) (fault : SyntaxFault) → read text ≡ Bad place fault → IsMisfit text place }
-    ensures misfit { (text : List ℕ) (place : ℕ) → IsMisfit text place → (fault : SyntaxFault) × (read text ≡ Bad place fault) }
+    ensures refused { (text : List ℕ) (place : ℕ) (fault : SyntaxFault)
+        → read text ≡ Bad place fault → IsMisfit text place }
+    ensures misfit { (text : List ℕ) (place : ℕ) → IsMisfit text place
+        → (fault : SyntaxFault) × (read text ≡ Bad place fault) }
 {}
 
 /// What a front begins with is a front.
@@ -37,6 +39,12 @@ pub fn front_prefix()
 /// A front that has no tree is cut short.
 pub fn cut_front()
     ensures { (text : List ℕ) → Front text → ((items : Items) → Spells text items → ⊥) → (at : ℕ) × (read text ≡ Cut at) }
+{}
+
+/// A text that is cut short is cut at the place of what is open at its end, and at no other.
+pub fn cut_at_open()
+    ensures cut { (text : List ℕ) (place : ℕ) → read text ≡ Cut place → IsCutAt text place }
+    ensures open { (text : List ℕ) (place : ℕ) → IsCutAt text place → read text ≡ Cut place }
 {}
 
 /// A text has one tree at most.
@@ -75,10 +83,12 @@ pub fn refused_kinds()
 {}
 
 /// What a text is parsed to, by the grammar: its tree, the fault of its shortest prefix that is no front, that it is cut
-/// short, or that it is too long.
+/// short, with the place of what it leaves open, or that it is too long.
 pub fn parsed_by_grammar()
     ensures tree { (text : List ℕ) (items : Items) → length text ≤ text_limit → Spells text items → parsed text ≡ Ok items }
     ensures refusal { (text rest : List ℕ) (fault : SyntaxFault) → length (text ++ rest) ≤ text_limit → IsRefused text fault → parsed (text ++ rest) ≡ Err fault }
-    ensures cut { (text : List ℕ) → length text ≤ text_limit → Front text → ((items : Items) → Spells text items → ⊥) → (at : ℕ) × (parsed text ≡ Err (Unclosed at)) }
+    ensures cut { (text : List ℕ) → length text ≤ text_limit → Front text
+        → ((items : Items) → Spells text items → ⊥)
+        → (place : ℕ) × IsCutAt text place × (parsed text ≡ Err (Unclosed place)) }
     ensures too_long { (text : List ℕ) → text_limit < length text → parsed text ≡ Err TextTooLong }
 {}
