@@ -25,9 +25,10 @@ use Rattle.drv_syntax.specs.declared.token.TempKind.{TempKind}
 use Rattle.drv_syntax.specs.declared.token.Token.{Token}
 use Rattle.drv_syntax.specs.declared.token.TokenKind.TheVariants as kinds
 use Rattle.std.proofs.Common.{◌≡◌, ◌⊎◌, inl, inr, get_or, ◌∙◌, ◌+◌, ◌-◌, ◌++◌, ◌<◌, ◌≤◌, Bool, true, false, List, [], ◌∷◌, ap, append-nil, subst, append_assoc, arith, drop, if◌then◌else◌, length, length-append, refl, suc, sym, take, zero, ℕ}
+use Rattle.std.proofs.lemmas.Bool.Decides.{nat_tests}
 use Rattle.std.proofs.lemmas.List.{drop_more, length-take-le, take_all}
 use Rattle.std.specs.List.{prefix_len}
-use Rattle.std.specs.Prelude.{IsErrAnd, Result, Err, Ok}
+use Rattle.std.specs.Prelude.{◌==◌, IsErrAnd, Result, Err, Ok}
 
 -- Several bytes of a text at once, that go on as the byte before them did.
 
@@ -73,6 +74,9 @@ pub suffix_takes : (v u : Walk) (start : ℕ) (kind : TempKind) (k n : ℕ) (tex
 suffix_takes v u start kind k n text h e d =
     word_take v (at.List (stages.SuffixRun start kind)) h is_suffix (length v.word + k) (λ p i b l g. rw g refl) k n text (omega (arith, e)) (omega arith)
     ∙ ap (λ (r : Result Walk SyntaxFault). then_walk r (λ x. pass x (n + k) (drop k text))) d
+
+not_zero : (k : ℕ) → 0 < k → (k == 0) ≡ false
+not_zero k h = grind (arith, nat_tests)
 
 -- in the name of a text
 pub name_takes : (v u : Walk) (start k n : ℕ) (text : List ℕ) → v.stage ≡ at.List (stages.NameText start)
@@ -216,6 +220,26 @@ step_there m stage n b r h e = ap (λ (s : Stage). step_at s n b m) h ∙ e
 pub fault_there : (m : Walk) (stage : Stage) (n b : ℕ) (fault : SyntaxFault) → m.stage ≡ stage → (fault ≡ Memory) ⊎ (step_at stage n b m ≡ Err fault) → (fault ≡ Memory) ⊎ (step m n b ≡ Err fault)
 fault_there m stage n b fault h (inl e) = inl e
 fault_there m stage n b fault h (inr e) = inr (step_there m stage n b (Err fault) h e)
+
+-- the name of a text that a parenthesis ends
+pub named_takes : (v u : Walk) (start k n : ℕ) (text name : List ℕ) → v.stage ≡ at.List (stages.NameText start) → v.word ≡ [] → k ≡ prefix_len is_name text → 0 < k → k ≤ 255 → k < length text
+    → get_or text k 0 ≡ 41 → name ≡ take k text → walked (with_part (part singles.NamedText takes.Word start (n + k + 1)) (with_word name v)) ≡ walked u
+    → (k + 1 ≤ length text) × (pass v n text ≡ pass u (n + (k + 1)) (drop (k + 1) text))
+named_takes v u start k n text name h w e some short inside end is d =
+    run_steps v (with_word name v) n k 41 text inside (sym end)
+    (name_takes v (with_word name v) start k n text h e (omega (arith, short, ap (λ (q : List ℕ). length q) w))
+    (ap (λ (q : List ℕ). walked (with_word (q ++ take k text) v)) w ∙ ap (λ (q : List ℕ). walked (with_word q v)) (sym is)))
+    u
+    (step_there (with_word name v) (at.List (stages.NameText start)) (n + k) 41 (Ok u) h (ended ∙ d))
+  where
+    size : length name ≡ k
+    size = ap (λ (q : List ℕ). length q) is ∙ length-take-le k text (omega (arith, inside))
+
+    full : (length name == 0) ≡ false
+    full = not_zero (length name) (omega (arith, some, size))
+
+    ended : step_at (at.List (stages.NameText start)) (n + k) 41 (with_word name v) ≡ walked (with_part (part singles.NamedText takes.Word start (n + k + 1)) (with_word name v))
+    ended = rw full refl
 
 -- a byte, and those behind it
 pub turn_takes : (v x u : Walk) (n b taken : ℕ) (text : List ℕ) → step v n b ≡ Ok x → pass x (n + 1) text ≡ pass u (n + 1 + taken) (drop taken text) → pass v n (b ∷ text) ≡ pass u (n + 1 + taken) (drop taken text)

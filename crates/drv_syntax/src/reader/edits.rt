@@ -9,7 +9,7 @@ ghost use Rattle.std.specs.Prelude.{◌≡◌, ◌<◌, ◌≤◌, ◌^◌, ◌+
 use crate::directives::SayKind;
 use crate::fault::SyntaxFault;
 use crate::reader::actions::{Part, Single, Taken};
-use crate::reader::naming::{name_single, taken_word};
+use crate::reader::naming::{name_single, name_word, taken_word};
 use crate::reader::stages::{ListStage, Open, Stage};
 use crate::reader::walk::Walk;
 use crate::token::{Token, TokenKind};
@@ -235,6 +235,23 @@ pub fn with_plains(n: u32, run: &[u8], w: &mut Walk) -> Result<(), SyntaxFault>
     w.stage = Stage::List(ListStage::Start);
     w.word.clear();
     w.kept = n + run.len() as u32;
+    w.trailing = 0;
+    Ok(())
+}
+
+/// A named text of this name.
+#[inline(always)]
+pub fn with_name(at: u32, end: u32, name: &[u8], w: &mut Walk) -> Result<(), SyntaxFault>
+    requires room { length w.old.tokens.items + 1 < 2 ^ 32 }
+    ensures does { Gives SyntaxFault.Memory (λ _. state w.new) result (Ok (steps.with_part (turns.part Single.NamedText Taken.Word at end) (steps.with_word name.now (state w.old)))) }
+    ensures size { OnOk result (length w.new.tokens.items ≤ length w.old.tokens.items + 1) }
+    ensures trail { OnOk result (w.new.trailing ≡ 0) }
+{
+    with_leaf(TokenKind::NamedText, at, end, w)?;
+    name_word(name, &mut w.labels)?;
+    w.stage = Stage::List(ListStage::Start);
+    w.word.clear();
+    w.kept = end;
     w.trailing = 0;
     Ok(())
 }

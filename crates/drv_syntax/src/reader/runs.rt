@@ -21,6 +21,7 @@ fn stands(kind: ListKind, b: u8) -> bool
     ensures { result ≡ steps.runs kind b }
 {
     b.is_ascii_lowercase()
+        || (b'-' <= b && b <= b'9')
         || match b {
             b'\\' | b'%' | b'|' | b' ' | b'\t' | b'\n' => false,
             b';' | b'}' => !matches!(kind, ListKind::InX),

@@ -195,7 +195,30 @@ fn begins_word(b: u8) -> bool
     is_word(b) && !is_mark(b)
 }
 
-/// Where an alternative begins: a word of a test, if one begins here, and what ends it.
+/// The `!` of a test, and its word, if one begins behind it, and what ends that.
+#[inline(always)]
+fn mark_turn(
+    head: Head,
+    form: Form,
+    n: u32,
+    text: &[u8],
+    w: &mut Walk,
+) -> Result<usize, SyntaxFault>
+    requires some { 0 < length text.now }
+    requires begins { steps.step (state w.old) n (get_or text.now 0 0) ≡ Ok (steps.at_stage (Stage.Braces head form (HeadStage.TestNegated n)) (state w.old)) }
+    requires room { length w.old.tokens.items < 2 ^ 29 }
+    requires place { n + length text.now < 2 ^ 30 }
+    requires trail { w.old.trailing < 2 ^ 29 }
+    ensures does { Reads n text.now (state w.old) (state w.new) result }
+    ensures size { IfOk result (λ taken. length w.new.tokens.items ≤ length w.old.tokens.items + 4 * taken) }
+    ensures trail { IfOk result (λ taken. w.new.trailing ≤ w.old.trailing + 4 * taken) }
+{
+    w.stage = at(head, form, HeadStage::TestNegated { start: n });
+    let more = negated_turn(head, form, n, n + 1, &text[1..], w)?;
+    Ok(1 + more)
+}
+
+/// Where an alternative begins: a test, if one begins here with a word or with `!`, and what ends it.
 #[inline(always)]
 pub fn choice_turn(
     head: Head,
@@ -212,10 +235,16 @@ pub fn choice_turn(
     ensures size { IfOk result (λ taken. length w.new.tokens.items ≤ length w.old.tokens.items + 4 * taken) }
     ensures trail { IfOk result (λ taken. w.new.trailing ≤ w.old.trailing + 4 * taken) }
 {
-    if text.is_empty() || !begins_word(text[0]) {
+    if text.is_empty() {
         return Ok(0);
     }
     let form = if later { Form::Later } else { Form::Fresh };
+    if text[0] == b'!' {
+        return mark_turn(head, form, n, text, w);
+    }
+    if !begins_word(text[0]) {
+        return Ok(0);
+    }
     begun_turn(head, form, n, false, n, text, w)
 }
 

@@ -2,12 +2,14 @@
 
 ghost use Rattle.drv_words.specs.Bytes as ascii;
 ghost use Rattle.drv_syntax.specs.Code.States.{Reads, Turns, state};
-ghost use Rattle.std.specs.Prelude.{◌≡◌, ◌<◌, ◌≤◌, ◌^◌, ◌+◌, ◌*◌, ◌∷◌, IfOk, OnOk, length};
+ghost use Rattle.drv_syntax.specs.Bytes.{is_name};
+ghost use Rattle.std.specs.List.{prefix_len};
+ghost use Rattle.std.specs.Prelude.{◌≡◌, ◌<◌, ◌≤◌, ◌^◌, ◌+◌, ◌*◌, ◌∷◌, [], IfOk, OnOk, get_or, length};
 
 use crate::directives::SayKind;
 use crate::fault::SyntaxFault;
 use crate::reader::bytes::is_blank;
-use crate::reader::edits::{with_blank, with_plains};
+use crate::reader::edits::{with_blank, with_name, with_plains};
 use crate::reader::list_steps::{hide_word, name_text, percent, saying_text, start, suffix_run};
 use crate::reader::runs::{
     extend, front, name_length, run_length, said_length, suffix_length, word_length,
@@ -44,6 +46,27 @@ fn suffix_turn(
     Ok(size + 1)
 }
 
+/// The name of a text, of so many bytes, which was not yet put, and the parenthesis behind it.
+#[inline(always)]
+fn named_turn(at: u32, size: usize, n: u32, text: &[u8], w: &mut Walk) -> Result<usize, SyntaxFault>
+    requires here { w.old.stage ≡ Stage.List (ListStage.NameText at) }
+    requires word { w.old.word.items ≡ [] }
+    requires name { size ≡ prefix_len is_name text.now }
+    requires some { 0 < size }
+    requires short { size ≤ 255 }
+    requires within { size < length text.now }
+    requires end { get_or text.now size 0 ≡ ascii.closing_parenthesis }
+    requires room { length w.old.tokens.items < 2 ^ 29 }
+    requires place { n + length text.now < 2 ^ 30 }
+    requires trail { w.old.trailing < 2 ^ 29 }
+    ensures does { Reads n text.now (state w.old) (state w.new) result }
+    ensures size { IfOk result (λ taken. length w.new.tokens.items ≤ length w.old.tokens.items + 4 * taken) }
+    ensures trail { IfOk result (λ taken. w.new.trailing ≤ w.old.trailing + 4 * taken) }
+{
+    with_name(at, n + size as u32 + 1, front(text, size), w)?;
+    Ok(size + 1)
+}
+
 /// In the name of a text: the rest of it, and the byte behind it.
 #[inline(never)]
 fn name_turn(at: u32, n: u32, text: &[u8], w: &mut Walk) -> Result<usize, SyntaxFault>
@@ -58,6 +81,9 @@ fn name_turn(at: u32, n: u32, text: &[u8], w: &mut Walk) -> Result<usize, Syntax
     let size = name_length(text);
     if w.word.len() > 255 || size > 255 - w.word.len() {
         return Ok(0);
+    }
+    if size != 0 && size < text.len() && text[size] == b')' && w.word.is_empty() {
+        return named_turn(at, size, n, text, w);
     }
     extend(size, text, w)?;
     if size == text.len() {
