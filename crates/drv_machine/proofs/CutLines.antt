@@ -20,7 +20,7 @@ or_assoc : (a b c : Bool) → ((a || b) || c) ≡ (a || (b || c))
 or_assoc true b c = refl
 or_assoc false b c = refl
 
-or_none : (a : Bool) → (a || false) ≡ a
+pub or_none : (a : Bool) → (a || false) ≡ a
 or_none true = refl
 or_none false = refl
 
@@ -88,10 +88,10 @@ pub record Lined : Type 0 where
   pub lines : List Line
   pub stray : Bool
 
-abbrev lined : Cut → Lined
+abbrev pub lined : Cut → Lined
 lined c = record { outer = c.outer; line = c.line; lines = c.lines; stray = c.stray }
 
-inside_lined : (c : Cut) (inside : List (Option (List ℕ))) → lined (inside_done inside c) ≡ lined c
+pub inside_lined : (c : Cut) (inside : List (Option (List ℕ))) → lined (inside_done inside c) ≡ lined c
 inside_lined c [] = refl
 inside_lined c (None ∷ outer) = refl
 inside_lined c (Some last ∷ outer) = refl

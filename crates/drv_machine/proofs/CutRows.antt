@@ -1,11 +1,12 @@
 use Rattle.drv_machine.proofs.WorkedTexts.{linking}
-use Rattle.drv_machine.specs.Cuts.{each, failure_files, has_stray_pipe, if_any, lines, output, path, path_of, removed, words}
+use Rattle.drv_machine.specs.Cuts.{Bare, Filed, each, failure_files, has_stray_pipe, if_any, lines, output, path, path_of, removed, without_file, words}
 use Rattle.drv_machine.specs.Cutting.{Line}
 use Rattle.drv_machine.specs.Working.{Answer, Atom, Break, End, From, Marked, Open, Piped, Put, To, Without}
 use Rattle.drv_machine.specs.declared.machine.marking.Mark.TheVariants.{AsOutput, AsRemoved}
 use Rattle.drv_system.specs.Facts.{Facts}
 use Rattle.drv_system.specs.Known.{Is}
 use Rattle.std.proofs.Common.{◌≡◌, List, [], ◌∷◌, codes, false, refl, true, ℕ}
+use Rattle.std.specs.List.{flat_map}
 use Rattle.std.specs.Prelude.{None, Ok, Option, Some}
 
 -- Lists of atoms and what is said of them as they stand, by computation. The expected values were worked out by hand from
@@ -100,6 +101,11 @@ module _ (F : Facts) where
   two_commands : lines_are (Put letter_a ∷ Piped ∷ Break ∷ End ∷ Break ∷ End ∷ Put letter_b ∷ Break ∷ End ∷ [])
       ≡ Is (Ok (record { words = codes "a" ∷ []; piped = true } ∷ record { words = codes "b" ∷ []; piped = false } ∷ []))
   two_commands = refl
+
+  -- a%@{b}a|, of which a file is made
+  around_file : lines_are (flat_map without_file (Bare (Put letter_a) ∷ Filed (Put letter_b ∷ []) ∷ Bare (Put letter_a) ∷ Bare Piped ∷ Bare End ∷ []))
+      ≡ Is (Ok (record { words = codes "a" ∷ codes "a" ∷ []; piped = true } ∷ []))
+  around_file = refl
 
   ends_later : lines_are (Put letter_a ∷ End ∷ Put letter_b ∷ Break ∷ End ∷ []) ≡ Is (Ok (record { words = codes "ab" ∷ []; piped = false } ∷ []))
   ends_later = refl

@@ -3,6 +3,7 @@ pub mod AskedCalls
 pub mod ChoiceSteps
 pub mod ChoiceTurns
 pub mod CutFailures
+pub mod CutFiles
 pub mod CutLines
 pub mod CutRows
 pub mod CutRuns

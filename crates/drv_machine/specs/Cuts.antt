@@ -1,6 +1,6 @@
 use Rattle.drv_machine.specs.Context.{Context}
 use Rattle.drv_machine.specs.Cutting.{Line, found_file, found_script, no_line, script_option}
-use Rattle.drv_machine.specs.Working.{◌>>-◌, Answer, Atom, Break, End, FileFrom, From, Marked, Open, Piped, Put, To, Without}
+use Rattle.drv_machine.specs.Working.{◌>>-◌, Answer, Atom, Break, End, FileFrom, FileTo, From, Marked, Open, Piped, Put, To, Without}
 use Rattle.drv_machine.specs.declared.machine.marking.Mark.TheVariants.{AsFile, AsOutput, AsRemoved, AsScript}
 use Rattle.drv_system.specs.Facts.{Facts}
 use Rattle.drv_system.specs.Known.{Is}
@@ -261,6 +261,32 @@ is_kept line = line.piped || not (is_nil line.words)
 abbrev pub begins_file : Atom → Bool
 begins_file FileFrom = true
 begins_file atom = false
+
+-- or ends
+abbrev pub bounds_file : Atom → Bool
+bounds_file FileFrom = true
+bounds_file FileTo = true
+bounds_file atom = false
+
+-- what a list is made of: atoms, and files with the atoms in each
+pub data Stretch : Type 0 where
+  Bare : Atom → Stretch
+  Filed : List Atom → Stretch
+
+-- a word that is open ends before the file and in it
+abbrev pub stretch_atoms : Stretch → List Atom
+stretch_atoms (Bare atom) = atom ∷ []
+stretch_atoms (Filed atoms) = Break ∷ FileFrom ∷ atoms ++ Break ∷ FileTo ∷ []
+
+-- what is left where files are taken out
+abbrev pub without_file : Stretch → List Atom
+without_file (Bare atom) = atom ∷ []
+without_file (Filed atoms) = Break ∷ []
+
+-- a file begins or ends that is not one of the list's, or stands in one
+abbrev pub is_broken : Stretch → Bool
+is_broken (Bare atom) = bounds_file atom
+is_broken (Filed atoms) = list_any bounds_file atoms
 
 module _ (F : Facts) (C : Context) where
   -- the words of a command, and whether a pipe stands in it

@@ -1,12 +1,12 @@
 //! Laws of the cut of a text. The functions do nothing: each is its contract.
 
 ghost use Rattle.drv_machine.specs.Context as specs;
-ghost use Rattle.drv_machine.specs.Cuts.{begins_file, each, failure_files, has_stray_pipe, if_any, line_of, lines, open_command, output, path, path_of, removed, whether, words};
-ghost use Rattle.drv_machine.specs.Cutting.{Cut, all_taken, argument_words, nothing_cut};
+ghost use Rattle.drv_machine.specs.Cuts.{Stretch, begins_file, bounds_file, each, failure_files, has_stray_pipe, if_any, is_broken, line_of, lines, open_command, output, path, path_of, removed, stretch_atoms, texts, whether, without_file, words};
+ghost use Rattle.drv_machine.specs.Cutting.{Cut, all_taken, argument_words, file_words, nothing_cut};
 ghost use Rattle.drv_machine.specs.Working.{◌>>-◌, Atom, Break};
 ghost use Rattle.drv_system.specs.Facts.{Facts};
 ghost use Rattle.drv_system.specs.Known.{Is};
-ghost use Rattle.std.specs.List.{list_any};
+ghost use Rattle.std.specs.List.{flat_map, list_any};
 ghost use Rattle.std.specs.Prelude.{◌≡◌, ◌∷◌, ◌++◌, [], List, Ok, false, ℕ};
 
 /// The law that a list of atoms is cut as the list as it stands says: the output is the last word that is
@@ -37,4 +37,27 @@ pub fn command_law()
     ensures arguments { (F : Facts) (C : specs.Context) (atoms : List Atom) (found : List (List ℕ))
         → list_any begins_file atoms ≡ false → argument_words F C atoms ≡ Is (Ok found)
         → (line_of F C (open_command [] [] (atoms ++ Break ∷ [])) >>- λ line. Is (Ok line.words)) ≡ Is (Ok found) }
+{}
+
+/// The law of a list of atoms in which `%@` makes files: their words are those that end in them, and the commands,
+/// stray pipes and arguments are those of the list from which the files are taken out, each of them a break. It
+/// takes and gives nothing.
+pub fn file_law()
+    ensures words { (F : Facts) (C : specs.Context) (atoms : List Atom) (found : List (List ℕ))
+        → list_any bounds_file atoms ≡ false → file_words F C atoms ≡ Is (Ok found)
+        → (each (texts F C) (words (atoms ++ Break ∷ []))
+        >>- λ lists. Is (Ok (flat_map (λ list. list) lists))) ≡ Is (Ok found) }
+    ensures lines { (F : Facts) (C : specs.Context) (stretches : List Stretch) (c : Cut)
+        → list_any is_broken stretches ≡ false
+        → all_taken F C nothing_cut (flat_map stretch_atoms stretches) ≡ Is (Ok c)
+        → lines F C (flat_map without_file stretches) ≡ Is (Ok c.lines) }
+    ensures stray { (F : Facts) (C : specs.Context) (stretches : List Stretch) (c : Cut)
+        → list_any is_broken stretches ≡ false
+        → all_taken F C nothing_cut (flat_map stretch_atoms stretches) ≡ Is (Ok c)
+        → has_stray_pipe (flat_map without_file stretches) ≡ c.stray }
+    ensures arguments { (F : Facts) (C : specs.Context) (stretches : List Stretch)
+        (found : List (List ℕ)) → list_any is_broken stretches ≡ false
+        → argument_words F C (flat_map stretch_atoms stretches) ≡ Is (Ok found)
+        → (line_of F C (open_command [] [] (flat_map without_file stretches ++ Break ∷ []))
+        >>- λ line. Is (Ok line.words)) ≡ Is (Ok found) }
 {}
