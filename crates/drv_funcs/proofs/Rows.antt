@@ -5,6 +5,7 @@ use Rattle.drv_funcs.specs.declared.fault.FuncsFault.TheVariants.{BadOperator, B
 use Rattle.drv_funcs.specs.declared.function.Function.TheVariants.{RemoveOutfile, ReplaceOutfile, VersionCompare}
 use Rattle.drv_funcs.specs.declared.operator.Operator.{Operator}
 use Rattle.drv_funcs.specs.declared.operator.Operator.TheVariants.{AtLeast, Below, Between, NotAtLeast, NotBelow, Outside}
+use Rattle.drv_funcs.specs.declared.site.Site.TheVariants.{Link, Source}
 use Rattle.drv_system.specs.Facts.{Facts}
 use Rattle.drv_system.specs.Known.{Is, Unasked}
 use Rattle.drv_system.specs.declared.event.PathKind.TheVariants.{Missing, Plain}
@@ -147,11 +148,11 @@ there_nothing = refl
 abbrev outputs : List (List ℕ)
 outputs = codes "-lm" ∷ codes "a.o" ∷ codes "-lm" ∷ []
 
-replaces : called facts [] [] true ReplaceOutfile (codes "-lm" ∷ codes "-lq" ∷ []) outputs ≡ Is (Ok (record { given = None; outputs = codes "-lq" ∷ codes "a.o" ∷ codes "-lq" ∷ [] }))
+replaces : called facts [] [] Link ReplaceOutfile (codes "-lm" ∷ codes "-lq" ∷ []) outputs ≡ Is (Ok (record { given = None; outputs = codes "-lq" ∷ codes "a.o" ∷ codes "-lq" ∷ [] }))
 replaces = refl
 
-removes : called facts [] [] true RemoveOutfile (codes "-lm" ∷ []) outputs ≡ Is (Ok (record { given = None; outputs = codes "a.o" ∷ [] }))
+removes : called facts [] [] Link RemoveOutfile (codes "-lm" ∷ []) outputs ≡ Is (Ok (record { given = None; outputs = codes "a.o" ∷ [] }))
 removes = refl
 
-outside_link : called facts [] [] false ReplaceOutfile [] outputs ≡ Is (Err (NotInLink ReplaceOutfile))
+outside_link : called facts [] [] Source ReplaceOutfile [] outputs ≡ Is (Err (NotInLink ReplaceOutfile))
 outside_link = refl

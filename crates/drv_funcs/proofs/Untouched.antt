@@ -1,5 +1,7 @@
 use Rattle.drv_funcs.specs.Outcome.{in_link_alone, removed, replaced}
 use Rattle.drv_funcs.specs.declared.function.Function.{Function}
+use Rattle.drv_funcs.specs.declared.site.Site.TheVariants.{Link}
+use Rattle.drv_funcs.specs.declared.site.Site.{Site}
 use Rattle.std.proofs.Common.{◌≡◌, ◌∙◌, Bool, List, [], ◌∷◌, Ok, ap, arith, false, get_or, if◌then◌else◌, length, map, nat_eq, not, refl, sym, true, ℕ}
 use Rattle.std.specs.Cmp.Lexicographic.{pointwise}
 use Rattle.std.specs.List.{filter, list_any}
@@ -42,14 +44,14 @@ one_word (a ∷ b ∷ args) old long first = absurd (omega (arith, long))
 none_found : (found : Bool) (old : List ℕ) (list outputs : List (List ℕ)) → found ≡ list_any (is_it old) list → list ≡ outputs → found ≡ false → list_any (is_it old) outputs ≡ false
 none_found found old list outputs says same missing = ap (list_any (is_it old)) (sym same) ∙ sym says ∙ missing
 
-module _ (in_link found : Bool) (function : Function) (args list outputs : List (List ℕ)) (old : List ℕ)
-    (linking : in_link ≡ true) (says : found ≡ list_any (is_it old) list) (same : list ≡ outputs) (missing : found ≡ false) where
-  pub none_replaced : (new : List ℕ) → length args ≡ 2 → old ≡ get_or args 0 old → new ≡ get_or args 1 new → in_link_alone in_link function (replaced args outputs) ≡ Ok outputs
+module _ (site : Site) (found : Bool) (function : Function) (args list outputs : List (List ℕ)) (old : List ℕ)
+    (linking : site ≡ Link) (says : found ≡ list_any (is_it old) list) (same : list ≡ outputs) (missing : found ≡ false) where
+  pub none_replaced : (new : List ℕ) → length args ≡ 2 → old ≡ get_or args 0 old → new ≡ get_or args 1 new → in_link_alone site function (replaced args outputs) ≡ Ok outputs
   none_replaced new long first second =
-      ap (λ b. in_link_alone b function (replaced args outputs)) linking ∙ ap (λ ws. replaced ws outputs) (two_words args old new long first second)
+      ap (λ s. in_link_alone s function (replaced args outputs)) linking ∙ ap (λ ws. replaced ws outputs) (two_words args old new long first second)
       ∙ ap Ok (none_becomes old new outputs (none_found found old list outputs says same missing))
 
-  pub none_removed : length args ≡ 1 → old ≡ get_or args 0 old → in_link_alone in_link function (removed args outputs) ≡ Ok outputs
+  pub none_removed : length args ≡ 1 → old ≡ get_or args 0 old → in_link_alone site function (removed args outputs) ≡ Ok outputs
   none_removed long first =
-      ap (λ b. in_link_alone b function (removed args outputs)) linking ∙ ap (λ ws. removed ws outputs) (one_word args old long first)
+      ap (λ s. in_link_alone s function (removed args outputs)) linking ∙ ap (λ ws. removed ws outputs) (one_word args old long first)
       ∙ ap Ok (none_goes old outputs (none_found found old list outputs says same missing))

@@ -5,6 +5,8 @@ use Rattle.drv_funcs.specs.declared.fault.FuncsFault.TheVariants.{BadOperator, B
 use Rattle.drv_funcs.specs.declared.function.Function.{Function}
 use Rattle.drv_funcs.specs.declared.function.Function.TheVariants.{Getenv, IfExists, IfExistsElse, IfExistsThenElse, RemoveOutfile, ReplaceOutfile, VersionCompare}
 use Rattle.drv_funcs.specs.declared.operator.Operator.{Operator}
+use Rattle.drv_funcs.specs.declared.site.Site.TheVariants.{Link, Source}
+use Rattle.drv_funcs.specs.declared.site.Site.{Site}
 use Rattle.drv_match.specs.Matching.{hits, name_at}
 use Rattle.drv_match.specs.Pattern.{Pattern}
 use Rattle.drv_system.specs.Facts.{Facts, kind_of, variable_of}
@@ -66,9 +68,9 @@ removed (old ∷ []) outputs = Ok (filter (λ output. not (pointwise nat_eq outp
 removed args outputs = Err (WrongCount RemoveOutfile)
 
 -- both are for the link alone, which is judged before the number of arguments
-abbrev pub in_link_alone : Bool → Function → Result (List (List ℕ)) FuncsFault → Result (List (List ℕ)) FuncsFault
-in_link_alone true function changed = changed
-in_link_alone false function changed = Err (NotInLink function)
+abbrev pub in_link_alone : Site → Function → Result (List (List ℕ)) FuncsFault → Result (List (List ℕ)) FuncsFault
+in_link_alone Link function changed = changed
+in_link_alone Source function changed = Err (NotInLink function)
 
 -- the last of a list
 abbrev pub last : List ℕ → Option ℕ
@@ -133,11 +135,11 @@ changed (Err fault) = Err fault
 
 -- the table of the functions: the facts, the names of the line's switches and which are hidden, whether the link's text is
 -- worked, the function, its arguments, and the outputs
-abbrev pub called : Facts → List (List ℕ) → List Bool → Bool → Function → List (List ℕ) → List (List ℕ) → Known (Result Called FuncsFault)
-called F names hidden in_link Getenv args outputs = getenv F args >>= λ given. Is (unchanged outputs given)
-called F names hidden in_link IfExists args outputs = if_exists F args >>= λ given. Is (unchanged outputs given)
-called F names hidden in_link IfExistsElse args outputs = if_exists_else F args >>= λ given. Is (unchanged outputs given)
-called F names hidden in_link IfExistsThenElse args outputs = if_exists_then_else F args >>= λ given. Is (unchanged outputs given)
-called F names hidden in_link ReplaceOutfile args outputs = Is (changed (in_link_alone in_link ReplaceOutfile (replaced args outputs)))
-called F names hidden in_link RemoveOutfile args outputs = Is (changed (in_link_alone in_link RemoveOutfile (removed args outputs)))
-called F names hidden in_link VersionCompare args outputs = Is (unchanged outputs (version_compare names hidden args))
+abbrev pub called : Facts → List (List ℕ) → List Bool → Site → Function → List (List ℕ) → List (List ℕ) → Known (Result Called FuncsFault)
+called F names hidden site Getenv args outputs = getenv F args >>= λ given. Is (unchanged outputs given)
+called F names hidden site IfExists args outputs = if_exists F args >>= λ given. Is (unchanged outputs given)
+called F names hidden site IfExistsElse args outputs = if_exists_else F args >>= λ given. Is (unchanged outputs given)
+called F names hidden site IfExistsThenElse args outputs = if_exists_then_else F args >>= λ given. Is (unchanged outputs given)
+called F names hidden site ReplaceOutfile args outputs = Is (changed (in_link_alone site ReplaceOutfile (replaced args outputs)))
+called F names hidden site RemoveOutfile args outputs = Is (changed (in_link_alone site RemoveOutfile (removed args outputs)))
+called F names hidden site VersionCompare args outputs = Is (unchanged outputs (version_compare names hidden args))

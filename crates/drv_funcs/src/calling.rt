@@ -9,19 +9,20 @@ ghost use Rattle.std.specs.Prelude.{◌≡◌, OnErr, length};
 use crate::comparing::version_compare;
 use crate::existing::{getenv, if_exists, if_exists_else, if_exists_then_else};
 use crate::outputs::{remove_outfile, replace_outfile};
-use crate::{FuncsFault, Function};
+use crate::{FuncsFault, Function, Site};
 use drv_match::{Hidden, Switches};
 use drv_system::{FactTable, System};
 use drv_words::{Listing, Word};
 use std::alloc::Global;
 
-/// What a function gives for these arguments: a word, or nothing (GCC manual, "Spec Files"). In the link two functions
-/// change the outputs, which are otherwise as they were, also after an error.
+/// What a function gives for these arguments: a word, or nothing (GCC manual, "Spec Files"). In the
+/// link two functions change the outputs, which are otherwise as they were, also after an error.
 ///
 /// # Errors
-/// The first of these: `NotInLink` for a function that is for the link alone; `WrongCount` where the function takes
-/// another number of arguments, but `BadOperator` before it where there is a first argument that names no comparison;
-/// `BadVersion` for the versions in order, and then for the value of the switch; `VariableMissing`.
+/// The first of these: `NotInLink` for a function that is for the link alone; `WrongCount` where
+/// the function takes another number of arguments, but `BadOperator` before it where there is a
+/// first argument that names no comparison; `BadVersion` for the versions in order, and then for
+/// the value of the switch; `VariableMissing`.
 #[tactic(auto, using(crate::proofs::Asked::asks_nothing_more, crate::proofs::Giving::known_given, crate::proofs::Giving::given_known))]
 pub fn call<S: System>(
     alloc: Global,
@@ -29,14 +30,16 @@ pub fn call<S: System>(
     args: &[Word],
     switches: &Switches<'_>,
     hidden: &Hidden,
-    in_link: bool,
+    site: Site,
     outputs: &mut Listing<Word>,
     sys: &mut S,
     facts: &mut FactTable,
 ) -> Result<Option<Word>, FuncsFault>
     requires { length hidden.now ≡ length switches.now }
     ensures asks { Asks (S.events sys.old) (S.events sys.new) facts.old facts.new }
-    ensures gives { (F : Facts) → Extends facts.new F → GivesKnown FuncsFault.Memory (λ word. record { given = word; outputs = outputs.new }) result (called F switches.now hidden.now in_link function args.now outputs.old) }
+    ensures gives { (F : Facts) → Extends facts.new F → GivesKnown FuncsFault.Memory
+        (λ word. record { given = word; outputs = outputs.new }) result
+        (called F switches.now hidden.now site function args.now outputs.old) }
     ensures err { OnErr result (outputs.new ≡ outputs.old) }
 {
     match function {
@@ -45,11 +48,11 @@ pub fn call<S: System>(
         Function::IfExistsElse => if_exists_else(args, sys, facts),
         Function::IfExistsThenElse => if_exists_then_else(args, sys, facts),
         Function::ReplaceOutfile => {
-            replace_outfile(alloc, args, in_link, outputs)?;
+            replace_outfile(alloc, args, site, outputs)?;
             Ok(None)
         }
         Function::RemoveOutfile => {
-            remove_outfile(alloc, args, in_link, outputs)?;
+            remove_outfile(alloc, args, site, outputs)?;
             Ok(None)
         }
         Function::VersionCompare => version_compare(alloc, args, switches, hidden),

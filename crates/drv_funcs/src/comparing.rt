@@ -4,7 +4,7 @@ ghost use Rattle.drv_funcs.specs.Comparing.{takes_two};
 ghost use Rattle.drv_funcs.specs.Outcome.{judged, value_of, version_compare, with_versions};
 ghost use Rattle.drv_funcs.specs.Outcome as outcome;
 ghost use Rattle.drv_words.specs.Gives.{Gives};
-ghost use Rattle.std.specs.Prelude.{◌≡◌, IfOk, drop, length};
+ghost use Rattle.std.specs.Prelude.{◌≡◌, IfOk, length};
 
 use crate::operator::Operator;
 use crate::version::version_of;
@@ -12,17 +12,6 @@ use crate::{FuncsFault, Function};
 use drv_match::{Hidden, Pattern, Switches};
 use drv_words::Word;
 use std::alloc::{AllocError, Global};
-
-/// What stands behind so many bytes.
-fn behind(bytes: &[u8], size: usize) -> &[u8]
-    ensures { result.now ≡ drop size bytes.now }
-{
-    if size <= bytes.len() {
-        &bytes[size..]
-    } else {
-        &[]
-    }
-}
 
 /// The rest of the last switch that the starred prefix hits.
 fn value_of(
@@ -42,20 +31,22 @@ fn value_of(
     match hits.as_slice().last() {
         None => Ok(None),
         Some(place) => {
-            let rest = behind(switches.name(*place), prefix.len());
+            let rest = switches.rest(*place, prefix.len());
             Ok(Some(Word::from_bytes(alloc, rest)?))
         }
     }
 }
 
-/// Whether the value of a switch stands so to the versions; with no value the comparison alone decides.
+/// Whether the value of a switch stands so to the versions; with no value the comparison alone
+/// decides.
 fn judge(
     operator: Operator,
     first: &Word,
     second: &Word,
     value: &Option<Word>,
 ) -> Result<bool, FuncsFault>
-    ensures { Gives FuncsFault.Memory (λ holds. holds) result (judged operator first.now second.now value.now) }
+    ensures { Gives FuncsFault.Memory (λ holds. holds) result
+        (judged operator first.now second.now value.now) }
 {
     let Some(one) = version_of(first.as_bytes()) else {
         return Err(FuncsFault::BadVersion(first.clone()?));
@@ -80,7 +71,8 @@ fn word_if(
     value: &Option<Word>,
     word: &Word,
 ) -> Result<Option<Word>, FuncsFault>
-    ensures { Gives FuncsFault.Memory (λ given. given) result (outcome.word_if word.now (judged operator first.now second.now value.now)) }
+    ensures { Gives FuncsFault.Memory (λ given. given) result
+        (outcome.word_if word.now (judged operator first.now second.now value.now)) }
 {
     if judge(operator, first, second, value)? {
         return Ok(Some(word.clone()?));
@@ -96,7 +88,8 @@ pub fn version_compare(
     hidden: &Hidden,
 ) -> Result<Option<Word>, FuncsFault>
     requires { length hidden.now ≡ length switches.now }
-    ensures { Gives FuncsFault.Memory (λ given. given) result (version_compare switches.now hidden.now args.now) }
+    ensures { Gives FuncsFault.Memory (λ given. given) result
+        (version_compare switches.now hidden.now args.now) }
 {
     let [name, args @ ..] = args else {
         return Err(FuncsFault::WrongCount(Function::VersionCompare));
@@ -107,7 +100,8 @@ pub fn version_compare(
     with_versions(alloc, operator, args, switches, hidden)
 }
 
-/// The word that is the last argument, if the version that a switch names stands so to the first, or the first two.
+/// The word that is the last argument, if the version that a switch names stands so to the first,
+/// or the first two.
 fn with_versions(
     alloc: Global,
     operator: Operator,
@@ -116,7 +110,8 @@ fn with_versions(
     hidden: &Hidden,
 ) -> Result<Option<Word>, FuncsFault>
     requires { length hidden.now ≡ length switches.now }
-    ensures { Gives FuncsFault.Memory (λ given. given) result (with_versions switches.now hidden.now operator (takes_two operator) args.now) }
+    ensures { Gives FuncsFault.Memory (λ given. given) result
+        (with_versions switches.now hidden.now operator (takes_two operator) args.now) }
 {
     if operator.takes_two() {
         let [first, second, prefix, word] = args else {

@@ -1,6 +1,7 @@
 //! The functions that ask for a variable or a path.
 
-ghost use Rattle.drv_funcs.specs.Outcome.{exists, getenv, if_exists, if_exists_else, if_exists_then_else, is_missing};
+ghost use Rattle.drv_funcs.specs.Outcome.{exists, getenv, if_exists, if_exists_else};
+ghost use Rattle.drv_funcs.specs.Outcome.{if_exists_then_else, is_missing};
 ghost use Rattle.drv_funcs.specs.Code.Telling.{Tells};
 ghost use Rattle.drv_system.specs.Asking.{Asks, Extends};
 ghost use Rattle.drv_system.specs.Facts.{Facts};
@@ -100,7 +101,8 @@ pub fn if_exists_then_else<S: System>(
 /// Whether a path begins with a slash and something has it.
 fn exists<S: System>(path: &Word, sys: &mut S, facts: &mut FactTable) -> Result<bool, AllocError>
     ensures asks { Asks (S.events sys.old) (S.events sys.new) facts.old facts.new }
-    ensures tells { (F : Facts) → Extends facts.new F → IfOk result (λ there. exists F path.now ≡ Is there) }
+    ensures tells { (F : Facts) → Extends facts.new F
+        → IfOk result (λ there. exists F path.now ≡ Is there) }
 {
     if !path.as_bytes().starts_with(b"/") {
         return Ok(false);

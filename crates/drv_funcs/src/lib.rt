@@ -8,9 +8,11 @@ mod fault;
 mod function;
 mod operator;
 mod outputs;
+mod site;
 mod version;
 
 pub use calling::call;
 pub use fault::FuncsFault;
 pub use function::Function;
+pub use site::Site;
 pub use version::compare_versions;

@@ -1,6 +1,7 @@
 //! The comparisons of `version-compare`.
 
-ghost use Rattle.drv_funcs.specs.Comparing.{holds, holds_of_none, is_earlier, operator_of, takes_two};
+ghost use Rattle.drv_funcs.specs.Comparing.{holds, holds_of_none, is_earlier, operator_of};
+ghost use Rattle.drv_funcs.specs.Comparing.{takes_two};
 ghost use Rattle.std.specs.Prelude.{◌≡◌};
 
 /// A comparison of versions.
@@ -50,7 +51,8 @@ impl Operator {
         matches!(self, Operator::NotAtLeast | Operator::NotBelow)
     }
 
-    /// Whether a version stands so to the first one, and to the second if the comparison is with two.
+    /// Whether a version stands so to the first one, and to the second if the comparison is with
+    /// two.
     pub fn holds(self, value: &[u32], first: &[u32], second: &[u32]) -> bool
         ensures { result ≡ holds self value.now first.now second.now }
     {

@@ -1,13 +1,14 @@
 //! The functions that change the outputs of a link.
 
 ghost use Rattle.drv_funcs.specs.Outcome.{in_link_alone, removed, replaced};
-ghost use Rattle.drv_funcs.specs.declared.function.Function.TheVariants.{RemoveOutfile, ReplaceOutfile};
+ghost use Rattle.drv_funcs.specs.declared.function.Function.TheVariants.{RemoveOutfile};
+ghost use Rattle.drv_funcs.specs.declared.function.Function.TheVariants.{ReplaceOutfile};
 ghost use Rattle.drv_words.specs.Gives.{Gives};
 ghost use Rattle.std.specs.Cmp.Lexicographic.{pointwise};
 ghost use Rattle.std.specs.List.{list_any};
 ghost use Rattle.std.specs.Prelude.{◌≡◌, OnErr, nat_eq};
 
-use crate::{FuncsFault, Function};
+use crate::{FuncsFault, Function, Site};
 use drv_words::{Listing, Word};
 use std::alloc::Global;
 
@@ -15,27 +16,24 @@ use std::alloc::Global;
 fn is_output(outputs: &[Word], word: &Word) -> bool
     ensures { result ≡ list_any (λ output. pointwise nat_eq output word.now) outputs.now }
 {
-    for output in outputs {
-        if output == word {
-            return true;
-        }
-    }
-    false
+    outputs.contains(word)
 }
 
-/// Each output that is the old word becomes the new one, in the link alone. On an error they are as they were.
+/// Each output that is the old word becomes the new one, in the link alone. On an error they are as
+/// they were.
 pub fn replace_outfile(
     alloc: Global,
     args: &[Word],
-    in_link: bool,
+    site: Site,
     outputs: &mut Listing<Word>,
 ) -> Result<(), FuncsFault>
-    ensures gives { Gives FuncsFault.Memory (λ _. outputs.new) result (in_link_alone in_link ReplaceOutfile (replaced args.now outputs.old)) }
+    ensures gives { Gives FuncsFault.Memory (λ _. outputs.new) result
+        (in_link_alone site ReplaceOutfile (replaced args.now outputs.old)) }
     ensures err { OnErr result (outputs.new ≡ outputs.old) }
 {
-    if !in_link {
+    let Site::Link = site else {
         return Err(FuncsFault::NotInLink(Function::ReplaceOutfile));
-    }
+    };
     let [old, new] = args else {
         return Err(FuncsFault::WrongCount(Function::ReplaceOutfile));
     };
@@ -55,15 +53,16 @@ pub fn replace_outfile(
 pub fn remove_outfile(
     alloc: Global,
     args: &[Word],
-    in_link: bool,
+    site: Site,
     outputs: &mut Listing<Word>,
 ) -> Result<(), FuncsFault>
-    ensures gives { Gives FuncsFault.Memory (λ _. outputs.new) result (in_link_alone in_link RemoveOutfile (removed args.now outputs.old)) }
+    ensures gives { Gives FuncsFault.Memory (λ _. outputs.new) result
+        (in_link_alone site RemoveOutfile (removed args.now outputs.old)) }
     ensures err { OnErr result (outputs.new ≡ outputs.old) }
 {
-    if !in_link {
+    let Site::Link = site else {
         return Err(FuncsFault::NotInLink(Function::RemoveOutfile));
-    }
+    };
     let [old] = args else {
         return Err(FuncsFault::WrongCount(Function::RemoveOutfile));
     };

@@ -41,8 +41,8 @@ pub fn version_of(text: &[u8]) -> Option<ArrayVec<u32, MOST_PARTS>>
     }
 }
 
-/// How two versions stand, part by part as numbers; a version that the other only goes on is earlier. It answers none
-/// where one of the texts is no version, and takes no memory.
+/// How two versions stand, part by part as numbers; a version that the other only goes on is
+/// earlier. It answers none where one of the texts is no version, and takes no memory.
 pub fn compare_versions(one: &[u8], other: &[u8]) -> Option<Ordering>
     ensures { result ≡ compared (version one.now) (version other.now) }
 {

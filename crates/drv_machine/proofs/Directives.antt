@@ -8,7 +8,7 @@ use Rattle.drv_system.specs.Facts.{Facts, no_facts}
 use Rattle.drv_system.specs.Known.{Is, Unasked}
 use Rattle.drv_system.specs.declared.event.PathKind.TheVariants.{Dir, Missing, Plain}
 use Rattle.drv_words.specs.declared.plan.Job.{Job}
-use Rattle.std.proofs.Common.{◌≡◌, ◌++◌, Option, List, [], ◌∷◌, arith, codes, length, map, refl, suc, zero, ℕ}
+use Rattle.std.proofs.Common.{◌≡◌, ◌++◌, Option, List, [], ◌∷◌, arith, codes, length, map, refl, suc, zero, true, ℕ}
 use Rattle.std.proofs.lemmas.Fmt.{decimal_digit}
 use Rattle.std.specs.Prelude.{Err, None, Ok, Some}
 
@@ -58,8 +58,11 @@ empty_folder = rw (decimal_digit 1 (omega arith)) refl
 unasked_folder : words_of no_facts (on [] (codes "a.c")) (codes "%g.s") ≡ Unasked
 unasked_folder = refl
 
+abbrev piping : Context
+piping = record (on (alone (codes "pipe") ∷ []) (codes "a.c")) { is_piping = true }
+
 -- %| and %m
-piped_names : words_of no_facts (on (alone (codes "pipe") ∷ []) (codes "a.c")) (codes "cc1 -o %|.s |\nas %m.s") ≡ Is (Ok ((codes "cc1" ∷ codes "-o" ∷ codes "-" ∷ codes "as" ∷ []) ∷ []))
+piped_names : words_of no_facts piping (codes "cc1 -o %|.s |\nas %m.s") ≡ Is (Ok ((codes "cc1" ∷ codes "-o" ∷ codes "-" ∷ codes "as" ∷ []) ∷ []))
 piped_names = refl
 
 unpiped_names : words_of untouched (on [] (codes "a.c")) (codes "cc1 -o %|.s |\nas %m.s")
@@ -69,9 +72,6 @@ unpiped_names = rw (decimal_digit 1 (omega arith)) refl
 -- with -pipe piped commands are one group, also where the switch is hidden
 abbrev sizes : Context → List ℕ → Answer (List ℕ)
 sizes C text = job_of no_facts C text >>- λ job. Is (Ok (map length job.groups))
-
-abbrev piping : Context
-piping = on (alone (codes "pipe") ∷ []) (codes "a.c")
 
 one_group : sizes piping (codes "%<pipe c |\nd |\ne\nf") ≡ Is (Ok (3 ∷ 1 ∷ []))
 one_group = refl

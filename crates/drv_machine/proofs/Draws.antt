@@ -1,5 +1,5 @@
 use Rattle.drv_machine.specs.Atoms.{temp_step}
-use Rattle.drv_machine.specs.Context.{Context, is_piping}
+use Rattle.drv_machine.specs.Context.{Context}
 use Rattle.drv_machine.specs.Code.Running.{Machine, run}
 use Rattle.drv_machine.specs.Temps.{folder, hex, is_drawn, last_drawn, temp_name}
 use Rattle.drv_machine.specs.Working.{bytes}
@@ -45,5 +45,5 @@ module _ (shared : Bool) (suffix : List ℕ) where
       ap Some same ∙ sym (drawn_behind (take i drawn) (drop i drawn) name.path here) ∙ ap (last_drawn shared suffix) (take-append-drop i drawn)
 
 -- where commands are piped, %| is a hyphen
-pub piped_out : (F : Facts) (C : Context) (s : Machine) (kind : TempKind) (suffix : List ℕ) → kind ≡ PipedOut → is_piping C ≡ true → run F C s (bytes (hyphen ∷ [])) ≡ run F C s (temp_step F C kind suffix)
+pub piped_out : (F : Facts) (C : Context) (s : Machine) (kind : TempKind) (suffix : List ℕ) → kind ≡ PipedOut → C.is_piping ≡ true → run F C s (bytes (hyphen ∷ [])) ≡ run F C s (temp_step F C kind suffix)
 piped_out F C s kind suffix is piping = rw (is, piping) refl

@@ -1,5 +1,5 @@
 use Rattle.drv_machine.specs.Atoms.{added}
-use Rattle.drv_machine.specs.Context.{Context, is_piping}
+use Rattle.drv_machine.specs.Context.{Context}
 use Rattle.drv_machine.specs.Cutting.{Cut, Line}
 use Rattle.drv_machine.specs.Code.Grouping.{ahead, grouped}
 use Rattle.drv_machine.specs.Code.Held.{made}
@@ -58,7 +58,7 @@ grouped_none done begun a e f = rw (e, f) (by a)
 module _ (F : Facts) (C : Context) where
   -- one line more, whose command is joined to the next one, or ends its group
   pub one_joined : (done : List (List Command)) (begun after : List Command) (line : Line) (c : Command) (lines : List Line)
-      → (is_piping C && line.piped) ≡ true → command F C line.words ≡ Is (Ok c) → after ≡ begun ++ c ∷ []
+      → (C.is_piping && line.piped) ≡ true → command F C line.words ≡ Is (Ok c) → after ≡ begun ++ c ∷ []
       → grouped done begun (groups F C (line ∷ lines)) ≡ grouped done after (groups F C lines)
   one_joined done begun after line c lines piped is e = rw (is, piped, e) (by (groups F C lines))
     where
@@ -68,7 +68,7 @@ module _ (F : Facts) (C : Context) where
       by Unasked = refl
 
   pub one_ended : (done new : List (List Command)) (begun all after : List Command) (line : Line) (c : Command) (lines : List Line)
-      → (is_piping C && line.piped) ≡ false → command F C line.words ≡ Is (Ok c) → all ≡ begun ++ c ∷ [] → new ≡ done ++ made all → after ≡ []
+      → (C.is_piping && line.piped) ≡ false → command F C line.words ≡ Is (Ok c) → all ≡ begun ++ c ∷ [] → new ≡ done ++ made all → after ≡ []
       → grouped done begun (groups F C (line ∷ lines)) ≡ grouped new after (groups F C lines)
   one_ended done new begun all after line c lines piped is e en ea = rw (is, piped, en, e, ea) (by (groups F C lines))
     where

@@ -34,6 +34,7 @@ linking switches = record {
   preprocessor = [];
   texts = [];
   prefixes = no_prefixes;
+  is_piping = false;
   from_file = false;
   seed = 42;
   number = 1;

@@ -1,7 +1,7 @@
 use Rattle.drv_funcs.specs.Functions.{function_of}
 use Rattle.drv_funcs.specs.Outcome as outcomes
 use Rattle.drv_funcs.specs.declared.function.Function.{Function as Func}
-use Rattle.drv_machine.specs.Context.{Context, Source, argument, is_piping, names, text_named}
+use Rattle.drv_machine.specs.Context.{Context, Source, argument, names, site_of, text_named}
 use Rattle.drv_machine.specs.Cutting.{all_taken, argument_words, file_words, nothing_cut}
 use Rattle.drv_machine.specs.Temps.{last_drawn, temp_name}
 use Rattle.drv_machine.specs.Names.{base, is_word, language_of, stem, suffix_of}
@@ -25,7 +25,7 @@ use Rattle.drv_system.specs.Known.{Is, Unasked}
 use Rattle.drv_words.specs.Bytes.{at_sign, hyphen, percent}
 use Rattle.drv_words.specs.Response.{response_text}
 use Rattle.std.specs.List.{filter, flat_map, list_any, range_with_len}
-use Rattle.std.specs.Option.{is_none, unwrap_or}
+use Rattle.std.specs.Option.{unwrap_or}
 use Rattle.std.specs.Prelude.{◌&&◌, ◌+◌, Err, Bool, List, [], ◌∷◌, ◌++◌, Option, None, Some, codes, drop, false, if◌then◌else◌, is_some, length, map, nat_lt, not, option_map, suc, true, zero, ℕ}
 
 -- What each item of a text means: one row for each directive (GCC manual, "Spec Files"; what it leaves open is this
@@ -92,8 +92,8 @@ module _ (F : Facts) (C : Context) where
   temp_step Shared suffix = name_step true suffix
   temp_step New suffix = new_name_step suffix
   temp_step Last suffix = name_step false suffix
-  temp_step PipedOut suffix = if is_piping C then bytes (hyphen ∷ []) else name_step true suffix
-  temp_step PipedIn suffix = if is_piping C then nothing else name_step true suffix
+  temp_step PipedOut suffix = if C.is_piping then bytes (hyphen ∷ []) else name_step true suffix
+  temp_step PipedIn suffix = if C.is_piping then nothing else name_step true suffix
 
   -- the options for the folders of libraries
   abbrev pub folders_step : Step (Unit {0})
@@ -132,7 +132,7 @@ module _ (F : Facts) (C : Context) where
   abbrev pub called_step : List (List ℕ) → Option Func → World → Step (Option (List ℕ))
   called_step args None w = give None
   called_step args (Some function) w =
-      needs (called (outcomes.called F (names C) w.hidden (is_none C.input) function args w.outputs)) >>= λ c.
+      needs (called (outcomes.called F (names C) w.hidden (site_of C) function args w.outputs)) >>= λ c.
       change (λ v. record v { outputs = c.outputs }) >> give c.given
 
   abbrev pub call_step : List ℕ → List (List ℕ) → Step (Option (List ℕ))

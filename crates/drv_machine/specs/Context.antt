@@ -1,9 +1,10 @@
 use Rattle.drv_args.specs.declared.line.Switch.{Switch}
+use Rattle.drv_funcs.specs.declared.site.Site.TheVariants as site
+use Rattle.drv_funcs.specs.declared.site.Site.{Site}
 use Rattle.drv_search.specs.declared.prefixes.Prefixes.{Prefixes}
 use Rattle.std.specs.Cmp.Lexicographic.{pointwise}
-use Rattle.std.specs.List.{list_any}
 use Rattle.std.specs.Map.{lookup}
-use Rattle.std.specs.Prelude.{Bool, List, Option, None, codes, get_or, map, nat_eq, ℕ}
+use Rattle.std.specs.Prelude.{Bool, List, Option, None, Some, get_or, map, nat_eq, ℕ}
 
 -- What a text is worked for (this project's profile).
 
@@ -18,6 +19,7 @@ pub record Context : Type 0 where
   pub preprocessor : List (List ℕ)  -- and for the preprocessor
   pub texts : List (List ℕ × List ℕ)  -- the named texts
   pub prefixes : Prefixes  -- where programs and files are looked for
+  pub is_piping : Bool  -- -pipe stands on the line, hidden or not
   pub from_file : Bool  -- words of the line come from a response file
   pub seed : ℕ  -- of the names of temporaries
   pub number : ℕ  -- of the next name that is drawn
@@ -36,6 +38,10 @@ names C = map (λ s. s.name) C.switches
 abbrev pub argument : Context → ℕ → Option (List ℕ)
 argument C i = get_or (map (λ s. s.arg) C.switches) i None
 
--- -pipe stands on the line, hidden or not
-abbrev pub is_piping : Context → Bool
-is_piping C = list_any (λ s. pointwise nat_eq s.name (codes "pipe")) C.switches
+-- the text that functions are called in: that of a source, or of the link
+abbrev pub site_for : Option Source → Site
+site_for (Some source) = site.Source
+site_for None = site.Link
+
+abbrev pub site_of : Context → Site
+site_of C = site_for C.input

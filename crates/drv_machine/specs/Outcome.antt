@@ -1,5 +1,5 @@
 use Rattle.drv_machine.specs.Atoms.{atoms}
-use Rattle.drv_machine.specs.Context.{Context, is_piping}
+use Rattle.drv_machine.specs.Context.{Context}
 use Rattle.drv_machine.specs.Cutting.{Cut, Line, all_taken, nothing_cut}
 use Rattle.drv_machine.specs.Working.{◌>>-◌, Answer, Goes, Refuses, Waits, Work, World, is_among, known}
 use Rattle.drv_machine.specs.declared.fault.MachineFault.TheVariants.{PipeTooLong, StrayPipe}
@@ -37,7 +37,7 @@ module _ (F : Facts) (C : Context) where
   -- with -pipe piped commands form one group; without it each command is a group
   abbrev pub groups : List Line → Answer (List (List Command))
   groups [] = Is (Ok [])
-  groups (line ∷ lines) = command line.words >>- λ c. groups lines >>- λ others. Is (Ok (add_command (is_piping C && line.piped) c others))
+  groups (line ∷ lines) = command line.words >>- λ c. groups lines >>- λ others. Is (Ok (add_command (C.is_piping && line.piped) c others))
 
 -- no further command follows a pipe
 abbrev pub ends_piped : List Line → Bool

@@ -1,12 +1,11 @@
 //! What a text is worked for: a line, and an input of it or the link.
 
-ghost use Rattle.drv_machine.specs.Context.{argument, is_piping, names, text_named};
-ghost use Rattle.std.specs.Cmp.Lexicographic.{pointwise};
-ghost use Rattle.std.specs.List.{list_any};
-ghost use Rattle.std.specs.Option.{is_none, option_map};
-ghost use Rattle.std.specs.Prelude.{◌≡◌, ◌<◌, [], IfOk, None, codes, get_or, length, map, nat_eq};
+ghost use Rattle.drv_machine.specs.Context.{argument, names, site_of, text_named};
+ghost use Rattle.std.specs.Option.{option_map};
+ghost use Rattle.std.specs.Prelude.{◌≡◌, ◌<◌, [], IfOk, None, get_or, length, map};
 
 use drv_args::{Line, Switch};
+use drv_funcs::Site;
 use drv_match::Switches;
 use drv_search::Prefixes;
 use drv_specs::SpecSet;
@@ -39,8 +38,6 @@ pub struct Context<'a> {
     line: &'a Line,
     /// The line's switches, ready for patterns, by their names that it lends.
     matcher: Switches<'a>,
-    /// Whether `-pipe` stands on the line.
-    is_piping: bool,
     texts: &'a SpecSet,
     prefixes: &'a Prefixes,
     seed: u32,
@@ -52,9 +49,7 @@ pub struct Context<'a> {
 
 impl<'a> Model for Context<'a> {
     ghost use Rattle.drv_machine.specs.Context as specs;
-    ghost use Rattle.std.specs.Cmp.Lexicographic.{pointwise};
-    ghost use Rattle.std.specs.List.{list_any};
-    ghost use Rattle.std.specs.Prelude.{◌≡◌, codes, map, nat_eq};
+    ghost use Rattle.std.specs.Prelude.{◌≡◌, map};
 
     ghost Value = { specs.Context };
 
@@ -64,6 +59,7 @@ impl<'a> Model for Context<'a> {
       preprocessor = c.line.now.cpp_opts;
       texts = c.texts.now.named;
       prefixes = c.prefixes.now;
+      is_piping = c.line.now.settings.pipe;
       from_file = c.line.now.settings.from_file;
       seed = c.seed;
       number = c.number;
@@ -72,19 +68,7 @@ impl<'a> Model for Context<'a> {
       outputs = c.outputs;
     } };
 
-    ghost invariant = { λ c. (c.matcher ≡ map (λ switch. switch.name) c.line.now.switches) × (c.is_piping ≡ list_any (λ switch. pointwise nat_eq switch.name (codes "pipe")) c.line.now.switches) };
-}
-
-/// Whether one of these switches is `-pipe`.
-fn has_pipe(switches: &[Switch]) -> bool
-    ensures { result ≡ list_any (λ switch. pointwise nat_eq switch.name (codes "pipe")) switches.now }
-{
-    for switch in switches {
-        if switch.name.as_bytes() == b"pipe".as_slice() {
-            return true;
-        }
-    }
-    false
+    ghost invariant = { λ c. c.matcher ≡ map (λ switch. switch.name) c.line.now.switches };
 }
 
 /// The argument of the switch at this place of a line.
@@ -105,14 +89,25 @@ impl<'a> Context<'a> {
         prefixes: &'a Prefixes,
         seed: u32,
     ) -> Result<Context<'a>, AllocError>
-        ensures { IfOk result (λ made. made ≡ record { switches = line.now.switches; assembler = line.now.asm_opts; preprocessor = line.now.cpp_opts; texts = texts.now.named; prefixes = prefixes.now; from_file = line.now.settings.from_file; seed = seed; number = 1; options = []; input = None; outputs = [] }) }
+        ensures { IfOk result (λ made. made ≡ record {
+          switches = line.now.switches;
+          assembler = line.now.asm_opts;
+          preprocessor = line.now.cpp_opts;
+          texts = texts.now.named;
+          prefixes = prefixes.now;
+          is_piping = line.now.settings.pipe;
+          from_file = line.now.settings.from_file;
+          seed = seed;
+          number = 1;
+          options = [];
+          input = None;
+          outputs = [];
+        }) }
     {
         let matcher = Switches::new(alloc, line.switches.as_slice())?;
-        let is_piping = has_pipe(line.switches.as_slice());
         Ok(Context {
             line,
             matcher,
-            is_piping,
             texts,
             prefixes,
             seed,
@@ -163,9 +158,9 @@ impl<'a> Context<'a> {
 
     /// Whether `-pipe` stands on the line.
     pub(crate) fn is_piping(&self) -> bool
-        ensures { result ≡ is_piping self.now }
+        ensures { result ≡ self.now.is_piping }
     {
-        self.is_piping
+        self.line.settings.pipe
     }
 
     /// The line's pieces for the assembler.
@@ -238,13 +233,13 @@ impl<'a> Context<'a> {
         &self.input
     }
 
-    /// Whether the link's text is worked.
-    pub(crate) fn is_link(&self) -> bool
-        ensures { result ≡ is_none self.now.input }
+    /// Where functions are called: in the text of a source, or of the link.
+    pub(crate) fn site(&self) -> Site
+        ensures { result ≡ site_of self.now }
     {
         match &self.input {
-            Some(_) => false,
-            None => true,
+            Some(_) => Site::Source,
+            None => Site::Link,
         }
     }
 }

@@ -7,7 +7,7 @@ ghost use Rattle.drv_machine.specs.Working.{Answer};
 ghost use Rattle.drv_syntax.specs.Parsed.{tree_of};
 ghost use Rattle.drv_syntax.specs.Tokens.{tokens_of};
 ghost use Rattle.drv_system.specs.Facts.{Facts};
-ghost use Rattle.std.specs.Prelude.{◌≡◌, ◌<◌, [], None, drop, length};
+ghost use Rattle.std.specs.Prelude.{◌≡◌, ◌<◌, [], None, length};
 
 use crate::Context;
 use crate::machine::Cutter;
@@ -122,24 +122,13 @@ impl<'a> Walk<'a> {
     }
 }
 
-/// What stands behind so many bytes.
-fn behind(bytes: &[u8], size: usize) -> &[u8]
-    ensures { result.now ≡ drop size bytes.now }
-{
-    if size <= bytes.len() {
-        &bytes[size..]
-    } else {
-        &[]
-    }
-}
-
 /// What `%*` stands for.
 pub(crate) fn star_of<'a>(context: &'a Context<'_>, star: Option<Rest>) -> &'a [u8]
     ensures { result.now ≡ star_of context.now star }
 {
     match star {
         Some(rest) if rest.switch < context.switches().len() => {
-            behind(context.switches().name(rest.switch), rest.size)
+            context.switches().rest(rest.switch, rest.size)
         }
         _ => &[],
     }

@@ -1,6 +1,7 @@
 //! Which switches of a line are hidden.
 
-ghost use Rattle.std.specs.Prelude.{◌≡◌, ◌<◌, Bool, IfOk, List, false, length, replicate, set, slice_get, Some, true};
+ghost use Rattle.std.specs.Prelude.{◌≡◌, ◌<◌, Bool, IfOk, List, Some, false, length, replicate};
+ghost use Rattle.std.specs.Prelude.{set, slice_get, true};
 
 use crate::switches::Switches;
 use std::alloc::{AllocError, Global};

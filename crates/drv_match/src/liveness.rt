@@ -9,8 +9,9 @@ ghost use Rattle.std.specs.Prelude.{◌≡◌, IfOk, None, OnOk, Some, if◌then
 use crate::names::Names;
 use std::alloc::{AllocError, Global};
 
-/// For each switch whether no later one cancels it. The order is that of the places by name, so that switches of one
-/// name stand together, and what cancels them is looked up once. Want of memory is the only error.
+/// For each switch whether no later one cancels it. The order is that of the places by name, so
+/// that switches of one name stand together, and what cancels them is looked up once. Want of
+/// memory is the only error.
 pub fn live_flags(
     alloc: Global,
     names: &Names<'_>,
@@ -63,8 +64,8 @@ fn last_level(names: &Names<'_>) -> usize
     0
 }
 
-/// The place of the last switch that cancels an earlier one of this name, or 0 if there is none. What is cancelled are
-/// switches before that place. The form is room for a name that is looked up.
+/// The place of the last switch that cancels an earlier one of this name, or 0 if there is none.
+/// What is cancelled are switches before that place. The form is room for a name that is looked up.
 fn last_cancelling(
     names: &Names<'_>,
     order: &[usize],

@@ -5,8 +5,8 @@ ghost use Rattle.std.specs.Prelude.{◌≡◌};
 
 use std::marker::Model;
 
-/// A pattern of switches: those of this name, or with a star those whose name begins with it. It is lent its name,
-/// so that asking takes no memory.
+/// A pattern of switches: those of this name, or with a star those whose name begins with it. It is
+/// lent its name, so that asking takes no memory.
 #[derive(Debug, Drop)]
 pub struct Pattern<'a> {
     pub name: &'a [u8],
@@ -33,7 +33,8 @@ impl<'a> Pattern<'a> {
         }
     }
 
-    /// Whether the pattern hits cancelled switches too: it has a star and a name of at most one byte.
+    /// Whether the pattern hits cancelled switches too: it has a star and a name of at most one
+    /// byte.
     pub(crate) fn is_broad(&self) -> bool
         ensures { result ≡ is_broad self.now }
     {

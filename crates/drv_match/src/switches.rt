@@ -1,9 +1,11 @@
 //! The switches of a line, and which of them a pattern hits.
 
 ghost use Rattle.drv_match.specs.Code.Indexed.{AreNamed, SameHits};
-ghost use Rattle.drv_match.specs.Matching.{IsNextHit, any_hits, hidden_by, hits, is_broad, is_hit, is_live, name_at};
+ghost use Rattle.drv_match.specs.Matching.{IsNextHit, any_hits, hidden_by, hits, is_broad};
+ghost use Rattle.drv_match.specs.Matching.{is_hit, is_live, name_at};
 ghost use Rattle.drv_match.specs.Order.{IsBlock, IsOrder};
-ghost use Rattle.std.specs.Prelude.{◌≡◌, ◌<◌, ◌&&◌, ◌||◌, ◌∷◌, All, Bool, IfOk, List, false, get_or, length, map, nat_lt, not, ℕ};
+ghost use Rattle.std.specs.Prelude.{◌≡◌, ◌<◌, ◌&&◌, ◌||◌, ◌∷◌, All, IfOk, List, false, get_or};
+ghost use Rattle.std.specs.Prelude.{drop, length, map, nat_lt, not, ℕ};
 
 use crate::hidden::Hidden;
 use crate::liveness::live_flags;
@@ -62,6 +64,19 @@ impl<'a> Switches<'a> {
         self.names.get(i)
     }
 
+    /// The name of the switch at this place behind so many bytes. It takes no memory.
+    pub fn rest(&self, i: usize, size: usize) -> &'a [u8]
+        requires { i < length self.now }
+        ensures { result.now ≡ drop size (name_at self.now i) }
+    {
+        let name = self.names.get(i);
+        if size <= name.len() {
+            &name[size..]
+        } else {
+            &[]
+        }
+    }
+
     /// Whether no later switch cancels the one at this place. It takes no memory.
     pub fn live(&self, i: usize) -> bool
         requires { i < length self.now }
@@ -77,10 +92,11 @@ impl<'a> Switches<'a> {
         self.order.as_slice()
     }
 
-    /// Where, within the order, the switches stand that a pattern names: the start, and the end behind them. It takes
-    /// no memory.
+    /// Where, within the order, the switches stand that a pattern names: the start, and the end
+    /// behind them. It takes no memory.
     pub fn block(&self, pattern: &Pattern<'_>) -> (usize, usize)
-        ensures { (order : List ℕ) → IsOrder self.now order → IsBlock self.now order pattern.now result.0 result.1 }
+        ensures { (order : List ℕ) → IsOrder self.now order
+            → IsBlock self.now order pattern.now result.0 result.1 }
     {
         block_of(&self.names, &self.order, pattern)
     }
@@ -96,10 +112,9 @@ impl<'a> Switches<'a> {
         ensures { IfOk result (λ places. places ≡ hits self.now hidden.now pattern.now) }
     {
         let named = self.named(pattern);
-        let broad = pattern.is_broad();
         let mut places = Vec::new(alloc);
         for place in named {
-            if self.counts(broad, hidden, *place) {
+            if self.counts(pattern, hidden, *place) {
                 places.push(*place)?;
             }
         }
@@ -107,7 +122,8 @@ impl<'a> Switches<'a> {
         Ok(Listing::from_vec(places))
     }
 
-    /// The places of the switches that one of these patterns hits, in order. Want of memory is the only error.
+    /// The places of the switches that one of these patterns hits, in order. Want of memory is the
+    /// only error.
     pub fn any_hits(
         &self,
         alloc: Global,
@@ -115,7 +131,8 @@ impl<'a> Switches<'a> {
         hidden: &Hidden,
     ) -> Result<Listing<usize>, AllocError>
         requires { length hidden.now ≡ length self.now }
-        ensures places { IfOk result (λ places. places ≡ any_hits self.now hidden.now patterns.now) }
+        ensures places { IfOk result
+            (λ places. places ≡ any_hits self.now hidden.now patterns.now) }
         ensures within { IfOk result (λ places. All (λ place. place < length self.now) places) }
     {
         let [first, others @ ..] = self.from_first_hit(patterns, hidden) else {
@@ -134,7 +151,8 @@ impl<'a> Switches<'a> {
         ensures { IsNextHit self.now hidden.now pattern.now from result }
     {
         let named = self.named(pattern);
-        // What is named few times is looked for among its places, in any order of these; else the line is gone over.
+        // What is named few times is looked for among its places, in any order of these; else the
+        // line is gone over.
         if named.len() <= self.len() / named.len().max(1) {
             self.next_of(named, pattern, hidden, from)
         } else {
@@ -148,17 +166,16 @@ impl<'a> Switches<'a> {
         ensures { result ≡ nat_lt 0 (length (hits self.now hidden.now pattern.now)) }
     {
         let named = self.named(pattern);
-        let broad = pattern.is_broad();
         for place in named {
-            if self.counts(broad, hidden, *place) {
+            if self.counts(pattern, hidden, *place) {
                 return true;
             }
         }
         false
     }
 
-    /// Whether a pattern hits the switch at this place: it names the switch, which isn't hidden, and which is
-    /// live if the pattern takes live ones alone. It takes no memory.
+    /// Whether a pattern hits the switch at this place: it names the switch, which isn't hidden,
+    /// and which is live if the pattern takes live ones alone. It takes no memory.
     pub fn is_hit(&self, pattern: &Pattern<'_>, hidden: &Hidden, i: usize) -> bool
         requires in_range { i < length self.now }
         requires of_these { length hidden.now ≡ length self.now }
@@ -217,7 +234,8 @@ impl<'a> Switches<'a> {
         hidden: &Hidden,
     ) -> Result<Listing<usize>, AllocError>
         requires { length hidden.now ≡ length self.now }
-        ensures { IfOk result (λ places. places ≡ any_hits self.now hidden.now (first.now ∷ others.now)) }
+        ensures { IfOk result
+            (λ places. places ≡ any_hits self.now hidden.now (first.now ∷ others.now)) }
     {
         let mut flags = vec![in alloc; false; self.len()]?;
         self.mark_hits(first, hidden, &mut flags);
@@ -238,13 +256,13 @@ impl<'a> Switches<'a> {
     fn mark_hits(&self, pattern: &Pattern<'_>, hidden: &Hidden, flags: &mut Vec<bool>)
         requires of_these { length hidden.now ≡ length self.now }
         requires as_many { length flags.old.items ≡ length self.now }
-        ensures marked { (i : ℕ) → i < length self.now → get_or flags.new.items i false ≡ (get_or flags.old.items i false || is_hit self.now hidden.now pattern.now i) }
+        ensures marked { (i : ℕ) → i < length self.now → get_or flags.new.items i false
+            ≡ (get_or flags.old.items i false || is_hit self.now hidden.now pattern.now i) }
         ensures as_many { length flags.new.items ≡ length self.now }
     {
         let named = self.named(pattern);
-        let broad = pattern.is_broad();
         for place in named {
-            if self.counts(broad, hidden, *place) {
+            if self.counts(pattern, hidden, *place) {
                 flags[*place] = true;
             }
         }
@@ -262,10 +280,9 @@ impl<'a> Switches<'a> {
         requires of_these { length hidden.now ≡ length self.now }
         ensures { IsNextHit self.now hidden.now pattern.now from result }
     {
-        let broad = pattern.is_broad();
         let mut next = self.len();
         for place in named {
-            if from <= *place && *place < next && self.counts(broad, hidden, *place) {
+            if from <= *place && *place < next && self.counts(pattern, hidden, *place) {
                 next = *place;
             }
         }
@@ -293,12 +310,15 @@ impl<'a> Switches<'a> {
         &self.order()[start..end]
     }
 
-    /// Whether a switch that a pattern names is hit: it isn't hidden, and it is live or the pattern is broad.
-    fn counts(&self, broad: bool, hidden: &Hidden, i: usize) -> bool
+    /// Whether a switch that a pattern names is hit: it isn't hidden, and it is live or the pattern
+    /// is broad.
+    #[inline(always)]
+    fn counts(&self, pattern: &Pattern<'_>, hidden: &Hidden, i: usize) -> bool
         requires in_range { i < length self.now }
         requires of_these { length hidden.now ≡ length self.now }
-        ensures { result ≡ (not (get_or hidden.now i false) && (broad || is_live self.now i)) }
+        ensures { result ≡ (not (get_or hidden.now i false)
+            && (is_broad pattern.now || is_live self.now i)) }
     {
-        !hidden.contains(i) && (broad || self.live(i))
+        !hidden.contains(i) && (pattern.is_broad() || self.live(i))
     }
 }

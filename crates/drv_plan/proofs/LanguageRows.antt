@@ -1,6 +1,6 @@
 use Rattle.drv_args.specs.declared.line.Input.TheVariants.{File, Library, LinkWord}
 use Rattle.drv_args.specs.declared.line.Input.{Input}
-use Rattle.drv_plan.specs.Languages.{Chosen, language_of}
+use Rattle.drv_plan.specs.Languages.{Chosen, chosen_for}
 use Rattle.drv_plan.specs.declared.fault.PlanFault.TheVariants.{NotInstalled, UnknownLanguage}
 use Rattle.drv_plan.specs.declared.fault.PlanFault.{PlanFault}
 use Rattle.drv_specs.specs.Builtin.{builtin_named, builtin_pairs, builtin_specs}
@@ -46,281 +46,281 @@ shown (Err (NotInstalled name)) = Absent name
 shown (Err fault) = Other
 
 -- the suffix .c
-suffix_c : shown (language_of builtin_specs (file (codes "f.c"))) ≡ InLanguage (codes "c")
+suffix_c : shown (chosen_for builtin_specs (file (codes "f.c"))) ≡ InLanguage (codes "c")
 unfolding builtin_named builtin_pairs
 suffix_c = refl
 
 -- the suffix .i
-suffix_i : shown (language_of builtin_specs (file (codes "f.i"))) ≡ InLanguage (codes "cpp-output")
+suffix_i : shown (chosen_for builtin_specs (file (codes "f.i"))) ≡ InLanguage (codes "cpp-output")
 unfolding builtin_named builtin_pairs
 suffix_i = refl
 
 -- the suffix .s
-suffix_s : shown (language_of builtin_specs (file (codes "f.s"))) ≡ InLanguage (codes "assembler")
+suffix_s : shown (chosen_for builtin_specs (file (codes "f.s"))) ≡ InLanguage (codes "assembler")
 unfolding builtin_named builtin_pairs
 suffix_s = refl
 
 -- the suffix .S
-suffix_S_capital : shown (language_of builtin_specs (file (codes "f.S"))) ≡ InLanguage (codes "assembler-with-cpp")
+suffix_S_capital : shown (chosen_for builtin_specs (file (codes "f.S"))) ≡ InLanguage (codes "assembler-with-cpp")
 unfolding builtin_named builtin_pairs
 suffix_S_capital = refl
 
 -- the suffix .sx
-suffix_sx : shown (language_of builtin_specs (file (codes "f.sx"))) ≡ InLanguage (codes "assembler-with-cpp")
+suffix_sx : shown (chosen_for builtin_specs (file (codes "f.sx"))) ≡ InLanguage (codes "assembler-with-cpp")
 unfolding builtin_named builtin_pairs
 suffix_sx = refl
 
 -- the suffix .h
-suffix_h : shown (language_of builtin_specs (file (codes "f.h"))) ≡ Absent (codes "C header")
+suffix_h : shown (chosen_for builtin_specs (file (codes "f.h"))) ≡ Absent (codes "C header")
 unfolding builtin_named builtin_pairs
 suffix_h = refl
 
 -- the suffix .cc
-suffix_cc : shown (language_of builtin_specs (file (codes "f.cc"))) ≡ Absent (codes "C++")
+suffix_cc : shown (chosen_for builtin_specs (file (codes "f.cc"))) ≡ Absent (codes "C++")
 unfolding builtin_named builtin_pairs
 suffix_cc = refl
 
 -- the suffix .cp
-suffix_cp : shown (language_of builtin_specs (file (codes "f.cp"))) ≡ Absent (codes "C++")
+suffix_cp : shown (chosen_for builtin_specs (file (codes "f.cp"))) ≡ Absent (codes "C++")
 unfolding builtin_named builtin_pairs
 suffix_cp = refl
 
 -- the suffix .cxx
-suffix_cxx : shown (language_of builtin_specs (file (codes "f.cxx"))) ≡ Absent (codes "C++")
+suffix_cxx : shown (chosen_for builtin_specs (file (codes "f.cxx"))) ≡ Absent (codes "C++")
 unfolding builtin_named builtin_pairs
 suffix_cxx = refl
 
 -- the suffix .cpp
-suffix_cpp : shown (language_of builtin_specs (file (codes "f.cpp"))) ≡ Absent (codes "C++")
+suffix_cpp : shown (chosen_for builtin_specs (file (codes "f.cpp"))) ≡ Absent (codes "C++")
 unfolding builtin_named builtin_pairs
 suffix_cpp = refl
 
 -- the suffix .CPP
-suffix_capital_cpp : shown (language_of builtin_specs (file (codes "f.CPP"))) ≡ Absent (codes "C++")
+suffix_capital_cpp : shown (chosen_for builtin_specs (file (codes "f.CPP"))) ≡ Absent (codes "C++")
 unfolding builtin_named builtin_pairs
 suffix_capital_cpp = refl
 
 -- the suffix .c++
-suffix_cplusplus : shown (language_of builtin_specs (file (codes "f.c++"))) ≡ Absent (codes "C++")
+suffix_cplusplus : shown (chosen_for builtin_specs (file (codes "f.c++"))) ≡ Absent (codes "C++")
 unfolding builtin_named builtin_pairs
 suffix_cplusplus = refl
 
 -- the suffix .C
-suffix_capital_c : shown (language_of builtin_specs (file (codes "f.C"))) ≡ Absent (codes "C++")
+suffix_capital_c : shown (chosen_for builtin_specs (file (codes "f.C"))) ≡ Absent (codes "C++")
 unfolding builtin_named builtin_pairs
 suffix_capital_c = refl
 
 -- the suffix .ii
-suffix_ii : shown (language_of builtin_specs (file (codes "f.ii"))) ≡ Absent (codes "C++")
+suffix_ii : shown (chosen_for builtin_specs (file (codes "f.ii"))) ≡ Absent (codes "C++")
 unfolding builtin_named builtin_pairs
 suffix_ii = refl
 
 -- the suffix .m
-suffix_m : shown (language_of builtin_specs (file (codes "f.m"))) ≡ Absent (codes "Objective-C")
+suffix_m : shown (chosen_for builtin_specs (file (codes "f.m"))) ≡ Absent (codes "Objective-C")
 unfolding builtin_named builtin_pairs
 suffix_m = refl
 
 -- the suffix .mi
-suffix_mi : shown (language_of builtin_specs (file (codes "f.mi"))) ≡ Absent (codes "Objective-C")
+suffix_mi : shown (chosen_for builtin_specs (file (codes "f.mi"))) ≡ Absent (codes "Objective-C")
 unfolding builtin_named builtin_pairs
 suffix_mi = refl
 
 -- the suffix .mm
-suffix_mm : shown (language_of builtin_specs (file (codes "f.mm"))) ≡ Absent (codes "Objective-C++")
+suffix_mm : shown (chosen_for builtin_specs (file (codes "f.mm"))) ≡ Absent (codes "Objective-C++")
 unfolding builtin_named builtin_pairs
 suffix_mm = refl
 
 -- the suffix .M
-suffix_capital_m : shown (language_of builtin_specs (file (codes "f.M"))) ≡ Absent (codes "Objective-C++")
+suffix_capital_m : shown (chosen_for builtin_specs (file (codes "f.M"))) ≡ Absent (codes "Objective-C++")
 unfolding builtin_named builtin_pairs
 suffix_capital_m = refl
 
 -- the suffix .mii
-suffix_mii : shown (language_of builtin_specs (file (codes "f.mii"))) ≡ Absent (codes "Objective-C++")
+suffix_mii : shown (chosen_for builtin_specs (file (codes "f.mii"))) ≡ Absent (codes "Objective-C++")
 unfolding builtin_named builtin_pairs
 suffix_mii = refl
 
 -- f.o goes to the linker
-to_the_linker_1 : shown (language_of builtin_specs (file (codes "f.o"))) ≡ ForLinker
+to_the_linker_1 : shown (chosen_for builtin_specs (file (codes "f.o"))) ≡ ForLinker
 unfolding builtin_named builtin_pairs
 to_the_linker_1 = refl
 
 -- f.q goes to the linker
-to_the_linker_2 : shown (language_of builtin_specs (file (codes "f.q"))) ≡ ForLinker
+to_the_linker_2 : shown (chosen_for builtin_specs (file (codes "f.q"))) ≡ ForLinker
 unfolding builtin_named builtin_pairs
 to_the_linker_2 = refl
 
 -- f goes to the linker
-to_the_linker_3 : shown (language_of builtin_specs (file (codes "f"))) ≡ ForLinker
+to_the_linker_3 : shown (chosen_for builtin_specs (file (codes "f"))) ≡ ForLinker
 unfolding builtin_named builtin_pairs
 to_the_linker_3 = refl
 
 -- .c goes to the linker
-to_the_linker_4 : shown (language_of builtin_specs (file (codes ".c"))) ≡ ForLinker
+to_the_linker_4 : shown (chosen_for builtin_specs (file (codes ".c"))) ≡ ForLinker
 unfolding builtin_named builtin_pairs
 to_the_linker_4 = refl
 
 -- c goes to the linker
-to_the_linker_5 : shown (language_of builtin_specs (file (codes "c"))) ≡ ForLinker
+to_the_linker_5 : shown (chosen_for builtin_specs (file (codes "c"))) ≡ ForLinker
 unfolding builtin_named builtin_pairs
 to_the_linker_5 = refl
 
 -- f.c/g goes to the linker
-to_the_linker_6 : shown (language_of builtin_specs (file (codes "f.c/g"))) ≡ ForLinker
+to_the_linker_6 : shown (chosen_for builtin_specs (file (codes "f.c/g"))) ≡ ForLinker
 unfolding builtin_named builtin_pairs
 to_the_linker_6 = refl
 
 -- f.c.o goes to the linker
-to_the_linker_7 : shown (language_of builtin_specs (file (codes "f.c.o"))) ≡ ForLinker
+to_the_linker_7 : shown (chosen_for builtin_specs (file (codes "f.c.o"))) ≡ ForLinker
 unfolding builtin_named builtin_pairs
 to_the_linker_7 = refl
 
 -- the end of the whole name counts
-end_of_the_name : shown (language_of builtin_specs (file (codes "d.o/.c"))) ≡ InLanguage (codes "c")
+end_of_the_name : shown (chosen_for builtin_specs (file (codes "d.o/.c"))) ≡ InLanguage (codes "c")
 unfolding builtin_named builtin_pairs
 end_of_the_name = refl
 
 -- standard input is in C
-standard_input : shown (language_of builtin_specs (file (codes "-"))) ≡ InLanguage (codes "c")
+standard_input : shown (chosen_for builtin_specs (file (codes "-"))) ≡ InLanguage (codes "c")
 unfolding builtin_named builtin_pairs
 standard_input = refl
 
 -- unless -x says otherwise
-standard_input_in_a_language : shown (language_of builtin_specs (in_language (codes "assembler") (codes "-"))) ≡ InLanguage (codes "assembler")
+standard_input_in_a_language : shown (chosen_for builtin_specs (in_language (codes "assembler") (codes "-"))) ≡ InLanguage (codes "assembler")
 unfolding builtin_named builtin_pairs
 standard_input_in_a_language = refl
 
 -- -x counts before the suffix
-language_before_suffix : shown (language_of builtin_specs (in_language (codes "cpp-output") (codes "f.c"))) ≡ InLanguage (codes "cpp-output")
+language_before_suffix : shown (chosen_for builtin_specs (in_language (codes "cpp-output") (codes "f.c"))) ≡ InLanguage (codes "cpp-output")
 unfolding builtin_named builtin_pairs
 language_before_suffix = refl
 
 -- -x c, for a file of no suffix
-language_without_suffix : shown (language_of builtin_specs (in_language (codes "c") (codes "f"))) ≡ InLanguage (codes "c")
+language_without_suffix : shown (chosen_for builtin_specs (in_language (codes "c") (codes "f"))) ≡ InLanguage (codes "c")
 unfolding builtin_named builtin_pairs
 language_without_suffix = refl
 
 -- -x c-header
-not_installed_1 : shown (language_of builtin_specs (in_language (codes "c-header") (codes "f.c"))) ≡ Absent (codes "C header")
+not_installed_1 : shown (chosen_for builtin_specs (in_language (codes "c-header") (codes "f.c"))) ≡ Absent (codes "C header")
 unfolding builtin_named builtin_pairs
 not_installed_1 = refl
 
 -- -x c++
-not_installed_2 : shown (language_of builtin_specs (in_language (codes "c++") (codes "f.c"))) ≡ Absent (codes "C++")
+not_installed_2 : shown (chosen_for builtin_specs (in_language (codes "c++") (codes "f.c"))) ≡ Absent (codes "C++")
 unfolding builtin_named builtin_pairs
 not_installed_2 = refl
 
 -- -x c++-cpp-output
-not_installed_3 : shown (language_of builtin_specs (in_language (codes "c++-cpp-output") (codes "f.c"))) ≡ Absent (codes "C++")
+not_installed_3 : shown (chosen_for builtin_specs (in_language (codes "c++-cpp-output") (codes "f.c"))) ≡ Absent (codes "C++")
 unfolding builtin_named builtin_pairs
 not_installed_3 = refl
 
 -- -x objective-c
-not_installed_4 : shown (language_of builtin_specs (in_language (codes "objective-c") (codes "f.c"))) ≡ Absent (codes "Objective-C")
+not_installed_4 : shown (chosen_for builtin_specs (in_language (codes "objective-c") (codes "f.c"))) ≡ Absent (codes "Objective-C")
 unfolding builtin_named builtin_pairs
 not_installed_4 = refl
 
 -- -x foo
-unknown_language : shown (language_of builtin_specs (in_language (codes "foo") (codes "a.q"))) ≡ Unknown (codes "foo")
+unknown_language : shown (chosen_for builtin_specs (in_language (codes "foo") (codes "a.q"))) ≡ Unknown (codes "foo")
 unfolding builtin_named builtin_pairs
 unknown_language = refl
 
 -- an empty language
-empty_language : shown (language_of builtin_specs (in_language [] (codes "a.c"))) ≡ Unknown []
+empty_language : shown (chosen_for builtin_specs (in_language [] (codes "a.c"))) ≡ Unknown []
 unfolding builtin_named builtin_pairs
 empty_language = refl
 
 -- a suffix is no language
-suffix_is_no_language : shown (language_of builtin_specs (in_language (codes ".c") (codes "a.c"))) ≡ Unknown (codes ".c")
+suffix_is_no_language : shown (chosen_for builtin_specs (in_language (codes ".c") (codes "a.c"))) ≡ Unknown (codes ".c")
 unfolding builtin_named builtin_pairs
 suffix_is_no_language = refl
 
 -- a library
-a_library : shown (language_of builtin_specs (Library (codes "-lm"))) ≡ ForLinker
+a_library : shown (chosen_for builtin_specs (Library (codes "-lm"))) ≡ ForLinker
 unfolding builtin_named builtin_pairs
 a_library = refl
 
 -- a word for the linker
-a_word_for_the_linker : shown (language_of builtin_specs (LinkWord (codes "x.c"))) ≡ ForLinker
+a_word_for_the_linker : shown (chosen_for builtin_specs (LinkWord (codes "x.c"))) ≡ ForLinker
 unfolding builtin_named builtin_pairs
 a_word_for_the_linker = refl
 
 -- a further suffix
-further_suffix : shown (language_of (with_pairs ((codes ".ZZ", codes "@c") ∷ [])) (file (codes "f.ZZ"))) ≡ InLanguage (codes "c")
+further_suffix : shown (chosen_for (with_pairs ((codes ".ZZ", codes "@c") ∷ [])) (file (codes "f.ZZ"))) ≡ InLanguage (codes "c")
 unfolding builtin_named builtin_pairs
 further_suffix = refl
 
 -- the last pair counts
-last_pair : shown (language_of (with_pairs ((codes ".ZZ", codes "@c") ∷ (codes ".ZZ", codes "#Zed") ∷ [])) (file (codes "f.ZZ"))) ≡ Absent (codes "Zed")
+last_pair : shown (chosen_for (with_pairs ((codes ".ZZ", codes "@c") ∷ (codes ".ZZ", codes "#Zed") ∷ [])) (file (codes "f.ZZ"))) ≡ Absent (codes "Zed")
 unfolding builtin_named builtin_pairs
 last_pair = refl
 
 -- and not the last refusal
-last_pair_again : shown (language_of (with_pairs ((codes ".ZZ", codes "#Zed") ∷ (codes ".ZZ", codes "@c") ∷ [])) (file (codes "f.ZZ"))) ≡ InLanguage (codes "c")
+last_pair_again : shown (chosen_for (with_pairs ((codes ".ZZ", codes "#Zed") ∷ (codes ".ZZ", codes "@c") ∷ [])) (file (codes "f.ZZ"))) ≡ InLanguage (codes "c")
 unfolding builtin_named builtin_pairs
 last_pair_again = refl
 
 -- a later pair counts, though a longer suffix stands before it
-later_counts : shown (language_of (of_pairs ((codes ".tar.q", codes "#long") ∷ (codes ".q", codes "#short") ∷ [])) (file (codes "f.tar.q"))) ≡ Absent (codes "short")
+later_counts : shown (chosen_for (of_pairs ((codes ".tar.q", codes "#long") ∷ (codes ".q", codes "#short") ∷ [])) (file (codes "f.tar.q"))) ≡ Absent (codes "short")
 unfolding builtin_named builtin_pairs
 later_counts = refl
 
 -- and the longer one where it is the later
-later_counts_again : shown (language_of (of_pairs ((codes ".q", codes "#short") ∷ (codes ".tar.q", codes "#long") ∷ [])) (file (codes "f.tar.q"))) ≡ Absent (codes "long")
+later_counts_again : shown (chosen_for (of_pairs ((codes ".q", codes "#short") ∷ (codes ".tar.q", codes "#long") ∷ [])) (file (codes "f.tar.q"))) ≡ Absent (codes "long")
 unfolding builtin_named builtin_pairs
 later_counts_again = refl
 
 -- a suffix needs no period
-suffix_without_period : shown (language_of (of_pairs ((codes "q", codes "#Q") ∷ [])) (file (codes "aq"))) ≡ Absent (codes "Q")
+suffix_without_period : shown (chosen_for (of_pairs ((codes "q", codes "#Q") ∷ [])) (file (codes "aq"))) ≡ Absent (codes "Q")
 unfolding builtin_named builtin_pairs
 suffix_without_period = refl
 
 -- a name is longer than its suffix
-whole_name : shown (language_of (of_pairs ((codes ".q", codes "#Q") ∷ [])) (file (codes ".q"))) ≡ ForLinker
+whole_name : shown (chosen_for (of_pairs ((codes ".q", codes "#Q") ∷ [])) (file (codes ".q"))) ≡ ForLinker
 unfolding builtin_named builtin_pairs
 whole_name = refl
 
 -- a suffix with a text of its own
-text_of_a_suffix : shown (language_of (of_pairs ((codes ".q", codes "prog %i") ∷ [])) (file (codes "f.q"))) ≡ InText (codes "prog %i")
+text_of_a_suffix : shown (chosen_for (of_pairs ((codes ".q", codes "prog %i") ∷ [])) (file (codes "f.q"))) ≡ InText (codes "prog %i")
 unfolding builtin_named builtin_pairs
 text_of_a_suffix = refl
 
 -- and with an empty one
-empty_text_of_a_suffix : shown (language_of (of_pairs ((codes ".q", []) ∷ [])) (file (codes "f.q"))) ≡ InText []
+empty_text_of_a_suffix : shown (chosen_for (of_pairs ((codes ".q", []) ∷ [])) (file (codes "f.q"))) ≡ InText []
 unfolding builtin_named builtin_pairs
 empty_text_of_a_suffix = refl
 
 -- an alias of a language that no pair has
-alias_of_an_unknown_language : shown (language_of (of_pairs ((codes ".q", codes "@Q") ∷ [])) (file (codes "f.q"))) ≡ Unknown (codes "Q")
+alias_of_an_unknown_language : shown (chosen_for (of_pairs ((codes ".q", codes "@Q") ∷ [])) (file (codes "f.q"))) ≡ Unknown (codes "Q")
 unfolding builtin_named builtin_pairs
 alias_of_an_unknown_language = refl
 
 -- an alias of one that is not installed
-alias_of_an_absent_language : shown (language_of (of_pairs ((codes ".q", codes "@Q") ∷ (codes "@Q", codes "#Queue") ∷ [])) (file (codes "f.q"))) ≡ Absent (codes "Queue")
+alias_of_an_absent_language : shown (chosen_for (of_pairs ((codes ".q", codes "@Q") ∷ (codes "@Q", codes "#Queue") ∷ [])) (file (codes "f.q"))) ≡ Absent (codes "Queue")
 unfolding builtin_named builtin_pairs
 alias_of_an_absent_language = refl
 
 -- the last pair of a language, also of an alias
-last_pair_of_a_language : shown (language_of (with_pairs ((codes "@c", codes "#C") ∷ [])) (file (codes "f.c"))) ≡ Absent (codes "C")
+last_pair_of_a_language : shown (chosen_for (with_pairs ((codes "@c", codes "#C") ∷ [])) (file (codes "f.c"))) ≡ Absent (codes "C")
 unfolding builtin_named builtin_pairs
 last_pair_of_a_language = refl
 
 -- an alias is followed once
-alias_followed_once : shown (language_of (of_pairs ((codes ".q", codes "@Q") ∷ (codes "@Q", codes "@R") ∷ (codes "@R", codes "prog") ∷ [])) (file (codes "f.q"))) ≡ Unknown (codes "Q")
+alias_followed_once : shown (chosen_for (of_pairs ((codes ".q", codes "@Q") ∷ (codes "@Q", codes "@R") ∷ (codes "@R", codes "prog") ∷ [])) (file (codes "f.q"))) ≡ Unknown (codes "Q")
 unfolding builtin_named builtin_pairs
 alias_followed_once = refl
 
 -- an @ and no name is a text
-no_alias : shown (language_of (of_pairs ((codes ".q", codes "@Q x") ∷ (codes ".r", codes "@") ∷ [])) (file (codes "f.q"))) ≡ InText (codes "@Q x")
+no_alias : shown (chosen_for (of_pairs ((codes ".q", codes "@Q x") ∷ (codes ".r", codes "@") ∷ [])) (file (codes "f.q"))) ≡ InText (codes "@Q x")
 unfolding builtin_named builtin_pairs
 no_alias = refl
 
 -- standard input where no pair has the language c
-standard_input_without_c : shown (language_of no_specs (file (codes "-"))) ≡ Unknown (codes "c")
+standard_input_without_c : shown (chosen_for no_specs (file (codes "-"))) ≡ Unknown (codes "c")
 unfolding builtin_named builtin_pairs
 standard_input_without_c = refl
 
 -- a key of a language is no suffix
-key_of_a_language : shown (language_of (of_pairs ((codes "@c", codes "#C") ∷ [])) (file (codes "f@c"))) ≡ ForLinker
+key_of_a_language : shown (chosen_for (of_pairs ((codes "@c", codes "#C") ∷ [])) (file (codes "f@c"))) ≡ ForLinker
 unfolding builtin_named builtin_pairs
 key_of_a_language = refl

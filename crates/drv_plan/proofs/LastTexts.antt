@@ -1,4 +1,4 @@
-use Rattle.drv_plan.specs.Languages.{last_pair, last_text, or_before, pair_text}
+use Rattle.drv_plan.specs.Languages.{last_pair, last_text, or_before, pair_meaning}
 use Rattle.drv_specs.specs.Sets.{Set}
 use Rattle.std.proofs.Common.{◌≡◌, ◌<◌, ◌+◌, ◌∙◌, Bool, List, [], ◌∷◌, ◌++◌, Option, Some, ap, false, if◌then◌else◌, length, refl, sym, take, true, ℕ}
 use Rattle.std.proofs.lemmas.Grind.{take_at_read}
@@ -52,7 +52,7 @@ pair_at pairs whole n pair is below here = ap (λ ps. slice_get ps n) (sym is) �
 
 -- what its text is, where it is the last one whose key fits
 pub text_found : (fits : List ℕ → Bool) (set : Set) (pairs others : List Pair) (n : ℕ) (pair : Pair) → pairs ≡ set.pairs → others ≡ set.pairs → n < length others → pair ≡ get_or others n pair
-    → option_map (λ p. p.1) (slice_get pairs n) ≡ last_text fits pairs → last_pair set fits ≡ Some (pair_text pair.1)
+    → option_map (λ p. p.1) (slice_get pairs n) ≡ last_text fits pairs → last_pair set fits ≡ Some (pair_meaning pair.1)
 text_found fits set pairs others n pair is same below here found =
-    ap (option_map pair_text)
+    ap (option_map pair_meaning)
     (ap (last_text fits) (sym is) ∙ sym found ∙ ap (option_map (λ p. p.1)) (ap (λ ps. slice_get ps n) is ∙ pair_at others set.pairs n pair same below here))

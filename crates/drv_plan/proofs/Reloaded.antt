@@ -3,7 +3,7 @@ use Rattle.drv_args.specs.declared.line.Input.{Input}
 use Rattle.drv_args.specs.declared.line.Line.{Line}
 use Rattle.drv_machine.specs.Context.{Context}
 use Rattle.drv_plan.specs.Denoted.{Planned, begun, context_of, denoted, finished, planned, then_by, with_file, with_input, with_inputs}
-use Rattle.drv_plan.specs.Languages.{Alias, Missing, PairText, Worked, by_language, by_suffix, chosen, in_language, is_of_language, is_standard_input, is_suffix_of, language_of, last_pair, last_text, or_before, pair_text, with_suffix}
+use Rattle.drv_plan.specs.Languages.{Alias, Missing, PairText, Worked, by_language, by_suffix, chosen, in_language, is_of_language, is_standard_input, is_suffix_of, chosen_for, last_pair, last_text, or_before, pair_meaning, with_suffix}
 use Rattle.drv_plan.specs.declared.going.Going.{Going}
 use Rattle.drv_search.specs.Search.{prefixes_of}
 use Rattle.drv_specs.specs.Dumping.{doubled}
@@ -43,7 +43,7 @@ last_doubled : (fits : List ℕ → Bool) (pairs : List (List ℕ × List ℕ)) 
 last_doubled fits pairs = last_both fits pairs pairs ∙ or_same (last_text fits pairs)
 
 pair_doubled : (set : Set) (fits : List ℕ → Bool) → last_pair (doubled set) fits ≡ last_pair set fits
-pair_doubled set fits = ap (option_map pair_text) (last_doubled fits set.pairs)
+pair_doubled set fits = ap (option_map pair_meaning) (last_doubled fits set.pairs)
 
 by_language_doubled : (set : Set) (language : List ℕ) → by_language (doubled set) language ≡ by_language set language
 by_language_doubled set language = ap (in_language language) (pair_doubled set (is_of_language language))
@@ -62,7 +62,7 @@ either_alike : {X : Type 0} (hit : Bool) (a a' b b' : X) → a ≡ a' → b ≡ 
 either_alike true a a' b b' first second = first
 either_alike false a a' b b' first second = second
 
-pub language_doubled : (set : Set) (input : Input) → language_of (doubled set) input ≡ language_of set input
+pub language_doubled : (set : Set) (input : Input) → chosen_for (doubled set) input ≡ chosen_for set input
 language_doubled set (File name (Some language)) = ap chosen (by_language_doubled set language)
 language_doubled set (File name None) =
     either_alike (is_standard_input name) (chosen (by_language (doubled set) (codes "c"))) (chosen (by_language set (codes "c"))) (by_suffix (doubled set) name) (by_suffix set name)

@@ -8,7 +8,7 @@ use Rattle.drv_machine.specs.declared.fault.MachineFault.TheVariants as machine
 use Rattle.drv_machine.specs.declared.fault.MachineFault.{MachineFault}
 use Rattle.drv_machine.specs.declared.outcome.Outcome.{Outcome}
 use Rattle.drv_plan.specs.Denoted.{Planned, begun, behind_job, behind_text, context_of, denoted, finished, for_link, for_source, lifted, linked, of_source, of_text, plan_of, planned, then_by, with_command, with_file, with_input, with_inputs, with_link, with_source, with_text, worked}
-use Rattle.drv_plan.specs.Languages.{Chosen, language_of}
+use Rattle.drv_plan.specs.Languages.{Chosen, chosen_for}
 use Rattle.drv_plan.specs.declared.fault.PlanFault.TheVariants.{Memory}
 use Rattle.drv_plan.specs.declared.fault.PlanFault.{PlanFault}
 use Rattle.drv_plan.specs.declared.going.Going.{Going}
@@ -65,12 +65,12 @@ refused_alike fault found defined alike (inr refuses) = inr (alike ∙ refuses)
 
 -- a file, once what it is worked with is known
 pub file_chosen : (F : Facts) (set : Set) (place : ℕ) (input : Input) (name : List ℕ) (language : Option (List ℕ)) (chosen : Option Chosen) (g : Going)
-    → input ≡ File name language → language_of set input ≡ Ok chosen → with_input F set place input g ≡ with_file F place name (Ok chosen) g
+    → input ≡ File name language → chosen_for set input ≡ Ok chosen → with_input F set place input g ≡ with_file F place name (Ok chosen) g
 file_chosen F set place input name language chosen g is chose =
-    ap (λ i. with_input F set place i g) is ∙ ap (λ r. with_file F place name r g) (ap (language_of set) (sym is) ∙ chose)
+    ap (λ i. with_input F set place i g) is ∙ ap (λ r. with_file F place name r g) (ap (chosen_for set) (sym is) ∙ chose)
 
 -- what has no language has no plan; words of the link aren't asked for theirs
-pub language_refused : (F : Facts) (set : Set) (place : ℕ) (input : Input) (g : Going) (fault : PlanFault) → (fault ≡ Memory) ⊎ (language_of set input ≡ Err fault)
+pub language_refused : (F : Facts) (set : Set) (place : ℕ) (input : Input) (g : Going) (fault : PlanFault) → (fault ≡ Memory) ⊎ (chosen_for set input ≡ Err fault)
     → (fault ≡ Memory) ⊎ (with_input F set place input g ≡ Is (Err fault))
 language_refused F set place input g fault (inl memory) = inl memory
 language_refused F set place (File name language) g fault (inr refuses) = inr (ap (λ r. with_file F place name r g) refuses)

@@ -7,7 +7,7 @@ use Rattle.drv_machine.specs.Working.{Answer}
 use Rattle.drv_machine.specs.declared.fault.MachineFault.TheVariants as machine
 use Rattle.drv_machine.specs.declared.fault.MachineFault.{MachineFault}
 use Rattle.drv_machine.specs.declared.outcome.Outcome.{Outcome}
-use Rattle.drv_plan.specs.Languages.{Chosen, language_of}
+use Rattle.drv_plan.specs.Languages.{Chosen, chosen_for}
 use Rattle.drv_plan.specs.declared.fault.PlanFault.TheVariants.{Machine, Memory}
 use Rattle.drv_plan.specs.declared.fault.PlanFault.{PlanFault}
 use Rattle.drv_plan.specs.declared.going.Going.{Going}
@@ -52,6 +52,7 @@ context_of line set prefixes seed = record {
   preprocessor = line.cpp_opts;
   texts = set.named;
   prefixes = prefixes;
+  is_piping = line.settings.pipe;
   from_file = line.settings.from_file;
   seed = seed;
   number = 1;
@@ -113,7 +114,7 @@ with_file F place name (Ok None) g = Is (Ok (behind_object name g))
 with_file F place name (Ok (Some c)) g = with_source F place (record { name = name; language = c.name }) c.text g
 
 abbrev pub with_input : Facts → Set → ℕ → Input → Going → Planned Going
-with_input F set place (File name language) g = with_file F place name (language_of set (File name language)) g
+with_input F set place (File name language) g = with_file F place name (chosen_for set (File name language)) g
 with_input F set place (Library word) g = Is (Ok (behind_word word g))
 with_input F set place (LinkWord word) g = Is (Ok (behind_word word g))
 

@@ -35,11 +35,11 @@ pub data PairText : Type 0 where
   Alias : List ℕ → PairText  -- another name of this language
   Worked : List ℕ → PairText  -- a text that is worked
 
-abbrev pub pair_text : List ℕ → PairText
-pair_text text = if is_not_installed text then Missing (drop 1 text) else if is_alias text then Alias (drop 1 text) else Worked text
+abbrev pub pair_meaning : List ℕ → PairText
+pair_meaning text = if is_not_installed text then Missing (drop 1 text) else if is_alias text then Alias (drop 1 text) else Worked text
 
 abbrev pub last_pair : Set → (List ℕ → Bool) → Option PairText
-last_pair set fits = option_map pair_text (last_text fits set.pairs)
+last_pair set fits = option_map pair_meaning (last_text fits set.pairs)
 
 -- the text that an input is worked with, and the name of its language, which a suffix with a text of its own doesn't have
 pub record Chosen : Type 0 where
@@ -77,8 +77,8 @@ is_standard_input name = pointwise nat_eq name (hyphen ∷ [])
 
 -- What an input is worked with, or none where it is the linker's. A file is worked in the language that -x gave it;
 -- without one standard input is in C, and the suffix of any other decides.
-abbrev pub language_of : Set → Input → Result (Option Chosen) PlanFault
-language_of set (File name (Some language)) = chosen (by_language set language)
-language_of set (File name None) = if is_standard_input name then chosen (by_language set (codes "c")) else by_suffix set name
-language_of set (Library word) = Ok None
-language_of set (LinkWord word) = Ok None
+abbrev pub chosen_for : Set → Input → Result (Option Chosen) PlanFault
+chosen_for set (File name (Some language)) = chosen (by_language set language)
+chosen_for set (File name None) = if is_standard_input name then chosen (by_language set (codes "c")) else by_suffix set name
+chosen_for set (Library word) = Ok None
+chosen_for set (LinkWord word) = Ok None

@@ -1,7 +1,7 @@
 //! The language of an input, and the text that it is worked with.
 
 ghost use Rattle.drv_machine.specs.declared.fault.MachineFault.TheVariants as machine;
-ghost use Rattle.drv_plan.specs.Languages.{by_language, by_suffix, is_of_language, is_standard_input, is_suffix_of, language_of, last_pair, last_text, pair_text};
+ghost use Rattle.drv_plan.specs.Languages.{by_language, by_suffix, is_of_language, is_standard_input, is_suffix_of, chosen_for, last_pair, last_text, pair_meaning};
 ghost use Rattle.drv_plan.specs.Code.Looking.{fits, shown};
 ghost use Rattle.drv_plan.specs.declared.fault.PlanFault.TheVariants as fault;
 ghost use Rattle.drv_specs.specs.Sets.{begins_with_at, is_no_text};
@@ -124,10 +124,10 @@ enum PairText<'a> {
 }
 
 /// What a pair's text is, which has a tree if it is one that is worked.
-fn pair_text<'a>(tree: Option<&'a SpecTree>, text: &'a [u8]) -> PairText<'a>
+fn pair_meaning<'a>(tree: Option<&'a SpecTree>, text: &'a [u8]) -> PairText<'a>
     requires { option_map (λ tree. tree.now) tree
         ≡ (if is_no_text text.now then None else Some text.now) }
-    ensures { shown result ≡ pair_text text.now }
+    ensures { shown result ≡ pair_meaning text.now }
 {
     match (tree, text) {
         (Some(tree), _) => PairText::Worked(tree),
@@ -143,7 +143,7 @@ fn last_pair<'a>(set: &'a SpecSet, wanted: Wanted<'_>) -> Option<PairText<'a>>
 {
     let place = last_place(wanted, set.pairs())?;
     let (_, text) = set.pairs().get(place)?;
-    Some(pair_text(set.pair_tree(place), text.as_bytes()))
+    Some(pair_meaning(set.pair_tree(place), text.as_bytes()))
 }
 
 /// What a file in a language is worked with.
@@ -208,7 +208,7 @@ pub fn language<'a>(
     input: &'a Input,
     set: &'a SpecSet,
 ) -> Result<Option<Chosen<'a>>, PlanFault>
-    ensures gives { Gives fault.Memory (λ chosen. chosen) result (language_of set.now input.now) }
+    ensures gives { Gives fault.Memory (λ chosen. chosen) result (chosen_for set.now input.now) }
     ensures apart { IfErr result (λ refusal. refusal ≢ fault.Machine machine.Memory) }
 {
     match input {

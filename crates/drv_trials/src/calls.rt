@@ -24,9 +24,10 @@ use crate::names::named;
 use crate::script::read_system;
 use crate::transcript::Transcript;
 use c99::try_front;
+use drv_funcs::Site;
 use drv_system::{HostSystem, System};
 use drv_words::Word;
-use functions::{Site, try_called, try_versions};
+use functions::{try_called, try_versions};
 use outside::{Question, try_questions};
 use reading_back::try_read_back;
 use searching::{Wanted, try_folders, try_search};
@@ -58,7 +59,7 @@ const CALLS: [(&[u8], Call); 13] = [
     (b"library", Call::Search(Wanted::Library)),
     (b"script", Call::Search(Wanted::Script)),
     (b"folders", Call::Folders),
-    (b"function", Call::Function(Site::Elsewhere)),
+    (b"function", Call::Function(Site::Source)),
     (b"in-link", Call::Function(Site::Link)),
     (b"versions", Call::Versions),
     (b"lines", Call::ReadBack),

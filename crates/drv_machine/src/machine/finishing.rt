@@ -1,7 +1,6 @@
 //! What stands behind the whole text: pipes judged, and the commands as a job.
 
 ghost use Rattle.drv_machine.specs.Code.Asked.{Asked};
-ghost use Rattle.drv_machine.specs.Context.{is_piping};
 ghost use Rattle.drv_machine.specs.Cutting as cutting;
 ghost use Rattle.drv_machine.specs.Code.Grouping.{grouped};
 ghost use Rattle.drv_machine.specs.Code.Held.{made};
@@ -188,7 +187,7 @@ fn add_line<S: System>(
 
 /// Whether the command of a line goes into one group with the next one.
 fn is_joined(context: &Context<'_>, line: &Line) -> bool
-    ensures { result ≡ (is_piping context.now && line.now.piped) }
+    ensures { result ≡ (context.now.is_piping && line.now.piped) }
 {
     context.is_piping() && line.piped
 }

@@ -44,7 +44,7 @@ impl Machine {
             args,
             context.switches(),
             &self.hidden,
-            context.is_link(),
+            context.site(),
             &mut self.outputs,
             outside.sys,
             outside.facts,

@@ -3,7 +3,7 @@
 use super::NO_CALL;
 use crate::transcript::Transcript;
 use drv_args::Switch;
-use drv_funcs::{FuncsFault, Function, call, compare_versions};
+use drv_funcs::{FuncsFault, Function, Site, call, compare_versions};
 use drv_match::{Hidden, Switches};
 use drv_system::{FactTable, System};
 use drv_words::{Listing, Word, split};
@@ -13,6 +13,7 @@ use std::cmp::Ordering;
 /// A call of a function.
 #[derive(Clone, Copy)]
 pub struct Called<'a> {
+    site: Site,
     /// The names of the switches that are given.
     switches: &'a Word,
     /// The outputs of the link, where the function stands in its text.
@@ -89,6 +90,7 @@ fn add_outputs(outputs: &[Word], out: &mut Transcript) -> Result<(), AllocError>
 fn outside_link(words: &[Word]) -> Option<Called<'_>> {
     match words {
         [switches, name, args @ ..] => Some(Called {
+            site: Site::Source,
             switches,
             outputs: None,
             name,
@@ -102,6 +104,7 @@ fn outside_link(words: &[Word]) -> Option<Called<'_>> {
 fn in_link(words: &[Word]) -> Option<Called<'_>> {
     match words {
         [switches, outputs, name, args @ ..] => Some(Called {
+            site: Site::Link,
             switches,
             outputs: Some(outputs),
             name,
@@ -129,7 +132,7 @@ impl Called<'_> {
             self.args,
             switches,
             &hidden,
-            self.outputs.is_some(),
+            self.site,
             outputs,
             sys,
             &mut facts,
@@ -169,13 +172,6 @@ impl Called<'_> {
     }
 }
 
-/// Where a function is called.
-#[derive(Clone, Copy)]
-pub enum Site {
-    Link,
-    Elsewhere,
-}
-
 /// What a function gives that words call.
 pub fn try_called<S: System>(
     alloc: Global,
@@ -186,7 +182,7 @@ pub fn try_called<S: System>(
 ) -> Result<(), AllocError> {
     let called = match site {
         Site::Link => in_link(words),
-        Site::Elsewhere => outside_link(words),
+        Site::Source => outside_link(words),
     };
     match called {
         Some(called) => called.try_function(alloc, sys, out),

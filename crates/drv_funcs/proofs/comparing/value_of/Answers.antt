@@ -4,7 +4,7 @@ use Rattle.drv_funcs.specs.Outcome.{last, starred}
 use Rattle.drv_match.specs.Matching.{hits}
 use Rattle.std.proofs.Common.{◌≡◌, Some, rules}
 
-pub name-requires : goal.name-requires
-name-requires c =
+pub rest-rest-requires : goal.rest-rest-requires
+rest-rest-requires c =
     let at : last (hits c.args.switches.now c.args.hidden.now (starred c.args.prefix.now)) ≡ Some c.in-Some.place.now = search rules in
     last_within c.args.switches.now c.args.hidden.now (starred c.args.prefix.now) c.in-Some.place.now at

@@ -1,12 +1,12 @@
 use Rattle.drv_plan.proofs.LastTexts.{pair_at, text_found}
 use Rattle.drv_plan.proofs.languages.last_pair.Goals as goal
-use Rattle.drv_plan.specs.Languages.{pair_text}
+use Rattle.drv_plan.specs.Languages.{pair_meaning}
 use Rattle.drv_plan.specs.Code.Looking.{fits}
 use Rattle.drv_specs.specs.Sets.{is_no_text, worked_text}
 use Rattle.std.proofs.Common.{◌∙◌, None, Some, ap, if◌then◌else◌, option_and_then, sym}
 
-pub pair_text-requires : goal.pair_text-requires
-pair_text-requires c =
+pub pair_meaning-requires : goal.pair_meaning-requires
+pair_meaning-requires c =
     c.pair_tree.ensures
     ∙ ap (option_and_then worked_text)
     (pair_at c.pairs-2.result.now c.args.set.now.pairs c.in_ok-place.place c.in_ok-text.field-0.now c.pairs-2.ensures c.in_ok-text.ensures.lookup.3.0 c.in_ok-text.ensures.lookup.1)
@@ -14,6 +14,6 @@ pair_text-requires c =
 
 pub returns : goal.returns
 returns c =
-    ap Some (c.pair_text.ensures ∙ ap pair_text c.as_bytes.ensures)
+    ap Some (c.pair_meaning.ensures ∙ ap pair_meaning c.as_bytes.ensures)
     ∙ sym (text_found (fits c.args.wanted) c.args.set.now c.pairs.result.now c.pairs-2.result.now c.in_ok-place.place c.in_ok-text.field-0.now
     c.pairs.ensures c.pairs-2.ensures c.in_ok-text.ensures.lookup.3.0 c.in_ok-text.ensures.lookup.1 c.in_ok-place.ensures)
