@@ -119,9 +119,11 @@ fn add_rows(entries: &mut Entries, rows: &[Pair]) -> Result<(), AllocError>
 fn builtin_entries(alloc: Global) -> Result<Entries, AllocError>
     ensures { IfOk result (λ entries. entries ≡ builtin_specs) }
 {
-    let mut entries = Entries::empty(alloc);
-    put_rows(&mut entries, named_rows())?;
-    add_rows(&mut entries, pair_rows())?;
+    let named = named_rows();
+    let pairs = pair_rows();
+    let mut entries = Entries::with_capacity(alloc, named.len(), pairs.len())?;
+    put_rows(&mut entries, named)?;
+    add_rows(&mut entries, pairs)?;
     Ok(entries)
 }
 

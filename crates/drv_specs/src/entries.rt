@@ -42,7 +42,7 @@ impl Model for Entries {
 fn copied_pairs(alloc: Global, pairs: &[(Word, Word)]) -> Result<Listing<(Word, Word)>, AllocError>
     ensures { IfOk result (λ copies. copies ≡ pairs.now) }
 {
-    let mut copies = Listing::new(alloc);
+    let mut copies = Listing::from_vec(Vec::with_capacity(alloc, pairs.len())?);
     for (key, text) in pairs {
         copies.push((key.clone()?, text.clone()?))?;
     }
@@ -63,7 +63,7 @@ fn copied_text(text: &Option<Text>) -> Result<Option<Text>, AllocError>
 fn copied_texts(alloc: Global, texts: &[Option<Text>]) -> Result<Vec<Option<Text>>, AllocError>
     ensures { IfOk result (λ copies. copies.items ≡ texts.now) }
 {
-    let mut copies = Vec::new(alloc);
+    let mut copies = Vec::with_capacity(alloc, texts.len())?;
     for text in texts {
         copies.push(copied_text(text)?)?;
     }
@@ -81,6 +81,22 @@ impl Entries {
             pairs: Listing::new(alloc),
             trees: Vec::new(alloc),
         }
+    }
+
+    /// None, with room for so many texts and so many pairs.
+    pub(crate) fn with_capacity(
+        alloc: Global,
+        texts: usize,
+        pairs: usize,
+    ) -> Result<Entries, AllocError>
+        ensures { IfOk result (λ entries. entries ≡ no_specs) }
+    {
+        Ok(Entries {
+            alloc,
+            named: IndexMap::with_capacity(alloc, texts)?,
+            pairs: Listing::from_vec(Vec::with_capacity(alloc, pairs)?),
+            trees: Vec::with_capacity(alloc, pairs)?,
+        })
     }
 
     /// The allocator.
