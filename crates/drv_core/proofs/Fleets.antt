@@ -2,7 +2,7 @@ use Rattle.drv_core.specs.Code.Fleet.{Fleet, idle, settled, stage_in, turned}
 use Rattle.drv_core.specs.Code.FleetView.{worker_of}
 use Rattle.drv_core.specs.Code.Machine.{after, inside}
 use Rattle.drv_core.specs.Code.Source.{stage_at}
-use Rattle.drv_core.specs.declared.source.Source.{Source}
+use Rattle.drv_core.specs.declared.source.SourceState.{SourceState}
 use Rattle.drv_words.specs.declared.answers.Answer.{Answer}
 use Rattle.drv_words.specs.declared.plan.Job.{Job}
 use Rattle.std.proofs.Common.{◌≡◌, ◌<◌, ◌∙◌, Bool, false, true, List, ap, get_or, if◌then◌else◌, length, map, refl, sym, ℕ}
@@ -13,7 +13,7 @@ use Rattle.std.specs.Vec.{vec_capacity}
 -- What the code of all sources comes to.
 
 -- one source goes on
-pub worked_is : (xs : List Source) (k : ℕ) (s t : Source) (job : Job) (a : Answer) → k < length xs → s ≡ get_or xs k s → stage_at t ≡ after job (stage_at s) a → vec_capacity t.children ≡ vec_capacity s.children
+pub worked_is : (xs : List SourceState) (k : ℕ) (s t : SourceState) (job : Job) (a : Answer) → k < length xs → s ≡ get_or xs k s → stage_at t ≡ after job (stage_at s) a → vec_capacity t.children ≡ vec_capacity s.children
     → map worker_of (slice_set xs k t) ≡ slice_set (map worker_of xs) k (record { stage = after job (get_or (map worker_of xs) k idle).stage a; room = (get_or (map worker_of xs) k idle).room })
 worked_is xs k s t job a lt is stage room =
     let at : get_or (map worker_of xs) k idle ≡ worker_of s = get_or-map worker_of xs k s idle lt ∙ ap worker_of (sym is) in

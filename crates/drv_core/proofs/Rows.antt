@@ -3,6 +3,7 @@ use Rattle.drv_core.specs.Needed.{needed}
 use Rattle.drv_core.specs.Outcomes.{Answers, GroupAnswers, JobAnswers, Told, status_of, whole}
 use Rattle.drv_core.specs.Story.{Block, after_sources, event, report, story}
 use Rattle.drv_core.specs.Windowed.{AllMayCome, MayCome, SourceBlock, Windowed, blocks_of, count, events_of, has, in_flight, is_wait, nowhere, of}
+use Rattle.drv_core.specs.declared.failure_status.FailureStatus.TheVariants.{GreatestCode, One}
 use Rattle.drv_words.specs.declared.answers.Answer.TheVariants as answer
 use Rattle.drv_words.specs.declared.answers.ClaimAnswer.{ClaimAnswer}
 use Rattle.drv_words.specs.declared.answers.ClaimAnswer.TheVariants as claim
@@ -163,7 +164,7 @@ two_needs = refl
 two_whole : whole two first_fails ≡ true
 two_whole = refl
 
-two_status : status_of true first_fails ≡ 3
+two_status : status_of GreatestCode first_fails ≡ 3
 two_status = refl
 
 two_events : events two first_fails (0 ∷ 0 ∷ 0 ∷ 0 ∷ 1 ∷ 1 ∷ 1 ∷ 1 ∷ 1 ∷ 1 ∷ [])
@@ -214,7 +215,7 @@ objects_need = refl
 objects_whole : whole objects object_fails ≡ true
 objects_whole = refl
 
-objects_status : status_of false object_fails ≡ 1
+objects_status : status_of One object_fails ≡ 1
 objects_status = refl
 
 objects_come : all_may_come 2 1 [] (sources objects object_fails (0 ∷ 0 ∷ 0 ∷ 0 ∷ 1 ∷ 1 ∷ 1 ∷ 1 ∷ 1 ∷ [])) ≡ true
@@ -254,7 +255,7 @@ pipe_windowed = record {
   all_answers = refl;
 }
 
-pipe_status : status_of false refused_start ≡ 1
+pipe_status : status_of One refused_start ≡ 1
 pipe_status = refl
 
 -- a link that ends with 1, whose output is a device, and a temporary that can't be removed
@@ -270,7 +271,7 @@ link_fails = record {
 link_whole : whole two link_fails ≡ true
 link_whole = refl
 
-link_status : status_of false link_fails ≡ 1
+link_status : status_of One link_fails ≡ 1
 link_status = refl
 
 link_end : events_of (after_sources two link_fails)
@@ -332,7 +333,7 @@ taken_whole = refl
 taken_length : length (events five third_taken (0 ∷ 0 ∷ 0 ∷ 0 ∷ 1 ∷ 1 ∷ 1 ∷ 1 ∷ 2 ∷ 3 ∷ 3 ∷ 3 ∷ 3 ∷ 4 ∷ 4 ∷ 4 ∷ 4 ∷ [])) ≡ 26
 taken_length = refl
 
-taken_status : status_of false third_taken ≡ 1
+taken_status : status_of One third_taken ≡ 1
 taken_status = refl
 
 -- the third source's second start is refused
@@ -355,7 +356,7 @@ lost_whole = refl
 lost_length : length (events five third_lost in_order) ≡ 31
 lost_length = refl
 
-lost_status : status_of true third_lost ≡ 1
+lost_status : status_of GreatestCode third_lost ≡ 1
 lost_status = refl
 
 -- a removal that fails
@@ -365,7 +366,7 @@ removal_fails = five_with (good 4) linked (removed remove.Removed ∷ removed re
 removal_length : length (events five removal_fails in_order) ≡ 33
 removal_length = refl
 
-removal_status : status_of false removal_fails ≡ 0
+removal_status : status_of One removal_fails ≡ 0
 removal_status = refl
 
 -- all claims fail

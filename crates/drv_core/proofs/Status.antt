@@ -3,6 +3,7 @@ use Rattle.drv_core.specs.Code.Course.{run_code}
 use Rattle.drv_core.specs.Outcomes.{Answers, File, GroupAnswers, JobAnswers, Told, answer_code, claims_failed, code_of, greatest, group_code, group_failed, is_claimed, is_started, job_code, link_run, none, removed_at_end, removed_by_job, status_from, status_of, whole_claims, whole_group, whole_groups, whole_job, whole_jobs}
 use Rattle.drv_core.specs.Story.{Block, after_sources, claim_block, claim_blocks, end_removals, event, group_blocks, own_removals, removal_block, removal_failed, report, starts_block, story, wait_block, wait_blocks}
 use Rattle.drv_core.specs.Windowed.{AllMayCome, SourceBlock, TellStories, Windowed, blocks_of, events_of, nowhere, of}
+use Rattle.drv_core.specs.declared.failure_status.FailureStatus.{FailureStatus}
 use Rattle.drv_words.specs.declared.answers.Answer.TheVariants as answer
 use Rattle.drv_words.specs.declared.answers.ClaimAnswer.{ClaimAnswer}
 use Rattle.drv_words.specs.declared.answers.ClaimAnswer.TheVariants as claim
@@ -210,8 +211,8 @@ greatest_last [] a = max_nothing (job_code a) ∙ sym (nothing_max (job_code a))
 greatest_last (x ∷ xs) a = ap (λ n. max (job_code x) n) (greatest_last xs a) ∙ sym (max_assoc (job_code x) (greatest job_code xs) (job_code a))
 
 -- the status of a whole run is that of the greatest code of its events
-pub status_is : (plan : Plan) (N : ℕ) (o : Answers) (E : List RunEvent) (pass_codes : Bool) → Windowed plan N o E → status_from pass_codes (run_code E) ≡ status_of pass_codes o
-status_is plan N o E pass_codes w = ap (λ n. status_from pass_codes n)
+pub status_is : (plan : Plan) (N : ℕ) (o : Answers) (E : List RunEvent) (failure : FailureStatus) → Windowed plan N o E → status_from failure (run_code E) ≡ status_of failure o
+status_is plan N o E failure w = ap (λ n. status_from failure n)
     (ap run_code w.events ∙ code_append (events_of (blocks_of w.blocks)) (events_of (after_sources plan o))
     ∙ ap (λ n. max n (run_code (events_of (after_sources plan o)))) (code_blocks (length plan.jobs) w.blocks (all_below (length plan.jobs) N nowhere [] w.blocks w.may_come)
     ∙ top_same (length plan.jobs) (λ j. run_code (events_of (of j w.blocks))) (λ j. run_code (events_of (of (0 + j) w.blocks))) (λ j lt. ap (λ i. run_code (events_of (of i w.blocks))) (let at : j ≡ 0 + j = omega arith in at))

@@ -1,3 +1,5 @@
+use Rattle.drv_core.specs.declared.failure_status.FailureStatus.TheVariants.{GreatestCode, One}
+use Rattle.drv_core.specs.declared.failure_status.FailureStatus.{FailureStatus}
 use Rattle.drv_words.specs.Places.{no_job}
 use Rattle.drv_words.specs.declared.answers.Answer.{Answer}
 use Rattle.drv_words.specs.declared.answers.Answer.TheVariants as answer
@@ -193,11 +195,12 @@ group_code a = max (greatest (λ s. if is_started s then 0 else 1) a.starts) (gr
 abbrev pub job_code : JobAnswers → ℕ
 job_code a = max (greatest (λ c. if is_claimed c.answer then 0 else 1) a.claims) (greatest group_code a.groups)
 
-abbrev pub status_from : Bool → ℕ → ℕ
-status_from pass_codes code = if pass_codes then code else (if nat_eq code 0 then 0 else 1)
+abbrev pub status_from : FailureStatus → ℕ → ℕ
+status_from GreatestCode code = code
+status_from One code = if nat_eq code 0 then 0 else 1
 
-abbrev pub status_of : Bool → Answers → ℕ
-status_of pass_codes o = status_from pass_codes (greatest job_code (o.jobs ++ o.link ∷ []))
+abbrev pub status_of : FailureStatus → Answers → ℕ
+status_of failure o = status_from failure (greatest job_code (o.jobs ++ o.link ∷ []))
 
 -- The commands that were started: of each group up to and with the first that has a fault, those before its first refused
 -- start; none unless all temporaries were claimed.

@@ -1,16 +1,17 @@
 use Rattle.drv_core.specs.declared.action.Action.{Action}
 use Rattle.drv_core.specs.declared.action.Action.TheVariants as action
+use Rattle.drv_core.specs.declared.failure_status.FailureStatus.{FailureStatus}
 use Rattle.drv_words.specs.declared.plan.Plan.{Plan}
 use Rattle.drv_words.specs.declared.steps.RunEvent.{RunEvent}
 use Rattle.drv_words.specs.declared.steps.Step.{Step}
-use Rattle.std.specs.Prelude.{⊤, Bool, List, None, Option, Some, ℕ}
+use Rattle.std.specs.Prelude.{⊤, List, None, Option, Some, ℕ}
 
 -- A run of a plan, as its callers see it.
 
--- window: how many sources may be under way at once; events: those so far; action: what is made next, or the status
+-- failure: the status where a code isn't 0; window: how many sources may be under way at once; events: those so far; action: what is made next, or the status
 pub record Run : Type 0 where
   pub plan : Plan
-  pub pass_codes : Bool
+  pub failure : FailureStatus
   pub window : ℕ
   pub events : List RunEvent
   pub action : Action

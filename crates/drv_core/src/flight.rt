@@ -10,14 +10,14 @@ ghost use Rattle.drv_words.specs.Places.{no_job};
 ghost use Rattle.std.specs.List.{filter};
 ghost use Rattle.std.specs.Vec.{vec_capacity};
 
-use crate::source::Source;
+use crate::source::SourceState;
 use drv_words::{Answer, Job, Step};
 use std::alloc::{AllocError, Global};
 
 /// The sources of a run, of which some are under way, and the one of them that is worked.
 #[derive(Drop)]
 pub(crate) struct Flight {
-    pub(crate) sources: Vec<Source>,
+    pub(crate) sources: Vec<SourceState>,
     /// Those that have begun and not ended, in their order.
     pub(crate) begun: Vec<usize>,
     /// The first that has not begun and has something to do, or the number of sources.
@@ -55,13 +55,13 @@ fn count_busy(jobs: &[Job]) -> usize
 }
 
 /// A source for each job, of which none has an empty group. Want of memory is the only error.
-fn sources_of(alloc: Global, jobs: &[Job]) -> Result<Vec<Source>, AllocError>
+fn sources_of(alloc: Global, jobs: &[Job]) -> Result<Vec<SourceState>, AllocError>
     ensures fresh { IfOk result (λ made. map worker_of made.items ≡ map fresh jobs.now) }
     ensures filled { OnOk result (AllFilled jobs.now) }
 {
     let mut sources = Vec::with_capacity(alloc, jobs.len())?;
     for job in jobs {
-        let source = Source::new(alloc, job)?;
+        let source = SourceState::new(alloc, job)?;
         sources.push(source)?;
     }
     Ok(sources)

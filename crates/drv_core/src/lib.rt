@@ -2,6 +2,7 @@
 #![tactic(auto)]
 
 mod action;
+mod failure_status;
 mod flight;
 mod law;
 mod leftovers;
@@ -11,6 +12,7 @@ mod source;
 mod work;
 
 pub use action::Action;
+pub use failure_status::FailureStatus;
 pub use law::{interleaving_law, linking_law, started_first, waiting_law};
 pub use needed::events_needed;
 pub use run::Run;

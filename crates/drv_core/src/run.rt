@@ -17,7 +17,8 @@ ghost use Rattle.drv_words.specs.Stepping.{can_make, fits};
 ghost use Rattle.std.specs.Prelude.{◌≡◌, ◌<◌, ◌≤◌, ◌++◌, ◌∷◌, [], IfOk, Some, length, true};
 
 use crate::action::Action;
-use crate::work::Work;
+use crate::failure_status::FailureStatus;
+use crate::work::RunState;
 use drv_words::{Answer, Plan, RunEvent};
 use std::alloc::{AllocError, Global};
 use std::marker::Model;
@@ -26,13 +27,13 @@ use std::marker::Model;
 /// next, and `answer` takes what that step was answered. Room for all its events is got by `new`,
 /// and no later call takes memory.
 ///
-/// Contracts see the plan, whether codes are passed on, how many sources may be under way at once,
-/// the events so far, and what `next` gives.
+/// Contracts see the plan, what the status of a failed run is, how many sources may be under way at
+/// once, the events so far, and what `next` gives.
 #[derive(Drop)]
 pub struct Run<'a> {
     plan: &'a Plan,
-    pass_codes: bool,
-    work: Work,
+    failure: FailureStatus,
+    work: RunState,
 }
 
 impl<'a> Model for Run<'a> {
@@ -42,38 +43,36 @@ impl<'a> Model for Run<'a> {
 
     ghost use Rattle.drv_core.specs.Code.RunView.{Stands, run_of};
 
-    ghost view = { λ r. run_of r.plan.now r.pass_codes r.work };
+    ghost view = { λ r. run_of r.plan.now r.failure r.work };
 
     ghost invariant = { λ r. Stands r.plan.now r.work };
 }
 
 /// The status where this is the greatest code.
-fn status_code(pass_codes: bool, code: u8) -> u8
-    ensures { result ≡ status_from pass_codes code }
+fn status_code(failure: FailureStatus, code: u8) -> u8
+    ensures { result ≡ status_from failure code }
 {
-    if pass_codes {
-        code
-    } else if code == 0 {
-        0
-    } else {
-        1
+    match failure {
+        FailureStatus::GreatestCode => code,
+        FailureStatus::One if code == 0 => 0,
+        FailureStatus::One => 1,
     }
 }
 
 /// What is made next, or the status where nothing is.
 #[tactic(auto, using(crate::proofs::Runs::is_ready))]
-fn look(plan: &Plan, pass_codes: bool, work: &Work) -> Action
+fn look(plan: &Plan, failure: FailureStatus, work: &RunState) -> Action
     requires { Stands plan.now work.now }
-    ensures { result ≡ (run_of plan.now pass_codes work.now).action }
+    ensures { result ≡ (run_of plan.now failure work.now).action }
 {
     match work.asks(plan) {
         Some(step) => Action::Make(step),
-        None => Action::Done(status_code(pass_codes, work.code)),
+        None => Action::Done(status_code(failure, work.code)),
     }
 }
 
 /// The work goes on by the answer to what was asked.
-fn advance(plan: &Plan, work: &mut Work, answer: Answer)
+fn advance(plan: &Plan, work: &mut RunState, answer: Answer)
     requires stands { Stands plan.now work.old }
     requires kind { (s : Step) → next_of plan.now (position_of work.old) ≡ Some s
         → is_kind s answer ≡ true }
@@ -89,7 +88,7 @@ fn advance(plan: &Plan, work: &mut Work, answer: Answer)
 }
 
 /// The work goes on with a source that was chosen.
-fn turn(plan: &Plan, work: &mut Work, choice: usize)
+fn turn(plan: &Plan, work: &mut RunState, choice: usize)
     requires stands { Stands plan.now work.old }
     requires choice { IsChoice plan.now work.old.flight.window work.old.events.items choice }
     ensures stands { Stands plan.now work.new }
@@ -101,28 +100,27 @@ fn turn(plan: &Plan, work: &mut Work, choice: usize)
 
 impl<'a> Run<'a> {
     /// Nothing of the plan was worked yet. At most `window` sources are under way at once, which is
-    /// 1 to 64; where `pass_codes`, the status is the greatest code (GCC manual, "Overall Options",
-    /// `-pass-exit-codes`). Want of memory is the only error, also where `usize` has no number for
-    /// the events that can come.
+    /// 1 to 64; `failure` says what the status of a failed run is. Want of memory is the only
+    /// error, also where `usize` has no number for the events that can come.
     pub fn new(
         alloc: Global,
         plan: &'a Plan,
-        pass_codes: bool,
+        failure: FailureStatus,
         window: usize,
     ) -> Result<Run<'a>, AllocError>
         requires some { 1 ≤ window }
         requires most { window ≤ 64 }
         ensures plan { IfOk result (λ run. run.plan ≡ plan.now) }
-        ensures pass_codes { IfOk result (λ run. run.pass_codes ≡ pass_codes) }
+        ensures failure { IfOk result (λ run. run.failure ≡ failure) }
         ensures window { IfOk result (λ run. run.window ≡ window) }
         ensures events { IfOk result (λ run. run.events ≡ []) }
         ensures first { IfOk result
             (λ run. IsOfFirst run.plan run.window run.events (step_in run.action)) }
     {
-        let work = Work::new(alloc, plan, window)?;
+        let work = RunState::new(alloc, plan, window)?;
         Ok(Run {
             plan,
-            pass_codes,
+            failure,
             work,
         })
     }
@@ -141,9 +139,9 @@ impl<'a> Run<'a> {
             (λ status. IsWhole self.now.plan self.now.window self.now.events) }
         ensures status { IfDone result (λ status. (o : Answers)
             → Windowed self.now.plan self.now.window o self.now.events
-            → status ≡ status_of self.now.pass_codes o) }
+            → status ≡ status_of self.now.failure o) }
     {
-        look(self.plan, self.pass_codes, &self.work)
+        look(self.plan, self.failure, &self.work)
     }
 
     /// What the step of `next` was answered, by an answer of its kind; the number of a child that
@@ -156,10 +154,17 @@ impl<'a> Run<'a> {
         ensures first { IsOfFirst self.new.plan self.new.window self.new.events
             (step_in self.new.action) }
         ensures plan { self.new.plan ≡ self.old.plan }
-        ensures pass_codes { self.new.pass_codes ≡ self.old.pass_codes }
+        ensures failure { self.new.failure ≡ self.old.failure }
         ensures window { self.new.window ≡ self.old.window }
     {
         advance(self.plan, &mut self.work, answer);
+    }
+
+    /// For how many events there is room, those so far included: for all that a run can have.
+    pub fn room(&self) -> usize
+        ensures { needed self.now.plan ≤ result }
+    {
+        self.work.events.capacity()
     }
 
     /// The events so far, each step with its answer.
@@ -169,15 +174,14 @@ impl<'a> Run<'a> {
         self.work.events.as_slice()
     }
 
-    /// The status of the run, which is whole: 0 where all codes are 0, else 1, or the greatest code
-    /// where codes are passed on.
+    /// The status of the run, which is whole: 0 where all codes are 0, else that of a failed run.
     pub fn status(&self) -> u8
         requires { IfMake self.now.action (λ step. ⊥) }
         ensures done { self.now.action ≡ action.Done result }
         ensures status { (o : Answers) → Windowed self.now.plan self.now.window o self.now.events
-            → result ≡ status_of self.now.pass_codes o }
+            → result ≡ status_of self.now.failure o }
     {
-        status_code(self.pass_codes, self.work.code)
+        status_code(self.failure, self.work.code)
     }
 
     /// How many sources may go on, where the events so far are whole blocks of the sources and a
@@ -198,7 +202,7 @@ impl<'a> Run<'a> {
         ensures elsewhere { (BetweenBlocks self.old.plan self.old.window self.old.events → ⊥)
             → self.new ≡ self.old }
         ensures plan { self.new.plan ≡ self.old.plan }
-        ensures pass_codes { self.new.pass_codes ≡ self.old.pass_codes }
+        ensures failure { self.new.failure ≡ self.old.failure }
         ensures window { self.new.window ≡ self.old.window }
         ensures events { self.new.events ≡ self.old.events }
     {

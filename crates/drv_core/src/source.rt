@@ -70,9 +70,9 @@ pub(crate) enum Point {
     Ended,
 }
 
-/// A source, or the link.
+/// How far the work on a source is, or that on the link.
 #[derive(Drop)]
-pub(crate) struct Source {
+pub(crate) struct SourceState {
     pub(crate) point: Point,
     /// Whether an earlier group started a command.
     pub(crate) started_before: bool,
@@ -191,7 +191,7 @@ fn wait_note(job: usize, group: usize, index: usize, answer: WaitAnswer) -> Note
     }
 }
 
-impl Source {
+impl SourceState {
     /// What is asked next for the source of this number; none once its story has ended.
     pub(crate) fn asks(&self, number: usize, job: &Job) -> Option<Step>
         ensures { result ≡ asks number job.now (stage_at self.now) }
@@ -484,11 +484,11 @@ impl Source {
 
     /// Nothing has begun, and there is room for the children of each group, of which none is empty.
     /// Want of memory is the only error.
-    pub(crate) fn new(alloc: Global, job: &Job) -> Result<Source, AllocError>
+    pub(crate) fn new(alloc: Global, job: &Job) -> Result<SourceState, AllocError>
         ensures fresh { IfOk result (λ made. worker_of made ≡ fresh job.now) }
         ensures filled { OnOk result (Filled job.now) }
     {
-        let mut source = Source {
+        let mut source = SourceState {
             point: Point::Ended,
             started_before: false,
             children: Vec::with_capacity(alloc, widest(job))?,
@@ -498,10 +498,10 @@ impl Source {
     }
 
     /// Nothing to do. It takes no memory.
-    pub(crate) fn idle(alloc: Global) -> Source
+    pub(crate) fn idle(alloc: Global) -> SourceState
         ensures { worker_of result ≡ fresh no_job }
     {
-        Source {
+        SourceState {
             point: Point::Ended,
             started_before: false,
             children: Vec::new(alloc),

@@ -19,7 +19,7 @@ ghost use Rattle.std.specs.Vec.{vec_capacity};
 use crate::flight::Flight;
 use crate::leftovers::Leftovers;
 use crate::needed::events_needed;
-use crate::source::{Source, remove_of};
+use crate::source::{SourceState, remove_of};
 use drv_words::{
     Answer, ClaimAnswer, Note, Plan, RemoveAnswer, RunEvent, StartAnswer, Step, WaitAnswer,
 };
@@ -40,12 +40,12 @@ pub(crate) enum Part {
     Done,
 }
 
-/// The work on a plan: its parts one after another, and the events so far.
+/// How far the run of a plan is: its parts one after another, and the events so far.
 #[derive(Drop)]
-pub(crate) struct Work {
+pub(crate) struct RunState {
     pub(crate) part: Part,
     pub(crate) flight: Flight,
-    pub(crate) link: Source,
+    pub(crate) link: SourceState,
     pub(crate) leftovers: Leftovers,
     /// The greatest code so far.
     pub(crate) code: u8,
@@ -100,13 +100,13 @@ fn wait_code(ended: WaitAnswer) -> u8
 
 /// The link, of which nothing has begun, or nothing to do where there is none. Want of memory is
 /// the only error.
-fn link_source(alloc: Global, plan: &Plan) -> Result<Source, AllocError>
+fn link_source(alloc: Global, plan: &Plan) -> Result<SourceState, AllocError>
     ensures fresh { IfOk result (λ made. worker_of made ≡ fresh (link_of plan.now.link)) }
     ensures filled { OnOk result (Filled (link_of plan.now.link)) }
 {
     match &plan.link {
-        Some(job) => Source::new(alloc, job),
-        None => Ok(Source::idle(alloc)),
+        Some(job) => SourceState::new(alloc, job),
+        None => Ok(SourceState::idle(alloc)),
     }
 }
 
@@ -121,17 +121,17 @@ fn room_for(alloc: Global, plan: &Plan) -> Result<Vec<RunEvent>, AllocError>
     }
 }
 
-impl Work {
+impl RunState {
     /// The parts of a run, where there may be no source to begin with. There is room for all that
     /// comes, and no group is empty. Want of memory is the only error.
-    fn prepared(alloc: Global, plan: &Plan, window: usize) -> Result<Work, AllocError>
+    fn prepared(alloc: Global, plan: &Plan, window: usize) -> Result<RunState, AllocError>
         requires { window ≤ 64 }
         ensures fresh { IfOk result (λ made. position_of made
             ≡ first_position plan.now window (vec_capacity made.events)) }
         ensures room { IfOk result (λ made. needed plan.now ≤ vec_capacity made.events) }
         ensures filled { OnOk result (AllFilled plan.now.jobs × Filled (link_of plan.now.link)) }
     {
-        Ok(Work {
+        Ok(RunState {
             part: Part::Sources,
             flight: Flight::new(alloc, plan.jobs.as_slice(), window)?,
             link: link_source(alloc, plan)?,
@@ -143,14 +143,14 @@ impl Work {
 
     /// Nothing has begun, and there is room for all that comes. No group is empty. Want of memory
     /// is the only error.
-    pub(crate) fn new(alloc: Global, plan: &Plan, window: usize) -> Result<Work, AllocError>
+    pub(crate) fn new(alloc: Global, plan: &Plan, window: usize) -> Result<RunState, AllocError>
         requires { window ≤ 64 }
         ensures fresh { IfOk result (λ made. position_of made
             ≡ fresh_position plan.now window (vec_capacity made.events)) }
         ensures room { IfOk result (λ made. needed plan.now ≤ vec_capacity made.events) }
         ensures filled { OnOk result (AllFilled plan.now.jobs × Filled (link_of plan.now.link)) }
     {
-        let mut work = Work::prepared(alloc, plan, window)?;
+        let mut work = RunState::prepared(alloc, plan, window)?;
         work.leave_sources();
         Ok(work)
     }

@@ -2,6 +2,7 @@ use Rattle.drv_run.proofs.Tellings.{announces_only, none_ran, none_ran_asking}
 use Rattle.drv_run.specs.Calls.{Does, Drove, OnlyAsked}
 use Rattle.drv_run.specs.declared.ending.Ending.TheVariants.{Refused}
 use Rattle.drv_run.specs.declared.ending.Refusal.{Refusal}
+use Rattle.drv_run.specs.declared.work.Telling.TheVariants.{Commands}
 use Rattle.drv_run.specs.declared.work.Work.TheVariants.{Show}
 use Rattle.drv_system.proofs.Asking.{are_questions}
 use Rattle.drv_system.proofs.Running.{run_of-append}
@@ -9,7 +10,7 @@ use Rattle.drv_system.specs.Facts.{no_facts}
 use Rattle.drv_system.specs.Running.{run_of}
 use Rattle.drv_system.specs.declared.event.Event.{Event}
 use Rattle.drv_words.specs.declared.plan.Plan.{Plan}
-use Rattle.std.proofs.Common.{◌≡◌, ◌∙◌, ◌++◌, [], List, ap, true, ℕ}
+use Rattle.std.proofs.Common.{◌≡◌, ◌∙◌, ◌++◌, [], List, ap, ℕ}
 use Rattle.std.proofs.lemmas.List.{append-nil}
 
 -- A call that is refused, and one that shows its plan, makes no step of a run.
@@ -26,4 +27,4 @@ does_nothing journal later args seed refusal d = record {
     grows = d.journal_grows ∙ ap (λ said. journal ++ d.asked ++ said) d.ends.1 ∙ append-nil (journal ++ d.asked)
 
 pub makes_no_step : (plan : Plan) (status : ℕ) (said : List Event) → Does (Show plan) status said → run_of said ≡ []
-makes_no_step plan status said shows = none_ran said (announces_only true plan said (status, shows))
+makes_no_step plan status said shows = none_ran said (announces_only Commands plan said (status, shows))

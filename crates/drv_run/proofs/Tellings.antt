@@ -2,6 +2,8 @@ use Rattle.drv_run.specs.Calls.{Announces, AreSaid, Says, notices_text}
 use Rattle.drv_run.specs.Executed.{Executed}
 use Rattle.drv_run.specs.Code.Telling.{AnnouncesPlan, DoesWork}
 use Rattle.drv_run.specs.declared.work.Manner.{Manner}
+use Rattle.drv_run.specs.declared.work.Telling.TheVariants.{Commands, Notices}
+use Rattle.drv_run.specs.declared.work.Telling.{Telling}
 use Rattle.drv_run.specs.declared.work.Work.TheVariants.{CarryOut}
 use Rattle.drv_system.proofs.Running.{run_of-append}
 use Rattle.drv_system.specs.Asking.{AreQuestions}
@@ -30,17 +32,17 @@ said_both (Variable name value ∷ first) second a b = absurd a
 said_both (Put text answer ∷ first) second a b = absurd a
 said_both (Run e ∷ first) second a b = absurd a
 
-pub announces_only : (verbose : Bool) (plan : Plan) (said : List Event) → Announces verbose plan said → AreSaid said
-announces_only true plan said (status, shows) =
+pub announces_only : (telling : Telling) (plan : Plan) (said : List Event) → Announces telling plan said → AreSaid said
+announces_only Commands plan said (status, shows) =
     subst (λ events. AreSaid events) (sym shows.joined)
     (said_both shows.notices shows.commands (said_only (notices_text plan.notices) shows.noticed shows.notices shows.notices_are)
     (said_only (lines_text (lines_of plan)) status shows.commands shows.commands_are))
-announces_only false plan said (status, says) = said_only (notices_text plan.notices) status said says
+announces_only Notices plan said (status, says) = said_only (notices_text plan.notices) status said says
 
 -- what is told, and then the run
 
 pub plan_carried_out : (journal journal' journal'' : List Event) (plan : Plan) (manner : Manner) (status : ℕ)
-    → AnnouncesPlan journal journal' manner.verbose plan → Executed plan manner.pass_codes manner.window journal' journal'' status → DoesWork journal journal'' (CarryOut plan manner) status
+    → AnnouncesPlan journal journal' manner.telling plan → Executed plan manner.failure manner.window journal' journal'' status → DoesWork journal journal'' (CarryOut plan manner) status
 plan_carried_out journal journal' journal'' plan manner status announces executes = (
   announces.0 ++ map Run executes.events,
   executes.journal_grows ∙ ap (λ before. before ++ map Run executes.events) announces.1 ∙ append_assoc journal announces.0 (map Run executes.events),
@@ -80,7 +82,7 @@ pipe_stays journal events none before =
 pub pipe_behind_questions : (journal asked : List Event) → AreQuestions asked → pipe_pending (run_of journal) ≡ false → pipe_pending (run_of (journal ++ asked)) ≡ false
 pipe_behind_questions journal asked are before = pipe_stays journal asked (none_ran_asking asked are) before
 
-pub no_pipe_behind_announced : (journal journal' : List Event) (verbose : Bool) (plan : Plan)
-    → AnnouncesPlan journal journal' verbose plan → pipe_pending (run_of journal) ≡ false → pipe_pending (run_of journal') ≡ false
-no_pipe_behind_announced journal journal' verbose plan announces before =
-    ap (λ after. pipe_pending (run_of after)) announces.1 ∙ pipe_stays journal announces.0 (none_ran announces.0 (announces_only verbose plan announces.0 announces.2)) before
+pub no_pipe_behind_announced : (journal journal' : List Event) (telling : Telling) (plan : Plan)
+    → AnnouncesPlan journal journal' telling plan → pipe_pending (run_of journal) ≡ false → pipe_pending (run_of journal') ≡ false
+no_pipe_behind_announced journal journal' telling plan announces before =
+    ap (λ after. pipe_pending (run_of after)) announces.1 ∙ pipe_stays journal announces.0 (none_ran announces.0 (announces_only telling plan announces.0 announces.2)) before

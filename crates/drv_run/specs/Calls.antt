@@ -3,6 +3,8 @@ use Rattle.drv_run.specs.Executed.{Executed}
 use Rattle.drv_run.specs.declared.ending.Ending.TheVariants.{Done, OutOfMemory, Refused}
 use Rattle.drv_run.specs.declared.ending.Ending.{Ending}
 use Rattle.drv_run.specs.declared.work.Manner.{Manner}
+use Rattle.drv_run.specs.declared.work.Telling.TheVariants.{Commands, Notices}
+use Rattle.drv_run.specs.declared.work.Telling.{Telling}
 use Rattle.drv_run.specs.declared.work.Work.TheVariants.{CarryOut, Dump, Show}
 use Rattle.drv_run.specs.declared.work.Work.{Work}
 use Rattle.drv_system.specs.Asking.{AreNew}
@@ -49,17 +51,17 @@ pub record Shows (plan : Plan) (status : ℕ) (said : List Event) : Type 0 where
   pub commands_are : Says (lines_text (lines_of plan)) status commands
 
 -- what is said before a plan is carried out: its notices, and with -v its commands too; whether they could be said is no matter
-abbrev pub Announces : Bool → Plan → List Event → Type 0
-Announces true plan said = (status : ℕ) × Shows plan status said
-Announces false plan said = (status : ℕ) × Says (notices_text plan.notices) status said
+abbrev pub Announces : Telling → Plan → List Event → Type 0
+Announces Commands plan said = (status : ℕ) × Shows plan status said
+Announces Notices plan said = (status : ℕ) × Says (notices_text plan.notices) status said
 
 -- A plan is carried out behind that, and the status is that of its run.
 pub record CarriesOut (plan : Plan) (manner : Manner) (status : ℕ) (said : List Event) : Type 0 where
   pub announced : List Event
   pub ran : List Event
   pub joined : said ≡ announced ++ ran
-  pub announces : Announces manner.verbose plan announced
-  pub executes : Executed plan manner.pass_codes manner.window [] ran status
+  pub announces : Announces manner.telling plan announced
+  pub executes : Executed plan manner.failure manner.window [] ran status
 
 -- events that do a work, with the exit status: a dump is written once
 abbrev pub Does : Work → ℕ → List Event → Type 0

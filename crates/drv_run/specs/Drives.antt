@@ -8,6 +8,8 @@ use Rattle.drv_args.specs.declared.line.Settings.{Settings}
 use Rattle.drv_c99.specs.Front.{front_of}
 use Rattle.drv_c99.specs.declared.fault.C99Fault.TheVariants as c99_fault
 use Rattle.drv_c99.specs.declared.fault.C99Fault.{C99Fault}
+use Rattle.drv_core.specs.declared.failure_status.FailureStatus.TheVariants.{GreatestCode, One}
+use Rattle.drv_core.specs.declared.failure_status.FailureStatus.{FailureStatus}
 use Rattle.drv_funcs.specs.declared.fault.FuncsFault.TheVariants as funcs_fault
 use Rattle.drv_machine.specs.declared.fault.MachineFault.TheVariants as machine_fault
 use Rattle.drv_plan.specs.Denoted.{denoted}
@@ -18,6 +20,8 @@ use Rattle.drv_run.specs.declared.ending.Ending.{Ending}
 use Rattle.drv_run.specs.declared.ending.Refusal.TheVariants.{Args, C99 as NoFront, Plan as NoPlan, Specs as NoSpecs}
 use Rattle.drv_run.specs.declared.ending.Refusal.{Refusal}
 use Rattle.drv_run.specs.declared.work.Manner.{Manner}
+use Rattle.drv_run.specs.declared.work.Telling.TheVariants.{Commands, Notices}
+use Rattle.drv_run.specs.declared.work.Telling.{Telling}
 use Rattle.drv_run.specs.declared.work.Work.TheVariants.{CarryOut, Dump, Show}
 use Rattle.drv_run.specs.declared.work.Work.{Work}
 use Rattle.drv_search.specs.Search.{prefixes_of}
@@ -79,9 +83,17 @@ planned F line set seed = denoted F line set seed
 abbrev pub called_as : Bool → Bool → Bool → ℕ → Line → Line
 called_as dry verbose pass_codes jobs line = record line { settings = record line.settings { dry = dry; verbose = verbose; pass_codes = pass_codes; jobs = jobs } }
 
--- how a plan is carried out: whether it is said first, whether codes are passed on, and how many sources are worked at once
+-- what is said of a plan before it is carried out: with -v its commands too
+abbrev pub telling_of : Settings → Telling
+telling_of settings = if settings.verbose then Commands else Notices
+
+-- the status where a command failed: with -pass-exit-codes the greatest code
+abbrev pub failure_of : Settings → FailureStatus
+failure_of settings = if settings.pass_codes then GreatestCode else One
+
+-- how a plan is carried out: what is said first, the status of a failure, and how many sources are worked at once
 abbrev pub manner_of : Settings → Manner
-manner_of settings = record { verbose = settings.verbose; pass_codes = settings.pass_codes; window = settings.jobs }
+manner_of settings = record { telling = telling_of settings; failure = failure_of settings; window = settings.jobs }
 
 -- with -### a plan is shown, and otherwise it is carried out
 abbrev pub work_with : Settings → Plan → Work

@@ -42,8 +42,8 @@ fn run_plan<S: System>(
         (CarryOut plan.now manner) status) }
     ensures memory { OnErr result (OnlySays (S.events sys.old) (S.events sys.new)) }
 {
-    announce(alloc, sys, plan, manner.verbose)?;
-    let status = execute(alloc, sys, plan, manner.pass_codes, manner.window)?;
+    announce(alloc, sys, plan, manner.telling)?;
+    let status = execute(alloc, sys, plan, manner.failure, manner.window)?;
     Ok(status)
 }
 

@@ -7,14 +7,14 @@ ghost use Rattle.std.specs.Prelude.{◌≡◌, ◌≤◌, IfOk, OnErr, false};
 
 use crate::choosing::choose_source;
 use crate::making::make;
-use drv_core::{Action, Run, events_needed};
+use drv_core::{Action, FailureStatus, Run};
 use drv_system::System;
 use drv_words::Plan;
 use std::alloc::{AllocError, Global};
 
 /// Carries out a plan, with at most `window` of its sources under way at once, and gives the exit
-/// status: 0, or 1 where a command failed or something was not made or started; with `pass_codes`
-/// the greatest code instead. Of several sources that may go on, one does that need not wait.
+/// status: 0, or that of a failure where a command failed or something was not made or started. Of
+/// several sources that may go on, one does that need not wait.
 ///
 /// # Errors
 /// Want of memory, of which nothing was made or started; behind the first step it is no error any
@@ -23,22 +23,19 @@ pub fn execute<S: System>(
     alloc: Global,
     sys: &mut S,
     plan: &Plan,
-    pass_codes: bool,
+    failure: FailureStatus,
     window: usize,
 ) -> Result<u8, AllocError>
     requires pipe { pipe_pending (run_of (S.events sys.old)) ≡ false }
     requires some { 1 ≤ window }
     requires most { window ≤ 64 }
     ensures executed { IfOk result
-        (λ status. Executed plan.now pass_codes window
+        (λ status. Executed plan.now failure window
         (S.events sys.old) (S.events sys.new) status) }
     ensures memory { OnErr result (S.events sys.new ≡ S.events sys.old) }
 {
-    let Some(count) = events_needed(plan) else {
-        return Err(AllocError);
-    };
-    let mut run = Run::new(alloc, plan, pass_codes, window)?;
-    sys.reserve_events(count)?;
+    let mut run = Run::new(alloc, plan, failure, window)?;
+    sys.reserve_events(run.room())?;
     loop {
         match run.next() {
             Action::Done(status) => return Ok(status),

@@ -20,7 +20,8 @@ pub fn one_ending()
         → Drives F args seed a → Drives F args seed b → a ≡ b }
     ensures refused { (F : Facts) (args : List (List ℕ)) (seed : ℕ) (r s : Refusal)
         → Refuses F args seed r → Refuses F args seed s → r ≡ s }
-    ensures never_both { (F : Facts) (args : List (List ℕ)) (seed : ℕ) (work : Work) (refusal : Refusal)
+    ensures never_both { (F : Facts) (args : List (List ℕ)) (seed : ℕ)
+        (work : Work) (refusal : Refusal)
         → Drives F args seed work → Refuses F args seed refusal → ⊥ }
 {}
 

@@ -6,6 +6,7 @@ ghost use Rattle.drv_words.specs.Lines.{lines_of};
 ghost use Rattle.drv_words.specs.Printed.{lines_text};
 ghost use Rattle.std.specs.Prelude.{◌≡◌, ◌++◌, IfOk, OnErr, OnOk};
 
+use crate::work::Telling;
 use drv_system::{System, TellAnswer};
 use drv_words::{Plan, Word, render_plan};
 use std::alloc::{AllocError, Global};
@@ -93,16 +94,15 @@ pub(crate) fn announce<S: System>(
     alloc: Global,
     sys: &mut S,
     plan: &Plan,
-    verbose: bool,
+    telling: Telling,
 ) -> Result<(), AllocError>
     ensures announces { OnOk result
-        (AnnouncesPlan (S.events sys.old) (S.events sys.new) verbose plan.now) }
+        (AnnouncesPlan (S.events sys.old) (S.events sys.new) telling plan.now) }
     ensures memory { OnErr result (OnlySays (S.events sys.old) (S.events sys.new)) }
 {
-    if verbose {
-        let _status = say_plan(alloc, sys, plan)?;
-        return Ok(());
-    }
-    let _noticed = say_notices(alloc, sys, plan)?;
+    let _status = match telling {
+        Telling::Commands => say_plan(alloc, sys, plan)?,
+        Telling::Notices => say_notices(alloc, sys, plan)?,
+    };
     Ok(())
 }

@@ -1,18 +1,28 @@
 //! What a call does.
 
-ghost use Rattle.drv_run.specs.Drives.{work_with};
+ghost use Rattle.drv_run.specs.Drives.{failure_of, telling_of, work_with};
 ghost use Rattle.std.specs.Prelude.{◌≡◌};
 
 use drv_args::Settings;
+use drv_core::FailureStatus;
 use drv_words::{Plan, Word};
+
+/// What is said of a plan before it is carried out.
+#[derive(Clone, Copy, Debug)]
+pub enum Telling {
+    /// Its notices.
+    Notices,
+    /// Its notices, and its commands.
+    Commands,
+}
 
 /// How a plan is carried out.
 #[derive(Clone, Copy, Debug)]
 pub struct Manner {
-    /// Its commands are said first.
-    pub verbose: bool,
-    /// The exit status is the greatest of the commands'.
-    pub pass_codes: bool,
+    /// What is said of it first.
+    pub telling: Telling,
+    /// The exit status where a command failed.
+    pub failure: FailureStatus,
     /// How many sources are under way at once, at most.
     pub window: usize,
 }
@@ -28,6 +38,28 @@ pub enum Work {
     CarryOut { plan: Plan, manner: Manner },
 }
 
+/// What is said of a plan: with `-v` its commands too.
+fn telling_of(settings: &Settings) -> Telling
+    ensures { result ≡ telling_of settings.now }
+{
+    if settings.verbose {
+        Telling::Commands
+    } else {
+        Telling::Notices
+    }
+}
+
+/// The exit status where a command failed: with `-pass-exit-codes` the greatest code.
+fn failure_of(settings: &Settings) -> FailureStatus
+    ensures { result ≡ failure_of settings.now }
+{
+    if settings.pass_codes {
+        FailureStatus::GreatestCode
+    } else {
+        FailureStatus::One
+    }
+}
+
 /// What is done with the plan of a line: with `-###` it is shown, and otherwise it is carried out.
 pub(crate) fn work_with(settings: &Settings, plan: Plan) -> Work
     ensures { result ≡ work_with settings.now plan }
@@ -36,8 +68,8 @@ pub(crate) fn work_with(settings: &Settings, plan: Plan) -> Work
         return Work::Show(plan);
     }
     let manner = Manner {
-        verbose: settings.verbose,
-        pass_codes: settings.pass_codes,
+        telling: telling_of(settings),
+        failure: failure_of(settings),
         window: settings.jobs,
     };
     Work::CarryOut { plan, manner }

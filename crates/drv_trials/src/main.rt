@@ -22,6 +22,7 @@ mod steps;
 mod transcript;
 
 use calls::try_call;
+use drv_core::FailureStatus;
 use drv_system::arguments;
 use drv_words::Word;
 use names::named;
@@ -56,8 +57,9 @@ fn try_part(rt: &HostRuntime, part: Part, words: &[Word], out: &mut Transcript) 
     match (part, words) {
         (Part::Call, call) => try_call(rt, call, out),
         (Part::Steps, [path]) => try_file(rt, path, out),
-        (Part::Plan(manner), [window, pass @ ..]) => {
-            try_plan(rt, manner, window, !pass.is_empty(), out)
+        (Part::Plan(manner), [window]) => { try_plan(rt, manner, window, FailureStatus::One, out) }
+        (Part::Plan(manner), [window, _, ..]) => {
+            try_plan(rt, manner, window, FailureStatus::GreatestCode, out)
         }
         (Part::Drive, args) => try_drive(rt, args, out),
         _ => Ok(out.add(USAGE)?),

@@ -1,13 +1,13 @@
 use Rattle.drv_core.specs.Code.Fleet.{Fleet, Worker}
 use Rattle.drv_core.specs.Code.Source.{stage_at}
 use Rattle.drv_core.specs.declared.flight.Flight.{Flight}
-use Rattle.drv_core.specs.declared.source.Source.{Source}
+use Rattle.drv_core.specs.declared.source.SourceState.{SourceState}
 use Rattle.std.specs.Prelude.{map}
 use Rattle.std.specs.Vec.{vec_capacity}
 
 -- All sources, as the code has them. Private clauses alone cite it.
 
-abbrev pub worker_of : Source → Worker
+abbrev pub worker_of : SourceState → Worker
 worker_of s = record { stage = stage_at s; room = vec_capacity s.children }
 
 abbrev pub fleet_of : Flight → Fleet

@@ -4,7 +4,7 @@ use Rattle.drv_core.specs.Code.LeftoverView.{remains_of}
 use Rattle.drv_core.specs.Code.Position.{Position}
 use Rattle.drv_core.specs.declared.work.Part.{Part}
 use Rattle.drv_core.specs.declared.work.Part.TheVariants as part
-use Rattle.drv_core.specs.declared.work.Work.{Work}
+use Rattle.drv_core.specs.declared.work.RunState.{RunState}
 use Rattle.std.specs.Vec.{vec_capacity}
 
 -- A whole run, as the code has it. Private clauses alone cite it.
@@ -16,7 +16,7 @@ phase_of part.Removals = Removals
 phase_of part.Report = Report
 phase_of part.Done = Done
 
-abbrev pub position_of : Work → Position
+abbrev pub position_of : RunState → Position
 position_of w = record {
   phase = phase_of w.part;
   fleet = fleet_of w.flight;

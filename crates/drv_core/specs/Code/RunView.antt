@@ -3,18 +3,24 @@ use Rattle.drv_core.specs.Code.Position.{Position, next_of}
 use Rattle.drv_core.specs.Code.PositionView.{position_of}
 use Rattle.drv_core.specs.Code.Reached.{Kept}
 use Rattle.drv_core.specs.Run.{Run, action_of}
-use Rattle.drv_core.specs.declared.work.Work.{Work}
+use Rattle.drv_core.specs.declared.failure_status.FailureStatus.{FailureStatus}
+use Rattle.drv_core.specs.declared.work.RunState.{RunState}
 use Rattle.drv_words.specs.declared.plan.Plan.{Plan}
-use Rattle.std.specs.Prelude.{Bool}
 
 -- A run, as the code has it. Private clauses alone cite it.
 
-abbrev pub run_at : Plan → Bool → Position → Run
-run_at plan pass_codes p = record { plan = plan; pass_codes = pass_codes; window = p.fleet.window; events = p.events; action = action_of (next_of plan p) (status_from pass_codes p.code) }
+abbrev pub run_at : Plan → FailureStatus → Position → Run
+run_at plan failure p = record {
+  plan = plan;
+  failure = failure;
+  window = p.fleet.window;
+  events = p.events;
+  action = action_of (next_of plan p) (status_from failure p.code);
+}
 
-abbrev pub run_of : Plan → Bool → Work → Run
-run_of plan pass_codes w = run_at plan pass_codes (position_of w)
+abbrev pub run_of : Plan → FailureStatus → RunState → Run
+run_of plan failure w = run_at plan failure (position_of w)
 
 -- what is so of every run
-abbrev pub Stands : Plan → Work → Type 0
+abbrev pub Stands : Plan → RunState → Type 0
 Stands plan w = Kept plan w.flight.window (position_of w)

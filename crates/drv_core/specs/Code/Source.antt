@@ -1,7 +1,7 @@
 use Rattle.drv_core.specs.Code.Machine.{ClaimReport, Claims, Closing, Ended, RemovalReport, Removals, Stage, StartReport, Starts, WaitReport, Waits}
 use Rattle.drv_core.specs.declared.source.Point.{Point}
 use Rattle.drv_core.specs.declared.source.Point.TheVariants as point
-use Rattle.drv_core.specs.declared.source.Source.{Source}
+use Rattle.drv_core.specs.declared.source.SourceState.{SourceState}
 use Rattle.std.specs.Prelude.{◌<◌, ⊤, Bool, List, length, ℕ}
 
 -- Where the work on a source stands, as the code has it. Private clauses alone cite it.
@@ -18,7 +18,7 @@ stage_of (point.Removals i) was ids = Removals i
 stage_of (point.RemovalReport i) was ids = RemovalReport i
 stage_of point.Ended was ids = Ended
 
-abbrev pub stage_at : Source → Stage
+abbrev pub stage_at : SourceState → Stage
 stage_at s = stage_of s.point s.started_before s.children.items
 
 -- a start is followed by a place for its child

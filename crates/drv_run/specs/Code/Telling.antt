@@ -1,11 +1,12 @@
 use Rattle.drv_run.specs.Calls.{Announces, AreSaid, Does, Says, Shows}
 use Rattle.drv_run.specs.declared.ending.Ending.TheVariants.{Done, OutOfMemory, Refused}
 use Rattle.drv_run.specs.declared.ending.Ending.{Ending}
+use Rattle.drv_run.specs.declared.work.Telling.{Telling}
 use Rattle.drv_run.specs.declared.work.Work.TheVariants.{CarryOut, Dump, Show}
 use Rattle.drv_run.specs.declared.work.Work.{Work}
 use Rattle.drv_system.specs.declared.event.Event.{Event}
 use Rattle.drv_words.specs.declared.plan.Plan.{Plan}
-use Rattle.std.specs.Prelude.{◌≡◌, ◌≤◌, Bool, List, ◌++◌, ℕ, ⊤}
+use Rattle.std.specs.Prelude.{◌≡◌, ◌≤◌, List, ◌++◌, ℕ, ⊤}
 
 -- The same of two journals, the one behind the other. Private clauses alone cite it.
 
@@ -17,8 +18,8 @@ SaysText journal journal' text status = (said : List Event) × (journal' ≡ jou
 abbrev pub ShowsPlan : List Event → List Event → Plan → ℕ → Type 0
 ShowsPlan journal journal' plan status = (said : List Event) × (journal' ≡ journal ++ said) × Shows plan status said
 
-abbrev pub AnnouncesPlan : List Event → List Event → Bool → Plan → Type 0
-AnnouncesPlan journal journal' verbose plan = (said : List Event) × (journal' ≡ journal ++ said) × Announces verbose plan said
+abbrev pub AnnouncesPlan : List Event → List Event → Telling → Plan → Type 0
+AnnouncesPlan journal journal' telling plan = (said : List Event) × (journal' ≡ journal ++ said) × Announces telling plan said
 
 -- a work was done, and nothing else
 abbrev pub DoesWork : List Event → List Event → Work → ℕ → Type 0

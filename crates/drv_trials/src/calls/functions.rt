@@ -127,15 +127,7 @@ impl Called<'_> {
         let hidden = Hidden::new(alloc, switches)?;
         let mut facts = FactTable::new(alloc);
         call(
-            alloc,
-            function,
-            self.args,
-            switches,
-            &hidden,
-            self.site,
-            outputs,
-            sys,
-            &mut facts,
+            alloc, function, self.args, switches, &hidden, self.site, outputs, sys, &mut facts,
         )
     }
 

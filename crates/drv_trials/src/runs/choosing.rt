@@ -12,7 +12,7 @@ ghost use Rattle.std.specs.Prelude.{◌≡◌, ◌≤◌};
 use super::showing::{add_line, add_made};
 use crate::answers::answer_of;
 use crate::transcript::Transcript;
-use drv_core::{Action, Run};
+use drv_core::{Action, FailureStatus, Run};
 use drv_words::{Answer, Listing, Plan, RunEvent, StartAnswer, Step, Word};
 use std::alloc::{AllocError, Global};
 use std::str::from_utf8;
@@ -140,13 +140,13 @@ pub fn choose_blocks(
     plan: &Plan,
     lines: &[Listing<Word>],
     window: usize,
-    pass_codes: bool,
+    failure: FailureStatus,
     out: &mut Transcript,
 ) -> Result<(), AllocError>
     requires some { 1 ≤ window }
     requires most { window ≤ 64 }
 {
-    let mut run = Run::new(alloc, plan, pass_codes, window)?;
+    let mut run = Run::new(alloc, plan, failure, window)?;
     for line in lines {
         go(&mut run, plan, line.as_slice(), out)?;
     }

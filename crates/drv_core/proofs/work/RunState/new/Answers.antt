@@ -1,5 +1,5 @@
 use Rattle.drv_core.proofs.Matches.{fresh_matches}
-use Rattle.drv_core.proofs.work.Work.new.Goals as goal
+use Rattle.drv_core.proofs.work.RunState.new.Goals as goal
 use Rattle.drv_core.specs.Needed.{needed}
 use Rattle.drv_core.specs.Code.Position.{flown}
 use Rattle.drv_core.specs.Code.Starting.{first_position}

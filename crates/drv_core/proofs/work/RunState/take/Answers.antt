@@ -1,5 +1,5 @@
 use Rattle.drv_core.proofs.Moves.{in_part}
-use Rattle.drv_core.proofs.work.Work.take.Goals as goal
+use Rattle.drv_core.proofs.work.RunState.take.Goals as goal
 use Rattle.drv_core.specs.Code.Course.{Sources}
 use Rattle.drv_core.specs.Code.PositionView.{phase_of, position_of}
 use Rattle.std.proofs.Common.{ap}

@@ -1,4 +1,4 @@
-use Rattle.drv_core.proofs.work.Work.take_source.Goals as goal
+use Rattle.drv_core.proofs.work.RunState.take_source.Goals as goal
 use Rattle.drv_core.specs.Code.Fleet.{taken}
 use Rattle.drv_core.specs.Code.FleetView.{fleet_of}
 use Rattle.drv_core.specs.Code.Position.{flown}
