@@ -276,5 +276,5 @@ holds_whole plan N c h is = by c.phase h is
     by Report held e = absurd (none_asked (step.Report (note.NotRemoved (file_at (end_files plan N held.i true c.events held.ending) held.i).place)) (sym (ap reports (sym (next_is_first plan N true c held)) ∙ e)))
     by Done held e = end_whole plan N held.i c.events held.ending held.all
 
-pub whole_status : (plan : Plan) (N : ℕ) (E : List RunEvent) (failure : FailureStatus) → (w : IsWhole plan N E) → status_from failure (run_code E) ≡ status_of failure w.o
-whole_status plan N E failure w = status_is plan N w.o E failure w.windowed
+pub whole_status : (plan : Plan) (N : ℕ) (E : List RunEvent) (pass_codes : FailureStatus) → (w : IsWhole plan N E) → status_from pass_codes (run_code E) ≡ status_of pass_codes w.o
+whole_status plan N E pass_codes w = status_is plan N w.o E pass_codes w.windowed

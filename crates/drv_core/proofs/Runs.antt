@@ -74,27 +74,27 @@ pub record Known (r : Run) (a : Action) : Type 0 where
   pub fewer : IfMake a (λ step. length r.events < needed r.plan)
   pub unfinished : IfMake a (λ step. IsWhole r.plan r.window r.events → ⊥)
   pub whole : IfDone a (λ status. IsWhole r.plan r.window r.events)
-  pub status : IfDone a (λ status. (o : Answers) → Windowed r.plan r.window o r.events → status ≡ status_of r.failure o)
+  pub status : IfDone a (λ status. (o : Answers) → Windowed r.plan r.window o r.events → status ≡ status_of r.pass_codes o)
 
-known_at : (plan : Plan) (failure : FailureStatus) (p : Position) → Kept plan p.fleet.window p → Known (run_at plan failure p) (run_at plan failure p).action
-known_at plan failure p k = by (next_of plan p) refl
+known_at : (plan : Plan) (pass_codes : FailureStatus) (p : Position) → Kept plan p.fleet.window p → Known (run_at plan pass_codes p) (run_at plan pass_codes p).action
+known_at plan pass_codes p k = by (next_of plan p) refl
   where
     N : ℕ
     N = p.fleet.window
 
-    by : (o : Option Step) → next_of plan p ≡ o → Known (run_at plan failure p) (run_at plan failure p).action
-    by None e = subst (λ a. Known (run_at plan failure p) a) (ap (λ o. action_of o (status_from failure p.code)) (sym e)) (record {
-      action = ap (λ o. action_of o (status_from failure p.code)) (sym e);
+    by : (o : Option Step) → next_of plan p ≡ o → Known (run_at plan pass_codes p) (run_at plan pass_codes p).action
+    by None e = subst (λ a. Known (run_at plan pass_codes p) a) (ap (λ o. action_of o (status_from pass_codes p.code)) (sym e)) (record {
+      action = ap (λ o. action_of o (status_from pass_codes p.code)) (sym e);
       beginning = begins plan N p k;
       possible = tt;
       bound = bound plan N p k;
       fewer = tt;
       unfinished = tt;
       whole = whole plan N p k e;
-      status = λ o w. status_for plan N p failure o k w;
+      status = λ o w. status_for plan N p pass_codes o k w;
     })
-    by (Some s) e = subst (λ a. Known (run_at plan failure p) a) (ap (λ o. action_of o (status_from failure p.code)) (sym e)) (record {
-      action = ap (λ o. action_of o (status_from failure p.code)) (sym e);
+    by (Some s) e = subst (λ a. Known (run_at plan pass_codes p) a) (ap (λ o. action_of o (status_from pass_codes p.code)) (sym e)) (record {
+      action = ap (λ o. action_of o (status_from pass_codes p.code)) (sym e);
       beginning = begins plan N p k;
       possible = makes plan N p s k e;
       bound = bound plan N p k;
@@ -105,21 +105,21 @@ known_at plan failure p k = by (next_of plan p) refl
     })
 
 -- of a run whose view is r
-pub knows : (plan : Plan) (failure : FailureStatus) (w : RunState) (r : Run) (a : Action) → Stands plan w → run_of plan failure w ≡ r → a ≡ (run_of plan failure w).action → Known r a
-knows plan failure w r a k e is = subst (λ x. Known x a) e (subst (λ x. Known (run_of plan failure w) x) (sym is) (known_at plan failure (position_of w) k))
+pub knows : (plan : Plan) (pass_codes : FailureStatus) (w : RunState) (r : Run) (a : Action) → Stands plan w → run_of plan pass_codes w ≡ r → a ≡ (run_of plan pass_codes w).action → Known r a
+knows plan pass_codes w r a k e is = subst (λ x. Known x a) e (subst (λ x. Known (run_of plan pass_codes w) x) (sym is) (known_at plan pass_codes (position_of w) k))
 
 -- what `answer` needs and does
 
-pub kind_of : (plan : Plan) (failure : FailureStatus) (w : RunState) (r : Run) (a : Answer) → run_of plan failure w ≡ r → IfMake r.action (λ step. fits r.events step a ≡ true) → (s : Step) → next_of plan (position_of w) ≡ Some s → is_kind s a ≡ true
-kind_of plan failure w r a e f s is = fits_kind w.events.items s a (subst (λ o. IfMake (action_of o (status_from failure w.code)) (λ step. fits w.events.items step a ≡ true)) is (subst (λ x. IfMake x.action (λ step. fits x.events step a ≡ true)) (sym e) f))
+pub kind_of : (plan : Plan) (pass_codes : FailureStatus) (w : RunState) (r : Run) (a : Answer) → run_of plan pass_codes w ≡ r → IfMake r.action (λ step. fits r.events step a ≡ true) → (s : Step) → next_of plan (position_of w) ≡ Some s → is_kind s a ≡ true
+kind_of plan pass_codes w r a e f s is = fits_kind w.events.items s a (subst (λ o. IfMake (action_of o (status_from pass_codes w.code)) (λ step. fits w.events.items step a ≡ true)) is (subst (λ x. IfMake x.action (λ step. fits x.events step a ≡ true)) (sym e) f))
 
-pub answered : (plan : Plan) (failure : FailureStatus) (w v : RunState) (r : Run) (a : Answer) → run_of plan failure w ≡ r → ((s : Step) → next_of plan (position_of w) ≡ Some s → position_of v ≡ moved plan (position_of w) s a)
+pub answered : (plan : Plan) (pass_codes : FailureStatus) (w v : RunState) (r : Run) (a : Answer) → run_of plan pass_codes w ≡ r → ((s : Step) → next_of plan (position_of w) ≡ Some s → position_of v ≡ moved plan (position_of w) s a)
     → IfMake r.action (λ step. v.events.items ≡ r.events ++ event step a ∷ [])
-answered plan failure w v r a e moves = subst (λ x. IfMake x.action (λ step. v.events.items ≡ x.events ++ event step a ∷ [])) e (by (next_of plan (position_of w)) refl)
+answered plan pass_codes w v r a e moves = subst (λ x. IfMake x.action (λ step. v.events.items ≡ x.events ++ event step a ∷ [])) e (by (next_of plan (position_of w)) refl)
   where
-    by : (o : Option Step) → next_of plan (position_of w) ≡ o → IfMake (action_of (next_of plan (position_of w)) (status_from failure w.code)) (λ step. v.events.items ≡ w.events.items ++ event step a ∷ [])
-    by None is = subst (λ o. IfMake (action_of o (status_from failure w.code)) (λ step. v.events.items ≡ w.events.items ++ event step a ∷ [])) (sym is) tt
-    by (Some s) is = subst (λ o. IfMake (action_of o (status_from failure w.code)) (λ step. v.events.items ≡ w.events.items ++ event step a ∷ [])) (sym is) (ap (λ p. p.events) (moves s is) ∙ moved_events plan (position_of w) s a)
+    by : (o : Option Step) → next_of plan (position_of w) ≡ o → IfMake (action_of (next_of plan (position_of w)) (status_from pass_codes w.code)) (λ step. v.events.items ≡ w.events.items ++ event step a ∷ [])
+    by None is = subst (λ o. IfMake (action_of o (status_from pass_codes w.code)) (λ step. v.events.items ≡ w.events.items ++ event step a ∷ [])) (sym is) tt
+    by (Some s) is = subst (λ o. IfMake (action_of o (status_from pass_codes w.code)) (λ step. v.events.items ≡ w.events.items ++ event step a ∷ [])) (sym is) (ap (λ p. p.events) (moves s is) ∙ moved_events plan (position_of w) s a)
 
 -- without a choice
 
@@ -127,45 +127,45 @@ step_back : (o : Option Step) (n : ℕ) → step_in (action_of o n) ≡ o
 step_back None n = refl
 step_back (Some s) n = refl
 
-works_first : (plan : Plan) (failure : FailureStatus) (w : RunState) → Stands plan w → WorksFirst plan (position_of w) → IsOfFirst plan w.flight.window w.events.items (step_in (run_of plan failure w).action)
-works_first plan failure w k first = subst (λ o. IsOfFirst plan w.flight.window w.events.items o) (sym (step_back (next_of plan (position_of w)) (status_from failure w.code))) (first_next plan w.flight.window (position_of w) k first)
+works_first : (plan : Plan) (pass_codes : FailureStatus) (w : RunState) → Stands plan w → WorksFirst plan (position_of w) → IsOfFirst plan w.flight.window w.events.items (step_in (run_of plan pass_codes w).action)
+works_first plan pass_codes w k first = subst (λ o. IsOfFirst plan w.flight.window w.events.items o) (sym (step_back (next_of plan (position_of w)) (status_from pass_codes w.code))) (first_next plan w.flight.window (position_of w) k first)
 
-pub begun_first : (plan : Plan) (failure : FailureStatus) (w : RunState) (N : ℕ) → Stands plan w → position_of w ≡ fresh_position plan N (vec_capacity w.events) → IsOfFirst plan w.flight.window w.events.items (step_in (run_of plan failure w).action)
-begun_first plan failure w N k e = works_first plan failure w k (subst (λ p. WorksFirst plan p) (sym e) (fresh_first plan N (vec_capacity w.events)))
+pub begun_first : (plan : Plan) (pass_codes : FailureStatus) (w : RunState) (N : ℕ) → Stands plan w → position_of w ≡ fresh_position plan N (vec_capacity w.events) → IsOfFirst plan w.flight.window w.events.items (step_in (run_of plan pass_codes w).action)
+begun_first plan pass_codes w N k e = works_first plan pass_codes w k (subst (λ p. WorksFirst plan p) (sym e) (fresh_first plan N (vec_capacity w.events)))
 
-pub answered_first : (plan : Plan) (failure : FailureStatus) (w v : RunState) (r : Run) (a : Answer) → run_of plan failure w ≡ r → IfDone r.action (λ status. ⊥) → ((s : Step) → next_of plan (position_of w) ≡ Some s → position_of v ≡ moved plan (position_of w) s a)
-    → Stands plan v → IsOfFirst plan v.flight.window v.events.items (step_in (run_of plan failure v).action)
-answered_first plan failure w v r a e more moves k = works_first plan failure v k (by (next_of plan (position_of w)) refl)
+pub answered_first : (plan : Plan) (pass_codes : FailureStatus) (w v : RunState) (r : Run) (a : Answer) → run_of plan pass_codes w ≡ r → IfDone r.action (λ status. ⊥) → ((s : Step) → next_of plan (position_of w) ≡ Some s → position_of v ≡ moved plan (position_of w) s a)
+    → Stands plan v → IsOfFirst plan v.flight.window v.events.items (step_in (run_of plan pass_codes v).action)
+answered_first plan pass_codes w v r a e more moves k = works_first plan pass_codes v k (by (next_of plan (position_of w)) refl)
   where
-    over : IfDone (run_of plan failure w).action (λ status. ⊥)
+    over : IfDone (run_of plan pass_codes w).action (λ status. ⊥)
     over = subst (λ x. IfDone x.action (λ status. ⊥)) (sym e) more
 
     by : (o : Option Step) → next_of plan (position_of w) ≡ o → WorksFirst plan (position_of v)
-    by None is = absurd (subst (λ o. IfDone (action_of o (status_from failure w.code)) (λ status. ⊥)) is over)
+    by None is = absurd (subst (λ o. IfDone (action_of o (status_from pass_codes w.code)) (λ status. ⊥)) is over)
     by (Some s) is = subst (λ p. WorksFirst plan p) (sym (moves s is)) (moved_first plan (position_of w) s a)
 
 -- what `status` gives
 
-pub status_there : (plan : Plan) (failure : FailureStatus) (w : RunState) (r : Run) (n : ℕ) → run_of plan failure w ≡ r → IfMake r.action (λ step. ⊥) → n ≡ status_from failure w.code → r.action ≡ action.Done n
-status_there plan failure w r n e done is = subst (λ x. x.action ≡ action.Done n) e (by (next_of plan (position_of w)) refl)
+pub status_there : (plan : Plan) (pass_codes : FailureStatus) (w : RunState) (r : Run) (n : ℕ) → run_of plan pass_codes w ≡ r → IfMake r.action (λ step. ⊥) → n ≡ status_from pass_codes w.code → r.action ≡ action.Done n
+status_there plan pass_codes w r n e done is = subst (λ x. x.action ≡ action.Done n) e (by (next_of plan (position_of w)) refl)
   where
-    over : IfMake (run_of plan failure w).action (λ step. ⊥)
+    over : IfMake (run_of plan pass_codes w).action (λ step. ⊥)
     over = subst (λ x. IfMake x.action (λ step. ⊥)) (sym e) done
 
-    by : (o : Option Step) → next_of plan (position_of w) ≡ o → action_of (next_of plan (position_of w)) (status_from failure w.code) ≡ action.Done n
-    by None at = ap (λ o. action_of o (status_from failure w.code)) at ∙ ap (λ m. action.Done m) (sym is)
-    by (Some s) at = absurd (subst (λ o. IfMake (action_of o (status_from failure w.code)) (λ step. ⊥)) at over)
+    by : (o : Option Step) → next_of plan (position_of w) ≡ o → action_of (next_of plan (position_of w)) (status_from pass_codes w.code) ≡ action.Done n
+    by None at = ap (λ o. action_of o (status_from pass_codes w.code)) at ∙ ap (λ m. action.Done m) (sym is)
+    by (Some s) at = absurd (subst (λ o. IfMake (action_of o (status_from pass_codes w.code)) (λ step. ⊥)) at over)
 
-pub status_right : (plan : Plan) (failure : FailureStatus) (w : RunState) (r : Run) (n : ℕ) → Stands plan w → run_of plan failure w ≡ r → n ≡ status_from failure w.code → (o : Answers) → Windowed r.plan r.window o r.events → n ≡ status_of r.failure o
-status_right plan failure w r n k e is = subst (λ x. (o : Answers) → Windowed x.plan x.window o x.events → n ≡ status_of x.failure o) e (λ o h. is ∙ status_for plan w.flight.window (position_of w) failure o k h)
+pub status_right : (plan : Plan) (pass_codes : FailureStatus) (w : RunState) (r : Run) (n : ℕ) → Stands plan w → run_of plan pass_codes w ≡ r → n ≡ status_from pass_codes w.code → (o : Answers) → Windowed r.plan r.window o r.events → n ≡ status_of r.pass_codes o
+status_right plan pass_codes w r n k e is = subst (λ x. (o : Answers) → Windowed x.plan x.window o x.events → n ≡ status_of x.pass_codes o) e (λ o h. is ∙ status_for plan w.flight.window (position_of w) pass_codes o k h)
 
 -- choices
 
-pub choices_told : (plan : Plan) (failure : FailureStatus) (w : RunState) (r : Run) (n : ℕ) → Stands plan w → run_of plan failure w ≡ r → n ≡ choices_at plan (position_of w) → ChoicesAre r.plan r.window r.events n
-choices_told plan failure w r n k e is = subst (λ x. ChoicesAre x.plan x.window x.events n) e (subst (λ m. ChoicesAre plan w.flight.window w.events.items m) (sym is) (choices_are plan w.flight.window (position_of w) k))
+pub choices_told : (plan : Plan) (pass_codes : FailureStatus) (w : RunState) (r : Run) (n : ℕ) → Stands plan w → run_of plan pass_codes w ≡ r → n ≡ choices_at plan (position_of w) → ChoicesAre r.plan r.window r.events n
+choices_told plan pass_codes w r n k e is = subst (λ x. ChoicesAre x.plan x.window x.events n) e (subst (λ m. ChoicesAre plan w.flight.window w.events.items m) (sym is) (choices_are plan w.flight.window (position_of w) k))
 
-pub choice_of : (plan : Plan) (failure : FailureStatus) (w : RunState) (r : Run) (i : ℕ) → run_of plan failure w ≡ r → IsChoice r.plan r.window r.events i → IsChoice plan w.flight.window w.events.items i
-choice_of plan failure w r i e h = subst (λ x. IsChoice x.plan x.window x.events i) (sym e) h
+pub choice_of : (plan : Plan) (pass_codes : FailureStatus) (w : RunState) (r : Run) (i : ℕ) → run_of plan pass_codes w ≡ r → IsChoice r.plan r.window r.events i → IsChoice plan w.flight.window w.events.items i
+choice_of plan pass_codes w r i e h = subst (λ x. IsChoice x.plan x.window x.events i) (sym e) h
 
 pub turned_stands : (plan : Plan) (w v : RunState) (i : ℕ) → Stands plan w → IsChoice plan w.flight.window w.events.items i → position_of v ≡ choosing plan (position_of w) i → Stands plan v
 turned_stands plan w v i k h e = (choice_stands plan (position_of w) (position_of v) i k (choice_below plan w.flight.window (position_of w) i k h) e).0
@@ -173,14 +173,14 @@ turned_stands plan w v i k h e = (choice_stands plan (position_of w) (position_o
 pub turned_window : (plan : Plan) (w v : RunState) (i : ℕ) → Stands plan w → IsChoice plan w.flight.window w.events.items i → position_of v ≡ choosing plan (position_of w) i → v.flight.window ≡ w.flight.window
 turned_window plan w v i k h e = (choice_stands plan (position_of w) (position_of v) i k (choice_below plan w.flight.window (position_of w) i k h) e).1
 
-pub turned_next : (plan : Plan) (failure : FailureStatus) (w v : RunState) (r : Run) (i : ℕ) → Stands plan w → run_of plan failure w ≡ r → IsChoice r.plan r.window r.events i → position_of v ≡ choosing plan (position_of w) i
-    → (b : BetweenBlocks r.plan r.window r.events) → IsNextOf r.plan r.window r.events b i (step_in (run_of plan failure v).action)
-turned_next plan failure w v r i k e h is = subst (λ x. (b : BetweenBlocks x.plan x.window x.events) → IsNextOf x.plan x.window x.events b i (step_in (run_of plan failure v).action)) e
-    (λ b. subst (λ o. IsNextOf plan w.flight.window w.events.items b i o) (sym (step_back (next_of plan (position_of v)) (status_from failure v.code) ∙ ap (λ p. next_of plan p) is))
-    (chosen_next plan w.flight.window (position_of w) i k (choice_below plan w.flight.window (position_of w) i k (choice_of plan failure w r i e h)) b))
+pub turned_next : (plan : Plan) (pass_codes : FailureStatus) (w v : RunState) (r : Run) (i : ℕ) → Stands plan w → run_of plan pass_codes w ≡ r → IsChoice r.plan r.window r.events i → position_of v ≡ choosing plan (position_of w) i
+    → (b : BetweenBlocks r.plan r.window r.events) → IsNextOf r.plan r.window r.events b i (step_in (run_of plan pass_codes v).action)
+turned_next plan pass_codes w v r i k e h is = subst (λ x. (b : BetweenBlocks x.plan x.window x.events) → IsNextOf x.plan x.window x.events b i (step_in (run_of plan pass_codes v).action)) e
+    (λ b. subst (λ o. IsNextOf plan w.flight.window w.events.items b i o) (sym (step_back (next_of plan (position_of v)) (status_from pass_codes v.code) ∙ ap (λ p. next_of plan p) is))
+    (chosen_next plan w.flight.window (position_of w) i k (choice_below plan w.flight.window (position_of w) i k (choice_of plan pass_codes w r i e h)) b))
 
-pub turned_elsewhere : (plan : Plan) (failure : FailureStatus) (w v : RunState) (r : Run) (i : ℕ) → Stands plan w → run_of plan failure w ≡ r → position_of v ≡ choosing plan (position_of w) i → (BetweenBlocks r.plan r.window r.events → ⊥) → run_of plan failure v ≡ r
-turned_elsewhere plan failure w v r i k e is none = ap (λ p. run_at plan failure p) (is ∙ chosen_elsewhere plan w.flight.window (position_of w) i k (subst (λ x. BetweenBlocks x.plan x.window x.events → ⊥) (sym e) none)) ∙ e
+pub turned_elsewhere : (plan : Plan) (pass_codes : FailureStatus) (w v : RunState) (r : Run) (i : ℕ) → Stands plan w → run_of plan pass_codes w ≡ r → position_of v ≡ choosing plan (position_of w) i → (BetweenBlocks r.plan r.window r.events → ⊥) → run_of plan pass_codes v ≡ r
+turned_elsewhere plan pass_codes w v r i k e is none = ap (λ p. run_at plan pass_codes p) (is ∙ chosen_elsewhere plan w.flight.window (position_of w) i k (subst (λ x. BetweenBlocks x.plan x.window x.events → ⊥) (sym e) none)) ∙ e
 
-pub turned_events : (plan : Plan) (failure : FailureStatus) (w v : RunState) (r : Run) (i : ℕ) → run_of plan failure w ≡ r → position_of v ≡ choosing plan (position_of w) i → v.events.items ≡ r.events
-turned_events plan failure w v r i e is = ap (λ p. p.events) is ∙ choosing_events plan (position_of w) i ∙ ap (λ x. x.events) e
+pub turned_events : (plan : Plan) (pass_codes : FailureStatus) (w v : RunState) (r : Run) (i : ℕ) → run_of plan pass_codes w ≡ r → position_of v ≡ choosing plan (position_of w) i → v.events.items ≡ r.events
+turned_events plan pass_codes w v r i e is = ap (λ p. p.events) is ∙ choosing_events plan (position_of w) i ∙ ap (λ x. x.events) e

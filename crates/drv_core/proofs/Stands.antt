@@ -254,12 +254,12 @@ code_is plan N p k = by (stands_at plan N p k)
     by t = t.match.alike.code ∙ ap run_code (sym t.match.alike.events)
 
 -- the status of a whole run
-pub status_is : (plan : Plan) (N : ℕ) (p : Position) (failure : FailureStatus) → Kept plan N p → (w : IsWhole plan N p.events) → status_from failure p.code ≡ status_of failure w.o
-status_is plan N p failure k w = ap (λ n. status_from failure n) (code_is plan N p k) ∙ whole_status plan N p.events failure w
+pub status_is : (plan : Plan) (N : ℕ) (p : Position) (pass_codes : FailureStatus) → Kept plan N p → (w : IsWhole plan N p.events) → status_from pass_codes p.code ≡ status_of pass_codes w.o
+status_is plan N p pass_codes k w = ap (λ n. status_from pass_codes n) (code_is plan N p k) ∙ whole_status plan N p.events pass_codes w
 
 -- for each of its answers
-pub status_for : (plan : Plan) (N : ℕ) (p : Position) (failure : FailureStatus) (o : Answers) → Kept plan N p → Windowed plan N o p.events → status_from failure p.code ≡ status_of failure o
-status_for plan N p failure o k w = status_is plan N p failure k (record { o = o; windowed = w })
+pub status_for : (plan : Plan) (N : ℕ) (p : Position) (pass_codes : FailureStatus) (o : Answers) → Kept plan N p → Windowed plan N o p.events → status_from pass_codes p.code ≡ status_of pass_codes o
+status_for plan N p pass_codes o k w = status_is plan N p pass_codes k (record { o = o; windowed = w })
 
 pub unfinished : (plan : Plan) (N : ℕ) (p : Position) (s : Step) → Kept plan N p → next_of plan p ≡ Some s → IsWhole plan N p.events → ⊥
 unfinished plan N p s k is w = let clash : Some s ≡ None = sym is ∙ ends plan N p k w in absurd cc

@@ -211,8 +211,8 @@ greatest_last [] a = max_nothing (job_code a) ∙ sym (nothing_max (job_code a))
 greatest_last (x ∷ xs) a = ap (λ n. max (job_code x) n) (greatest_last xs a) ∙ sym (max_assoc (job_code x) (greatest job_code xs) (job_code a))
 
 -- the status of a whole run is that of the greatest code of its events
-pub status_is : (plan : Plan) (N : ℕ) (o : Answers) (E : List RunEvent) (failure : FailureStatus) → Windowed plan N o E → status_from failure (run_code E) ≡ status_of failure o
-status_is plan N o E failure w = ap (λ n. status_from failure n)
+pub status_is : (plan : Plan) (N : ℕ) (o : Answers) (E : List RunEvent) (pass_codes : FailureStatus) → Windowed plan N o E → status_from pass_codes (run_code E) ≡ status_of pass_codes o
+status_is plan N o E pass_codes w = ap (λ n. status_from pass_codes n)
     (ap run_code w.events ∙ code_append (events_of (blocks_of w.blocks)) (events_of (after_sources plan o))
     ∙ ap (λ n. max n (run_code (events_of (after_sources plan o)))) (code_blocks (length plan.jobs) w.blocks (all_below (length plan.jobs) N nowhere [] w.blocks w.may_come)
     ∙ top_same (length plan.jobs) (λ j. run_code (events_of (of j w.blocks))) (λ j. run_code (events_of (of (0 + j) w.blocks))) (λ j lt. ap (λ i. run_code (events_of (of i w.blocks))) (let at : j ≡ 0 + j = omega arith in at))

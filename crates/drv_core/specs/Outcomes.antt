@@ -200,7 +200,7 @@ status_from GreatestCode code = code
 status_from One code = if nat_eq code 0 then 0 else 1
 
 abbrev pub status_of : FailureStatus → Answers → ℕ
-status_of failure o = status_from failure (greatest job_code (o.jobs ++ o.link ∷ []))
+status_of pass_codes o = status_from pass_codes (greatest job_code (o.jobs ++ o.link ∷ []))
 
 -- The commands that were started: of each group up to and with the first that has a fault, those before its first refused
 -- start; none unless all temporaries were claimed.

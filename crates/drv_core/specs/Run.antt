@@ -11,7 +11,7 @@ use Rattle.std.specs.Prelude.{⊤, List, None, Option, Some, ℕ}
 -- failure: the status where a code isn't 0; window: how many sources may be under way at once; events: those so far; action: what is made next, or the status
 pub record Run : Type 0 where
   pub plan : Plan
-  pub failure : FailureStatus
+  pub pass_codes : FailureStatus
   pub window : ℕ
   pub events : List RunEvent
   pub action : Action

@@ -32,7 +32,7 @@ use std::marker::Model;
 #[derive(Drop)]
 pub struct Run<'a> {
     plan: &'a Plan,
-    failure: FailureStatus,
+    pass_codes: FailureStatus,
     work: RunState,
 }
 
@@ -43,16 +43,16 @@ impl<'a> Model for Run<'a> {
 
     ghost use Rattle.drv_core.specs.Code.RunView.{Stands, run_of};
 
-    ghost view = { λ r. run_of r.plan.now r.failure r.work };
+    ghost view = { λ r. run_of r.plan.now r.pass_codes r.work };
 
     ghost invariant = { λ r. Stands r.plan.now r.work };
 }
 
 /// The status where this is the greatest code.
-fn status_code(failure: FailureStatus, code: u8) -> u8
-    ensures { result ≡ status_from failure code }
+fn status_code(pass_codes: FailureStatus, code: u8) -> u8
+    ensures { result ≡ status_from pass_codes code }
 {
-    match failure {
+    match pass_codes {
         FailureStatus::GreatestCode => code,
         FailureStatus::One if code == 0 => 0,
         FailureStatus::One => 1,
@@ -61,13 +61,13 @@ fn status_code(failure: FailureStatus, code: u8) -> u8
 
 /// What is made next, or the status where nothing is.
 #[tactic(auto, using(crate::proofs::Runs::is_ready))]
-fn look(plan: &Plan, failure: FailureStatus, work: &RunState) -> Action
+fn look(plan: &Plan, pass_codes: FailureStatus, work: &RunState) -> Action
     requires { Stands plan.now work.now }
-    ensures { result ≡ (run_of plan.now failure work.now).action }
+    ensures { result ≡ (run_of plan.now pass_codes work.now).action }
 {
     match work.asks(plan) {
         Some(step) => Action::Make(step),
-        None => Action::Done(status_code(failure, work.code)),
+        None => Action::Done(status_code(pass_codes, work.code)),
     }
 }
 
@@ -100,18 +100,18 @@ fn turn(plan: &Plan, work: &mut RunState, choice: usize)
 
 impl<'a> Run<'a> {
     /// Nothing of the plan was worked yet. At most `window` sources are under way at once, which is
-    /// 1 to 64; `failure` says what the status of a failed run is. Want of memory is the only
+    /// 1 to 64; `pass_codes` says what the status of a failed run is. Want of memory is the only
     /// error, also where `usize` has no number for the events that can come.
     pub fn new(
         alloc: Global,
         plan: &'a Plan,
-        failure: FailureStatus,
+        pass_codes: FailureStatus,
         window: usize,
     ) -> Result<Run<'a>, AllocError>
         requires some { 1 ≤ window }
         requires most { window ≤ 64 }
         ensures plan { IfOk result (λ run. run.plan ≡ plan.now) }
-        ensures failure { IfOk result (λ run. run.failure ≡ failure) }
+        ensures pass_codes { IfOk result (λ run. run.pass_codes ≡ pass_codes) }
         ensures window { IfOk result (λ run. run.window ≡ window) }
         ensures events { IfOk result (λ run. run.events ≡ []) }
         ensures first { IfOk result
@@ -120,7 +120,7 @@ impl<'a> Run<'a> {
         let work = RunState::new(alloc, plan, window)?;
         Ok(Run {
             plan,
-            failure,
+            pass_codes,
             work,
         })
     }
@@ -139,9 +139,9 @@ impl<'a> Run<'a> {
             (λ status. IsWhole self.now.plan self.now.window self.now.events) }
         ensures status { IfDone result (λ status. (o : Answers)
             → Windowed self.now.plan self.now.window o self.now.events
-            → status ≡ status_of self.now.failure o) }
+            → status ≡ status_of self.now.pass_codes o) }
     {
-        look(self.plan, self.failure, &self.work)
+        look(self.plan, self.pass_codes, &self.work)
     }
 
     /// What the step of `next` was answered, by an answer of its kind; the number of a child that
@@ -154,7 +154,7 @@ impl<'a> Run<'a> {
         ensures first { IsOfFirst self.new.plan self.new.window self.new.events
             (step_in self.new.action) }
         ensures plan { self.new.plan ≡ self.old.plan }
-        ensures failure { self.new.failure ≡ self.old.failure }
+        ensures pass_codes { self.new.pass_codes ≡ self.old.pass_codes }
         ensures window { self.new.window ≡ self.old.window }
     {
         advance(self.plan, &mut self.work, answer);
@@ -179,9 +179,9 @@ impl<'a> Run<'a> {
         requires { IfMake self.now.action (λ step. ⊥) }
         ensures done { self.now.action ≡ action.Done result }
         ensures status { (o : Answers) → Windowed self.now.plan self.now.window o self.now.events
-            → result ≡ status_of self.now.failure o }
+            → result ≡ status_of self.now.pass_codes o }
     {
-        status_code(self.failure, self.work.code)
+        status_code(self.pass_codes, self.work.code)
     }
 
     /// How many sources may go on, where the events so far are whole blocks of the sources and a
@@ -202,7 +202,7 @@ impl<'a> Run<'a> {
         ensures elsewhere { (BetweenBlocks self.old.plan self.old.window self.old.events → ⊥)
             → self.new ≡ self.old }
         ensures plan { self.new.plan ≡ self.old.plan }
-        ensures failure { self.new.failure ≡ self.old.failure }
+        ensures pass_codes { self.new.pass_codes ≡ self.old.pass_codes }
         ensures window { self.new.window ≡ self.old.window }
         ensures events { self.new.events ≡ self.old.events }
     {

@@ -83,10 +83,10 @@ pub fits_behind : (journal : List Event) (events : List RunEvent) (s : Step) (a 
 fits_behind journal events s a is = fits_rest (run_of journal) events s a (subst (λ run. fits run s a ≡ true) (run_behind journal events) is)
 
 -- a whole run, in the words of a caller
-pub executed : (plan p : Plan) (failure q : FailureStatus) (N n : ℕ) (journal journal' : List Event) (status : ℕ) (events : List RunEvent)
-    → journal' ≡ journal ++ map Run events → p ≡ plan → q ≡ failure → n ≡ N → length events ≤ needed p → (w : IsWhole p n events)
-    → ((o : Answers) → Windowed p n o events → status ≡ status_of q o) → Executed plan failure N journal journal' status
-executed plan p failure q N n journal journal' status events grows plans codes windows few w says = record {
+pub executed : (plan p : Plan) (pass_codes q : FailureStatus) (N n : ℕ) (journal journal' : List Event) (status : ℕ) (events : List RunEvent)
+    → journal' ≡ journal ++ map Run events → p ≡ plan → q ≡ pass_codes → n ≡ N → length events ≤ needed p → (w : IsWhole p n events)
+    → ((o : Answers) → Windowed p n o events → status ≡ status_of q o) → Executed plan pass_codes N journal journal' status
+executed plan p pass_codes q N n journal journal' status events grows plans codes windows few w says = record {
   events = events;
   answers = w.o;
   journal_grows = grows;

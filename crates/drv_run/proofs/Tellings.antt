@@ -42,7 +42,7 @@ announces_only Notices plan said (status, says) = said_only (notices_text plan.n
 -- what is told, and then the run
 
 pub plan_carried_out : (journal journal' journal'' : List Event) (plan : Plan) (manner : Manner) (status : ℕ)
-    → AnnouncesPlan journal journal' manner.telling plan → Executed plan manner.failure manner.window journal' journal'' status → DoesWork journal journal'' (CarryOut plan manner) status
+    → AnnouncesPlan journal journal' manner.telling plan → Executed plan manner.pass_codes manner.window journal' journal'' status → DoesWork journal journal'' (CarryOut plan manner) status
 plan_carried_out journal journal' journal'' plan manner status announces executes = (
   announces.0 ++ map Run executes.events,
   executes.journal_grows ∙ ap (λ before. before ++ map Run executes.events) announces.1 ∙ append_assoc journal announces.0 (map Run executes.events),

@@ -61,7 +61,7 @@ pub record CarriesOut (plan : Plan) (manner : Manner) (status : ℕ) (said : Lis
   pub ran : List Event
   pub joined : said ≡ announced ++ ran
   pub announces : Announces manner.telling plan announced
-  pub executes : Executed plan manner.failure manner.window [] ran status
+  pub executes : Executed plan manner.pass_codes manner.window [] ran status
 
 -- events that do a work, with the exit status: a dump is written once
 abbrev pub Does : Work → ℕ → List Event → Type 0

@@ -93,7 +93,7 @@ failure_of settings = if settings.pass_codes then GreatestCode else One
 
 -- how a plan is carried out: what is said first, the status of a failure, and how many sources are worked at once
 abbrev pub manner_of : Settings → Manner
-manner_of settings = record { telling = telling_of settings; failure = failure_of settings; window = settings.jobs }
+manner_of settings = record { telling = telling_of settings; pass_codes = failure_of settings; window = settings.jobs }
 
 -- with -### a plan is shown, and otherwise it is carried out
 abbrev pub work_with : Settings → Plan → Work

@@ -12,10 +12,10 @@ use Rattle.std.specs.Prelude.{◌≡◌, ◌≤◌, List, ◌++◌, length, map,
 
 -- Behind the journal stand the events of a whole run, with at most N sources under way, and the status is that of their answers.
 -- There are never more of them than the plan needs at most.
-pub record Executed (plan : Plan) (failure : FailureStatus) (N : ℕ) (journal journal' : List Event) (status : ℕ) : Type 0 where
+pub record Executed (plan : Plan) (pass_codes : FailureStatus) (N : ℕ) (journal journal' : List Event) (status : ℕ) : Type 0 where
   pub events : List RunEvent
   pub answers : Answers
   pub journal_grows : journal' ≡ journal ++ map Run events
   pub windowed : Windowed plan N answers events
   pub few : length events ≤ needed plan
-  pub status_is : status ≡ status_of failure answers
+  pub status_is : status ≡ status_of pass_codes answers

@@ -29,7 +29,7 @@ fn choose_ready<S: System>(sys: &mut S, run: &mut Run<'_>, count: usize) -> bool
     ensures room { S.spare_events sys.old ≤ S.spare_events sys.new }
     ensures children { S.spare_children sys.old ≤ S.spare_children sys.new }
     ensures plan { run.new.plan ≡ run.old.plan }
-    ensures codes { run.new.failure ≡ run.old.failure }
+    ensures codes { run.new.pass_codes ≡ run.old.pass_codes }
     ensures window { run.new.window ≡ run.old.window }
     ensures made { run.new.events ≡ run.old.events }
 {
@@ -50,7 +50,7 @@ pub(crate) fn choose_source<S: System>(sys: &mut S, run: &mut Run<'_>)
     ensures room { S.spare_events sys.old ≤ S.spare_events sys.new }
     ensures children { S.spare_children sys.old ≤ S.spare_children sys.new }
     ensures plan { run.new.plan ≡ run.old.plan }
-    ensures codes { run.new.failure ≡ run.old.failure }
+    ensures codes { run.new.pass_codes ≡ run.old.pass_codes }
     ensures window { run.new.window ≡ run.old.window }
     ensures made { run.new.events ≡ run.old.events }
 {

@@ -43,7 +43,7 @@ fn run_plan<S: System>(
     ensures memory { OnErr result (OnlySays (S.events sys.old) (S.events sys.new)) }
 {
     announce(alloc, sys, plan, manner.telling)?;
-    let status = execute(alloc, sys, plan, manner.failure, manner.window)?;
+    let status = execute(alloc, sys, plan, manner.pass_codes, manner.window)?;
     Ok(status)
 }
 

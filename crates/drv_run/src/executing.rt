@@ -23,18 +23,18 @@ pub fn execute<S: System>(
     alloc: Global,
     sys: &mut S,
     plan: &Plan,
-    failure: FailureStatus,
+    pass_codes: FailureStatus,
     window: usize,
 ) -> Result<u8, AllocError>
     requires pipe { pipe_pending (run_of (S.events sys.old)) ≡ false }
     requires some { 1 ≤ window }
     requires most { window ≤ 64 }
     ensures executed { IfOk result
-        (λ status. Executed plan.now failure window
+        (λ status. Executed plan.now pass_codes window
         (S.events sys.old) (S.events sys.new) status) }
     ensures memory { OnErr result (S.events sys.new ≡ S.events sys.old) }
 {
-    let mut run = Run::new(alloc, plan, failure, window)?;
+    let mut run = Run::new(alloc, plan, pass_codes, window)?;
     sys.reserve_events(run.room())?;
     loop {
         match run.next() {

@@ -22,7 +22,7 @@ pub struct Manner {
     /// What is said of it first.
     pub telling: Telling,
     /// The exit status where a command failed.
-    pub failure: FailureStatus,
+    pub pass_codes: FailureStatus,
     /// How many sources are under way at once, at most.
     pub window: usize,
 }
@@ -69,7 +69,7 @@ pub(crate) fn work_with(settings: &Settings, plan: Plan) -> Work
     }
     let manner = Manner {
         telling: telling_of(settings),
-        failure: failure_of(settings),
+        pass_codes: failure_of(settings),
         window: settings.jobs,
     };
     Work::CarryOut { plan, manner }

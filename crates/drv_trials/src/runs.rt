@@ -54,14 +54,14 @@ fn carry_out_on(
     sys: &mut ScriptSystem,
     plan: &Plan,
     window: usize,
-    failure: FailureStatus,
+    pass_codes: FailureStatus,
     out: &mut Transcript,
 ) -> Result<(), AllocError>
     requires new { sys.old.journal ≡ [] }
     requires some { 1 ≤ window }
     requires most { window ≤ 64 }
 {
-    let status = execute(alloc, sys, plan, failure, window)?;
+    let status = execute(alloc, sys, plan, pass_codes, window)?;
     add_events(sys.journal(), Some(plan), out)?;
     add_line(b"status ", usize::from(status), out)?;
     add_line(b"needed ", events_needed(plan).unwrap_or(0), out)
@@ -73,14 +73,14 @@ fn carry_out(
     plan: &Plan,
     lines: &[Listing<Word>],
     window: usize,
-    failure: FailureStatus,
+    pass_codes: FailureStatus,
     out: &mut Transcript,
 ) -> Result<(), AllocError>
     requires some { 1 ≤ window }
     requires most { window ≤ 64 }
 {
     let mut sys = system(alloc, lines)?;
-    carry_out_on(alloc, &mut sys, plan, window, failure, out)
+    carry_out_on(alloc, &mut sys, plan, window, pass_codes, out)
 }
 
 /// How the run of a plan is made.
@@ -98,7 +98,7 @@ fn run_lines(
     lines: &[Listing<Word>],
     manner: Manner,
     window: usize,
-    failure: FailureStatus,
+    pass_codes: FailureStatus,
     out: &mut Transcript,
 ) -> Result<(), AllocError>
     requires some { 1 ≤ window }
@@ -106,8 +106,8 @@ fn run_lines(
 {
     let plan = plan(alloc, lines)?;
     match manner {
-        Manner::CarriedOut => carry_out(alloc, &plan, lines, window, failure, out),
-        Manner::Chosen => choose_blocks(alloc, &plan, lines, window, failure, out),
+        Manner::CarriedOut => carry_out(alloc, &plan, lines, window, pass_codes, out),
+        Manner::Chosen => choose_blocks(alloc, &plan, lines, window, pass_codes, out),
     }
 }
 
@@ -116,14 +116,14 @@ pub fn try_plan(
     rt: &HostRuntime,
     manner: Manner,
     window: &Word,
-    failure: FailureStatus,
+    pass_codes: FailureStatus,
     out: &mut Transcript,
 ) -> io::Result<()> {
     let Some(window) = window_of(window) else {
         return Ok(out.add(b"a window is 1 to 64\n")?);
     };
     let lines = read_lines(rt)?;
-    Ok(run_lines(rt.alloc(), lines.as_slice(), manner, window, failure, out)?)
+    Ok(run_lines(rt.alloc(), lines.as_slice(), manner, window, pass_codes, out)?)
 }
 
 fn add_refusal(alloc: Global, refusal: &Refusal, out: &mut Transcript) -> Result<(), AllocError> {

@@ -10,16 +10,16 @@ use Rattle.drv_words.specs.declared.plan.Plan.{Plan}
 -- A run, as the code has it. Private clauses alone cite it.
 
 abbrev pub run_at : Plan → FailureStatus → Position → Run
-run_at plan failure p = record {
+run_at plan pass_codes p = record {
   plan = plan;
-  failure = failure;
+  pass_codes = pass_codes;
   window = p.fleet.window;
   events = p.events;
-  action = action_of (next_of plan p) (status_from failure p.code);
+  action = action_of (next_of plan p) (status_from pass_codes p.code);
 }
 
 abbrev pub run_of : Plan → FailureStatus → RunState → Run
-run_of plan failure w = run_at plan failure (position_of w)
+run_of plan pass_codes w = run_at plan pass_codes (position_of w)
 
 -- what is so of every run
 abbrev pub Stands : Plan → RunState → Type 0

@@ -140,13 +140,13 @@ pub fn choose_blocks(
     plan: &Plan,
     lines: &[Listing<Word>],
     window: usize,
-    failure: FailureStatus,
+    pass_codes: FailureStatus,
     out: &mut Transcript,
 ) -> Result<(), AllocError>
     requires some { 1 ≤ window }
     requires most { window ≤ 64 }
 {
-    let mut run = Run::new(alloc, plan, failure, window)?;
+    let mut run = Run::new(alloc, plan, pass_codes, window)?;
     for line in lines {
         go(&mut run, plan, line.as_slice(), out)?;
     }

@@ -7,7 +7,7 @@ invariant-loop-choice g l = record {
   events : g.S.System.spare_events l.fn.sys ≤ g.S.System.spare_events l.sys;
   children : g.S.System.spare_children l.fn.sys ≤ g.S.System.spare_children l.sys;
   plan : l.run.plan ≡ l.fn.run.plan;
-  codes : l.run.failure ≡ l.fn.run.failure;
+  codes : l.run.pass_codes ≡ l.fn.run.pass_codes;
   window : l.run.window ≡ l.fn.run.window;
   made : l.run.events ≡ l.fn.run.events;
 }

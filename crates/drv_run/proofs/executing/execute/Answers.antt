@@ -8,7 +8,7 @@ use Rattle.std.proofs.Common.{◌≡◌, subst, sym, true}
 
 pub returns-in-Done-clause-executed : goal.returns-in-Done-clause-executed
 returns-in-Done-clause-executed g c =
-    executed c.args.plan.now c.loop-status.run.plan c.args.failure c.loop-status.run.failure c.args.window c.loop-status.run.window
+    executed c.args.plan.now c.loop-status.run.plan c.args.pass_codes c.loop-status.run.pass_codes c.args.window c.loop-status.run.window
     (g.S.System.events c.args.sys.now) (g.S.System.events c.loop-status.sys) c.in-Done.status c.loop-status.run.events
     c.loop-status.invariant.journal c.loop-status.invariant.plan c.loop-status.invariant.codes c.loop-status.invariant.window
     c.next.ensures.bound c.in-Done.ensures.whole c.in-Done.ensures.status

@@ -9,7 +9,7 @@ invariant-loop-status g l = record {
   events : needed l.plan ≤ g.S.System.spare_events l.sys + length l.run.events;
   children : needed l.plan ≤ g.S.System.spare_children l.sys + length l.run.events;
   plan : l.run.plan ≡ l.plan;
-  codes : l.run.failure ≡ l.fn.failure;
+  codes : l.run.pass_codes ≡ l.fn.pass_codes;
   window : l.run.window ≡ l.window;
 }
 

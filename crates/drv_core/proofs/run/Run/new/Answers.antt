@@ -11,4 +11,4 @@ pub returns-clause-events : goal.returns-clause-events
 returns-clause-events c = no_events c.args.plan.now c.in_ok-work.work c.args.window c.in_ok-work.ensures.fresh
 
 pub returns-clause-first : goal.returns-clause-first
-returns-clause-first c = begun_first c.args.plan.now c.args.failure c.in_ok-work.work c.args.window (begun c.args.plan.now c.in_ok-work.work c.args.window c.requires.some c.in_ok-work.ensures.filled c.in_ok-work.ensures.room c.in_ok-work.ensures.fresh).0 c.in_ok-work.ensures.fresh
+returns-clause-first c = begun_first c.args.plan.now c.args.pass_codes c.in_ok-work.work c.args.window (begun c.args.plan.now c.in_ok-work.work c.args.window c.requires.some c.in_ok-work.ensures.filled c.in_ok-work.ensures.room c.in_ok-work.ensures.fresh).0 c.in_ok-work.ensures.fresh
