@@ -15,7 +15,8 @@ use std::alloc::Global;
 
 /// Adds what words give to a front.
 fn add_words(alloc: Global, front: &mut Front, words: &[Word]) -> Result<(), C99Fault>
-    ensures { Goes (finished front.new) result (front_with front.old (items_of BeforeEnd words.now)) }
+    ensures { Goes (finished front.new) result
+        (front_with front.old (items_of BeforeEnd words.now)) }
 {
     let mut part = Part::BeforeEnd;
     let mut left = words;
