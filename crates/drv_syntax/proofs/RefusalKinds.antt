@@ -1,16 +1,16 @@
 use Rattle.drv_syntax.proofs.Covers.{spelled_is_read}
-use Rattle.drv_syntax.proofs.CutPlaces.{cut_at}
+use Rattle.drv_syntax.proofs.CutPlaces.{cut_at, cut_there}
 use Rattle.drv_syntax.proofs.RefusalEnds.{refusals}
 use Rattle.drv_syntax.proofs.Refusals as fronts
-use Rattle.drv_syntax.specs.Faults.{IsCutAt}
+use Rattle.drv_syntax.specs.Faults.{IsCutAt, Refused, cut_short, misfit, too_long}
 use Rattle.drv_syntax.specs.Fronts.{Front}
-use Rattle.drv_syntax.specs.Outcome.{Bad, Out, judged, parsed, read, text_limit}
+use Rattle.drv_syntax.specs.Outcome.{Bad, Cut, Out, judged, parsed, read, text_limit}
 use Rattle.drv_syntax.specs.Refusals.{IsRefused}
 use Rattle.drv_syntax.specs.Spelling.{Spells}
 use Rattle.drv_syntax.specs.Tree.{Items}
 use Rattle.drv_syntax.specs.declared.fault.SyntaxFault.{SyntaxFault}
 use Rattle.drv_syntax.specs.declared.fault.SyntaxFault.TheVariants.{TextTooLong, Unclosed}
-use Rattle.std.proofs.Common.{◌≡◌, ◌<◌, ◌≤◌, ◌∙◌, ◌+◌, ◌-◌, ◌++◌, List, false, true, ap, arith, length, refl, subst, take, ℕ}
+use Rattle.std.proofs.Common.{◌≡◌, ◌<◌, ◌≤◌, ◌∙◌, ◌+◌, ◌-◌, ◌++◌, List, false, true, ap, arith, drop, length, refl, subst, sym, take, take-append-drop, ℕ}
 use Rattle.std.proofs.Math.Seq.{take-length}
 use Rattle.std.proofs.lemmas.Bool.Decides.{nat_tests}
 use Rattle.std.specs.Prelude.{Err, Ok, nat_le}
@@ -46,3 +46,12 @@ pub parsed_long : (text : List ℕ) → text_limit < length text → parsed text
 parsed_long text h =
     let f : nat_le (length text) text_limit ≡ false = grind (arith, nat_tests) in
     rw f refl
+
+-- a fault by the grammar is what the text is parsed to
+pub refused_parsed : {text : List ℕ} {fault : SyntaxFault} → Refused text fault → parsed text ≡ Err fault
+refused_parsed {text} (too_long h) = parsed_long text h
+refused_parsed {text} (cut_short {place} h c) = within text (Cut place) h (cut_there text place c)
+refused_parsed {text} {fault} (misfit {place} h m r) =
+    let e : take (place + 1) text ++ drop (place + 1) text ≡ text = take-append-drop (place + 1) text in
+    subst (λ (x : List ℕ). parsed x ≡ Err fault) e
+    (parsed_refusal (take (place + 1) text) (drop (place + 1) text) fault (subst (λ (x : List ℕ). length x ≤ text_limit) (sym e) h) r)

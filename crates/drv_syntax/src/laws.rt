@@ -1,6 +1,6 @@
 //! Laws of the grammar. The functions do nothing: each is its contract.
 
-ghost use Rattle.drv_syntax.specs.Faults.{IsCutAt, IsMisfit};
+ghost use Rattle.drv_syntax.specs.Faults.{IsCutAt, IsMisfit, Refused};
 ghost use Rattle.drv_syntax.specs.Fronts.{Front};
 ghost use Rattle.drv_syntax.specs.Outcome.{Bad, Cut, Got, Unrefused, parsed, read, text_limit};
 ghost use Rattle.drv_syntax.specs.Refusals.{IsRefused};
@@ -80,6 +80,14 @@ pub fn refusal_kinds()
 /// A text that is refused has at its place one of these cases: up to that byte it is refused for this fault by the grammar.
 pub fn refused_kinds()
     ensures { (text : List ℕ) (k : ℕ) (fault : SyntaxFault) → read text ≡ Bad k fault → IsRefused (take (k + 1) text) fault }
+{}
+
+/// A text is refused for a fault exactly where the grammar refuses it for that one.
+pub fn refused_by_grammar()
+    ensures refused { (text : List ℕ) (fault : SyntaxFault)
+        → parsed text ≡ Err fault → Refused text fault }
+    ensures parsed { (text : List ℕ) (fault : SyntaxFault)
+        → Refused text fault → parsed text ≡ Err fault }
 {}
 
 /// What a text is parsed to, by the grammar: its tree, the fault of its shortest prefix that is no front, that it is cut

@@ -1,0 +1,9 @@
+use Rattle.drv_syntax.proofs.ParsedGrammar.{parsed_refused}
+use Rattle.drv_syntax.proofs.RefusalKinds.{refused_parsed}
+use Rattle.drv_syntax.proofs.laws.refused_by_grammar.Goals as goal
+
+pub returns-clause-refused : goal.returns-clause-refused
+returns-clause-refused c = parsed_refused
+
+pub returns-clause-parsed : goal.returns-clause-parsed
+returns-clause-parsed c = λ text fault. refused_parsed
