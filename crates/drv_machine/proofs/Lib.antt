@@ -37,6 +37,7 @@ pub mod Settling
 pub mod Standing
 pub mod Steps
 pub mod Tables
+pub mod TextStretches
 pub mod TrueTests
 pub mod TurnSteps
 pub mod WholeWords

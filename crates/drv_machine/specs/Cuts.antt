@@ -5,7 +5,7 @@ use Rattle.drv_machine.specs.declared.machine.marking.Mark.TheVariants.{AsFile, 
 use Rattle.drv_system.specs.Facts.{Facts}
 use Rattle.drv_system.specs.Known.{Is}
 use Rattle.std.specs.List.{filter, flat_map, list_any}
-use Rattle.std.specs.Prelude.{◌&&◌, ◌||◌, Bool, List, [], ◌∷◌, ◌++◌, Option, None, Some, Ok, false, if◌then◌else◌, not, suc, true, zero, ℕ}
+use Rattle.std.specs.Prelude.{◌≡◌, ◌&&◌, ◌||◌, Bool, List, [], ◌∷◌, ◌++◌, Option, None, Some, Ok, false, if◌then◌else◌, not, suc, true, zero, ℕ}
 
 -- What a list of atoms is cut into, said of the list as it stands (this project's profile). `Cutting` says it atom by atom.
 
@@ -287,6 +287,12 @@ without_file (Filed atoms) = Break ∷ []
 abbrev pub is_broken : Stretch → Bool
 is_broken (Bare atom) = bounds_file atom
 is_broken (Filed atoms) = list_any bounds_file atoms
+
+-- a list is made so
+pub record Stretched (atoms : List Atom) : Type 0 where
+  pub stretches : List Stretch
+  pub whole : list_any is_broken stretches ≡ false
+  pub same : flat_map stretch_atoms stretches ≡ atoms
 
 module _ (F : Facts) (C : Context) where
   -- the words of a command, and whether a pipe stands in it

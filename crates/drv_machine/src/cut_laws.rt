@@ -1,9 +1,11 @@
 //! Laws of the cut of a text. The functions do nothing: each is its contract.
 
+ghost use Rattle.drv_machine.specs.Atoms.{atoms};
 ghost use Rattle.drv_machine.specs.Context as specs;
-ghost use Rattle.drv_machine.specs.Cuts.{Stretch, begins_file, bounds_file, each, failure_files, has_stray_pipe, if_any, is_broken, line_of, lines, open_command, output, path, path_of, removed, stretch_atoms, texts, whether, without_file, words};
+ghost use Rattle.drv_machine.specs.Cuts.{Stretch, Stretched, begins_file, bounds_file, each, failure_files, has_stray_pipe, if_any, is_broken, line_of, lines, open_command, output, path, path_of, removed, stretch_atoms, texts, whether, without_file, words};
 ghost use Rattle.drv_machine.specs.Cutting.{Cut, all_taken, argument_words, file_words, nothing_cut};
-ghost use Rattle.drv_machine.specs.Working.{◌>>-◌, Atom, Break};
+ghost use Rattle.drv_machine.specs.Working.{◌>>-◌, Atom, Break, Goes, World};
+ghost use Rattle.drv_syntax.specs.Tree.{Items};
 ghost use Rattle.drv_system.specs.Facts.{Facts};
 ghost use Rattle.drv_system.specs.Known.{Is};
 ghost use Rattle.std.specs.List.{flat_map, list_any};
@@ -60,4 +62,11 @@ pub fn file_law()
         → argument_words F C (flat_map stretch_atoms stretches) ≡ Is (Ok found)
         → (line_of F C (open_command [] [] (flat_map without_file stretches ++ Break ∷ []))
         >>- λ line. Is (Ok line.words)) ≡ Is (Ok found) }
+{}
+
+/// The law that the atoms of every text are a list of which `file_law` speaks: no file stands in another, and none is
+/// left open. It takes and gives nothing.
+pub fn text_law()
+    ensures { (F : Facts) (C : specs.Context) (items : Items) (list : List Atom) (w : World)
+        → atoms F C items ≡ Goes list tt w → Stretched list }
 {}

@@ -25,7 +25,7 @@ mod walk;
 mod whole;
 
 pub use context::{Context, Source};
-pub use cut_laws::{command_law, cut_law, file_law};
+pub use cut_laws::{command_law, cut_law, file_law, text_law};
 pub use fault::MachineFault;
 pub use grammar::function_names;
 pub use outcome::Outcome;

@@ -1,0 +1,359 @@
+use Rattle.drv_funcs.specs.declared.function.Function.{Function as Func}
+use Rattle.drv_funcs.specs.Functions.{function_of}
+use Rattle.drv_machine.specs.Atoms.{added, filed, places, start, arguments, atoms, brace_step, broken_word, call_step, called_step, choices_step, draw, draw_with, drawn_or_new, each_hit, emitted, file_step, first_true, has_value, input_name, item_step, items_step, leaf_step, levels_left, matching, name_step, named, named_file, noted, outputs_step, starts_file, switch_atoms, temp_step, tree_named, truth, turned, value_step, worked, words_of}
+use Rattle.drv_machine.specs.Context.{Context, Source, argument, is_piping, names}
+use Rattle.drv_machine.specs.Cutting.{all_taken, argument_words, file_words, nothing_cut}
+use Rattle.drv_machine.specs.Names.{base, is_word, language_of, stem, suffix_of}
+use Rattle.drv_machine.specs.Temps.{last_drawn, temp_name}
+use Rattle.drv_funcs.specs.Outcome as outcomes
+use Rattle.drv_machine.specs.Cuts.{Bare, Filed, Stretch, Stretched, bounds_file, is_broken, stretch_atoms}
+use Rattle.drv_machine.specs.Working.{◌>>-◌, ◌>>=◌, ◌>>◌, Answer, Atom, Break, End, FileFrom, FileTo, From, Goes, Levels, Marked, Piped, Put, Refuses, Step, To, Waits, Without, Work, World, behind, bytes, called, change, counted, known, follow, give, look, most_items, most_open, needs, opened, puts, refuse, whole_word, word_of, words}
+use Rattle.drv_machine.specs.declared.fault.MachineFault.{MachineFault}
+use Rattle.drv_machine.specs.declared.fault.MachineFault.TheVariants as fault
+use Rattle.drv_machine.specs.declared.machine.marking.Mark.TheVariants.{AsFile, AsOutput, AsRemoved, AsScript}
+use Rattle.drv_match.specs.Matching.{hidden_by, hits, is_hit, name_at}
+use Rattle.drv_search.specs.Search.{folder_options}
+use Rattle.drv_syntax.specs.Stars.{has_star}
+use Rattle.drv_syntax.specs.Tree as tree
+use Rattle.drv_syntax.specs.Tree.{AddOption, ArgumentsFile, Asked, Blank, Brace, Braces, BuiltinText, Choices, Choose, Emit, Escape, FailureFile, Function, HasLanguage, HasResult, HasSuffix, HasSwitch, Hide, Item, Items, NamedText, Newline, Notice, Pattern, Pipe, Plain, Span, Star, TempName, Tests, UserError, choice, more, no_choice, no_test, none, pattern, test}
+use Rattle.drv_syntax.specs.declared.token.Leaf.TheVariants.{AssemblerOptions, BaseName, BaseStem, Directories, FoundFile, FoundScript, InputName, LinkerOptions, NoOutput, ObjectSuffix, Output, Outputs, Percent, PreprocessorOptions, Removed}
+use Rattle.drv_syntax.specs.declared.token.Leaf.{Leaf}
+use Rattle.drv_syntax.specs.declared.token.TempKind.TheVariants.{Last, New, PipedIn, PipedOut, Shared}
+use Rattle.drv_syntax.specs.declared.token.TempKind.{TempKind}
+use Rattle.drv_system.specs.Facts.{Facts}
+use Rattle.drv_system.specs.Known.{Is, Unasked}
+use Rattle.drv_words.specs.Bytes.{at_sign, hyphen, percent}
+use Rattle.drv_words.specs.Response.{response_text}
+use Rattle.std.proofs.Common.{◌≡◌, ◌∙◌, ◌++◌, ◌||◌, Bool, List, [], ◌∷◌, None, Err, Ok, Option, Some, ap, append-nil, false, map, refl, subst, suc, sym, true, zero, ℕ}
+use Rattle.std.proofs.lemmas.Grind.{flat_map-append}
+use Rattle.std.proofs.lemmas.List.Folds.{list_any-append}
+use Rattle.std.specs.List.{filter, flat_map, list_any}
+use Rattle.std.specs.Option.{is_none, unwrap_or}
+use Rattle.std.specs.Prelude.{◌&&◌, ◌+◌, ⊤, codes, drop, if◌then◌else◌, is_some, length, nat_lt, not}
+
+-- The atoms of every text are atoms and files, and no file stands in another.
+
+-- no file begins or ends
+abbrev None-bounds : List Atom → Type 0
+None-bounds atoms = list_any bounds_file atoms ≡ false
+
+no_bounds : (xs ys : List Atom) → None-bounds xs → None-bounds ys → None-bounds (xs ++ ys)
+no_bounds xs ys e f = list_any-append bounds_file xs ys ∙ ap (λ (b : Bool). b || list_any bounds_file ys) e ∙ f
+
+bytes_bare : (word : List ℕ) → None-bounds (map Put word)
+bytes_bare [] = refl
+bytes_bare (b ∷ word) = bytes_bare word
+
+broken_bare : (word : List ℕ) → None-bounds (broken_word word)
+broken_bare word = no_bounds (map Put word) (Break ∷ []) (bytes_bare word) refl
+
+flat_bare : {X : Type 0} (f : X → List Atom) → ((x : X) → None-bounds (f x)) → (xs : List X) → None-bounds (flat_map f xs)
+flat_bare f each [] = refl
+flat_bare f each (x ∷ xs) = no_bounds (f x) (flat_map f xs) (each x) (flat_bare f each xs)
+
+words_bare : (list : List (List ℕ)) → None-bounds (words list)
+words_bare list = flat_bare whole_word broken_bare list
+
+word_bare : (word : Option (List ℕ)) → None-bounds (word_of word)
+word_bare None = refl
+word_bare (Some word) = words_bare (word ∷ [])
+
+-- atoms, in a file or not
+abbrev Fits : Bool → List Atom → Type 0
+Fits true atoms = None-bounds atoms
+Fits false atoms = Stretched atoms
+
+broken_append : (xs ys : List Stretch) → list_any is_broken xs ≡ false → list_any is_broken ys ≡ false → list_any is_broken (xs ++ ys) ≡ false
+broken_append xs ys e f = list_any-append is_broken xs ys ∙ ap (λ (b : Bool). b || list_any is_broken ys) e ∙ f
+
+fits_append : (b : Bool) (xs ys : List Atom) → Fits b xs → Fits b ys → Fits b (xs ++ ys)
+fits_append true xs ys e f = no_bounds xs ys e f
+fits_append false xs ys e f = record {
+  stretches = e.stretches ++ f.stretches;
+  whole = broken_append e.stretches f.stretches e.whole f.whole;
+  same = flat_map-append stretch_atoms e.stretches f.stretches ∙ ap (λ (zs : List Atom). zs ++ flat_map stretch_atoms f.stretches) e.same ∙ ap (λ (zs : List Atom). xs ++ zs) f.same;
+}
+
+first_bare : (a b : Bool) → (a || b) ≡ false → (a ≡ false) × (b ≡ false)
+first_bare true b e = absurd cc
+first_bare false b e = (refl, e)
+
+stretched_bare : (atoms : List Atom) → None-bounds atoms → Stretched atoms
+stretched_bare [] e = record { stretches = []; whole = refl; same = refl }
+stretched_bare (atom ∷ atoms) e =
+    let each = first_bare (bounds_file atom) (list_any bounds_file atoms) e in
+    let rest = stretched_bare atoms each.1 in record {
+      stretches = Bare atom ∷ rest.stretches;
+      whole = ap (λ (b : Bool). b || list_any is_broken rest.stretches) each.0 ∙ rest.whole;
+      same = ap (λ (zs : List Atom). atom ∷ zs) rest.same;
+    }
+
+fits_bare : (b : Bool) (atoms : List Atom) → None-bounds atoms → Fits b atoms
+fits_bare true atoms e = e
+fits_bare false atoms e = stretched_bare atoms e
+
+-- work, in a file or not: it stays there
+abbrev WellDone : {X : Type 0} → Bool → Work X → Type 0
+WellDone b (Goes atoms x v) = Fits b atoms × (v.is_in_file ≡ b)
+WellDone b (Refuses atoms fault) = ⊤
+WellDone b (Waits atoms) = ⊤
+
+pub record Well {X : Type 0} (step : Step X) : Type 0 where
+  pub stays : (w : World) (b : Bool) → w.is_in_file ≡ b → WellDone b (step w)
+
+behind_well : {X : Type 0} (b : Bool) (atoms : List Atom) (work : Work X) → Fits b atoms → WellDone b work → WellDone b (behind atoms work)
+behind_well b atoms (Goes others x v) e f = (fits_append b atoms others e f.0, f.1)
+behind_well b atoms (Refuses others fault) e f = tt
+behind_well b atoms (Waits others) e f = tt
+
+follow_well : {X Y : Type 0} (b : Bool) (work : Work X) (f : X → Step Y) → WellDone b work → ((x : X) → Well (f x)) → WellDone b (follow work f)
+follow_well b (Goes atoms x v) f e goes = behind_well b atoms (f x v) e.0 ((goes x).stays v b e.1)
+follow_well b (Refuses atoms fault) f e goes = tt
+follow_well b (Waits atoms) f e goes = tt
+
+then_well : {X Y : Type 0} {a : Step X} {f : X → Step Y} → Well a → ((x : X) → Well (f x)) → Well (a >>= f)
+then_well {a = a} {f = f} e goes = record { stays = λ w b i. follow_well b (a w) f (e.stays w b i) goes }
+
+puts_well : (atoms : List Atom) → None-bounds atoms → Well (puts atoms)
+puts_well atoms e = record { stays = λ w b i. (fits_bare b atoms e, i) }
+
+give_well : {X : Type 0} (x : X) → Well (give x)
+give_well x = record { stays = λ w b i. (fits_bare b [] refl, i) }
+
+look_well : {X : Type 0} (f : World → X) → Well (look f)
+look_well f = record { stays = λ w b i. (fits_bare b [] refl, i) }
+
+change_well : (f : World → World) → ((w : World) → (f w).is_in_file ≡ w.is_in_file) → Well (change f)
+change_well f e = record { stays = λ w b i. (fits_bare b [] refl, e w ∙ i) }
+
+needs_well : {X : Type 0} (a : Answer X) → Well (needs a)
+needs_well (Is (Ok x)) = record { stays = λ w b i. (fits_bare b [] refl, i) }
+needs_well (Is (Err fault)) = record { stays = λ w b i. tt }
+needs_well Unasked = record { stays = λ w b i. tt }
+
+refuse_well : {X : Type 0} (fault : MachineFault) → Well (refuse {X = X} fault)
+refuse_well fault = record { stays = λ w b i. tt }
+
+-- a look, and atoms of what is seen
+look_puts_well : (f : World → List Atom) → ((w : World) → None-bounds (f w)) → Well (look f >>= puts)
+look_puts_well f e = record { stays = λ w b i. (fits_bare b (f w) (e w), i) }
+
+counted_as : (w : World) (b : Bool) (few : Bool) → w.is_in_file ≡ b → WellDone {X = Unit {0}} b (if few then Goes [] tt (record w { items = w.items + 1 }) else Refuses [] fault.TooManySteps)
+counted_as w b true i = (fits_bare b [] refl, i)
+counted_as w b false i = tt
+
+counted_well : Well counted
+counted_well = record { stays = λ w b i. counted_as w b (nat_lt w.items most_items) i }
+
+if_well : {X : Type 0} (c : Bool) {one other : Step X} → Well one → Well other → Well (if c then one else other)
+if_well true e f = e
+if_well false e f = f
+
+-- parts that are opened
+abbrev WellLevels : Levels → Type 0
+WellLevels [] = ⊤
+WellLevels (deeper ∷ inside) = ((items : Items) → Well (deeper items)) × WellLevels inside
+
+opened_well : {X : Type 0} (levels : Levels) (part : (Items → Step (Unit {0})) → Levels → Step X) → WellLevels levels
+    → ((deeper : Items → Step (Unit {0})) (inside : Levels) → ((items : Items) → Well (deeper items)) → WellLevels inside → Well (part deeper inside)) → Well (opened levels part)
+opened_well [] part e goes = refuse_well fault.SpecTooDeep
+opened_well (deeper ∷ inside) part e goes = goes deeper inside e.0 e.1
+
+bytes_well : (word : List ℕ) → Well (bytes word)
+bytes_well word = puts_well (map Put word) (bytes_bare word)
+
+module _ (F : Facts) where
+  input_well : (C : Context) (input : Option Source) → Well (input_name F (record C { input = input }))
+  input_well C None = refuse_well fault.NoInput
+  input_well C (Some source) = give_well source.name
+
+  outputs_well : (C : Context) (input : Option Source) → Well (outputs_step F (record C { input = input }))
+  outputs_well C None = look_puts_well (λ w. Break ∷ words w.outputs) (λ w. words_bare w.outputs)
+  outputs_well C (Some source) = refuse_well fault.NotInLink
+
+module _ (F : Facts) (C : Context) where
+  draw_well : (contents : List ℕ) (shared : Bool) (suffix : List ℕ) → Well (draw_with F C contents shared suffix)
+  draw_well contents shared suffix =
+      then_well (look_well (λ w. w.number)) (λ number. then_well (needs_well (known (temp_name F C.seed number suffix))) (λ path. then_well
+      (change_well (λ w. record w { number = w.number + 1; drawn = w.drawn ++ record { shared = shared; suffix = suffix; path = path; contents = contents } ∷ [] }) (λ w. refl)) (λ u. give_well path)))
+
+  drawn_as : (shared : Bool) (suffix : List ℕ) (w : World) (b : Bool) (path : Option (List ℕ)) → last_drawn shared suffix w.drawn ≡ path → w.is_in_file ≡ b → WellDone b (drawn_or_new F C shared suffix w)
+  drawn_as shared suffix w b None e i = rw e (behind_well b [] (draw F C shared suffix w) (fits_bare b [] refl) ((draw_well [] shared suffix).stays w b i))
+  drawn_as shared suffix w b (Some path) e i = rw e (fits_bare b [] refl, i)
+
+  drawn_well : (shared : Bool) (suffix : List ℕ) → Well (drawn_or_new F C shared suffix)
+  drawn_well shared suffix = record { stays = λ w b i. drawn_as shared suffix w b (last_drawn shared suffix w.drawn) refl i }
+
+  name_well : (shared : Bool) (suffix : List ℕ) → Well (name_step F C shared suffix)
+  name_well shared suffix = then_well (drawn_well shared suffix) (λ path. bytes_well path)
+
+  temp_well : (kind : TempKind) (suffix : List ℕ) → Well (temp_step F C kind suffix)
+  temp_well Shared suffix = name_well true suffix
+  temp_well New suffix = then_well (draw_well [] false suffix) (λ path. bytes_well path)
+  temp_well Last suffix = name_well false suffix
+  temp_well PipedOut suffix = if_well (is_piping C) (bytes_well (hyphen ∷ [])) (name_well true suffix)
+  temp_well PipedIn suffix = if_well (is_piping C) (puts_well [] refl) (name_well true suffix)
+
+  switch_bare : (i : ℕ) → None-bounds (switch_atoms F C i)
+  switch_bare i = no_bounds (map Put (hyphen ∷ name_at (names C) i)) (Break ∷ word_of (argument C i)) (bytes_bare (hyphen ∷ name_at (names C) i)) (word_bare (argument C i))
+
+  emitted_bare : (patterns : List (Span × Pattern)) (hidden : List Bool) → None-bounds (emitted F C patterns hidden)
+  emitted_bare patterns hidden = flat_bare (switch_atoms F C) switch_bare (filter (λ i. list_any (λ p. is_hit (names C) hidden (matching p.1) i) patterns) (places F C))
+
+  called_well : (args : List (List ℕ)) (function : Option Func) (v : World) → Well (called_step F C args function v)
+  called_well args None v = give_well None
+  called_well args (Some function) v =
+      then_well (needs_well (called (outcomes.called F (names C) v.hidden (is_none C.input) function args v.outputs))) (λ c. then_well (change_well (λ u. record u { outputs = c.outputs }) (λ u. refl)) (λ u. give_well c.given))
+
+  call_well : (name : List ℕ) (args : List (List ℕ)) → Well (call_step F C name args)
+  call_well name args = record { stays = λ w b i. behind_well b [] (called_step F C args (function_of name) w w) (fits_bare b [] refl) ((called_well args (function_of name) w).stays w b i) }
+
+  value_well : (name : List ℕ) (args : List (List ℕ)) → Well (value_step F C name args)
+  value_well name args = then_well (call_well name args) (λ given. bytes_well (unwrap_or given []))
+
+  has_well : (name : List ℕ) (args : List (List ℕ)) → Well (has_value F C name args)
+  has_well name args = then_well (call_well name args) (λ given. give_well (is_some given))
+
+  words_well : (w : World) (b : Bool) (work : Work (Unit {0})) → w.is_in_file ≡ b → WellDone b work → WellDone b (words_of F C w work)
+  words_well w b (Goes atoms u v) i e = (needs_well (argument_words F C atoms)).stays v b e.1
+  words_well w b (Refuses atoms fault) i e = (needs_well (all_taken F C nothing_cut atoms >>- λ c. Is (Err fault))).stays w b i
+  words_well w b (Waits atoms) i e = (needs_well (all_taken F C nothing_cut atoms >>- λ c. Unasked)).stays w b i
+
+  arguments_well : (step : Step (Unit {0})) → Well step → Well (arguments F C step)
+  arguments_well step e = record { stays = λ w b i. words_well w b (step w) i (e.stays w b i) }
+
+  named_file_well : (list : List (List ℕ)) → Well (named_file F C list)
+  named_file_well [] = puts_well [] refl
+  named_file_well (word ∷ list) = then_well (draw_well (response_text (word ∷ list)) false (codes ".args")) (λ path. puts_well (map Put (at_sign ∷ path) ++ Break ∷ []) (broken_bare (at_sign ∷ path)))
+
+  -- a file
+  one_file : (atoms : List Atom) → None-bounds atoms → Stretched (Break ∷ FileFrom ∷ atoms ++ Break ∷ FileTo ∷ [])
+  one_file atoms e = record { stretches = Filed atoms ∷ []; whole = ap (λ (b : Bool). b || false) e; same = append-nil (Break ∷ FileFrom ∷ atoms ++ Break ∷ FileTo ∷ []) }
+
+  filed_well : (work : Work (Unit {0})) → WellDone true work → WellDone false (filed F C work)
+  filed_well (Goes atoms u v) e =
+      behind_well false (Break ∷ FileFrom ∷ atoms ++ Break ∷ FileTo ∷ []) ((needs (file_words F C atoms) >>= named_file F C) (record v { is_in_file = false })) (one_file atoms e.0)
+      ((then_well (needs_well (file_words F C atoms)) named_file_well).stays (record v { is_in_file = false }) false refl)
+  filed_well (Refuses atoms fault) e = tt
+  filed_well (Waits atoms) e = tt
+
+  file_well : (step : Step (Unit {0})) (w : World) → Well step → WellDone false (file_step F C step w)
+  file_well step w e = filed_well (step (record w { is_in_file = true })) (e.stays (record w { is_in_file = true }) true refl)
+
+  chosen_as : (step : Step (Unit {0})) (w : World) → Well step → (from b : Bool) → w.is_in_file ≡ b → WellDone b ((if from && not w.is_in_file then file_step F C step else step) w)
+  chosen_as step w e false b i = e.stays w b i
+  chosen_as step w e true true i = subst (λ (inside : Bool). WellDone true ((if not inside then file_step F C step else step) w)) (sym i) (e.stays w true i)
+  chosen_as step w e true false i = subst (λ (inside : Bool). WellDone false ((if not inside then file_step F C step else step) w)) (sym i) (file_well step w e)
+
+  chosen_well : (step : Step (Unit {0})) → Well step → Well (look (starts_file F C) >>= λ starts. if starts then file_step F C step else step)
+  chosen_well step e = record { stays = λ w b i. behind_well b [] ((if starts_file F C w then file_step F C step else step) w) (fits_bare b [] refl) (chosen_as step w e C.from_file b i) }
+
+  named_well : (items : Option Items) (levels : Levels) → WellLevels levels → Well (named F C items levels)
+  named_well None levels e = puts_well [] refl
+  named_well (Some items) levels e = opened_well levels (λ deeper inside. deeper items) e (λ deeper inside goes behind. goes items)
+
+  each_well : (p : Pattern) (X : List ℕ → Levels → Step (Unit {0})) (levels : Levels) → WellLevels levels → ((rest : List ℕ) (inside : Levels) → WellLevels inside → Well (X rest inside)) → (is : List ℕ) → Well (each_hit F C p X levels is)
+  each_well p X levels e goes [] = puts_well [] refl
+  each_well p X levels e goes (i ∷ is) =
+      let rest : List ℕ = drop (length (matching p).name) (name_at (names C) i) in
+      then_well (look_well (λ w. is_hit (names C) w.hidden (matching p) i)) (λ hit. then_well
+      (if_well hit (then_well (opened_well levels (λ deeper inside. X rest inside) e (λ deeper inside d behind. goes rest inside behind)) (λ u. puts_well (Break ∷ word_of (argument C i)) (word_bare (argument C i)))) (puts_well [] refl))
+      (λ u. each_well p X levels e goes is))
+
+  worked_well : (found : Option Asked) (own : Bool) (X : List ℕ → Levels → Step (Unit {0})) (levels : Levels) (star : List ℕ) (others : Step (Unit {0})) → WellLevels levels
+      → ((rest : List ℕ) (inside : Levels) → WellLevels inside → Well (X rest inside)) → Well others → Well (worked F C found own X levels star others)
+  worked_well None own X levels star others e goes f = f
+  worked_well (Some (HasSwitch p)) true X levels star others e goes f = each_well p X levels e goes (places F C)
+  worked_well (Some (HasSwitch p)) false X levels star others e goes f = goes star levels e
+  worked_well (Some (HasSuffix word)) true X levels star others e goes f = goes star levels e
+  worked_well (Some (HasSuffix word)) false X levels star others e goes f = goes star levels e
+  worked_well (Some (HasLanguage word)) true X levels star others e goes f = goes star levels e
+  worked_well (Some (HasLanguage word)) false X levels star others e goes f = goes star levels e
+  worked_well (Some (HasResult name items)) true X levels star others e goes f = goes star levels e
+  worked_well (Some (HasResult name items)) false X levels star others e goes f = goes star levels e
+
+  leaf_well : (leaf : Leaf) → Well (leaf_step F C leaf)
+  leaf_well Percent = puts_well (Put percent ∷ []) refl
+  leaf_well InputName = then_well (input_well F C C.input) (λ name. bytes_well name)
+  leaf_well BaseStem = then_well (input_well F C C.input) (λ name. bytes_well (stem name))
+  leaf_well BaseName = then_well (input_well F C C.input) (λ name. bytes_well (base name))
+  leaf_well Removed = puts_well (Marked AsRemoved ∷ []) refl
+  leaf_well Output = puts_well (Marked AsOutput ∷ []) refl
+  leaf_well NoOutput = puts_well (Without ∷ []) refl
+  leaf_well Outputs = outputs_well F C C.input
+  leaf_well ObjectSuffix = bytes_well (codes ".o")
+  leaf_well FoundFile = puts_well (Marked AsFile ∷ []) refl
+  leaf_well FoundScript = puts_well (Marked AsScript ∷ []) refl
+  leaf_well LinkerOptions = look_puts_well (λ w. words w.options) (λ w. words_bare w.options)
+  leaf_well AssemblerOptions = puts_well (words C.assembler) (words_bare C.assembler)
+  leaf_well PreprocessorOptions = puts_well (words C.preprocessor) (words_bare C.preprocessor)
+  leaf_well Directories = then_well (needs_well (known (folder_options F C.prefixes))) (λ options. puts_well (flat_map broken_word options) (flat_bare broken_word broken_bare options))
+
+  mutual
+    item_well : (item : Item) (levels : Levels) (star : List ℕ) → WellLevels levels → Well (item_step F C item levels star)
+    item_well (Plain b) levels star e = puts_well (Put b ∷ []) refl
+    item_well (Escape b) levels star e = puts_well (Put b ∷ []) refl
+    item_well Blank levels star e = puts_well (Break ∷ []) refl
+    item_well Newline levels star e = puts_well (Break ∷ End ∷ []) refl
+    item_well Pipe levels star e = puts_well (Piped ∷ []) refl
+    item_well (tree.Leaf leaf) levels star e = leaf_well leaf
+    item_well (TempName kind suffix) levels star e = temp_well kind suffix
+    item_well (AddOption option) levels star e = change_well (λ w. record w { options = added option w.options }) (λ w. refl)
+    item_well (UserError text) levels star e = refuse_well (fault.UserError text)
+    item_well (Notice text) levels star e = change_well (λ w. record w { notices = w.notices ++ noted text ∷ [] }) (λ w. refl)
+    item_well (NamedText name) levels star e = named_well (tree_named F C name) levels e
+    item_well (BuiltinText name) levels star e = named_well (tree_named F C name) levels e
+    item_well (Hide p) levels star e = change_well (λ w. record w { hidden = hidden_by (matching p) (names C) w.hidden }) (λ w. refl)
+    item_well (Function name items) levels star e =
+        opened_well levels (λ deeper inside. arguments F C (items_step F C items inside star) >>= value_step F C name) e (λ deeper inside d behind. then_well (arguments_well (items_step F C items inside star) (items_well items inside star behind)) (λ args. value_well name args))
+    item_well (Braces brace) levels star e = brace_well brace levels star e
+    item_well Star levels star e = bytes_well star
+    item_well (FailureFile brace) levels star e =
+        opened_well levels (λ deeper inside. puts (From ∷ []) >> brace_step F C brace inside star >> puts (Break ∷ To ∷ [])) e
+        (λ deeper inside d behind. then_well (then_well (puts_well (From ∷ []) refl) (λ u. brace_well brace inside star behind)) (λ u. puts_well (Break ∷ To ∷ []) refl))
+    item_well (ArgumentsFile brace) levels star e =
+        opened_well levels (λ deeper inside. look (starts_file F C) >>= λ starts. if starts then file_step F C (brace_step F C brace inside star) else brace_step F C brace inside star) e
+        (λ deeper inside d behind. chosen_well (brace_step F C brace inside star) (brace_well brace inside star behind))
+
+    items_well : (items : Items) (levels : Levels) (star : List ℕ) → WellLevels levels → Well (items_step F C items levels star)
+    items_well none levels star e = puts_well [] refl
+    items_well (more span item items) levels star e =
+        then_well (then_well counted_well (λ u. item_well item levels star e)) (λ u. items_well items levels star e)
+
+    brace_well : (brace : Brace) (levels : Levels) (star : List ℕ) → WellLevels levels → Well (brace_step F C brace levels star)
+    brace_well (Emit patterns) levels star e = look_puts_well (λ w. emitted F C patterns w.hidden) (λ w. emitted_bare patterns w.hidden)
+    brace_well (Choose choices) levels star e = choices_well choices levels star e
+
+    choices_well : (choices : Choices) (levels : Levels) (star : List ℕ) → WellLevels levels → Well (choices_step F C choices levels star)
+    choices_well no_choice levels star e = puts_well [] refl
+    choices_well (choice span no_test items choices) levels star e = items_well items levels star e
+    choices_well (choice span (test place negated asked tests) items choices) levels star e =
+        then_well (first_well (test place negated asked tests) levels star e)
+        (λ found. worked_well found (has_star items) (λ rest inside. items_step F C items inside rest) levels star (choices_step F C choices levels star) e (λ rest inside d. items_well items inside rest d) (choices_well choices levels star e))
+
+    first_well : (tests : Tests) (levels : Levels) (star : List ℕ) → WellLevels levels → Well (first_true F C tests levels star)
+    first_well no_test levels star e = give_well None
+    first_well (test span negated asked tests) levels star e =
+        then_well (truth_well asked levels star e) (λ holds. if_well (turned negated holds) (give_well (Some asked)) (first_well tests levels star e))
+
+    truth_well : (asked : Asked) (levels : Levels) (star : List ℕ) → WellLevels levels → Well (truth F C asked levels star)
+    truth_well (HasSwitch p) levels star e = look_well (λ w. nat_lt 0 (length (hits (names C) w.hidden (matching p))))
+    truth_well (HasSuffix word) levels star e = give_well (is_word word (suffix_of C.input))
+    truth_well (HasLanguage word) levels star e = give_well (is_word word (language_of C.input))
+    truth_well (HasResult name items) levels star e =
+        opened_well levels (λ deeper inside. arguments F C (items_step F C items inside star) >>= has_value F C name) e (λ deeper inside d behind. then_well (arguments_well (items_step F C items inside star) (items_well items inside star behind)) (λ args. has_well name args))
+
+  levels_well : (n : ℕ) → WellLevels (levels_left F C n)
+  levels_well zero = tt
+  levels_well (suc n) = (λ items. items_well items (levels_left F C n) [] (levels_well n), levels_well n)
+
+  text_well : (items : Items) (n : ℕ) → Well (items_step F C items (levels_left F C n) [] >> puts (Break ∷ End ∷ []))
+  text_well items n = then_well (items_well items (levels_left F C n) [] (levels_well n)) (λ u. puts_well (Break ∷ End ∷ []) refl)
+
+  goes_stretched : (work : Work (Unit {0})) (xs : List Atom) (w : World) → WellDone false work → work ≡ Goes xs tt w → Stretched xs
+  goes_stretched (Goes ys u v) xs w e is = let same : ys ≡ xs = cc in subst Stretched same e.0
+  goes_stretched (Refuses ys fault) xs w e is = absurd cc
+  goes_stretched (Waits ys) xs w e is = absurd cc
+
+  pub are_stretched : (items : Items) (xs : List Atom) (w : World) → atoms F C items ≡ Goes xs tt w → Stretched xs
+  are_stretched items xs w e = goes_stretched (atoms F C items) xs w ((text_well items most_open).stays (start F C) false refl) e
