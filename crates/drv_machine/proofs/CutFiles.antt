@@ -118,10 +118,10 @@ module _ (F : Facts) (C : Context) where
   all_alike c d atoms e = all_plain c atoms ∙ ap (λ (x : Cut). all_taken F C x atoms >>- as_plain) e ∙ sym (all_plain d atoms)
 
 -- what came before an answer
-abbrev Came : {X Y : Type 0} → Answer X → (X → Answer Y) → Y → Type 0
+abbrev pub Came : {X Y : Type 0} → Answer X → (X → Answer Y) → Y → Type 0
 Came {X = X} a next y = (x : X) × (a ≡ Is (Ok x)) × (next x ≡ Is (Ok y))
 
-came : {X Y : Type 0} (a : Answer X) (next : X → Answer Y) (y : Y) → (a >>- next) ≡ Is (Ok y) → Came a next y
+pub came : {X Y : Type 0} (a : Answer X) (next : X → Answer Y) (y : Y) → (a >>- next) ≡ Is (Ok y) → Came a next y
 came (Is (Ok x)) next y e = (x, refl, e)
 came (Is (Err fault)) next y e = absurd cc
 came Unasked next y e = absurd cc

@@ -38,6 +38,7 @@ pub mod Standing
 pub mod Steps
 pub mod Tables
 pub mod TextStretches
+pub mod Told
 pub mod TrueTests
 pub mod TurnSteps
 pub mod WholeWords

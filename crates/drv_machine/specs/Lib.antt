@@ -6,4 +6,5 @@ pub mod Cutting
 pub mod Names
 pub mod Outcome
 pub mod Temps
+pub mod Told
 pub mod Working

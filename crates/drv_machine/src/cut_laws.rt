@@ -4,7 +4,10 @@ ghost use Rattle.drv_machine.specs.Atoms.{atoms};
 ghost use Rattle.drv_machine.specs.Context as specs;
 ghost use Rattle.drv_machine.specs.Cuts.{Stretch, Stretched, begins_file, bounds_file, each, failure_files, has_stray_pipe, if_any, is_broken, line_of, lines, open_command, output, path, path_of, removed, stretch_atoms, texts, whether, without_file, words};
 ghost use Rattle.drv_machine.specs.Cutting.{Cut, all_taken, argument_words, file_words, nothing_cut};
+ghost use Rattle.drv_machine.specs.Outcome.{outcome};
+ghost use Rattle.drv_machine.specs.Told.{Told};
 ghost use Rattle.drv_machine.specs.Working.{◌>>-◌, Atom, Break, Goes, World};
+ghost use Rattle.drv_machine.specs.declared.outcome.Outcome.{Outcome};
 ghost use Rattle.drv_syntax.specs.Tree.{Items};
 ghost use Rattle.drv_system.specs.Facts.{Facts};
 ghost use Rattle.drv_system.specs.Known.{Is};
@@ -65,8 +68,11 @@ pub fn file_law()
 {}
 
 /// The law that the atoms of every text are a list of which `file_law` speaks: no file stands in another, and none is
-/// left open. It takes and gives nothing.
+/// left open. So the job of a text is told by its list of atoms as it stands: its groups, output, marked files
+/// and failure files. It takes and gives nothing.
 pub fn text_law()
-    ensures { (F : Facts) (C : specs.Context) (items : Items) (list : List Atom) (w : World)
-        → atoms F C items ≡ Goes list tt w → Stretched list }
+    ensures stretched { (F : Facts) (C : specs.Context) (items : Items) (list : List Atom)
+        (w : World) → atoms F C items ≡ Goes list tt w → Stretched list }
+    ensures told { (F : Facts) (C : specs.Context) (items : Items) (o : Outcome)
+        → outcome F C items ≡ Is (Ok o) → Told F C items o }
 {}

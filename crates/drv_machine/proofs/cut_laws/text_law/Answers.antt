@@ -1,5 +1,9 @@
 use Rattle.drv_machine.proofs.TextStretches.{are_stretched}
+use Rattle.drv_machine.proofs.Told.{told}
 use Rattle.drv_machine.proofs.cut_laws.text_law.Goals as goal
 
-pub returns : goal.returns
-returns c = are_stretched
+pub returns-clause-stretched : goal.returns-clause-stretched
+returns-clause-stretched c = are_stretched
+
+pub returns-clause-told : goal.returns-clause-told
+returns-clause-told c = told

@@ -1,0 +1,91 @@
+use Rattle.drv_machine.proofs.CutFailures.{failures_are}
+use Rattle.drv_machine.proofs.CutFiles.{Came, came, lines_around, stray_around}
+use Rattle.drv_machine.proofs.CutRuns.{output_is, removed_are}
+use Rattle.drv_machine.proofs.TextStretches.{are_stretched}
+use Rattle.drv_machine.specs.Atoms.{atoms}
+use Rattle.drv_machine.specs.Context.{Context}
+use Rattle.drv_machine.specs.Cuts.{Stretched, lines, stretch_atoms}
+use Rattle.drv_machine.specs.Cutting.{Cut, Line, all_taken, nothing_cut}
+use Rattle.drv_machine.specs.Outcome.{cut, ends_piped, finished, groups, job, most_piped, outcome}
+use Rattle.drv_machine.specs.Told.{Told, lasting_of}
+use Rattle.drv_machine.specs.Working.{◌>>-◌, Answer, Atom, Goes, Refuses, Waits, Work, World}
+use Rattle.drv_machine.specs.declared.fault.MachineFault.TheVariants.{PipeTooLong, StrayPipe}
+use Rattle.drv_machine.specs.declared.outcome.Outcome.{Outcome}
+use Rattle.drv_syntax.specs.Tree.{Items}
+use Rattle.drv_system.specs.Facts.{Facts}
+use Rattle.drv_system.specs.Known.{Is, Unasked}
+use Rattle.drv_words.specs.declared.plan.Command.{Command}
+use Rattle.drv_words.specs.declared.plan.Job.{Job}
+use Rattle.std.proofs.Common.{◌≡◌, ◌∙◌, ◌||◌, Bool, Err, List, Ok, ap, false, length, refl, sym, true}
+use Rattle.std.specs.List.{flat_map, list_any}
+use Rattle.std.specs.Prelude.{if◌then◌else◌, nat_lt}
+
+-- The outcome of a text, told by its atoms.
+
+neither : (a b : Bool) → (a || b) ≡ false → a ≡ false
+neither true b e = absurd cc
+neither false b e = refl
+
+-- behind the whole text no pipe is stray, and the groups are those of the commands
+pub record Ended (F : Facts) (C : Context) (w : World) (c : Cut) (o : Outcome) : Type 0 where
+  pub none_stray : c.stray ≡ false
+  pub commands : List (List Command)
+  pub groups_are : groups F C c.lines ≡ Is (Ok commands)
+  pub job_is : o.job ≡ job w c commands
+
+module _ (F : Facts) (C : Context) where
+  abbrev made_of : World → Cut → List (List Command) → Outcome
+  made_of w c commands = record { job = job w c commands; notices = w.notices; outs = w.outputs; accumulated = w.options; next_number = w.number; cost = w.items }
+
+  not_too_long : (w : World) (c : Cut) (o : Outcome) → c.stray ≡ false → Came (groups F C c.lines)
+      (λ commands. if list_any (λ group. nat_lt most_piped (length group)) commands then Is (Err PipeTooLong) else Is (Ok (made_of w c commands))) o → Ended F C w c o
+  not_too_long w c o n (commands, is, e) = by (list_any (λ group. nat_lt most_piped (length group)) commands) e
+    where
+      by : (b : Bool) → (if b then Is (Err PipeTooLong) else Is (Ok (made_of w c commands))) ≡ Is (Ok o) → Ended F C w c o
+      by true f = absurd cc
+      by false f = let same : made_of w c commands ≡ o = cc in record { none_stray = n; commands = commands; groups_are = is; job_is = ap (λ (x : Outcome). x.job) (sym same) }
+
+  ended_as : (w : World) (c : Cut) (o : Outcome) → finished F C w c ≡ Is (Ok o) → Ended F C w c o
+  ended_as w c o e = by (c.stray || ends_piped c.lines) refl e
+    where
+      after : Answer Outcome
+      after = groups F C c.lines >>- λ commands. if list_any (λ group. nat_lt most_piped (length group)) commands then Is (Err PipeTooLong) else Is (Ok (made_of w c commands))
+
+      by : (b : Bool) → (c.stray || ends_piped c.lines) ≡ b → (if b then Is (Err StrayPipe) else after) ≡ Is (Ok o) → Ended F C w c o
+      by true s f = absurd cc
+      by false s f =
+          not_too_long w c o (neither c.stray (ends_piped c.lines) s)
+          (came (groups F C c.lines) (λ commands. if list_any (λ group. nat_lt most_piped (length group)) commands then Is (Err PipeTooLong) else Is (Ok (made_of w c commands))) o f)
+
+  told_as : (items : Items) (o : Outcome) (list : List Atom) (w : World) (c : Cut) → atoms F C items ≡ Goes list tt w → all_taken F C nothing_cut list ≡ Is (Ok c) → Stretched list → Ended F C w c o → Told F C items o
+  told_as items o list w c gives cut_is made ended =
+      let again : all_taken F C nothing_cut (flat_map stretch_atoms made.stretches) ≡ Is (Ok c) = ap (all_taken F C nothing_cut) made.same ∙ cut_is in record {
+        list = list;
+        world = w;
+        gives = gives;
+        made = made;
+        output_is = output_is F C list c cut_is ∙ ap (λ (j : Job). Is (Ok j.output)) (sym ended.job_is);
+        marked_are = ap (lasting_of w) (removed_are F C list c cut_is) ∙ ap (λ (j : Job). Is (Ok j.marked)) (sym ended.job_is);
+        failures_are = ap (lasting_of w) (failures_are F C list c cut_is) ∙ ap (λ (j : Job). Is (Ok j.on_failure)) (sym ended.job_is);
+        none_stray = stray_around F C made.stretches c made.whole again ∙ ended.none_stray;
+        groups_are =
+            ap (λ (a : Answer (List Line)). a >>- groups F C) (lines_around F C made.stretches c made.whole again)
+            ∙ ended.groups_are ∙ ap (λ (j : Job). Is (Ok j.groups)) (sym ended.job_is);
+      }
+
+  told_from : (items : Items) (o : Outcome) (list : List Atom) (w : World) → atoms F C items ≡ Goes list tt w → Came (all_taken F C nothing_cut list) (λ c. finished F C w c) o → Told F C items o
+  told_from items o list w gives (c, is, e) = told_as items o list w c gives is (are_stretched F C items list w gives) (ended_as w c o e)
+
+  told_by : (items : Items) (o : Outcome) (work : Work (Unit {0})) → atoms F C items ≡ work → cut F C work ≡ Is (Ok o) → Told F C items o
+  told_by items o (Goes list u w) gives e = told_from items o list w gives (came (all_taken F C nothing_cut list) (λ c. finished F C w c) o e)
+  told_by items o (Refuses list fault) gives e = by (came (all_taken F C nothing_cut list) (λ c. Is (Err fault)) o e)
+    where
+      by : Came (all_taken F C nothing_cut list) (λ c. Is (Err fault)) o → Told F C items o
+      by (c, is, f) = absurd cc
+  told_by items o (Waits list) gives e = by (came (all_taken F C nothing_cut list) (λ c. Unasked) o e)
+    where
+      by : Came (all_taken F C nothing_cut list) (λ c. Unasked) o → Told F C items o
+      by (c, is, f) = absurd cc
+
+  pub told : (items : Items) (o : Outcome) → outcome F C items ≡ Is (Ok o) → Told F C items o
+  told items o e = told_by items o (atoms F C items) refl e
