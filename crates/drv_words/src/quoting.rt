@@ -8,11 +8,17 @@ use crate::Word;
 use std::alloc::{AllocError, Global};
 
 /// Whether a byte needs no quotes: a letter, a digit or one of `./-_`. Small letters come first, since most bytes are
-/// those; `-`, `.` and `/` stand right before the digits.
+/// those, and what is below decides alone; `-`, `.` and `/` stand right before the digits.
 pub(crate) fn is_plain_byte(byte: u8) -> bool
     ensures { result ≡ is_plain byte }
 {
-    matches!(byte, b'a'..=b'z' | b'-'..=b'9' | b'A'..=b'Z' | b'_')
+    if byte >= b'a' {
+        return byte <= b'z';
+    }
+    if byte >= b'A' {
+        return byte <= b'Z' || byte == b'_';
+    }
+    byte >= b'-' && byte <= b'9'
 }
 
 /// Whether a backslash stands before a byte between double quotes.
