@@ -29,19 +29,19 @@ itself_by path answer (inr e) = ap (λ a. Is (by_answer path a)) e
 record Parts (F : Facts) (left : ℕ) (front words : List (List ℕ)) (left' : ℕ) (out : List (List ℕ)) : Type 0 where
   mid : ℕ
   out_front : List (List ℕ)
-  out_behind : List (List ℕ)
-  is : out ≡ out_front ++ out_behind
+  out_after : List (List ℕ)
+  is : out ≡ out_front ++ out_after
   first : Responds F left front mid out_front
-  second : Responds F mid words left' out_behind
+  second : Responds F mid words left' out_after
 
 parts_of : {F : Facts} {left left' : ℕ} {out : List (List ℕ)} (front words : List (List ℕ)) → Responds F left (front ++ words) left' out → Parts F left front words left' out
-parts_of {left = left} {out = out} [] words all = record { mid = left; out_front = []; out_behind = out; is = refl; first = no_word; second = all }
+parts_of {left = left} {out = out} [] words all = record { mid = left; out_front = []; out_after = out; is = refl; first = no_word; second = all }
 parts_of (word ∷ front) words (itself {word = w} m rest) =
     let p = parts_of front words rest in
-    record { mid = p.mid; out_front = w ∷ p.out_front; out_behind = p.out_behind; is = ap (λ o. w ∷ o) p.is; first = itself m p.first; second = p.second }
+    record { mid = p.mid; out_front = w ∷ p.out_front; out_after = p.out_after; is = ap (λ o. w ∷ o) p.is; first = itself m p.first; second = p.second }
 parts_of (word ∷ front) words (by_text {out = o} m splits inner rest) =
     let p = parts_of front words rest in
-    record { mid = p.mid; out_front = o ++ p.out_front; out_behind = p.out_behind; is = ap (λ b. o ++ b) p.is ∙ sym (append_assoc o p.out_front p.out_behind); first = by_text m splits inner p.first; second = p.second }
+    record { mid = p.mid; out_front = o ++ p.out_front; out_after = p.out_after; is = ap (λ b. o ++ b) p.is ∙ sym (append_assoc o p.out_front p.out_after); first = by_text m splits inner p.first; second = p.second }
 
 -- a refusal in words in front, or in those behind them
 data Refused (F : Facts) (left : ℕ) (front words : List (List ℕ)) (fault : ArgsFault) : Type 0 where
@@ -85,7 +85,7 @@ goes_by_text F left word text inner words out args m splits goes = record {
   responds = λ left' more r.
       let p : Parts F left inner words left' more = parts_of inner words r in
       let P : List (List ℕ) → Type 0 = λ o. Responds F 2000 args left' (out ++ o) in
-      subst P (sym p.is) (goes.responds left' (p.out_front ++ p.out_behind) (by_text m splits p.first p.second));
+      subst P (sym p.is) (goes.responds left' (p.out_front ++ p.out_after) (by_text m splits p.first p.second));
   refuses = λ fault r. goes.refuses fault (refused (refused_of inner words r));
 }
   where
@@ -180,10 +180,10 @@ stay_goes F left left' stack rest stack' word inner out out' args popped one sam
     let Q : List (List ℕ) → Type 0 = λ ws. GoesOn F left' (reverse ws) (out ++ inner) args in
     let R : ℕ → Type 0 = λ n. GoesOn F n (word ∷ reverse rest) out args in
     let S : List (List ℕ) → Type 0 = λ ws. GoesOn F left ws out args in
-    subst P (sym more) (subst Q (sym same) (behind_text (subst R one (subst S (next_is stack rest word popped) goes))))
+    subst P (sym more) (subst Q (sym same) (after_text (subst R one (subst S (next_is stack rest word popped) goes))))
   where
-    behind_text : GoesOn F (suc left') (word ∷ reverse rest) out args → GoesOn F left' (reverse rest) (out ++ inner) args
-    behind_text goes = record {
+    after_text : GoesOn F (suc left') (word ∷ reverse rest) out args → GoesOn F left' (reverse rest) (out ++ inner) args
+    after_text goes = record {
       responds = λ last after r.
           let T : List (List ℕ) → Type 0 = λ o. Responds F 2000 args last o in
           subst T (sym (append_assoc out inner after)) (goes.responds last (inner ++ after) (by_text m splits (themselves F left' inner none) r));

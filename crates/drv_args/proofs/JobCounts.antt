@@ -1,6 +1,6 @@
 use Rattle.drv_args.specs.Fronts.{Item, items_of}
 use Rattle.drv_args.specs.Jobs.{in_range, jobs_named, number_of}
-use Rattle.drv_args.specs.Lines.{jobs_behind, judged, judged_line, last_jobs, line_fault, line_of, line_of_items, line_read}
+use Rattle.drv_args.specs.Lines.{jobs_after, judged, judged_line, last_jobs, line_fault, line_of, line_of_items, line_read}
 use Rattle.drv_args.specs.declared.fault.ArgsFault.TheVariants.{Memory, TooManyArguments}
 use Rattle.drv_args.specs.declared.fault.ArgsFault.{ArgsFault}
 use Rattle.drv_args.specs.declared.line.Expanded.{Expanded}
@@ -43,24 +43,24 @@ given : (number : Option ℕ) (jobs : ℕ) → IfSome number Few → Few jobs �
 given None jobs few before = before
 given (Some n) jobs few before = few
 
-behind_few : (e : Effect) (argument : List ℕ) (jobs : ℕ) → Few jobs → Few (jobs_behind e argument jobs)
-behind_few (effect.TurnsOn setting) argument jobs few = few
-behind_few effect.Switch argument jobs few = few
-behind_few effect.SwitchWithArgument argument jobs few = few
-behind_few effect.JoinedSwitch argument jobs few = few
-behind_few effect.Specs argument jobs few = few
-behind_few effect.Prefix argument jobs few = few
-behind_few effect.Output argument jobs few = few
-behind_few effect.Language argument jobs few = few
-behind_few effect.Library argument jobs few = few
-behind_few (effect.Pieces tool) argument jobs few = few
-behind_few (effect.Piece tool) argument jobs few = few
-behind_few effect.Jobs argument jobs few = given (jobs_named argument) jobs (named argument) few
-behind_few effect.File argument jobs few = few
+after_few : (e : Effect) (argument : List ℕ) (jobs : ℕ) → Few jobs → Few (jobs_after e argument jobs)
+after_few (effect.TurnsOn setting) argument jobs few = few
+after_few effect.Switch argument jobs few = few
+after_few effect.SwitchWithArgument argument jobs few = few
+after_few effect.JoinedSwitch argument jobs few = few
+after_few effect.Specs argument jobs few = few
+after_few effect.Prefix argument jobs few = few
+after_few effect.Output argument jobs few = few
+after_few effect.Language argument jobs few = few
+after_few effect.Library argument jobs few = few
+after_few (effect.Pieces tool) argument jobs few = few
+after_few (effect.Piece tool) argument jobs few = few
+after_few effect.Jobs argument jobs few = given (jobs_named argument) jobs (named argument) few
+after_few effect.File argument jobs few = few
 
 last_few : (jobs : ℕ) (items : List Item) → Few jobs → Few (last_jobs jobs items)
 last_few jobs [] few = few
-last_few jobs (i ∷ items) few = last_few (jobs_behind i.effect i.argument jobs) items (behind_few i.effect i.argument jobs few)
+last_few jobs (i ∷ items) few = last_few (jobs_after i.effect i.argument jobs) items (after_few i.effect i.argument jobs few)
 
 judged_few : (whole line : Line) (found : Option ArgsFault) → Few whole.settings.jobs → judged whole found ≡ Ok line → Few line.settings.jobs
 judged_few whole line (Some fault) few is = absurd cc

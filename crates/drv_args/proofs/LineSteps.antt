@@ -56,8 +56,8 @@ pub last_line : (left : List (List ℕ)) (b : LineBuilder) (whole : Result Line 
 last_line [] b whole none so_far = sym so_far ∙ ap Ok (no_items b)
 last_line (word ∷ words) b whole none so_far = absurd (omega arith)
 
-behind_first : (word : List ℕ) (words : List (List ℕ)) → take (length (word ∷ words) - 1) words ≡ words
-behind_first word words = take_all (length (word ∷ words) - 1) words (omega arith)
+after_first : (word : List ℕ) (words : List (List ℕ)) → take (length (word ∷ words) - 1) words ≡ words
+after_first word words = take_all (length (word ∷ words) - 1) words (omega arith)
 
 -- the next word is a front by itself
 pub alone_next : (left : List (List ℕ)) (word bytes : List ℕ) (b b' : LineBuilder) (effect : Effect) (option argument : List ℕ) (whole : Result Line ArgsFault)
@@ -67,7 +67,7 @@ alone_next [] word bytes b b' effect option argument whole some first same start
 alone_next (w ∷ words) word bytes b b' effect option argument whole some first same starts noted_is so_far =
     let i = item effect option argument in
     ap (λ c. line_with c (items_of (take (length (w ∷ words) - 1) words))) noted_is
-    ∙ ap (λ l. line_with (noted b i) (items_of l)) (behind_first w words)
+    ∙ ap (λ l. line_with (noted b i) (items_of l)) (after_first w words)
     ∙ note_line b i (items_of words)
     ∙ ap (line_with b) (sym (alone_first w i words (ap start_of (sym (same ∙ first)) ∙ sym starts)))
     ∙ so_far
@@ -81,10 +81,10 @@ pub wants_next : (left : List (List ℕ)) (word bytes next next_bytes : List ℕ
 wants_next [] word bytes next next_bytes b b' effect option whole some first same starts more second alike noted_is so_far = absurd (omega arith)
 wants_next (w ∷ []) word bytes next next_bytes b b' effect option whole some first same starts more second alike noted_is so_far = absurd (omega arith)
 wants_next (w ∷ n ∷ words) word bytes next next_bytes b b' effect option whole some first same starts more second alike noted_is so_far =
-    let behind = behind_first w (n ∷ words) in
+    let behind = after_first w (n ∷ words) in
     let is_next : next_bytes ≡ n = alike ∙ second ∙ ap (λ l. get_or l 0 next) behind in
     let i = item effect option n in
-    noted_on b' (noted b (item effect option next_bytes)) (noted b i) _ words noted_is (ap (λ a. noted b (item effect option a)) is_next) (ap (λ l. take (length l - 1) (drop 1 l)) behind ∙ behind_first n words)
+    noted_on b' (noted b (item effect option next_bytes)) (noted b i) _ words noted_is (ap (λ a. noted b (item effect option a)) is_next) (ap (λ l. take (length l - 1) (drop 1 l)) behind ∙ after_first n words)
     ∙ note_line b i (items_of words)
     ∙ ap (line_with b) (sym (with_next_first w n option effect words (ap start_of (sym (same ∙ first)) ∙ sym starts)))
     ∙ so_far

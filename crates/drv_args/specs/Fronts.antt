@@ -88,9 +88,9 @@ at_last Bad word = Err (BadJobs word)
 
 -- a word with others behind it: what those come to, the next one included or not
 abbrev pub at_word : Start → List ℕ → List ℕ → Result (List Item) ArgsFault → Result (List Item) ArgsFault → Result (List Item) ArgsFault
-at_word (Alone i) word next from_next behind_next = and_items i from_next
-at_word (Wants effect option) word next from_next behind_next = and_items (item effect option next) behind_next
-at_word Bad word next from_next behind_next = Err (BadJobs word)
+at_word (Alone i) word next from_next after_next = and_items i from_next
+at_word (Wants effect option) word next from_next after_next = and_items (item effect option next) after_next
+at_word Bad word next from_next after_next = Err (BadJobs word)
 
 abbrev pub items_of : List (List ℕ) → Result (List Item) ArgsFault
 items_of [] = Ok []

@@ -66,9 +66,9 @@ preprocessor_pieces _ argument = []
 abbrev pub language_of : List ℕ → Option (List ℕ)
 language_of word = if same word (codes "none") then None else Some word
 
-abbrev pub language_behind : Effect → List ℕ → Option (List ℕ) → Option (List ℕ)
-language_behind effect.Language argument language = language_of argument
-language_behind _ argument language = language
+abbrev pub language_after : Effect → List ℕ → Option (List ℕ) → Option (List ℕ)
+language_after effect.Language argument language = language_of argument
+language_after _ argument language = language
 
 abbrev pub inputs_at : Effect → List ℕ → List ℕ → Option (List ℕ) → List Input
 inputs_at effect.File option argument language = input.File option language ∷ []
@@ -80,7 +80,7 @@ inputs_at _ option argument language = []
 -- the inputs, with the language that is in force before them
 abbrev pub inputs_of : Option (List ℕ) → List Item → List Input
 inputs_of language [] = []
-inputs_of language (i ∷ items) = inputs_at i.effect i.option i.argument language ++ inputs_of (language_behind i.effect i.argument language) items
+inputs_of language (i ∷ items) = inputs_at i.effect i.option i.argument language ++ inputs_of (language_after i.effect i.argument language) items
 
 abbrev pub turns_on : Setting → Effect → Bool
 turns_on setting.Dry (effect.TurnsOn setting.Dry) = true
@@ -111,13 +111,13 @@ prefix_of effect.Prefix argument = Some argument
 prefix_of _ argument = None
 
 -- how many sources are worked at once: the last number counts
-abbrev pub jobs_behind : Effect → List ℕ → ℕ → ℕ
-jobs_behind effect.Jobs argument jobs = unwrap_or (jobs_named argument) jobs
-jobs_behind _ argument jobs = jobs
+abbrev pub jobs_after : Effect → List ℕ → ℕ → ℕ
+jobs_after effect.Jobs argument jobs = unwrap_or (jobs_named argument) jobs
+jobs_after _ argument jobs = jobs
 
 abbrev pub last_jobs : ℕ → List Item → ℕ
 last_jobs jobs [] = jobs
-last_jobs jobs (i ∷ items) = last_jobs (jobs_behind i.effect i.argument jobs) items
+last_jobs jobs (i ∷ items) = last_jobs (jobs_after i.effect i.argument jobs) items
 
 abbrev pub line_of : Bool → List Item → Line
 line_of from_file items = record {

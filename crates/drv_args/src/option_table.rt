@@ -167,7 +167,7 @@ const WITH_I: &[Row] = separate!(
 /// The rows whose option begins with `-` and this byte, in the order of the table (GCC manual,
 /// "Overall Options", "Directory Options", "Preprocessor Options", "Link Options"; which forms an
 /// option has is this project's profile).
-pub(crate) fn rows_behind(letter: u8) -> &'static [Row]
+pub(crate) fn rows_after(letter: u8) -> &'static [Row]
     ensures { map shown result.now ≡ filter (may_fit letter) option_table }
 {
     match letter {

@@ -14,7 +14,7 @@ ghost use Rattle.std.specs.Prelude.{◌≡◌, ◌≤◌, IfOk, drop, find, leng
 use crate::building::LineBuilder;
 use crate::jobs::jobs_named;
 use crate::judging::judge;
-use crate::option_table::{Effect, Form, Row, rows_behind};
+use crate::option_table::{Effect, Form, Row, rows_after};
 use crate::{ArgsFault, Expanded, Line};
 use drv_words::Word;
 use std::alloc::Global;
@@ -92,7 +92,7 @@ enum Start<'a> {
 }
 
 /// The rest of a word behind an option.
-fn rest_behind<'a>(word: &'a [u8], option: &[u8]) -> &'a [u8]
+fn rest_after<'a>(word: &'a [u8], option: &[u8]) -> &'a [u8]
     ensures { result.now ≡ drop (length option.now) word.now }
 {
     if option.len() <= word.len() {
@@ -121,7 +121,7 @@ fn start_by_row<'a>(row: Row, word: &'a [u8]) -> Start<'a>
         form,
         effect,
     } = row;
-    let argument = rest_behind(word, option);
+    let argument = rest_after(word, option);
     if is_bad(effect, argument) {
         return Start::Bad;
     }
@@ -152,7 +152,7 @@ fn start_of<'a>(word: &'a [u8]) -> Start<'a>
             argument: &[],
         };
     };
-    match first_fit(rows_behind(*letter), word) {
+    match first_fit(rows_after(*letter), word) {
         Some(row) => start_by_row(row, word),
         None => Start::Alone {
             effect: Effect::Switch,

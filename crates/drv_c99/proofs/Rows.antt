@@ -21,14 +21,14 @@ gives text = Ok (words text)
 all_kinds : front (codes "-U A -D A=1 x.c -l m -o p -###") ≡ gives (codes "-std=c99 -D A=1 -U A x.c -lm -o p -###")
 all_kinds = refl
 
-behind_the_end : front (codes "-- -l m -q.c") ≡ gives (codes "-std=c99 -lm ./-q.c")
-behind_the_end = refl
+after_the_end : front (codes "-- -l m -q.c") ≡ gives (codes "-std=c99 -lm ./-q.c")
+after_the_end = refl
 
 joined : front (codes "-U A x.c -DA -LB") ≡ gives (codes "-std=c99 -D A -U A x.c -L B")
 joined = refl
 
-hyphens_behind_the_end : front (codes "-c -- - -### -- -") ≡ gives (codes "-std=c99 -c ./- ./-### ./-- ./-")
-hyphens_behind_the_end = refl
+hyphens_after_the_end : front (codes "-c -- - -### -- -") ≡ gives (codes "-std=c99 -c ./- ./-### ./-- ./-")
+hyphens_after_the_end = refl
 
 standard_input : front (codes "-E -g -s -") ≡ gives (codes "-std=c99 -E -g -s -")
 standard_input = refl

@@ -47,8 +47,8 @@ note_rest f f' (Ok i) (Ok items) is =
 note_rest f f' (Ok i) (Err fault) is = refl
 note_rest f f' (Err fault) rest is = absurd cc
 
-behind_first : (word : List ℕ) (words : List (List ℕ)) → take (length (word ∷ words) - 1) words ≡ words
-behind_first word words = take_all (length (word ∷ words) - 1) words (omega arith)
+after_first : (word : List ℕ) (words : List (List ℕ)) → take (length (word ∷ words) - 1) words ≡ words
+after_first word words = take_all (length (word ∷ words) - 1) words (omega arith)
 
 -- The next word, by how it begins.
 
@@ -56,7 +56,7 @@ next_is : (w : List ℕ) (words : List (List ℕ)) (part : Part) (f f' : Front) 
     → items_of part (w ∷ words) ≡ and_items r (items_of part words) → noted f r ≡ Ok f' → front_with f (items_of part (w ∷ words)) ≡ whole
     → front_with f' (items_of part (take (length (w ∷ words) - 1) words)) ≡ whole
 next_is w words part f f' r whole first added so_far =
-    ap (λ l. front_with f' (items_of part l)) (behind_first w words) ∙ note_rest f f' r (items_of part words) added ∙ ap (front_with f) (sym first) ∙ so_far
+    ap (λ l. front_with f' (items_of part l)) (after_first w words) ∙ note_rest f f' r (items_of part words) added ∙ ap (front_with f) (sym first) ∙ so_far
 
 pub flag_next : (left : List (List ℕ)) (word bytes : List ℕ) (part : Part) (f f' : Front) (whole : Result (List (List ℕ)) C99Fault)
     → 1 ≤ length left → word ≡ get_or left 0 word → bytes ≡ word → Flag ≡ start_of part bytes → noted f (Ok (Passed (bytes ∷ []))) ≡ Ok f'
@@ -99,7 +99,7 @@ pub ends_next : (left : List (List ℕ)) (word bytes : List ℕ) (part : Part) (
     → front_with f (items_of part left) ≡ whole → front_with f (items_of BehindEnd (take (length left - 1) (drop 1 left))) ≡ whole
 ends_next [] word bytes part f whole some first same starts so_far = absurd (omega arith)
 ends_next (w ∷ words) word bytes part f whole some first same starts so_far =
-    ap (λ l. front_with f (items_of BehindEnd l)) (behind_first w words) ∙ ap (front_with f) (sym (ends_first part w words (ap (start_of part) (sym (same ∙ first)) ∙ sym starts))) ∙ so_far
+    ap (λ l. front_with f (items_of BehindEnd l)) (after_first w words) ∙ ap (front_with f) (sym (ends_first part w words (ap (start_of part) (sym (same ∙ first)) ∙ sym starts))) ∙ so_far
 
 -- An option that wants the next word.
 
@@ -111,9 +111,9 @@ pub wants_next : (left : List (List ℕ)) (word bytes next next_bytes : List ℕ
 wants_next [] word bytes next next_bytes option part f f' whole some first same starts more second alike added so_far = absurd (omega arith)
 wants_next (w ∷ []) word bytes next next_bytes option part f f' whole some first same starts more second alike added so_far = absurd (omega arith)
 wants_next (w ∷ n ∷ words) word bytes next next_bytes option part f f' whole some first same starts more second alike added so_far =
-    let behind = behind_first w (n ∷ words) in
+    let behind = after_first w (n ∷ words) in
     let is_next : next_bytes ≡ n = alike ∙ second ∙ ap (λ l. get_or l 0 next) behind in
-    ap (λ l. front_with f' (items_of part l)) (ap (λ l. take (length l - 1) (drop 1 l)) behind ∙ behind_first n words)
+    ap (λ l. front_with f' (items_of part l)) (ap (λ l. take (length l - 1) (drop 1 l)) behind ∙ after_first n words)
     ∙ note_rest f f' (given option n) (items_of part words) (ap (λ b. noted f (given option b)) (sym is_next) ∙ added)
     ∙ ap (front_with f) (sym (wants_first part option w n words (ap (start_of part) (sym (same ∙ first)) ∙ sym starts)))
     ∙ so_far
@@ -141,7 +141,7 @@ wants_refused : (left : List (List ℕ)) (word bytes next next_bytes : List ℕ)
 wants_refused [] word bytes next next_bytes option part f fault whole some first same starts more second alike refused so_far = absurd (omega arith)
 wants_refused (w ∷ []) word bytes next next_bytes option part f fault whole some first same starts more second alike refused so_far = absurd (omega arith)
 wants_refused (w ∷ n ∷ words) word bytes next next_bytes option part f fault whole some first same starts more second alike refused so_far =
-    let is_next : next_bytes ≡ n = alike ∙ second ∙ ap (λ l. get_or l 0 next) (behind_first w (n ∷ words)) in
+    let is_next : next_bytes ≡ n = alike ∙ second ∙ ap (λ l. get_or l 0 next) (after_first w (n ∷ words)) in
     sym so_far
     ∙ ap (front_with f) (wants_first part option w n words (ap (start_of part) (sym (same ∙ first)) ∙ sym starts))
     ∙ refused_rest f (given option n) fault (items_of part words) (ap (λ b. noted f (given option b)) (sym is_next) ∙ refused)

@@ -73,13 +73,13 @@ abbrev pub hyphened_start : List ℕ → Start
 hyphened_start [] = Names (codes "./")
 hyphened_start (letter ∷ rest) = if pointwise nat_eq (hyphen ∷ letter ∷ []) (codes "-l") then with_argument Library rest else Names (codes "./")
 
-abbrev pub start_behind : List ℕ → Start
-start_behind [] = Names []
-start_behind (b ∷ rest) = if b == hyphen then hyphened_start rest else Names []
+abbrev pub start_after : List ℕ → Start
+start_after [] = Names []
+start_after (b ∷ rest) = if b == hyphen then hyphened_start rest else Names []
 
 abbrev pub start_of : Part → List ℕ → Start
 start_of BeforeEnd word = start_before word
-start_of BehindEnd word = start_behind word
+start_of BehindEnd word = start_after word
 
 -- an option with its argument: the level is 0 or 1, and a library has a name
 abbrev pub with_level : Bool → List ℕ → Result Item C99Fault
@@ -117,12 +117,12 @@ at_last Unknown word = Err (UnknownOption word)
 
 -- a word with others behind it: what those come to, the next one included, left out, or where the options have ended
 abbrev pub at_word : Start → List ℕ → List ℕ → Result (List Item) C99Fault → Result (List Item) C99Fault → Result (List Item) C99Fault → Result (List Item) C99Fault
-at_word Flag word next from_next behind_next ended = and_items (Ok (Passed (word ∷ []))) from_next
-at_word (Names prefix) word next from_next behind_next ended = and_items (Ok (Operand (prefix ++ word))) from_next
-at_word (Joined option argument) word next from_next behind_next ended = and_items (given option argument) from_next
-at_word (Wants option) word next from_next behind_next ended = and_items (given option next) behind_next
-at_word Ends word next from_next behind_next ended = ended
-at_word Unknown word next from_next behind_next ended = Err (UnknownOption word)
+at_word Flag word next from_next after_next ended = and_items (Ok (Passed (word ∷ []))) from_next
+at_word (Names prefix) word next from_next after_next ended = and_items (Ok (Operand (prefix ++ word))) from_next
+at_word (Joined option argument) word next from_next after_next ended = and_items (given option argument) from_next
+at_word (Wants option) word next from_next after_next ended = and_items (given option next) after_next
+at_word Ends word next from_next after_next ended = ended
+at_word Unknown word next from_next after_next ended = Err (UnknownOption word)
 
 abbrev pub items_of : Part → List (List ℕ) → Result (List Item) C99Fault
 items_of part [] = Ok []

@@ -127,7 +127,7 @@ impl Front {
     }
 
     /// Moves its words behind others: what is defined, what is undefined, and all else.
-    fn move_behind(&mut self, alloc: Global, words: &mut Vec<Word>) -> Result<(), AllocError>
+    fn move_after(&mut self, alloc: Global, words: &mut Vec<Word>) -> Result<(), AllocError>
         ensures { OnOk result (words.new.items
             ≡ words.old.items ++ self.old.defined ++ self.old.undefined ++ self.old.others) }
     {
@@ -148,7 +148,7 @@ impl Front {
         }
         let mut words = Vec::new(alloc);
         words.push(Word::from_bytes(alloc, b"-std=c99")?)?;
-        self.move_behind(alloc, &mut words)?;
+        self.move_after(alloc, &mut words)?;
         Ok(Listing::from_vec(words))
     }
 }

@@ -1,7 +1,7 @@
 //! The options that take an argument, and how a word begins.
 
 ghost use Rattle.drv_c99.specs.Code.Building.{start_shown};
-ghost use Rattle.drv_c99.specs.Front.{name_of, option_start, options, start_before, start_behind, start_of, with_argument};
+ghost use Rattle.drv_c99.specs.Front.{name_of, option_start, options, start_before, start_after, start_of, with_argument};
 ghost use Rattle.drv_words.specs.Bytes.{hyphen};
 ghost use Rattle.std.specs.Cmp.Lexicographic.{pointwise};
 ghost use Rattle.std.specs.Map.{lookup};
@@ -114,8 +114,8 @@ fn start_before<'a>(word: &'a [u8]) -> Start<'a>
 }
 
 /// How a word begins behind the end of the options.
-fn start_behind<'a>(word: &'a [u8]) -> Start<'a>
-    ensures { start_shown result ≡ start_behind word.now }
+fn start_after<'a>(word: &'a [u8]) -> Start<'a>
+    ensures { start_shown result ≡ start_after word.now }
 {
     match word {
         [b'-', b'l', rest @ ..] => with_argument(Taking::Library, rest),
@@ -139,6 +139,6 @@ pub(crate) fn start_of<'a>(part: Part, word: &'a [u8]) -> Start<'a>
 {
     match part {
         Part::BeforeEnd => start_before(word),
-        Part::BehindEnd => start_behind(word),
+        Part::BehindEnd => start_after(word),
     }
 }

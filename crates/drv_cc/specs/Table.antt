@@ -37,16 +37,16 @@ abbrev pub option_of : List ℕ → List ℕ
 option_of [] = []
 option_of (b ∷ entry) = if b == greater_than then [] else b ∷ option_of entry
 
-abbrev pub name_behind : List ℕ → List ℕ
-name_behind [] = []
-name_behind (b ∷ entry) = if b == greater_than then entry else name_behind entry
+abbrev pub name_after : List ℕ → List ℕ
+name_after [] = []
+name_after (b ∷ entry) = if b == greater_than then entry else name_after entry
 
 abbrev pub or_itself : List ℕ → List ℕ → List ℕ
 or_itself [] entry = entry
 or_itself (b ∷ name) entry = b ∷ name
 
 abbrev pub row_of : Section → List ℕ → OptionRow
-row_of s entry = record { option = option_of entry; takes = s.takes; name = or_itself (name_behind entry) entry; form = s.form; part = s.part }
+row_of s entry = record { option = option_of entry; takes = s.takes; name = or_itself (name_after entry) entry; form = s.form; part = s.part }
 
 abbrev pub section_rows : Section → List OptionRow
 section_rows s = map (row_of s) (texts s.entries)

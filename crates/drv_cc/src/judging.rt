@@ -8,7 +8,7 @@ ghost use Rattle.std.specs.Prelude.{◌≡◌, ◌++◌, IfOk, OnOk};
 use crate::Refusal;
 use crate::item::Item;
 use crate::keeping::{has, has_input};
-use crate::reading::rest_behind;
+use crate::reading::rest_after;
 use crate::table::Part;
 use drv_words::{Listing, Word};
 use std::alloc::{AllocError, Global};
@@ -48,7 +48,7 @@ fn has_name(named: &[Word], switch: &[u8]) -> bool
 fn is_named(named: &[Word], word: &[u8]) -> bool
     ensures { result ≡ is_named named.now word.now }
 {
-    !word.starts_with(b"--gdrv-") && has_name(named, rest_behind(word, b"-"))
+    !word.starts_with(b"--gdrv-") && has_name(named, rest_after(word, b"-"))
 }
 
 /// Adds the refusal of an item, if it is refused.

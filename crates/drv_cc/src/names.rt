@@ -4,7 +4,7 @@ ghost use Rattle.drv_cc.specs.SideFiles.{base, folder, parted, stem, suffix};
 ghost use Rattle.std.specs.Option.{option_map};
 ghost use Rattle.std.specs.Prelude.{◌≡◌};
 
-use crate::reading::rest_behind;
+use crate::reading::rest_after;
 
 /// The bytes before the last one of a kind, and those behind it, if there is one.
 pub(crate) fn parted(mark: u8, name: &[u8]) -> Option<(&[u8], &[u8])>
@@ -53,5 +53,5 @@ pub(crate) fn stem(name: &[u8]) -> &[u8]
 pub(crate) fn suffix(name: &[u8]) -> &[u8]
     ensures { result.now ≡ suffix name.now }
 {
-    rest_behind(base(name), stem(name))
+    rest_after(base(name), stem(name))
 }

@@ -8,7 +8,7 @@ use crate::adding::add_thread_words;
 use crate::classes::is;
 use crate::item::Item;
 use crate::keeping::has;
-use crate::reading::rest_behind;
+use crate::reading::rest_after;
 use crate::sides::{link_beginning, stops};
 use crate::table::Part;
 use crate::{Surroundings, Variable};
@@ -147,7 +147,7 @@ fn assembler_line(alloc: Global, items: &[Item]) -> Result<Word, AllocError>
 {
     let mut text = Word::empty(alloc);
     add_all_pieces(items, &mut text)?;
-    Word::from_bytes(alloc, rest_behind(text.as_bytes(), b" "))
+    Word::from_bytes(alloc, rest_after(text.as_bytes(), b" "))
 }
 
 /// Whether there are pieces for the assembler.

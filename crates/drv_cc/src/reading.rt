@@ -21,7 +21,7 @@ enum Start {
 }
 
 /// The rest of a word behind an option.
-pub(crate) fn rest_behind<'a>(word: &'a [u8], option: &[u8]) -> &'a [u8]
+pub(crate) fn rest_after<'a>(word: &'a [u8], option: &[u8]) -> &'a [u8]
     ensures { result.now ≡ drop (length option.now) word.now }
 {
     if option.len() <= word.len() {
@@ -90,7 +90,7 @@ fn start_renamed(alloc: Global, known: &[Word], word: &[u8]) -> Result<Start, Al
 {
     let name = renamed(alloc, word)?;
     match first_row(name.as_bytes()) {
-        Some(row) => with_rest(alloc, row, rest_behind(name.as_bytes(), row.option)),
+        Some(row) => with_rest(alloc, row, rest_after(name.as_bytes(), row.option)),
         None => Ok(Start::Whole(beyond(alloc, known, word, name.as_bytes())?)),
     }
 }
@@ -110,7 +110,7 @@ fn start_of(alloc: Global, known: &[Word], word: &[u8]) -> Result<Start, AllocEr
         return Ok(Start::Whole(Item::plain(alloc, Part::Input, word)?));
     }
     match first_row(word) {
-        Some(row) => with_rest(alloc, row, rest_behind(word, row.option)),
+        Some(row) => with_rest(alloc, row, rest_after(word, row.option)),
         None => start_renamed(alloc, known, word),
     }
 }

@@ -6,7 +6,7 @@ ghost use Rattle.drv_cc.specs.Table.{renames};
 ghost use Rattle.std.specs.Option.{option_map};
 ghost use Rattle.std.specs.Prelude.{◌≡◌, IfOk, find, map};
 
-use crate::reading::rest_behind;
+use crate::reading::rest_after;
 use drv_words::Word;
 use std::alloc::{AllocError, Global};
 
@@ -71,6 +71,6 @@ pub(crate) fn renamed(alloc: Global, word: &[u8]) -> Result<Word, AllocError>
         return Word::from_bytes(alloc, word);
     };
     let mut name = Word::from_bytes(alloc, rename.to)?;
-    name.extend_from_slice(rest_behind(word, rename.from))?;
+    name.extend_from_slice(rest_after(word, rename.from))?;
     Ok(name)
 }

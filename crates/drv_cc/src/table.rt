@@ -2,7 +2,7 @@
 
 ghost use Rattle.drv_cc.specs.Code.Building.{section_shown, shown};
 ghost use Rattle.drv_cc.specs.Items.{first_row, fits, option_fits, takes_rest};
-ghost use Rattle.drv_cc.specs.Table.{name_behind, option_of, or_itself, row_of, section_rows, texts};
+ghost use Rattle.drv_cc.specs.Table.{name_after, option_of, or_itself, row_of, section_rows, texts};
 ghost use Rattle.std.specs.Option.{option_map};
 ghost use Rattle.std.specs.Prelude.{◌≡◌, find};
 
@@ -124,7 +124,7 @@ fn option_of(entry: &[u8]) -> &[u8]
 
 /// The name that an entry's option is called by.
 fn name_of(entry: &[u8]) -> &[u8]
-    ensures { result.now ≡ or_itself (name_behind entry.now) entry.now }
+    ensures { result.now ≡ or_itself (name_after entry.now) entry.now }
 {
     let mut i = 0;
     while i < entry.len() {

@@ -205,8 +205,8 @@ at_next jobs N f blocks keep c lt = ap (λ (t : Bool). t && (nat_eq (count f.nex
         by true e = ap (λ (t : Bool). t && true) (less (n + 1) (N + 1) (let l : n < N = is_less n N e in omega (arith, l)))
         by false e = ap (λ (t : Bool). t && true) (not_less (n + 1) (N + 1) (let l : N ≤ n = is_not_less n N e in omega (arith, l)))
 
-behind_next : (jobs : List Job) (N : ℕ) (f : Fleet) (blocks : List SourceBlock) → Counts jobs N f blocks → (k : ℕ) → k < length jobs → f.next < k → test jobs N f blocks k ≡ false
-behind_next jobs N f blocks c k lt past = ap (λ (t : Bool). left (stage_in f k) && (t && rest)) none ∙ and_none (left (stage_in f k))
+after_next : (jobs : List Job) (N : ℕ) (f : Fleet) (blocks : List SourceBlock) → Counts jobs N f blocks → (k : ℕ) → k < length jobs → f.next < k → test jobs N f blocks k ≡ false
+after_next jobs N f blocks c k lt past = ap (λ (t : Bool). left (stage_in f k) && (t && rest)) none ∙ and_none (left (stage_in f k))
   where
     rest : Bool
     rest = nat_lt (count (length jobs) (λ j. (has j blocks || nat_eq j k) && left (stage_in f j))) (N + 1) && (not (nat_lt 0 (pending (stage_in f k))) || nat_eq (count (length jobs) (λ j. in_flight (of j blocks))) (min N (count (length jobs) (λ j. left (stage_in f j)))))
@@ -229,7 +229,7 @@ able_is jobs N f blocks keep c = ap (λ l. l ++ (if may_begin jobs f then f.next
     by true e =
         let lt : f.next < length jobs = is_less f.next (length jobs) e in
         ap (λ (u : Bool). listed f.next (test jobs N f blocks) ++ (if u then f.next ∷ [] else [])) (sym (at_next jobs N f blocks keep c lt))
-        ∙ sym (listed_up_to (suc f.next) (length jobs) (test jobs N f blocks) (omega (arith, lt)) (λ j le below. behind_next jobs N f blocks c j below (omega (arith, le))))
+        ∙ sym (listed_up_to (suc f.next) (length jobs) (test jobs N f blocks) (omega (arith, lt)) (λ j le below. after_next jobs N f blocks c j below (omega (arith, le))))
     by false e =
         let all : f.next ≡ length jobs = (let le = c.next_within in let ge : length jobs ≤ f.next = is_not_less f.next (length jobs) e in omega (arith, le, ge)) in
         append-nil (listed f.next (test jobs N f blocks)) ∙ ap (λ n. listed n (test jobs N f blocks)) all

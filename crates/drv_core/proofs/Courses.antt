@@ -10,7 +10,7 @@ use Rattle.drv_core.proofs.Sure.{Over, Sure, sure_fewer, sure_makes, sure_starts
 use Rattle.drv_core.proofs.Able.{sure_selected}
 use Rattle.drv_core.proofs.Whole.{file_at, no_file}
 use Rattle.drv_core.specs.Filled.{Filled}
-use Rattle.drv_core.specs.Code.Course.{Course, Done, Link, Phase, Removals, Report, Sources, asked_at, asked_by, behind_link, behind_sources, fresh_course, link_by, link_of, linking, removed, removes, removing, reports, run_code, sourced, stepped, stepped_at}
+use Rattle.drv_core.specs.Code.Course.{Course, Done, Link, Phase, Removals, Report, Sources, asked_at, asked_by, after_link, behind_sources, fresh_course, link_by, link_of, linking, removed, removes, removing, reports, run_code, sourced, stepped, stepped_at}
 use Rattle.drv_core.specs.Code.Fleet.{able, asked_of, fresh_fleet, selected, stage_in, taken}
 use Rattle.drv_core.specs.Code.Leftovers.{all_files}
 use Rattle.drv_core.specs.Code.Machine.{ClaimReport, Claims, Closing, Ended, RemovalReport, Removals as OwnRemovals, Stage, StartReport, Starts, WaitReport, Waits, after, asks, begin, inside, is_kind, left}
@@ -49,7 +49,7 @@ pub record FilledPlan (plan : Plan) : Type 0 where
 linking_holds : (plan : Plan) (N : ℕ) (c : Course) (job : Job) → plan.link ≡ Some job → Linking plan N (most_of plan + first_cost job) job c.link c.events → Holds plan N (linking plan job c)
 linking_holds plan N c job is k = by (left c.link) refl
   where
-    by : (t : Bool) → left c.link ≡ t → Holds plan N (if t then record c { phase = Link } else behind_link plan job c)
+    by : (t : Bool) → left c.link ≡ t → Holds plan N (if t then record c { phase = Link } else after_link plan job c)
     by true e = record { job = job; is = is; linked = k; more = e }
     by false e = link_ends plan N c job is (subst (λ s. Linking plan N (most_of plan + first_cost job) job s c.events) (is_ended c.link e) k)
 

@@ -8,7 +8,7 @@ use Rattle.drv_core.proofs.Rooms.{first_cost, run_fits}
 use Rattle.drv_core.proofs.Sure.{Over, Sure}
 use Rattle.drv_core.proofs.Whole.{Removing, answers, file_at, no_file, removing_failed, removing_more, removing_told}
 use Rattle.drv_core.proofs.Codes.{link_is}
-use Rattle.drv_core.specs.Code.Course.{Course, Done, Link, Phase, Removals, Report, Sources, behind_link, link_by, removing, run_code}
+use Rattle.drv_core.specs.Code.Course.{Course, Done, Link, Phase, Removals, Report, Sources, after_link, link_by, removing, run_code}
 use Rattle.drv_core.specs.Code.Due.{due_files, due_of_job, tally}
 use Rattle.drv_core.specs.Code.Leftovers.{all_files, files_from}
 use Rattle.drv_core.specs.Code.Machine.{Ended, begin, left}
@@ -106,7 +106,7 @@ few_unlinked plan =
     omega (arith, a, b, c, d)
 
 -- behind the link
-pub link_ends : (plan : Plan) (N : ℕ) (c : Course) (job : Job) → plan.link ≡ Some job → Linking plan N (most_of plan + first_cost job) job Ended c.events → Holds plan N (behind_link plan job c)
+pub link_ends : (plan : Plan) (N : ℕ) (c : Course) (job : Job) → plan.link ≡ Some job → Linking plan N (most_of plan + first_cost job) job Ended c.events → Holds plan N (after_link plan job c)
 link_ends plan N c job is k = removing_holds plan N 0 c (due_files plan job (λ j. tally j c.events)) (end_of_link plan N (most_of plan + first_cost job) job c.events k) (sym files) (omega arith) k.pipe bound
   where
     link : link_by plan.link (run_code k.sources) ≡ job
@@ -126,7 +126,7 @@ link_ends plan N c job is k = removing_holds plan N 0 c (due_files plan job (λ 
         omega (arith, many, few, all, fits, cost, le)
 
 -- behind the sources, where no link runs
-pub sources_end : (plan : Plan) (N : ℕ) (c : Course) → Over plan.jobs N (most_of plan) c.fleet c.events → link_by plan.link (run_code c.events) ≡ no_job → Holds plan N (behind_link plan no_job c)
+pub sources_end : (plan : Plan) (N : ℕ) (c : Course) → Over plan.jobs N (most_of plan) c.fleet c.events → link_by plan.link (run_code c.events) ≡ no_job → Holds plan N (after_link plan no_job c)
 sources_end plan N c o none_runs = removing_holds plan N 0 c (due_files plan no_job (λ j. tally j c.events)) (end_of_sources plan N (most_of plan) c.fleet c.events o none_runs) (sym files) (omega arith) o.pipe bound
   where
     files : end_files plan N 0 false c.events (end_of_sources plan N (most_of plan) c.fleet c.events o none_runs) ≡ due_files plan no_job (λ j. tally j c.events)

@@ -6,7 +6,7 @@ use Rattle.drv_core.proofs.Removed.{Found, found}
 use Rattle.drv_core.proofs.Status.{code_append}
 use Rattle.drv_core.proofs.Steps.{asked}
 use Rattle.drv_core.specs.Code.Counting.{noting, noting_claim, place_at}
-use Rattle.drv_core.specs.Code.Course.{Course, Done, Link, Phase, Removals, Report, Sources, asked_at, asked_by, behind_link, behind_sources, fresh_course, link_by, link_of, linking, removes, removing, reports, run_code, sourced, stepped, stepped_at}
+use Rattle.drv_core.specs.Code.Course.{Course, Done, Link, Phase, Removals, Report, Sources, asked_at, asked_by, after_link, behind_sources, fresh_course, link_by, link_of, linking, removes, removing, reports, run_code, sourced, stepped, stepped_at}
 use Rattle.drv_core.specs.Code.Due.{due_files, tally}
 use Rattle.drv_core.specs.Code.Fleet.{Worker, asked_of, fresh, fresh_fleet, stage_in, taken}
 use Rattle.drv_core.specs.Code.Leftovers.{all_files, place_in}
@@ -132,7 +132,7 @@ removing_matches plan room p x from c due a is = by (nat_lt (sought x from (drop
         (λ h. is_less (sought x from (drop from x.files)) (length x.files) h))
 
 -- behind the link
-first_matches : (plan : Plan) (room : ℕ) (p : Position) (c : Course) (job : Job) → Alike plan room p c → p.remains.gone ≡ replicate (length (all_files plan)) false → LinkNoted plan p.remains job → Matches plan room (removing_first p) (behind_link plan job c)
+first_matches : (plan : Plan) (room : ℕ) (p : Position) (c : Course) (job : Job) → Alike plan room p c → p.remains.gone ≡ replicate (length (all_files plan)) false → LinkNoted plan p.remains job → Matches plan room (removing_first p) (after_link plan job c)
 first_matches plan room p c job a gone l = removing_matches plan room p p.remains 0 c (due_files plan job (λ k. tally k c.events)) a (due_places plan p.remains job c.events a.files gone a.many a.counted l)
 
 -- behind a file
@@ -150,7 +150,7 @@ linked_matches : (plan : Plan) (room : ℕ) (p : Position) (c : Course) → Alik
     → Matches plan room (linked p) (linking plan (link_of plan.link) c)
 linked_matches plan room p c a stage rooms was gone = subst (λ (t : Bool). Matches plan room (if t then record p { phase = Link } else removing_first p) (linking plan (link_of plan.link) c)) (sym (ap left stage)) (by (left c.link))
   where
-    by : (t : Bool) → Matches plan room (if t then record p { phase = Link } else removing_first p) (if t then record c { phase = Link } else behind_link plan (link_of plan.link) c)
+    by : (t : Bool) → Matches plan room (if t then record p { phase = Link } else removing_first p) (if t then record c { phase = Link } else after_link plan (link_of plan.link) c)
     by true = record {
       phase = refl;
       alike = record { fleet = a.fleet; events = a.events; code = a.code; room_is = a.room_is; files = a.files; many = a.many; counted = a.counted };

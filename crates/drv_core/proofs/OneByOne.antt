@@ -1,5 +1,5 @@
 use Rattle.drv_core.proofs.Fair.{Fair, fair_story, flying, settled}
-use Rattle.drv_core.proofs.Order.{Ordered, Upto, and_first, and_second, count_none, count_other, count_some, is_less, is_not_less, less, of_append, of_before, of_behind, of_beyond, of_by_source, ordered, same, upto_append, upto_more}
+use Rattle.drv_core.proofs.Order.{Ordered, Upto, and_first, and_second, count_none, count_other, count_some, is_less, is_not_less, less, of_append, of_before, of_after, of_beyond, of_by_source, ordered, same, upto_append, upto_more}
 use Rattle.drv_core.specs.Outcomes.{Answers, JobAnswers, whole, whole_job, whole_jobs}
 use Rattle.drv_core.specs.Windowed.{AllMayCome, MayCome, Rearranges, SourceBlock, TellStories, Windowed, by_source, count, has, in_flight, is_wait, nowhere, of}
 use Rattle.drv_words.specs.declared.plan.Job.{Job}
@@ -56,7 +56,7 @@ may n k before later wait lt ended waiting here done flies = record {
 walk : (n m : ℕ) (before after : List SourceBlock) → Upto m before → Ordered m n after → ((j : ℕ) → Fair 0 0 (of j (before ++ after))) → AllMayCome n 1 nowhere before after
 walk n m before [] upto order fair = tt
 walk n m before (b ∷ after) upto order fair = (
-  may n b.source before (b ∷ after) (is_wait b.block) order.1 ended (λ j above. of_behind b.source j before up above) (rw (nat_eq_equiv.refl b.source) refl) done flies,
+  may n b.source before (b ∷ after) (is_wait b.block) order.1 ended (λ j above. of_after b.source j before up above) (rw (nat_eq_equiv.refl b.source) refl) done flies,
   walk n b.source (before ++ b ∷ []) after (upto_append b.source before b up (omega arith)) order.2 (λ j. subst (λ l. Fair 0 0 (of j l)) (sym (append_assoc before (b ∷ []) after)) (fair j)),
 )
   where

@@ -98,12 +98,12 @@ of_before lo hi j (b ∷ bs) o h =
     let above : j < b.source = omega arith in
     rw (apart_above b.source j above) (of_before b.source hi j bs o.2 above)
 
-pub of_behind : (m j : ℕ) (bs : List SourceBlock) → Upto m bs → m < j → of j bs ≡ []
-of_behind m j [] u h = refl
-of_behind m j (b ∷ bs) u h =
+pub of_after : (m j : ℕ) (bs : List SourceBlock) → Upto m bs → m < j → of j bs ≡ []
+of_after m j [] u h = refl
+of_after m j (b ∷ bs) u h =
     let below : b.source ≤ m = u.0 in
     let under : b.source < j = omega arith in
-    rw (apart b.source j under) (of_behind m j bs u.1 h)
+    rw (apart b.source j under) (of_after m j bs u.1 h)
 
 -- one source's blocks, behind those of sources below it
 ordered_only : (lo n : ℕ) (bs : List SourceBlock) → lo ≤ n → Ordered lo (suc n) (only n bs)

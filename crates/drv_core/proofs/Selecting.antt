@@ -7,17 +7,17 @@ use Rattle.std.specs.List.{filter}
 -- The sources that may go on, as the code finds them.
 
 -- behind the list stands what is found where it has no such number
-found_behind : (xs : List ℕ) (n k : ℕ) → get_or xs k n ≡ get_or (xs ++ n ∷ []) k n
-found_behind [] n zero = refl
-found_behind [] n (suc k) = refl
-found_behind (x ∷ xs) n zero = refl
-found_behind (x ∷ xs) n (suc k) = found_behind xs n k
+found_after : (xs : List ℕ) (n k : ℕ) → get_or xs k n ≡ get_or (xs ++ n ∷ []) k n
+found_after [] n zero = refl
+found_after [] n (suc k) = refl
+found_after (x ∷ xs) n zero = refl
+found_after (x ∷ xs) n (suc k) = found_after xs n k
 
 pub able_at : (jobs : List Job) (f : Fleet) (k : ℕ) → get_or (filter (may_go (all_fly f) f) f.begun) k f.next ≡ get_or (able jobs f) k f.next
 able_at jobs f k = by (may_begin jobs f)
   where
     by : (t : Bool) → get_or (filter (may_go (all_fly f) f) f.begun) k f.next ≡ get_or (filter (may_go (all_fly f) f) f.begun ++ (if t then f.next ∷ [] else [])) k f.next
-    by true = found_behind (filter (may_go (all_fly f) f) f.begun) f.next k
+    by true = found_after (filter (may_go (all_fly f) f) f.begun) f.next k
     by false = ap (λ l. get_or l k f.next) (sym (append-nil (filter (may_go (all_fly f) f) f.begun)))
 
 -- one that may go on is passed over

@@ -15,7 +15,7 @@ use Rattle.drv_core.specs.Code.Machine.{ClaimReport, Claims, Closing, Ended, Rem
 use Rattle.drv_core.specs.Needed.{needed}
 use Rattle.drv_core.specs.Outcomes.{Answers, greatest, status_from, status_of}
 use Rattle.drv_core.specs.Code.Position.{FleetReady, Position, Ready, ReadyIn, moved, next_of}
-use Rattle.drv_core.specs.Code.Reached.{Kept, Reached, at_first, behind_answer, behind_choice, between_blocks, choices_at, choosing}
+use Rattle.drv_core.specs.Code.Reached.{Kept, Reached, at_first, after_answer, after_choice, between_blocks, choices_at, choosing}
 use Rattle.drv_core.specs.Code.Source.{HasRoom}
 use Rattle.drv_core.specs.Code.Starting.{fresh_position}
 use Rattle.drv_core.specs.Windowed.{IsBeginning, IsWhole, Windowed, count, has}
@@ -95,8 +95,8 @@ chosen plan N room p k t lt = by (between_blocks p.phase p.fleet) refl lt
 
 pub stands : (plan : Plan) (N room : ℕ) (p : Position) → 1 ≤ N → FilledPlan plan → Reached plan N room p → Stands plan N room p
 stands plan N room p some filled at_first = record { c = fresh_course plan N; holds = fresh_holds plan N some filled; match = fresh_matches plan N room }
-stands plan N room p some filled (behind_answer q s a r is kind) = answered plan N room q s a some filled (stands plan N room q some filled r) is kind
-stands plan N room p some filled (behind_choice q k r lt) = chosen plan N room q k (stands plan N room q some filled r) lt
+stands plan N room p some filled (after_answer q s a r is kind) = answered plan N room q s a some filled (stands plan N room q some filled r) is kind
+stands plan N room p some filled (after_choice q k r lt) = chosen plan N room q k (stands plan N room q some filled r) lt
 
 filled_of : (plan : Plan) (N : ℕ) (p : Position) → Kept plan N p → FilledPlan plan
 filled_of plan N p k = filled_plan plan k.jobs k.link
@@ -124,7 +124,7 @@ answer_kept plan N p q s a k is kind to = subst (λ r. Kept plan N r) (sym to) (
       jobs = k.jobs;
       link = k.link;
       fits = subst (λ n. needed plan ≤ n) (sym t.match.alike.room_is) k.fits;
-      reached = subst (λ n. Reached plan N n (moved plan p s a)) (sym t.match.alike.room_is) (behind_answer p s a k.reached is kind);
+      reached = subst (λ n. Reached plan N n (moved plan p s a)) (sym t.match.alike.room_is) (after_answer p s a k.reached is kind);
     }
 
 pub choice_kept : (plan : Plan) (N : ℕ) (p q : Position) (i : ℕ) → Kept plan N p → i < choices_at plan p → q ≡ choosing plan p i → Kept plan N q
@@ -136,7 +136,7 @@ choice_kept plan N p q i k lt to = subst (λ r. Kept plan N r) (sym to) (by (cho
       jobs = k.jobs;
       link = k.link;
       fits = subst (λ n. needed plan ≤ n) (sym t.match.alike.room_is) k.fits;
-      reached = subst (λ n. Reached plan N n (choosing plan p i)) (sym t.match.alike.room_is) (behind_choice p i k.reached lt);
+      reached = subst (λ n. Reached plan N n (choosing plan p i)) (sym t.match.alike.room_is) (after_choice p i k.reached lt);
     }
 
 -- what the code stands on

@@ -141,20 +141,20 @@ quiet : (g m : ℕ) (cs : List Child) (acts : List Act) → Ascends g m acts →
 quiet g m [] acts a = a
 quiet g m (c ∷ cs) acts a = quiet g m cs acts a
 
-group_behind : (g : ℕ) (xs : List StartAnswer) (acts : List Act) → Behind (g + 1) 0 acts → Behind g 0 (map Begins (children g 0 xs) ++ (map Awaits (children g 0 xs) ++ acts))
-group_behind g xs acts b = record {
+group_after : (g : ℕ) (xs : List StartAnswer) (acts : List Act) → Behind (g + 1) 0 acts → Behind g 0 (map Begins (children g 0 xs) ++ (map Awaits (children g 0 xs) ++ acts))
+group_after g xs acts b = record {
   each = start_all (children g 0 xs) [] (map Awaits (children g 0 xs) ++ acts) (await_all (children g 0 xs) acts b.each);
   once = up g 0 xs (map Awaits (children g 0 xs) ++ acts) (λ n. quiet g n (children g 0 xs) acts (later g n 0 acts b.once));
 }
 
-none_behind : (g : ℕ) (acts : List Act) → acts ≡ [] → Behind g 0 acts
-none_behind g acts e = subst (λ l. Behind g 0 l) (sym e) (record { each = over; once = tt })
+none_after : (g : ℕ) (acts : List Act) → acts ≡ [] → Behind g 0 acts
+none_after g acts e = subst (λ l. Behind g 0 l) (sym e) (record { each = over; once = tt })
 
 groups : (k g : ℕ) (cs : List (List Command)) (xs : List GroupAnswers) → whole_groups cs xs ≡ true → Behind g 0 (seen k (group_blocks k g cs xs))
-groups k g [] [] e = none_behind g [] refl
+groups k g [] [] e = none_after g [] refl
 groups k g [] (x ∷ xs) e = absurd cc
 groups k g (c ∷ cs) [] e = absurd cc
-groups k g (c ∷ cs) (x ∷ xs) e = subst (λ l. Behind g 0 l) (sym is) (group_behind g x.starts (seen k (group_blocks k (g + 1) cs xs))
+groups k g (c ∷ cs) (x ∷ xs) e = subst (λ l. Behind g 0 l) (sym is) (group_after g x.starts (seen k (group_blocks k (g + 1) cs xs))
     (rest (group_failed x) xs (and_second (whole_group c x.starts x.waits) (if group_failed x then none xs else whole_groups cs xs) e) (λ w. groups k (g + 1) cs xs w)))
   where
     is : seen k (group_blocks k g (c ∷ cs) (x ∷ xs)) ≡ map Begins (children g 0 x.starts) ++ (map Awaits (children g 0 x.starts) ++ seen k (group_blocks k (g + 1) cs xs))
@@ -165,7 +165,7 @@ groups k g (c ∷ cs) (x ∷ xs) e = subst (λ l. Behind g 0 l) (sym is) (group_
         ∙ append_assoc (map Begins (children g 0 x.starts)) (map Awaits (children g 0 x.starts)) (seen k (group_blocks k (g + 1) cs xs))
 
     rest : (t : Bool) (ys : List GroupAnswers) → (if t then none ys else whole_groups cs ys) ≡ true → (whole_groups cs ys ≡ true → Behind (g + 1) 0 (seen k (group_blocks k (g + 1) cs ys))) → Behind (g + 1) 0 (seen k (group_blocks k (g + 1) cs ys))
-    rest true [] w ih = none_behind (g + 1) (seen k (group_blocks k (g + 1) cs [])) (ap (λ l. seen k l) (no_group k (g + 1) cs))
+    rest true [] w ih = none_after (g + 1) (seen k (group_blocks k (g + 1) cs [])) (ap (λ l. seen k l) (no_group k (g + 1) cs))
     rest true (y ∷ ys) w ih = absurd cc
     rest false ys w ih = ih w
 
@@ -196,12 +196,12 @@ own_story : (k : ℕ) (job : Job) (a : JobAnswers) → whole_job job a ≡ true 
 own_story k job a whole = subst (λ l. Behind 0 0 l) (sym (in_story k k job a)) (by (none job.groups) whole)
   where
     claimed : (t : Bool) → (if t then none a.groups else whole_groups job.groups a.groups) ≡ true → Behind 0 0 (seen k (group_blocks k 0 job.groups a.groups))
-    claimed true h = none_behind 0 (seen k (group_blocks k 0 job.groups a.groups)) (unanswered k job.groups a.groups h)
+    claimed true h = none_after 0 (seen k (group_blocks k 0 job.groups a.groups)) (unanswered k job.groups a.groups h)
     claimed false h = groups k 0 job.groups a.groups h
 
     by : (t : Bool) → (if t then none a.claims && none a.groups && none a.removals else whole_claims job.temps a.claims && (if claims_failed a then none a.groups else whole_groups job.groups a.groups) && nat_eq (length a.removals) (length (removed_by_job job a))) ≡ true
         → Behind 0 0 (seen k (group_blocks k 0 job.groups a.groups))
-    by true h = none_behind 0 (seen k (group_blocks k 0 job.groups a.groups)) (unanswered k job.groups a.groups (and_second (none a.claims) (none a.groups) (and_first (none a.claims && none a.groups) (none a.removals) h)))
+    by true h = none_after 0 (seen k (group_blocks k 0 job.groups a.groups)) (unanswered k job.groups a.groups (and_second (none a.claims) (none a.groups) (and_first (none a.claims && none a.groups) (none a.removals) h)))
     by false h = claimed (claims_failed a) (and_second (whole_claims job.temps a.claims) (if claims_failed a then none a.groups else whole_groups job.groups a.groups) (and_first (whole_claims job.temps a.claims && (if claims_failed a then none a.groups else whole_groups job.groups a.groups)) (nat_eq (length a.removals) (length (removed_by_job job a))) h))
 
 -- the sources
@@ -232,7 +232,7 @@ waits_for_each plan N o E w k = done (by (nat_lt k (length plan.jobs)) refl)
 
     link_of : (t : Bool) → nat_eq (length plan.jobs) k ≡ t → Behind 0 0 (seen k (story (length plan.jobs) (link_run plan.link o.jobs) o.link))
     link_of true e = subst (λ i. Behind 0 0 (seen i (story (length plan.jobs) (link_run plan.link o.jobs) o.link))) (same (length plan.jobs) k e) (own_story (length plan.jobs) (link_run plan.link o.jobs) o.link (link_whole plan N o E w))
-    link_of false e = none_behind 0 (seen k (story (length plan.jobs) (link_run plan.link o.jobs) o.link)) (other_story k (length plan.jobs) (link_run plan.link o.jobs) o.link e)
+    link_of false e = none_after 0 (seen k (story (length plan.jobs) (link_run plan.link o.jobs) o.link)) (other_story k (length plan.jobs) (link_run plan.link o.jobs) o.link e)
 
     by : (t : Bool) → nat_lt k (length plan.jobs) ≡ t → Behind 0 0 (acts_in k E)
     by true e =

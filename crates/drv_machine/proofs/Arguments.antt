@@ -7,7 +7,7 @@ use Rattle.drv_machine.specs.Context.{Context}
 use Rattle.drv_machine.specs.Cutting.{Cut, all_taken, nothing_cut}
 use Rattle.drv_machine.specs.Code.Running.{Machine, done, run}
 use Rattle.drv_machine.specs.Code.Standing.{Stands}
-use Rattle.drv_machine.specs.Code.Walking.{Around, Behind, Framed, Kept, Left, Lies, OpenedFits, arguments_of, asked_on, back_at, back_of, behind_arguments, closing, ends, levels_in, nothing_kept, onward, star_of, text_around}
+use Rattle.drv_machine.specs.Code.Walking.{Around, Behind, Framed, Kept, Left, Lies, OpenedFits, arguments_of, asked_on, back_at, back_of, after_arguments, closing, ends, levels_in, nothing_kept, onward, star_of, text_around}
 use Rattle.drv_machine.specs.Working.{◌>>-◌, ◌>>=◌, ◌>>◌, Answer, Break, Goes, Levels, Refuses, Step, Waits, Work, follow, most_open, needs, puts}
 use Rattle.drv_machine.specs.declared.fault.MachineFault.TheVariants.{Memory, SpecTooDeep}
 use Rattle.drv_machine.specs.declared.fault.MachineFault.{MachineFault}
@@ -52,7 +52,7 @@ module _ (F : Facts) (C : Context) where
 
   -- and what is done with the words stands behind
   pub arguments_then : {X Y : Type 0} (s : Machine) (inner : Step (Unit {0})) (go : List (List ℕ) → Step X) (k : X × Machine → Answer Y)
-      → (run F C s (arguments F C inner >>= go) >>- k) ≡ (run F C (aside s) inner >>- λ r. behind_arguments F C s.cut go r.1 >>- k)
+      → (run F C s (arguments F C inner >>= go) >>- k) ≡ (run F C (aside s) inner >>- λ r. after_arguments F C s.cut go r.1 >>- k)
   arguments_then s inner go k =
       ap (λ x. x >>- k) (run_then F C s (arguments F C inner) go)
       ∙ ap (λ x. (x >>- λ r. run F C r.1 (go r.0)) >>- k) (arguments_run s inner)
@@ -62,20 +62,20 @@ module _ (F : Facts) (C : Context) where
       ∙ then_then (run F C (aside s) inner) (λ r. (run F C r.1 (puts (Break ∷ [])) >>- back_at F C s.cut) >>- λ q. run F C q.1 (go q.0)) k
 
   -- words that were cut, and the function called
-  pub behind_is : {X : Type 0} (outer : Cut) (go : List (List ℕ) → Step X) (s t u : Machine) → run F C s (puts (Break ∷ [])) ≡ Is (Ok (tt, t)) → u ≡ record t { cut = outer }
-      → run F C u (go t.cut.line.words) ≡ behind_arguments F C outer go s
-  behind_is outer go s t u went is =
+  pub after_is : {X : Type 0} (outer : Cut) (go : List (List ℕ) → Step X) (s t u : Machine) → run F C s (puts (Break ∷ [])) ≡ Is (Ok (tt, t)) → u ≡ record t { cut = outer }
+      → run F C u (go t.cut.line.words) ≡ after_arguments F C outer go s
+  after_is outer go s t u went is =
       ap (λ (m : Machine). run F C m (go t.cut.line.words)) is ∙ sym (ap (λ x. (x >>- back_at F C outer) >>- λ r. run F C r.1 (go r.0)) went)
 
-  pub behind_fails : {X : Type 0} (outer : Cut) (go : List (List ℕ) → Step X) (s : Machine) (fault : MachineFault) → (fault ≡ Memory) ⊎ (run F C s (puts (Break ∷ [])) ≡ Is (Err fault))
-      → (fault ≡ Memory) ⊎ (behind_arguments F C outer go s ≡ Is (Err fault))
-  behind_fails outer go s fault (inl memory) = inl memory
-  behind_fails outer go s fault (inr e) = inr (ap (λ x. (x >>- back_at F C outer) >>- λ r. run F C r.1 (go r.0)) e)
+  pub after_fails : {X : Type 0} (outer : Cut) (go : List (List ℕ) → Step X) (s : Machine) (fault : MachineFault) → (fault ≡ Memory) ⊎ (run F C s (puts (Break ∷ [])) ≡ Is (Err fault))
+      → (fault ≡ Memory) ⊎ (after_arguments F C outer go s ≡ Is (Err fault))
+  after_fails outer go s fault (inl memory) = inl memory
+  after_fails outer go s fault (inr e) = inr (ap (λ x. (x >>- back_at F C outer) >>- λ r. run F C r.1 (go r.0)) e)
 
   -- a value, and then what is made of it
-  pub behind_then : {X Y : Type 0} (outer : Cut) (go : List (List ℕ) → Step X) (f : X → Step Y) (s : Machine)
-      → behind_arguments F C outer (λ args. go args >>= f) s ≡ (behind_arguments F C outer go s >>- λ r. run F C r.1 (f r.0))
-  behind_then outer go f s = by (run F C s (puts (Break ∷ [])) >>- back_at F C outer)
+  pub after_then : {X Y : Type 0} (outer : Cut) (go : List (List ℕ) → Step X) (f : X → Step Y) (s : Machine)
+      → after_arguments F C outer (λ args. go args >>= f) s ≡ (after_arguments F C outer go s >>- λ r. run F C r.1 (f r.0))
+  after_then outer go f s = by (run F C s (puts (Break ∷ [])) >>- back_at F C outer)
     where
       by : (x : Answer (List (List ℕ) × Machine)) → (x >>- λ r. run F C r.1 (go r.0 >>= f)) ≡ ((x >>- λ r. run F C r.1 (go r.0)) >>- λ r. run F C r.1 (f r.0))
       by (Is (Ok r)) = run_then F C r.1 (go r.0) f
@@ -106,7 +106,7 @@ module _ (F : Facts) (C : Context) (text : List ℕ) (w : Walk) (s : Machine) (n
 
   -- by the frame that the code makes: what it says is all that is used of it
   module _ (o : Opened) (fits : OpenedFits text C o (tree.pattern [] false) tree.none kept) (around_is : text_around text o ≡ text) (back_is : back_of o ≡ next)
-      (closes : (levels : Levels) (star : List ℕ) (r : Machine) → closing F C levels star o (tree.pattern [] false) tree.none kept r ≡ behind_arguments F C s.cut (value_step F C name) r) where
+      (closes : (levels : Levels) (star : List ℕ) (r : Machine) → closing F C levels star o (tree.pattern [] false) tree.none kept r ≡ after_arguments F C s.cut (value_step F C name) r) where
     abbrev around : Around
     around = record { frame = record { opened = o; end = w.end; star = w.star }; pattern = tree.pattern [] false; items = tree.none; kept = kept; rest = b.rest }
 
@@ -114,7 +114,7 @@ module _ (F : Facts) (C : Context) (text : List ℕ) (w : Walk) (s : Machine) (n
         → (run F C (aside F C s) (inner (levels_left F C (most_open - m))) >>- λ r. ends F C (around ∷ b.arounds) r.1) ≡ (run F C (aside F C s) (inner (levels_left F C (most_open - n))) >>- λ r. ends F C (around ∷ b.arounds) r.1)
     deeper_is m n e = ap (λ j. run F C (aside F C s) (inner (levels_left F C (most_open - j))) >>- λ r. ends F C (around ∷ b.arounds) r.1) e
 
-    ends_as : (x : Answer (Unit {0} × Machine)) → (x >>- λ r. ends F C (around ∷ b.arounds) r.1) ≡ (x >>- λ r. behind_arguments F C s.cut (value_step F C name) r.1 >>- k)
+    ends_as : (x : Answer (Unit {0} × Machine)) → (x >>- λ r. ends F C (around ∷ b.arounds) r.1) ≡ (x >>- λ r. after_arguments F C s.cut (value_step F C name) r.1 >>- k)
     ends_as (Is (Ok r)) = ap (λ a. a >>- k) (closes (levels_in F C b.arounds) (star_of C w.star) r.1)
     ends_as (Is (Err fault)) = refl
     ends_as Unasked = refl
@@ -177,7 +177,7 @@ module _ (F : Facts) (C : Context) (text : List ℕ) (w : Walk) (s : Machine) (e
   on_words args = asked_on F C items kept (levels_in F C b.arounds) (star_of C w.star) args
 
   module _ (o : Opened) (fits : OpenedFits text C o (tree.pattern [] false) items kept) (around_is : text_around text o ≡ text) (back_is : back_of o ≡ end)
-      (closes : (r : Machine) → closing F C (levels_in F C b.arounds) (star_of C w.star) o (tree.pattern [] false) items kept r ≡ behind_arguments F C s.cut on_words r) where
+      (closes : (r : Machine) → closing F C (levels_in F C b.arounds) (star_of C w.star) o (tree.pattern [] false) items kept r ≡ after_arguments F C s.cut on_words r) where
     abbrev ask_around : Around
     ask_around = record { frame = record { opened = o; end = w.end; star = w.star }; pattern = tree.pattern [] false; items = items; kept = kept; rest = b.rest }
 
@@ -185,7 +185,7 @@ module _ (F : Facts) (C : Context) (text : List ℕ) (w : Walk) (s : Machine) (e
         → (run F C (aside F C s) (asked_inside (levels_left F C (most_open - m))) >>- λ r. ends F C (ask_around ∷ b.arounds) r.1) ≡ (run F C (aside F C s) (asked_inside (levels_left F C (most_open - n))) >>- λ r. ends F C (ask_around ∷ b.arounds) r.1)
     ask_deeper m n e = ap (λ j. run F C (aside F C s) (asked_inside (levels_left F C (most_open - j))) >>- λ r. ends F C (ask_around ∷ b.arounds) r.1) e
 
-    ask_ends : (x : Answer (Unit {0} × Machine)) → (x >>- λ r. ends F C (ask_around ∷ b.arounds) r.1) ≡ (x >>- λ r. behind_arguments F C s.cut on_words r.1 >>- ask_k)
+    ask_ends : (x : Answer (Unit {0} × Machine)) → (x >>- λ r. ends F C (ask_around ∷ b.arounds) r.1) ≡ (x >>- λ r. after_arguments F C s.cut on_words r.1 >>- ask_k)
     ask_ends (Is (Ok r)) = ap (λ a. a >>- ask_k) (closes r.1)
     ask_ends (Is (Err fault)) = refl
     ask_ends Unasked = refl

@@ -6,7 +6,7 @@ use Rattle.drv_machine.specs.Atoms.{choices_step, each_hit, first_true, found_st
 use Rattle.drv_machine.specs.Code.ByKind.{AskedTest, TrueTest, asks_switch, labelled}
 use Rattle.drv_machine.specs.Context.{Context, names}
 use Rattle.drv_machine.specs.Code.Running.{Machine, run}
-use Rattle.drv_machine.specs.Code.Standing.{Part, Stands, behind_tests, tests_in}
+use Rattle.drv_machine.specs.Code.Standing.{Part, Stands, after_tests, tests_in}
 use Rattle.drv_machine.specs.Code.Walking.{AskFits, Kept, NextHit, arguments_of, each_from, hit_step}
 use Rattle.drv_machine.specs.Working.{◌>>-◌, ◌>>=◌, ◌>>◌, Answer, Levels, Step, look, nothing}
 use Rattle.drv_machine.specs.declared.fault.MachineFault.TheVariants.{Memory}
@@ -67,10 +67,10 @@ no_choices_left text at tree.no_choice end h s = refl
 no_choices_left text at (tree.choice span tests items others) end h (next, part, within, behind) = absurd (omega (arith, h, part.later, stand_grows _ _ next (choice_nodes others) end behind))
 
 -- behind the tests of an alternative stand its items
-pub tests_behind : (tests : Tests) (items : Items) → behind_tests (both (test_nodes tests) (nodes_of items)) ≡ nodes_of items
-tests_behind tree.no_test tree.none = refl
-tests_behind tree.no_test (tree.more span item items) = rw (item_no_test item) refl
-tests_behind (tree.test span negated asked tests) items = tests_behind tests items
+pub tests_after : (tests : Tests) (items : Items) → after_tests (both (test_nodes tests) (nodes_of items)) ≡ nodes_of items
+tests_after tree.no_test tree.none = refl
+tests_after tree.no_test (tree.more span item items) = rw (item_no_test item) refl
+tests_after (tree.test span negated asked tests) items = tests_after tests items
 
 -- no test takes no place
 no_tests : (text : List ℕ) (at end : ℕ) (tests : Tests) → end ≡ at → Stands text at (test_nodes tests) end → tests ≡ tree.no_test
@@ -98,7 +98,7 @@ module _ (F : Facts) (C : Context) (text : List ℕ) (s t : Machine) (at end : �
         (f.others, subst (λ (k : ℕ). Stands text k (choice_nodes f.others) end) (sym (next_at text at token kinds.Alternative (alternative_label f.items) f.next there f.part)) f.behind)
 
     module _ (middle : ℕ) (first : (nodes : Nodes) → Stands text (at + 1) nodes token.next → Stands text (at + 1) (tests_in nodes) middle)
-        (behind_first : (nodes : Nodes) → Stands text (at + 1) nodes token.next → Stands text middle (behind_tests nodes) token.next) where
+        (after_first : (nodes : Nodes) → Stands text (at + 1) nodes token.next → Stands text middle (after_tests nodes) token.next) where
       inside : (f : FrontChoice text at left.rest end) → Stands text (at + 1) (both (test_nodes f.tests) (nodes_of f.items)) token.next
       inside f = subst (λ (k : ℕ). Stands text (at + 1) (both (test_nodes f.tests) (nodes_of f.items)) k) (sym (next_at text at token kinds.Alternative (alternative_label f.items) f.next there f.part)) f.within
 
@@ -106,7 +106,7 @@ module _ (F : Facts) (C : Context) (text : List ℕ) (s t : Machine) (at end : �
       tests_there f = subst (λ (xs : Nodes). Stands text (at + 1) xs middle) (tests_first f.tests f.items) (first (both (test_nodes f.tests) (nodes_of f.items)) (inside f))
 
       items_there : (f : FrontChoice text at left.rest end) → Stands text middle (nodes_of f.items) token.next
-      items_there f = subst (λ (xs : Nodes). Stands text middle xs token.next) (tests_behind f.tests f.items) (behind_first (both (test_nodes f.tests) (nodes_of f.items)) (inside f))
+      items_there f = subst (λ (xs : Nodes). Stands text middle xs token.next) (tests_after f.tests f.items) (after_first (both (test_nodes f.tests) (nodes_of f.items)) (inside f))
 
       -- the default
       default_is : (f : FrontChoice text at left.rest end) → middle ≡ at + 1 → run F C s (choices_step F C choices levels star) ≡ run F C t (items_step F C f.items levels star)

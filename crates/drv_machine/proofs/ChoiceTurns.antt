@@ -1,11 +1,11 @@
 use Rattle.drv_machine.proofs.ChoiceSteps.{ChoicesLeft, as_default, choices_end, each_all, one_asked, one_true, others_there, tests_fail, work_for_each, work_once}
 use Rattle.drv_machine.proofs.Lying.{no_skip}
-use Rattle.drv_machine.proofs.Onward.{behind_as, entered, leaf, same_step}
+use Rattle.drv_machine.proofs.Onward.{after_as, entered, leaf, same_step}
 use Rattle.drv_machine.specs.Atoms.{choices_step, first_true, found_step, items_step, judged, matching, worked}
 use Rattle.drv_machine.specs.Code.ByKind.{AskedTest, TrueTest, asks_switch, labelled}
 use Rattle.drv_machine.specs.Context.{Context}
 use Rattle.drv_machine.specs.Code.Running.{Machine, run}
-use Rattle.drv_machine.specs.Code.Standing.{Stands, behind_tests, tests_in}
+use Rattle.drv_machine.specs.Code.Standing.{Stands, after_tests, tests_in}
 use Rattle.drv_machine.specs.Code.Walking.{AskFits, Behind, Kept, Left, Skips, arguments_of, each_from, levels_in, onward, star_of}
 use Rattle.drv_machine.specs.Working.{◌>>-◌, ◌>>=◌, Answer, Levels, Step}
 use Rattle.drv_machine.specs.declared.fault.MachineFault.TheVariants.{Memory}
@@ -33,17 +33,17 @@ module _ (F : Facts) (C : Context) (text : List ℕ) (w : Walk) (s t : Machine) 
 
   module _ (h : at < end) (token : Token) (there : slice_get (tokens_of (tree_of text)) at ≡ Some token) (middle : ℕ)
       (first : (nodes : Nodes) → Stands text (at + 1) nodes token.next → Stands text (at + 1) (tests_in nodes) middle)
-      (behind_first : (nodes : Nodes) → Stands text (at + 1) nodes token.next → Stands text middle (behind_tests nodes) token.next) where
+      (after_first : (nodes : Nodes) → Stands text (at + 1) nodes token.next → Stands text middle (after_tests nodes) token.next) where
     skips : Skips text token.next end
     skips = others_there F C text s t at end h choices (levels_in F C b.arounds) (star_of C w.star) (left (levels_in F C b.arounds) (star_of C w.star)) token there
 
     pub default_chosen : middle ≡ at + 1 → Left F C text (record w { at = middle }) t given
     default_chosen e =
-        as_default F C text s t at end h choices (levels_in F C b.arounds) (star_of C w.star) (left (levels_in F C b.arounds) (star_of C w.star)) token there middle first behind_first
+        as_default F C text s t at end h choices (levels_in F C b.arounds) (star_of C w.star) (left (levels_in F C b.arounds) (star_of C w.star)) token there middle first after_first
         (λ a. (◌>>-◌ {Y = Unit {0} × Machine} a (λ r. onward F C w.star b.rest b.arounds r.1) ≡ given) → Left F C text (record w { at = middle }) t given) e
         (λ items stands same.
         entered F C text w t given items middle token.next stands
-        (behind_as F C text w s given end (λ levels star. choices_step F C choices levels star) b token.next skips (λ levels star. items_step F C items levels star) t same))
+        (after_as F C text w s given end (λ levels star. choices_step F C choices levels star) b token.next skips (λ levels star. items_step F C items levels star) t same))
         b.same
 
     module _ (some : middle ≡ at + 1 → ⊥) where
@@ -52,7 +52,7 @@ module _ (F : Facts) (C : Context) (text : List ℕ) (w : Walk) (s t : Machine) 
           → (fault ≡ Memory) ⊎ (given ≡ Is (Err fault))
       tests_refused fault stopped =
           leaf F C text w s given end (λ levels star. choices_step F C choices levels star) b (Err fault) t
-          (tests_fail F C text s t at end h choices (levels_in F C b.arounds) (star_of C w.star) (left (levels_in F C b.arounds) (star_of C w.star)) token there middle first behind_first some fault
+          (tests_fail F C text s t at end h choices (levels_in F C b.arounds) (star_of C w.star) (left (levels_in F C b.arounds) (star_of C w.star)) token there middle first after_first some fault
           (λ tests stands. stopped tests (levels_in F C b.arounds) (star_of C w.star) stands))
 
       pub one_chosen : (u : Machine) (test : ℕ) (P : Type 0)
@@ -60,12 +60,12 @@ module _ (F : Facts) (C : Context) (text : List ℕ) (w : Walk) (s t : Machine) 
           → ((negated : Bool) (asked : Asked) (items : Items) (others : Step (Unit {0})) → (label_at (tree_of text) at).holds_star ≡ has_star items → label_at (tree_of text) test ≡ test_label negated asked → Stands text middle (nodes_of items) token.next
           → Behind F C text w token.next (λ levels star. worked F C (Some asked) (has_star items) (λ rest inside. items_step F C items inside rest) levels star others) u given → P) → P
       one_chosen u test P found chosen =
-          one_true F C text s t at end h choices (levels_in F C b.arounds) (star_of C w.star) (left (levels_in F C b.arounds) (star_of C w.star)) token there middle first behind_first some u test
+          one_true F C text s t at end h choices (levels_in F C b.arounds) (star_of C w.star) (left (levels_in F C b.arounds) (star_of C w.star)) token there middle first after_first some u test
           (λ a. (◌>>-◌ {Y = Unit {0} × Machine} a (λ r. onward F C w.star b.rest b.arounds r.1) ≡ given) → P)
           (λ tests stands. found tests (levels_in F C b.arounds) (star_of C w.star) stands)
           (λ negated asked items others owns label stands same.
           chosen negated asked items others owns label stands
-          (behind_as F C text w s given end (λ levels star. choices_step F C choices levels star) b token.next skips
+          (after_as F C text w s given end (λ levels star. choices_step F C choices levels star) b token.next skips
           (λ levels star. worked F C (Some asked) (has_star items) (λ rest inside. items_step F C items inside rest) levels star others) u same))
           b.same
 
@@ -75,12 +75,12 @@ module _ (F : Facts) (C : Context) (text : List ℕ) (w : Walk) (s t : Machine) 
           → Stands text (test + 1) (nodes_of arguments) at_test.next
           → Behind F C text w end (λ levels star. arguments_of F C arguments kept.name levels star >>= judged F C kept.negated kept.asked kept.tests levels star >>= found_step F C items kept.choices levels star) u given → P) → P
       asked_chosen u test at_test is own owns P found chosen =
-          one_asked F C text s t at end h choices (levels_in F C b.arounds) (star_of C w.star) (left (levels_in F C b.arounds) (star_of C w.star)) token there middle first behind_first some u test at_test is own owns
+          one_asked F C text s t at end h choices (levels_in F C b.arounds) (star_of C w.star) (left (levels_in F C b.arounds) (star_of C w.star)) token there middle first after_first some u test at_test is own owns
           (λ a. (◌>>-◌ {Y = Unit {0} × Machine} a (λ r. onward F C w.star b.rest b.arounds r.1) ≡ given) → P)
           (λ tests stands. found tests (levels_in F C b.arounds) (star_of C w.star) stands)
           (λ items arguments kept fits stands same.
           chosen items arguments kept fits stands
-          (behind_as F C text w s given end (λ levels star. choices_step F C choices levels star) b end (no_skip text end)
+          (after_as F C text w s given end (λ levels star. choices_step F C choices levels star) b end (no_skip text end)
           (λ levels star. arguments_of F C arguments kept.name levels star >>= judged F C kept.negated kept.asked kept.tests levels star >>= found_step F C items kept.choices levels star) u same))
           b.same
 

@@ -1,6 +1,6 @@
 use Rattle.drv_machine.proofs.Runs.{Course, bare, breaks, breaks_bare, course, end_kept, file_kept, moved, moves, opened_by, over, pipe_kept, pipes, pipes_bare, with_word}
 use Rattle.drv_machine.specs.Context.{Context}
-use Rattle.drv_machine.specs.Cuts.{each, failure_at, failure_files, has_begun, is_output, is_word_before, last_in, list_of, opens_word, path_of, places_behind, run_before}
+use Rattle.drv_machine.specs.Cuts.{each, failure_at, failure_files, has_begun, is_output, is_word_before, last_in, list_of, opens_word, path_of, places_after, run_before}
 use Rattle.drv_machine.specs.Cutting.{Cut, all_taken, inside_done, nothing_cut, pipe_ended}
 use Rattle.drv_machine.specs.Working.{◌>>-◌, Answer, Atom, Break, End, FileFrom, FileTo, From, Marked, Open, Piped, Put, To, Without}
 use Rattle.drv_system.specs.Facts.{Facts}
@@ -37,9 +37,9 @@ abbrev part_at : Bool → Option (List Atom) → Option (Option (List Atom))
 part_at true last = Some last
 part_at false last = None
 
-behind_first : {X : Type 0} (xs : List X) (n : ℕ) → at_place (without_first xs) n ≡ at_place xs (suc n)
-behind_first [] n = refl
-behind_first (x ∷ xs) n = refl
+after_first : {X : Type 0} (xs : List X) (n : ℕ) → at_place (without_first xs) n ≡ at_place xs (suc n)
+after_first [] n = refl
+after_first (x ∷ xs) n = refl
 
 all_same : (run : List Atom) (parts : List (Option (List Atom))) (n : ℕ) (begun : Bool) (last : Option (List Atom)) → at_place parts n ≡ part_at begun last
     → at_place (map (λ before. Some run) parts) n ≡ part_at begun (Some run)
@@ -61,8 +61,8 @@ parts_are : (n : ℕ) (before : List Atom) → at_place (open_parts before) n �
 parts_are n [] = refl
 parts_are zero (From ∷ before) = refl
 parts_are (suc n) (From ∷ before) = parts_are n before
-parts_are zero (To ∷ before) = behind_first (open_parts before) zero ∙ parts_are (suc zero) before
-parts_are (suc n) (To ∷ before) = behind_first (open_parts before) (suc n) ∙ parts_are (suc (suc n)) before
+parts_are zero (To ∷ before) = after_first (open_parts before) zero ∙ parts_are (suc zero) before
+parts_are (suc n) (To ∷ before) = after_first (open_parts before) (suc n) ∙ parts_are (suc (suc n)) before
 parts_are zero (Break ∷ before) = ended_at zero before (parts_are zero before)
 parts_are (suc n) (Break ∷ before) = ended_at (suc n) before (parts_are (suc n) before)
 parts_are zero (Piped ∷ before) = ended_at zero before (parts_are zero before)
@@ -132,7 +132,7 @@ module _ (F : Facts) (C : Context) where
   closes c (named {word = word} {name = name} is rest) = (rest, λ found after behind. after_one word found c.on_failure after name is behind)
 
   abbrev failures : List Atom → List Atom → List (List Atom)
-  failures before atoms = flat_map failure_at (places_behind before atoms)
+  failures before atoms = flat_map failure_at (places_after before atoms)
 
   -- atoms that end neither
   same_as : (c x d : Cut) (before atoms : List Atom) → x.on_failure ≡ c.on_failure → x.inside ≡ c.inside

@@ -1,8 +1,8 @@
 use Rattle.drv_machine.proofs.CutLines.{Lined, commands_are, inside_lined, lined, or_none, with_texts}
 use Rattle.drv_machine.proofs.Laws.{all_taken-append, then_same, then_then}
-use Rattle.drv_machine.proofs.Runs.{Course, Opened, any_behind, bare, bare_ends, breaks, breaks_bare, broken_is, course, ended_as, moved, moves, name_of, open_in, opened_by, over, pipes, pipes_bare, with_word, word_ends, words_moved}
+use Rattle.drv_machine.proofs.Runs.{Course, Opened, any_after, bare, bare_ends, breaks, breaks_bare, broken_is, course, ended_as, moved, moves, name_of, open_in, opened_by, over, pipes, pipes_bare, with_word, word_ends, words_moved}
 use Rattle.drv_machine.specs.Context.{Context}
-use Rattle.drv_machine.specs.Cuts.{Bare, Filed, Run, Stretch, begins_file, bounds_file, each, has_stray_pipe, is_broken, is_script, line_of, lines, open_command, opens_word, path, stretch_atoms, texts, without_file, words, words_behind}
+use Rattle.drv_machine.specs.Cuts.{Bare, Filed, Run, Stretch, begins_file, bounds_file, each, has_stray_pipe, is_broken, is_script, line_of, lines, open_command, opens_word, path, stretch_atoms, texts, without_file, words, words_after}
 use Rattle.drv_machine.specs.Cutting.{Cut, Line, all_taken, argument_words, broken, file_begun, file_done, file_words, found_file, found_script, inside_done, line_done, line_ended, no_marks, nothing_cut, pipe_done, pipe_ended, script_option, taken, word_done, words_in_file}
 use Rattle.drv_machine.specs.Working.{◌>>-◌, Answer, Atom, Break, End, FileFrom, FileTo, From, Marked, Open, Piped, Put, To, Without}
 use Rattle.drv_machine.specs.declared.machine.marking.Marking.{Marking}
@@ -183,38 +183,38 @@ module _ (F : Facts) (C : Context) where
 
   -- at the end of a run
   word_within : (c d : Cut) (run atoms : List Atom) (name : List ℕ) → list_any opens_word run ≡ true → path F C (record { atoms = run; behind = atoms }) ≡ Is (Ok name)
-      → Within F C (lined (with_word c (opened_by run) name)) (lined d) (words_behind [] atoms) → Within F C (lined c) (lined d) (words_behind run (Break ∷ atoms))
+      → Within F C (lined (with_word c (opened_by run) name)) (lined d) (words_after [] atoms) → Within F C (lined c) (lined d) (words_after run (Break ∷ atoms))
   word_within c d run atoms name some is rest =
       subst (λ (found : List Run). Within F C (lined c) (lined d) found) (sym (word_ends run atoms some))
-      (within_word (lined c) (lined d) (record { atoms = run; behind = atoms }) (if list_any is_script run then script_option ∷ name ∷ [] else name ∷ []) (words_behind [] atoms) (texts_are run atoms name is) rest)
+      (within_word (lined c) (lined d) (record { atoms = run; behind = atoms }) (if list_any is_script run then script_option ∷ name ∷ [] else name ∷ []) (words_after [] atoms) (texts_are run atoms name is) rest)
 
-  bare_within : (l m : Lined) (run atoms : List Atom) → list_any opens_word run ≡ false → Within F C l m (words_behind [] atoms) → Within F C l m (words_behind run (Break ∷ atoms))
+  bare_within : (l m : Lined) (run atoms : List Atom) → list_any opens_word run ≡ false → Within F C l m (words_after [] atoms) → Within F C l m (words_after run (Break ∷ atoms))
   bare_within l m run atoms none rest = subst (λ (found : List Run). Within F C l m found) (sym (bare_ends run atoms none)) rest
 
-  pub within : {run atoms : List Atom} {c d : Cut} → Course F C run c atoms d → list_any bounds_file atoms ≡ false → (l : Line) → c.outer ≡ Some l → c.line.piped ≡ false → Within F C (lined c) (lined d) (words_behind run atoms)
+  pub within : {run atoms : List Atom} {c d : Cut} → Course F C run c atoms d → list_any bounds_file atoms ≡ false → (l : Line) → c.outer ≡ Some l → c.line.piped ≡ false → Within F C (lined c) (lined d) (words_after run atoms)
   within (over {c = c}) n l o p = record { outer = refl; lines = refl; stray = refl; piped = refl; lists = []; all = refl; words = sym (append-nil c.line.words) }
   within (moves {run = run} {atoms = atoms} {c = c} {d = d} atom e rest) n l o p =
       let bounds = not_first (bounds_file atom) (list_any bounds_file atoms) n in
       let same = moved_in_file c atom l bounds.0 o p in
       subst (λ (found : List Run). Within F C (lined c) (lined d) found) (sym (words_moved run atoms atom e))
-      (subst (λ (x : Lined). Within F C x (lined d) (words_behind (run ++ atom ∷ []) atoms)) same
+      (subst (λ (x : Lined). Within F C x (lined d) (words_after (run ++ atom ∷ []) atoms)) same
       (within rest bounds.1 l (ap (λ (x : Lined). x.outer) same ∙ o) (ap (λ (x : Lined). x.line.piped) same ∙ p)))
   within (breaks_bare {run = run} {atoms = atoms} {c = c} {d = d} none rest) n l o p = bare_within (lined c) (lined d) run atoms none (within rest n l o p)
   within (pipes_bare {run = run} {atoms = atoms} {c = c} {d = d} none rest) n l o p =
       let same = pipe_in_file (bare c) c.outer l o in
       bare_within (lined c) (lined d) run atoms none
-      (subst (λ (x : Cut). Within F C (lined x) (lined d) (words_behind [] atoms)) same (within rest n l (ap (λ (x : Cut). x.outer) same ∙ o) (ap (λ (x : Cut). x.line.piped) same ∙ p)))
+      (subst (λ (x : Cut). Within F C (lined x) (lined d) (words_after [] atoms)) same (within rest n l (ap (λ (x : Cut). x.outer) same ∙ o) (ap (λ (x : Cut). x.line.piped) same ∙ p)))
   within (breaks {run = run} {atoms = atoms} {c = c} {d = d} name some is rest) n l o p = word_within c d run atoms name some is (within rest n l o p)
   within (pipes {run = run} {atoms = atoms} {c = c} {d = d} name some is rest) n l o p =
       let same = pipe_in_file (with_word c (opened_by run) name) c.outer l o in
       word_within c d run atoms name some is
-      (subst (λ (x : Cut). Within F C (lined x) (lined d) (words_behind [] atoms)) same (within rest n l (ap (λ (x : Cut). x.outer) same ∙ o) (ap (λ (x : Cut). x.line.piped) same ∙ p)))
+      (subst (λ (x : Cut). Within F C (lined x) (lined d) (words_after [] atoms)) same (within rest n l (ap (λ (x : Cut). x.outer) same ∙ o) (ap (λ (x : Cut). x.line.piped) same ∙ p)))
 
-  bounds_behind : (atoms : List Atom) → list_any bounds_file atoms ≡ false → list_any bounds_file (atoms ++ Break ∷ []) ≡ false
-  bounds_behind [] n = refl
-  bounds_behind (atom ∷ atoms) n =
+  bounds_after : (atoms : List Atom) → list_any bounds_file atoms ≡ false → list_any bounds_file (atoms ++ Break ∷ []) ≡ false
+  bounds_after [] n = refl
+  bounds_after (atom ∷ atoms) n =
       let bounds = not_first (bounds_file atom) (list_any bounds_file atoms) n in
-      ap (λ (b : Bool). b || list_any bounds_file (atoms ++ Break ∷ [])) bounds.0 ∙ bounds_behind atoms bounds.1
+      ap (λ (b : Bool). b || list_any bounds_file (atoms ++ Break ∷ [])) bounds.0 ∙ bounds_after atoms bounds.1
 
   -- the words of a file
   words_within : (d : Cut) (outer : Option Line) → outer ≡ Some nothing_cut.line → words_in_file (record d { outer = outer }) ≡ d.line.words
@@ -228,7 +228,7 @@ module _ (F : Facts) (C : Context) where
       by : Came (all_taken F C (file_begun nothing_cut) (atoms ++ Break ∷ [])) (λ c. Is (Ok (words_in_file c))) found
           → (each (texts F C) (words (atoms ++ Break ∷ [])) >>- λ lists. Is (Ok (flat_map (λ list. list) lists))) ≡ Is (Ok found)
       by (d, went, is) =
-          let w = within (course F C [] (file_begun nothing_cut) (atoms ++ Break ∷ []) d refl went) (bounds_behind atoms n) nothing_cut.line refl refl in
+          let w = within (course F C [] (file_begun nothing_cut) (atoms ++ Break ∷ []) d refl went) (bounds_after atoms n) nothing_cut.line refl refl in
           ap (λ (a : Answer (List (List (List ℕ)))). a >>- λ lists. Is (Ok (flat_map (λ list. list) lists))) w.all
           ∙ ap (λ (ws : List (List ℕ)). Is (Ok ws)) (sym w.words) ∙ ap (λ (ws : List (List ℕ)). Is (Ok ws)) (sym (words_within d d.outer w.outer)) ∙ is
 
@@ -340,7 +340,7 @@ module _ (F : Facts) (C : Context) where
       → all_taken F C (file_done y) rest ≡ Is (Ok d) → AfterFile c rest d
   file_end c x y d atoms rest n o is went e =
       let closed = broken_closed c x is in
-      let w = within F C (course F C [] (file_begun x) (atoms ++ Break ∷ []) y (closed_opens x closed.0) went) (bounds_behind F C atoms n) x.line refl refl in
+      let w = within F C (course F C [] (file_begun x) (atoms ++ Break ∷ []) y (closed_opens x closed.0) went) (bounds_after F C atoms n) x.line refl refl in
       let outside : x.outer ≡ None = closed.1 ∙ o in
       let same : plain (file_done y) ≡ plain x = file_back y y.outer x.line w.outer ∙ same_plain x y x.line x.outer closed.0 (file_closed (file_begun x) y atoms went) w.lines w.stray outside in
       (x, file_done y, is, same, ap (λ (u : Cut). u.outer) same ∙ outside, e)
@@ -440,5 +440,5 @@ module _ (F : Facts) (C : Context) where
       by (c, is, e) =
           ap (λ (atoms : List Atom). line_of F C (open_command [] [] atoms) >>- λ line. Is (Ok line.words)) (sym (with_break without_file stretches refl))
           ∙ ap (λ (a : Answer Line). a >>- λ line. Is (Ok line.words))
-          (around_files (stretches ++ Bare Break ∷ []) c (any_behind is_broken stretches (Bare Break) ∙ n) (ap (all_taken F C nothing_cut) (with_break stretch_atoms stretches refl) ∙ is)).2
+          (around_files (stretches ++ Bare Break ∷ []) c (any_after is_broken stretches (Bare Break) ∙ n) (ap (all_taken F C nothing_cut) (with_break stretch_atoms stretches refl) ∙ is)).2
           ∙ e

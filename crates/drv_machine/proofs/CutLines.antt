@@ -1,4 +1,4 @@
-use Rattle.drv_machine.proofs.Runs.{Course, any_behind, bare, breaks, breaks_bare, course, moves, opened_by, over, pipes, pipes_bare, with_word}
+use Rattle.drv_machine.proofs.Runs.{Course, any_after, bare, breaks, breaks_bare, course, moves, opened_by, over, pipes, pipes_bare, with_word}
 use Rattle.drv_machine.specs.Context.{Context}
 use Rattle.drv_machine.specs.Cuts.{Part, Piece, Pipe, Run, Word, begins_file, commands, each, has_more, has_stray_pipe, is_end_of_word, is_kept, is_nil, is_pipe, is_script, is_stray, lacks_word, line_of, lines, open_command, opens_word, path, texts, word_of}
 use Rattle.drv_machine.specs.Cutting.{Cut, Line, all_taken, argument_words, file_done, inside_done, line_done, line_ended, no_line, nothing_cut, pipe_done, pipe_ended, script_option}
@@ -38,20 +38,20 @@ word_strays pieces w = rw (lacks pieces, more pieces) refl
     more [] = refl
     more (Word v ∷ ps) = more ps
     more (Part ∷ ps) = more ps
-    more (Pipe ∷ ps) = any_behind (λ piece. not (is_end_of_word piece)) ps (Word w)
+    more (Pipe ∷ ps) = any_after (λ piece. not (is_end_of_word piece)) ps (Word w)
 
-more_behind : (pieces : List Piece) (p : Piece) → is_end_of_word p ≡ false → has_more (pieces ++ p ∷ []) ≡ (has_more pieces || list_any is_pipe pieces)
-more_behind [] (Word w) e = absurd cc
-more_behind [] Part e = refl
-more_behind [] Pipe e = refl
-more_behind (Word v ∷ ps) p e = more_behind ps p e
-more_behind (Part ∷ ps) p e = more_behind ps p e
-more_behind (Pipe ∷ ps) p e =
-    any_behind (λ piece. not (is_end_of_word piece)) ps p ∙ ap (λ b. not b || list_any (λ piece. not (is_end_of_word piece)) ps) e
+more_after : (pieces : List Piece) (p : Piece) → is_end_of_word p ≡ false → has_more (pieces ++ p ∷ []) ≡ (has_more pieces || list_any is_pipe pieces)
+more_after [] (Word w) e = absurd cc
+more_after [] Part e = refl
+more_after [] Pipe e = refl
+more_after (Word v ∷ ps) p e = more_after ps p e
+more_after (Part ∷ ps) p e = more_after ps p e
+more_after (Pipe ∷ ps) p e =
+    any_after (λ piece. not (is_end_of_word piece)) ps p ∙ ap (λ b. not b || list_any (λ piece. not (is_end_of_word piece)) ps) e
     ∙ sym (or_true (list_any (λ piece. not (is_end_of_word piece)) ps))
 
 part_strays : (pieces : List Piece) → is_stray (pieces ++ Part ∷ []) ≡ (is_stray pieces || list_any is_pipe pieces)
-part_strays pieces = rw (lacks pieces, more_behind pieces Part refl) (sym (or_assoc (lacks_word pieces) (has_more pieces) (list_any is_pipe pieces)))
+part_strays pieces = rw (lacks pieces, more_after pieces Part refl) (sym (or_assoc (lacks_word pieces) (has_more pieces) (list_any is_pipe pieces)))
   where
     lacks : (ps : List Piece) → lacks_word (ps ++ Part ∷ []) ≡ lacks_word ps
     lacks [] = refl
@@ -59,14 +59,14 @@ part_strays pieces = rw (lacks pieces, more_behind pieces Part refl) (sym (or_as
     lacks (Part ∷ ps) = lacks ps
     lacks (Pipe ∷ ps) = refl
 
-lacks_behind : (pieces : List Piece) → lacks_word (pieces ++ Pipe ∷ []) ≡ (lacks_word pieces || not (list_any is_end_of_word pieces))
-lacks_behind [] = refl
-lacks_behind (Word v ∷ ps) = refl
-lacks_behind (Part ∷ ps) = lacks_behind ps
-lacks_behind (Pipe ∷ ps) = refl
+lacks_after : (pieces : List Piece) → lacks_word (pieces ++ Pipe ∷ []) ≡ (lacks_word pieces || not (list_any is_end_of_word pieces))
+lacks_after [] = refl
+lacks_after (Word v ∷ ps) = refl
+lacks_after (Part ∷ ps) = lacks_after ps
+lacks_after (Pipe ∷ ps) = refl
 
 pipe_strays : (pieces : List Piece) → is_stray (pieces ++ Pipe ∷ []) ≡ ((lacks_word pieces || not (list_any is_end_of_word pieces)) || (has_more pieces || list_any is_pipe pieces))
-pipe_strays pieces = rw (lacks_behind pieces, more_behind pieces Pipe refl) refl
+pipe_strays pieces = rw (lacks_after pieces, more_after pieces Pipe refl) refl
 
 pipe_or_stray : (s stray lacks more piped : Bool) → stray ≡ (s || (lacks || more)) → (stray || piped) ≡ (s || ((lacks || false) || (more || piped)))
 pipe_or_stray s stray lacks more piped e = ap (λ b. b || piped) e ∙ by s lacks more
@@ -125,9 +125,9 @@ pipe_lined : (c : Cut) (outer : Option Line) → outer ≡ None → lined (pipe_
 pipe_lined c None e = pipe_done_lined c c.line.words
 pipe_lined c (Some line) e = absurd cc
 
-some_behind : (xs ys : List (List ℕ)) → is_nil ys ≡ false → is_nil (xs ++ ys) ≡ false
-some_behind [] ys e = e
-some_behind (x ∷ xs) ys e = refl
+some_after : (xs ys : List (List ℕ)) → is_nil ys ≡ false → is_nil (xs ++ ys) ≡ false
+some_after [] ys e = e
+some_after (x ∷ xs) ys e = refl
 
 abbrev ahead : List (List ℕ) → Line → Answer Line
 ahead ws line = Is (Ok (record { words = ws ++ line.words; piped = line.piped }))
@@ -234,8 +234,8 @@ module _ (F : Facts) (C : Context) where
   stands_part ps s l st = record {
     outside = st.outside;
     line = part_line F C ps ∙ st.line;
-    some = st.some ∙ sym (ap not (any_behind is_end_of_word ps Part));
-    piped = st.piped ∙ sym (any_behind is_pipe ps Part);
+    some = st.some ∙ sym (ap not (any_after is_end_of_word ps Part));
+    piped = st.piped ∙ sym (any_after is_pipe ps Part);
     stray = ap (λ b. b || l.line.piped) st.stray ∙ ap (λ b. (s || is_stray ps) || b) st.piped ∙ or_assoc s (is_stray ps) (list_any is_pipe ps) ∙ ap (λ b. s || b) (sym (part_strays ps));
   }
 
@@ -245,8 +245,8 @@ module _ (F : Facts) (C : Context) where
     outside = st.outside;
     line = word_line F C ps w ∙ ap (λ (a : Answer Line). a >>- λ x. texts F C w >>- λ us. with_more x us) st.line
         ∙ ap (λ (a : Answer (List (List ℕ))). a >>- λ us. with_more l.line us) is;
-    some = some_behind l.line.words ts some ∙ sym (ap not (any_behind is_end_of_word ps (Word w)));
-    piped = st.piped ∙ sym (any_behind is_pipe ps (Word w));
+    some = some_after l.line.words ts some ∙ sym (ap not (any_after is_end_of_word ps (Word w)));
+    piped = st.piped ∙ sym (any_after is_pipe ps (Word w));
     stray = st.stray ∙ ap (λ b. s || b) (sym (word_strays ps w));
   }
 
@@ -254,8 +254,8 @@ module _ (F : Facts) (C : Context) where
   stands_pipe ps s l st = record {
     outside = refl;
     line = pipe_line F C ps ∙ ap (λ (a : Answer Line). a >>- λ x. as_piped x) st.line;
-    some = st.some ∙ sym (ap not (any_behind is_end_of_word ps Pipe));
-    piped = sym (any_behind is_pipe ps Pipe);
+    some = st.some ∙ sym (ap not (any_after is_end_of_word ps Pipe));
+    piped = sym (any_after is_pipe ps Pipe);
     stray = ap (λ b. if b then true else l.stray || l.line.piped) st.some ∙ ap (λ b. if not (list_any is_end_of_word ps) then true else l.stray || b) st.piped
         ∙ want_or_pipe (not (list_any is_end_of_word ps)) s l.stray (lacks_word ps) (has_more ps) (list_any is_pipe ps) st.stray ∙ ap (λ b. s || b) (sym (pipe_strays ps));
   }
@@ -296,10 +296,10 @@ module _ (F : Facts) (C : Context) where
       subst (λ (l : Lined). Commanded (commands run ps atoms) (open_command run ps atoms) s l.lines d) same (goes (subst (λ (l : Lined). Stands F C ps s l) (sym same) st))
 
   -- a pipe behind a run
-  pipe_behind : (c d : Cut) (run atoms : List Atom) (ps : List Piece) (s : Bool) → c.outer ≡ None
+  pipe_after : (c d : Cut) (run atoms : List Atom) (ps : List Piece) (s : Bool) → c.outer ≡ None
       → (Stands F C ((ps ++ word_of (record { atoms = run; behind = atoms })) ++ Pipe ∷ []) s (lined (pipe_ended c)) → Commanded (commands run ps (Piped ∷ atoms)) (open_command run ps (Piped ∷ atoms)) s (pipe_ended c).lines d)
       → Stands F C (ps ++ word_of (record { atoms = run; behind = atoms })) s (lined c) → Commanded (commands run ps (Piped ∷ atoms)) (open_command run ps (Piped ∷ atoms)) s c.lines d
-  pipe_behind c d run atoms ps s outside goes st =
+  pipe_after c d run atoms ps s outside goes st =
       subst (λ (l : Lined). Commanded (commands run ps (Piped ∷ atoms)) (open_command run ps (Piped ∷ atoms)) s l.lines d) (pipe_lined c c.outer outside)
       (goes (subst (λ (l : Lined). Stands F C ((ps ++ word_of (record { atoms = run; behind = atoms })) ++ Pipe ∷ []) s l) (sym (pipe_lined c c.outer outside))
       (stands_pipe (ps ++ word_of (record { atoms = run; behind = atoms })) s (lined c) st)))
@@ -330,9 +330,9 @@ module _ (F : Facts) (C : Context) where
   commanded (breaks {run = run} {atoms = atoms} {c = c} name e is rest) ps s f st =
       commanded rest (ps ++ word_of (record { atoms = run; behind = atoms })) s f (stands_full ps s c run atoms name e is st)
   commanded (pipes_bare {run = run} {atoms = atoms} {c = c} {d = d} e rest) ps s f st =
-      pipe_behind (bare c) d run atoms ps s st.outside (commanded rest ((ps ++ word_of (record { atoms = run; behind = atoms })) ++ Pipe ∷ []) s f) (stands_bare ps s (lined c) run atoms e st)
+      pipe_after (bare c) d run atoms ps s st.outside (commanded rest ((ps ++ word_of (record { atoms = run; behind = atoms })) ++ Pipe ∷ []) s f) (stands_bare ps s (lined c) run atoms e st)
   commanded (pipes {run = run} {atoms = atoms} {c = c} {d = d} name e is rest) ps s f st =
-      pipe_behind (with_word c (opened_by run) name) d run atoms ps s st.outside (commanded rest ((ps ++ word_of (record { atoms = run; behind = atoms })) ++ Pipe ∷ []) s f)
+      pipe_after (with_word c (opened_by run) name) d run atoms ps s st.outside (commanded rest ((ps ++ word_of (record { atoms = run; behind = atoms })) ++ Pipe ∷ []) s f)
       (stands_full ps s c run atoms name e is st)
 
   pub commands_are : (atoms : List Atom) (c : Cut) → list_any begins_file atoms ≡ false → all_taken F C nothing_cut atoms ≡ Is (Ok c)
@@ -363,6 +363,6 @@ module _ (F : Facts) (C : Context) where
     where
       by : (x : Answer Cut) → all_taken F C nothing_cut (atoms ++ Break ∷ []) ≡ x → (x >>- λ c. Is (Ok c.line.words)) ≡ Is (Ok found) → last_words atoms ≡ Is (Ok found)
       by (Is (Ok c)) is w =
-          ap (λ (a : Answer Line). a >>- λ line. Is (Ok line.words)) (commands_are (atoms ++ Break ∷ []) c (any_behind begins_file atoms Break ∙ f) is).2 ∙ w
+          ap (λ (a : Answer Line). a >>- λ line. Is (Ok line.words)) (commands_are (atoms ++ Break ∷ []) c (any_after begins_file atoms Break ∙ f) is).2 ∙ w
       by (Is (Err fault)) is w = refused_words (Is (Err fault)) found fault refl w
       by Unasked is w = no_words Unasked found refl w

@@ -22,14 +22,14 @@ letter_b = 98
 no_word_before : has_stray_pipe (Piped ∷ Break ∷ End ∷ []) ≡ true
 no_word_before = refl
 
-word_behind : has_stray_pipe (Put letter_a ∷ Piped ∷ Put letter_b ∷ Break ∷ End ∷ []) ≡ true
-word_behind = refl
+word_after : has_stray_pipe (Put letter_a ∷ Piped ∷ Put letter_b ∷ Break ∷ End ∷ []) ≡ true
+word_after = refl
 
-pipe_behind : has_stray_pipe (Put letter_a ∷ Piped ∷ Piped ∷ Break ∷ End ∷ []) ≡ true
-pipe_behind = refl
+pipe_after : has_stray_pipe (Put letter_a ∷ Piped ∷ Piped ∷ Break ∷ End ∷ []) ≡ true
+pipe_after = refl
 
-nothing_behind : has_stray_pipe (Put letter_a ∷ Piped ∷ Without ∷ Break ∷ End ∷ Put letter_b ∷ Break ∷ End ∷ []) ≡ false
-nothing_behind = refl
+nothing_after : has_stray_pipe (Put letter_a ∷ Piped ∷ Without ∷ Break ∷ End ∷ Put letter_b ∷ Break ∷ End ∷ []) ≡ false
+nothing_after = refl
 
 module _ (F : Facts) where
   abbrev lines_are : List Atom → Answer (List Line)
@@ -60,8 +60,8 @@ module _ (F : Facts) where
   barred : output_is (Put letter_a ∷ Marked AsOutput ∷ Break ∷ Put letter_b ∷ Without ∷ Marked AsOutput ∷ Break ∷ []) ≡ Is (Ok None)
   barred = refl
 
-  begins_behind : output_is (Put letter_a ∷ Break ∷ Marked AsOutput ∷ Without ∷ Put letter_b ∷ Break ∷ []) ≡ Is (Ok (Some (codes "b")))
-  begins_behind = refl
+  begins_after : output_is (Put letter_a ∷ Break ∷ Marked AsOutput ∷ Without ∷ Put letter_b ∷ Break ∷ []) ≡ Is (Ok (Some (codes "b")))
+  begins_after = refl
 
   -- a%w b%V, whose last word has not ended
   barred_at_end : output_is (Put letter_a ∷ Marked AsOutput ∷ Break ∷ Put letter_b ∷ Without ∷ []) ≡ Is (Ok None)
@@ -90,8 +90,8 @@ module _ (F : Facts) where
   empty_inner : failures_are (From ∷ Put letter_a ∷ Break ∷ From ∷ Break ∷ To ∷ Break ∷ To ∷ []) ≡ Is (Ok (codes "a" ∷ []))
   empty_inner = refl
 
-  word_behind_inner : failures_are (From ∷ From ∷ Put letter_a ∷ Break ∷ To ∷ Put letter_b ∷ Break ∷ To ∷ []) ≡ Is (Ok (codes "a" ∷ codes "b" ∷ []))
-  word_behind_inner = refl
+  word_after_inner : failures_are (From ∷ From ∷ Put letter_a ∷ Break ∷ To ∷ Put letter_b ∷ Break ∷ To ∷ []) ≡ Is (Ok (codes "a" ∷ codes "b" ∷ []))
+  word_after_inner = refl
 
   -- an end of a %W that never began
   never_began : failures_are (Put letter_a ∷ Break ∷ To ∷ []) ≡ Is (Ok [])

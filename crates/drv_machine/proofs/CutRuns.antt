@@ -1,7 +1,7 @@
 use Rattle.drv_machine.proofs.Laws.{then_then}
 use Rattle.drv_machine.proofs.Runs.{Course, bare, bare_ends, breaks, breaks_bare, broken_is, course, end_kept, ended, ended_as, file_kept, moved, moves, moves_on, name_of, open_in, opened_by, over, pipe_kept, pipes, pipes_bare, with_word, word_ends, words_moved}
 use Rattle.drv_machine.specs.Context.{Context}
-use Rattle.drv_machine.specs.Cuts.{Run, each, if_any, is_bar, is_barred, is_output, is_removed, is_removed_word, last_of, may_be_output, opens_word, output, path, removed, whether, words, words_behind}
+use Rattle.drv_machine.specs.Cuts.{Run, each, if_any, is_bar, is_barred, is_output, is_removed, is_removed_word, last_of, may_be_output, opens_word, output, path, removed, whether, words, words_after}
 use Rattle.drv_machine.specs.Cutting.{Cut, all_taken, inside_done, nothing_cut, pipe_ended}
 use Rattle.drv_machine.specs.Working.{◌>>-◌, Answer, Atom, Break, End, FileFrom, FileTo, From, Marked, Open, Piped, Put, To, Without}
 use Rattle.drv_system.specs.Facts.{Facts}
@@ -58,9 +58,9 @@ moved_output c FileFrom bar = refl
 moved_output c FileTo bar = ap (λ (x : Cut). unless bar x.output) (file_kept c)
 
 -- a %V behind the beginning of a word stands in it or behind it
-barred_or_behind : (run atoms : List Atom) → list_any opens_word run ≡ true → is_barred (run ++ atoms) ≡ (is_barred run || list_any is_bar atoms)
-barred_or_behind [] atoms e = absurd cc
-barred_or_behind (x ∷ run) atoms e = by (opens_word x) refl e (barred_or_behind run atoms)
+barred_or_after : (run atoms : List Atom) → list_any opens_word run ≡ true → is_barred (run ++ atoms) ≡ (is_barred run || list_any is_bar atoms)
+barred_or_after [] atoms e = absurd cc
+barred_or_after (x ∷ run) atoms e = by (opens_word x) refl e (barred_or_after run atoms)
   where
     by : (b : Bool) → opens_word x ≡ b → (b || list_any opens_word run) ≡ true → (list_any opens_word run ≡ true → is_barred (run ++ atoms) ≡ (is_barred run || list_any is_bar atoms))
         → (if b then list_any is_bar (run ++ atoms) else is_barred (run ++ atoms)) ≡ ((if b then list_any is_bar run else is_barred run) || list_any is_bar atoms)
@@ -87,23 +87,23 @@ module _ (F : Facts) (C : Context) where
   abbrev marked_removed : List Run → List Run
   marked_removed found = filter is_removed_word found
 
-  pub removed_after : {run atoms : List Atom} {c d : Cut} → Course F C run c atoms d → After (marked_removed (words_behind run atoms)) c.removed d.removed
+  pub removed_after : {run atoms : List Atom} {c d : Cut} → Course F C run c atoms d → After (marked_removed (words_after run atoms)) c.removed d.removed
   removed_after (over {c = c}) = after_none c.removed
   removed_after (moves {run = run} {atoms = atoms} {c = c} {d = d} atom e rest) =
       subst (λ (found : List Run). After (marked_removed found) c.removed d.removed) (sym (words_moved run atoms atom e))
-      (subst (λ (b : List (List ℕ)). After (marked_removed (words_behind (run ++ atom ∷ []) atoms)) b d.removed) (moved_removed c atom) (removed_after rest))
+      (subst (λ (b : List (List ℕ)). After (marked_removed (words_after (run ++ atom ∷ []) atoms)) b d.removed) (moved_removed c atom) (removed_after rest))
   removed_after (breaks_bare {run = run} {atoms = atoms} {c = c} {d = d} e rest) =
       subst (λ (found : List Run). After (marked_removed found) c.removed d.removed) (sym (bare_ends run atoms e)) (removed_after rest)
   removed_after (pipes_bare {run = run} {atoms = atoms} {c = c} {d = d} e rest) =
       subst (λ (found : List Run). After (marked_removed found) c.removed d.removed) (sym (bare_ends run atoms e))
-      (subst (λ (b : List (List ℕ)). After (marked_removed (words_behind [] atoms)) b d.removed) (ap (λ (x : Cut). x.removed) (pipe_kept (bare c))) (removed_after rest))
+      (subst (λ (b : List (List ℕ)). After (marked_removed (words_after [] atoms)) b d.removed) (ap (λ (x : Cut). x.removed) (pipe_kept (bare c))) (removed_after rest))
   removed_after (breaks {run = run} {atoms = atoms} {c = c} {d = d} name e is rest) =
       subst (λ (found : List Run). After (marked_removed found) c.removed d.removed) (sym (word_ends run atoms e))
-      (after_if (list_any is_removed run) (record { atoms = run; behind = atoms }) (marked_removed (words_behind [] atoms)) c.removed d.removed name is (removed_after rest))
+      (after_if (list_any is_removed run) (record { atoms = run; behind = atoms }) (marked_removed (words_after [] atoms)) c.removed d.removed name is (removed_after rest))
   removed_after (pipes {run = run} {atoms = atoms} {c = c} {d = d} name e is rest) =
       subst (λ (found : List Run). After (marked_removed found) c.removed d.removed) (sym (word_ends run atoms e))
-      (after_if (list_any is_removed run) (record { atoms = run; behind = atoms }) (marked_removed (words_behind [] atoms)) c.removed d.removed name is
-      (subst (λ (b : List (List ℕ)). After (marked_removed (words_behind [] atoms)) b d.removed) (ap (λ (x : Cut). x.removed) (pipe_kept (with_word c (opened_by run) name))) (removed_after rest)))
+      (after_if (list_any is_removed run) (record { atoms = run; behind = atoms }) (marked_removed (words_after [] atoms)) c.removed d.removed name is
+      (subst (λ (b : List (List ℕ)). After (marked_removed (words_after [] atoms)) b d.removed) (ap (λ (x : Cut). x.removed) (pipe_kept (with_word c (opened_by run) name))) (removed_after rest)))
 
   -- the last one, or what was the output before
   abbrev or_before : Option Run → Option (List ℕ) → Answer (Option (List ℕ))
@@ -130,55 +130,55 @@ module _ (F : Facts) (C : Context) where
   outputs found = filter may_be_output found
 
   word_last : (run atoms : List Atom) (c : Cut) (name : List ℕ) → list_any opens_word run ≡ true → path F C (record { atoms = run; behind = atoms }) ≡ Is (Ok name)
-      → or_before (last_of (outputs (words_behind run (Break ∷ atoms)))) (unless (list_any is_bar atoms) c.output)
-      ≡ or_before (last_of (outputs (words_behind [] atoms))) (unless (list_any is_bar atoms) (with_word c (opened_by run) name).output)
+      → or_before (last_of (outputs (words_after run (Break ∷ atoms)))) (unless (list_any is_bar atoms) c.output)
+      ≡ or_before (last_of (outputs (words_after [] atoms))) (unless (list_any is_bar atoms) (with_word c (opened_by run) name).output)
   word_last run atoms c name e is =
       ap (λ (found : List Run). or_before (last_of (outputs found)) (unless (list_any is_bar atoms) c.output)) (word_ends run atoms e)
-      ∙ ap (λ (b : Bool). or_before (last_of (if list_any is_output run && not b then record { atoms = run; behind = atoms } ∷ outputs (words_behind [] atoms) else outputs (words_behind [] atoms))) (unless (list_any is_bar atoms) c.output)) (barred_or_behind run atoms e)
-      ∙ last_more (list_any is_output run) (is_barred run) (list_any is_bar atoms) (record { atoms = run; behind = atoms }) (outputs (words_behind [] atoms)) c.output name is
+      ∙ ap (λ (b : Bool). or_before (last_of (if list_any is_output run && not b then record { atoms = run; behind = atoms } ∷ outputs (words_after [] atoms) else outputs (words_after [] atoms))) (unless (list_any is_bar atoms) c.output)) (barred_or_after run atoms e)
+      ∙ last_more (list_any is_output run) (is_barred run) (list_any is_bar atoms) (record { atoms = run; behind = atoms }) (outputs (words_after [] atoms)) c.output name is
 
-  pub output_after : {run atoms : List Atom} {c d : Cut} → Course F C run c atoms d → or_before (last_of (outputs (words_behind run atoms))) (unless (list_any is_bar atoms) c.output) ≡ Is (Ok d.output)
+  pub output_after : {run atoms : List Atom} {c d : Cut} → Course F C run c atoms d → or_before (last_of (outputs (words_after run atoms))) (unless (list_any is_bar atoms) c.output) ≡ Is (Ok d.output)
   output_after over = refl
   output_after (moves {run = run} {atoms = atoms} {c = c} {d = d} atom e rest) =
       ap (λ (found : List Run). or_before (last_of (outputs found)) (unless (is_bar atom || list_any is_bar atoms) c.output)) (words_moved run atoms atom e)
-      ∙ ap (or_before (last_of (outputs (words_behind (run ++ atom ∷ []) atoms)))) (sym (moved_output c atom (list_any is_bar atoms))) ∙ output_after rest
+      ∙ ap (or_before (last_of (outputs (words_after (run ++ atom ∷ []) atoms)))) (sym (moved_output c atom (list_any is_bar atoms))) ∙ output_after rest
   output_after (breaks_bare {run = run} {atoms = atoms} {c = c} {d = d} e rest) =
       ap (λ (found : List Run). or_before (last_of (outputs found)) (unless (list_any is_bar atoms) c.output)) (bare_ends run atoms e) ∙ output_after rest
   output_after (pipes_bare {run = run} {atoms = atoms} {c = c} {d = d} e rest) =
       ap (λ (found : List Run). or_before (last_of (outputs found)) (unless (list_any is_bar atoms) c.output)) (bare_ends run atoms e)
-      ∙ ap (λ (x : Cut). or_before (last_of (outputs (words_behind [] atoms))) (unless (list_any is_bar atoms) x.output)) (sym (pipe_kept (bare c))) ∙ output_after rest
+      ∙ ap (λ (x : Cut). or_before (last_of (outputs (words_after [] atoms))) (unless (list_any is_bar atoms) x.output)) (sym (pipe_kept (bare c))) ∙ output_after rest
   output_after (breaks {run = run} {atoms = atoms} {c = c} {d = d} name e is rest) = word_last run atoms c name e is ∙ output_after rest
   output_after (pipes {run = run} {atoms = atoms} {c = c} {d = d} name e is rest) =
       word_last run atoms c name e is
-      ∙ ap (λ (x : Cut). or_before (last_of (outputs (words_behind [] atoms))) (unless (list_any is_bar atoms) x.output)) (sym (pipe_kept (with_word c (opened_by run) name))) ∙ output_after rest
+      ∙ ap (λ (x : Cut). or_before (last_of (outputs (words_after [] atoms))) (unless (list_any is_bar atoms) x.output)) (sym (pipe_kept (with_word c (opened_by run) name))) ∙ output_after rest
 
   whether_then : {X Y : Type 0} (a : Answer X) (f : X → Y) → whether (a >>- λ x. Is (Ok (f x))) ≡ whether a
   whether_then a f = then_then a (λ x. Is (Ok (f x))) (λ y. Is (Ok tt))
 
   -- at the end of a run
-  run_ends : (run atoms : List Atom) (c : Cut) (k : Cut → Cut) → ((n : List ℕ) → whether (all_taken F C (k (with_word c (opened_by run) n)) atoms) ≡ whether (each (path F C) (words_behind [] atoms)))
-      → whether (all_taken F C (k (bare c)) atoms) ≡ whether (each (path F C) (words_behind [] atoms))
-      → whether ((ended F C c (opened_by run) >>- λ x. Is (Ok (k x))) >>- λ x. all_taken F C x atoms) ≡ whether (each (path F C) (words_behind run (Break ∷ atoms)))
+  run_ends : (run atoms : List Atom) (c : Cut) (k : Cut → Cut) → ((n : List ℕ) → whether (all_taken F C (k (with_word c (opened_by run) n)) atoms) ≡ whether (each (path F C) (words_after [] atoms)))
+      → whether (all_taken F C (k (bare c)) atoms) ≡ whether (each (path F C) (words_after [] atoms))
+      → whether ((ended F C c (opened_by run) >>- λ x. Is (Ok (k x))) >>- λ x. all_taken F C x atoms) ≡ whether (each (path F C) (words_after run (Break ∷ atoms)))
   run_ends run atoms c k full empty = by (list_any opens_word run) (name_of F C (opened_by run)) refl refl
     where
       w : Run
       w = record { atoms = run; behind = atoms }
 
       by : (begun : Bool) (name : Answer (List ℕ)) → list_any opens_word run ≡ begun → name_of F C (opened_by run) ≡ name
-          → whether ((ended_as F C c (opened_by run) begun name >>- λ x. Is (Ok (k x))) >>- λ x. all_taken F C x atoms) ≡ whether (each (path F C) (words_behind run (Break ∷ atoms)))
+          → whether ((ended_as F C c (opened_by run) begun name >>- λ x. Is (Ok (k x))) >>- λ x. all_taken F C x atoms) ≡ whether (each (path F C) (words_after run (Break ∷ atoms)))
       by false name b n = empty ∙ ap (λ (found : List Run). whether (each (path F C) found)) (sym (bare_ends run atoms b))
       by true (Is (Ok name)) b n =
           full name ∙ sym (ap (λ (found : List Run). whether (each (path F C) found)) (word_ends run atoms b)
-          ∙ ap (λ (a : Answer (List ℕ)). whether (a >>- λ y. each (path F C) (words_behind [] atoms) >>- λ ys. Is (Ok (y ∷ ys)))) n ∙ whether_then (each (path F C) (words_behind [] atoms)) (λ ys. name ∷ ys))
+          ∙ ap (λ (a : Answer (List ℕ)). whether (a >>- λ y. each (path F C) (words_after [] atoms) >>- λ ys. Is (Ok (y ∷ ys)))) n ∙ whether_then (each (path F C) (words_after [] atoms)) (λ ys. name ∷ ys))
       by true (Is (Err fault)) b n =
           sym (ap (λ (found : List Run). whether (each (path F C) found)) (word_ends run atoms b)
-          ∙ ap (λ (a : Answer (List ℕ)). whether (a >>- λ y. each (path F C) (words_behind [] atoms) >>- λ ys. Is (Ok (y ∷ ys)))) n)
+          ∙ ap (λ (a : Answer (List ℕ)). whether (a >>- λ y. each (path F C) (words_after [] atoms) >>- λ ys. Is (Ok (y ∷ ys)))) n)
       by true Unasked b n =
           sym (ap (λ (found : List Run). whether (each (path F C) found)) (word_ends run atoms b)
-          ∙ ap (λ (a : Answer (List ℕ)). whether (a >>- λ y. each (path F C) (words_behind [] atoms) >>- λ ys. Is (Ok (y ∷ ys)))) n)
+          ∙ ap (λ (a : Answer (List ℕ)). whether (a >>- λ y. each (path F C) (words_after [] atoms) >>- λ ys. Is (Ok (y ∷ ys)))) n)
 
   -- a cut goes through, or stops, as its words are found
-  pub found_alike : (run : List Atom) (c : Cut) (atoms : List Atom) → open_in c ≡ opened_by run → whether (all_taken F C c atoms) ≡ whether (each (path F C) (words_behind run atoms))
+  pub found_alike : (run : List Atom) (c : Cut) (atoms : List Atom) → open_in c ≡ opened_by run → whether (all_taken F C c atoms) ≡ whether (each (path F C) (words_after run atoms))
   found_alike run c [] e = refl
   found_alike run c (Break ∷ atoms) e =
       ap (λ (a : Answer Cut). whether (a >>- λ x. all_taken F C x atoms)) (broken_is F C c ∙ ap (ended F C c) e ∙ sym (then_ok (ended F C c (opened_by run))))

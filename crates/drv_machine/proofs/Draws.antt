@@ -32,9 +32,9 @@ module _ (shared : Bool) (suffix : List ℕ) where
   drawn_here name later none is = rw (none, is) refl
 
   -- whatever was drawn before
-  drawn_behind : (front later : List Drawn) (path : List ℕ) → last_drawn shared suffix later ≡ Some path → last_drawn shared suffix (front ++ later) ≡ Some path
-  drawn_behind [] later path is = is
-  drawn_behind (name ∷ front) later path is = rw (drawn_behind front later path is) refl
+  drawn_after : (front later : List Drawn) (path : List ℕ) → last_drawn shared suffix later ≡ Some path → last_drawn shared suffix (front ++ later) ≡ Some path
+  drawn_after [] later path is = is
+  drawn_after (name ∷ front) later path is = rw (drawn_after front later path is) refl
 
   -- the last one stands at this place
   pub drawn_at : (drawn : List Drawn) (i next : ℕ) (name : Drawn) (path : List ℕ) → i < length drawn → next ≡ i + 1 → name ≡ get_or drawn i name → last_drawn shared suffix (drop next drawn) ≡ None → is_drawn shared suffix name ≡ true → path ≡ name.path
@@ -42,7 +42,7 @@ module _ (shared : Bool) (suffix : List ℕ) where
   drawn_at drawn i next name path within follows at none is same =
       let later = ap (λ k. last_drawn shared suffix (drop k drawn)) (sym follows) ∙ none in
       let here = ap (last_drawn shared suffix) (drop_more drawn i name within ∙ ap (λ n. n ∷ drop (i + 1) drawn) (sym at)) ∙ drawn_here name (drop (i + 1) drawn) later is in
-      ap Some same ∙ sym (drawn_behind (take i drawn) (drop i drawn) name.path here) ∙ ap (last_drawn shared suffix) (take-append-drop i drawn)
+      ap Some same ∙ sym (drawn_after (take i drawn) (drop i drawn) name.path here) ∙ ap (last_drawn shared suffix) (take-append-drop i drawn)
 
 -- where commands are piped, %| is a hyphen
 pub piped_out : (F : Facts) (C : Context) (s : Machine) (kind : TempKind) (suffix : List ℕ) → kind ≡ PipedOut → C.is_piping ≡ true → run F C s (bytes (hyphen ∷ [])) ≡ run F C s (temp_step F C kind suffix)

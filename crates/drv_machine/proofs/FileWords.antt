@@ -172,5 +172,5 @@ module _ (F : Facts) (C : Context) where
       ∙ sym (then_then (found_file F C word) (λ path. Is (Ok (word_done (record c { word = Some word; marks = record c.marks { script = false; file = true } }) (path ∷ []) path))) g)
   begun_as c (Some word) false false f g e = e (word_done (record c { word = Some word; marks = record c.marks { script = false; file = false } }) (word ∷ []) word) refl
 
-  pub behind_break : {Y : Type 0} (c : Cut) (f g : Cut → Answer Y) → ((d : Cut) → Begun (file_begun d) → f d ≡ g d) → (broken F C c >>- f) ≡ (broken F C c >>- g)
-  behind_break c f g e = begun_as c c.word c.marks.script c.marks.file f g e
+  pub after_break : {Y : Type 0} (c : Cut) (f g : Cut → Answer Y) → ((d : Cut) → Begun (file_begun d) → f d ≡ g d) → (broken F C c >>- f) ≡ (broken F C c >>- g)
+  after_break c f g e = begun_as c c.word c.marks.script c.marks.file f g e

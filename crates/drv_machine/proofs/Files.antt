@@ -1,4 +1,4 @@
-use Rattle.drv_machine.proofs.FileWords.{Begun, behind_break, file_words_as}
+use Rattle.drv_machine.proofs.FileWords.{Begun, after_break, file_words_as}
 use Rattle.drv_machine.proofs.Laws.{all_taken-append, done-behind, then_same, then_then}
 use Rattle.drv_machine.proofs.Steps.{fails_as, then_fails, then_ok}
 use Rattle.drv_machine.specs.Atoms.{draw_with, file_step, filed, named_file}
@@ -79,13 +79,13 @@ module _ (F : Facts) (C : Context) where
   abbrev names_file : World → Cut → Answer (Unit {0} × Machine)
   names_file v d = done F C (file_done d) (named_file F C (words_in_file d) (outside v))
 
-  named_behind : (v : World) (atoms : List Atom) (x : Answer Cut) → file_words F C atoms ≡ (x >>- λ d. Is (Ok (words_in_file d)))
+  named_after : (v : World) (atoms : List Atom) (x : Answer Cut) → file_words F C atoms ≡ (x >>- λ d. Is (Ok (words_in_file d)))
       → (x >>- λ d. done F C (file_done d) ((needs (file_words F C atoms) >>= named_file F C) (outside v))) ≡ (x >>- names_file v)
-  named_behind v atoms (Is (Ok d)) e =
+  named_after v atoms (Is (Ok d)) e =
       ap (λ y. done F C (file_done d) ((needs y >>= named_file F C) (outside v))) e
       ∙ done-behind F C (file_done d) [] (named_file F C (words_in_file d) (outside v))
-  named_behind v atoms (Is (Err fault)) e = refl
-  named_behind v atoms Unasked e = refl
+  named_after v atoms (Is (Err fault)) e = refl
+  named_after v atoms Unasked e = refl
 
   -- words that end in the file, and its end
   words_filed : (v : World) (atoms : List Atom) (b : Cut) → Begun b
@@ -95,7 +95,7 @@ module _ (F : Facts) (C : Context) where
       ap (λ xs. all_taken F C b xs >>- λ d. done F C d ((needs (file_words F C atoms) >>= named_file F C) (outside v))) (sym (append_assoc atoms (Break ∷ []) (FileTo ∷ [])))
       ∙ ap (λ x. x >>- λ d. done F C d ((needs (file_words F C atoms) >>= named_file F C) (outside v))) (all_taken-append F C b (atoms ++ Break ∷ []) (FileTo ∷ []))
       ∙ then_then (all_taken F C b (atoms ++ Break ∷ [])) (λ d. all_taken F C d (FileTo ∷ [])) (λ d. done F C d ((needs (file_words F C atoms) >>= named_file F C) (outside v)))
-      ∙ named_behind v atoms (all_taken F C b (atoms ++ Break ∷ [])) (file_words_as F C b e atoms)
+      ∙ named_after v atoms (all_taken F C b (atoms ++ Break ∷ [])) (file_words_as F C b e atoms)
       ∙ ap (λ x. x >>- names_file v) (all_taken-append F C b atoms (Break ∷ []))
       ∙ then_then (all_taken F C b atoms) (λ d. all_taken F C d (Break ∷ [])) (names_file v)
       ∙ then_same (all_taken F C b atoms) (λ d. all_taken F C d (Break ∷ []) >>- names_file v) (λ d. file_end F C (record { cut = d; world = v }))
@@ -106,7 +106,7 @@ module _ (F : Facts) (C : Context) where
   filed_done c (Goes atoms u v) =
       done-behind F C c (Break ∷ FileFrom ∷ atoms ++ Break ∷ FileTo ∷ []) ((needs (file_words F C atoms) >>= named_file F C) (outside v))
       ∙ then_then (broken F C c) (λ d. all_taken F C (file_begun d) (atoms ++ Break ∷ FileTo ∷ [])) (λ d. done F C d ((needs (file_words F C atoms) >>= named_file F C) (outside v)))
-      ∙ behind_break F C c (λ d. all_taken F C (file_begun d) (atoms ++ Break ∷ FileTo ∷ []) >>- λ e. done F C e ((needs (file_words F C atoms) >>= named_file F C) (outside v)))
+      ∙ after_break F C c (λ d. all_taken F C (file_begun d) (atoms ++ Break ∷ FileTo ∷ []) >>- λ e. done F C e ((needs (file_words F C atoms) >>= named_file F C) (outside v)))
       (λ d. done F C (file_begun d) (Goes atoms u v) >>- λ q. file_end F C q.1) (λ d begun. words_filed v atoms (file_begun d) begun)
   filed_done c (Refuses atoms fault) =
       then_then (broken F C c) (λ d. all_taken F C (file_begun d) atoms) (λ d. Is (Err fault))

@@ -1,6 +1,6 @@
-use Rattle.drv_machine.proofs.Arguments.{behind_then}
+use Rattle.drv_machine.proofs.Arguments.{after_then}
 use Rattle.drv_machine.proofs.Laws.{run_then}
-use Rattle.drv_machine.proofs.Onward.{behind_as, leaf, same_step}
+use Rattle.drv_machine.proofs.Onward.{after_as, leaf, same_step}
 use Rattle.drv_machine.proofs.Standing.{next_at}
 use Rattle.drv_machine.proofs.Steps.{then_fails, then_ok}
 use Rattle.drv_machine.specs.Atoms.{choices_step, first_true, found_step, has_value, items_step, judged, truth, turned, worked}
@@ -9,7 +9,7 @@ use Rattle.drv_machine.specs.Context.{Context}
 use Rattle.drv_machine.specs.Cutting.{Cut}
 use Rattle.drv_machine.specs.Code.Running.{Machine, run}
 use Rattle.drv_machine.specs.Code.Standing.{Stands}
-use Rattle.drv_machine.specs.Code.Walking.{After, AskFits, Behind, Kept, arguments_of, asked_on, behind_arguments, levels_in, onward, star_of}
+use Rattle.drv_machine.specs.Code.Walking.{After, AskFits, Behind, Kept, arguments_of, asked_on, after_arguments, levels_in, onward, star_of}
 use Rattle.drv_machine.specs.Working.{◌>>-◌, ◌>>=◌, Answer, Levels, Step, give}
 use Rattle.drv_machine.specs.declared.fault.MachineFault.TheVariants.{Memory}
 use Rattle.drv_machine.specs.declared.fault.MachineFault.{MachineFault}
@@ -32,13 +32,13 @@ use Rattle.std.proofs.lemmas.Option.{slice_get_within}
 
 module _ (F : Facts) (C : Context) (text : List ℕ) (w : Walk) (items : Items) (kept : Kept) (given : Answer (Unit {0} × Machine)) where
   -- the arguments have ended, and the function was called
-  module _ (end : ℕ) (outer : Cut) (s : Machine) (a : After F C text w end (λ levels star t. behind_arguments F C outer (asked_on F C items kept levels star) t) s given) where
-    answer_is : behind_arguments F C outer (asked_on F C items kept (levels_in F C a.arounds) (star_of C w.star)) s
-        ≡ (behind_arguments F C outer (has_value F C kept.name) s >>- λ r. run F C r.1 (judged F C kept.negated kept.asked kept.tests (levels_in F C a.arounds) (star_of C w.star) r.0 >>= found_step F C items kept.choices (levels_in F C a.arounds) (star_of C w.star)))
+  module _ (end : ℕ) (outer : Cut) (s : Machine) (a : After F C text w end (λ levels star t. after_arguments F C outer (asked_on F C items kept levels star) t) s given) where
+    answer_is : after_arguments F C outer (asked_on F C items kept (levels_in F C a.arounds) (star_of C w.star)) s
+        ≡ (after_arguments F C outer (has_value F C kept.name) s >>- λ r. run F C r.1 (judged F C kept.negated kept.asked kept.tests (levels_in F C a.arounds) (star_of C w.star) r.0 >>= found_step F C items kept.choices (levels_in F C a.arounds) (star_of C w.star)))
     answer_is =
-        behind_then F C outer (has_value F C kept.name) (λ holds. judged F C kept.negated kept.asked kept.tests (levels_in F C a.arounds) (star_of C w.star) holds >>= found_step F C items kept.choices (levels_in F C a.arounds) (star_of C w.star)) s
+        after_then F C outer (has_value F C kept.name) (λ holds. judged F C kept.negated kept.asked kept.tests (levels_in F C a.arounds) (star_of C w.star) holds >>= found_step F C items kept.choices (levels_in F C a.arounds) (star_of C w.star)) s
 
-    pub answered : (holds : Bool) (t : Machine) → behind_arguments F C outer (has_value F C kept.name) s ≡ Is (Ok (holds, t))
+    pub answered : (holds : Bool) (t : Machine) → after_arguments F C outer (has_value F C kept.name) s ≡ Is (Ok (holds, t))
         → Behind F C text w end (λ levels star. judged F C kept.negated kept.asked kept.tests levels star holds >>= found_step F C items kept.choices levels star) t given
     answered holds t went = record {
       rest = a.rest;
@@ -50,7 +50,7 @@ module _ (F : Facts) (C : Context) (text : List ℕ) (w : Walk) (items : Items) 
           ∙ a.same;
     }
 
-    pub answer_refused : (fault : MachineFault) → (fault ≡ Memory) ⊎ (behind_arguments F C outer (has_value F C kept.name) s ≡ Is (Err fault)) → (fault ≡ Memory) ⊎ (given ≡ Is (Err fault))
+    pub answer_refused : (fault : MachineFault) → (fault ≡ Memory) ⊎ (after_arguments F C outer (has_value F C kept.name) s ≡ Is (Err fault)) → (fault ≡ Memory) ⊎ (given ≡ Is (Err fault))
     answer_refused fault (inl memory) = inl memory
     answer_refused fault (inr e) =
         inr (sym a.same ∙ ap (λ x. x >>- λ r. onward F C w.star a.rest a.arounds r.1) (answer_is
@@ -62,7 +62,7 @@ module _ (F : Facts) (C : Context) (text : List ℕ) (w : Walk) (items : Items) 
     pub answer_true : turned kept.negated holds ≡ true
         → Behind F C text w asking.next (λ levels star. worked F C (Some kept.asked) (has_star items) (λ rest inside. items_step F C items inside rest) levels star (choices_step F C kept.choices (levels_in F C b.arounds) (star_of C w.star))) s given
     answer_true t =
-        behind_as F C text w s given asking.end (λ levels star. judged F C kept.negated kept.asked kept.tests levels star holds >>= found_step F C items kept.choices levels star) b asking.next (kept.choices, fits.choices_stand)
+        after_as F C text w s given asking.end (λ levels star. judged F C kept.negated kept.asked kept.tests levels star holds >>= found_step F C items kept.choices levels star) b asking.next (kept.choices, fits.choices_stand)
         (λ levels star. worked F C (Some kept.asked) (has_star items) (λ rest inside. items_step F C items inside rest) levels star (choices_step F C kept.choices (levels_in F C b.arounds) (star_of C w.star))) s
         (ap (λ x. x >>- λ r. onward F C w.star b.rest b.arounds r.1)
         (sym (ap (λ holds. run F C s ((if holds then give (Some kept.asked) else first_true F C kept.tests (levels_in F C b.arounds) (star_of C w.star)) >>= found_step F C items kept.choices (levels_in F C b.arounds) (star_of C w.star))) t
@@ -86,7 +86,7 @@ module _ (F : Facts) (C : Context) (text : List ℕ) (w : Walk) (items : Items) 
       later_true u test found P go =
           let t = found (levels_in F C c.arounds) (star_of C w.star) in
           go t.negated t.asked others t.label_is
-          (behind_as F C text w s given asking.end (λ levels star. first_true F C kept.tests levels star >>= found_step F C items kept.choices levels star) c asking.next (kept.choices, fits.choices_stand)
+          (after_as F C text w s given asking.end (λ levels star. first_true F C kept.tests levels star >>= found_step F C items kept.choices levels star) c asking.next (kept.choices, fits.choices_stand)
           (λ levels star. worked F C (Some t.asked) (has_star items) (λ rest inside. items_step F C items inside rest) levels star others) u
           (ap (λ x. x >>- λ r. onward F C w.star c.rest c.arounds r.1)
           (sym (then_ok F C s (first_true F C kept.tests (levels_in F C c.arounds) (star_of C w.star)) (found_step F C items kept.choices (levels_in F C c.arounds) (star_of C w.star)) (Some t.asked) u t.gives)) ∙ c.same))

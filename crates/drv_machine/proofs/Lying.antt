@@ -26,9 +26,9 @@ skips_join text (tree.choice span tests items xs) ys a b c (next, part, within, 
 pub no_skip : (text : List ℕ) (at : ℕ) → Skips text at at
 no_skip text at = (tree.no_choice, refl)
 
-pub lies_behind : (text : List ℕ) (a b : ℕ) (rest : Items) (end : ℕ) → Skips text a b → Lies text b rest end → Lies text a rest end
-lies_behind text a b tree.none end s l = (choices_joined s.0 l.0, skips_join text s.0 l.0 a b end s.1 l.1)
-lies_behind text a b (tree.more span item items) end s (start, next, skips, part, within, behind) =
+pub lies_after : (text : List ℕ) (a b : ℕ) (rest : Items) (end : ℕ) → Skips text a b → Lies text b rest end → Lies text a rest end
+lies_after text a b tree.none end s l = (choices_joined s.0 l.0, skips_join text s.0 l.0 a b end s.1 l.1)
+lies_after text a b (tree.more span item items) end s (start, next, skips, part, within, behind) =
     (start, next, (choices_joined s.0 skips.0, skips_join text s.0 skips.0 a b start s.1 skips.1), part, within, behind)
 
 -- some items, and others behind them

@@ -61,8 +61,8 @@ module _ (F : Facts) where
   mark_dropped = refl
 
   -- a%w%V b and a%V%w b
-  no_output_behind : left_behind (Put letter_a ∷ Marked AsOutput ∷ Without ∷ Break ∷ Put letter_b ∷ []) ≡ Is (Ok (None, codes "a" ∷ []))
-  no_output_behind = refl
+  no_output_after : left_behind (Put letter_a ∷ Marked AsOutput ∷ Without ∷ Break ∷ Put letter_b ∷ []) ≡ Is (Ok (None, codes "a" ∷ []))
+  no_output_after = refl
 
   no_output_before : left_behind (Put letter_a ∷ Without ∷ Marked AsOutput ∷ Break ∷ Put letter_b ∷ []) ≡ Is (Ok (None, codes "a" ∷ []))
   no_output_before = refl

@@ -1,6 +1,6 @@
 use Rattle.drv_machine.proofs.ItemKinds.{builtin_item, inner_step, item_by_kind, text_item}
 use Rattle.drv_machine.proofs.Laws.{run_then, then_same, then_then}
-use Rattle.drv_machine.proofs.Lying.{Reached, joined, lies_alone, lies_behind, lies_joined, nothing_left}
+use Rattle.drv_machine.proofs.Lying.{Reached, joined, lies_alone, lies_after, lies_joined, nothing_left}
 use Rattle.drv_machine.proofs.Standing.{next_at, some_same}
 use Rattle.drv_machine.proofs.WorkSteps.{item_means}
 use Rattle.drv_machine.specs.Atoms.{choices_step, item_step, items_step, levels_left, matching, named, tree_named}
@@ -106,9 +106,9 @@ pub left_in : (F : Facts) (C : Context) (text other : List ℕ) (w : Walk) (s : 
 left_in F C text other w s given e left = subst (λ (t : List ℕ). Left F C t w s given) (sym e) left
 
 -- and by a walk that has the same open parts around it
-pub behind_in : (F : Facts) (C : Context) (text : List ℕ) (w v : Walk) (at : ℕ) (step : Levels → List ℕ → Step (Unit {0})) (s : Machine) (given : Answer (Unit {0} × Machine)) → v.end ≡ w.end → v.star ≡ w.star → v.frames ≡ w.frames
+pub after_in : (F : Facts) (C : Context) (text : List ℕ) (w v : Walk) (at : ℕ) (step : Levels → List ℕ → Step (Unit {0})) (s : Machine) (given : Answer (Unit {0} × Machine)) → v.end ≡ w.end → v.star ≡ w.star → v.frames ≡ w.frames
     → Behind F C text w at step s given → Behind F C text v at step s given
-behind_in F C text w v at step s given end_is star_is frames_is b = record {
+after_in F C text w v at step s given end_is star_is frames_is b = record {
   rest = b.rest;
   arounds = b.arounds;
   lies = subst (λ (k : ℕ). Lies text at b.rest k) (sym end_is) b.lies;
@@ -117,9 +117,9 @@ behind_in F C text w v at step s given end_is star_is frames_is b = record {
 }
 
 -- the end of a part that is a step
-pub as_behind : (F : Facts) (C : Context) (text : List ℕ) (w : Walk) (at : ℕ) (step : Levels → List ℕ → Step (Unit {0})) (s : Machine) (given : Answer (Unit {0} × Machine)) → After F C text w at (λ levels star t. run F C t (step levels star)) s given
+pub as_after : (F : Facts) (C : Context) (text : List ℕ) (w : Walk) (at : ℕ) (step : Levels → List ℕ → Step (Unit {0})) (s : Machine) (given : Answer (Unit {0} × Machine)) → After F C text w at (λ levels star t. run F C t (step levels star)) s given
     → Behind F C text w at step s given
-as_behind F C text w at step s given a = record { rest = a.rest; arounds = a.arounds; lies = a.lies; framed = a.framed; same = a.same }
+as_after F C text w at step s given a = record { rest = a.rest; arounds = a.arounds; lies = a.lies; framed = a.framed; same = a.same }
 
 module _ (F : Facts) (C : Context) where
   -- three steps
@@ -151,8 +151,8 @@ module _ (F : Facts) (C : Context) where
 
   module _ (text : List ℕ) (w : Walk) (s : Machine) (given : Answer (Unit {0} × Machine)) where
     -- the item that is reached, behind its count
-    pub behind_item : (left : Left F C text w s given) (r : Reached text w.at left.rest w.end) (u : Machine) → run F C s counted ≡ Is (Ok (tt, u)) → Behind F C text w r.next (λ levels star. item_step F C r.item levels star) u given
-    behind_item left r u e = record {
+    pub after_item : (left : Left F C text w s given) (r : Reached text w.at left.rest w.end) (u : Machine) → run F C s counted ≡ Is (Ok (tt, u)) → Behind F C text w r.next (λ levels star. item_step F C r.item levels star) u given
+    after_item left r u e = record {
       rest = r.others;
       arounds = left.arounds;
       lies = r.behind;
@@ -188,9 +188,9 @@ module _ (F : Facts) (C : Context) where
       leaf (Err fault) t (inr e) = inr (sym b.same ∙ ap (λ x. x >>- λ r. onward F C w.star b.rest b.arounds r.1) e)
 
       -- another step from another place on
-      pub behind_as : (front : ℕ) → Skips text front at → (other : Levels → List ℕ → Step (Unit {0})) (t : Machine)
+      pub after_as : (front : ℕ) → Skips text front at → (other : Levels → List ℕ → Step (Unit {0})) (t : Machine)
           → ((run F C t (other (levels_in F C b.arounds) (star_of C w.star)) >>- λ r. onward F C w.star b.rest b.arounds r.1) ≡ given) → Behind F C text w front other t given
-      behind_as front skips other t e = record { rest = b.rest; arounds = b.arounds; lies = lies_behind text front at b.rest w.end skips b.lies; framed = b.framed; same = e }
+      after_as front skips other t e = record { rest = b.rest; arounds = b.arounds; lies = lies_after text front at b.rest w.end skips b.lies; framed = b.framed; same = e }
 
       pub same_step : (other : Levels → List ℕ → Step (Unit {0})) (t : Machine)
           → run F C s (step (levels_in F C b.arounds) (star_of C w.star)) ≡ run F C t (other (levels_in F C b.arounds) (star_of C w.star)) → Behind F C text w at other t given

@@ -256,8 +256,8 @@ no_words : temps_of (from_file (on [] (codes "a.q"))) (codes "prog %@{I*} %i") �
 no_words = refl
 
 -- the name is drawn behind those inside, as by %u, and an inner %@ makes no file
-drawn_behind : texts.words_of untouched two_folders (codes "prog %@{I*:%g.s %@{I*}} %U.args") ≡ Is (Ok ((codes "prog" ∷ codes "@/tmp/cc0000002a_2.args" ∷ codes "/tmp/cc0000002a_2.args" ∷ []) ∷ []))
-drawn_behind = rw (decimal_digit 1 (omega arith), decimal_digit 2 (omega arith)) refl
+drawn_after : texts.words_of untouched two_folders (codes "prog %@{I*:%g.s %@{I*}} %U.args") ≡ Is (Ok ((codes "prog" ∷ codes "@/tmp/cc0000002a_2.args" ∷ codes "/tmp/cc0000002a_2.args" ∷ []) ∷ []))
+drawn_after = rw (decimal_digit 1 (omega arith), decimal_digit 2 (omega arith)) refl
 
 inner_file : temps_of two_folders (codes "prog %@{I*:a %@{I*:b}}")
     ≡ Is (Ok (record { path = codes "/tmp/cc0000002a_1.args"; contents = codes "a\nb\n" } ∷ []))
@@ -268,8 +268,8 @@ file_breaks : texts.words_of untouched two_folders (codes "%@{I*:a |\nb}c") ≡ 
 file_breaks = rw (decimal_digit 1 (omega arith)) refl
 
 -- behind a pipe a file with words is stray, and one without is not
-file_behind_pipe : texts.words_of untouched two_folders (codes "c | %@{I*}\nd") ≡ Is (Err StrayPipe)
-file_behind_pipe = rw (decimal_digit 1 (omega arith)) refl
+file_after_pipe : texts.words_of untouched two_folders (codes "c | %@{I*}\nd") ≡ Is (Err StrayPipe)
+file_after_pipe = rw (decimal_digit 1 (omega arith)) refl
 
-no_file_behind_pipe : texts.words_of untouched (from_file (linking [])) (codes "c | %@{I*}\nd") ≡ Is (Ok ((codes "c" ∷ []) ∷ (codes "d" ∷ []) ∷ []))
-no_file_behind_pipe = refl
+no_file_after_pipe : texts.words_of untouched (from_file (linking [])) (codes "c | %@{I*}\nd") ≡ Is (Ok ((codes "c" ∷ []) ∷ (codes "d" ∷ []) ∷ []))
+no_file_after_pipe = refl

@@ -15,9 +15,9 @@ equal : (a b : ℕ) → a ≡ b → (a == b) ≡ true
 equal a b same = grind (arith, nat_tests)
 
 -- and whatever stands before
-parted_behind : (mark : ℕ) (front name before behind : List ℕ) → parted mark name ≡ Some (before, behind) → parted mark (front ++ name) ≡ Some (front ++ before, behind)
-parted_behind mark [] name before behind is = is
-parted_behind mark (b ∷ front) name before behind is = rw (parted_behind mark front name before behind is) refl
+parted_after : (mark : ℕ) (front name before behind : List ℕ) → parted mark name ≡ Some (before, behind) → parted mark (front ++ name) ≡ Some (front ++ before, behind)
+parted_after mark [] name before behind is = is
+parted_after mark (b ∷ front) name before behind is = rw (parted_after mark front name before behind is) refl
 
 -- it stands at this place
 pub parted_at : (mark i : ℕ) (name : List ℕ) → i < length name → get_or name i 0 ≡ mark → parted mark (drop (i + 1) name) ≡ None
@@ -27,7 +27,7 @@ parted_at mark i name within is none =
     let here : parted mark (drop i name) ≡ Some ([], drop (i + 1) name) = ap (parted mark) (drop_more name i 0 within) ∙ parted_here mark (get_or name i 0) (drop (i + 1) name) (equal (get_or name i 0) mark is) none in
     ap (λ rest. Some (take i name, rest)) all
     ∙ sym (ap (λ front. Some (front, drop (i + 1) name)) (append-nil (take i name)))
-    ∙ sym (parted_behind mark (take i name) (drop i name) [] (drop (i + 1) name) here)
+    ∙ sym (parted_after mark (take i name) (drop i name) [] (drop (i + 1) name) here)
     ∙ ap (parted mark) (take-append-drop i name)
 
 -- none of these bytes is of the kind

@@ -1,5 +1,5 @@
 use Rattle.drv_machine.specs.Context.{Context}
-use Rattle.drv_machine.specs.Cuts.{byte_of, ends_word, is_bar, is_barred, is_file, is_output, is_removed, is_script, opens_word, path, words_behind}
+use Rattle.drv_machine.specs.Cuts.{byte_of, ends_word, is_bar, is_barred, is_file, is_output, is_removed, is_script, opens_word, path, words_after}
 use Rattle.drv_machine.specs.Cutting.{Cut, Line, all_taken, broken, file_begun, file_done, found_file, found_script, in_word, inside_done, line_done, line_ended, marked, no_line, no_marks, pipe_done, pipe_ended, script_option, touched}
 use Rattle.drv_machine.specs.Working.{◌>>-◌, Answer, Atom, Break, End, FileFrom, FileTo, From, Marked, Open, Piped, Put, To, Without}
 use Rattle.drv_machine.specs.declared.fault.MachineFault.{MachineFault}
@@ -73,12 +73,12 @@ around true true c = refl
 around true false c = refl
 around false b c = refl
 
-pub any_behind : {X : Type 0} (p : X → Bool) (xs : List X) (x : X) → list_any p (xs ++ x ∷ []) ≡ (p x || list_any p xs)
-any_behind p [] x = refl
-any_behind p (y ∷ ys) x = ap (λ b. p y || b) (any_behind p ys x) ∙ around (p y) (p x) (list_any p ys)
+pub any_after : {X : Type 0} (p : X → Bool) (xs : List X) (x : X) → list_any p (xs ++ x ∷ []) ≡ (p x || list_any p xs)
+any_after p [] x = refl
+any_after p (y ∷ ys) x = ap (λ b. p y || b) (any_after p ys x) ∙ around (p y) (p x) (list_any p ys)
 
-bytes_behind : (run : List Atom) (atom : Atom) → flat_map byte_of (run ++ atom ∷ []) ≡ with_byte (flat_map byte_of run) atom
-bytes_behind run atom = flat_map-append byte_of run (atom ∷ []) ∙ by atom
+bytes_after : (run : List Atom) (atom : Atom) → flat_map byte_of (run ++ atom ∷ []) ≡ with_byte (flat_map byte_of run) atom
+bytes_after run atom = flat_map-append byte_of run (atom ∷ []) ∙ by atom
   where
     by : (a : Atom) → flat_map byte_of run ++ (byte_of a ++ []) ≡ with_byte (flat_map byte_of run) a
     by (Put b) = refl
@@ -101,18 +101,18 @@ yes_either_way : (b c : Bool) → (b || c) ≡ (if b then true else c)
 yes_either_way true c = refl
 yes_either_way false c = refl
 
-barred_behind : (run : List Atom) (atom : Atom) → is_barred (run ++ atom ∷ []) ≡ (if is_bar atom then list_any opens_word run else is_barred run)
-barred_behind [] atom = same_either_way (opens_word atom) false ∙ sym (same_either_way (is_bar atom) false)
-barred_behind (x ∷ run) atom = by (opens_word x) (barred_behind run atom)
+barred_after : (run : List Atom) (atom : Atom) → is_barred (run ++ atom ∷ []) ≡ (if is_bar atom then list_any opens_word run else is_barred run)
+barred_after [] atom = same_either_way (opens_word atom) false ∙ sym (same_either_way (is_bar atom) false)
+barred_after (x ∷ run) atom = by (opens_word x) (barred_after run atom)
   where
     by : (b : Bool) → is_barred (run ++ atom ∷ []) ≡ (if is_bar atom then list_any opens_word run else is_barred run)
         → (if b then list_any is_bar (run ++ atom ∷ []) else is_barred (run ++ atom ∷ [])) ≡ (if is_bar atom then b || list_any opens_word run else (if b then list_any is_bar run else is_barred run))
-    by true e = any_behind is_bar run atom ∙ yes_either_way (is_bar atom) (list_any is_bar run)
+    by true e = any_after is_bar run atom ∙ yes_either_way (is_bar atom) (list_any is_bar run)
     by false e = e
 
 opened_further : (run : List Atom) (atom : Atom) → opened_by (run ++ atom ∷ []) ≡ further (opened_by run) atom
 opened_further run atom =
-    rw (any_behind opens_word run atom, bytes_behind run atom, any_behind is_removed run atom, any_behind is_output run atom, any_behind is_file run atom, any_behind is_script run atom, barred_behind run atom) refl
+    rw (any_after opens_word run atom, bytes_after run atom, any_after is_removed run atom, any_after is_output run atom, any_after is_file run atom, any_after is_script run atom, barred_after run atom) refl
 
 -- an atom that ends no word
 abbrev pub moved : Cut → Atom → Cut
@@ -200,13 +200,13 @@ with_word c o name = record c {
 }
 
 -- the words where an atom is no end of one, and at an end
-pub words_moved : (run atoms : List Atom) (atom : Atom) → ends_word atom ≡ false → words_behind run (atom ∷ atoms) ≡ words_behind (run ++ atom ∷ []) atoms
+pub words_moved : (run atoms : List Atom) (atom : Atom) → ends_word atom ≡ false → words_after run (atom ∷ atoms) ≡ words_after (run ++ atom ∷ []) atoms
 words_moved run atoms atom e = rw e refl
 
-pub bare_ends : (run atoms : List Atom) → list_any opens_word run ≡ false → words_behind run (Break ∷ atoms) ≡ words_behind [] atoms
+pub bare_ends : (run atoms : List Atom) → list_any opens_word run ≡ false → words_after run (Break ∷ atoms) ≡ words_after [] atoms
 bare_ends run atoms e = rw e refl
 
-pub word_ends : (run atoms : List Atom) → list_any opens_word run ≡ true → words_behind run (Break ∷ atoms) ≡ record { atoms = run; behind = atoms } ∷ words_behind [] atoms
+pub word_ends : (run atoms : List Atom) → list_any opens_word run ≡ true → words_after run (Break ∷ atoms) ≡ record { atoms = run; behind = atoms } ∷ words_after [] atoms
 word_ends run atoms e = rw e refl
 
 module _ (F : Facts) (C : Context) where

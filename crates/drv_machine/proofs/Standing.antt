@@ -1,4 +1,4 @@
-use Rattle.drv_machine.specs.Code.Standing.{Part, Spans, Stand, Stands, behind_tests, is_test, tests_in}
+use Rattle.drv_machine.specs.Code.Standing.{Part, Spans, Stand, Stands, after_tests, is_test, tests_in}
 use Rattle.drv_syntax.proofs.WalkNodes.{flat, items_flat}
 use Rattle.drv_syntax.specs.Labels.{Label, Nodes, both, labels, labels_of, no_label, no_node, node, nodes_of}
 use Rattle.drv_syntax.specs.Parsed.{tree_of}
@@ -87,7 +87,7 @@ pub record Passed (text : List ℕ) (start at : ℕ) (nodes : Nodes) (end : ℕ)
   pub rest : Nodes
   pub stands : Stands text at rest end
   pub joins : (x : ℕ) → Stands text at (tests_in rest) x → Stands text start (tests_in nodes) x
-  pub same : behind_tests rest ≡ behind_tests nodes
+  pub same : after_tests rest ≡ after_tests nodes
 
 pub passed_none : (text : List ℕ) (start : ℕ) (nodes : Nodes) (end : ℕ) → Stands text start nodes end → Passed text start start nodes end
 passed_none text start nodes end s = record { rest = nodes; stands = s; joins = λ x t. t; same = refl }
@@ -161,16 +161,16 @@ module _ (text : List ℕ) (at end : ℕ) (h : at < end) (token : Token) (e : sl
           joins = λ x s.
               p.joins x (subst (λ (xs : Nodes). Stands text at xs x) (sym (ap tests_in f.is ∙ ap (λ b. if b then node f.kind f.label f.span f.inner (tests_in f.others) else no_node) test))
               (f.next, f.part, f.within, subst (λ (k : ℕ). Stands text k (tests_in f.others) x) n s));
-          same = sym (ap (λ b. if b then behind_tests f.others else node f.kind f.label f.span f.inner f.others) test) ∙ sym (ap behind_tests f.is) ∙ p.same;
+          same = sym (ap (λ b. if b then after_tests f.others else node f.kind f.label f.span f.inner f.others) test) ∙ sym (ap after_tests f.is) ∙ p.same;
         }
 
-    pub passed_stop : is_test token.kind ≡ false → Stands text start (tests_in nodes) at × Stands text at (behind_tests nodes) end
+    pub passed_stop : is_test token.kind ≡ false → Stands text start (tests_in nodes) at × Stands text at (after_tests nodes) end
     passed_stop t =
         let f = front text at p.rest end h p.stands in
         let test : is_test f.kind ≡ false = ap is_test (sym (kind_there p.rest f)) ∙ t in (
           p.joins at (subst (λ (xs : Nodes). Stands text at xs at) (sym (ap tests_in f.is ∙ ap (λ b. if b then node f.kind f.label f.span f.inner (tests_in f.others) else no_node) test)) refl),
           subst (λ (xs : Nodes). Stands text at xs end)
-              (f.is ∙ sym (ap (λ b. if b then behind_tests f.others else node f.kind f.label f.span f.inner f.others) test) ∙ sym (ap behind_tests f.is) ∙ p.same) p.stands,
+              (f.is ∙ sym (ap (λ b. if b then after_tests f.others else node f.kind f.label f.span f.inner f.others) test) ∙ sym (ap after_tests f.is) ∙ p.same) p.stands,
         )
 
 -- at the end nothing is left
@@ -188,11 +188,11 @@ front_in text at end h s = let f = front text at s.nodes end h s.stands in slice
 at_end : (text : List ℕ) (at end : ℕ) (nodes : Nodes) → end ≤ at → Stands text at nodes end → at ≡ end
 at_end text at end nodes h s = omega (arith, h, stand_grows _ _ at nodes end s)
 
-pub passed_end : (text : List ℕ) (start at : ℕ) (nodes : Nodes) (end : ℕ) → end ≤ at → Passed text start at nodes end → Stands text start (tests_in nodes) at × Stands text at (behind_tests nodes) end
+pub passed_end : (text : List ℕ) (start at : ℕ) (nodes : Nodes) (end : ℕ) → end ≤ at → Passed text start at nodes end → Stands text start (tests_in nodes) at × Stands text at (after_tests nodes) end
 passed_end text start at nodes end h p =
     let none = none_left text at end p.rest h p.stands in (
       p.joins at (subst (λ (xs : Nodes). Stands text at xs at) (sym (ap tests_in none)) refl),
-      subst (λ (xs : Nodes). Stands text at xs end) (sym (ap behind_tests none) ∙ p.same) (at_end text at end p.rest h p.stands),
+      subst (λ (xs : Nodes). Stands text at xs end) (sym (ap after_tests none) ∙ p.same) (at_end text at end p.rest h p.stands),
     )
 
 -- the part at a place ends where its token says

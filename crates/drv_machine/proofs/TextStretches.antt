@@ -101,13 +101,13 @@ WellDone b (Waits atoms) = ⊤
 pub record Well {X : Type 0} (step : Step X) : Type 0 where
   pub stays : (w : World) (b : Bool) → w.is_in_file ≡ b → WellDone b (step w)
 
-behind_well : {X : Type 0} (b : Bool) (atoms : List Atom) (work : Work X) → Fits b atoms → WellDone b work → WellDone b (behind atoms work)
-behind_well b atoms (Goes others x v) e f = (fits_append b atoms others e f.0, f.1)
-behind_well b atoms (Refuses others fault) e f = tt
-behind_well b atoms (Waits others) e f = tt
+after_well : {X : Type 0} (b : Bool) (atoms : List Atom) (work : Work X) → Fits b atoms → WellDone b work → WellDone b (behind atoms work)
+after_well b atoms (Goes others x v) e f = (fits_append b atoms others e f.0, f.1)
+after_well b atoms (Refuses others fault) e f = tt
+after_well b atoms (Waits others) e f = tt
 
 follow_well : {X Y : Type 0} (b : Bool) (work : Work X) (f : X → Step Y) → WellDone b work → ((x : X) → Well (f x)) → WellDone b (follow work f)
-follow_well b (Goes atoms x v) f e goes = behind_well b atoms (f x v) e.0 ((goes x).stays v b e.1)
+follow_well b (Goes atoms x v) f e goes = after_well b atoms (f x v) e.0 ((goes x).stays v b e.1)
 follow_well b (Refuses atoms fault) f e goes = tt
 follow_well b (Waits atoms) f e goes = tt
 
@@ -178,7 +178,7 @@ module _ (F : Facts) (C : Context) where
       (change_well (λ w. record w { number = w.number + 1; drawn = w.drawn ++ record { shared = shared; suffix = suffix; path = path; contents = contents } ∷ [] }) (λ w. refl)) (λ u. give_well path)))
 
   drawn_as : (shared : Bool) (suffix : List ℕ) (w : World) (b : Bool) (path : Option (List ℕ)) → last_drawn shared suffix w.drawn ≡ path → w.is_in_file ≡ b → WellDone b (drawn_or_new F C shared suffix w)
-  drawn_as shared suffix w b None e i = rw e (behind_well b [] (draw F C shared suffix w) (fits_bare b [] refl) ((draw_well [] shared suffix).stays w b i))
+  drawn_as shared suffix w b None e i = rw e (after_well b [] (draw F C shared suffix w) (fits_bare b [] refl) ((draw_well [] shared suffix).stays w b i))
   drawn_as shared suffix w b (Some path) e i = rw e (fits_bare b [] refl, i)
 
   drawn_well : (shared : Bool) (suffix : List ℕ) → Well (drawn_or_new F C shared suffix)
@@ -206,7 +206,7 @@ module _ (F : Facts) (C : Context) where
       then_well (needs_well (called (outcomes.called F (names C) v.hidden (is_none C.input) function args v.outputs))) (λ c. then_well (change_well (λ u. record u { outputs = c.outputs }) (λ u. refl)) (λ u. give_well c.given))
 
   call_well : (name : List ℕ) (args : List (List ℕ)) → Well (call_step F C name args)
-  call_well name args = record { stays = λ w b i. behind_well b [] (called_step F C args (function_of name) w w) (fits_bare b [] refl) ((called_well args (function_of name) w).stays w b i) }
+  call_well name args = record { stays = λ w b i. after_well b [] (called_step F C args (function_of name) w w) (fits_bare b [] refl) ((called_well args (function_of name) w).stays w b i) }
 
   value_well : (name : List ℕ) (args : List (List ℕ)) → Well (value_step F C name args)
   value_well name args = then_well (call_well name args) (λ given. bytes_well (unwrap_or given []))
@@ -232,7 +232,7 @@ module _ (F : Facts) (C : Context) where
 
   filed_well : (work : Work (Unit {0})) → WellDone true work → WellDone false (filed F C work)
   filed_well (Goes atoms u v) e =
-      behind_well false (Break ∷ FileFrom ∷ atoms ++ Break ∷ FileTo ∷ []) ((needs (file_words F C atoms) >>= named_file F C) (record v { is_in_file = false })) (one_file atoms e.0)
+      after_well false (Break ∷ FileFrom ∷ atoms ++ Break ∷ FileTo ∷ []) ((needs (file_words F C atoms) >>= named_file F C) (record v { is_in_file = false })) (one_file atoms e.0)
       ((then_well (needs_well (file_words F C atoms)) named_file_well).stays (record v { is_in_file = false }) false refl)
   filed_well (Refuses atoms fault) e = tt
   filed_well (Waits atoms) e = tt
@@ -246,7 +246,7 @@ module _ (F : Facts) (C : Context) where
   chosen_as step w e true false i = subst (λ (inside : Bool). WellDone false ((if not inside then file_step F C step else step) w)) (sym i) (file_well step w e)
 
   chosen_well : (step : Step (Unit {0})) → Well step → Well (look (starts_file F C) >>= λ starts. if starts then file_step F C step else step)
-  chosen_well step e = record { stays = λ w b i. behind_well b [] ((if starts_file F C w then file_step F C step else step) w) (fits_bare b [] refl) (chosen_as step w e C.from_file b i) }
+  chosen_well step e = record { stays = λ w b i. after_well b [] ((if starts_file F C w then file_step F C step else step) w) (fits_bare b [] refl) (chosen_as step w e C.from_file b i) }
 
   named_well : (items : Option Items) (levels : Levels) → WellLevels levels → Well (named F C items levels)
   named_well None levels e = puts_well [] refl

@@ -1,6 +1,6 @@
 use Rattle.drv_machine.proofs.ItemKinds.{failure_item, filed_item, function_item, inner_step}
 use Rattle.drv_machine.proofs.Lying.{Reached, lies_alone, place_in, reached}
-use Rattle.drv_machine.proofs.Onward.{Popped, behind_in, behind_item, builtin_there, choices_there, closes, count_stops, kind_there, leaf, means_there, none_open, part_ended, popped, same_step, step_there, text_there}
+use Rattle.drv_machine.proofs.Onward.{Popped, after_in, after_item, builtin_there, choices_there, closes, count_stops, kind_there, leaf, means_there, none_open, part_ended, popped, same_step, step_there, text_there}
 use Rattle.drv_machine.proofs.Standing.{next_at, some_same}
 use Rattle.drv_machine.specs.Atoms.{choices_step, item_step, items_step, levels_left, named, tree_named}
 use Rattle.drv_machine.specs.Code.ByKind.{Means, kind_step}
@@ -66,7 +66,7 @@ module _ (text : List ℕ) (w : Walk) (item : AtItem text w) (token : Token) (th
       pub counted_item : Behind F C text w token.next (λ levels star. item_step F C front.item levels star) u given
       counted_item =
           subst (λ (k : ℕ). Behind F C text w k (λ levels star. item_step F C front.item levels star) u given) (sym (next_at text w.at token (kind_of front.item) (label_of front.item) front.next there front.part))
-          (behind_item F C text w s given left front u e)
+          (after_item F C text w s given left front u e)
 
       -- an item that opens no part
       pub turn_item : (result : Result (Unit {0}) MachineFault) (t : Machine)
@@ -90,23 +90,23 @@ module _ (text : List ℕ) (w : Walk) (item : AtItem text w) (token : Token) (th
           (subst (λ (n : List ℕ). GivesKnown Memory (λ x. (tt, t)) result (run F C u (bytes n))) is put))
 
       -- a named text, from the place behind it
-      text_behind : (name : List ℕ) → name ≡ (label_at (tree_of text) w.at).word
+      text_after : (name : List ℕ) → name ≡ (label_at (tree_of text) w.at).word
           → item_step F C front.item (levels_in F C counted_item.arounds) (star_of C w.star) ≡ named F C (tree_named F C (label_at (tree_of text) w.at).word) (levels_in F C counted_item.arounds)
           → Behind F C text (record w { at = token.next }) token.next (λ levels star. named F C (tree_named F C name) levels) u given
-      text_behind name is step =
+      text_after name is step =
           subst (λ (n : List ℕ). Behind F C text (record w { at = token.next }) token.next (λ levels star. named F C (tree_named F C n) levels) u given) (sym is)
-          (behind_in F C text w (record w { at = token.next }) token.next (λ levels star. named F C (tree_named F C (label_at (tree_of text) w.at).word) levels) u given refl refl refl
+          (after_in F C text w (record w { at = token.next }) token.next (λ levels star. named F C (tree_named F C (label_at (tree_of text) w.at).word) levels) u given refl refl refl
           (same_step F C text w u given token.next (λ levels star. item_step F C front.item levels star) counted_item (λ levels star. named F C (tree_named F C (label_at (tree_of text) w.at).word) levels) u (ap (run F C u) step)))
 
       pub turn_text : token.kind ≡ kinds.NamedText → (name : List ℕ) → name ≡ (label_at (tree_of text) w.at).word
           → Behind F C text (record w { at = token.next }) token.next (λ levels star. named F C (tree_named F C name) levels) u given
       turn_text k name is =
-          text_behind name is (text_there F C text w.at front.next (levels_in F C counted_item.arounds) (star_of C w.star) front.item front.part front.within token there k)
+          text_after name is (text_there F C text w.at front.next (levels_in F C counted_item.arounds) (star_of C w.star) front.item front.part front.within token there k)
 
       pub turn_builtin : token.kind ≡ kinds.BuiltinText → (name : List ℕ) → name ≡ (label_at (tree_of text) w.at).word
           → Behind F C text (record w { at = token.next }) token.next (λ levels star. named F C (tree_named F C name) levels) u given
       turn_builtin k name is =
-          text_behind name is (builtin_there F C text w.at front.next (levels_in F C counted_item.arounds) (star_of C w.star) front.item front.part front.within token there k)
+          text_after name is (builtin_there F C text w.at front.next (levels_in F C counted_item.arounds) (star_of C w.star) front.item front.part front.within token there k)
 
       -- what stands inside the item
       inside_there : Stands text (w.at + 1) (inner_nodes front.item) token.next
@@ -187,10 +187,10 @@ module _ (F : Facts) (C : Context) (text : List ℕ) (w : Walk) (s : Machine) wh
   pub framed_of : (given : Answer (Unit {0} × Machine)) → Left F C text w s given → HasFrames C text w
   framed_of given left = record { arounds = left.arounds; framed = left.framed }
 
-  nothing_behind : (a : Answer (Unit {0} × Machine)) → (a >>- λ r. Is (Ok (tt, r.1))) ≡ a
-  nothing_behind (Is (Ok r)) = refl
-  nothing_behind (Is (Err fault)) = refl
-  nothing_behind Unasked = refl
+  nothing_after : (a : Answer (Unit {0} × Machine)) → (a >>- λ r. Is (Ok (tt, r.1))) ≡ a
+  nothing_after (Is (Ok r)) = refl
+  nothing_after (Is (Err fault)) = refl
+  nothing_after Unasked = refl
 
   -- a walk over a whole text
   pub started : (items : Items) (end : ℕ) → Stands text 0 (nodes_of items) end → w.at ≡ 0 → w.end ≡ end → w.star ≡ None → w.frames ≡ []
@@ -200,7 +200,7 @@ module _ (F : Facts) (C : Context) (text : List ℕ) (w : Walk) (s : Machine) wh
     arounds = [];
     lies = subst (λ (k : ℕ). Lies text k items w.end) (sym at_is) (subst (λ (k : ℕ). Lies text 0 items k) (sym end_is) (lies_alone text items 0 end stands));
     framed = frames_is;
-    same = ap (λ star. onward F C star items [] s) star_is ∙ nothing_behind (run F C s (items_step F C items (levels_left F C most_open) []));
+    same = ap (λ star. onward F C star items [] s) star_is ∙ nothing_after (run F C s (items_step F C items (levels_left F C most_open) []));
   }
 
 -- no frame was there

@@ -62,11 +62,11 @@ runs before (atom ∷ atoms) = if ends_word atom then record { atoms = before; b
 abbrev pub is_word : Run → Bool
 is_word run = list_any opens_word run.atoms
 
-abbrev pub words_behind : List Atom → List Atom → List Run
-words_behind before atoms = filter is_word (runs before atoms)
+abbrev pub words_after : List Atom → List Atom → List Run
+words_after before atoms = filter is_word (runs before atoms)
 
 abbrev pub words : List Atom → List Run
-words atoms = words_behind [] atoms
+words atoms = words_after [] atoms
 
 -- a %V stands behind the beginning of the word
 abbrev pub is_barred : List Atom → Bool
@@ -113,13 +113,13 @@ pub record Place : Type 0 where
   pub before : List Atom
   pub atom : Atom
 
-abbrev pub places_behind : List Atom → List Atom → List Place
-places_behind before [] = []
-places_behind before (atom ∷ atoms) =
-    record { before = before; atom = atom } ∷ places_behind (atom ∷ before) atoms
+abbrev pub places_after : List Atom → List Atom → List Place
+places_after before [] = []
+places_after before (atom ∷ atoms) =
+    record { before = before; atom = atom } ∷ places_after (atom ∷ before) atoms
 
 abbrev pub places : List Atom → List Place
-places atoms = places_behind [] atoms
+places atoms = places_after [] atoms
 
 -- the run that ends behind these atoms
 abbrev pub run_before : List Atom → List Atom

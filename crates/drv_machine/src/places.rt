@@ -1,7 +1,7 @@
 //! Parts of a text by their places in its flat list.
 
 ghost use Rattle.drv_machine.specs.Code.ByKind.{labelled};
-ghost use Rattle.drv_machine.specs.Code.Standing.{Spans, Stands, behind_tests, tests_in};
+ghost use Rattle.drv_machine.specs.Code.Standing.{Spans, Stands, after_tests, tests_in};
 ghost use Rattle.drv_syntax.specs.Labels.{Nodes, label_at};
 ghost use Rattle.drv_syntax.specs.Parsed.{tree_of};
 ghost use Rattle.drv_syntax.specs.Tokens.{tokens_of};
@@ -33,7 +33,7 @@ pub fn pattern_at(tree: &SpecTree, at: usize) -> Pattern<'_>
 pub fn tests_end(tree: &SpecTree, start: usize, end: usize) -> usize
     requires { Spans tree.now start end }
     ensures tests { (nodes : Nodes) → Stands tree.now start nodes end → Stands tree.now start (tests_in nodes) result }
-    ensures rest { (nodes : Nodes) → Stands tree.now start nodes end → Stands tree.now result (behind_tests nodes) end }
+    ensures rest { (nodes : Nodes) → Stands tree.now start nodes end → Stands tree.now result (after_tests nodes) end }
 {
     let mut at = start;
     while at < end {

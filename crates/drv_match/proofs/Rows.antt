@@ -83,16 +83,16 @@ one_named (suc zero) d low high = absurd (omega (arith, low))
 one_named (suc (suc zero)) d low high = refl
 one_named (suc (suc (suc k))) d low high = absurd (omega (arith, high))
 
-longer_behind : AllWithin (λ i. is_named (named (codes "m")) (name_at line i) ≡ false) places 3 5
-longer_behind zero d low high = absurd (omega (arith, low))
-longer_behind (suc zero) d low high = absurd (omega (arith, low))
-longer_behind (suc (suc zero)) d low high = absurd (omega (arith, low))
-longer_behind (suc (suc (suc zero))) d low high = refl
-longer_behind (suc (suc (suc (suc zero)))) d low high = refl
-longer_behind (suc (suc (suc (suc (suc k))))) d low high = absurd (omega (arith, high))
+longer_after : AllWithin (λ i. is_named (named (codes "m")) (name_at line i) ≡ false) places 3 5
+longer_after zero d low high = absurd (omega (arith, low))
+longer_after (suc zero) d low high = absurd (omega (arith, low))
+longer_after (suc (suc zero)) d low high = absurd (omega (arith, low))
+longer_after (suc (suc (suc zero))) d low high = refl
+longer_after (suc (suc (suc (suc zero)))) d low high = refl
+longer_after (suc (suc (suc (suc (suc k))))) d low high = absurd (omega (arith, high))
 
 named_block : IsBlock line places (named (codes "m")) 2 3
-named_block = record { ascends = omega arith; within = omega arith; before = levels_before_one; named = one_named; behind = longer_behind }
+named_block = record { ascends = omega arith; within = omega arith; before = levels_before_one; named = one_named; behind = longer_after }
 
 -- No switches: no pattern hits any.
 

@@ -19,16 +19,16 @@ behind_one : (first last : Bool) (text behind : List ℕ) (others : Option (List
 behind_one first true text behind others = refl
 behind_one first false text behind others = refl
 
-behind_all : (fits : List ℕ → Bool) (pairs : List Pair) (last : Pair) → last_text fits (pairs ++ last ∷ []) ≡ or_else (fits last.0) last.1 (last_text fits pairs)
-behind_all fits [] last = refl
-behind_all fits (pair ∷ pairs) last =
-    ap (λ others. or_before others (fits pair.0) pair.1) (behind_all fits pairs last) ∙ behind_one (fits pair.0) (fits last.0) pair.1 last.1 (last_text fits pairs)
+after_all : (fits : List ℕ → Bool) (pairs : List Pair) (last : Pair) → last_text fits (pairs ++ last ∷ []) ≡ or_else (fits last.0) last.1 (last_text fits pairs)
+after_all fits [] last = refl
+after_all fits (pair ∷ pairs) last =
+    ap (λ others. or_before others (fits pair.0) pair.1) (after_all fits pairs last) ∙ behind_one (fits pair.0) (fits last.0) pair.1 last.1 (last_text fits pairs)
 
 -- one pair more
 one_more : (fits : List ℕ → Bool) (pairs : List Pair) (n : ℕ) (pair : Pair) → n < length pairs → pair ≡ get_or pairs n pair
     → last_text fits (take (n + 1) pairs) ≡ or_else (fits pair.0) pair.1 (last_text fits (take n pairs))
 one_more fits pairs n pair below here =
-    ap (last_text fits) ((take_at_read pairs n pair below).1 ∙ ap (λ p. take n pairs ++ p ∷ []) (sym here)) ∙ behind_all fits (take n pairs) pair
+    ap (last_text fits) ((take_at_read pairs n pair below).1 ∙ ap (λ p. take n pairs ++ p ∷ []) (sym here)) ∙ after_all fits (take n pairs) pair
 
 -- at the next pair from the end: its key doesn't fit, or it does
 pub pair_missed : (fits : List ℕ → Bool) (pairs : List Pair) (left n : ℕ) (pair : Pair) (key : List ℕ) (hit : Bool) (whole : Option (List ℕ))

@@ -7,7 +7,7 @@ use Rattle.drv_machine.specs.Working.{Answer}
 use Rattle.drv_machine.specs.declared.fault.MachineFault.TheVariants as machine
 use Rattle.drv_machine.specs.declared.fault.MachineFault.{MachineFault}
 use Rattle.drv_machine.specs.declared.outcome.Outcome.{Outcome}
-use Rattle.drv_plan.specs.Denoted.{Planned, begun, behind_job, behind_text, context_of, denoted, finished, for_link, for_source, lifted, linked, of_source, of_text, plan_of, planned, then_by, with_command, with_file, with_input, with_inputs, with_link, with_source, with_text, worked}
+use Rattle.drv_plan.specs.Denoted.{Planned, begun, after_job, after_text, context_of, denoted, finished, for_link, for_source, lifted, linked, of_source, of_text, plan_of, planned, then_by, with_command, with_file, with_input, with_inputs, with_link, with_source, with_text, worked}
 use Rattle.drv_plan.specs.Languages.{Chosen, chosen_for}
 use Rattle.drv_plan.specs.declared.fault.PlanFault.TheVariants.{Memory}
 use Rattle.drv_plan.specs.declared.fault.PlanFault.{PlanFault}
@@ -131,18 +131,18 @@ link_tried F set g outputs empty name text are tests some named has =
     ∙ ap (λ t. with_text F t g) (ap (text_of set) (sym named) ∙ has)
 
 -- the inputs first, and then the rest
-abbrev behind_inputs : Facts → Set → List Input → Going → Planned Plan
-behind_inputs F set inputs g = then_by (with_inputs F set 0 inputs g) (λ g'. finished F set g')
+abbrev after_inputs : Facts → Set → List Input → Going → Planned Plan
+after_inputs F set inputs g = then_by (with_inputs F set 0 inputs g) (λ g'. finished F set g')
 
-pub inputs_worked : (F : Facts) (set : Set) (inputs : List Input) (g after : Going) → with_inputs F set 0 inputs g ≡ Is (Ok after) → behind_inputs F set inputs g ≡ finished F set after
+pub inputs_worked : (F : Facts) (set : Set) (inputs : List Input) (g after : Going) → with_inputs F set 0 inputs g ≡ Is (Ok after) → after_inputs F set inputs g ≡ finished F set after
 inputs_worked F set inputs g after went = goes after (with_inputs F set 0 inputs g) (λ g'. finished F set g') went
 
 pub inputs_refused : (F : Facts) (set : Set) (inputs : List Input) (g : Going) (fault : PlanFault) → (fault ≡ Memory) ⊎ (with_inputs F set 0 inputs g ≡ Is (Err fault))
-    → (fault ≡ Memory) ⊎ (behind_inputs F set inputs g ≡ Is (Err fault))
+    → (fault ≡ Memory) ⊎ (after_inputs F set inputs g ≡ Is (Err fault))
 inputs_refused F set inputs g fault refused = stops fault (with_inputs F set 0 inputs g) (λ g'. finished F set g') refused
 
-pub plan_begun : (F : Facts) (set : Set) (inputs : List Input) (C : Context) (start : Going) → start ≡ begun C → planned F set inputs C ≡ behind_inputs F set inputs start
-plan_begun F set inputs C start is = ap (behind_inputs F set inputs) (sym is)
+pub plan_begun : (F : Facts) (set : Set) (inputs : List Input) (C : Context) (start : Going) → start ≡ begun C → planned F set inputs C ≡ after_inputs F set inputs start
+plan_begun F set inputs C start is = ap (after_inputs F set inputs) (sym is)
 
 -- the prefixes are made first
 pub prefixes_first : (F : Facts) (line : Line) (set : Set) (seed : ℕ) (dirs : List (List ℕ)) (inputs : List Input) (prefixes : Prefixes) (C : Context)
@@ -154,34 +154,34 @@ prefixes_first F line set seed dirs inputs prefixes C dirs_are inputs_are made i
 
 -- what a text leaves, once it is kept
 pub text_kept : (g : Going) (done : Outcome) (C : Context) (notes : List (List ℕ)) → notes ≡ g.notes ++ done.notices → C ≡ record g.context { options = done.accumulated; number = done.next_number }
-    → behind_text done g ≡ record g { context = C; notes = notes }
+    → after_text done g ≡ record g { context = C; notes = notes }
 text_kept g done C notes told kept =
     ap (λ (D : Context). record g { context = D; notes = g.notes ++ done.notices }) (sym kept) ∙ ap (λ list. record g { context = C; notes = list }) (sym told)
 
 pub text_worked : (F : Facts) (text : List ℕ) (g after : Going) (done : Outcome) (job : Job) → outcome F g.context (tree_of text) ≡ Is (Ok done)
-    → after ≡ behind_text done g → job ≡ done.job → worked F text g ≡ Is (Ok (job, after))
+    → after ≡ after_text done g → job ≡ done.job → worked F text g ≡ Is (Ok (job, after))
 text_worked F text g after done job works kept same =
-    text_goes done (outcome F g.context (tree_of text)) (λ o. Is (Ok (o.job, behind_text o g))) works
-    ∙ ap (λ (j : Job). Is (Ok (j, behind_text done g))) (sym same) ∙ ap (λ (g' : Going). Is (Ok (job, g'))) (sym kept)
+    text_goes done (outcome F g.context (tree_of text)) (λ o. Is (Ok (o.job, after_text o g))) works
+    ∙ ap (λ (j : Job). Is (Ok (j, after_text done g))) (sym same) ∙ ap (λ (g' : Going). Is (Ok (job, g'))) (sym kept)
 
 pub text_refused : (F : Facts) (text : List ℕ) (g : Going) (fault : MachineFault) → (fault ≡ machine.Memory) ⊎ (outcome F g.context (tree_of text) ≡ Is (Err fault))
     → (lifted fault ≡ Memory) ⊎ (worked F text g ≡ Is (Err (lifted fault)))
-text_refused F text g fault refused = text_stops fault (outcome F g.context (tree_of text)) (λ o. Is (Ok (o.job, behind_text o g))) refused
+text_refused F text g fault refused = text_stops fault (outcome F g.context (tree_of text)) (λ o. Is (Ok (o.job, after_text o g))) refused
 
 -- a source, once the context has it
 pub source_set : (g : Going) (source : Source) (C : Context) → C ≡ record g.context { input = Some source } → for_source source g ≡ record g { context = C }
 source_set g source C is = ap (λ (D : Context). record g { context = D }) (sym is)
 
 pub source_worked : (F : Facts) (place : ℕ) (source : Source) (text : List ℕ) (g : Going) (C : Context) (job placed : Job) (worked_on after : Going) → C ≡ record g.context { input = Some source }
-    → worked F text (record g { context = C }) ≡ Is (Ok (job, worked_on)) → placed ≡ of_source place job → after ≡ behind_job placed worked_on → with_source F place source text g ≡ Is (Ok after)
+    → worked F text (record g { context = C }) ≡ Is (Ok (job, worked_on)) → placed ≡ of_source place job → after ≡ after_job placed worked_on → with_source F place source text g ≡ Is (Ok after)
 source_worked F place source text g C job placed worked_on after is works its added =
-    goes (job, worked_on) (worked F text (for_source source g)) (λ done. Is (Ok (behind_job (of_source place done.0) done.1))) (ap (worked F text) (source_set g source C is) ∙ works)
-    ∙ ap (λ (j : Job). Is (Ok (behind_job j worked_on))) (sym its) ∙ ap (λ (g' : Going). Is (Ok g')) (sym added)
+    goes (job, worked_on) (worked F text (for_source source g)) (λ done. Is (Ok (after_job (of_source place done.0) done.1))) (ap (worked F text) (source_set g source C is) ∙ works)
+    ∙ ap (λ (j : Job). Is (Ok (after_job j worked_on))) (sym its) ∙ ap (λ (g' : Going). Is (Ok g')) (sym added)
 
 pub source_refused : (F : Facts) (place : ℕ) (source : Source) (text : List ℕ) (g : Going) (C : Context) (fault : PlanFault) → C ≡ record g.context { input = Some source }
     → (fault ≡ Memory) ⊎ (worked F text (record g { context = C }) ≡ Is (Err fault)) → (fault ≡ Memory) ⊎ (with_source F place source text g ≡ Is (Err fault))
 source_refused F place source text g C fault is refused =
-    stops fault (worked F text (for_source source g)) (λ done. Is (Ok (behind_job (of_source place done.0) done.1)))
+    stops fault (worked F text (for_source source g)) (λ done. Is (Ok (after_job (of_source place done.0) done.1)))
     (refused_alike fault (worked F text (record g { context = C })) (worked F text (for_source source g)) (ap (worked F text) (source_set g source C is)) refused)
 
 -- the link, once the context has its outputs

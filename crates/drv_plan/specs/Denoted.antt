@@ -66,15 +66,15 @@ abbrev pub begun : Context → Going
 begun C = record { context = C; notes = []; jobs = []; outputs = []; passed_on = [] }
 
 -- behind a text: the options of %x and the number of the next name go on to the next one, and hidden switches don't
-abbrev pub behind_text : Outcome → Going → Going
-behind_text worked g = record g {
+abbrev pub after_text : Outcome → Going → Going
+after_text worked g = record g {
   context = record g.context { options = worked.accumulated; number = worked.next_number };
   notes = g.notes ++ worked.notices;
 }
 
 -- a text is worked: its job, and what goes on
 abbrev pub worked : Facts → List ℕ → Going → Planned (Job × Going)
-worked F text g = then_by (of_text (outcome F g.context (tree_of text))) (λ done. Is (Ok (done.job, behind_text done g)))
+worked F text g = then_by (of_text (outcome F g.context (tree_of text))) (λ done. Is (Ok (done.job, after_text done g)))
 
 abbrev pub for_source : Source → Going → Going
 for_source source g = record g { context = record g.context { input = Some source } }
@@ -92,31 +92,31 @@ abbrev pub of_source : ℕ → Job → Job
 of_source place job = record job { source = Some place }
 
 -- a source that has a job: its output is one of the link's
-abbrev pub behind_job : Job → Going → Going
-behind_job job g = record g { jobs = g.jobs ++ job ∷ []; outputs = g.outputs ++ output_list job.output }
+abbrev pub after_job : Job → Going → Going
+after_job job g = record g { jobs = g.jobs ++ job ∷ []; outputs = g.outputs ++ output_list job.output }
 
 -- a word of the link: a library, or what -Wl and -Xlinker say
-abbrev pub behind_word : List ℕ → Going → Going
-behind_word word g = record g { outputs = g.outputs ++ word ∷ [] }
+abbrev pub after_word : List ℕ → Going → Going
+after_word word g = record g { outputs = g.outputs ++ word ∷ [] }
 
 -- a file that is the linker's
-abbrev pub behind_object : List ℕ → Going → Going
-behind_object name g = record g { outputs = g.outputs ++ name ∷ []; passed_on = g.passed_on ++ name ∷ [] }
+abbrev pub after_object : List ℕ → Going → Going
+after_object name g = record g { outputs = g.outputs ++ name ∷ []; passed_on = g.passed_on ++ name ∷ [] }
 
 -- the source at this place of the line, which is worked with this text
 abbrev pub with_source : Facts → ℕ → Source → List ℕ → Going → Planned Going
-with_source F place source text g = then_by (worked F text (for_source source g)) (λ done. Is (Ok (behind_job (of_source place done.0) done.1)))
+with_source F place source text g = then_by (worked F text (for_source source g)) (λ done. Is (Ok (after_job (of_source place done.0) done.1)))
 
 -- a file, by what it is worked with
 abbrev pub with_file : Facts → ℕ → List ℕ → Result (Option Chosen) PlanFault → Going → Planned Going
 with_file F place name (Err fault) g = Is (Err fault)
-with_file F place name (Ok None) g = Is (Ok (behind_object name g))
+with_file F place name (Ok None) g = Is (Ok (after_object name g))
 with_file F place name (Ok (Some c)) g = with_source F place (record { name = name; language = c.name }) c.text g
 
 abbrev pub with_input : Facts → Set → ℕ → Input → Going → Planned Going
 with_input F set place (File name language) g = with_file F place name (chosen_for set (File name language)) g
-with_input F set place (Library word) g = Is (Ok (behind_word word g))
-with_input F set place (LinkWord word) g = Is (Ok (behind_word word g))
+with_input F set place (Library word) g = Is (Ok (after_word word g))
+with_input F set place (LinkWord word) g = Is (Ok (after_word word g))
 
 -- inputs, of which the first has this place in the line
 abbrev pub with_inputs : Facts → Set → ℕ → List Input → Going → Planned Going

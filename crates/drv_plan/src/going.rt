@@ -1,7 +1,7 @@
 //! What goes on from one input of a line to the next.
 
 ghost use Rattle.drv_machine.specs.declared.fault.MachineFault.TheVariants as machine;
-ghost use Rattle.drv_plan.specs.Denoted.{begun, behind_job, behind_object, behind_text, behind_word, for_link, of_source, output_list, with_source, worked};
+ghost use Rattle.drv_plan.specs.Denoted.{begun, after_job, after_object, after_text, after_word, for_link, of_source, output_list, with_source, worked};
 ghost use Rattle.drv_system.specs.Asking.{Asks, Extends};
 ghost use Rattle.drv_system.specs.Facts.{Facts};
 ghost use Rattle.drv_system.specs.Gives.{GivesKnown};
@@ -83,7 +83,7 @@ impl<'a> Going<'a> {
 
     /// Adds the name of a file that is the linker's.
     pub(crate) fn add_object(&mut self, name: &Word) -> Result<(), AllocError>
-        ensures { OnOk result (self.new ≡ behind_object name.now self.old) }
+        ensures { OnOk result (self.new ≡ after_object name.now self.old) }
     {
         self.outputs.push(name.clone()?)?;
         self.passed_on.push(name.clone()?)?;
@@ -92,7 +92,7 @@ impl<'a> Going<'a> {
 
     /// Adds a word of the link.
     pub(crate) fn add_word(&mut self, word: &Word) -> Result<(), AllocError>
-        ensures { OnOk result (self.new ≡ behind_word word.now self.old) }
+        ensures { OnOk result (self.new ≡ after_word word.now self.old) }
     {
         self.outputs.push(word.clone()?)?;
         Ok(())
@@ -100,7 +100,7 @@ impl<'a> Going<'a> {
 
     /// Adds the job of a source.
     fn add_job(&mut self, job: Job) -> Result<(), AllocError>
-        ensures { OnOk result (self.new ≡ behind_job job self.old) }
+        ensures { OnOk result (self.new ≡ after_job job self.old) }
     {
         push_output(&mut self.outputs, &job.output)?;
         self.jobs.push(job)?;
@@ -109,7 +109,7 @@ impl<'a> Going<'a> {
 
     /// Keeps what goes on from a text to the next one. The options are moved out of its outcome.
     fn go_on(&mut self, alloc: Global, done: &mut Outcome) -> Result<(), AllocError>
-        ensures keeps { OnOk result (self.new ≡ behind_text done.old self.old) }
+        ensures keeps { OnOk result (self.new ≡ after_text done.old self.old) }
         ensures job { done.new.job ≡ done.old.job }
     {
         push_words(&mut self.notes, done.notices.as_slice())?;

@@ -4,7 +4,7 @@ use Rattle.drv_core.specs.Windowed.{IsWhole, Windowed}
 use Rattle.drv_core.specs.declared.failure_status.FailureStatus.{FailureStatus}
 use Rattle.drv_run.specs.Executed.{Executed}
 use Rattle.drv_run.specs.Code.Making.{CanMake}
-use Rattle.drv_system.proofs.Running.{open_behind, pending_of_rest, run_of-append}
+use Rattle.drv_system.proofs.Running.{open_after, pending_of_rest, run_of-append}
 use Rattle.drv_system.specs.Running.{run_of}
 use Rattle.drv_system.specs.declared.event.Event.{Event}
 use Rattle.drv_system.specs.declared.event.Event.TheVariants.{Run}
@@ -29,8 +29,8 @@ pub run_is : (events : List RunEvent) → run_of (map Run events) ≡ events
 run_is [] = refl
 run_is (e ∷ events) = ap (λ rest. e ∷ rest) (run_is events)
 
-pub run_behind : (journal : List Event) (events : List RunEvent) → run_of (journal ++ map Run events) ≡ run_of journal ++ events
-run_behind journal events = run_of-append journal (map Run events) ∙ ap (λ rest. run_of journal ++ rest) (run_is events)
+pub run_after : (journal : List Event) (events : List RunEvent) → run_of (journal ++ map Run events) ≡ run_of journal ++ events
+run_after journal events = run_of-append journal (map Run events) ∙ ap (λ rest. run_of journal ++ rest) (run_is events)
 
 and_parts : (a b : Bool) → (a && b) ≡ true → (a ≡ true) × (b ≡ true)
 and_parts true b e = (refl, e)
@@ -42,19 +42,19 @@ same true false e = absurd cc
 same false true e = absurd cc
 same false false e = refl
 
-pub can_behind : (plan : Plan) (journal : List Event) (events : List RunEvent) (s : Step) → pipe_pending (run_of journal) ≡ false
+pub can_after : (plan : Plan) (journal : List Event) (events : List RunEvent) (s : Step) → pipe_pending (run_of journal) ≡ false
     → can_make plan events s ≡ true → CanMake plan (journal ++ map Run events) s
-can_behind plan journal events (step.Claim p) none can = can
-can_behind plan journal events (step.Start p from_pipe to_pipe) none can =
+can_after plan journal events (step.Claim p) none can = can
+can_after plan journal events (step.Start p from_pipe to_pipe) none can =
     let both : (is_command plan p ≡ true) × (same_bool from_pipe (pipe_pending events) ≡ true) = and_parts (is_command plan p) (same_bool from_pipe (pipe_pending events)) can in
-    (both.0, same from_pipe (pipe_pending events) both.1 ∙ sym (pipe_behind plan journal events none))
+    (both.0, same from_pipe (pipe_pending events) both.1 ∙ sym (pipe_after plan journal events none))
   where
-    pipe_behind : (plan : Plan) (journal : List Event) (events : List RunEvent) → pipe_pending (run_of journal) ≡ false → pipe_pending (run_of (journal ++ map Run events)) ≡ pipe_pending events
-    pipe_behind plan journal events none = ap pipe_pending (run_behind journal events) ∙ pending_of_rest (run_of journal) events none
-can_behind plan journal events step.ClosePipe none can = ap pipe_pending (run_behind journal events) ∙ pending_of_rest (run_of journal) events none ∙ can
-can_behind plan journal events (step.Wait p id) none can = open_behind p id journal (map Run events) (ap (λ run. is_open p id run) (run_is events) ∙ can)
-can_behind plan journal events (step.Remove p) none can = can
-can_behind plan journal events (step.Report n) none can = can
+    pipe_after : (plan : Plan) (journal : List Event) (events : List RunEvent) → pipe_pending (run_of journal) ≡ false → pipe_pending (run_of (journal ++ map Run events)) ≡ pipe_pending events
+    pipe_after plan journal events none = ap pipe_pending (run_after journal events) ∙ pending_of_rest (run_of journal) events none
+can_after plan journal events step.ClosePipe none can = ap pipe_pending (run_after journal events) ∙ pending_of_rest (run_of journal) events none ∙ can
+can_after plan journal events (step.Wait p id) none can = open_after p id journal (map Run events) (ap (λ run. is_open p id run) (run_is events) ∙ can)
+can_after plan journal events (step.Remove p) none can = can
+can_after plan journal events (step.Report n) none can = can
 
 -- a number that is new behind both is new behind the run's own events
 
@@ -79,8 +79,8 @@ fits_rest before events (step.Remove p) (answer.Remove x) is = is
 fits_rest before events (step.Report n) (answer.Reported told) is = is
 fits_rest before events s a is = absurd cc
 
-pub fits_behind : (journal : List Event) (events : List RunEvent) (s : Step) (a : Answer) → fits (run_of (journal ++ map Run events)) s a ≡ true → fits events s a ≡ true
-fits_behind journal events s a is = fits_rest (run_of journal) events s a (subst (λ run. fits run s a ≡ true) (run_behind journal events) is)
+pub fits_after : (journal : List Event) (events : List RunEvent) (s : Step) (a : Answer) → fits (run_of (journal ++ map Run events)) s a ≡ true → fits events s a ≡ true
+fits_after journal events s a is = fits_rest (run_of journal) events s a (subst (λ run. fits run s a ≡ true) (run_after journal events) is)
 
 -- a whole run, in the words of a caller
 pub executed : (plan p : Plan) (pass_codes q : FailureStatus) (N n : ℕ) (journal journal' : List Event) (status : ℕ) (events : List RunEvent)

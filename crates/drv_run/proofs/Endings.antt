@@ -1,4 +1,4 @@
-use Rattle.drv_run.proofs.Tellings.{pipe_behind_questions}
+use Rattle.drv_run.proofs.Tellings.{pipe_after_questions}
 use Rattle.drv_run.specs.Calls.{Drove, Ends}
 use Rattle.drv_run.specs.Drives.{Comes, Drives, IsApart}
 use Rattle.drv_run.specs.Code.Telling.{DoesWork, EndsWork, OnlySays}
@@ -71,6 +71,6 @@ work_ends_apart journal journal' work (Done status) does = tt
 work_ends_apart journal journal' work (Refused refusal) does = absurd does
 work_ends_apart journal journal' work OutOfMemory only = tt
 
-pub no_pipe_behind_questions : {journal journal' : List Event} {F F' : Facts} → Asks journal journal' F F' → pipe_pending (run_of journal) ≡ false → pipe_pending (run_of journal') ≡ false
-no_pipe_behind_questions {journal} {F = F} asks before =
-    ap (λ after. pipe_pending (run_of after)) asks.journal_grows ∙ pipe_behind_questions journal asks.asked (are_questions F asks.asked asks.questions) before
+pub no_pipe_after_questions : {journal journal' : List Event} {F F' : Facts} → Asks journal journal' F F' → pipe_pending (run_of journal) ≡ false → pipe_pending (run_of journal') ≡ false
+no_pipe_after_questions {journal} {F = F} asks before =
+    ap (λ after. pipe_pending (run_of after)) asks.journal_grows ∙ pipe_after_questions journal asks.asked (are_questions F asks.asked asks.questions) before

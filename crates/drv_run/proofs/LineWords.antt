@@ -4,7 +4,7 @@ use Rattle.drv_args.specs.declared.fault.ArgsFault.{ArgsFault}
 use Rattle.drv_args.specs.declared.line.Expanded.{Expanded}
 use Rattle.drv_c99.specs.declared.fault.C99Fault.TheVariants as c99_fault
 use Rattle.drv_c99.specs.declared.fault.C99Fault.{C99Fault}
-use Rattle.drv_run.specs.Drives.{Words, behind_c99, fronted, is_c99, stopped_by_args, stopped_by_c99}
+use Rattle.drv_run.specs.Drives.{Words, after_c99, fronted, is_c99, stopped_by_args, stopped_by_c99}
 use Rattle.drv_run.specs.Code.Wording.{GivesWords}
 use Rattle.drv_run.specs.declared.ending.Ending.{Ending}
 use Rattle.drv_system.specs.Facts.{Facts}
@@ -16,7 +16,7 @@ stopped_as : (F : Facts) (args : List (List ℕ)) (ending : Ending) (result : Re
 stopped_as F args ending (Ok words) is gives = absurd is
 stopped_as F args ending (Err e) is gives = subst (λ e'. GivesWords F args (Err e')) (sym is) gives
 
-refused_args : (F : Facts) (args : List (List ℕ)) (fault : ArgsFault) → RefusesExpansion F 2000 (behind_c99 args) fault → GivesWords F args (Err (stopped_by_args fault))
+refused_args : (F : Facts) (args : List (List ℕ)) (fault : ArgsFault) → RefusesExpansion F 2000 (after_c99 args) fault → GivesWords F args (Err (stopped_by_args fault))
 refused_args F args args_fault.Memory refused = tt
 refused_args F args args_fault.TooManyFiles refused = refused
 refused_args F args (args_fault.ResponseTooLarge path) refused = refused
@@ -29,14 +29,14 @@ refused_args F args args_fault.OutputWithMany refused = refused
 refused_args F args (args_fault.OutputIsInput input) refused = refused
 
 refused_c99 : (F : Facts) (args : List (List ℕ)) (expanded : Expanded) (fault : C99Fault)
-    → Expands F 2000 (behind_c99 args) (Ok expanded) → fronted (is_c99 args) expanded ≡ Err fault → GivesWords F args (Err (stopped_by_c99 fault))
+    → Expands F 2000 (after_c99 args) (Ok expanded) → fronted (is_c99 args) expanded ≡ Err fault → GivesWords F args (Err (stopped_by_c99 fault))
 refused_c99 F args expanded c99_fault.Memory expands refused = tt
 refused_c99 F args expanded (c99_fault.UnknownOption word) expands refused = (expanded, expands, refused)
 refused_c99 F args expanded (c99_fault.MissingArgument option) expands refused = (expanded, expands, refused)
 refused_c99 F args expanded c99_fault.NoOperand expands refused = (expanded, expands, refused)
 refused_c99 F args expanded (c99_fault.BadLevel argument) expands refused = (expanded, expands, refused)
 
-pub expansion_stops : (F : Facts) (args words : List (List ℕ)) (fault : ArgsFault) (result : Result Expanded Ending) → words ≡ behind_c99 args
+pub expansion_stops : (F : Facts) (args words : List (List ℕ)) (fault : ArgsFault) (result : Result Expanded Ending) → words ≡ after_c99 args
     → IsErrAnd result (λ e. e ≡ stopped_by_args fault) → Expands F 2000 words (Err fault) → GivesWords F args result
 expansion_stops F args words fault result are is (inl memory) =
     stopped_as F args (stopped_by_args fault) result is (subst (λ f. GivesWords F args (Err (stopped_by_args f))) (sym memory) tt)
@@ -44,7 +44,7 @@ expansion_stops F args words fault result are is (inr refused) =
     stopped_as F args (stopped_by_args fault) result is (refused_args F args fault (subst (λ w. RefusesExpansion F 2000 w fault) are refused))
 
 pub front_stops : (F : Facts) (args words : List (List ℕ)) (expanded : Expanded) (selected : Bool) (fault : C99Fault) (result : Result Expanded Ending)
-    → words ≡ behind_c99 args → selected ≡ is_c99 args → IsErrAnd result (λ e. e ≡ stopped_by_c99 fault) → Expands F 2000 words (Ok expanded)
+    → words ≡ after_c99 args → selected ≡ is_c99 args → IsErrAnd result (λ e. e ≡ stopped_by_c99 fault) → Expands F 2000 words (Ok expanded)
     → (fault ≡ c99_fault.Memory) ⊎ (fronted selected expanded ≡ Err fault) → GivesWords F args result
 front_stops F args words expanded selected fault result are selects is expands (inl memory) =
     stopped_as F args (stopped_by_c99 fault) result is (subst (λ f. GivesWords F args (Err (stopped_by_c99 f))) (sym memory) tt)
@@ -53,7 +53,7 @@ front_stops F args words expanded selected fault result are selects is expands (
     (refused_c99 F args expanded fault (subst (λ w. Expands F 2000 w (Ok expanded)) are expands) (subst (λ s. fronted s expanded ≡ Err fault) selects refused))
 
 pub words_given : (F : Facts) (args words : List (List ℕ)) (expanded front : Expanded) (selected : Bool)
-    → words ≡ behind_c99 args → selected ≡ is_c99 args → Expands F 2000 words (Ok expanded) → fronted selected expanded ≡ Ok front → Words F args front
+    → words ≡ after_c99 args → selected ≡ is_c99 args → Expands F 2000 words (Ok expanded) → fronted selected expanded ≡ Ok front → Words F args front
 words_given F args words expanded front selected are selects expands fronts = record {
   expanded = expanded;
   expands = subst (λ w. Expands F 2000 w (Ok expanded)) are expands;

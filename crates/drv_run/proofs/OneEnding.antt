@@ -6,7 +6,7 @@ use Rattle.drv_args.specs.declared.line.Expanded.{Expanded}
 use Rattle.drv_args.specs.declared.line.Line.{Line}
 use Rattle.drv_c99.specs.declared.fault.C99Fault.{C99Fault}
 use Rattle.drv_plan.specs.declared.fault.PlanFault.{PlanFault}
-use Rattle.drv_run.specs.Drives.{Drives, Refuses, Words, behind_c99, fronted, is_c99, not_expanded, not_fronted, not_loaded, not_planned, not_read, specs_of, work_of}
+use Rattle.drv_run.specs.Drives.{Drives, Refuses, Words, after_c99, fronted, is_c99, not_expanded, not_fronted, not_loaded, not_planned, not_read, specs_of, work_of}
 use Rattle.drv_run.specs.declared.ending.Refusal.TheVariants.{Args, C99 as NoFront, Plan as NoPlan, Specs as NoSpecs}
 use Rattle.drv_run.specs.declared.ending.Refusal.{Refusal}
 use Rattle.drv_run.specs.declared.work.Work.{Work}
@@ -28,9 +28,9 @@ one_expanded F args a b (left, responds, is) (left', responds', is') =
 
 -- what the front of c99 makes of one expansion
 one_front : (F : Facts) (args : List (List ℕ)) (a b : Expanded) (x y : Result Expanded C99Fault)
-    → Expands F 2000 (behind_c99 args) (Ok a) → Expands F 2000 (behind_c99 args) (Ok b) → fronted (is_c99 args) a ≡ x → fronted (is_c99 args) b ≡ y → x ≡ y
+    → Expands F 2000 (after_c99 args) (Ok a) → Expands F 2000 (after_c99 args) (Ok b) → fronted (is_c99 args) a ≡ x → fronted (is_c99 args) b ≡ y → x ≡ y
 one_front F args a b x y expands expands' fronts fronts' =
-    sym fronts ∙ ap (fronted (is_c99 args)) (one_expanded F (behind_c99 args) a b expands expands') ∙ fronts'
+    sym fronts ∙ ap (fronted (is_c99 args)) (one_expanded F (after_c99 args) a b expands expands') ∙ fronts'
 
 one_words : (F : Facts) (args : List (List ℕ)) (a b : Expanded) → Words F args a → Words F args b → a ≡ b
 one_words F args a b w v =
@@ -70,12 +70,12 @@ driven_once F args seed a b d e =
 not_both : (F : Facts) (args : List (List ℕ)) (a : Expanded) (fault : ArgsFault) → Expands F 2000 args (Ok a) → RefusesExpansion F 2000 args fault → ⊥
 not_both F args a fault (left, responds, is) refused = responds_alone F 2000 left args a.words fault responds refused
 
-not_worded : (F : Facts) (args : List (List ℕ)) (a : Expanded) (fault : ArgsFault) → Words F args a → RefusesExpansion F 2000 (behind_c99 args) fault → ⊥
-not_worded F args a fault w refused = not_both F (behind_c99 args) w.expanded fault w.expands refused
+not_worded : (F : Facts) (args : List (List ℕ)) (a : Expanded) (fault : ArgsFault) → Words F args a → RefusesExpansion F 2000 (after_c99 args) fault → ⊥
+not_worded F args a fault w refused = not_both F (after_c99 args) w.expanded fault w.expands refused
 
 -- words that the front has aren't refused by it
 not_fronted_twice : (F : Facts) (args : List (List ℕ)) (a b : Expanded) (fault : C99Fault)
-    → Words F args a → Expands F 2000 (behind_c99 args) (Ok b) → fronted (is_c99 args) b ≡ Err fault → ⊥
+    → Words F args a → Expands F 2000 (after_c99 args) (Ok b) → fronted (is_c99 args) b ≡ Err fault → ⊥
 not_fronted_twice F args a b fault w expands fronts =
     let same : Ok a ≡ Err fault = one_front F args w.expanded b (Ok a) (Err fault) w.expands expands w.fronts fronts in cc
 
@@ -101,12 +101,12 @@ driven_alone F args seed work (NoPlan fault) d (not_planned {words = w} {line = 
     let same : Ok work ≡ Err fault = one_work F args seed d.words w d.line line d.set set (Ok work) (Err fault) d.gives gives d.reads reads d.loads loads d.works works in cc
 
 pub refused_for_one : (F : Facts) (args : List (List ℕ)) (seed : ℕ) (r s : Refusal) → Refuses F args seed r → Refuses F args seed s → r ≡ s
-refused_for_one F args seed (Args f) (Args g) (not_expanded refused) (not_expanded refused') = ap Args (refused_once F 2000 (behind_c99 args) f g refused refused')
+refused_for_one F args seed (Args f) (Args g) (not_expanded refused) (not_expanded refused') = ap Args (refused_once F 2000 (after_c99 args) f g refused refused')
 refused_for_one F args seed (Args f) (Args g) (not_expanded refused) (not_read {words = w} gives reads) = absurd (not_worded F args w f gives refused)
-refused_for_one F args seed (Args f) (NoFront g) (not_expanded refused) (not_fronted {expanded = e} expands fronts) = absurd (not_both F (behind_c99 args) e f expands refused)
+refused_for_one F args seed (Args f) (NoFront g) (not_expanded refused) (not_fronted {expanded = e} expands fronts) = absurd (not_both F (after_c99 args) e f expands refused)
 refused_for_one F args seed (Args f) (NoSpecs g) (not_expanded refused) (not_loaded {words = w} gives reads loads) = absurd (not_worded F args w f gives refused)
 refused_for_one F args seed (Args f) (NoPlan g) (not_expanded refused) (not_planned {words = w} gives reads loads works) = absurd (not_worded F args w f gives refused)
-refused_for_one F args seed (NoFront f) (Args g) (not_fronted {expanded = e} expands fronts) (not_expanded refused) = absurd (not_both F (behind_c99 args) e g expands refused)
+refused_for_one F args seed (NoFront f) (Args g) (not_fronted {expanded = e} expands fronts) (not_expanded refused) = absurd (not_both F (after_c99 args) e g expands refused)
 refused_for_one F args seed (NoFront f) (Args g) (not_fronted {expanded = e} expands fronts) (not_read {words = w} gives reads) = absurd (not_fronted_twice F args w e f gives expands fronts)
 refused_for_one F args seed (NoFront f) (NoFront g) (not_fronted {expanded = e} expands fronts) (not_fronted {expanded = e'} expands' fronts') =
     let same : Err f ≡ Err g = one_front F args e e' (Err f) (Err g) expands expands' fronts fronts' in

@@ -79,10 +79,10 @@ pipe_stays : (journal events : List Event) → run_of events ≡ [] → pipe_pen
 pipe_stays journal events none before =
     ap pipe_pending (run_of-append journal events ∙ ap (λ run. run_of journal ++ run) none ∙ append-nil (run_of journal)) ∙ before
 
-pub pipe_behind_questions : (journal asked : List Event) → AreQuestions asked → pipe_pending (run_of journal) ≡ false → pipe_pending (run_of (journal ++ asked)) ≡ false
-pipe_behind_questions journal asked are before = pipe_stays journal asked (none_ran_asking asked are) before
+pub pipe_after_questions : (journal asked : List Event) → AreQuestions asked → pipe_pending (run_of journal) ≡ false → pipe_pending (run_of (journal ++ asked)) ≡ false
+pipe_after_questions journal asked are before = pipe_stays journal asked (none_ran_asking asked are) before
 
-pub no_pipe_behind_announced : (journal journal' : List Event) (telling : Telling) (plan : Plan)
+pub no_pipe_after_announced : (journal journal' : List Event) (telling : Telling) (plan : Plan)
     → AnnouncesPlan journal journal' telling plan → pipe_pending (run_of journal) ≡ false → pipe_pending (run_of journal') ≡ false
-no_pipe_behind_announced journal journal' telling plan announces before =
+no_pipe_after_announced journal journal' telling plan announces before =
     ap (λ after. pipe_pending (run_of after)) announces.1 ∙ pipe_stays journal announces.0 (none_ran announces.0 (announces_only telling plan announces.0 announces.2)) before

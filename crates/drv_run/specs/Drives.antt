@@ -47,8 +47,8 @@ abbrev pub is_c99 : List (List ℕ) → Bool
 is_c99 [] = false
 is_c99 (word ∷ words) = pointwise nat_eq word (codes "--c99")
 
-abbrev pub behind_c99 : List (List ℕ) → List (List ℕ)
-behind_c99 args = if is_c99 args then drop 1 args else args
+abbrev pub after_c99 : List (List ℕ) → List (List ℕ)
+after_c99 args = if is_c99 args then drop 1 args else args
 
 -- the words of c99 as words of the driver
 abbrev pub with_words : Bool → Result (List (List ℕ)) C99Fault → Result Expanded C99Fault
@@ -62,7 +62,7 @@ fronted false expanded = Ok expanded
 -- The words of the line: response files expanded, and then those of c99 turned into the driver's.
 pub record Words (F : Facts) (args : List (List ℕ)) (words : Expanded) : Type 0 where
   pub expanded : Expanded
-  pub expands : Expands F 2000 (behind_c99 args) (Ok expanded)
+  pub expands : Expands F 2000 (after_c99 args) (Ok expanded)
   pub fronts : fronted (is_c99 args) expanded ≡ Ok words
 
 -- a set after files of specs, in their order
@@ -123,8 +123,8 @@ pub record Drives (F : Facts) (args : List (List ℕ)) (seed : ℕ) (work : Work
 -- The refusal that arguments come to: of their response files, of c99, of the line, of a spec file, or of the plan. None of
 -- these definitions knows want of memory.
 pub data Refuses (F : Facts) (args : List (List ℕ)) (seed : ℕ) : Refusal → Type 0 where
-  not_expanded : {fault : ArgsFault} → RefusesExpansion F 2000 (behind_c99 args) fault → Refuses F args seed (Args fault)
-  not_fronted : {expanded : Expanded} {fault : C99Fault} → Expands F 2000 (behind_c99 args) (Ok expanded) → fronted (is_c99 args) expanded ≡ Err fault → Refuses F args seed (NoFront fault)
+  not_expanded : {fault : ArgsFault} → RefusesExpansion F 2000 (after_c99 args) fault → Refuses F args seed (Args fault)
+  not_fronted : {expanded : Expanded} {fault : C99Fault} → Expands F 2000 (after_c99 args) (Ok expanded) → fronted (is_c99 args) expanded ≡ Err fault → Refuses F args seed (NoFront fault)
   not_read : {words : Expanded} {fault : ArgsFault} → Words F args words → line_read words ≡ Err fault → Refuses F args seed (Args fault)
   not_loaded : {words : Expanded} {line : Line} {fault : SpecsFault} → Words F args words → line_read words ≡ Ok line → specs_of F line.settings ≡ Is (Err fault) → Refuses F args seed (NoSpecs fault)
   not_planned : {words : Expanded} {line : Line} {set : Set} {fault : PlanFault} → Words F args words → line_read words ≡ Ok line → specs_of F line.settings ≡ Is (Ok set)

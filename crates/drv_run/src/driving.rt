@@ -82,7 +82,7 @@ fn ending_of<S: System>(alloc: Global, sys: &mut S, work: &Work) -> Ending
 /// otherwise it carries the plan out, with as many sources under way as `--jobs` says. The seed is
 /// for the names of temporaries. A refused call, and one that lacks memory, makes and starts
 /// nothing.
-#[tactic(auto, using(crate::proofs::Endings::no_pipe_behind_questions))]
+#[tactic(auto, using(crate::proofs::Endings::no_pipe_after_questions))]
 pub fn drive<S: System>(alloc: Global, sys: &mut S, args: Listing<Word>, seed: u32) -> Ending
     requires pipe { pipe_pending (run_of (S.events sys.old)) ≡ false }
     ensures drove { Drove (S.events sys.old) (S.events sys.new) args seed result }

@@ -1,7 +1,7 @@
 //! The words of a line: response files expanded, and those of `c99` turned into the driver's.
 
 ghost use Rattle.drv_c99.specs.declared.fault.C99Fault.TheVariants as c99_fault;
-ghost use Rattle.drv_run.specs.Drives.{IsApart, behind_c99, fronted, is_c99};
+ghost use Rattle.drv_run.specs.Drives.{IsApart, after_c99, fronted, is_c99};
 ghost use Rattle.drv_run.specs.Code.Fronting.{is_of_c99};
 ghost use Rattle.drv_run.specs.Code.Wording.{GivesWords};
 ghost use Rattle.drv_system.specs.Asking.{Asks, Extends};
@@ -38,7 +38,7 @@ fn is_c99(args: &[Word]) -> bool
 /// The front that is selected, and the arguments behind what selects it. It takes no memory.
 fn cut_front(args: Listing<Word>) -> (Front, Listing<Word>)
     ensures front { is_of_c99 result.0 ≡ is_c99 args }
-    ensures behind { result.1 ≡ behind_c99 args }
+    ensures behind { result.1 ≡ after_c99 args }
 {
     if is_c99(args.as_slice()) {
         let mut words = args.into_vec();

@@ -9,44 +9,44 @@ use Rattle.std.specs.Prelude.{get_or}
 -- Options for folders one after another.
 
 -- the options so far, and then others
-abbrev pub behind_options : List (List ℕ) → Known (List (List ℕ)) → Known (List (List ℕ))
-behind_options done others = others >>= λ options. Is (done ++ options)
+abbrev pub after_options : List (List ℕ) → Known (List (List ℕ)) → Known (List (List ℕ))
+after_options done others = others >>= λ options. Is (done ++ options)
 
-behind_append : (done more : List (List ℕ)) (others : Known (List (List ℕ))) → (behind_options done (behind_options more others)) ≡ behind_options (done ++ more) others
-behind_append done more Unasked = refl
-behind_append done more (Is options) = rw append_assoc refl
+after_append : (done more : List (List ℕ)) (others : Known (List (List ℕ))) → (after_options done (after_options more others)) ≡ after_options (done ++ more) others
+after_append done more Unasked = refl
+after_append done more (Is options) = rw append_assoc refl
 
 options_by : (F : Facts) (folder : List ℕ) (folders others : List (List ℕ)) (known : Option PathKind)
-    → options_for F (folders ++ others) ≡ (options_for F folders >>= λ options. behind_options options (options_for F others))
+    → options_for F (folders ++ others) ≡ (options_for F folders >>= λ options. after_options options (options_for F others))
     → (asked known >>= λ kind. options_for F (folders ++ others) >>= λ options. Is (option_for folder kind ++ options))
-    ≡ ((asked known >>= λ kind. options_for F folders >>= λ options. Is (option_for folder kind ++ options)) >>= λ options. behind_options options (options_for F others))
+    ≡ ((asked known >>= λ kind. options_for F folders >>= λ options. Is (option_for folder kind ++ options)) >>= λ options. after_options options (options_for F others))
 options_by F folder folders others None later = refl
 options_by F folder folders others (Some kind) later = rw later (by (options_for F folders) (options_for F others))
   where
-    by : (first second : Known (List (List ℕ))) → ((first >>= λ options. behind_options options second) >>= λ options. Is (option_for folder kind ++ options))
-        ≡ ((first >>= λ options. Is (option_for folder kind ++ options)) >>= λ options. behind_options options second)
+    by : (first second : Known (List (List ℕ))) → ((first >>= λ options. after_options options second) >>= λ options. Is (option_for folder kind ++ options))
+        ≡ ((first >>= λ options. Is (option_for folder kind ++ options)) >>= λ options. after_options options second)
     by Unasked second = refl
-    by (Is options) second = behind_append (option_for folder kind) options second
+    by (Is options) second = after_append (option_for folder kind) options second
 
-behind_none : (others : Known (List (List ℕ))) → behind_options [] others ≡ others
+behind_none : (others : Known (List (List ℕ))) → after_options [] others ≡ others
 behind_none Unasked = refl
 behind_none (Is options) = refl
 
-pub options-append : (F : Facts) (folders others : List (List ℕ)) → options_for F (folders ++ others) ≡ (options_for F folders >>= λ options. behind_options options (options_for F others))
+pub options-append : (F : Facts) (folders others : List (List ℕ)) → options_for F (folders ++ others) ≡ (options_for F folders >>= λ options. after_options options (options_for F others))
 options-append F [] others = sym (behind_none (options_for F others))
 options-append F (folder ∷ folders) others = options_by F folder folders others (kind_of F folder) (options-append F folders others)
 
 -- the options of some folders more
 pub options_more : (F : Facts) (done after more : List (List ℕ)) (folders others : List (List ℕ)) → options_for F folders ≡ Is more → after ≡ done ++ more
-    → behind_options after (options_for F others) ≡ behind_options done (options_for F (folders ++ others))
+    → after_options after (options_for F others) ≡ after_options done (options_for F (folders ++ others))
 options_more F done after more folders others is grown =
-    ap (λ before. behind_options before (options_for F others)) grown
-    ∙ sym (behind_append done more (options_for F others))
-    ∙ ap (behind_options done) (sym (options-append F folders others ∙ ap (λ known. known >>= λ options. behind_options options (options_for F others)) is))
+    ap (λ before. after_options before (options_for F others)) grown
+    ∙ sym (after_append done more (options_for F others))
+    ∙ ap (after_options done) (sym (options-append F folders others ∙ ap (λ known. known >>= λ options. after_options options (options_for F others)) is))
 
 -- the folders under one prefix more
 pub prefix_options : (F : Facts) (done after : List (List ℕ)) (prefix : List ℕ) (others : List (List ℕ)) → Adds (options_for F (folders_under prefix)) done after
-    → behind_options after (options_for F (flat_map folders_under others)) ≡ behind_options done (options_for F (flat_map folders_under (prefix ∷ others)))
+    → after_options after (options_for F (flat_map folders_under others)) ≡ after_options done (options_for F (flat_map folders_under (prefix ∷ others)))
 prefix_options F done after prefix others (more, is, grown) = options_more F done after more (folders_under prefix) (flat_map folders_under others) is grown
 
 -- a folder that was asked for
@@ -69,29 +69,29 @@ two_folders F prefix options mid after (Err e) ends added rest = tt
 two_folders F prefix options mid after (Ok u) ends (more, first, grown) (others, second, grown') = (
   more ++ others,
   rw ends (options-append F (without_slash (prefix ++ machine_folder) ∷ []) (without_slash prefix ∷ [])
-      ∙ ap (λ known. known >>= λ options. behind_options options (options_for F (without_slash prefix ∷ []))) first ∙ ap (behind_options more) second),
+      ∙ ap (λ known. known >>= λ options. after_options options (options_for F (without_slash prefix ∷ []))) first ∙ ap (after_options more) second),
   grown' ∙ ap (λ os. os ++ others) grown ∙ append_assoc options more others,
 )
 
 -- one prefix more, by its bytes, and the end
 pub prefix_done : (F : Facts) (prefixes : List (List ℕ)) (i : ℕ) (prefix bytes : List ℕ) (done after : List (List ℕ)) (all : Known (List (List ℕ))) → i < length prefixes → prefix ≡ get_or prefixes i prefix → bytes ≡ prefix
-    → Adds (options_for F (folders_under bytes)) done after → behind_options done (options_for F (flat_map folders_under (drop i prefixes))) ≡ all
-    → behind_options after (options_for F (flat_map folders_under (drop (i + 1) prefixes))) ≡ all
+    → Adds (options_for F (folders_under bytes)) done after → after_options done (options_for F (flat_map folders_under (drop i prefixes))) ≡ all
+    → after_options after (options_for F (flat_map folders_under (drop (i + 1) prefixes))) ≡ all
 prefix_done F prefixes i prefix bytes done after all below here is (more, given, grown) so_far =
     prefix_options F done after prefix (drop (i + 1) prefixes) (more, ap (λ p. options_for F (folders_under p)) (sym is) ∙ given, grown)
-    ∙ ap (λ ps. behind_options done (options_for F (flat_map folders_under ps))) (sym (drop_more prefixes i prefix below ∙ ap (λ p. p ∷ drop (i + 1) prefixes) (sym here)))
+    ∙ ap (λ ps. after_options done (options_for F (flat_map folders_under ps))) (sym (drop_more prefixes i prefix below ∙ ap (λ p. p ∷ drop (i + 1) prefixes) (sym here)))
     ∙ so_far
 
-added : (all : Known (List (List ℕ))) (before after : List (List ℕ)) → Is after ≡ behind_options before all → Adds all before after
+added : (all : Known (List (List ℕ))) (before after : List (List ℕ)) → Is after ≡ after_options before all → Adds all before after
 added Unasked before after is = absurd cc
 added (Is more) before after is = (more, refl, cc)
 
 pub all_added : (F : Facts) (prefixes before after : List (List ℕ)) (i : ℕ) → drop i prefixes ≡ []
-    → behind_options after (options_for F (flat_map folders_under (drop i prefixes))) ≡ behind_options before (options_for F (flat_map folders_under prefixes))
+    → after_options after (options_for F (flat_map folders_under (drop i prefixes))) ≡ after_options before (options_for F (flat_map folders_under prefixes))
     → Adds (options_for F (flat_map folders_under prefixes)) before after
 all_added F prefixes before after i none so_far =
     added (options_for F (flat_map folders_under prefixes)) before after
-    (ap Is (sym (append-nil after)) ∙ ap (λ ps. behind_options after (options_for F (flat_map folders_under ps))) (sym none) ∙ so_far)
+    (ap Is (sym (append-nil after)) ∙ ap (λ ps. after_options after (options_for F (flat_map folders_under ps))) (sym none) ∙ so_far)
 
 pub all_options : (F : Facts) (prefixes start options : List (List ℕ)) → start ≡ [] → Adds (options_for F (flat_map folders_under prefixes)) start options
     → options_for F (flat_map folders_under prefixes) ≡ Is options

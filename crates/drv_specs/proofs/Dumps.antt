@@ -46,9 +46,9 @@ front_taken : (head : List ℕ) → take (length head) (head ++ colon ∷ []) �
 front_taken [] = refl
 front_taken (b ∷ head) = ap (λ l. b ∷ l) (front_taken head)
 
-none_behind : (head : List ℕ) → drop (length head + 1) (head ++ colon ∷ []) ≡ []
-none_behind [] = refl
-none_behind (b ∷ head) = ap (λ n. drop n (b ∷ head ++ colon ∷ [])) more ∙ none_behind head
+none_after : (head : List ℕ) → drop (length head + 1) (head ++ colon ∷ []) ≡ []
+none_after [] = refl
+none_after (b ∷ head) = ap (λ n. drop n (b ∷ head ++ colon ∷ [])) more ∙ none_after head
   where
     more : length (b ∷ head) + 1 ≡ suc (length head + 1)
     more = omega arith
@@ -58,7 +58,7 @@ keyed : (n : ℕ) (head : List ℕ) (lines : List (List ℕ)) → list_all is_he
 keyed n head lines is =
     ap (by_colon n (head ++ colon ∷ []) lines) (colon_at head is)
     ∙ ap (λ key. by_key key (body_of (drop (length head + 1) (head ++ colon ∷ [])) lines)) (front_taken head)
-    ∙ ap (λ rest. by_key head (body_of rest lines)) (none_behind head)
+    ∙ ap (λ rest. by_key head (body_of rest lines)) (none_after head)
 
 -- a line with a colon at its end, a body, and an empty line
 module _ (n : ℕ) (b : ℕ) (head : List ℕ) (is : list_all is_head_byte (b ∷ head) ≡ true) (solid : is_blank b ≡ false) (mark : (b == number_sign) ≡ false) (directive : (b == percent) ≡ false) where

@@ -36,15 +36,15 @@ ends_tail : (b : ℕ) (text : List ℕ) → ends_with_backslash (b ∷ text) ≡
 ends_tail b [] is = refl
 ends_tail b (c ∷ text) is = sym (ends_more b c text) ∙ is
 
-ends_behind : (n : ℕ) (text : List ℕ) → ends_with_backslash text ≡ false → ends_with_backslash (drop n text) ≡ false
-ends_behind zero text is = is
-ends_behind (suc n) [] is = refl
-ends_behind (suc n) (b ∷ text) is = ends_behind n text (ends_tail b text is)
+ends_after : (n : ℕ) (text : List ℕ) → ends_with_backslash text ≡ false → ends_with_backslash (drop n text) ≡ false
+ends_after zero text is = is
+ends_after (suc n) [] is = refl
+ends_after (suc n) (b ∷ text) is = ends_after n text (ends_tail b text is)
 
-bytes_behind : (n : ℕ) (text : List ℕ) → list_all is_line_byte text ≡ true → list_all is_line_byte (drop n text) ≡ true
-bytes_behind zero text is = is
-bytes_behind (suc n) [] is = refl
-bytes_behind (suc n) (b ∷ text) is = bytes_behind n text (and_second (is_line_byte b) _ is)
+bytes_after : (n : ℕ) (text : List ℕ) → list_all is_line_byte text ≡ true → list_all is_line_byte (drop n text) ≡ true
+bytes_after zero text is = is
+bytes_after (suc n) [] is = refl
+bytes_after (suc n) (b ∷ text) is = bytes_after n text (and_second (is_line_byte b) _ is)
 
 -- what stands behind the blanks of a line
 record Fronted (text : List ℕ) : Type 0 where
@@ -219,12 +219,12 @@ line_good n b line lines bytes last clean = by (b == number_sign) refl (b == per
   where
     ends : (at : ℕ) → (lines ≡ []) ⊎ (ends_with_backslash (b ∷ line) ≡ false) → (lines ≡ []) ⊎ (ends_with_backslash (drop (at + 1) (b ∷ line)) ≡ false)
     ends at (inl none) = inl none
-    ends at (inr e) = inr (ends_behind (at + 1) (b ∷ line) e)
+    ends at (inr e) = inr (ends_after (at + 1) (b ∷ line) e)
 
     colon : (b == number_sign) ≡ false → (b == percent) ≡ false → (place : Option ℕ) → IsGood (by_colon n (b ∷ line) lines place)
     colon mark directive None = tt
     colon mark directive (Some at) =
-        key_good b line (body_of (drop (at + 1) (b ∷ line)) lines) at mark directive (body_good (drop (at + 1) (b ∷ line)) lines (bytes_behind (at + 1) (b ∷ line) bytes) (ends at last) clean)
+        key_good b line (body_of (drop (at + 1) (b ∷ line)) lines) at mark directive (body_good (drop (at + 1) (b ∷ line)) lines (bytes_after (at + 1) (b ∷ line) bytes) (ends at last) clean)
 
     by : (mark : Bool) → (b == number_sign) ≡ mark → (directive : Bool) → (b == percent) ≡ directive
         → Each IsGood (directive_in (if mark then Passed else if directive then Alone (by_keyword n (b ∷ line) (words_of (b ∷ line))) else WithBody (by_colon n (b ∷ line) lines (position is_colon (b ∷ line)))))

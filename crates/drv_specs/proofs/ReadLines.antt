@@ -22,12 +22,12 @@ colon_is : (n : ℕ) (line : List ℕ) (body lines : List (List ℕ)) (at : Opti
 colon_is n line body lines None same = refl
 colon_is n line body lines (Some at) same = ap (λ ls. by_key (take at line) (join_with_byte newline (first_line (drop (at + 1) line) ++ ls))) same
 
-behind_body : (body lines : List (List ℕ)) (n : ℕ) → list_all is_full_line body ≡ true → EndsBody lines → read_lines true n (body ++ lines) ≡ read_lines false (n + length body) lines
-behind_body [] [] n full ends = refl
-behind_body [] (line ∷ lines) n full (at_empty is) = rw is (ap (λ m. read_lines false (m + 1) lines) (let same : n ≡ n + 0 = omega arith in same))
-behind_body (line ∷ body) lines n full ends =
+after_body : (body lines : List (List ℕ)) (n : ℕ) → list_all is_full_line body ≡ true → EndsBody lines → read_lines true n (body ++ lines) ≡ read_lines false (n + length body) lines
+after_body [] [] n full ends = refl
+after_body [] (line ∷ lines) n full (at_empty is) = rw is (ap (λ m. read_lines false (m + 1) lines) (let same : n ≡ n + 0 = omega arith in same))
+after_body (line ∷ body) lines n full ends =
     let is = not_true (is_empty_line line) (and_first (is_full_line line) _ full) in
-    rw is (behind_body body lines (n + 1) (and_second (is_full_line line) _ full) ends
+    rw is (after_body body lines (n + 1) (and_second (is_full_line line) _ full) ends
     ∙ ap (λ m. read_lines false m lines) (let same : n + 1 + length body ≡ n + length (line ∷ body) = omega arith in same))
 
 -- From the relation to the function.
@@ -50,7 +50,7 @@ reads_gives (entry {n} {b} {line} {text} body {lines} begins no_comment no_keywo
     ∙ ap (λ l. directive_in (start_of n l (body ++ lines)) ++ read_lines (opens_body (start_of n l (body ++ lines))) (n + 1) (body ++ lines)) begins
     ∙ ap (λ s. directive_in s ++ read_lines (opens_body s) (n + 1) (body ++ lines)) starts
     ∙ ap (λ d. d ∷ read_lines true (n + 1) (body ++ lines)) (colon_is n (b ∷ text) body lines at (body_is body lines full ends))
-    ∙ ap (λ ds. by_colon n (b ∷ text) body at ∷ ds) (behind_body body lines (n + 1) full ends ∙ reads_gives reads)
+    ∙ ap (λ ds. by_colon n (b ∷ text) body at ∷ ds) (after_body body lines (n + 1) full ends ∙ reads_gives reads)
 
 -- From the function to the relation: all lines are read, and give what the function does then.
 

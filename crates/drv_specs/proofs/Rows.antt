@@ -278,9 +278,9 @@ unfolding loaded including
 appended_again = refl
 
 -- pairs behind the built-in ones
-pairs_behind : shown (loaded no_facts here (record { named = []; pairs = builtin_pairs }) (codes ".ZZ:\n@c\n\n.ZZ:\n#Zed\n")) ≡ Some (dumped (record { named = []; pairs = builtin_pairs ++ (codes ".ZZ", codes "@c") ∷ (codes ".ZZ", codes "#Zed") ∷ [] }))
+pairs_after : shown (loaded no_facts here (record { named = []; pairs = builtin_pairs }) (codes ".ZZ:\n@c\n\n.ZZ:\n#Zed\n")) ≡ Some (dumped (record { named = []; pairs = builtin_pairs ++ (codes ".ZZ", codes "@c") ∷ (codes ".ZZ", codes "#Zed") ∷ [] }))
 unfolding builtin_pairs loaded including
-pairs_behind = refl
+pairs_after = refl
 
 -- texts that name one another, and themselves
 recursive : shown (loaded no_facts here no_specs (codes "*a0:\nx\n\n*a1:\n%(a0)%(a0)\n\n*a2:\n%(a1)%(a1)\n\n*a:\n%(a)\n")) ≡ Some (codes "*a0:\nx\n\n*a1:\n%(a0)%(a0)\n\n*a2:\n%(a1)%(a1)\n\n*a:\n%(a)\n\n")

@@ -1,7 +1,7 @@
 use Rattle.drv_syntax.proofs.Emits.{patterns_read}
 use Rattle.drv_syntax.proofs.Names.{name_end, name_read}
-use Rattle.drv_syntax.proofs.Parts.{HasChoice, bar_turn, behind_asked, blank_turn, brace_resumes, default_turn, has_choice, join_assoc, join_choices_assoc, join_none, join_tests_assoc, marked_read, name_text, newline_turn, next_resumes, no_star, patterns_of, start_sign, plain_turn, saying_read}
-use Rattle.drv_syntax.proofs.Patterns.{Asks, asks_words, behind_space, choosing, due_asks, due_space, negated_asks, negated_space, pattern_read, spaces_read, start_asks, start_space}
+use Rattle.drv_syntax.proofs.Parts.{HasChoice, bar_turn, after_asked, blank_turn, brace_resumes, default_turn, has_choice, join_assoc, join_choices_assoc, join_none, join_tests_assoc, marked_read, name_text, newline_turn, next_resumes, no_star, patterns_of, start_sign, plain_turn, saying_read}
+use Rattle.drv_syntax.proofs.Patterns.{Asks, asks_words, after_space, choosing, due_asks, due_space, negated_asks, negated_space, pattern_read, spaces_read, start_asks, start_space}
 use Rattle.drv_syntax.proofs.Leads.{Leads, and_then, closes, further, goes, one, opens, same_place, stays, to}
 use Rattle.drv_syntax.proofs.Words.{hide_read, option_read, suffix_read}
 use Rattle.drv_syntax.specs.Bytes.{is_space}
@@ -32,12 +32,12 @@ same_placed size i j n m text mid c past item a b d e =
     ap (λ (x : ℕ). o.AtItem (placed (list c past) x m item)) (same_place size n i text d a) ∙ ap (λ (x : ℕ). o.AtItem (placed (list c past) i x item)) (same_place size m j mid e b)
 
 pub same_asked : (size i j n m : ℕ) (text mid : List ℕ) (h : Head) (negated : Bool) (asked : Asked) → At size i text → At size j mid → At size n text → At size m mid
-    → behind_asked h n m negated asked ≡ behind_asked h i j negated asked
+    → after_asked h n m negated asked ≡ after_asked h i j negated asked
 same_asked size i j n m text mid h negated asked a b d e =
-    ap (λ (x : ℕ). behind_asked h x m negated asked) (same_place size n i text d a) ∙ ap (λ (x : ℕ). behind_asked h i x negated asked) (same_place size m j mid e b)
+    ap (λ (x : ℕ). after_asked h x m negated asked) (same_place size n i text d a) ∙ ap (λ (x : ℕ). after_asked h i x negated asked) (same_place size m j mid e b)
 
-behind_byte : (size n m b : ℕ) (text rest : List ℕ) → At size n (b ∷ text) → m ≡ n + 1 → At size m text
-behind_byte size n m b text rest a e = omega arith
+after_byte : (size n m b : ℕ) (text rest : List ℕ) → At size n (b ∷ text) → m ≡ n + 1 → At size m text
+after_byte size n m b text rest a e = omega arith
 
 abbrev pub head : Context → Items → ℕ → BraceKind → Choices → Tests → Head
 head c past at kind cs before = choosing (list c past) at kind cs before
@@ -49,8 +49,8 @@ Then ws here at kind cs all size end vs q rest = (m : ℕ) (middle : Tests) (pat
 
 -- a ! or none, and what the test asks
 pub sign_read : {size : ℕ} {u v w : List ℕ} {negated : Bool} {ws : List Waiting} (h : Head) (asked : Asked) → IsSign u negated v
-    → ((p : Place) (n start : ℕ) → Asks p n h start negated → At size n v → Leads ws p n v ws (λ m. behind_asked h start m negated asked) w)
-    → (p : Place) → ((n : ℕ) → Asks p n h n false) → ((n : ℕ) → turn p n 33 ≡ Goes (o.TestNegated h n)) → (n : ℕ) → At size n u → Leads ws p n u ws (λ m. behind_asked h n m negated asked) w
+    → ((p : Place) (n start : ℕ) → Asks p n h start negated → At size n v → Leads ws p n v ws (λ m. after_asked h start m negated asked) w)
+    → (p : Place) → ((n : ℕ) → Asks p n h n false) → ((n : ℕ) → turn p n 33 ≡ Goes (o.TestNegated h n)) → (n : ℕ) → At size n u → Leads ws p n u ws (λ m. after_asked h n m negated asked) w
 sign_read h asked (s.plain_sign g) k p asks bang n a = k p n n (asks n) a
 sign_read {ws = ws} h asked (s.not_sign sp) k p asks bang n a =
     goes (bang n) (and_then (spaces_read ws (o.TestNegated h n) (negated_space h n) (n + 1) sp) (λ m f. k (o.TestNegated h n) m n (negated_asks h n m) (omega (arith, a, f))))
@@ -156,21 +156,21 @@ mutual
   tests_read {size} {c} {text = text} (s.last_test {n = i} {m = j} {u = u} {w = w} {rest = rest} {negated = negated} {asked = asked} sp ai sign d aj sp') e ws past at kind cs before p blank asks bang n a k =
       and_then (spaces_read ws p blank n sp) (λ x f.
       let b : At size x u = further size n x text u a f in
-      and_then (to {r = λ _. behind_asked (head c past at kind cs before) i j negated asked}
+      and_then (to {r = λ _. after_asked (head c past at kind cs before) i j negated asked}
       (λ y g. same_asked size i j x y u w (head c past at kind cs before) negated asked ai aj b (further size x y u w b g))
       (sign_read (head c past at kind cs before) asked sign (λ r y start g h. asked_leads d e ws past at kind cs before g h (unstarred asked w (no_star 58 refl sp' refl))) p asks bang x b))
-      (λ y g. and_then (spaces_read ws (behind_asked (head c past at kind cs before) i j negated asked)
-      (behind_space (head c past at kind cs before) (patterns_of (head c past at kind cs before) i j negated asked) (tested (head c past at kind cs before) i j negated asked) false) y sp')
+      (λ y g. and_then (spaces_read ws (after_asked (head c past at kind cs before) i j negated asked)
+      (after_space (head c past at kind cs before) (patterns_of (head c past at kind cs before) i j negated asked) (tested (head c past at kind cs before) i j negated asked) false) y sp')
       (λ z h. k z before (patterns_of (head c past at kind cs before) i j negated asked) (omega (arith, b, g, h)))))
   tests_read {size} {c} {text = text} {end} {rest = last} {vs = vs} {q} (s.next_test {n = i} {m = j} {u = u} {w = w} {x = more'} {negated = negated} {asked = asked} {tests = tests} sp ai sign d aj sp' ds) e
       ws past at kind cs before p blank asks bang n a k =
       and_then (spaces_read ws p blank n sp) (λ x f.
       let b : At size x u = further size n x text u a f in
-      and_then (to {r = λ _. behind_asked (head c past at kind cs before) i j negated asked}
+      and_then (to {r = λ _. after_asked (head c past at kind cs before) i j negated asked}
       (λ y g. same_asked size i j x y u w (head c past at kind cs before) negated asked ai aj b (further size x y u w b g))
       (sign_read (head c past at kind cs before) asked sign (λ r y start g h. asked_leads d e ws past at kind cs before g h (unstarred asked w (no_star 124 refl sp' refl))) p asks bang x b))
-      (λ y g. and_then (spaces_read ws (behind_asked (head c past at kind cs before) i j negated asked)
-      (behind_space (head c past at kind cs before) (patterns_of (head c past at kind cs before) i j negated asked) (tested (head c past at kind cs before) i j negated asked) false) y sp')
+      (λ y g. and_then (spaces_read ws (after_asked (head c past at kind cs before) i j negated asked)
+      (after_space (head c past at kind cs before) (patterns_of (head c past at kind cs before) i j negated asked) (tested (head c past at kind cs before) i j negated asked) false) y sp')
       (λ z h. goes refl
       (tests_read ds e ws past at kind cs (join_tests before (test (span i j) negated asked no_test)) (o.TestDue (head c past at kind cs (join_tests before (test (span i j) negated asked no_test))))
       (due_space (head c past at kind cs (join_tests before (test (span i j) negated asked no_test))))
@@ -180,7 +180,7 @@ mutual
 
   pub asked_leads : {size : ℕ} {c c' : Context} {v w : List ℕ} {asked : Asked} {p : Place} {n start : ℕ} {negated : Bool} → IsAsked size c' v asked w → in_braces c ≡ c' → (ws : List Waiting) (past : Items)
       (at : ℕ) (kind : BraceKind) (cs : Choices) (before : Tests) → Asks p n (head c past at kind cs before) start negated → At size n v → Unstarred asked w
-      → Leads ws p n v ws (λ m. behind_asked (head c past at kind cs before) start m negated asked) w
+      → Leads ws p n v ws (λ m. after_asked (head c past at kind cs before) start m negated asked) w
   asked_leads (s.switch g q) e ws past at kind cs before asks a st = pattern_read ws (asks_words asks g) q
   asked_leads (s.suffix q) e ws past at kind cs before asks a st = marked_read ws 46 refl asks q st
   asked_leads (s.language q) e ws past at kind cs before asks a st = marked_read ws 44 refl asks q st
@@ -196,7 +196,7 @@ mutual
 
 pub asked_read : {size : ℕ} {c c' : Context} {v w : List ℕ} {asked : Asked} {p : Place} {n start : ℕ} {negated : Bool} → IsAsked size c' v asked w → in_braces c ≡ c' → (ws : List Waiting) (past : Items)
     (at : ℕ) (kind : BraceKind) (cs : Choices) (before : Tests) → Asks p n (head c past at kind cs before) start negated → At size n v → Stops (λ b. b == 42) w
-    → Leads ws p n v ws (λ m. behind_asked (head c past at kind cs before) start m negated asked) w
+    → Leads ws p n v ws (λ m. after_asked (head c past at kind cs before) start m negated asked) w
 asked_read {w = w} {asked} d e ws past at kind cs before asks a st = asked_leads d e ws past at kind cs before asks a (unstarred asked w st)
 
 pub spelled_is_read : (text : List ℕ) (items : Items) → Spells text items → read text ≡ Got items

@@ -1,6 +1,6 @@
 use Rattle.drv_syntax.proofs.CutRows.{call_longer, opened_list}
 use Rattle.drv_syntax.proofs.CutTests.{possible, possible_test}
-use Rattle.drv_syntax.proofs.Cuts.{Cut, CutAfter, Filled, InsideCut, asked_cut, behind_patterns, behind_tests, choice_cut, due_cut, mark_cut, next_cut, some_behind, start_cut, test_call_cut, word_cut}
+use Rattle.drv_syntax.proofs.Cuts.{Cut, CutAfter, Filled, InsideCut, asked_cut, after_patterns, after_tests, choice_cut, due_cut, mark_cut, next_cut, some_after, start_cut, test_call_cut, word_cut}
 use Rattle.drv_syntax.proofs.Leads.{each, other, same}
 use Rattle.drv_syntax.proofs.Parts.{HasChoice, brace_resumes, join_tests_assoc}
 use Rattle.drv_syntax.proofs.Rows.{one_byte, pattern_from, when}
@@ -29,13 +29,13 @@ is_word_mark b e = each (λ (x : ℕ). is_word x ≡ true) (46 ∷ 44 ∷ []) b 
 
 tests_cut_space : {size b : ℕ} {c : Context} {text : List ℕ} → is_space b ≡ true → CutsTests size c text → CutsTests size c (b ∷ text)
 tests_cut_space e (cuts.in_asked d g q) = cuts.in_asked (s.space e d) g q
-tests_cut_space e (cuts.behind_asked d g q f) = cuts.behind_asked (s.space e d) g q f
-tests_cut_space e (cuts.behind_bar d g q f t) = cuts.behind_bar (s.space e d) g q f t
+tests_cut_space e (cuts.after_asked d g q f) = cuts.after_asked (s.space e d) g q f
+tests_cut_space e (cuts.after_bar d g q f t) = cuts.after_bar (s.space e d) g q f t
 
 patterns_cut_space : {b : ℕ} {text : List ℕ} → is_space b ≡ true → CutsPatterns text → CutsPatterns (b ∷ text)
 patterns_cut_space e (cuts.in_pattern d q) = cuts.in_pattern (s.space e d) q
-patterns_cut_space e (cuts.behind_pattern d q f) = cuts.behind_pattern (s.space e d) q f
-patterns_cut_space e (cuts.behind_and d q f t) = cuts.behind_and (s.space e d) q f t
+patterns_cut_space e (cuts.after_pattern d q f) = cuts.after_pattern (s.space e d) q f
+patterns_cut_space e (cuts.after_and d q f t) = cuts.after_and (s.space e d) q f t
 
 choices_cut_space : {size b : ℕ} {c : Context} {text : List ℕ} → is_space b ≡ true → CutsChoices size c text → CutsChoices size c (b ∷ text)
 choices_cut_space e (cuts.in_tests d) = cuts.in_tests (tests_cut_space e d)
@@ -52,9 +52,9 @@ due_cut_space size h b text e (inl (inr t)) = inl (inr (tests_cut_space e t))
 due_cut_space size h b text e (inr (x, y, p)) = inr (x, y, patterns_cut_space e p)
 
 -- patterns, and what is behind the first of them
-patterns_cut : (size : ℕ) {t u v : List ℕ} {p : Pattern} → AreSpaces t u → IsPattern u p v → behind_patterns size v → CutsPatterns t
-patterns_cut size d q (inl f) = cuts.behind_pattern d q f
-patterns_cut size d q (inr (rest, f, t)) = cuts.behind_and d q f t
+patterns_cut : (size : ℕ) {t u v : List ℕ} {p : Pattern} → AreSpaces t u → IsPattern u p v → after_patterns size v → CutsPatterns t
+patterns_cut size d q (inl f) = cuts.after_pattern d q f
+patterns_cut size d q (inr (rest, f, t)) = cuts.after_and d q f t
 
 module _ (size : ℕ) (K : Outside) (ending : (c : Context) (all : Items) (rest : List ℕ) → AreFrontItems size c rest → K c all rest) where
   -- functions
@@ -64,7 +64,7 @@ module _ (size : ℕ) (K : Outside) (ending : (c : Context) (all : Items) (rest 
   test_function_cut_row h begun negated at name n b text g =
       when (CutAfter size K b text) (is_function_front (name ++ b ∷ [])) _ _ g
       (λ e g. inr (λ z f. call_longer size (in_braces h.here.context) name b text
-      (λ x arguments rest. (m : ℕ) × At size m rest × Of (λ tests. behind_tests size (in_braces h.here.context) tests rest) (tested h begun m negated (HasResult x arguments))) (g z e))) (λ e1 g.
+      (λ x arguments rest. (m : ℕ) × At size m rest × Of (λ tests. after_tests size (in_braces h.here.context) tests rest) (tested h begun m negated (HasResult x arguments))) (g z e))) (λ e1 g.
       when (CutAfter size K b text) (b == 40) _ _ g
       (λ e2 g. when (CutAfter size K b text) (is_function name) _ _ g
       (λ e3 g. by e1 e2 e3 (opened_list size K ending (WaitsTest h begun negated name) (in_arguments (in_braces h.here.context)) text g)) (λ e g. absurd g))
@@ -93,7 +93,7 @@ module _ (size : ℕ) (K : Outside) (ending : (c : Context) (all : Items) (rest 
               items,
               rest,
               subst (λ (v : ℕ). AreItems size (in_arguments (in_braces h.here.context)) text items (v ∷ rest)) x d,
-              subst (λ (v : List ℕ). (m : ℕ) × At size m rest × Of (λ tests. behind_tests size (in_braces h.here.context) tests rest) (tested h begun m negated (HasResult v items))) (sym (append-nil name))
+              subst (λ (v : List ℕ). (m : ℕ) × At size m rest × Of (λ tests. after_tests size (in_braces h.here.context) tests rest) (tested h begun m negated (HasResult v items))) (sym (append-nil name))
                   (k + 1, one_byte size k c rest a, right (subst (λ (p : Place). Cut size p rest) (sym (on_same _ _ r)) g (possible_test h begun (k + 1) negated (HasResult name items) z))),
             ),
           ))
@@ -101,7 +101,7 @@ module _ (size : ℕ) (K : Outside) (ending : (c : Context) (all : Items) (rest 
   -- what a test asks
 
   from_pattern : (h : Head) (begun : ℕ) (negated : Bool) (text mid : List ℕ) (p : Pattern) (m : ℕ) → Stops is_mark text → IsPattern text p mid → At size m mid
-      → some_behind size h (emitted h begun m negated p) (tested h begun m negated (HasSwitch p)) mid → asked_cut size h begun negated text
+      → some_after size h (emitted h begun m negated p) (tested h begun m negated (HasSwitch p)) mid → asked_cut size h begun negated text
   from_pattern h begun negated text mid p m e q a (inl g) = inr (inr (p, mid, m, q, a, g))
   from_pattern h begun negated text mid p m e q a (inr g) = inr (inl (HasSwitch p, mid, m, s.switch e q, a, g))
 
@@ -161,19 +161,19 @@ module _ (size : ℕ) (K : Outside) (ending : (c : Context) (all : Items) (rest 
   due_cut_of : (h : Head) (begun : ℕ) (negated : Bool) (t u v : List ℕ) → AreSpaces t u → At size begun u → IsSign u negated v → asked_cut size h begun negated v → due_cut size h t
   due_cut_of h begun negated t u v d a f (inl q) = inl (inr (cuts.in_asked d f q))
   due_cut_of h begun negated t u v d a f (inr (inl (asked, mid, m, q, b, g))) =
-      by (tested_only (λ tests. behind_tests size (in_braces h.here.context) tests mid) h.patterns (join_tests h.tests (test (span begun m) negated asked no_test)) g)
+      by (tested_only (λ tests. after_tests size (in_braces h.here.context) tests mid) h.patterns (join_tests h.tests (test (span begun m) negated asked no_test)) g)
     where
-      by : (h.patterns ≡ []) × behind_tests size (in_braces h.here.context) (join_tests h.tests (test (span begun m) negated asked no_test)) mid → due_cut size h t
+      by : (h.patterns ≡ []) × after_tests size (in_braces h.here.context) (join_tests h.tests (test (span begun m) negated asked no_test)) mid → due_cut size h t
       by (x, inl (others, end, r, c)) = inl (inl (
         test (span begun m) negated asked others,
         end,
         tests_of d a f q b r,
         subst (λ (y : Tests). choice_cut size (in_braces h.here.context) y end) (join_tests_assoc h.tests (test (span begun m) negated asked no_test) others) c,
       ))
-      by (x, inr (inl r)) = inl (inr (cuts.behind_asked d f q r))
-      by (x, inr (inr (rest, r, w))) = inl (inr (cuts.behind_bar d f q r w))
+      by (x, inr (inl r)) = inl (inr (cuts.after_asked d f q r))
+      by (x, inr (inr (rest, r, w))) = inl (inr (cuts.after_bar d f q r w))
   due_cut_of h begun negated t u v d a f (inr (inr (p, mid, m, q, b, g))) =
-      let r = emitted_only (λ _. behind_patterns size mid) h.choices h.tests negated h.patterns (span begun m, p) g in
+      let r = emitted_only (λ _. after_patterns size mid) h.choices h.tests negated h.patterns (span begun m, p) g in
       inr (r.0, r.1, patterns_cut size d (subst (λ (y : List ℕ). IsPattern y p mid) (sym (unsigned f r.2)) q) r.3)
 
   -- behind white space or not
@@ -234,10 +234,10 @@ module _ (size : ℕ) (K : Outside) (ending : (c : Context) (all : Items) (rest 
 
   -- a pattern that is due
 
-  due_pattern : (h : Head) (n : ℕ) (text mid : List ℕ) (p : Pattern) (m : ℕ) → Filled h.patterns → IsPattern text p mid → some_behind size h (emitted h n m false p) (tested h n m false (HasSwitch p)) mid → CutsPatterns text
-  due_pattern h n text mid p m f q (inl g) = patterns_cut size s.no_space q (emitted_only (λ _. behind_patterns size mid) h.choices h.tests false h.patterns (span n m, p) g).3
+  due_pattern : (h : Head) (n : ℕ) (text mid : List ℕ) (p : Pattern) (m : ℕ) → Filled h.patterns → IsPattern text p mid → some_after size h (emitted h n m false p) (tested h n m false (HasSwitch p)) mid → CutsPatterns text
+  due_pattern h n text mid p m f q (inl g) = patterns_cut size s.no_space q (emitted_only (λ _. after_patterns size mid) h.choices h.tests false h.patterns (span n m, p) g).3
   due_pattern h n text mid p m f q (inr g) =
-      absurd (subst Filled (tested_only (λ tests. behind_tests size (in_braces h.here.context) tests mid) h.patterns (join_tests h.tests (test (span n m) false (HasSwitch p) no_test)) g).0 f)
+      absurd (subst Filled (tested_only (λ tests. after_tests size (in_braces h.here.context) tests mid) h.patterns (join_tests h.tests (test (span n m) false (HasSwitch p) no_test)) g).0 f)
 
   due_word : (h : Head) (n c : ℕ) (text longer : List ℕ) → Filled h.patterns → (RunsOut is_word text → RunsOut is_word longer)
       → ((run end : List ℕ) → s.IsQuoted is_word text run end → s.IsQuoted is_word longer (c ∷ run) end) → word_cut size h n false (c ∷ []) text → CutsPatterns longer

@@ -6,7 +6,7 @@ use Rattle.drv_syntax.proofs.Sound.{read_is_spelled}
 use Rattle.drv_syntax.proofs.Unrefused.{unrefused_is_front}
 use Rattle.drv_syntax.specs.Contexts.{top}
 use Rattle.drv_syntax.specs.Directives.{directive_of}
-use Rattle.drv_syntax.specs.Faults.{IsCutAt, IsOpenAt, behind_item, is_closed_by_end, open_byte, open_directive, open_last}
+use Rattle.drv_syntax.specs.Faults.{IsCutAt, IsOpenAt, after_item, is_closed_by_end, open_byte, open_directive, open_last}
 use Rattle.drv_syntax.specs.Fronts as cuts
 use Rattle.drv_syntax.specs.Fronts.{AreFrontItems, CutsDirective, CutsItem}
 use Rattle.drv_syntax.specs.Outcome.{Cut, Got, join, read, run}
@@ -28,7 +28,7 @@ open_read {size} (open_directive {b} {n = k} {text} e d at) past n a =
 open_read {size} (open_last {b} {n = k} {text} e d at) past n a =
     let last : size - 1 ≡ k = omega (arith, at) in
     subst (λ (x : ℕ). IsTreeOrCut x (run [] (at_item top past) n (37 ∷ b ∷ text))) (rw e last) (item_front d [] past n a).is
-open_read {size} {place} {text} (behind_item {rest = rest} {item} d r) past n a =
+open_read {size} {place} {text} (after_item {rest = rest} {item} d r) past n a =
     let l = item_read d [] past n a in
     subst (IsTreeOrCut place) (sym l.is) (open_read r (join past (more (span n l.at) item none)) l.at (further size n l.at text rest a l.fits))
 
@@ -55,7 +55,7 @@ items_open : {size : ℕ} {text : List ℕ} (place : ℕ) → AreFrontItems size
 items_open place cuts.items_end past n a h = absurd cc
 items_open {size} {text} place (cuts.whole_item {rest = rest} {item} d f) past n a h =
     let l = item_read d [] past n a in
-    behind_item d (items_open place f (join past (more (span n l.at) item none)) l.at (further size n l.at text rest a l.fits) (sym l.is ∙ h))
+    after_item d (items_open place f (join past (more (span n l.at) item none)) l.at (further size n l.at text rest a l.fits) (sym l.is ∙ h))
 items_open place (cuts.cut_item d) past n a h = item_open place d past n a h
 
 pub cut_at : (text : List ℕ) (place : ℕ) → read text ≡ Cut place → IsCutAt text place

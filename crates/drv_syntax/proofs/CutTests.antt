@@ -1,10 +1,10 @@
 use Rattle.drv_syntax.proofs.CutRows.{choices_cut, opened_list}
-use Rattle.drv_syntax.proofs.Cuts.{Any, Bare, Cut, CutAfter, Filled, Fine, InsideCut, Possible, Tested, There, behind_patterns, behind_tests, choice_cut, due_cut, mark_cut, marked_behind, marked_cut, next_cut, some_behind, start_cut, word_cut}
+use Rattle.drv_syntax.proofs.Cuts.{Any, Bare, Cut, CutAfter, Filled, Fine, InsideCut, Possible, Tested, There, after_patterns, after_tests, choice_cut, due_cut, mark_cut, marked_after, marked_cut, next_cut, some_after, start_cut, word_cut}
 use Rattle.drv_syntax.proofs.Leads.{each, same}
 use Rattle.drv_syntax.proofs.Parts.{HasChoice, brace_resumes, has_choice, join_tests_none}
 use Rattle.drv_syntax.proofs.Rows.{one_byte, pattern_longer, when}
 use Rattle.drv_syntax.proofs.RowsBraces.{on_same, rest_space}
-use Rattle.drv_syntax.proofs.RowsTests.{behind_marked, behind_row, behind_word}
+use Rattle.drv_syntax.proofs.RowsTests.{after_marked, after_row, after_word}
 use Rattle.drv_syntax.proofs.Wanted.{Inside, Of, Outside, Wanted, WantsList, rest_starred, rest_unstarred, tests_bar, tests_colon}
 use Rattle.drv_syntax.specs.Bytes.{is_space, is_word}
 use Rattle.drv_syntax.specs.Contexts.{Context, in_braces, in_x}
@@ -74,19 +74,19 @@ as_possible h begun m k negated p q t = by h.choices h.tests negated h.patterns 
 
 -- white space in front
 
-pub patterns_behind_space : (size b : ℕ) (text : List ℕ) → is_space b ≡ true → behind_patterns size text → behind_patterns size (b ∷ text)
-patterns_behind_space size b text e (inl d) = inl (s.space e d)
-patterns_behind_space size b text e (inr (rest, d, p)) = inr (rest, s.space e d, p)
+pub patterns_after_space : (size b : ℕ) (text : List ℕ) → is_space b ≡ true → after_patterns size text → after_patterns size (b ∷ text)
+patterns_after_space size b text e (inl d) = inl (s.space e d)
+patterns_after_space size b text e (inr (rest, d, p)) = inr (rest, s.space e d, p)
 
-tests_behind_space : (size b : ℕ) (c : Context) (tests : Tests) (text : List ℕ) → is_space b ≡ true → behind_tests size c tests text → behind_tests size c tests (b ∷ text)
-tests_behind_space size b c tests text e (inl (others, end, t, r)) = inl (others, end, rest_space e t, r)
-tests_behind_space size b c tests text e (inr (inl d)) = inr (inl (s.space e d))
-tests_behind_space size b c tests text e (inr (inr (rest, d, t))) = inr (inr (rest, s.space e d, t))
+tests_after_space : (size b : ℕ) (c : Context) (tests : Tests) (text : List ℕ) → is_space b ≡ true → after_tests size c tests text → after_tests size c tests (b ∷ text)
+tests_after_space size b c tests text e (inl (others, end, t, r)) = inl (others, end, rest_space e t, r)
+tests_after_space size b c tests text e (inr (inl d)) = inr (inl (s.space e d))
+tests_after_space size b c tests text e (inr (inr (rest, d, t))) = inr (inr (rest, s.space e d, t))
 
-space_cut : (size : ℕ) (h : Head) (b : ℕ) (text : List ℕ) (ps : Option (List (Span × Pattern))) (ts : Option Tests) → is_space b ≡ true → some_behind size h ps ts text → some_behind size h ps ts (b ∷ text)
-space_cut size h b text (Some ps) ts e (inl g) = inl (patterns_behind_space size b text e g)
+space_cut : (size : ℕ) (h : Head) (b : ℕ) (text : List ℕ) (ps : Option (List (Span × Pattern))) (ts : Option Tests) → is_space b ≡ true → some_after size h ps ts text → some_after size h ps ts (b ∷ text)
+space_cut size h b text (Some ps) ts e (inl g) = inl (patterns_after_space size b text e g)
 space_cut size h b text None ts e (inl g) = absurd g
-space_cut size h b text ps (Some tests) e (inr g) = inr (tests_behind_space size b (in_braces h.here.context) tests text e g)
+space_cut size h b text ps (Some tests) e (inr g) = inr (tests_after_space size b (in_braces h.here.context) tests text e g)
 space_cut size h b text ps None e (inr g) = absurd g
 
 -- behind an X
@@ -125,7 +125,7 @@ module _ (size : ℕ) (K : Outside) (ending : (c : Context) (all : Items) (rest 
       by : WantsList size (Inside size K (WaitsX (with_tests h tests) n)) (record { context = in_x (in_braces h.here.context) tests; done = none }) text
           ⊎ InsideCut size (WaitsX (with_tests h tests) n) (in_x (in_braces h.here.context) tests) text
           → Wanted size K (o.BehindTest h ps (Some tests) bare) (58 ∷ text) ⊎ Cut size (o.BehindTest h ps (Some tests) bare) (58 ∷ text)
-      by (inl l) = inl (behind_row size K h ps (Some tests) bare n 58 text a l)
+      by (inl l) = inl (after_row size K h ps (Some tests) bare n 58 text a l)
       by (inr c) = inr (λ f. inr (inl (
         no_test,
         58 ∷ text,
@@ -133,7 +133,7 @@ module _ (size : ℕ) (K : Outside) (ending : (c : Context) (all : Items) (rest 
         subst (λ (x : Tests). choice_cut size (in_braces h.here.context) x (58 ∷ text)) (sym (join_tests_none tests)) (x_cut size (with_tests h tests) n text c),
       )))
 
-  bar_cut : (h : Head) (tests : Tests) (text : List ℕ) → Tested tests → due_cut size (with_tests h tests) text → behind_tests size (in_braces h.here.context) tests (124 ∷ text)
+  bar_cut : (h : Head) (tests : Tests) (text : List ℕ) → Tested tests → due_cut size (with_tests h tests) text → after_tests size (in_braces h.here.context) tests (124 ∷ text)
   bar_cut h tests text t (inl (inl (others, end, d, r))) = inl (others, end, tests_bar s.no_space d, r)
   bar_cut h tests text t (inl (inr d)) = inr (inr (text, s.no_space, d))
   bar_cut h tests text t (inr (x, y, p)) = absurd (subst Tested y t)
@@ -151,9 +151,9 @@ module _ (size : ℕ) (K : Outside) (ending : (c : Context) (all : Items) (rest 
   bars_cut h ps (Some tests) bare b text e g f = rw e (inr (bar_cut h tests text f.1.1 (g f.1.0)))
   bars_cut h ps None bare b text e g f = absurd g
 
-  pub behind_cut_row : (h : Head) (ps : Option (List (Span × Pattern))) (ts : Option Tests) (bare : Bool) (n b : ℕ) (text : List ℕ) → At size n (b ∷ text)
-      → CutAfter size K b text (o.turn_behind h ps ts bare n b) → Wanted size K (o.BehindTest h ps ts bare) (b ∷ text) ⊎ Cut size (o.BehindTest h ps ts bare) (b ∷ text)
-  behind_cut_row h ps ts bare n b text a g =
+  pub after_cut_row : (h : Head) (ps : Option (List (Span × Pattern))) (ts : Option Tests) (bare : Bool) (n b : ℕ) (text : List ℕ) → At size n (b ∷ text)
+      → CutAfter size K b text (o.turn_after h ps ts bare n b) → Wanted size K (o.BehindTest h ps ts bare) (b ∷ text) ⊎ Cut size (o.BehindTest h ps ts bare) (b ∷ text)
+  after_cut_row h ps ts bare n b text a g =
       when (CutAfter size K b text) (is_space b) _ _ g (λ e g. inr (λ f. space_cut size h b text ps ts e (g f))) (λ e1 g.
       when (CutAfter size K b text) (b == 125) _ _ g (λ e g. brace_none h ps n b text g) (λ e2 g.
       when (CutAfter size K b text) (b == 38) _ _ g (λ e g. inr (and_cut h ps ts bare b text (same b 38 e) g)) (λ e3 g.
@@ -187,11 +187,11 @@ module _ (size : ℕ) (K : Outside) (ending : (c : Context) (all : Items) (rest 
         n + 1,
         rw (same b 42 e) (rest_starred (s.quoted_stop refl refl)),
         one_byte size n b text a,
-        subst (λ (x : List ℕ). some_behind size h (emitted h begun (n + 1) negated (pattern x true)) (tested h begun (n + 1) negated (HasSwitch (pattern x true))) text) (sym (append-nil word))
+        subst (λ (x : List ℕ). some_after size h (emitted h begun (n + 1) negated (pattern x true)) (tested h begun (n + 1) negated (HasSwitch (pattern x true))) text) (sym (append-nil word))
             (g (possible h begun (n + 1) negated (pattern word true) (HasSwitch (pattern word true)) f)),
       )))
       (λ e3 g. by e1 e2 e3
-      (behind_cut_row h (emitted h begun n negated (pattern word false)) (tested h begun n negated (HasSwitch (pattern word false))) false n b text a g))))
+      (after_cut_row h (emitted h begun n negated (pattern word false)) (tested h begun n negated (HasSwitch (pattern word false))) false n b text a g))))
     where
       by : (b == 92) ≡ false → is_word b ≡ false → (b == 42) ≡ false
           → Wanted size K (o.BehindTest h (emitted h begun n negated (pattern word false)) (tested h begun n negated (HasSwitch (pattern word false))) false) (b ∷ text)
@@ -203,7 +203,7 @@ module _ (size : ℕ) (K : Outside) (ending : (c : Context) (all : Items) (rest 
         n,
         rest_unstarred (s.quoted_stop e1 e2) (s.at_byte e3),
         a,
-        subst (λ (x : List ℕ). behind_word size K h begun negated x false n (b ∷ text)) (sym (append-nil word)) g,
+        subst (λ (x : List ℕ). after_word size K h begun negated x false n (b ∷ text)) (sym (append-nil word)) g,
       )
       by e1 e2 e3 (inr g) = inr (λ f. inr (
         pattern (word ++ []) false,
@@ -211,7 +211,7 @@ module _ (size : ℕ) (K : Outside) (ending : (c : Context) (all : Items) (rest 
         n,
         rest_unstarred (s.quoted_stop e1 e2) (s.at_byte e3),
         a,
-        subst (λ (x : List ℕ). some_behind size h (emitted h begun n negated (pattern x false)) (tested h begun n negated (HasSwitch (pattern x false))) (b ∷ text)) (sym (append-nil word))
+        subst (λ (x : List ℕ). some_after size h (emitted h begun n negated (pattern x false)) (tested h begun n negated (HasSwitch (pattern x false))) (b ∷ text)) (sym (append-nil word))
             (g (possible h begun n negated (pattern word false) (HasSwitch (pattern word false)) f)),
       ))
 
@@ -222,7 +222,7 @@ module _ (size : ℕ) (K : Outside) (ending : (c : Context) (all : Items) (rest 
       → marked_cut size h begun negated mark (word ++ c ∷ []) text → marked_cut size h begun negated mark word longer
   marked_longer h begun negated mark word c text longer out k (inl r) = inl (out r)
   marked_longer h begun negated mark word c text longer out k (inr (run, mid, q, g)) =
-      inr (c ∷ run, mid, k run mid q, subst (λ (x : List ℕ). marked_behind size h begun negated mark x mid) (append_assoc word (c ∷ []) run) g)
+      inr (c ∷ run, mid, k run mid q, subst (λ (x : List ℕ). marked_after size h begun negated mark x mid) (append_assoc word (c ∷ []) run) g)
 
   marked_escape : (h : Head) (begun : ℕ) (negated : Bool) (mark : ℕ) (word : List ℕ) (text : List ℕ) → next_cut size text (λ b rest. marked_cut size h begun negated mark (word ++ b ∷ []) rest)
       → marked_cut size h begun negated mark word (92 ∷ text)
@@ -230,7 +230,7 @@ module _ (size : ℕ) (K : Outside) (ending : (c : Context) (all : Items) (rest 
   marked_escape h begun negated mark word text (inr (c, rest, e, w)) =
       rw e (marked_longer h begun negated mark word c rest (92 ∷ c ∷ rest) (λ r. cuts.out_escape r) (λ run end q. s.quoted_escape q) w)
 
-  star_part : (h : Head) (ps : Option (List (Span × Pattern))) (b : ℕ) (text : List ℕ) → Any (λ xs. Bare h × Filled xs) ps → CutAfter size K b text (o.turn_starred_mark h ps) → Of (λ _. behind_patterns size text) ps
+  star_part : (h : Head) (ps : Option (List (Span × Pattern))) (b : ℕ) (text : List ℕ) → Any (λ xs. Bare h × Filled xs) ps → CutAfter size K b text (o.turn_starred_mark h ps) → Of (λ _. after_patterns size text) ps
   star_part h (Some ps) b text y g = left (g (y, tt, inl tt))
   star_part h None b text y g = absurd g
 
@@ -246,7 +246,7 @@ module _ (size : ℕ) (K : Outside) (ending : (c : Context) (all : Items) (rest 
         [],
         b ∷ text,
         s.quoted_stop e1 e2,
-        subst (λ (x : List ℕ). marked_behind size h begun negated mark x (b ∷ text)) (sym (append-nil word))
+        subst (λ (x : List ℕ). marked_after size h begun negated mark x (b ∷ text)) (sym (append-nil word))
             (inr (
               text,
               n + 1,
@@ -256,7 +256,7 @@ module _ (size : ℕ) (K : Outside) (ending : (c : Context) (all : Items) (rest 
             )),
       )))
       (λ e3 g. by e1 e2 e3
-      (behind_cut_row h (emitted h begun n negated (pattern (mark ∷ word) false)) (tested h begun n negated (o.marked mark word)) false n b text a g))))
+      (after_cut_row h (emitted h begun n negated (pattern (mark ∷ word) false)) (tested h begun n negated (o.marked mark word)) false n b text a g))))
     where
       by : (b == 92) ≡ false → is_word b ≡ false → (b == 42) ≡ false
           → Wanted size K (o.BehindTest h (emitted h begun n negated (pattern (mark ∷ word) false)) (tested h begun n negated (o.marked mark word)) false) (b ∷ text)
@@ -266,25 +266,25 @@ module _ (size : ℕ) (K : Outside) (ending : (c : Context) (all : Items) (rest 
         [],
         b ∷ text,
         s.quoted_stop e1 e2,
-        subst (λ (x : List ℕ). behind_marked size K h begun negated mark x (b ∷ text)) (sym (append-nil word)) (inl (n, a, s.at_byte e3, g)),
+        subst (λ (x : List ℕ). after_marked size K h begun negated mark x (b ∷ text)) (sym (append-nil word)) (inl (n, a, s.at_byte e3, g)),
       )
       by e1 e2 e3 (inr g) = inr (λ f. inr (
         [],
         b ∷ text,
         s.quoted_stop e1 e2,
-        subst (λ (x : List ℕ). marked_behind size h begun negated mark x (b ∷ text)) (sym (append-nil word))
+        subst (λ (x : List ℕ). marked_after size h begun negated mark x (b ∷ text)) (sym (append-nil word))
             (inl (n, a, s.at_byte e3, g (possible h begun n negated (pattern (mark ∷ word) false) (o.marked mark word) f))),
       ))
 
   -- the mark alone, without a star or with one
   bare_cut : (h : Head) (ps starred : Option (List (Span × Pattern))) (n b : ℕ) (text : List ℕ) → Any (λ xs. Bare h × Filled xs) ps → Any (λ xs. Bare h × Filled xs) starred → (There ps → There starred)
-      → CutAfter size K b text (o.turn_bare h ps starred n b) → (((b == 42) ≡ false) × Of (λ _. behind_patterns size (b ∷ text)) ps) ⊎ ((b ≡ 42) × Of (λ _. behind_patterns size text) starred)
+      → CutAfter size K b text (o.turn_bare h ps starred n b) → (((b == 42) ≡ false) × Of (λ _. after_patterns size (b ∷ text)) ps) ⊎ ((b ≡ 42) × Of (λ _. after_patterns size text) starred)
   bare_cut h None starred n b text y z t g = absurd g
   bare_cut h (Some ps) starred n b text y z t g =
       when (CutAfter size K b text) (b == 42) _ _ g (λ e g. inr (same b 42 e, left (g (z, tt, inl (t tt))))) (λ e1 g.
       when (CutAfter size K b text) (b == 125) _ _ g (λ e g. absurd g) (λ e2 g.
       when (CutAfter size K b text) (b == 38) _ _ g (λ e g. inl (e1, rw (same b 38 e) (inr (text, s.no_space, g y)))) (λ e3 g.
-      when (CutAfter size K b text) (is_space b) _ _ g (λ e g. inl (e1, patterns_behind_space size b text e (left (g (y, tt, inl tt))))) (λ e4 g. absurd g))))
+      when (CutAfter size K b text) (is_space b) _ _ g (λ e g. inl (e1, patterns_after_space size b text e (left (g (y, tt, inl tt))))) (λ e4 g. absurd g))))
 
   pub mark_cut_row : (h : Head) (begun : ℕ) (negated : Bool) (mark n b : ℕ) (text : List ℕ) → At size n (b ∷ text) → CutAfter size K b text (o.turn_mark h begun negated mark n b)
       → Cut size (o.TestMark h begun negated mark) (b ∷ text)
@@ -305,8 +305,8 @@ module _ (size : ℕ) (K : Outside) (ending : (c : Context) (all : Items) (rest 
       started e1 e (inr (run, mid, q, z)) = inr (inl (b, run, mid, s.quoted_byte e1 e q, z))
 
       by : (b == 92) ≡ false → is_word b ≡ false
-          → (((b == 42) ≡ false) × Of (λ _. behind_patterns size (b ∷ text)) (emitted h begun n negated (pattern (mark ∷ []) false)))
-          ⊎ ((b ≡ 42) × Of (λ _. behind_patterns size text) (emitted h begun (n + 1) negated (pattern (mark ∷ []) true)))
+          → (((b == 42) ≡ false) × Of (λ _. after_patterns size (b ∷ text)) (emitted h begun n negated (pattern (mark ∷ []) false)))
+          ⊎ ((b ≡ 42) × Of (λ _. after_patterns size text) (emitted h begun (n + 1) negated (pattern (mark ∷ []) true)))
           → mark_cut size h begun negated mark (b ∷ text)
       by e1 e2 (inl x) = inr (inr (inl (n, a, s.quoted_stop e1 e2, s.at_byte x.0, x.1)))
       by e1 e2 (inr x) = inr (inr (inr (text, n + 1, ap (λ (y : ℕ). y ∷ text) x.0, one_byte size n b text a, x.1)))

@@ -46,8 +46,8 @@ abbrev pub Possible : Head → Option (List (Span × Pattern)) → Option Tests 
 Possible h ps ts = Any (λ xs. Bare h × Filled xs) ps × Any (λ xs. (h.patterns ≡ []) × Tested xs) ts × (There ps ⊎ There ts)
 
 module _ (size : ℕ) where
-  abbrev pub behind_patterns : List ℕ → Type 0
-  behind_patterns text = AreSpaces text [] ⊎ ((rest : List ℕ) × AreSpaces text (38 ∷ rest) × CutsPatterns rest)
+  abbrev pub after_patterns : List ℕ → Type 0
+  after_patterns text = AreSpaces text [] ⊎ ((rest : List ℕ) × AreSpaces text (38 ∷ rest) × CutsPatterns rest)
 
   -- from the colon of an alternative with these tests
   abbrev pub choice_cut : Context → Tests → List ℕ → Type 0
@@ -60,13 +60,13 @@ module _ (size : ℕ) where
   tests_cut c tests text = ((others : Tests) × (end : List ℕ) × AreTests size c text others end × choice_cut c (join_tests tests others) end) ⊎ CutsTests size c text
 
   -- behind the last of these tests
-  abbrev pub behind_tests : Context → Tests → List ℕ → Type 0
-  behind_tests c tests text =
+  abbrev pub after_tests : Context → Tests → List ℕ → Type 0
+  after_tests c tests text =
       ((others : Tests) × (end : List ℕ) × IsTestsRest size c text others end × choice_cut c (join_tests tests others) end)
       ⊎ (AreSpaces text [] ⊎ ((rest : List ℕ) × AreSpaces text (124 ∷ rest) × CutsTests size c rest))
 
-  abbrev pub some_behind : Head → Option (List (Span × Pattern)) → Option Tests → List ℕ → Type 0
-  some_behind h ps ts text = Of (λ _. behind_patterns text) ps ⊎ Of (λ tests. behind_tests (in_braces h.here.context) tests text) ts
+  abbrev pub some_after : Head → Option (List (Span × Pattern)) → Option Tests → List ℕ → Type 0
+  some_after h ps ts text = Of (λ _. after_patterns text) ps ⊎ Of (λ tests. after_tests (in_braces h.here.context) tests text) ts
 
   abbrev pub due_cut : Head → List ℕ → Type 0
   due_cut h text = tests_cut (in_braces h.here.context) h.tests text ⊎ ((h.choices ≡ no_choice) × (h.tests ≡ no_test) × CutsPatterns text)
@@ -78,32 +78,32 @@ module _ (size : ℕ) where
   asked_cut h begun negated text =
       CutsAsked size (in_braces h.here.context) text
       ⊎ (((asked : Asked) × (mid : List ℕ) × (m : ℕ) × IsAsked size (in_braces h.here.context) text asked mid × At size m mid
-      × Of (λ tests. behind_tests (in_braces h.here.context) tests mid) (tested h begun m negated asked))
-      ⊎ ((p : Pattern) × (mid : List ℕ) × (m : ℕ) × IsPattern text p mid × At size m mid × Of (λ _. behind_patterns mid) (emitted h begun m negated p)))
+      × Of (λ tests. after_tests (in_braces h.here.context) tests mid) (tested h begun m negated asked))
+      ⊎ ((p : Pattern) × (mid : List ℕ) × (m : ℕ) × IsPattern text p mid × At size m mid × Of (λ _. after_patterns mid) (emitted h begun m negated p)))
 
   abbrev pub word_cut : Head → ℕ → Bool → List ℕ → List ℕ → Type 0
   word_cut h begun negated word text =
       RunsOut is_word text
-      ⊎ ((p : Pattern) × (mid : List ℕ) × (m : ℕ) × IsPatternRest word text p mid × At size m mid × some_behind h (emitted h begun m negated p) (tested h begun m negated (HasSwitch p)) mid)
+      ⊎ ((p : Pattern) × (mid : List ℕ) × (m : ℕ) × IsPatternRest word text p mid × At size m mid × some_after h (emitted h begun m negated p) (tested h begun m negated (HasSwitch p)) mid)
 
   abbrev pub starred_cut : Head → ℕ → Bool → ℕ → List ℕ → List ℕ → Type 0
   starred_cut h begun negated mark word mid =
-      (rest : List ℕ) × (m : ℕ) × (mid ≡ 42 ∷ rest) × At size m rest × Of (λ _. behind_patterns rest) (emitted h begun m negated (pattern (mark ∷ word) true))
+      (rest : List ℕ) × (m : ℕ) × (mid ≡ 42 ∷ rest) × At size m rest × Of (λ _. after_patterns rest) (emitted h begun m negated (pattern (mark ∷ word) true))
 
-  abbrev pub marked_behind : Head → ℕ → Bool → ℕ → List ℕ → List ℕ → Type 0
-  marked_behind h begun negated mark word mid =
+  abbrev pub marked_after : Head → ℕ → Bool → ℕ → List ℕ → List ℕ → Type 0
+  marked_after h begun negated mark word mid =
       ((m : ℕ) × At size m mid × Stops (λ b. b == 42) mid
-      × some_behind h (emitted h begun m negated (pattern (mark ∷ word) false)) (tested h begun m negated (o.marked mark word)) mid)
+      × some_after h (emitted h begun m negated (pattern (mark ∷ word) false)) (tested h begun m negated (o.marked mark word)) mid)
       ⊎ starred_cut h begun negated mark word mid
 
   abbrev pub marked_cut : Head → ℕ → Bool → ℕ → List ℕ → List ℕ → Type 0
-  marked_cut h begun negated mark word text = RunsOut is_word text ⊎ ((run : List ℕ) × (mid : List ℕ) × IsQuoted is_word text run mid × marked_behind h begun negated mark (word ++ run) mid)
+  marked_cut h begun negated mark word text = RunsOut is_word text ⊎ ((run : List ℕ) × (mid : List ℕ) × IsQuoted is_word text run mid × marked_after h begun negated mark (word ++ run) mid)
 
   abbrev pub mark_cut : Head → ℕ → Bool → ℕ → List ℕ → Type 0
   mark_cut h begun negated mark text =
       RunsOut is_word text
-      ⊎ (((b : ℕ) × (run : List ℕ) × (mid : List ℕ) × IsQuoted is_word text (b ∷ run) mid × marked_behind h begun negated mark (b ∷ run) mid)
-      ⊎ (((m : ℕ) × At size m text × IsQuoted is_word text [] text × Stops (λ b. b == 42) text × Of (λ _. behind_patterns text) (emitted h begun m negated (pattern (mark ∷ []) false)))
+      ⊎ (((b : ℕ) × (run : List ℕ) × (mid : List ℕ) × IsQuoted is_word text (b ∷ run) mid × marked_after h begun negated mark (b ∷ run) mid)
+      ⊎ (((m : ℕ) × At size m text × IsQuoted is_word text [] text × Stops (λ b. b == 42) text × Of (λ _. after_patterns text) (emitted h begun m negated (pattern (mark ∷ []) false)))
       ⊎ starred_cut h begun negated mark [] text))
 
   abbrev pub call_cut : Context → List ℕ → List ℕ → (List ℕ → Items → List ℕ → Type 0) → Type 0
@@ -115,7 +115,7 @@ module _ (size : ℕ) where
   abbrev pub test_call_cut : Head → ℕ → Bool → List ℕ → List ℕ → Type 0
   test_call_cut h begun negated name text =
       call_cut (in_braces h.here.context) name text
-      (λ n arguments rest. (m : ℕ) × At size m rest × Of (λ tests. behind_tests (in_braces h.here.context) tests rest) (tested h begun m negated (HasResult n arguments)))
+      (λ n arguments rest. (m : ℕ) × At size m rest × Of (λ tests. after_tests (in_braces h.here.context) tests rest) (tested h begun m negated (HasResult n arguments)))
 
   abbrev pub next_cut : List ℕ → (ℕ → List ℕ → Type 0) → Type 0
   next_cut text P = (text ≡ []) ⊎ ((b : ℕ) × (rest : List ℕ) × (text ≡ b ∷ rest) × P b rest)
@@ -149,7 +149,7 @@ module _ (size : ℕ) where
   Cut (o.MarkedEscape h begun negated mark word) text = Fine h negated → next_cut text (λ b rest. marked_cut h begun negated mark (word ++ b ∷ []) rest)
   Cut (o.TestPercent h begun negated at) text = h.patterns ≡ [] → (text ≡ []) ⊎ ((rest : List ℕ) × (text ≡ 58 ∷ rest) × test_call_cut h begun negated [] rest)
   Cut (o.TestFunction h begun negated at name) text = h.patterns ≡ [] → is_function_front name ≡ true → test_call_cut h begun negated name text
-  Cut (o.BehindTest h ps ts bare) text = Possible h ps ts → some_behind h ps ts text
+  Cut (o.BehindTest h ps ts bare) text = Possible h ps ts → some_after h ps ts text
 
 -- around a list for whose end a directive waits: the text ends in the list, or the directive goes on behind it
 abbrev pub Beyond : ℕ → Outside → Waiting → Outside

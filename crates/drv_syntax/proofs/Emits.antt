@@ -1,11 +1,11 @@
-use Rattle.drv_syntax.proofs.Patterns.{Closing, asks_mark, asks_words, behind_closing, due_words, emitting, pattern_read, pattern_space, spaces_read, start_asks, start_space}
+use Rattle.drv_syntax.proofs.Patterns.{Closing, asks_mark, asks_words, after_closing, due_words, emitting, pattern_read, pattern_space, spaces_read, start_asks, start_space}
 use Rattle.drv_syntax.proofs.FrontLeads.{IsFrontFrom, IsTreeOrCut, ended, on}
 use Rattle.drv_syntax.proofs.Leads.{Leads, and_then, differs, each, further, goes, one, same_place, same_run, to}
 use Rattle.drv_syntax.proofs.Words.{alike, at_front, marked_word, no_word, quoted_from, stops, stops_at}
 use Rattle.drv_syntax.specs.Bytes.{is_mark, is_space, is_word}
 use Rattle.drv_syntax.specs.declared.directives.BraceKind.{BraceKind}
 use Rattle.drv_syntax.specs.Outcome as o
-use Rattle.drv_syntax.specs.Outcome.{Goes, Here, Place, Waiting, behind_pattern, emitted_item, fresh, run, turn}
+use Rattle.drv_syntax.specs.Outcome.{Goes, Here, Place, Waiting, after_pattern, emitted_item, fresh, run, turn}
 use Rattle.drv_syntax.specs.Spelling as s
 use Rattle.drv_syntax.specs.Spelling.{ArePatterns, AreSpaces, At, IsPattern, IsQuoted, Stops, span}
 use Rattle.drv_syntax.specs.Tree.{HasSwitch, Pattern, Span, pattern}
@@ -69,9 +69,9 @@ module _ (ws : List Waiting) (here : Here) (at : ℕ) (kind : BraceKind) where
 
   mark_closing : (start mark m : ℕ) (text : List ℕ) → Closing ws (at_mark start mark) m text here at kind (alone start mark m)
   mark_closing start mark m text = record {
-    brace = λ q. spaced (mark_blank start mark m) refl (λ others r. (behind_closing ws (m + 1) others here at kind [] (alone start mark m) None true).brace r) q refl;
-    and = λ q. spaced (mark_blank start mark m) refl (λ others r. (behind_closing ws (m + 1) others here at kind [] (alone start mark m) None true).and r) q refl;
-    end = λ q. spaced_end (inl refl) (mark_blank start mark m) (λ others r. (behind_closing ws (m + 1) others here at kind [] (alone start mark m) None true).end r) q refl;
+    brace = λ q. spaced (mark_blank start mark m) refl (λ others r. (after_closing ws (m + 1) others here at kind [] (alone start mark m) None true).brace r) q refl;
+    and = λ q. spaced (mark_blank start mark m) refl (λ others r. (after_closing ws (m + 1) others here at kind [] (alone start mark m) None true).and r) q refl;
+    end = λ q. spaced_end (inl refl) (mark_blank start mark m) (λ others r. (after_closing ws (m + 1) others here at kind [] (alone start mark m) None true).end r) q refl;
   }
 
   abbrev FirstMarked : ℕ → ℕ → List ℕ → List ℕ → Bool → List ℕ → Type 0
@@ -85,7 +85,7 @@ module _ (ws : List Waiting) (here : Here) (at : ℕ) (kind : BraceKind) where
     leads = and_then (goes (asks_mark (start_asks head n) b e) (quoted_from (marked_word head n false b) ws (record { byte = λ x g k. rw (g, k) refl; escape = refl }) q))
         (λ m fits. same_run (alike ws (o.MarkedWord head n false b (c ∷ word)) (place m) m rest refl
         (λ x r k. rw (at_front x r (stops_at q) k, at_front x r (stops q) k, at_front x r f k) refl)));
-    closing = λ m. behind_closing ws m rest here at kind [] ((span n m, pattern (b ∷ c ∷ word) false) ∷ []) (o.tested head n m false (o.marked b (c ∷ word))) false;
+    closing = λ m. after_closing ws m rest here at kind [] ((span n m, pattern (b ∷ c ∷ word) false) ∷ []) (o.tested head n m false (o.marked b (c ∷ word))) false;
   }
     where
       place : ℕ → Place
@@ -104,7 +104,7 @@ module _ (ws : List Waiting) (here : Here) (at : ℕ) (kind : BraceKind) where
   first_starred n b text end word e q = record {
     place = starred n b word;
     leads = starred_leads n b text end word e q;
-    closing = λ m. behind_closing ws m end here at kind [] ((span n m, pattern (b ∷ word) true) ∷ []) None false;
+    closing = λ m. after_closing ws m end here at kind [] ((span n m, pattern (b ∷ word) true) ∷ []) None false;
   }
 
   first_of_mark : (n b : ℕ) {text rest end : List ℕ} {pat : Pattern} → is_mark b ≡ true → text ≡ b ∷ rest → IsPattern text pat end
@@ -121,9 +121,9 @@ module _ (ws : List Waiting) (here : Here) (at : ℕ) (kind : BraceKind) where
     where
       by : Stops is_mark text ⊎ ((b : ℕ) × (rest : List ℕ) × (text ≡ b ∷ rest) × (is_mark b ≡ true)) → First ws (o.ChoiceStart head) n text here at kind [] pat end
       by (inl e) = record {
-        place = λ m. behind_pattern head n m false pat;
+        place = λ m. after_pattern head n m false pat;
         leads = pattern_read ws (asks_words (start_asks head n) e) q;
-        closing = λ m. behind_closing ws m end here at kind [] ((span n m, pat) ∷ []) (o.tested head n m false (HasSwitch pat)) false;
+        closing = λ m. after_closing ws m end here at kind [] ((span n m, pat) ∷ []) (o.tested head n m false (HasSwitch pat)) false;
       }
       by (inr m) = rw m.2 (first_of_mark n m.0 m.3 m.2 q)
 
@@ -131,9 +131,9 @@ module _ (ws : List Waiting) (here : Here) (at : ℕ) (kind : BraceKind) where
   pub next : (n : ℕ) (text end : List ℕ) (before : List (Span × Pattern)) (pat : Pattern) → IsPattern text pat end
       → First ws (o.PatternDue (emitting here at kind before)) n text here at kind before pat end
   next n text end before pat q = record {
-    place = λ m. behind_pattern (emitting here at kind before) n m false pat;
+    place = λ m. after_pattern (emitting here at kind before) n m false pat;
     leads = pattern_read ws (due_words (emitting here at kind before) n text) q;
-    closing = λ m. behind_closing ws m end here at kind before (before ++ (span n m, pat) ∷ []) (o.tested (emitting here at kind before) n m false (HasSwitch pat)) false;
+    closing = λ m. after_closing ws m end here at kind before (before ++ (span n m, pat) ∷ []) (o.tested (emitting here at kind before) n m false (HasSwitch pat)) false;
   }
 
   -- patterns from a place that reads its first one so, behind white space

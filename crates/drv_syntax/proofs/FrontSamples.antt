@@ -1,6 +1,6 @@
 use Rattle.drv_syntax.proofs.FrontsRead.{front_is_read}
 use Rattle.drv_syntax.proofs.Shortest.{not_bad}
-use Rattle.drv_syntax.specs.Faults.{IsOpenAt, behind_item, open_byte, open_directive, open_last}
+use Rattle.drv_syntax.specs.Faults.{IsOpenAt, after_item, open_byte, open_directive, open_last}
 use Rattle.drv_syntax.specs.Fronts as cuts
 use Rattle.drv_syntax.specs.Fronts.{Front}
 use Rattle.drv_syntax.specs.Outcome.{read}
@@ -23,7 +23,7 @@ name_cut = cuts.cut_item (cuts.cut_directive refl (cuts.cut_function (cuts.in_fu
 test_cut : Front (codes "%{a|")
 test_cut =
     cuts.cut_item (cuts.cut_directive refl (cuts.cut_braces (cuts.cut_chooses refl (cuts.in_tests
-    (cuts.behind_bar s.no_space (s.plain_sign (s.at_byte refl)) (s.switch (s.at_byte refl) (s.unstarred (s.quoted_byte refl refl (s.quoted_stop refl refl)) (s.at_byte refl))) s.no_space
+    (cuts.after_bar s.no_space (s.plain_sign (s.at_byte refl)) (s.switch (s.at_byte refl) (s.unstarred (s.quoted_byte refl refl (s.quoted_stop refl refl)) (s.at_byte refl))) s.no_space
     (cuts.in_asked s.no_space (s.plain_sign s.at_end) (cuts.cut_switch s.at_end cuts.out_end)))))))
 
 choice_cut : Front (codes "%{a:x")
@@ -35,7 +35,7 @@ choice_cut =
 -- the places of what is open
 
 escape_place : IsOpenAt 2 (codes "x\\") 1
-escape_place = behind_item (s.plain refl refl) (open_byte cuts.cut_escape refl)
+escape_place = after_item (s.plain refl refl) (open_byte cuts.cut_escape refl)
 
 suffix_place : IsOpenAt 3 (codes "%g%") 2
 suffix_place = open_last refl (cuts.cut_directive refl cuts.cut_suffix) refl
@@ -47,7 +47,7 @@ hide_place : IsOpenAt 4 (codes "%<a\\") 0
 hide_place = open_directive refl (cuts.cut_directive refl (cuts.cut_hide (cuts.out_byte refl refl cuts.out_backslash))) refl
 
 name_place : IsOpenAt 6 (codes "x%:get") 1
-name_place = behind_item (s.plain refl refl) (open_directive refl (cuts.cut_directive refl (cuts.cut_function (cuts.in_function refl refl))) refl)
+name_place = after_item (s.plain refl refl) (open_directive refl (cuts.cut_directive refl (cuts.cut_function (cuts.in_function refl refl))) refl)
 
 -- no fronts
 

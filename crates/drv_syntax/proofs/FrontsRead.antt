@@ -3,8 +3,8 @@ use Rattle.drv_syntax.proofs.Emits.{First, first_pattern, next}
 use Rattle.drv_syntax.proofs.FrontLeads.{IsFrontFrom, IsTreeOrCut, WordEnds, ended, inside, on, onto, opening, runs_from, runs_out}
 use Rattle.drv_syntax.proofs.Leads.{and_then, closes, further, none_of, opens, other, to}
 use Rattle.drv_syntax.proofs.Names.{front_front, name_end, name_read}
-use Rattle.drv_syntax.proofs.Parts.{HasChoice, behind_asked, default_turn, has_choice, join_tests_assoc, name_text, next_resumes, no_star, patterns_of, start_sign}
-use Rattle.drv_syntax.proofs.Patterns.{Asks, asks_escape, asks_mark, asks_word, behind_space, choosing, due_asks, due_space, emitting, negated_asks, negated_space, pattern_space, spaces_read, start_asks, start_space}
+use Rattle.drv_syntax.proofs.Parts.{HasChoice, after_asked, default_turn, has_choice, join_tests_assoc, name_text, next_resumes, no_star, patterns_of, start_sign}
+use Rattle.drv_syntax.proofs.Patterns.{Asks, asks_escape, asks_mark, asks_word, after_space, choosing, due_asks, due_space, emitting, negated_asks, negated_space, pattern_space, spaces_read, start_asks, start_space}
 use Rattle.drv_syntax.proofs.Shortest.{IsFront, not_bad, shortest}
 use Rattle.drv_syntax.proofs.Words.{hide_word, marked_word, option_text, saying_text, test_word}
 use Rattle.drv_syntax.specs.Bytes.{is_function_front, is_mark, is_space, is_word}
@@ -70,9 +70,9 @@ patterns_out : {text : List ℕ} (ws : List Waiting) (here : Here) (at : ℕ) (k
     → ((n : ℕ) (u end : List ℕ) (pat : Pattern) → IsPattern u pat end → First ws p n u here at kind before pat end) → ((n : ℕ) (u : List ℕ) → RunsOut is_word u → IsFrontFrom at ws p n u)
     → (n : ℕ) → CutsPatterns text → IsFrontFrom at ws p n text
 patterns_out ws here at kind p before blank first out n (cuts.in_pattern {u = u} sp q) = onto (spaces_read ws p blank n sp) (λ m f. out m u q)
-patterns_out ws here at kind p before blank first out n (cuts.behind_pattern {u = u} {v} {p = pat} sp q sp') =
+patterns_out ws here at kind p before blank first out n (cuts.after_pattern {u = u} {v} {p = pat} sp q sp') =
     onto (spaces_read ws p blank n sp) (λ k f. let r = first k u v pat q in onto r.leads (λ l g. (r.closing l).end sp'))
-patterns_out ws here at kind p before blank first out n (cuts.behind_and {u = u} {v} {w} {p = pat} sp q sp' d) =
+patterns_out ws here at kind p before blank first out n (cuts.after_and {u = u} {v} {w} {p = pat} sp q sp' d) =
     onto (spaces_read ws p blank n sp) (λ k f. let r = first k u v pat q in onto r.leads (λ l g. onto ((r.closing l).and sp')
     (λ m h. patterns_out ws here at kind (o.PatternDue (emitting here at kind (before ++ (span k l, pat) ∷ []))) (before ++ (span k l, pat) ∷ [])
     (pattern_space (emitting here at kind (before ++ (span k l, pat) ∷ []))) (λ z x end y. next ws here at kind z x end (before ++ (span k l, pat) ∷ []) y)
@@ -99,21 +99,21 @@ tests_to : {size : ℕ} {c c' : Context} {text end : List ℕ} {tests : Tests} �
 tests_to {size} {c} {text = text} (s.last_test {n = i} {m = j} {u = u} {w = w} {rest = rest} {negated = negated} {asked = asked} sp ai sign d aj sp') e ws past at kind cs before p blank asks bang n a k =
     onto (spaces_read ws p blank n sp) (λ x f.
     let b : At size x u = further size n x text u a f in
-    onto (to {r = λ _. behind_asked (head c past at kind cs before) i j negated asked}
+    onto (to {r = λ _. after_asked (head c past at kind cs before) i j negated asked}
     (λ y g. same_asked size i j x y u w (head c past at kind cs before) negated asked ai aj b (further size x y u w b g))
     (sign_read (head c past at kind cs before) asked sign (λ r y start g h. asked_read d e ws past at kind cs before g h (no_star 58 refl sp' refl)) p asks bang x b))
-    (λ y g. onto (spaces_read ws (behind_asked (head c past at kind cs before) i j negated asked)
-    (behind_space (head c past at kind cs before) (patterns_of (head c past at kind cs before) i j negated asked) (tested (head c past at kind cs before) i j negated asked) false) y sp')
+    (λ y g. onto (spaces_read ws (after_asked (head c past at kind cs before) i j negated asked)
+    (after_space (head c past at kind cs before) (patterns_of (head c past at kind cs before) i j negated asked) (tested (head c past at kind cs before) i j negated asked) false) y sp')
     (λ z h. k z before (patterns_of (head c past at kind cs before) i j negated asked) (omega (arith, b, g, h)))))
 tests_to {size} {c} {text = text} {end} (s.next_test {n = i} {m = j} {u = u} {w = w} {x = more'} {negated = negated} {asked = asked} {tests = tests} sp ai sign d aj sp' ds) e
     ws past at kind cs before p blank asks bang n a k =
     onto (spaces_read ws p blank n sp) (λ x f.
     let b : At size x u = further size n x text u a f in
-    onto (to {r = λ _. behind_asked (head c past at kind cs before) i j negated asked}
+    onto (to {r = λ _. after_asked (head c past at kind cs before) i j negated asked}
     (λ y g. same_asked size i j x y u w (head c past at kind cs before) negated asked ai aj b (further size x y u w b g))
     (sign_read (head c past at kind cs before) asked sign (λ r y start g h. asked_read d e ws past at kind cs before g h (no_star 124 refl sp' refl)) p asks bang x b))
-    (λ y g. onto (spaces_read ws (behind_asked (head c past at kind cs before) i j negated asked)
-    (behind_space (head c past at kind cs before) (patterns_of (head c past at kind cs before) i j negated asked) (tested (head c past at kind cs before) i j negated asked) false) y sp')
+    (λ y g. onto (spaces_read ws (after_asked (head c past at kind cs before) i j negated asked)
+    (after_space (head c past at kind cs before) (patterns_of (head c past at kind cs before) i j negated asked) (tested (head c past at kind cs before) i j negated asked) false) y sp')
     (λ z h. on refl
     (tests_to ds e ws past at kind cs (join_tests before (test (span i j) negated asked no_test)) (o.TestDue (head c past at kind cs (join_tests before (test (span i j) negated asked no_test))))
     (due_space (head c past at kind cs (join_tests before (test (span i j) negated asked no_test))))
@@ -225,18 +225,18 @@ mutual
       → ((n : ℕ) → turn p n 33 ≡ Goes (o.TestNegated (head c past at kind cs before) n)) → (n : ℕ) → At size n text → IsFrontFrom at ws p n text
   tests_front {size} {c} {text = text} (cuts.in_asked {u = u} sp sign d) e ws past at kind cs before p blank asks bang n a =
       onto (spaces_read ws p blank n sp) (λ x f. sign_out (head c past at kind cs before) sign (λ r y start g h. asked_front d e ws past at kind cs before g h) p asks bang x (further size n x text u a f))
-  tests_front {size} {c} {text = text} (cuts.behind_asked {u = u} {w = w} {negated = negated} {asked = asked} sp sign d sp') e ws past at kind cs before p blank asks bang n a =
+  tests_front {size} {c} {text = text} (cuts.after_asked {u = u} {w = w} {negated = negated} {asked = asked} sp sign d sp') e ws past at kind cs before p blank asks bang n a =
       onto (spaces_read ws p blank n sp) (λ x f.
       onto (sign_read (head c past at kind cs before) asked sign (λ r y start g h. asked_read d e ws past at kind cs before g h (no_star_end sp' refl)) p asks bang x (further size n x text u a f))
-      (λ y g. onto (spaces_read ws (behind_asked (head c past at kind cs before) x y negated asked)
-      (behind_space (head c past at kind cs before) (patterns_of (head c past at kind cs before) x y negated asked) (tested (head c past at kind cs before) x y negated asked) false) y sp')
-      (λ z h. ended ws (behind_asked (head c past at kind cs before) x y negated asked) z (inl refl))))
-  tests_front {size} {c} {text = text} (cuts.behind_bar {u = u} {w = w} {negated = negated} {asked = asked} sp sign d sp' ds) e ws past at kind cs before p blank asks bang n a =
+      (λ y g. onto (spaces_read ws (after_asked (head c past at kind cs before) x y negated asked)
+      (after_space (head c past at kind cs before) (patterns_of (head c past at kind cs before) x y negated asked) (tested (head c past at kind cs before) x y negated asked) false) y sp')
+      (λ z h. ended ws (after_asked (head c past at kind cs before) x y negated asked) z (inl refl))))
+  tests_front {size} {c} {text = text} (cuts.after_bar {u = u} {w = w} {negated = negated} {asked = asked} sp sign d sp' ds) e ws past at kind cs before p blank asks bang n a =
       onto (spaces_read ws p blank n sp) (λ x f.
       let b : At size x u = further size n x text u a f in
       onto (sign_read (head c past at kind cs before) asked sign (λ r y start g h. asked_read d e ws past at kind cs before g h (no_star 124 refl sp' refl)) p asks bang x b)
-      (λ y g. onto (spaces_read ws (behind_asked (head c past at kind cs before) x y negated asked)
-      (behind_space (head c past at kind cs before) (patterns_of (head c past at kind cs before) x y negated asked) (tested (head c past at kind cs before) x y negated asked) false) y sp')
+      (λ y g. onto (spaces_read ws (after_asked (head c past at kind cs before) x y negated asked)
+      (after_space (head c past at kind cs before) (patterns_of (head c past at kind cs before) x y negated asked) (tested (head c past at kind cs before) x y negated asked) false) y sp')
       (λ z h. on refl
       (tests_front ds e ws past at kind cs (join_tests before (test (span x y) negated asked no_test)) (o.TestDue (head c past at kind cs (join_tests before (test (span x y) negated asked no_test))))
       (due_space (head c past at kind cs (join_tests before (test (span x y) negated asked no_test))))

@@ -1,4 +1,4 @@
-use Rattle.drv_syntax.proofs.Refusals.{refused_behind, refused_fronts, taken_on}
+use Rattle.drv_syntax.proofs.Refusals.{refused_after, refused_fronts, taken_on}
 use Rattle.drv_syntax.specs.Faults.{IsMisfit}
 use Rattle.drv_syntax.specs.Fronts.{Front}
 use Rattle.drv_syntax.specs.Outcome.{Bad, read}
@@ -31,7 +31,7 @@ misfit_at text place fault h = record { inside = refused.0; front = refused.1 pl
         by (inr beyond) = absurd (refused.2 (drop (place + 1) (take size text)) (subst Front (taken_on (place + 1) size text beyond) front))
 
 pub misfit_refused : (text : List ℕ) (place : ℕ) → IsMisfit text place → (fault : SyntaxFault) × (read text ≡ Bad place fault)
-misfit_refused text place m = refused_behind text place m.inside m.front no_front
+misfit_refused text place m = refused_after text place m.inside m.front no_front
   where
     no_front : Front (take (place + 1) text) → ⊥
     no_front f = over (m.longest (place + 1) f)

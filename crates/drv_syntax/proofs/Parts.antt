@@ -108,8 +108,8 @@ patterns_of h start end negated (HasSuffix word) = emitted h start end negated (
 patterns_of h start end negated (HasLanguage word) = emitted h start end negated (pattern (44 ∷ word) false)
 patterns_of h start end negated (HasResult name arguments) = None
 
-abbrev pub behind_asked : Head → ℕ → ℕ → Bool → Asked → Place
-behind_asked h start end negated asked = o.BehindTest h (patterns_of h start end negated asked) (tested h start end negated asked) false
+abbrev pub after_asked : Head → ℕ → ℕ → Bool → Asked → Place
+after_asked h start end negated asked = o.BehindTest h (patterns_of h start end negated asked) (tested h start end negated asked) false
 
 pub marked_read : {p : Place} {n start x : ℕ} {h : Head} {negated : Bool} {text word rest : List ℕ} (ws : List Waiting) (mark : ℕ) → is_mark mark ≡ true → Asks p n h start negated
     → IsQuoted is_word text (x ∷ word) rest → Stops (λ b. b == 42) rest

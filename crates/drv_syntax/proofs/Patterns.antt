@@ -4,7 +4,7 @@ use Rattle.drv_syntax.proofs.Words.{alike, at_front, no_word, quoted, stops, sto
 use Rattle.drv_syntax.specs.Bytes.{is_mark, is_space, is_word}
 use Rattle.drv_syntax.specs.declared.directives.BraceKind.{BraceKind}
 use Rattle.drv_syntax.specs.Outcome as o
-use Rattle.drv_syntax.specs.Outcome.{Goes, Head, Here, Place, Waiting, behind_pattern, emitted, emitted_item, fresh, run, tested, turn, turn_asked, turn_due, with_patterns}
+use Rattle.drv_syntax.specs.Outcome.{Goes, Head, Here, Place, Waiting, after_pattern, emitted, emitted_item, fresh, run, tested, turn, turn_asked, turn_due, with_patterns}
 use Rattle.drv_syntax.specs.Spelling as s
 use Rattle.drv_syntax.specs.Spelling.{ArePatterns, AreSpaces, At, IsPattern, IsQuoted, Stops, span}
 use Rattle.drv_syntax.specs.Tree.{Choices, Pattern, Span, Tests, choice, no_choice, no_test, pattern}
@@ -19,8 +19,8 @@ pub spaces_read : {text rest : List ℕ} (ws : List Waiting) (p : Place) → ((n
 spaces_read ws p e n (s.no_space {rest}) = stays ws (λ _. p) n rest
 spaces_read ws p e n (s.space {b} f q) = goes (e n b f) (spaces_read ws p e (n + 1) q)
 
-pub behind_space : (h : Head) (ps : Option (List (Span × Pattern))) (ts : Option Tests) (bare : Bool) (n b : ℕ) → is_space b ≡ true → turn (o.BehindTest h ps ts bare) n b ≡ Goes (o.BehindTest h ps ts bare)
-behind_space h ps ts bare n b e = rw e refl
+pub after_space : (h : Head) (ps : Option (List (Span × Pattern))) (ts : Option Tests) (bare : Bool) (n b : ℕ) → is_space b ≡ true → turn (o.BehindTest h ps ts bare) n b ≡ Goes (o.BehindTest h ps ts bare)
+after_space h ps ts bare n b e = rw e refl
 
 pub due_space : (h : Head) (n b : ℕ) → is_space b ≡ true → turn (o.TestDue h) n b ≡ Goes (o.TestDue h)
 due_space h n b e = rw e refl
@@ -68,15 +68,15 @@ asks_mark a b e = a.byte b (none_of is_mark (32 ∷ 9 ∷ 10 ∷ []) b e (refl, 
 
 -- behind a word without a star
 word_ends : (ws : List Waiting) (h : Head) (start : ℕ) (negated : Bool) (word : List ℕ) (m : ℕ) (rest : List ℕ) → Stops (λ b. b == 92) rest → Stops is_word rest → Stops (λ b. b == 42) rest
-    → run ws (o.TestWord h start negated word) m rest ≡ run ws (behind_pattern h start m negated (pattern word false)) m rest
+    → run ws (o.TestWord h start negated word) m rest ≡ run ws (after_pattern h start m negated (pattern word false)) m rest
 word_ends ws h start negated word m rest e f g =
-    alike ws (o.TestWord h start negated word) (behind_pattern h start m negated (pattern word false)) m rest refl (λ c r k. rw (at_front c r e k, at_front c r f k, at_front c r g k) refl)
+    alike ws (o.TestWord h start negated word) (after_pattern h start m negated (pattern word false)) m rest refl (λ c r k. rw (at_front c r e k, at_front c r f k, at_front c r g k) refl)
 
 -- a pattern from a place that takes its first byte so
 pub record Words (p : Place) (n : ℕ) (h : Head) (start : ℕ) (negated : Bool) (text : List ℕ) : Type 0 where
   pub byte : (b : ℕ) (rest : List ℕ) → text ≡ b ∷ rest → (b == 92) ≡ false → is_word b ≡ true → turn p n b ≡ Goes (o.TestWord h start negated (b ∷ []))
   pub escape : turn p n 92 ≡ Goes (o.TestWordEscape h start negated [])
-  pub star : turn p n 42 ≡ Goes (behind_pattern h start (n + 1) negated (pattern [] true))
+  pub star : turn p n 42 ≡ Goes (after_pattern h start (n + 1) negated (pattern [] true))
 
 pub asks_words : {p : Place} {n start : ℕ} {h : Head} {negated : Bool} {text : List ℕ} → Asks p n h start negated → Stops is_mark text → Words p n h start negated text
 asks_words a e = record { byte = λ b rest k f g. asks_word a b (at_front b rest e k) f g; escape = asks_escape a; star = a.byte 42 refl refl refl }
@@ -90,12 +90,12 @@ word_from {n = n} {start} {h = h} {negated} ws w (s.quoted_escape {b} q) = goes 
 word_from {n = n} {start} {h = h} {negated} ws w (s.quoted_byte {b} {text} e g q) = goes (w.byte b text refl e g) (quoted (test_word h start negated) ws (b ∷ []) (n + 1) q)
 
 pub pattern_read : {p : Place} {n start : ℕ} {h : Head} {negated : Bool} {text rest : List ℕ} {pat : Pattern} (ws : List Waiting) → Words p n h start negated text → IsPattern text pat rest
-    → Leads ws p n text ws (λ m. behind_pattern h start m negated pat) rest
+    → Leads ws p n text ws (λ m. after_pattern h start m negated pat) rest
 pattern_read {start = start} {h} {negated} {rest = rest} ws w (s.unstarred {b} {text} {word} q e) =
     and_then (word_from ws w q) (λ m fits. same_run (word_ends ws h start negated (b ∷ word) m rest (stops_at q) (stops q) e))
 pattern_read {p} {n} {start} {h} {negated} {text} {rest} ws w (s.starred {word = word} q) = by word q
   where
-    by : (word : List ℕ) → IsQuoted is_word text word (42 ∷ rest) → Leads ws p n text ws (λ m. behind_pattern h start m negated (pattern word true)) rest
+    by : (word : List ℕ) → IsQuoted is_word text word (42 ∷ rest) → Leads ws p n text ws (λ m. after_pattern h start m negated (pattern word true)) rest
     by [] q = rw (no_word q refl) (one w.star)
     by (b ∷ word) q = and_then (word_from ws w q) (λ m fits. one refl)
 
@@ -112,12 +112,12 @@ pub record Closing (ws : List Waiting) (p : Place) (n : ℕ) (text : List ℕ) (
   pub and : {rest : List ℕ} → AreSpaces text (38 ∷ rest) → Leads ws p n text ws (λ _. o.PatternDue (emitting here at kind ps)) rest
   pub end : AreSpaces text [] → IsFrontFrom at ws p n text
 
-pub behind_closing : (ws : List Waiting) (n : ℕ) (text : List ℕ) (here : Here) (at : ℕ) (kind : BraceKind) (before ps : List (Span × Pattern)) (ts : Option Tests) (bare : Bool)
+pub after_closing : (ws : List Waiting) (n : ℕ) (text : List ℕ) (here : Here) (at : ℕ) (kind : BraceKind) (before ps : List (Span × Pattern)) (ts : Option Tests) (bare : Bool)
     → Closing ws (o.BehindTest (emitting here at kind before) (Some ps) ts bare) n text here at kind ps
-behind_closing ws n text here at kind before ps ts bare = record {
-  brace = λ q. and_then (spaces_read ws p (behind_space h (Some ps) ts bare) n q) (λ m fits. one refl);
-  and = λ q. and_then (spaces_read ws p (behind_space h (Some ps) ts bare) n q) (λ m fits. one refl);
-  end = λ q. onto (spaces_read ws p (behind_space h (Some ps) ts bare) n q) (λ m fits. ended ws p m (inl refl));
+after_closing ws n text here at kind before ps ts bare = record {
+  brace = λ q. and_then (spaces_read ws p (after_space h (Some ps) ts bare) n q) (λ m fits. one refl);
+  and = λ q. and_then (spaces_read ws p (after_space h (Some ps) ts bare) n q) (λ m fits. one refl);
+  end = λ q. onto (spaces_read ws p (after_space h (Some ps) ts bare) n q) (λ m fits. ended ws p m (inl refl));
 }
   where
     h : Head

@@ -74,24 +74,24 @@ pub negated_none : (h : Head) (start n b : ℕ) → Empty b → is_space b ≡ f
 negated_none h start n b (b1, b2, b3) sp np = rw (sp, b1, not_mark b b2, b2, b3, np) refl
 
 -- behind what can be no pattern, no test, and what can be either
-pub tests_only : (h : Head) (ts : Option Tests) (n b : ℕ) → is_space b ≡ false → (b == 58) ≡ false → (b == 124) ≡ false → o.turn_behind h None ts false n b ≡ Refused (BadDirective h.at)
+pub tests_only : (h : Head) (ts : Option Tests) (n b : ℕ) → is_space b ≡ false → (b == 58) ≡ false → (b == 124) ≡ false → o.turn_after h None ts false n b ≡ Refused (BadDirective h.at)
 tests_only h ts n b sp x y = by (b == 125) refl (b == 38) refl
   where
-    by : (z : Bool) → (b == 125) ≡ z → (w : Bool) → (b == 38) ≡ w → o.turn_behind h None ts false n b ≡ Refused (BadDirective h.at)
+    by : (z : Bool) → (b == 125) ≡ z → (w : Bool) → (b == 38) ≡ w → o.turn_after h None ts false n b ≡ Refused (BadDirective h.at)
     by true e w f = rw (sp, e) refl
     by false e true f = rw (sp, e, f) refl
     by false e false f = rw (sp, e, f, x, y) refl
 
-pub patterns_only : (h : Head) (ps : Option (List (Span × Pattern))) (n b : ℕ) → is_space b ≡ false → (b == 125) ≡ false → (b == 38) ≡ false → o.turn_behind h ps None false n b ≡ Refused (BadDirective h.at)
+pub patterns_only : (h : Head) (ps : Option (List (Span × Pattern))) (n b : ℕ) → is_space b ≡ false → (b == 125) ≡ false → (b == 38) ≡ false → o.turn_after h ps None false n b ≡ Refused (BadDirective h.at)
 patterns_only h ps n b sp x y = by (b == 58) refl (b == 124) refl
   where
-    by : (z : Bool) → (b == 58) ≡ z → (w : Bool) → (b == 124) ≡ w → o.turn_behind h ps None false n b ≡ Refused (BadDirective h.at)
+    by : (z : Bool) → (b == 58) ≡ z → (w : Bool) → (b == 124) ≡ w → o.turn_after h ps None false n b ≡ Refused (BadDirective h.at)
     by true e w f = rw (sp, x, y, e) refl
     by false e true f = rw (sp, x, y, e, f) refl
     by false e false f = rw (sp, x, y, e, f) refl
 
 pub neither : (h : Head) (ps : Option (List (Span × Pattern))) (ts : Option Tests) (bare : Bool) (n b : ℕ) → is_space b ≡ false → is_of (58 ∷ 124 ∷ 125 ∷ 38 ∷ []) b ≡ false
-    → o.turn_behind h ps ts bare n b ≡ Refused (BadDirective h.at)
+    → o.turn_after h ps ts bare n b ≡ Refused (BadDirective h.at)
 neither h ps ts bare n b sp f =
     let x = not_of 58 (124 ∷ 125 ∷ 38 ∷ []) b f in
     let y = not_of 124 (125 ∷ 38 ∷ []) b x.1 in
@@ -102,12 +102,12 @@ module _ {size : ℕ} {rest : List ℕ} (h : Head) where
   pub test_answers : (ps : Option (List (Span × Pattern))) (ts : Option Tests) (m : ℕ) → ps ≡ None → Answers size (AnEnd h.at ends_test) (o.BehindTest h ps ts false) m rest
   test_answers ps ts m x b fault e (r.no_end sp f) =
       let y = not_of 58 (124 ∷ []) b f in
-      ap (λ (z : Option (List (Span × Pattern))). o.turn_behind h z ts false m b) x ∙ tests_only h ts m b sp y.0 (not_of 124 [] b y.1).0
+      ap (λ (z : Option (List (Span × Pattern))). o.turn_after h z ts false m b) x ∙ tests_only h ts m b sp y.0 (not_of 124 [] b y.1).0
 
   pub pattern_answers : (ps : Option (List (Span × Pattern))) (ts : Option Tests) (m : ℕ) → ts ≡ None → Answers size (AnEnd h.at ends_pattern) (o.BehindTest h ps ts false) m rest
   pattern_answers ps ts m x b fault e (r.no_end sp f) =
       let y = not_of 125 (38 ∷ []) b f in
-      ap (λ (z : Option Tests). o.turn_behind h ps z false m b) x ∙ patterns_only h ps m b sp y.0 (not_of 38 [] b y.1).0
+      ap (λ (z : Option Tests). o.turn_after h ps z false m b) x ∙ patterns_only h ps m b sp y.0 (not_of 38 [] b y.1).0
 
   pub either_answers : (ps : Option (List (Span × Pattern))) (ts : Option Tests) (m : ℕ) → Answers size (AnEnd h.at ends_either) (o.BehindTest h ps ts false) m rest
   either_answers ps ts m b fault e (r.no_end sp f) = neither h ps ts false m b sp f

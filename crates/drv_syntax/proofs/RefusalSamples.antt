@@ -15,7 +15,7 @@ refused : (text : List ℕ) (fault : SyntaxFault) (due : Due) (last : List ℕ) 
 refused text fault due last x y = record { due = due; last = last; reached = x; refused = y }
 
 no_directive : IsRefused (codes "x%q") (BadDirective 1)
-no_directive = refused (codes "x%q") (BadDirective 1) (AnItem top) (codes "%q") (r.behind_item (s.plain refl refl) r.item_due) (r.no_directive refl refl refl)
+no_directive = refused (codes "x%q") (BadDirective 1) (AnItem top) (codes "%q") (r.after_item (s.plain refl refl) r.item_due) (r.no_directive refl refl refl)
 
 star_outside : IsRefused (codes "%*") (StarOutside 0)
 star_outside = refused (codes "%*") (StarOutside 0) (AnItem top) (codes "%*") r.item_due (r.star_outside refl refl refl refl)
@@ -46,23 +46,23 @@ first_default =
     (r.in_directive {n = 0} refl refl (r.in_place refl (r.in_choices (r.to_tests (r.in_test (s.space refl s.no_space) (s.plain_sign (s.at_byte refl)) r.asked_due)))))
     (r.no_test_there (refl, refl, refl) refl refl refl)
 
-behind_either : IsRefused (codes "%{a b") (BadDirective 0)
-behind_either =
+after_either : IsRefused (codes "%{a b") (BadDirective 0)
+after_either =
     refused (codes "%{a b") (BadDirective 0) (AnEnd 0 ends_either) (codes "b")
     (r.in_directive {n = 0} refl refl (r.in_place refl (r.in_choices (r.to_tests (r.in_test s.no_space (s.plain_sign (s.at_byte refl))
     (r.switch_ends (s.at_byte refl) (s.unstarred (s.quoted_byte refl refl (s.quoted_stop refl refl)) (s.at_byte refl)) (s.space refl s.no_space)))))))
     (r.no_end refl refl)
 
-behind_mark : IsRefused (codes "%{. :") (EmptyTest 0)
-behind_mark =
+after_mark : IsRefused (codes "%{. :") (EmptyTest 0)
+after_mark =
     refused (codes "%{. :") (EmptyTest 0) (PastMark 0) (codes ":")
     (r.in_directive {n = 0} refl refl (r.in_place refl (r.in_emits (r.past_mark s.no_space refl refl s.no_space)))) (r.mark_is_no_test refl)
 
-behind_and : IsRefused (codes "%{a&!") (EmptyTest 0)
-behind_and =
+after_and : IsRefused (codes "%{a&!") (EmptyTest 0)
+after_and =
     refused (codes "%{a&!") (EmptyTest 0) (APattern 0) (codes "!")
     (r.in_directive {n = 0} refl refl (r.in_place refl (r.in_emits
-    (r.behind_first s.no_space (s.unstarred (s.quoted_byte refl refl (s.quoted_stop refl refl)) (s.at_byte refl)) s.no_space (r.pattern_due s.no_space)))))
+    (r.after_first s.no_space (s.unstarred (s.quoted_byte refl refl (s.quoted_stop refl refl)) (s.at_byte refl)) s.no_space (r.pattern_due s.no_space)))))
     (r.no_pattern (refl, refl, refl) refl)
 
 no_option : IsRefused (codes "%x{}") (BadDirective 0)

@@ -3,8 +3,8 @@ use Rattle.drv_syntax.proofs.Cuts.{Filled, Tested}
 use Rattle.drv_syntax.proofs.Emits.{alone, first_pattern, mark_blank, marked_first, next, starred, starred_leads}
 use Rattle.drv_syntax.proofs.Leads.{Leads, closes, differs, further, goes, same, same_place, to}
 use Rattle.drv_syntax.proofs.Names.{name_end, name_read}
-use Rattle.drv_syntax.proofs.Parts.{HasChoice, behind_asked, default_turn, has_choice, join_tests_assoc, marked_read, next_resumes, no_star, patterns_of, start_sign}
-use Rattle.drv_syntax.proofs.Patterns.{Asks, asks_mark, asks_words, behind_space, choosing, due_asks, due_space, due_words, emitting, negated_asks, negated_space, pattern_read, pattern_space, spaces_read, start_asks, start_space}
+use Rattle.drv_syntax.proofs.Parts.{HasChoice, after_asked, default_turn, has_choice, join_tests_assoc, marked_read, next_resumes, no_star, patterns_of, start_sign}
+use Rattle.drv_syntax.proofs.Patterns.{Asks, asks_mark, asks_words, after_space, choosing, due_asks, due_space, due_words, emitting, negated_asks, negated_space, pattern_read, pattern_space, spaces_read, start_asks, start_space}
 use Rattle.drv_syntax.proofs.RefusalBytes.{Answers, NoTest, NoneThere, Stands, due_answers, due_none, either_answers, mark_answers, negated_none, no_emit, past_answers, pattern_answers, start_none, starred_answers, test_answers, word_answers}
 use Rattle.drv_syntax.proofs.Words.{at_front, marked_word, quoted_from}
 use Rattle.drv_syntax.specs.Bytes.{is_mark, is_space, is_word}
@@ -89,21 +89,21 @@ module _ (size : ℕ) (rest : List ℕ) where
   tests_to due {c} {text = text} (s.last_test {n = i} {m = j} {u = u} {w = w} {negated = negated} {asked = asked} sp ai sign d aj sp') e ws past at kind cs before p blank asks bang n a k =
       onto due (spaces_read ws p blank n sp) (λ x f.
       let b : At size x u = further size n x text u a f in
-      onto due (to {r = λ _. behind_asked (head c past at kind cs before) i j negated asked}
+      onto due (to {r = λ _. after_asked (head c past at kind cs before) i j negated asked}
       (λ y g. same_asked size i j x y u w (head c past at kind cs before) negated asked ai aj b (further size x y u w b g))
       (sign_read (head c past at kind cs before) asked sign (λ r y start g h. asked_read d e ws past at kind cs before g h (no_star 58 refl sp' refl)) p asks bang x b))
-      (λ y g. onto due (spaces_read ws (behind_asked (head c past at kind cs before) i j negated asked)
-      (behind_space (head c past at kind cs before) (patterns_of (head c past at kind cs before) i j negated asked) (tested (head c past at kind cs before) i j negated asked) false) y sp')
+      (λ y g. onto due (spaces_read ws (after_asked (head c past at kind cs before) i j negated asked)
+      (after_space (head c past at kind cs before) (patterns_of (head c past at kind cs before) i j negated asked) (tested (head c past at kind cs before) i j negated asked) false) y sp')
       (λ z h. k z before (patterns_of (head c past at kind cs before) i j negated asked) (omega (arith, b, g, h)))))
   tests_to due {c} {text = text} {end} (s.next_test {n = i} {m = j} {u = u} {w = w} {x = more'} {negated = negated} {asked = asked} {tests = tests} sp ai sign d aj sp' ds) e
       ws past at kind cs before p blank asks bang n a k =
       onto due (spaces_read ws p blank n sp) (λ x f.
       let b : At size x u = further size n x text u a f in
-      onto due (to {r = λ _. behind_asked (head c past at kind cs before) i j negated asked}
+      onto due (to {r = λ _. after_asked (head c past at kind cs before) i j negated asked}
       (λ y g. same_asked size i j x y u w (head c past at kind cs before) negated asked ai aj b (further size x y u w b g))
       (sign_read (head c past at kind cs before) asked sign (λ r y start g h. asked_read d e ws past at kind cs before g h (no_star 124 refl sp' refl)) p asks bang x b))
-      (λ y g. onto due (spaces_read ws (behind_asked (head c past at kind cs before) i j negated asked)
-      (behind_space (head c past at kind cs before) (patterns_of (head c past at kind cs before) i j negated asked) (tested (head c past at kind cs before) i j negated asked) false) y sp')
+      (λ y g. onto due (spaces_read ws (after_asked (head c past at kind cs before) i j negated asked)
+      (after_space (head c past at kind cs before) (patterns_of (head c past at kind cs before) i j negated asked) (tested (head c past at kind cs before) i j negated asked) false) y sp')
       (λ z h. on due refl
       (tests_to due ds e ws past at kind cs (join_tests before (test (span i j) negated asked no_test)) (o.TestDue (head c past at kind cs (join_tests before (test (span i j) negated asked no_test))))
       (due_space (head c past at kind cs (join_tests before (test (span i j) negated asked no_test))))
@@ -129,19 +129,19 @@ patterns_reached {size} {at} {text} {rest} (r.pattern_due sp) ws here kind befor
 patterns_reached {size} {at} {text} {rest} (r.pattern_ends {u = u} {v} {p = p} sp q sp') ws here kind before x n a =
     onto size rest (AnEnd at ends_pattern) (spaces_read ws (o.PatternDue (emitting here at kind before)) (pattern_space (emitting here at kind before)) n sp) (λ k f.
     onto size rest (AnEnd at ends_pattern) (pattern_read ws (due_words (emitting here at kind before) k u) q) (λ l g.
-    onto size rest (AnEnd at ends_pattern) (spaces_read ws (o.behind_pattern (emitting here at kind before) k l false p)
-    (behind_space (emitting here at kind before) (emitted (emitting here at kind before) k l false p) (tested (emitting here at kind before) k l false (HasSwitch p)) false) l sp')
+    onto size rest (AnEnd at ends_pattern) (spaces_read ws (o.after_pattern (emitting here at kind before) k l false p)
+    (after_space (emitting here at kind before) (emitted (emitting here at kind before) k l false p) (tested (emitting here at kind before) k l false (HasSwitch p)) false) l sp')
     (λ m h. record {
       is = (
         ws,
-        o.behind_pattern (emitting here at kind before) k l false p,
+        o.after_pattern (emitting here at kind before) k l false p,
         m,
         omega (arith, a, f, g, h),
         pattern_answers (emitting here at kind before) (emitted (emitting here at kind before) k l false p) (tested (emitting here at kind before) k l false (HasSwitch p)) m (tested_none before _ x),
         refl,
       );
     })))
-patterns_reached {size} {at} {text} {rest} {due} (r.behind_and {u = u} {v} {w} {p = p} sp q sp' d) ws here kind before x n a =
+patterns_reached {size} {at} {text} {rest} {due} (r.after_and {u = u} {v} {w} {p = p} sp q sp' d) ws here kind before x n a =
     onto size rest due (spaces_read ws (o.PatternDue (emitting here at kind before)) (pattern_space (emitting here at kind before)) n sp) (λ k f.
     let y = next ws here at kind k u v before p q in
     onto size rest due y.leads (λ l g. onto size rest due ((y.closing l).and sp') (λ m h.
@@ -154,7 +154,7 @@ emits_reached {size} {at} {rest = rest} (r.starred_ends {mark = mark} {u = u} {v
     onto size rest (AnEnd at ends_pattern) (spaces_read ws (o.ChoiceStart (fresh here at kind)) (start_space (fresh here at kind)) n sp) (λ k f.
     onto size rest (AnEnd at ends_pattern) (starred_leads ws here at kind k mark u v y.0 e y.2) (λ l g.
     onto size rest (AnEnd at ends_pattern) (spaces_read ws (starred ws here at kind k mark y.0 l)
-    (behind_space (fresh here at kind) (Some ((span k l, pattern (mark ∷ y.0) true) ∷ [])) None false) l sp')
+    (after_space (fresh here at kind) (Some ((span k l, pattern (mark ∷ y.0) true) ∷ [])) None false) l sp')
     (λ m h. record {
       is = (
         ws,
@@ -165,7 +165,7 @@ emits_reached {size} {at} {rest = rest} (r.starred_ends {mark = mark} {u = u} {v
         refl,
       );
     })))
-emits_reached {size} {at} {rest = rest} (r.behind_mark {mark = mark} sp e q) ws here kind n a =
+emits_reached {size} {at} {rest = rest} (r.after_mark {mark = mark} sp e q) ws here kind n a =
     onto size rest (BehindMark at) (spaces_read ws (o.ChoiceStart (fresh here at kind)) (start_space (fresh here at kind)) n sp) (λ k f.
     on size rest (BehindMark at) (asks_mark (start_asks (fresh here at kind) k) mark e)
     (record { is = (ws, o.TestMark (fresh here at kind) k false mark, k + 1, omega (arith, a, f), mark_answers here at kind k mark (k + 1) q, refl) }))
@@ -174,7 +174,7 @@ emits_reached {size} {at} {rest = rest} (r.past_mark {mark = mark} {b} {u = u} s
     on size rest (PastMark at) (asks_mark (start_asks (fresh here at kind) k) mark e)
     (on size rest (PastMark at) (mark_blank ws here at kind k mark (k + 1) b x)
     (onto size rest (PastMark at) (spaces_read ws (o.BehindTest (fresh here at kind) (Some (alone ws here at kind k mark (k + 1))) None true)
-    (behind_space (fresh here at kind) (Some (alone ws here at kind k mark (k + 1))) None true) (k + 1 + 1) sp')
+    (after_space (fresh here at kind) (Some (alone ws here at kind k mark (k + 1))) None true) (k + 1 + 1) sp')
     (λ m g. record {
       is = (
         ws,
@@ -185,7 +185,7 @@ emits_reached {size} {at} {rest = rest} (r.past_mark {mark = mark} {b} {u = u} s
         refl,
       );
     }))))
-emits_reached {size} {at} {rest = rest} {due} (r.behind_first {u = u} {v} {w} {p = p} sp q sp' d) ws here kind n a =
+emits_reached {size} {at} {rest = rest} {due} (r.after_first {u = u} {v} {w} {p = p} sp q sp' d) ws here kind n a =
     onto size rest due (spaces_read ws (o.ChoiceStart (fresh here at kind)) (start_space (fresh here at kind)) n sp) (λ k f.
     let y = first_pattern ws here at kind k u v p q in
     onto size rest due y.leads (λ l g. onto size rest due ((y.closing l).and sp') (λ m h.
@@ -218,14 +218,14 @@ module _ (size : ℕ) (c : Context) (ws : List Waiting) (past : Items) (at : ℕ
 
   -- behind what is only a test
   test_ended : {v mid : List ℕ} {p : Place} {n : ℕ} (start : ℕ) (negated : Bool) (asked : Asked) → ((m : ℕ) → patterns_of h start m negated asked ≡ None) → At size n v
-      → Leads ws p n v ws (λ m. behind_asked h start m negated asked) mid → AreSpaces mid rest → Comes size ws p n v (AnEnd at ends_test) rest
+      → Leads ws p n v ws (λ m. after_asked h start m negated asked) mid → AreSpaces mid rest → Comes size ws p n v (AnEnd at ends_test) rest
   test_ended start negated asked e a l sp =
       onto size rest (AnEnd at ends_test) l (λ k f.
-      onto size rest (AnEnd at ends_test) (spaces_read ws (behind_asked h start k negated asked) (behind_space h (patterns_of h start k negated asked) (tested h start k negated asked) false) k sp)
+      onto size rest (AnEnd at ends_test) (spaces_read ws (after_asked h start k negated asked) (after_space h (patterns_of h start k negated asked) (tested h start k negated asked) false) k sp)
       (λ m g. record {
         is = (
           ws,
-          behind_asked h start k negated asked,
+          after_asked h start k negated asked,
           m,
           omega (arith, a, f, g),
           test_answers h (patterns_of h start k negated asked) (tested h start k negated asked) m (e k),
@@ -238,13 +238,13 @@ module _ (size : ℕ) (c : Context) (ws : List Waiting) (past : Items) (at : ℕ
       → AreSpaces mid rest → Comes size ws p n v (AnEnd at ends_either) rest
   either_ended ps ts a l sp =
       onto size rest (AnEnd at ends_either) l (λ k f.
-      onto size rest (AnEnd at ends_either) (spaces_read ws (o.BehindTest h (ps k) (ts k) false) (behind_space h (ps k) (ts k) false) k sp)
+      onto size rest (AnEnd at ends_either) (spaces_read ws (o.BehindTest h (ps k) (ts k) false) (after_space h (ps k) (ts k) false) k sp)
       (λ m g. record { is = (ws, o.BehindTest h (ps k) (ts k) false, m, omega (arith, a, f, g), either_answers h (ps k) (ts k) m, refl) }))
 
   -- behind a mark and a word, which is no pattern
   marked_ended : {u mid word : List ℕ} {p : Place} {n start : ℕ} {negated : Bool} (order : Order) (mark x : ℕ) (asked : Asked) → is_mark mark ≡ true → Stands order cs before → may_emit order negated ≡ false
       → Asks p n h start negated → IsQuoted is_word u (x ∷ word) mid → At size n (mark ∷ u)
-      → (Stops (λ b. b == 42) mid → Leads ws p n (mark ∷ u) ws (λ m. behind_asked h start m negated asked) mid) → AreSpaces mid rest → Comes size ws p n (mark ∷ u) (AnEnd at ends_test) rest
+      → (Stops (λ b. b == 42) mid → Leads ws p n (mark ∷ u) ws (λ m. after_asked h start m negated asked) mid) → AreSpaces mid rest → Comes size ws p n (mark ∷ u) (AnEnd at ends_test) rest
   marked_ended {u} {mid} {word} {p} {n} {start} {negated} order mark x asked e st only asks q a l sp = by (star_or_not mid)
     where
       by : Stops (λ b. b == 42) mid ⊎ ((others : List ℕ) × (mid ≡ 42 ∷ others)) → Comes size ws p n (mark ∷ u) (AnEnd at ends_test) rest
@@ -282,7 +282,7 @@ tested_more (test y n a ts) x negated asked = tt
 mutual
   pub list_reached : {size : ℕ} {c : Context} {text rest : List ℕ} {due : Due} → Reaches size c text due rest → (ws : List Waiting) (past : Items) (n : ℕ) → At size n text → Comes size ws (at_item c past) n text due rest
   list_reached r.item_due ws past n a = record { is = (ws, past, n, a, refl) }
-  list_reached {size} {c} {text} {rest} {due} (r.behind_item {mid = mid} {item = item} d f) ws past n a =
+  list_reached {size} {c} {text} {rest} {due} (r.after_item {mid = mid} {item = item} d f) ws past n a =
       onto size rest due (item_read d ws past n a) (λ m g. list_reached f ws (join past (more (span n m) item none)) m (further size n m text mid a g))
   list_reached {size} {c} {rest = rest} {due} (r.in_directive {n = i} {b} {text} ai e d) ws past n a =
       on size rest due refl
@@ -315,7 +315,7 @@ mutual
       (start_asks (head c past at kind before no_test)) (start_sign (head c past at kind before no_test)) n a
       (λ m middle patterns b. opening size rest due (ap (λ (x : Context). Opens (list_in (in_x x tests)) (WaitsX (head c past at kind before tests) m)) e)
       (list_reached di (WaitsX (head c past at kind before tests) m ∷ ws) none (m + 1) (omega (arith, b))))
-  choices_reached {size} {c} {at = at} {rest = rest} {due} (r.behind_x {tests = tests} {items = items} dt di dl) e ws past kind before y n a =
+  choices_reached {size} {c} {at = at} {rest = rest} {due} (r.after_x {tests = tests} {items = items} dt di dl) e ws past kind before y n a =
       tests_to size rest due dt e ws past at kind before no_test (o.ChoiceStart (head c past at kind before no_test)) (start_space (head c past at kind before no_test))
       (start_asks (head c past at kind before no_test)) (start_sign (head c past at kind before no_test)) n a
       (λ m middle patterns b. opening size rest due (ap (λ (x : Context). Opens (list_in (in_x x tests)) (WaitsX (head c past at kind before tests) m)) e)
@@ -331,7 +331,7 @@ mutual
       onto size rest due (spaces_read ws (o.ChoiceStart (head c past at kind before no_test)) (start_space (head c past at kind before no_test)) n sp)
       (λ m f. opening size rest due (default_turn (head c past at kind before no_test) m y ∙ ap (λ (x : Context). Opens (list_in (in_x x no_test)) (WaitsX (head c past at kind before no_test) m)) e)
       (list_reached di (WaitsX (head c past at kind before no_test) m ∷ ws) none (m + 1) (omega (arith, a, f))))
-  later_reached {size} {c} {at = at} (r.behind_default {rest = rest} {items = items} sp di) e ws past kind before y n a =
+  later_reached {size} {c} {at = at} (r.after_default {rest = rest} {items = items} sp di) e ws past kind before y n a =
       onto size (59 ∷ rest) (NoMore at) (spaces_read ws (o.ChoiceStart (head c past at kind before no_test)) (start_space (head c past at kind before no_test)) n sp)
       (λ m f. opening size (59 ∷ rest) (NoMore at) (default_turn (head c past at kind before no_test) m y ∙ ap (λ (x : Context). Opens (list_in (in_x x no_test)) (WaitsX (head c past at kind before no_test) m)) e)
       (onto size (59 ∷ rest) (NoMore at) (items_read di (WaitsX (head c past at kind before no_test) m ∷ ws) none (m + 1) (omega (arith, a, f)))
@@ -344,12 +344,12 @@ mutual
   tests_reached {size} {c} {c'} {at} {order} {text} {rest} {due} (r.in_test {u = u} sp sign d) e ws past kind cs before st p blank asks bang nothing n a =
       onto size rest due (spaces_read ws p blank n sp) (λ x f.
       sign_to size rest due (head c past at kind cs before) order sign (λ q y start g z i. asked_reached d e ws past kind cs before st q y start g z i) p asks bang nothing x (further size n x text u a f))
-  tests_reached {size} {c} {c'} {at} {order} {text} {rest} {due} (r.behind_bar {u = u} {w = w} {negated = negated} {asked = asked} sp sign d sp' ds) e ws past kind cs before st p blank asks bang nothing n a =
+  tests_reached {size} {c} {c'} {at} {order} {text} {rest} {due} (r.after_bar {u = u} {w = w} {negated = negated} {asked = asked} sp sign d sp' ds) e ws past kind cs before st p blank asks bang nothing n a =
       onto size rest due (spaces_read ws p blank n sp) (λ x f.
       let b : At size x u = further size n x text u a f in
       onto size rest due (sign_read (head c past at kind cs before) asked sign (λ r y start g h. asked_read d e ws past at kind cs before g h (no_star 124 refl sp' refl)) p asks bang x b)
-      (λ y g. onto size rest due (spaces_read ws (behind_asked (head c past at kind cs before) x y negated asked)
-      (behind_space (head c past at kind cs before) (patterns_of (head c past at kind cs before) x y negated asked) (tested (head c past at kind cs before) x y negated asked) false) y sp')
+      (λ y g. onto size rest due (spaces_read ws (after_asked (head c past at kind cs before) x y negated asked)
+      (after_space (head c past at kind cs before) (patterns_of (head c past at kind cs before) x y negated asked) (tested (head c past at kind cs before) x y negated asked) false) y sp')
       (λ z h. on size rest due refl
       (tests_reached ds e ws past kind cs (join_tests before (test (span x y) negated asked no_test)) (tested_more before (span x y) negated asked)
       (o.TestDue (head c past at kind cs (join_tests before (test (span x y) negated asked no_test))))

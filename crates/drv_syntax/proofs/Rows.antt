@@ -8,7 +8,7 @@ use Rattle.drv_syntax.specs.Contexts.{Context, bar_in, is_end, is_said, newline_
 use Rattle.drv_syntax.specs.Fronts.{whole_item}
 use Rattle.drv_syntax.specs.Outcome as o
 use Rattle.drv_syntax.specs.Outcome.{Here, Place, Turn, join, placed, turn, turn_item}
-use Rattle.drv_syntax.specs.Refusals.{behind_item}
+use Rattle.drv_syntax.specs.Refusals.{after_item}
 use Rattle.drv_syntax.specs.Spelling as s
 use Rattle.drv_syntax.specs.Spelling.{AreChoices, AreTests, At, IsItem, IsPattern, IsQuoted, IsRun, IsSuffix, Stops, span}
 use Rattle.drv_syntax.specs.Tree as tree
@@ -65,7 +65,7 @@ module _ (size : ℕ) (K : Outside) where
     rest = e.list.rest;
     spelled = λ f. s.next_item a d e.fits (e.list.spelled f);
     front = λ f. whole_item d (e.list.front f);
-    reached = λ due last f. behind_item d (e.list.reached due last f);
+    reached = λ due last f. after_item d (e.list.reached due last f);
     outside = subst (λ (x : Items). K here.context x e.list.rest) (join_assoc here.done (more (span n e.m) item tree.none) e.list.items) e.list.outside;
   }
 

@@ -2,7 +2,7 @@ use Rattle.drv_syntax.proofs.Parts.{HasChoice, join_tests_assoc}
 use Rattle.drv_syntax.proofs.Rows.{one_byte, pattern_from, when}
 use Rattle.drv_syntax.proofs.RowsBraces.{arguments_closed, default_row, emitted_only, later_space, on_same, patterns_of, patterns_space, some_pattern, some_test, tested_only, tests_of, tests_space, unsigned}
 use Rattle.drv_syntax.proofs.Leads.{each, other, same}
-use Rattle.drv_syntax.proofs.Wanted.{After, Ended, IsChoiceRest, Of, Outside, Wanted, asked_rest, behind_test, call_rest, due, form_1, form_2, mark_rest, patterns_due, start, test_call}
+use Rattle.drv_syntax.proofs.Wanted.{After, Ended, IsChoiceRest, Of, Outside, Wanted, asked_rest, after_test, call_rest, due, form_1, form_2, mark_rest, patterns_due, start, test_call}
 use Rattle.drv_syntax.specs.Bytes.{is_function, is_function_front, is_mark, is_space, is_word}
 use Rattle.drv_syntax.specs.Directives.{braced}
 use Rattle.drv_syntax.specs.Contexts.{Context, in_arguments, in_braces}
@@ -66,7 +66,7 @@ module _ (size : ℕ) (K : Outside) where
   -- what a test asks
 
   from_pattern : (h : Head) (begun : ℕ) (negated : Bool) (text mid : List ℕ) (p : Pattern) (m : ℕ) → Stops is_mark text → IsPattern text p mid → At size m mid
-      → behind_test size K h (emitted h begun m negated p) (tested h begun m negated (HasSwitch p)) mid → asked_rest size K h begun negated text
+      → after_test size K h (emitted h begun m negated p) (tested h begun m negated (HasSwitch p)) mid → asked_rest size K h begun negated text
   from_pattern h begun negated text mid p m e q a (inl g) = inr (p, mid, m, q, a, g)
   from_pattern h begun negated text mid p m e q a (inr g) = inl (HasSwitch p, mid, m, s.switch e q, a, g)
 
@@ -184,7 +184,7 @@ module _ (size : ℕ) (K : Outside) where
       when (After size K b text) (is_space b) _ _ g (λ e g. (g.0, s.space e g.1, g.2)) (λ e g. (b ∷ text, s.no_space, asked_row h begun true n b text a g))
 
   due_pattern : (h : Head) (n : ℕ) (text mid : List ℕ) (p : Pattern) (m : ℕ) → At size n text → IsPattern text p mid → At size m mid
-      → behind_test size K h (emitted h n m false p) (tested h n m false (HasSwitch p)) mid → patterns_due size K h text ⊎ (h.patterns ≡ [])
+      → after_test size K h (emitted h n m false p) (tested h n m false (HasSwitch p)) mid → patterns_due size K h text ⊎ (h.patterns ≡ [])
   due_pattern h n text mid p m a q b (inl g) = by (emitted_only (form_1 size K h mid) h.choices h.tests false h.patterns (span n m, p) g)
     where
       by : (h.choices ≡ no_choice) × (h.tests ≡ no_test) × (false ≡ false) × form_1 size K h mid (h.patterns ++ (span n m, p) ∷ []) → patterns_due size K h text ⊎ (h.patterns ≡ [])

@@ -2,7 +2,7 @@ use Rattle.drv_syntax.proofs.Parts.{join_tests_none}
 use Rattle.drv_syntax.proofs.Rows.{ends_at, one_byte, pattern_longer, when}
 use Rattle.drv_syntax.proofs.RowsBraces.{colon_row, emits_space, rest_space}
 use Rattle.drv_syntax.proofs.Leads.{each, same}
-use Rattle.drv_syntax.proofs.Wanted.{After, IsChoiceRest, Of, Outside, WantsList, behind_test, emits_and, emits_end, form_1, form_2, mark_rest, marked_plain, marked_rest, marked_starred, rest_starred, rest_unstarred, tests_bar, tests_colon, word_rest}
+use Rattle.drv_syntax.proofs.Wanted.{After, IsChoiceRest, Of, Outside, WantsList, after_test, emits_and, emits_end, form_1, form_2, mark_rest, marked_plain, marked_rest, marked_starred, rest_starred, rest_unstarred, tests_bar, tests_colon, word_rest}
 use Rattle.drv_syntax.specs.Bytes.{is_mark, is_space, is_word}
 use Rattle.drv_syntax.specs.Directives.{braced}
 use Rattle.drv_syntax.specs.Contexts.{in_braces}
@@ -58,13 +58,13 @@ module _ (size : ℕ) (K : Outside) where
   space_2 h b text (Some ts) e (inr g) = inr g
   space_2 h b text None e g = absurd g
 
-  space_part : (h : Head) (b : ℕ) (text : List ℕ) (ps : Option (List (Span × Pattern))) (ts : Option Tests) → is_space b ≡ true → behind_test size K h ps ts text → behind_test size K h ps ts (b ∷ text)
+  space_part : (h : Head) (b : ℕ) (text : List ℕ) (ps : Option (List (Span × Pattern))) (ts : Option Tests) → is_space b ≡ true → after_test size K h ps ts text → after_test size K h ps ts (b ∷ text)
   space_part h b text ps ts e (inl g) = inl (space_1 h b text ps e g)
   space_part h b text ps ts e (inr g) = inr (space_2 h b text ts e g)
 
-  pub behind_row : (h : Head) (ps : Option (List (Span × Pattern))) (ts : Option Tests) (bare : Bool) (n b : ℕ) (text : List ℕ) → At size n (b ∷ text)
-      → After size K b text (o.turn_behind h ps ts bare n b) → behind_test size K h ps ts (b ∷ text)
-  behind_row h ps ts bare n b text a g =
+  pub after_row : (h : Head) (ps : Option (List (Span × Pattern))) (ts : Option Tests) (bare : Bool) (n b : ℕ) (text : List ℕ) → At size n (b ∷ text)
+      → After size K b text (o.turn_after h ps ts bare n b) → after_test size K h ps ts (b ∷ text)
+  after_row h ps ts bare n b text a g =
       when (After size K b text) (is_space b) _ _ g (λ e g. space_part h b text ps ts e g) (λ e1 g.
       when (After size K b text) (b == 125) _ _ g
       (λ e g. let x : After size K 125 text (o.turn_brace h ps n) = subst (λ (y : ℕ). After size K y text (o.turn_brace h ps n)) (same b 125 e) g in
@@ -81,8 +81,8 @@ module _ (size : ℕ) (K : Outside) where
 
   -- words
 
-  abbrev pub behind_word : Head → ℕ → Bool → List ℕ → Bool → ℕ → List ℕ → Type 0
-  behind_word h begun negated word star m text = behind_test size K h (emitted h begun m negated (pattern word star)) (tested h begun m negated (HasSwitch (pattern word star))) text
+  abbrev pub after_word : Head → ℕ → Bool → List ℕ → Bool → ℕ → List ℕ → Type 0
+  after_word h begun negated word star m text = after_test size K h (emitted h begun m negated (pattern word star)) (tested h begun m negated (HasSwitch (pattern word star))) text
 
   word_longer : (h : Head) (begun : ℕ) (negated : Bool) (word : List ℕ) (c : ℕ) (text longer : List ℕ) → ((run end : List ℕ) → IsQuoted is_word text run end → IsQuoted is_word longer (c ∷ run) end)
       → word_rest size K h begun negated (word ++ c ∷ []) text → word_rest size K h begun negated word longer
@@ -101,7 +101,7 @@ module _ (size : ℕ) (K : Outside) where
         n + 1,
         rw (same b 42 e) (rest_starred (s.quoted_stop refl refl)),
         one_byte size n b text a,
-        subst (λ (x : List ℕ). behind_word h begun negated x true (n + 1) text) (sym (append-nil word)) g,
+        subst (λ (x : List ℕ). after_word h begun negated x true (n + 1) text) (sym (append-nil word)) g,
       ))
       (λ e3 g. (
         pattern (word ++ []) false,
@@ -109,20 +109,20 @@ module _ (size : ℕ) (K : Outside) where
         n,
         rest_unstarred (s.quoted_stop e1 e2) (s.at_byte e3),
         a,
-        subst (λ (x : List ℕ). behind_word h begun negated x false n (b ∷ text)) (sym (append-nil word))
-            (behind_row h (emitted h begun n negated (pattern word false)) (tested h begun n negated (HasSwitch (pattern word false))) false n b text a g),
+        subst (λ (x : List ℕ). after_word h begun negated x false n (b ∷ text)) (sym (append-nil word))
+            (after_row h (emitted h begun n negated (pattern word false)) (tested h begun n negated (HasSwitch (pattern word false))) false n b text a g),
       ))))
 
   -- words behind a mark
 
-  abbrev pub behind_marked : Head → ℕ → Bool → ℕ → List ℕ → List ℕ → Type 0
-  behind_marked h begun negated mark word mid = marked_plain size K h begun negated mark word mid ⊎ marked_starred size K h begun negated mark word mid
+  abbrev pub after_marked : Head → ℕ → Bool → ℕ → List ℕ → List ℕ → Type 0
+  after_marked h begun negated mark word mid = marked_plain size K h begun negated mark word mid ⊎ marked_starred size K h begun negated mark word mid
 
   marked_longer : (h : Head) (begun : ℕ) (negated : Bool) (mark : ℕ) (word : List ℕ) (c : ℕ) (text longer : List ℕ)
       → ((run end : List ℕ) → IsQuoted is_word text run end → IsQuoted is_word longer (c ∷ run) end)
       → marked_rest size K h begun negated mark (word ++ c ∷ []) text → marked_rest size K h begun negated mark word longer
   marked_longer h begun negated mark word c text longer k g =
-      (c ∷ g.0, g.1, k g.0 g.1 g.2, subst (λ (x : List ℕ). behind_marked h begun negated mark x g.1) (append_assoc word (c ∷ []) g.0) g.3)
+      (c ∷ g.0, g.1, k g.0 g.1 g.2, subst (λ (x : List ℕ). after_marked h begun negated mark x g.1) (append_assoc word (c ∷ []) g.0) g.3)
 
   starred_part : (h : Head) (text : List ℕ) (ps : Option (List (Span × Pattern))) (b : ℕ) → After size K b text (o.turn_starred_mark h ps) → Of (form_1 size K h text) ps
   starred_part h text (Some ps) b (inl g) = g
@@ -140,19 +140,19 @@ module _ (size : ℕ) (K : Outside) where
         [],
         b ∷ text,
         s.quoted_stop e1 e2,
-        subst (λ (x : List ℕ). behind_marked h begun negated mark x (b ∷ text)) (sym (append-nil word))
+        subst (λ (x : List ℕ). after_marked h begun negated mark x (b ∷ text)) (sym (append-nil word))
             (inr (text, n + 1, ap (λ (x : ℕ). x ∷ text) (same b 42 e), one_byte size n b text a, starred_part h text (emitted h begun (n + 1) negated (pattern (mark ∷ word) true)) b g)),
       ))
       (λ e3 g. (
         [],
         b ∷ text,
         s.quoted_stop e1 e2,
-        subst (λ (x : List ℕ). behind_marked h begun negated mark x (b ∷ text)) (sym (append-nil word))
+        subst (λ (x : List ℕ). after_marked h begun negated mark x (b ∷ text)) (sym (append-nil word))
             (inl (
               n,
               a,
               s.at_byte e3,
-              behind_row h (emitted h begun n negated (pattern (mark ∷ word) false)) (tested h begun n negated (o.marked mark word)) false n b text a g,
+              after_row h (emitted h begun n negated (pattern (mark ∷ word) false)) (tested h begun n negated (o.marked mark word)) false n b text a g,
             )),
       ))))
 

@@ -118,17 +118,17 @@ run_step lists.InArguments n b v h k g =
 
 -- behind such a byte
 module _ (c : Context) (waiting : List Frame) (holds : Bool) where
-  abbrev behind_plain : List Token → List Label → ℕ → Walk
-  behind_plain tokens labels kept =
+  abbrev after_plain : List Token → List Label → ℕ → Walk
+  after_plain tokens labels kept =
       record { stage = at.List stages.Start; context = c; waiting = waiting; tokens = tokens; labels = labels; word = []; kept = kept; trailing = 0; holds_star = holds }
 
   plains_on : (k : ℕ) (tokens : List Token) (labels : List Label) (n : ℕ) (text : List ℕ) → k ≤ prefix_len (runs c.kind) text
-      → pass (behind_plain tokens labels n) n text
-      ≡ pass (behind_plain (tokens ++ plain_tokens n (length tokens + 1) (take k text)) (labels ++ byte_labels (take k text)) (n + k)) (n + k) (drop k text)
+      → pass (after_plain tokens labels n) n text
+      ≡ pass (after_plain (tokens ++ plain_tokens n (length tokens + 1) (take k text)) (labels ++ byte_labels (take k text)) (n + k)) (n + k) (drop k text)
   plains_on zero tokens labels n text h =
-      ap (λ (ts : List Token). pass (behind_plain ts labels n) n text) (sym (append-nil tokens))
-      ∙ ap (λ (ls : List Label). pass (behind_plain (tokens ++ []) ls n) n text) (sym (append-nil labels))
-      ∙ ap (λ (i : ℕ). pass (behind_plain (tokens ++ []) (labels ++ []) i) i text) (omega arith)
+      ap (λ (ts : List Token). pass (after_plain ts labels n) n text) (sym (append-nil tokens))
+      ∙ ap (λ (ls : List Label). pass (after_plain (tokens ++ []) ls n) n text) (sym (append-nil labels))
+      ∙ ap (λ (i : ℕ). pass (after_plain (tokens ++ []) (labels ++ []) i) i text) (omega arith)
   plains_on (suc k) tokens labels n [] h = absurd (omega (arith, h))
   plains_on (suc k) tokens labels n (b ∷ text) h = by (runs c.kind b) refl h (λ x. plains_on k (tokens ++ token ∷ []) (labels ++ word_label (b ∷ []) ∷ []) (n + 1) text x)
     where
@@ -136,18 +136,18 @@ module _ (c : Context) (waiting : List Frame) (holds : Bool) where
       token = record { kind = kinds.Plain; start = n; end = n + 1; next = length tokens + 1 }
 
       by : (t : Bool) → runs c.kind b ≡ t → suc k ≤ (if t then 1 + prefix_len (runs c.kind) text else 0)
-          → (k ≤ prefix_len (runs c.kind) text → pass (behind_plain (tokens ++ token ∷ []) (labels ++ word_label (b ∷ []) ∷ []) (n + 1)) (n + 1) text
-          ≡ pass (behind_plain ((tokens ++ token ∷ []) ++ plain_tokens (n + 1) (length (tokens ++ token ∷ []) + 1) (take k text)) ((labels ++ word_label (b ∷ []) ∷ []) ++ byte_labels (take k text)) (n + 1 + k)) (n + 1 + k) (drop k text))
-          → pass (behind_plain tokens labels n) n (b ∷ text)
-          ≡ pass (behind_plain (tokens ++ token ∷ plain_tokens (n + 1) (length tokens + 1 + 1) (take k text)) (labels ++ word_label (b ∷ []) ∷ byte_labels (take k text)) (n + suc k)) (n + suc k) (drop k text)
+          → (k ≤ prefix_len (runs c.kind) text → pass (after_plain (tokens ++ token ∷ []) (labels ++ word_label (b ∷ []) ∷ []) (n + 1)) (n + 1) text
+          ≡ pass (after_plain ((tokens ++ token ∷ []) ++ plain_tokens (n + 1) (length (tokens ++ token ∷ []) + 1) (take k text)) ((labels ++ word_label (b ∷ []) ∷ []) ++ byte_labels (take k text)) (n + 1 + k)) (n + 1 + k) (drop k text))
+          → pass (after_plain tokens labels n) n (b ∷ text)
+          ≡ pass (after_plain (tokens ++ token ∷ plain_tokens (n + 1) (length tokens + 1 + 1) (take k text)) (labels ++ word_label (b ∷ []) ∷ byte_labels (take k text)) (n + suc k)) (n + suc k) (drop k text)
       by false e g ih = absurd (omega (arith, g))
       by true e g ih =
-          ap (λ (r : Result Walk SyntaxFault). then_walk r (λ x. pass x (n + 1) text)) (run_step c.kind n b (behind_plain tokens labels n) refl refl e)
+          ap (λ (r : Result Walk SyntaxFault). then_walk r (λ x. pass x (n + 1) text)) (run_step c.kind n b (after_plain tokens labels n) refl refl e)
           ∙ ih (omega (arith, g))
-          ∙ ap (λ (m : ℕ). pass (behind_plain ((tokens ++ token ∷ []) ++ plain_tokens (n + 1) (m + 1) (take k text)) ((labels ++ word_label (b ∷ []) ∷ []) ++ byte_labels (take k text)) (n + 1 + k)) (n + 1 + k) (drop k text)) (length-append tokens (token ∷ []))
-          ∙ ap (λ (ts : List Token). pass (behind_plain ts ((labels ++ word_label (b ∷ []) ∷ []) ++ byte_labels (take k text)) (n + 1 + k)) (n + 1 + k) (drop k text)) (append_assoc tokens (token ∷ []) (plain_tokens (n + 1) (length tokens + 1 + 1) (take k text)))
-          ∙ ap (λ (ls : List Label). pass (behind_plain (tokens ++ token ∷ plain_tokens (n + 1) (length tokens + 1 + 1) (take k text)) ls (n + 1 + k)) (n + 1 + k) (drop k text)) (append_assoc labels (word_label (b ∷ []) ∷ []) (byte_labels (take k text)))
-          ∙ ap (λ (i : ℕ). pass (behind_plain (tokens ++ token ∷ plain_tokens (n + 1) (length tokens + 1 + 1) (take k text)) (labels ++ word_label (b ∷ []) ∷ byte_labels (take k text)) i) i (drop k text)) (omega arith)
+          ∙ ap (λ (m : ℕ). pass (after_plain ((tokens ++ token ∷ []) ++ plain_tokens (n + 1) (m + 1) (take k text)) ((labels ++ word_label (b ∷ []) ∷ []) ++ byte_labels (take k text)) (n + 1 + k)) (n + 1 + k) (drop k text)) (length-append tokens (token ∷ []))
+          ∙ ap (λ (ts : List Token). pass (after_plain ts ((labels ++ word_label (b ∷ []) ∷ []) ++ byte_labels (take k text)) (n + 1 + k)) (n + 1 + k) (drop k text)) (append_assoc tokens (token ∷ []) (plain_tokens (n + 1) (length tokens + 1 + 1) (take k text)))
+          ∙ ap (λ (ls : List Label). pass (after_plain (tokens ++ token ∷ plain_tokens (n + 1) (length tokens + 1 + 1) (take k text)) ls (n + 1 + k)) (n + 1 + k) (drop k text)) (append_assoc labels (word_label (b ∷ []) ∷ []) (byte_labels (take k text)))
+          ∙ ap (λ (i : ℕ). pass (after_plain (tokens ++ token ∷ plain_tokens (n + 1) (length tokens + 1 + 1) (take k text)) (labels ++ word_label (b ∷ []) ∷ byte_labels (take k text)) i) i (drop k text)) (omega arith)
 
 -- their tokens, one after another
 pub tokens_step : (old new all : List Token) (n next i : ℕ) (run : List ℕ) → i < length run → new ≡ old ++ record { kind = kinds.Plain; start = n; end = n + 1; next = next + 1 } ∷ []
@@ -176,10 +176,10 @@ plains_take v u (suc k) n (b ∷ text) run h e positive f w d = by (runs v.conte
     by true g e =
         ap (λ (r : Result Walk SyntaxFault). then_walk r (λ x. pass x (n + 1) text)) (run_step v.context.kind n b v h refl g)
         ∙ plains_on v.context v.waiting v.holds_star k (v.tokens ++ token ∷ []) (v.labels ++ word_label (b ∷ []) ∷ []) (n + 1) text (omega (arith, e))
-        ∙ ap (λ (m : ℕ). pass (behind_plain v.context v.waiting v.holds_star ((v.tokens ++ token ∷ []) ++ plain_tokens (n + 1) (m + 1) (take k text)) ((v.labels ++ word_label (b ∷ []) ∷ []) ++ byte_labels (take k text)) (n + 1 + k)) (n + 1 + k) (drop k text)) (length-append v.tokens (token ∷ []))
-        ∙ ap (λ (ts : List Token). pass (behind_plain v.context v.waiting v.holds_star ts ((v.labels ++ word_label (b ∷ []) ∷ []) ++ byte_labels (take k text)) (n + 1 + k)) (n + 1 + k) (drop k text)) (append_assoc v.tokens (token ∷ []) (plain_tokens (n + 1) (length v.tokens + 1 + 1) (take k text)))
-        ∙ ap (λ (ls : List Label). pass (behind_plain v.context v.waiting v.holds_star (v.tokens ++ token ∷ plain_tokens (n + 1) (length v.tokens + 1 + 1) (take k text)) ls (n + 1 + k)) (n + 1 + k) (drop k text)) (append_assoc v.labels (word_label (b ∷ []) ∷ []) (byte_labels (take k text)))
-        ∙ ap (λ (i : ℕ). pass (behind_plain v.context v.waiting v.holds_star (v.tokens ++ token ∷ plain_tokens (n + 1) (length v.tokens + 1 + 1) (take k text)) (v.labels ++ word_label (b ∷ []) ∷ byte_labels (take k text)) i) (n + 1 + k) (drop k text)) kept
+        ∙ ap (λ (m : ℕ). pass (after_plain v.context v.waiting v.holds_star ((v.tokens ++ token ∷ []) ++ plain_tokens (n + 1) (m + 1) (take k text)) ((v.labels ++ word_label (b ∷ []) ∷ []) ++ byte_labels (take k text)) (n + 1 + k)) (n + 1 + k) (drop k text)) (length-append v.tokens (token ∷ []))
+        ∙ ap (λ (ts : List Token). pass (after_plain v.context v.waiting v.holds_star ts ((v.labels ++ word_label (b ∷ []) ∷ []) ++ byte_labels (take k text)) (n + 1 + k)) (n + 1 + k) (drop k text)) (append_assoc v.tokens (token ∷ []) (plain_tokens (n + 1) (length v.tokens + 1 + 1) (take k text)))
+        ∙ ap (λ (ls : List Label). pass (after_plain v.context v.waiting v.holds_star (v.tokens ++ token ∷ plain_tokens (n + 1) (length v.tokens + 1 + 1) (take k text)) ls (n + 1 + k)) (n + 1 + k) (drop k text)) (append_assoc v.labels (word_label (b ∷ []) ∷ []) (byte_labels (take k text)))
+        ∙ ap (λ (i : ℕ). pass (after_plain v.context v.waiting v.holds_star (v.tokens ++ token ∷ plain_tokens (n + 1) (length v.tokens + 1 + 1) (take k text)) (v.labels ++ word_label (b ∷ []) ∷ byte_labels (take k text)) i) (n + 1 + k) (drop k text)) kept
         ∙ ap (λ (i : ℕ). pass (with_plains n (b ∷ take k text) v) i (drop k text)) (omega arith)
         ∙ whole
       where

@@ -1,7 +1,7 @@
 use Rattle.drv_syntax.proofs.Parts.{join_none}
 use Rattle.drv_syntax.proofs.Rows.{choices_of, ends_at, hide_row, hide_word_row, item_row, name_row, one_byte, option_row, percent_list, saying_row, suffix_row, suffix_run_row, when}
 use Rattle.drv_syntax.proofs.RowsDue.{function_row, negated_row, pattern_row, start_row, test_due_row, test_function_row}
-use Rattle.drv_syntax.proofs.RowsTests.{behind_row, mark_row, marked_row, word_row}
+use Rattle.drv_syntax.proofs.RowsTests.{after_row, mark_row, marked_row, word_row}
 use Rattle.drv_syntax.proofs.Leads.{same}
 use Rattle.drv_syntax.proofs.Wanted.{After, Around, Ended, Outside, Wanted, WantsList, percent_rest, rest_unstarred, start, suffix_rest}
 use Rattle.drv_syntax.specs.Bytes.{is_name, is_option}
@@ -122,7 +122,7 @@ module _ (size : ℕ) (K : Outside) where
   row (o.MarkedEscape h begun negated mark word) n b text a g = (b, text, refl, g)
   row (o.TestPercent h begun negated at) n b text a g = when (After size K b text) (b == 58) _ _ g (λ e g. (b, text, refl, (same b 58 e, g))) (λ e g. absurd g)
   row (o.TestFunction h begun negated at name) n b text a g = test_function_row size K h begun negated at name n b text g
-  row (o.BehindTest h ps ts bare) n b text a g = behind_row size K h ps ts bare n b text a g
+  row (o.BehindTest h ps ts bare) n b text a g = after_row size K h ps ts bare n b text a g
 
 -- the end of the text
 

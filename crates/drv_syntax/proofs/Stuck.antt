@@ -69,11 +69,11 @@ module _ (size : ℕ) (F : SyntaxFault) where
       × (list_stuck (in_x c tests) mid ⊎ ((items : Items) × (next : List ℕ) × AreItems size (in_x c tests) mid items (59 ∷ next) × later_stuck c n next))
 
   -- behind a test
-  abbrev pub behind_patterns : ℕ → List ℕ → Type 0
-  behind_patterns n text = (rest : List ℕ) × AreSpaces text (38 ∷ rest) × patterns_stuck n rest
+  abbrev pub after_patterns : ℕ → List ℕ → Type 0
+  after_patterns n text = (rest : List ℕ) × AreSpaces text (38 ∷ rest) × patterns_stuck n rest
 
-  abbrev pub behind_tests : Context → ℕ → Tests → List ℕ → Type 0
-  behind_tests c n tests text =
+  abbrev pub after_tests : Context → ℕ → Tests → List ℕ → Type 0
+  after_tests c n tests text =
       ((others : Tests) × (end : List ℕ) × IsTestsRest size c text others end × choice_stuck c n (join_tests tests others) end)
       ⊎ ((rest : List ℕ) × AreSpaces text (124 ∷ rest) × tests_stuck c n AtBar rest)
 
@@ -82,7 +82,7 @@ module _ (size : ℕ) (F : SyntaxFault) where
 
   abbrev pub some_stuck : Head → Option (List (Span × Pattern)) → Option Tests → Bool → List ℕ → Type 0
   some_stuck h ps ts bare text =
-      Of (λ _. behind_patterns h.at text) ps ⊎ (Of (λ tests. behind_tests (in_braces h.here.context) h.at tests text) ts ⊎ end_stuck (end_due bare h.at ps ts) text)
+      Of (λ _. after_patterns h.at text) ps ⊎ (Of (λ tests. after_tests (in_braces h.here.context) h.at tests text) ts ⊎ end_stuck (end_due bare h.at ps ts) text)
 
   -- where a test is due
   abbrev pub tests_left : Context → ℕ → Order → Tests → List ℕ → Type 0
@@ -98,7 +98,7 @@ module _ (size : ℕ) (F : SyntaxFault) where
   asked_stuck h begun negated text =
       Ends (ReachesAsked size (in_braces h.here.context) h.at (order_of h) negated text)
       ⊎ (((asked : Asked) × (mid : List ℕ) × (m : ℕ) × IsAsked size (in_braces h.here.context) text asked mid × At size m mid
-      × Of (λ tests. behind_tests (in_braces h.here.context) h.at tests mid) (tested h begun m negated asked))
+      × Of (λ tests. after_tests (in_braces h.here.context) h.at tests mid) (tested h begun m negated asked))
       ⊎ (Bare h × (negated ≡ false) × emits_stuck h.at text))
 
   abbrev pub word_stuck : Head → ℕ → Bool → List ℕ → List ℕ → Type 0
@@ -109,28 +109,28 @@ module _ (size : ℕ) (F : SyntaxFault) where
   abbrev pub starred_stuck : Head → ℕ → Bool → ℕ → List ℕ → List ℕ → Type 0
   starred_stuck h begun negated mark word mid =
       (rest : List ℕ) × (m : ℕ) × (mid ≡ 42 ∷ rest)
-      × Of (λ _. behind_patterns h.at rest ⊎ end_stuck (AnEnd h.at ends_pattern) rest) (emitted h begun m negated (pattern (mark ∷ word) true))
+      × Of (λ _. after_patterns h.at rest ⊎ end_stuck (AnEnd h.at ends_pattern) rest) (emitted h begun m negated (pattern (mark ∷ word) true))
 
   abbrev pub star_stuck : Head → ℕ → Bool → ℕ → List ℕ → List ℕ → Type 0
   star_stuck h begun negated mark word mid = (m : ℕ) × (mid ≡ 42 ∷ []) × Absent (emitted h begun m negated (pattern (mark ∷ word) true)) × (BadDirective h.at ≡ F)
 
-  abbrev pub marked_behind : Head → ℕ → Bool → ℕ → List ℕ → List ℕ → Type 0
-  marked_behind h begun negated mark word mid =
+  abbrev pub marked_after : Head → ℕ → Bool → ℕ → List ℕ → List ℕ → Type 0
+  marked_after h begun negated mark word mid =
       ((m : ℕ) × At size m mid × Stops (λ b. b == 42) mid
       × some_stuck h (emitted h begun m negated (pattern (mark ∷ word) false)) (tested h begun m negated (o.marked mark word)) false mid)
       ⊎ (starred_stuck h begun negated mark word mid ⊎ star_stuck h begun negated mark word mid)
 
   abbrev pub marked_stuck : Head → ℕ → Bool → ℕ → List ℕ → List ℕ → Type 0
-  marked_stuck h begun negated mark word text = (run : List ℕ) × (mid : List ℕ) × IsQuoted is_word text run mid × marked_behind h begun negated mark (word ++ run) mid
+  marked_stuck h begun negated mark word text = (run : List ℕ) × (mid : List ℕ) × IsQuoted is_word text run mid × marked_after h begun negated mark (word ++ run) mid
 
   abbrev pub alone_stuck : ℕ → List ℕ → Type 0
   alone_stuck n text = Refuses size (BehindMark n) text F ⊎ ((b : ℕ) × (rest : List ℕ) × (text ≡ b ∷ rest) × (is_space b ≡ true) × end_stuck (PastMark n) rest)
 
   abbrev pub mark_stuck : Head → ℕ → Bool → ℕ → List ℕ → Type 0
   mark_stuck h begun negated mark text =
-      ((b : ℕ) × (run : List ℕ) × (mid : List ℕ) × IsQuoted is_word text (b ∷ run) mid × marked_behind h begun negated mark (b ∷ run) mid)
+      ((b : ℕ) × (run : List ℕ) × (mid : List ℕ) × IsQuoted is_word text (b ∷ run) mid × marked_after h begun negated mark (b ∷ run) mid)
       ⊎ (((m : ℕ) × IsQuoted is_word text [] text × Stops (λ b. b == 42) text
-      × Of (λ _. behind_patterns h.at text ⊎ alone_stuck h.at text) (emitted h begun m negated (pattern (mark ∷ []) false)))
+      × Of (λ _. after_patterns h.at text ⊎ alone_stuck h.at text) (emitted h begun m negated (pattern (mark ∷ []) false)))
       ⊎ (starred_stuck h begun negated mark [] text
       ⊎ ((m : ℕ) × Absent (emitted h begun m negated (pattern (mark ∷ []) false)) × Refuses size (AWord h.at) text F)))
 
@@ -144,7 +144,7 @@ module _ (size : ℕ) (F : SyntaxFault) where
   -- behind a function in a test
   abbrev pub result_stuck : Head → ℕ → Bool → List ℕ → Items → List ℕ → Type 0
   result_stuck h begun negated name arguments rest =
-      (m : ℕ) × At size m rest × (Of (λ tests. behind_tests (in_braces h.here.context) h.at tests rest) (tested h begun m negated (HasResult name arguments)) ⊎ end_stuck (AnEnd h.at ends_test) rest)
+      (m : ℕ) × At size m rest × (Of (λ tests. after_tests (in_braces h.here.context) h.at tests rest) (tested h begun m negated (HasResult name arguments)) ⊎ end_stuck (AnEnd h.at ends_test) rest)
 
   abbrev pub test_call_stuck : Head → ℕ → Bool → ℕ → List ℕ → List ℕ → Type 0
   test_call_stuck h begun negated at name text = call_stuck at (in_braces h.here.context) name text (result_stuck h begun negated)

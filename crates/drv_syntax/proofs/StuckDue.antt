@@ -5,7 +5,7 @@ use Rattle.drv_syntax.proofs.Parts.{HasChoice, brace_resumes, join_tests_assoc}
 use Rattle.drv_syntax.proofs.Rows.{one_byte, pattern_from, when}
 use Rattle.drv_syntax.proofs.RowsBraces.{emitted_only, on_same, tested_only, tests_of, tests_space, unsigned}
 use Rattle.drv_syntax.proofs.RowsDue.{start_row, test_function_row}
-use Rattle.drv_syntax.proofs.Stuck.{Absent, Ends, InsideStuck, Stuck, StuckAfter, asked_stuck, behind_patterns, behind_tests, choice_stuck, due_stuck, emits_stuck, end_stuck, ends_of, list_stuck, mark_stuck, next_byte, order_by, order_of, patterns_stuck, result_stuck, some_stuck, start_stuck, starred_stuck, test_call_stuck, word_stuck}
+use Rattle.drv_syntax.proofs.Stuck.{Absent, Ends, InsideStuck, Stuck, StuckAfter, asked_stuck, after_patterns, after_tests, choice_stuck, due_stuck, emits_stuck, end_stuck, ends_of, list_stuck, mark_stuck, next_byte, order_by, order_of, patterns_stuck, result_stuck, some_stuck, start_stuck, starred_stuck, test_call_stuck, word_stuck}
 use Rattle.drv_syntax.proofs.StuckRows.{call_longer, no_front, no_name_there, opened_list}
 use Rattle.drv_syntax.proofs.StuckTests.{tested_order, unmarked}
 use Rattle.drv_syntax.proofs.Wanted.{After, Inside, Of, Outside, Wanted, WantsList}
@@ -50,28 +50,28 @@ bar_default order negated b e = ap (λ (x : Order). is_default x negated b) e
 
 emits_space : {n b : ℕ} {text rest : List ℕ} {due : Due} → is_space b ≡ true → ReachesEmits n text due rest → ReachesEmits n (b ∷ text) due rest
 emits_space e (r.starred_ends sp m q f) = r.starred_ends (s.space e sp) m q f
-emits_space e (r.behind_mark sp m q) = r.behind_mark (s.space e sp) m q
+emits_space e (r.after_mark sp m q) = r.after_mark (s.space e sp) m q
 emits_space e (r.past_mark sp m x f) = r.past_mark (s.space e sp) m x f
-emits_space e (r.behind_first sp q f d) = r.behind_first (s.space e sp) q f d
+emits_space e (r.after_first sp q f d) = r.after_first (s.space e sp) q f d
 
 patterns_space : {n b : ℕ} {text rest : List ℕ} {due : Due} → is_space b ≡ true → ReachesPatterns n text due rest → ReachesPatterns n (b ∷ text) due rest
 patterns_space e (r.pattern_due sp) = r.pattern_due (s.space e sp)
 patterns_space e (r.pattern_ends sp q f) = r.pattern_ends (s.space e sp) q f
-patterns_space e (r.behind_and sp q f d) = r.behind_and (s.space e sp) q f d
+patterns_space e (r.after_and sp q f d) = r.after_and (s.space e sp) q f d
 
 reached_space : {size n b : ℕ} {c : Context} {order : Order} {text rest : List ℕ} {due : Due} → is_space b ≡ true → ReachesTests size c n order text due rest → ReachesTests size c n order (b ∷ text) due rest
 reached_space e (r.in_test sp f d) = r.in_test (s.space e sp) f d
-reached_space e (r.behind_bar sp f q g d) = r.behind_bar (s.space e sp) f q g d
+reached_space e (r.after_bar sp f q g d) = r.after_bar (s.space e sp) f q g d
 
 choices_space : {size n b : ℕ} {c : Context} {order : Order} {text rest : List ℕ} {due : Due} → is_space b ≡ true → ReachesChoices size c n order text due rest → ReachesChoices size c n order (b ∷ text) due rest
 choices_space e (r.to_tests d) = r.to_tests (reached_space e d)
 choices_space e (r.to_x t d) = r.to_x (tests_space e t) d
-choices_space e (r.behind_x t i d) = r.behind_x (tests_space e t) i d
+choices_space e (r.after_x t i d) = r.after_x (tests_space e t) i d
 
 later_space : {size n b : ℕ} {c : Context} {text rest : List ℕ} {due : Due} → is_space b ≡ true → ReachesLater size c n text due rest → ReachesLater size c n (b ∷ text) due rest
 later_space e (r.to_next d) = r.to_next (choices_space e d)
 later_space e (r.to_default sp d) = r.to_default (s.space e sp) d
-later_space e (r.behind_default sp d) = r.behind_default (s.space e sp) d
+later_space e (r.after_default sp d) = r.after_default (s.space e sp) d
 
 due_space : (size : ℕ) (F : SyntaxFault) (h : Head) (b : ℕ) (text : List ℕ) → is_space b ≡ true → due_stuck size F h text → due_stuck size F h (b ∷ text)
 due_space size F h b text e (inl (inl (others, end, t, x))) = inl (inl (others, end, tests_space e t, x))
@@ -86,8 +86,8 @@ module _ (size : ℕ) (F : SyntaxFault) (h : Head) where
   Asked' negated text = Ends size F (ReachesAsked size inner h.at (order_of h) negated text)
 
   -- behind a pattern of braces that may be patterns
-  emits_from : (text mid : List ℕ) (p : Pattern) → IsPattern text p mid → behind_patterns size F h.at mid → emits_stuck size F h.at text
-  emits_from text mid p q (rest, d, (due, last, x, y)) = (due, last, r.behind_first s.no_space q d x, y)
+  emits_from : (text mid : List ℕ) (p : Pattern) → IsPattern text p mid → after_patterns size F h.at mid → emits_stuck size F h.at text
+  emits_from text mid p q (rest, d, (due, last, x, y)) = (due, last, r.after_first s.no_space q d x, y)
 
   -- behind a pattern that is a test too
   pattern_end : (begun m : ℕ) (negated : Bool) (text mid : List ℕ) (p : Pattern) → h.patterns ≡ [] → Stops is_mark text → IsPattern text p mid
@@ -128,7 +128,7 @@ module _ (size : ℕ) (F : SyntaxFault) (h : Head) where
   from_pattern : (begun : ℕ) (negated : Bool) (text mid : List ℕ) (p : Pattern) (m : ℕ) → h.patterns ≡ [] → Stops is_mark text → IsPattern text p mid → At size m mid
       → some_stuck size F h (emitted h begun m negated p) (tested h begun m negated (HasSwitch p)) false mid → asked_stuck size F h begun negated text
   from_pattern begun negated text mid p m z e q a (inl g) =
-      let y = emitted_there begun m negated p (behind_patterns size F h.at mid) g in inr (inr (y.0, y.1, emits_from text mid p q y.2))
+      let y = emitted_there begun m negated p (after_patterns size F h.at mid) g in inr (inr (y.0, y.1, emits_from text mid p q y.2))
   from_pattern begun negated text mid p m z e q a (inr (inl g)) = inr (inl (HasSwitch p, mid, m, s.switch e q, a, g))
   from_pattern begun negated text mid p m z e q a (inr (inr g)) = inl (pattern_end begun m negated text mid p z e q g)
 
@@ -149,18 +149,18 @@ module _ (size : ℕ) (F : SyntaxFault) (h : Head) where
     -- a star behind a mark and a word
     from_star : (word mid : List ℕ) → IsQuoted is_word text word mid → starred_stuck size F h begun negated b word mid → asked_stuck size F h begun negated (b ∷ text)
     from_star word mid q (rest, m, f, g) =
-        by (emitted_there begun m negated (pattern (b ∷ word) true) (behind_patterns size F h.at rest ⊎ end_stuck size F (AnEnd h.at ends_pattern) rest) g)
+        by (emitted_there begun m negated (pattern (b ∷ word) true) (after_patterns size F h.at rest ⊎ end_stuck size F (AnEnd h.at ends_pattern) rest) g)
       where
         starred : IsPattern (b ∷ text) (pattern (b ∷ word) true) rest
         starred = s.starred (marked_quoted (subst (IsQuoted is_word text word) f q))
 
-        by : Bare h × (negated ≡ false) × (behind_patterns size F h.at rest ⊎ end_stuck size F (AnEnd h.at ends_pattern) rest) → asked_stuck size F h begun negated (b ∷ text)
+        by : Bare h × (negated ≡ false) × (after_patterns size F h.at rest ⊎ end_stuck size F (AnEnd h.at ends_pattern) rest) → asked_stuck size F h begun negated (b ∷ text)
         by (x, y, inl v) = inr (inr (x, y, emits_from (b ∷ text) rest (pattern (b ∷ word) true) starred v))
         by (x, y, inr (end, d, v)) = inr (inr (x, y, (AnEnd h.at ends_pattern, end, r.starred_ends s.no_space e starred d, v)))
 
     from_mark : mark_stuck size F h begun negated b text → asked_stuck size F h begun negated (b ∷ text)
     from_mark (inl (c, run, mid, q, inl (m, a, f, inl g))) =
-        let y = emitted_there begun m negated (pattern (b ∷ c ∷ run) false) (behind_patterns size F h.at mid) g in
+        let y = emitted_there begun m negated (pattern (b ∷ c ∷ run) false) (after_patterns size F h.at mid) g in
         inr (inr (y.0, y.1, emits_from (b ∷ text) mid (pattern (b ∷ c ∷ run) false) (s.unstarred (marked_quoted q) f) y.2))
     from_mark (inl (c, run, mid, q, inl (m, a, f, inr (inl g)))) = inr (inl (o.marked b (c ∷ run), mid, m, marked_asked q, a, g))
     from_mark (inl (c, run, mid, q, inl (m, a, f, inr (inr g)))) = inl (marked_end begun m negated b c text run mid z e q f (marked_asked q) g)
@@ -173,17 +173,17 @@ module _ (size : ℕ) (F : SyntaxFault) (h : Head) where
           subst (Refuses size (AnEnd h.at ends_test) mid) y (subst (λ (v : List ℕ). Refuses size (AnEnd h.at ends_test) v (BadDirective h.at)) (sym f) (r.no_end refl refl)),
         )
     from_mark (inr (inl (m, q, f, g))) =
-        by (emitted_there begun m negated (pattern (b ∷ []) false) (behind_patterns size F h.at text ⊎ (Refuses size (BehindMark h.at) text F
+        by (emitted_there begun m negated (pattern (b ∷ []) false) (after_patterns size F h.at text ⊎ (Refuses size (BehindMark h.at) text F
         ⊎ ((x : ℕ) × (rest : List ℕ) × (text ≡ x ∷ rest) × (is_space x ≡ true) × end_stuck size F (PastMark h.at) rest))) g)
       where
         alone : IsPattern (b ∷ text) (pattern (b ∷ []) false) text
         alone = s.unstarred (marked_quoted q) f
 
-        by : Bare h × (negated ≡ false) × (behind_patterns size F h.at text ⊎ (Refuses size (BehindMark h.at) text F
+        by : Bare h × (negated ≡ false) × (after_patterns size F h.at text ⊎ (Refuses size (BehindMark h.at) text F
             ⊎ ((x : ℕ) × (rest : List ℕ) × (text ≡ x ∷ rest) × (is_space x ≡ true) × end_stuck size F (PastMark h.at) rest)))
             → asked_stuck size F h begun negated (b ∷ text)
         by (x, y, inl v) = inr (inr (x, y, emits_from (b ∷ text) text (pattern (b ∷ []) false) alone v))
-        by (x, y, inr (inl v)) = inr (inr (x, y, (BehindMark h.at, text, r.behind_mark s.no_space e alone, v)))
+        by (x, y, inr (inl v)) = inr (inr (x, y, (BehindMark h.at, text, r.after_mark s.no_space e alone, v)))
         by (x, y, inr (inr (v, rest, i, j, (end, d, w)))) =
             inr (inr (x, y, (PastMark h.at, end, subst (λ (u : List ℕ). ReachesEmits h.at (b ∷ u) (PastMark h.at) end) (sym i) (r.past_mark s.no_space e j d), w)))
     from_mark (inr (inr (inl (rest, m, f, g)))) = from_star [] text (subst (λ (u : List ℕ). IsQuoted is_word u [] u) (sym f) (s.quoted_stop refl refl)) (rest, m, f, g)
@@ -291,16 +291,16 @@ module _ (size : ℕ) (F : SyntaxFault) (K : Outside) (ending : (c : Context) (a
   due_stuck_of h begun negated u v a f (inl (due, last, x, y)) = inl (inr (due, last, r.in_test s.no_space f x, y))
   due_stuck_of h begun negated u v a f (inr (inr (x, e, (due, last, y, w)))) = inr (x, (due, last, subst (λ (z : List ℕ). ReachesEmits h.at z due last) (sym (unsigned f e)) y, w))
   due_stuck_of h begun negated u v a f (inr (inl (asked, mid, m, q, b, g))) =
-      by (tested_only (λ tests. behind_tests size F (in_braces h.here.context) h.at tests mid) h.patterns (join_tests h.tests (test (span begun m) negated asked no_test)) g)
+      by (tested_only (λ tests. after_tests size F (in_braces h.here.context) h.at tests mid) h.patterns (join_tests h.tests (test (span begun m) negated asked no_test)) g)
     where
-      by : (h.patterns ≡ []) × behind_tests size F (in_braces h.here.context) h.at (join_tests h.tests (test (span begun m) negated asked no_test)) mid → due_stuck size F h u
+      by : (h.patterns ≡ []) × after_tests size F (in_braces h.here.context) h.at (join_tests h.tests (test (span begun m) negated asked no_test)) mid → due_stuck size F h u
       by (x, inl (others, end, d, c)) = inl (inl (
         test (span begun m) negated asked others,
         end,
         tests_of s.no_space a f q b d,
         subst (λ (y : Tests). choice_stuck size F (in_braces h.here.context) h.at y end) (join_tests_assoc h.tests (test (span begun m) negated asked no_test) others) c,
       ))
-      by (x, inr (rest, d, (due, last, w, y))) = inl (inr (due, last, r.behind_bar s.no_space f q d w, y))
+      by (x, inr (rest, d, (due, last, w, y))) = inl (inr (due, last, r.after_bar s.no_space f q d w, y))
 
   -- behind white space or not
   due_stuck_row : (h : Head) (same_place : Place) (n b : ℕ) (text : List ℕ) → At size n (b ∷ text) → h.patterns ≡ [] → is_default (order_of h) false b ≡ false
@@ -367,7 +367,7 @@ module _ (size : ℕ) (F : SyntaxFault) (K : Outside) (ending : (c : Context) (a
               (subst (λ (y : ℕ). AreItems size (in_x (in_braces h.here.context) no_test) text others (y ∷ rest)) u d) in
               inr (λ z. inr (
                 subst HasChoice (sym i) tt,
-                (NoMore h.at, 59 ∷ [], rw (same b 58 e) (r.behind_default s.no_space items), subst (Refuses size (NoMore h.at) (59 ∷ [])) fault r.default_goes_on),
+                (NoMore h.at, 59 ∷ [], rw (same b 58 e) (r.after_default s.no_space items), subst (Refuses size (NoMore h.at) (59 ∷ [])) fault r.default_goes_on),
               ))
 
       at_choices : (cs : Choices) → h.choices ≡ cs → StuckAfter size F K b text (o.turn_start h cs n b) → Wanted size K (o.ChoiceStart h) (b ∷ text) ⊎ Stuck size F (o.ChoiceStart h) (b ∷ text)
@@ -386,12 +386,12 @@ module _ (size : ℕ) (F : SyntaxFault) (K : Outside) (ending : (c : Context) (a
 
   due_pattern : (h : Head) (n : ℕ) (text mid : List ℕ) (p : Pattern) (m : ℕ) → Bare h → Filled h.patterns → IsPattern text p mid
       → some_stuck size F h (emitted h n m false p) (tested h n m false (HasSwitch p)) false mid → patterns_stuck size F h.at text
-  due_pattern h n text mid p m y f q (inl g) = by (emitted_there size F h n m false p (behind_patterns size F h.at mid) g)
+  due_pattern h n text mid p m y f q (inl g) = by (emitted_there size F h n m false p (after_patterns size F h.at mid) g)
     where
-      by : Bare h × (false ≡ false) × behind_patterns size F h.at mid → patterns_stuck size F h.at text
-      by (x, e, (rest, d, (due, last, v, w))) = (due, last, r.behind_and s.no_space q d v, w)
+      by : Bare h × (false ≡ false) × after_patterns size F h.at mid → patterns_stuck size F h.at text
+      by (x, e, (rest, d, (due, last, v, w))) = (due, last, r.after_and s.no_space q d v, w)
   due_pattern h n text mid p m y f q (inr (inl g)) =
-      absurd (subst Filled (tested_only (λ tests. behind_tests size F (in_braces h.here.context) h.at tests mid) h.patterns (join_tests h.tests (test (span n m) false (HasSwitch p) no_test)) g).0 f)
+      absurd (subst Filled (tested_only (λ tests. after_tests size F (in_braces h.here.context) h.at tests mid) h.patterns (join_tests h.tests (test (span n m) false (HasSwitch p) no_test)) g).0 f)
   due_pattern h n text mid p m y f q (inr (inr g)) = by h.choices h.tests h.patterns (join_tests h.tests (test (span n m) false (HasSwitch p) no_test)) y f g
     where
       by : (cs : Choices) (ts : Tests) (ps : List (Span × Pattern)) (us : Tests) → (cs ≡ no_choice) × (ts ≡ no_test) → Filled ps

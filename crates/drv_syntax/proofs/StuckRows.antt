@@ -66,7 +66,7 @@ module _ (size : ℕ) (F : SyntaxFault) where
 
   pub choices_stuck : (c : Context) (n : ℕ) (order : Order) (text : List ℕ) → tests_left size F c n order no_test text → Ends size F (ReachesChoices size c n order text)
   choices_stuck c n order text (inl (others, end, t, (mid, x, inl (due, last, d, y)))) = (due, last, r.to_x (subst (AreTests size c text others) x t) d, y)
-  choices_stuck c n order text (inl (others, end, t, (mid, x, inr (items, next, d, (due, last, l, y))))) = (due, last, r.behind_x (subst (AreTests size c text others) x t) d l, y)
+  choices_stuck c n order text (inl (others, end, t, (mid, x, inr (items, next, d, (due, last, l, y))))) = (due, last, r.after_x (subst (AreTests size c text others) x t) d l, y)
   choices_stuck c n order text (inr (due, last, t, y)) = (due, last, r.to_tests t, y)
 
   brace_stuck : (here : Here) (at : ℕ) (kind : BraceKind) (text : List ℕ) → start_stuck size F (fresh here at kind) text → Ends size F (ReachesBrace size (in_braces here.context) at text)

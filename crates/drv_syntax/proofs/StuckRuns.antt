@@ -5,7 +5,7 @@ use Rattle.drv_syntax.proofs.Sound.{row}
 use Rattle.drv_syntax.proofs.Stuck.{Stuck, StuckAfter, StuckAround, list_stuck}
 use Rattle.drv_syntax.proofs.StuckDue.{negated_stuck_row, pattern_stuck_row, start_stuck_row, test_due_stuck_row, test_function_stuck_row}
 use Rattle.drv_syntax.proofs.StuckRows.{function_stuck_row, grown, hide_stuck_row, hide_word_stuck_row, item_stuck_row, name_stuck_row, option_stuck_row, percent_stuck_row, saying_stuck_row, suffix_percent_stuck_row, suffix_run_stuck_row, suffix_stuck_row}
-use Rattle.drv_syntax.proofs.StuckTests.{behind_stuck_row, mark_stuck_row, marked_stuck_row, word_stuck_row}
+use Rattle.drv_syntax.proofs.StuckTests.{after_stuck_row, mark_stuck_row, marked_stuck_row, word_stuck_row}
 use Rattle.drv_syntax.proofs.Wanted.{Outside, Wanted}
 use Rattle.drv_syntax.specs.Contexts.{Context, top}
 use Rattle.drv_syntax.specs.Outcome as o
@@ -57,7 +57,7 @@ module _ (size : ℕ) (F : SyntaxFault) (K : Outside) (ending : (c : Context) (a
       when (StuckAfter size F K b text) (b == 58) _ _ g (λ e g. inr (λ z. inr (text, ap (λ (x : ℕ). x ∷ text) (same b 58 e), g z refl)))
       (λ e g. inr (λ z. inl (b, ap (λ (x : List ℕ). b ∷ x) g.1, e, g.0)))
   stuck_row (o.TestFunction h begun negated at name) n b text a g = test_function_stuck_row size F K ending h begun negated at name n b text g
-  stuck_row (o.BehindTest h ps ts bare) n b text a g = behind_stuck_row size F K ending h ps ts bare n b text a g
+  stuck_row (o.BehindTest h ps ts bare) n b text a g = after_stuck_row size F K ending h ps ts bare n b text a g
 
 -- a list in an item of which the text ends
 around_ends : (size : ℕ) (F : SyntaxFault) (ws : List Waiting) (c : Context) (all : Items) (rest : List ℕ) → list_stuck size F c rest → StuckAround size F ws c all rest

@@ -4,8 +4,8 @@ use Rattle.drv_syntax.proofs.Leads.{differs, each, same}
 use Rattle.drv_syntax.proofs.Parts.{HasChoice, brace_resumes, has_choice, join_tests_none}
 use Rattle.drv_syntax.proofs.Rows.{one_byte, pattern_longer, when}
 use Rattle.drv_syntax.proofs.RowsBraces.{on_same, rest_space}
-use Rattle.drv_syntax.proofs.RowsTests.{behind_marked, behind_row, behind_word}
-use Rattle.drv_syntax.proofs.Stuck.{Absent, InsideStuck, Stuck, StuckAfter, alone_stuck, behind_patterns, behind_tests, choice_stuck, due_stuck, end_due, end_stuck, later_stuck, list_stuck, mark_stuck, marked_behind, marked_stuck, next_byte, order_by, some_stuck, start_stuck, tests_left, tests_stuck, word_stuck}
+use Rattle.drv_syntax.proofs.RowsTests.{after_marked, after_row, after_word}
+use Rattle.drv_syntax.proofs.Stuck.{Absent, InsideStuck, Stuck, StuckAfter, alone_stuck, after_patterns, after_tests, choice_stuck, due_stuck, end_due, end_stuck, later_stuck, list_stuck, mark_stuck, marked_after, marked_stuck, next_byte, order_by, some_stuck, start_stuck, tests_left, tests_stuck, word_stuck}
 use Rattle.drv_syntax.proofs.StuckRows.{choices_stuck, opened_list}
 use Rattle.drv_syntax.proofs.Wanted.{Inside, Of, Outside, Wanted, WantsList, rest_starred, rest_unstarred, tests_bar, tests_colon}
 use Rattle.drv_syntax.specs.Bytes.{is_of, is_space, is_word}
@@ -40,18 +40,18 @@ unmarked e = differs (sym e)
 module _ (size : ℕ) (F : SyntaxFault) where
   -- white space in front
 
-  patterns_behind_space : (n b : ℕ) (text : List ℕ) → is_space b ≡ true → behind_patterns size F n text → behind_patterns size F n (b ∷ text)
-  patterns_behind_space n b text e (rest, d, p) = (rest, s.space e d, p)
+  patterns_after_space : (n b : ℕ) (text : List ℕ) → is_space b ≡ true → after_patterns size F n text → after_patterns size F n (b ∷ text)
+  patterns_after_space n b text e (rest, d, p) = (rest, s.space e d, p)
 
-  tests_behind_space : (c : Context) (n b : ℕ) (tests : Tests) (text : List ℕ) → is_space b ≡ true → behind_tests size F c n tests text → behind_tests size F c n tests (b ∷ text)
-  tests_behind_space c n b tests text e (inl (others, end, t, x)) = inl (others, end, rest_space e t, x)
-  tests_behind_space c n b tests text e (inr (rest, d, t)) = inr (rest, s.space e d, t)
+  tests_after_space : (c : Context) (n b : ℕ) (tests : Tests) (text : List ℕ) → is_space b ≡ true → after_tests size F c n tests text → after_tests size F c n tests (b ∷ text)
+  tests_after_space c n b tests text e (inl (others, end, t, x)) = inl (others, end, rest_space e t, x)
+  tests_after_space c n b tests text e (inr (rest, d, t)) = inr (rest, s.space e d, t)
 
   space_stuck : (h : Head) (b : ℕ) (text : List ℕ) (ps : Option (List (Span × Pattern))) (ts : Option Tests) (bare : Bool) → is_space b ≡ true → some_stuck size F h ps ts bare text
       → some_stuck size F h ps ts bare (b ∷ text)
-  space_stuck h b text (Some ps) ts bare e (inl g) = inl (patterns_behind_space h.at b text e g)
+  space_stuck h b text (Some ps) ts bare e (inl g) = inl (patterns_after_space h.at b text e g)
   space_stuck h b text None ts bare e (inl g) = absurd g
-  space_stuck h b text ps (Some tests) bare e (inr (inl g)) = inr (inl (tests_behind_space (in_braces h.here.context) h.at b tests text e g))
+  space_stuck h b text ps (Some tests) bare e (inr (inl g)) = inr (inl (tests_after_space (in_braces h.here.context) h.at b tests text e g))
   space_stuck h b text ps None bare e (inr (inl g)) = absurd g
   space_stuck h b text ps ts bare e (inr (inr (rest, d, x))) = inr (inr (rest, s.space e d, x))
 
@@ -126,7 +126,7 @@ module _ (size : ℕ) (F : SyntaxFault) (K : Outside) (ending : (c : Context) (a
     where
       by : WantsList size (Inside size K (WaitsX (with_tests h tests) n)) (record { context = in_x (in_braces h.here.context) tests; done = none }) text
           ⊎ InsideStuck size F (WaitsX (with_tests h tests) n) (in_x (in_braces h.here.context) tests) text → Behind h ps (Some tests) bare (58 ∷ text)
-      by (inl l) = inl (behind_row size K h ps (Some tests) bare n 58 text a l)
+      by (inl l) = inl (after_row size K h ps (Some tests) bare n 58 text a l)
       by (inr c) = inr (λ f. inr (inl (inl (
         no_test,
         58 ∷ text,
@@ -134,7 +134,7 @@ module _ (size : ℕ) (F : SyntaxFault) (K : Outside) (ending : (c : Context) (a
         subst (λ (x : Tests). choice_stuck size F (in_braces h.here.context) h.at x (58 ∷ text)) (sym (join_tests_none tests)) (x_stuck size F (with_tests h tests) n text f.0.1.1 c),
       ))))
 
-  bar_stuck : (h : Head) (tests : Tests) (text : List ℕ) → Tested tests → due_stuck size F (with_tests h tests) text → behind_tests size F (in_braces h.here.context) h.at tests (124 ∷ text)
+  bar_stuck : (h : Head) (tests : Tests) (text : List ℕ) → Tested tests → due_stuck size F (with_tests h tests) text → after_tests size F (in_braces h.here.context) h.at tests (124 ∷ text)
   bar_stuck h tests text t (inl (inl (others, end, d, x))) = inl (others, end, tests_bar s.no_space d, x)
   bar_stuck h tests text t (inl (inr d)) = inr (text, s.no_space, subst (λ (x : Order). tests_stuck size F (in_braces h.here.context) h.at x text) (tested_order tests h.choices t) d)
   bar_stuck h tests text t (inr (x, p)) = absurd (subst Tested x.1 t)
@@ -158,9 +158,9 @@ module _ (size : ℕ) (F : SyntaxFault) (K : Outside) (ending : (c : Context) (a
   at_byte : (b x : ℕ) (text : List ℕ) (t : o.Turn) (P : ℕ → Type 0) → (b == x) ≡ true → StuckAfter size F K b text t → (StuckAfter size F K x text t → P x) → P b
   at_byte b x text t P e g k = subst P (sym (same b x e)) (k (subst (λ (y : ℕ). StuckAfter size F K y text t) (same b x e) g))
 
-  pub behind_stuck_row : (h : Head) (ps : Option (List (Span × Pattern))) (ts : Option Tests) (bare : Bool) (n b : ℕ) (text : List ℕ) → At size n (b ∷ text)
-      → StuckAfter size F K b text (o.turn_behind h ps ts bare n b) → Behind h ps ts bare (b ∷ text)
-  behind_stuck_row h ps ts bare n b text a g =
+  pub after_stuck_row : (h : Head) (ps : Option (List (Span × Pattern))) (ts : Option Tests) (bare : Bool) (n b : ℕ) (text : List ℕ) → At size n (b ∷ text)
+      → StuckAfter size F K b text (o.turn_after h ps ts bare n b) → Behind h ps ts bare (b ∷ text)
+  after_stuck_row h ps ts bare n b text a g =
       when (StuckAfter size F K b text) (is_space b) _ _ g (λ e g. inr (λ f. space_stuck size F h b text ps ts bare e (g f))) (λ e1 g.
       when (StuckAfter size F K b text) (b == 125) _ _ g
       (λ e g. inr (at_byte b 125 text (o.turn_brace h ps n) (λ (y : ℕ). Stuck size F (o.BehindTest h ps ts bare) (y ∷ text)) e g (λ x. brace_part h ps ts bare n text x))) (λ e2 g.
@@ -199,7 +199,7 @@ module _ (size : ℕ) (F : SyntaxFault) (K : Outside) (ending : (c : Context) (a
             (g (possible h begun (n + 1) negated (pattern word true) (HasSwitch (pattern word true)) f, λ z. unmarked z)),
       )))
       (λ e3 g. by e1 e2 e3
-      (behind_stuck_row h (emitted h begun n negated (pattern word false)) (tested h begun n negated (HasSwitch (pattern word false))) false n b text a g))))
+      (after_stuck_row h (emitted h begun n negated (pattern word false)) (tested h begun n negated (HasSwitch (pattern word false))) false n b text a g))))
     where
       by : (b == 92) ≡ false → is_word b ≡ false → (b == 42) ≡ false
           → Behind h (emitted h begun n negated (pattern word false)) (tested h begun n negated (HasSwitch (pattern word false))) false (b ∷ text)
@@ -210,7 +210,7 @@ module _ (size : ℕ) (F : SyntaxFault) (K : Outside) (ending : (c : Context) (a
         n,
         rest_unstarred (s.quoted_stop e1 e2) (s.at_byte e3),
         a,
-        subst (λ (x : List ℕ). behind_word size K h begun negated x false n (b ∷ text)) (sym (append-nil word)) g,
+        subst (λ (x : List ℕ). after_word size K h begun negated x false n (b ∷ text)) (sym (append-nil word)) g,
       )
       by e1 e2 e3 (inr g) = inr (λ f. (
         pattern (word ++ []) false,
@@ -228,27 +228,27 @@ module _ (size : ℕ) (F : SyntaxFault) (K : Outside) (ending : (c : Context) (a
       → ((run end : List ℕ) → IsQuoted is_word text run end → IsQuoted is_word longer (c ∷ run) end)
       → marked_stuck size F h begun negated mark (word ++ c ∷ []) text → marked_stuck size F h begun negated mark word longer
   marked_longer h begun negated mark word c text longer k (run, mid, q, g) =
-      (c ∷ run, mid, k run mid q, subst (λ (x : List ℕ). marked_behind size F h begun negated mark x mid) (append_assoc word (c ∷ []) run) g)
+      (c ∷ run, mid, k run mid q, subst (λ (x : List ℕ). marked_after size F h begun negated mark x mid) (append_assoc word (c ∷ []) run) g)
 
   marked_escape : (h : Head) (begun : ℕ) (negated : Bool) (mark : ℕ) (word : List ℕ) (text : List ℕ) → next_byte text (λ b rest. marked_stuck size F h begun negated mark (word ++ b ∷ []) rest)
       → marked_stuck size F h begun negated mark word (92 ∷ text)
   marked_escape h begun negated mark word text (c, rest, e, w) = rw e (marked_longer h begun negated mark word c rest (92 ∷ c ∷ rest) (λ run end q. s.quoted_escape q) w)
 
   -- behind a star
-  starred_part : (h : Head) (ps : List (Span × Pattern)) (text : List ℕ) → some_stuck size F h (Some ps) None false text → behind_patterns size F h.at text ⊎ end_stuck size F (AnEnd h.at ends_pattern) text
+  starred_part : (h : Head) (ps : List (Span × Pattern)) (text : List ℕ) → some_stuck size F h (Some ps) None false text → after_patterns size F h.at text ⊎ end_stuck size F (AnEnd h.at ends_pattern) text
   starred_part h ps text (inl g) = inl g
   starred_part h ps text (inr (inl g)) = absurd g
   starred_part h ps text (inr (inr g)) = inr g
 
   star_part : (h : Head) (begun n : ℕ) (negated : Bool) (mark : ℕ) (word : List ℕ) (b : ℕ) (text : List ℕ) (ps : Option (List (Span × Pattern)))
       → emitted h begun (n + 1) negated (pattern (mark ∷ word) true) ≡ ps → (b == 42) ≡ true → Any (λ xs. Bare h × Filled xs) ps → StuckAfter size F K b text (o.turn_starred_mark h ps)
-      → marked_behind size F h begun negated mark word (b ∷ text)
+      → marked_after size F h begun negated mark word (b ∷ text)
   star_part h begun n negated mark word b text (Some ps) i e y g =
       inr (inl (
         text,
         n + 1,
         ap (λ (x : ℕ). x ∷ text) (same b 42 e),
-        subst (Of (λ _. behind_patterns size F h.at text ⊎ end_stuck size F (AnEnd h.at ends_pattern) text)) (sym i) (starred_part h ps text (g ((y, tt, inl tt), λ z. unmarked z))),
+        subst (Of (λ _. after_patterns size F h.at text ⊎ end_stuck size F (AnEnd h.at ends_pattern) text)) (sym i) (starred_part h ps text (g ((y, tt, inl tt), λ z. unmarked z))),
       ))
   star_part h begun n negated mark word b text None i e y g = inr (inr (n + 1, rw (same b 42 e, g.1) refl, subst Absent (sym i) tt, g.0))
 
@@ -263,12 +263,12 @@ module _ (size : ℕ) (F : SyntaxFault) (K : Outside) (ending : (c : Context) (a
         [],
         b ∷ text,
         s.quoted_stop e1 e2,
-        subst (λ (x : List ℕ). marked_behind size F h begun negated mark x (b ∷ text)) (sym (append-nil word))
+        subst (λ (x : List ℕ). marked_after size F h begun negated mark x (b ∷ text)) (sym (append-nil word))
             (star_part h begun n negated mark word b text (emitted h begun (n + 1) negated (pattern (mark ∷ word) true)) refl e
             (possible h begun (n + 1) negated (pattern (mark ∷ word) true) (o.marked mark word) (inl f)).0 g),
       )))
       (λ e3 g. by e1 e2 e3
-      (behind_stuck_row h (emitted h begun n negated (pattern (mark ∷ word) false)) (tested h begun n negated (o.marked mark word)) false n b text a g))))
+      (after_stuck_row h (emitted h begun n negated (pattern (mark ∷ word) false)) (tested h begun n negated (o.marked mark word)) false n b text a g))))
     where
       by : (b == 92) ≡ false → is_word b ≡ false → (b == 42) ≡ false
           → Behind h (emitted h begun n negated (pattern (mark ∷ word) false)) (tested h begun n negated (o.marked mark word)) false (b ∷ text)
@@ -277,25 +277,25 @@ module _ (size : ℕ) (F : SyntaxFault) (K : Outside) (ending : (c : Context) (a
         [],
         b ∷ text,
         s.quoted_stop e1 e2,
-        subst (λ (x : List ℕ). behind_marked size K h begun negated mark x (b ∷ text)) (sym (append-nil word)) (inl (n, a, s.at_byte e3, g)),
+        subst (λ (x : List ℕ). after_marked size K h begun negated mark x (b ∷ text)) (sym (append-nil word)) (inl (n, a, s.at_byte e3, g)),
       )
       by e1 e2 e3 (inr g) = inr (λ f. (
         [],
         b ∷ text,
         s.quoted_stop e1 e2,
-        subst (λ (x : List ℕ). marked_behind size F h begun negated mark x (b ∷ text)) (sym (append-nil word))
+        subst (λ (x : List ℕ). marked_after size F h begun negated mark x (b ∷ text)) (sym (append-nil word))
             (inl (n, a, s.at_byte e3, g (possible h begun n negated (pattern (mark ∷ word) false) (o.marked mark word) (inl f), λ z. unmarked z))),
       ))
 
   -- the mark alone, without a star or with one
   abbrev AloneOr : Head → List ℕ → ℕ → Option (List (Span × Pattern)) → Option (List (Span × Pattern)) → Type 0
   AloneOr h text b ps starred =
-      (((b == 42) ≡ false) × Of (λ _. behind_patterns size F h.at (b ∷ text) ⊎ alone_stuck size F h.at (b ∷ text)) ps)
-      ⊎ (((b ≡ 42) × Of (λ _. behind_patterns size F h.at text ⊎ end_stuck size F (AnEnd h.at ends_pattern) text) starred) ⊎ (Absent ps × (EmptyTest h.at ≡ F) × (text ≡ [])))
+      (((b == 42) ≡ false) × Of (λ _. after_patterns size F h.at (b ∷ text) ⊎ alone_stuck size F h.at (b ∷ text)) ps)
+      ⊎ (((b ≡ 42) × Of (λ _. after_patterns size F h.at text ⊎ end_stuck size F (AnEnd h.at ends_pattern) text) starred) ⊎ (Absent ps × (EmptyTest h.at ≡ F) × (text ≡ [])))
 
   past_space : (h : Head) (ps : List (Span × Pattern)) (b : ℕ) (text : List ℕ) → is_space b ≡ true → some_stuck size F h (Some ps) None true text
-      → behind_patterns size F h.at (b ∷ text) ⊎ alone_stuck size F h.at (b ∷ text)
-  past_space h ps b text e (inl g) = inl (patterns_behind_space size F h.at b text e g)
+      → after_patterns size F h.at (b ∷ text) ⊎ alone_stuck size F h.at (b ∷ text)
+  past_space h ps b text e (inl g) = inl (patterns_after_space size F h.at b text e g)
   past_space h ps b text e (inr (inl g)) = absurd g
   past_space h ps b text e (inr (inr g)) = inr (inr (b, text, refl, e, g))
 

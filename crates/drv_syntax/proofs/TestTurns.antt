@@ -3,7 +3,7 @@ use Rattle.drv_syntax.proofs.Runs.{reads_fault, walked, word_takes}
 use Rattle.drv_syntax.specs.Bytes.{is_mark, is_word}
 use Rattle.drv_syntax.specs.Code.States.{Reads}
 use Rattle.drv_syntax.specs.Code.Steps.{Walk, act_head, at_stage, form_at, in_word, pass, step, then_walk, with_word}
-use Rattle.drv_syntax.specs.Code.Turns.{behind_action, chooses, emits}
+use Rattle.drv_syntax.specs.Code.Turns.{after_action, chooses, emits}
 use Rattle.drv_syntax.specs.declared.fault.SyntaxFault.TheVariants.{BadDirective, Memory}
 use Rattle.drv_syntax.specs.declared.fault.SyntaxFault.{SyntaxFault}
 use Rattle.drv_syntax.specs.declared.reader.stages.Behind.TheVariants as behinds
@@ -50,17 +50,17 @@ step_fails v u n [] r fault l e (inr h) = absurd (omega (arith, l))
 step_fails v u n (b ∷ text) r fault l e (inr h) = reads_fault v u n (b ∷ text) r fault e (inr (ap (λ (r : Result Walk SyntaxFault). then_walk r (λ x. pass x (n + 1) text)) h))
 
 -- a star behind the word
-abbrev pub behind_star : Head → Form → ℕ → Bool → ℕ → Walk → Walk
-behind_star head form start negated n v = at_stage (at.Braces head form (places.BehindTest (behinds.Switch start (n + 1) negated true))) v
+abbrev pub after_star : Head → Form → ℕ → Bool → ℕ → Walk → Walk
+after_star head form start negated n v = at_stage (at.Braces head form (places.BehindTest (behinds.Switch start (n + 1) negated true))) v
 
 pub star_takes : (v : Walk) (head : Head) (form : Form) (start : ℕ) (negated : Bool) (n : ℕ) (text : List ℕ) → v.stage ≡ at.Braces head form (places.TestWord start negated) → 0 < length text
-    → get_or text 0 0 ≡ 42 → pass v n text ≡ pass (behind_star head form start negated n v) (n + 1) (drop 1 text)
+    → get_or text 0 0 ≡ 42 → pass v n text ≡ pass (after_star head form start negated n v) (n + 1) (drop 1 text)
 star_takes v head form start negated n [] h l e = absurd (omega (arith, l))
 star_takes v head form start negated n (b ∷ text) h l e =
     ap (λ (x : ℕ). pass v n (x ∷ text)) e
     ∙ ap (λ (r : Result Walk SyntaxFault). then_walk r (λ x. pass x (n + 1) text)) starred
   where
-    starred : step v n 42 ≡ Ok (behind_star head form start negated n v)
+    starred : step v n 42 ≡ Ok (after_star head form start negated n v)
     starred = rw h refl
 
 -- what ends it behind that star, which is refused
@@ -69,22 +69,22 @@ stuck true x y found fault again h = absurd cc
 stuck false x y found fault again h = h
 
 star_refused : (v : Walk) (head : Head) (form : Form) (start : ℕ) (negated : Bool) (word : List ℕ) (n b : ℕ) (text : List ℕ) (fault : SyntaxFault) (t : Bool) → (b == 125) ≡ t → (b == 125 || b == 58) ≡ true
-    → act_head head form (behind_action head.part.start (behinds.Switch start (n + 1) negated true) b) (n + 1) b (with_word word v) ≡ Err fault
+    → act_head head form (after_action head.part.start (behinds.Switch start (n + 1) negated true) b) (n + 1) b (with_word word v) ≡ Err fault
     → pass (in_word head form start negated word v) n (42 ∷ b ∷ text) ≡ Err fault
 star_refused v head form start negated word n b text fault true e g h = subst
-    (λ (x : ℕ). act_head head form (behind_action head.part.start (behinds.Switch start (n + 1) negated true) x) (n + 1) x (with_word word v) ≡ Err fault → pass (in_word head form start negated word v) n (42 ∷ x ∷ text) ≡ Err fault)
+    (λ (x : ℕ). act_head head form (after_action head.part.start (behinds.Switch start (n + 1) negated true) x) (n + 1) x (with_word word v) ≡ Err fault → pass (in_word head form start negated word v) n (42 ∷ x ∷ text) ≡ Err fault)
     (sym (same b 125 e))
     (stuck (emits form negated) _ _ (BadDirective head.part.start) fault (λ x. pass x (n + 1 + 1) text))
     h
 star_refused v head form start negated word n b text fault false e g h = subst
-    (λ (x : ℕ). act_head head form (behind_action head.part.start (behinds.Switch start (n + 1) negated true) x) (n + 1) x (with_word word v) ≡ Err fault → pass (in_word head form start negated word v) n (42 ∷ x ∷ text) ≡ Err fault)
+    (λ (x : ℕ). act_head head form (after_action head.part.start (behinds.Switch start (n + 1) negated true) x) (n + 1) x (with_word word v) ≡ Err fault → pass (in_word head form start negated word v) n (42 ∷ x ∷ text) ≡ Err fault)
     (sym (same b 58 (let z : (false || b == 58) ≡ true = ap (λ (t : Bool). t || b == 58) (sym e) ∙ g in z)))
     (stuck (chooses form) _ _ (BadDirective head.part.start) fault (λ x. pass x (n + 1 + 1) text))
     h
 
 pub star_fails : (v u : Walk) (head : Head) (form : Form) (start : ℕ) (negated : Bool) (word : List ℕ) (n : ℕ) (text : List ℕ) (r : Result ℕ SyntaxFault) (fault : SyntaxFault) → 2 ≤ length text
     → get_or text 0 0 ≡ 42 → (get_or text 1 0 == 125 || get_or text 1 0 == 58) ≡ true → IsErrAnd r (λ e. e ≡ fault)
-    → (fault ≡ Memory) ⊎ (act_head head form (behind_action head.part.start (behinds.Switch start (n + 1) negated true) (get_or text 1 0)) (n + 1) (get_or text 1 0) (with_word word v) ≡ Err fault)
+    → (fault ≡ Memory) ⊎ (act_head head form (after_action head.part.start (behinds.Switch start (n + 1) negated true) (get_or text 1 0)) (n + 1) (get_or text 1 0) (with_word word v) ≡ Err fault)
     → Reads n text (in_word head form start negated word v) u r
 star_fails v u head form start negated word n text r fault l s e is (inl h) = reads_fault (in_word head form start negated word v) u n text r fault is (inl h)
 star_fails v u head form start negated word n [] r fault l s e is (inr h) = absurd (omega (arith, l))

@@ -1,7 +1,7 @@
 use Rattle.drv_syntax.proofs.CutDue.{negated_cut_row, pattern_cut_row, start_cut_row, test_due_cut_row, test_function_cut_row}
 use Rattle.drv_syntax.proofs.CutRows.{function_cut_row, hide_cut_row, hide_word_cut_row, item_cut_row, list_cut, name_cut_row, option_cut_row, percent_cut_row, saying_cut_row, suffix_cut_row, suffix_percent_cut_row, suffix_run_cut_row}
-use Rattle.drv_syntax.proofs.CutTests.{behind_cut_row, mark_cut_row, marked_cut_row, word_cut_row}
-use Rattle.drv_syntax.proofs.Cuts.{Cut, CutAfter, FrontAround, Possible, some_behind}
+use Rattle.drv_syntax.proofs.CutTests.{after_cut_row, mark_cut_row, marked_cut_row, word_cut_row}
+use Rattle.drv_syntax.proofs.Cuts.{Cut, CutAfter, FrontAround, Possible, some_after}
 use Rattle.drv_syntax.proofs.Leads.{differs, same}
 use Rattle.drv_syntax.proofs.Rows.{ends_at, one_byte, when}
 use Rattle.drv_syntax.proofs.Shortest.{IsFront, not_bad}
@@ -54,15 +54,15 @@ module _ (size : ℕ) (K : Outside) (ending : (c : Context) (all : Items) (rest 
   cut_row (o.TestPercent h begun negated at) n b text a g =
       when (CutAfter size K b text) (b == 58) _ _ g (λ e g. inr (λ z. inr (text, ap (λ (x : ℕ). x ∷ text) (same b 58 e), g z refl))) (λ e g. absurd g)
   cut_row (o.TestFunction h begun negated at name) n b text a g = test_function_cut_row size K ending h begun negated at name n b text g
-  cut_row (o.BehindTest h ps ts bare) n b text a g = behind_cut_row size K ending h ps ts bare n b text a g
+  cut_row (o.BehindTest h ps ts bare) n b text a g = after_cut_row size K ending h ps ts bare n b text a g
 
   -- the end of the text
 
-  any_behind : (h : Head) (ps : Option (List (Span × Pattern))) (ts : Option Tests) → Possible h ps ts → some_behind size h ps ts []
-  any_behind h (Some ps) ts f = inl (inl s.no_space)
-  any_behind h None (Some ts) f = inr (inr (inl s.no_space))
-  any_behind h None None (x, y, inl z) = absurd z
-  any_behind h None None (x, y, inr z) = absurd z
+  any_after : (h : Head) (ps : Option (List (Span × Pattern))) (ts : Option Tests) → Possible h ps ts → some_after size h ps ts []
+  any_after h (Some ps) ts f = inl (inl s.no_space)
+  any_after h None (Some ts) f = inr (inr (inl s.no_space))
+  any_after h None None (x, y, inl z) = absurd z
+  any_after h None None (x, y, inr z) = absurd z
 
   ended : (p : Place) (n : ℕ) → At size n [] → Wanted size K p [] ⊎ Cut size p []
   ended (o.AtItem here) n a = inl (list_cut size K ending here [] cuts.items_end)
@@ -100,7 +100,7 @@ module _ (size : ℕ) (K : Outside) (ending : (c : Context) (all : Items) (rest 
   ended (o.MarkedEscape h begun negated mark word) n a = inr (λ f. inl refl)
   ended (o.TestPercent h begun negated at) n a = inr (λ z. inl refl)
   ended (o.TestFunction h begun negated at name) n a = inr (λ z f. inl (ap is_function_front (append-nil name) ∙ f))
-  ended (o.BehindTest h ps ts bare) n a = inr (λ f. any_behind h ps ts f)
+  ended (o.BehindTest h ps ts bare) n a = inr (λ f. any_after h ps ts f)
 
 -- a list that ends with the text
 around_ends : (size : ℕ) (ws : List Waiting) (c : Context) (all : Items) (rest : List ℕ) → AreFrontItems size c rest → FrontAround size ws c all rest

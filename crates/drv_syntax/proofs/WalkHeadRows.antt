@@ -21,9 +21,9 @@ use Rattle.drv_syntax.proofs.WalkMeaning.{either, headed, Fits, fits_fresh, fits
 
 -- The table of the code in braces is that of the places.
 
-pub behind_row : (h : o.Head) (word : List ℕ) (n b : ℕ) (behind : Behind)
-    → meant_head h word n b (w.behind_action h.at behind b) ≡ o.turn_behind h (patterns_of behind word h) (tests_of behind word h) (is_bare behind) n b
-behind_row h word n b behind =
+pub after_row : (h : o.Head) (word : List ℕ) (n b : ℕ) (behind : Behind)
+    → meant_head h word n b (w.after_action h.at behind b) ≡ o.turn_after h (patterns_of behind word h) (tests_of behind word h) (is_bare behind) n b
+after_row h word n b behind =
     either F (bytes.is_space b) refl (either F (b == 125) refl (either F (b == 38) refl (either F (b == 58) refl (either F (b == 124) refl refl))))
   where
     F : HeadAction → Turn
@@ -31,7 +31,7 @@ behind_row h word n b behind =
 
 pub word_row : (h : o.Head) (start : ℕ) (negated : Bool) (word : List ℕ) (n b : ℕ) → meant_head h word n b (w.word_action h.at start negated n b) ≡ o.turn_word h start negated word n b
 word_row h start negated word n b =
-    either F (b == 92) refl (either F (bytes.is_word b) refl (either F (b == 42) refl (behind_row h word n b (behinds.Switch start n negated false))))
+    either F (b == 92) refl (either F (bytes.is_word b) refl (either F (b == 42) refl (after_row h word n b (behinds.Switch start n negated false))))
   where
     F : HeadAction → Turn
     F a = meant_head h word n b a
@@ -115,7 +115,7 @@ marked_row k before head form choices tests patterns fits start negated mark wor
     either F (b == 92) refl
     (either F (bytes.is_word b) refl
     (either F (b == 42) (star_mark_row k before head form choices tests patterns fits start negated mark word n b)
-    (behind_row (headed k before head choices tests patterns) word n b (behinds.Marked start n negated mark))))
+    (after_row (headed k before head choices tests patterns) word n b (behinds.Marked start n negated mark))))
   where
     F : HeadAction → Turn
     F a = meant_head (headed k before head choices tests patterns) word n b a
@@ -139,7 +139,7 @@ head_row (places.TestPercent start negated at) k before head form choices tests 
     either (λ a. meant_head (headed k before head choices tests patterns) word n b a) (b == 58) refl refl
 head_row (places.TestFunction start negated at) k before head form choices tests patterns fits word n b =
     test_call_row (headed k before head choices tests patterns) start negated at word n b
-head_row (places.BehindTest behind) k before head form choices tests patterns fits word n b = behind_row (headed k before head choices tests patterns) word n b behind
+head_row (places.BehindTest behind) k before head form choices tests patterns fits word n b = after_row (headed k before head choices tests patterns) word n b behind
 
 pub choice_row : (later : Bool) (k : Context) (before : Items) (head : Head) (choices : Choices) (tests : Tests) (patterns : List (Span × Pattern))
     → Fits (form_at later) choices tests patterns → (word : List ℕ) (n b : ℕ)

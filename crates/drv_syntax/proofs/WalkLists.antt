@@ -268,7 +268,7 @@ x_leads k {fs} {ws} before kind at choices (tree.test r signed asked ts) colon i
     v : Walk
     v = made stage k' fs (all (head_star ws (hd ws k before kind at choices (tree.test r signed asked ts) [])) (brace_level ws (hd ws k before kind at choices (tree.test r signed asked ts) []) ∷ levels_of ws) (choice_nodes (o.with_choice (hd ws k before kind at choices (tree.test r signed asked ts) []) colon items))) word (last_place (trimmed items) (colon + 1)) (trailing items)
 
-    by : (t : Bool) → Leads (if t then Ok (s.close_braces (the_head ws before kind at) false (n + 1) k v) else Ok (s.at_stage (staged.Choice (the_head ws before kind at) true) (s.behind_item k 0 v)))
+    by : (t : Bool) → Leads (if t then Ok (s.close_braces (the_head ws before kind at) false (n + 1) k v) else Ok (s.at_stage (staged.Choice (the_head ws before kind at) true) (s.after_item k 0 v)))
         (λ again. resumed (o.On (if t then o.AtItem (o.chosen_item hh (n + 1) (o.with_choice hh colon items)) else o.ChoiceStart (o.next_head hh colon items))) (again ws) n)
     by true = (
       ws,

@@ -55,7 +55,7 @@ pattern_by (behinds.Marked start end negated mark) word = tree.pattern (mark ∷
 pattern_by (behinds.StarredMark start end negated mark) word = tree.pattern (mark ∷ word) true
 pattern_by (behinds.Bare start end negated mark) word = tree.pattern (mark ∷ []) false
 
-pub by_pattern : (behind : Behind) (word : List ℕ) → w.behind_pattern behind word ≡ pattern_label (pattern_by behind word)
+pub by_pattern : (behind : Behind) (word : List ℕ) → w.after_pattern behind word ≡ pattern_label (pattern_by behind word)
 by_pattern (behinds.Switch start end negated starred) word = refl
 by_pattern (behinds.Marked start end negated mark) word = refl
 by_pattern (behinds.StarredMark start end negated mark) word = refl
@@ -95,22 +95,22 @@ form_more ws k before kind at [] p = refl
 form_more ws k before kind at (q ∷ patterns) p = refl
 
 pub ends_on : (stage : Stage) (k : Context) {fs : List Frame} {ws : List o.Waiting} (before : Items) (kind : BraceKind) (at : ℕ) (patterns : List (Span × Pattern))
-    (word : List ℕ) (kept trail : ℕ) (behind : Behind) (n : ℕ) (p : Pattern) → w.behind_pattern behind word ≡ pattern_label p → Waits fs ws
+    (word : List ℕ) (kept trail : ℕ) (behind : Behind) (n : ℕ) (p : Pattern) → w.after_pattern behind word ≡ pattern_label p → Waits fs ws
     → Shows (s.close_braces (the_head ws before kind at) true (n + 1) k (s.with_pattern behind (hw stage k fs ws before kind at tree.no_choice tree.no_test patterns word kept trail))) ws
     (o.AtItem (o.emitted_item (hd ws k before kind at tree.no_choice tree.no_test patterns) (n + 1) (patterns ++ (span (s.first_of behind) (s.last_of behind), p) ∷ [])))
 ends_on stage k {fs} {ws} before kind at patterns word kept trail behind n p e h =
     subst (λ (z : Parts). Shows (placed_walk k fs (ended (length (list_parts ws before).tokens) (s.brace_token kind true) at (n + 1) z) (n + 1)) ws
     (o.AtItem (o.emitted_item (hd ws k before kind at tree.no_choice tree.no_test patterns) (n + 1) (patterns ++ (span (s.first_of behind) (s.last_of behind), p) ∷ []))))
-    (sym (pattern_parts ws k before kind at patterns (s.first_of behind) (s.last_of behind) p (w.behind_pattern behind word) e))
+    (sym (pattern_parts ws k before kind at patterns (s.first_of behind) (s.last_of behind) p (w.after_pattern behind word) e))
     (shows_emit k before kind at (n + 1) (patterns ++ (span (s.first_of behind) (s.last_of behind), p) ∷ []) h)
 
 pub joins_on : (stage : Stage) (k : Context) {fs : List Frame} {ws : List o.Waiting} (before : Items) (kind : BraceKind) (at : ℕ) (patterns : List (Span × Pattern))
-    (word : List ℕ) (kept trail : ℕ) (behind : Behind) (p : Pattern) → w.behind_pattern behind word ≡ pattern_label p → Waits fs ws
+    (word : List ℕ) (kept trail : ℕ) (behind : Behind) (p : Pattern) → w.after_pattern behind word ≡ pattern_label p → Waits fs ws
     → Shows (s.at_stage (staged.Braces (the_head ws before kind at) forms.Patterns places.PatternDue) (s.with_pattern behind (hw stage k fs ws before kind at tree.no_choice tree.no_test patterns word kept trail))) ws
     (o.PatternDue (hd ws k before kind at tree.no_choice tree.no_test (patterns ++ (span (s.first_of behind) (s.last_of behind), p) ∷ [])))
 joins_on stage k {fs} {ws} before kind at patterns word kept trail behind p e h =
     subst (λ (z : Parts). Shows (made (staged.Braces (the_head ws before kind at) forms.Patterns places.PatternDue) k fs z word kept trail) ws (o.PatternDue (hd ws k before kind at tree.no_choice tree.no_test ps)))
-    (sym (pattern_parts ws k before kind at patterns (s.first_of behind) (s.last_of behind) p (w.behind_pattern behind word) e))
+    (sym (pattern_parts ws k before kind at patterns (s.first_of behind) (s.last_of behind) p (w.after_pattern behind word) e))
     (subst (λ (f : Form). Shows (made (staged.Braces (the_head ws before kind at) f places.PatternDue) k fs (brace_parts ws (hd ws k before kind at tree.no_choice tree.no_test ps)) word kept trail) ws
     (o.PatternDue (hd ws k before kind at tree.no_choice tree.no_test ps)))
     (form_more ws k before kind at patterns (span (s.first_of behind) (s.last_of behind), p))
@@ -184,7 +184,7 @@ marked_nodes r mark word negated = by (mark == 46)
     by true = refl
     by false = refl
 
-pub by_nodes : (behind : Behind) (word : List ℕ) → test_nodes (test_by behind word) ≡ node kinds.Test (w.behind_test behind word) (span (s.first_of behind) (s.last_of behind)) no_node no_node
+pub by_nodes : (behind : Behind) (word : List ℕ) → test_nodes (test_by behind word) ≡ node kinds.Test (w.after_test behind word) (span (s.first_of behind) (s.last_of behind)) no_node no_node
 by_nodes (behinds.Switch start end negated starred) word = refl
 by_nodes (behinds.Marked start end negated mark) word = marked_nodes (span start end) mark word negated
 by_nodes (behinds.StarredMark start end negated mark) word = marked_nodes (span start end) mark word negated
@@ -217,13 +217,13 @@ by_star tests behind word others =
     test_star tests (span (s.first_of behind) (s.last_of behind)) (s.negates behind) (asked_by behind word) others ∙ ap (λ z. z || (tests_have_star tests || others)) (asked_star behind word)
 
 pub with_test_is : (stage : Stage) (k : Context) (fs : List Frame) (ws : List o.Waiting) (before : Items) (kind : BraceKind) (at : ℕ) (choices : Choices) (word : List ℕ) (kept trail : ℕ) (behind : Behind)
-    → s.with_label (w.behind_test behind word) (s.with_leaf kinds.Test (s.first_of behind) (s.last_of behind) (s.open_alternative (s.first_of behind) (hw stage k fs ws before kind at choices tree.no_test [] word kept trail)))
+    → s.with_label (w.after_test behind word) (s.with_leaf kinds.Test (s.first_of behind) (s.last_of behind) (s.open_alternative (s.first_of behind) (hw stage k fs ws before kind at choices tree.no_test [] word kept trail)))
     ≡ hw stage k fs ws before kind at choices (test_by behind word) [] word kept trail
 with_test_is stage k fs ws before kind at choices word kept trail behind =
-    ap (λ z. made stage k fs (leafed kinds.Test (w.behind_test behind word) (s.first_of behind) (s.last_of behind) z) word kept trail)
+    ap (λ z. made stage k fs (leafed kinds.Test (w.after_test behind word) (s.first_of behind) (s.last_of behind) z) word kept trail)
     (all_open (head_star ws h) (brace_level ws h ∷ levels_of ws) (held h) kinds.Alternative no_label (s.first_of behind))
     ∙ ap (λ z. made stage k fs z word kept trail)
-    (all_leaf (head_star ws h) (choice_level t 0 ∷ brace_level ws h ∷ levels_of ws) no_node kinds.Test (w.behind_test behind word) (s.first_of behind) (s.last_of behind)
+    (all_leaf (head_star ws h) (choice_level t 0 ∷ brace_level ws h ∷ levels_of ws) no_node kinds.Test (w.after_test behind word) (s.first_of behind) (s.last_of behind)
     ∙ ap (λ z. all (head_star ws h) (choice_level t 0 ∷ brace_level ws h ∷ levels_of ws) z) (sym (by_nodes behind word))
     ∙ ap (λ z. all z (choice_level t 0 ∷ brace_level ws h ∷ levels_of ws) (test_nodes (test_by behind word))) (sym (by_star tree.no_test behind word (choices_have_star choices || list_star ws before))))
   where
@@ -235,11 +235,11 @@ with_test_is stage k fs ws before kind at choices word kept trail behind =
 
 pub more_test_is : (stage : Stage) (k : Context) (fs : List Frame) (ws : List o.Waiting) (before : Items) (kind : BraceKind) (at : ℕ) (choices : Choices)
     (r : Span) (negated : Bool) (asked : Asked) (others : Tests) (word : List ℕ) (kept trail : ℕ) (behind : Behind)
-    → s.with_label (w.behind_test behind word) (s.with_leaf kinds.Test (s.first_of behind) (s.last_of behind) (hw stage k fs ws before kind at choices (tree.test r negated asked others) [] word kept trail))
+    → s.with_label (w.after_test behind word) (s.with_leaf kinds.Test (s.first_of behind) (s.last_of behind) (hw stage k fs ws before kind at choices (tree.test r negated asked others) [] word kept trail))
     ≡ hw stage k fs ws before kind at choices (tree.test r negated asked (join_tests others (test_by behind word))) [] word kept trail
 more_test_is stage k fs ws before kind at choices r negated asked others word kept trail behind =
     ap (λ z. made stage k fs z word kept trail)
-    (all_leaf (head_star ws h) (choice_level h 0 ∷ brace_level ws h ∷ levels_of ws) (test_nodes (tree.test r negated asked others)) kinds.Test (w.behind_test behind word) (s.first_of behind) (s.last_of behind)
+    (all_leaf (head_star ws h) (choice_level h 0 ∷ brace_level ws h ∷ levels_of ws) (test_nodes (tree.test r negated asked others)) kinds.Test (w.after_test behind word) (s.first_of behind) (s.last_of behind)
     ∙ ap (λ z. all (head_star ws h) (choice_level h 0 ∷ brace_level ws h ∷ levels_of ws) z)
     (ap (λ z. both (test_nodes (tree.test r negated asked others)) z) (sym (by_nodes behind word)) ∙ sym (tests_join (tree.test r negated asked others) (test_by behind word)))
     ∙ ap (λ z. all z (choice_level h 0 ∷ brace_level ws h ∷ levels_of ws) (test_nodes (join_tests (tree.test r negated asked others) (test_by behind word))))
@@ -332,7 +332,7 @@ pub asks_leads : (stage : Stage) (k : Context) {fs : List Frame} {ws : List o.Wa
 asks_leads stage k {fs} {ws} before kind at choices tests patterns word kept trail behind n held_fresh h = by (s.tests behind)
   where
     v : Walk
-    v = s.with_label (w.behind_test behind word) (s.with_leaf kinds.Test (s.first_of behind) (s.last_of behind) (s.open_alternative (s.first_of behind) (hw stage k fs ws before kind at tree.no_choice tree.no_test [] word kept trail)))
+    v = s.with_label (w.after_test behind word) (s.with_leaf kinds.Test (s.first_of behind) (s.last_of behind) (s.open_alternative (s.first_of behind) (hw stage k fs ws before kind at tree.no_choice tree.no_test [] word kept trail)))
 
     by : (t : Bool) → Leads (if t && true then Ok (s.ask (the_head ws before kind at) (the_part ws (hd ws k before kind at tree.no_choice (test_by behind word) []) 0) true (s.starred_of behind) n v) else Err (s.untested at behind))
         (λ again. after (o.turn_colon (hd ws k before kind at tree.no_choice tree.no_test []) (if t then Some (test_by behind word) else None) (is_bare behind) n) ws again n)
@@ -341,7 +341,7 @@ asks_leads stage k {fs} {ws} before kind at choices tests patterns word kept tra
 asks_leads stage k {fs} {ws} before kind at choices tests patterns word kept trail behind n (held_later {r = q} {tests = ts} {items = xs} {choices = cs}) h = by (s.tests behind)
   where
     v : Walk
-    v = s.with_label (w.behind_test behind word) (s.with_leaf kinds.Test (s.first_of behind) (s.last_of behind) (s.open_alternative (s.first_of behind) (hw stage k fs ws before kind at (tree.choice q ts xs cs) tree.no_test [] word kept trail)))
+    v = s.with_label (w.after_test behind word) (s.with_leaf kinds.Test (s.first_of behind) (s.last_of behind) (s.open_alternative (s.first_of behind) (hw stage k fs ws before kind at (tree.choice q ts xs cs) tree.no_test [] word kept trail)))
 
     by : (t : Bool) → Leads (if t && true then Ok (s.ask (the_head ws before kind at) (the_part ws (hd ws k before kind at (tree.choice q ts xs cs) (test_by behind word) []) 0) true (s.starred_of behind) n v) else Err (s.untested at behind))
         (λ again. after (o.turn_colon (hd ws k before kind at (tree.choice q ts xs cs) tree.no_test []) (if t then Some (test_by behind word) else None) (is_bare behind) n) ws again n)
@@ -350,7 +350,7 @@ asks_leads stage k {fs} {ws} before kind at choices tests patterns word kept tra
 asks_leads stage k {fs} {ws} before kind at choices tests patterns word kept trail behind n (held_tests {choices = cs} {r = q} {negated = sign} {asked = a} {tests = ts}) h = by (s.tests behind)
   where
     v : Walk
-    v = s.with_label (w.behind_test behind word) (s.with_leaf kinds.Test (s.first_of behind) (s.last_of behind) (hw stage k fs ws before kind at cs (tree.test q sign a ts) [] word kept trail))
+    v = s.with_label (w.after_test behind word) (s.with_leaf kinds.Test (s.first_of behind) (s.last_of behind) (hw stage k fs ws before kind at cs (tree.test q sign a ts) [] word kept trail))
 
     by : (t : Bool) → Leads (if t && true then Ok (s.ask (the_head ws before kind at) (the_part ws (hd ws k before kind at cs (tree.test q sign a ts) []) 0) true (c.all_starred (tree.test q sign a ts) && s.starred_of behind) n v) else Err (s.untested at behind))
         (λ again. after (o.turn_colon (hd ws k before kind at cs (tree.test q sign a ts) []) (if t then Some (tree.test q sign a (join_tests ts (test_by behind word))) else None) (is_bare behind) n) ws again n)
@@ -373,7 +373,7 @@ pub bars_leads : (stage : Stage) (k : Context) {fs : List Frame} {ws : List o.Wa
 bars_leads stage k {fs} {ws} before kind at choices tests patterns word kept trail behind n held_fresh h = by (s.tests behind)
   where
     v : Walk
-    v = s.with_label (w.behind_test behind word) (s.with_leaf kinds.Test (s.first_of behind) (s.last_of behind) (s.open_alternative (s.first_of behind) (hw stage k fs ws before kind at tree.no_choice tree.no_test [] word kept trail)))
+    v = s.with_label (w.after_test behind word) (s.with_leaf kinds.Test (s.first_of behind) (s.last_of behind) (s.open_alternative (s.first_of behind) (hw stage k fs ws before kind at tree.no_choice tree.no_test [] word kept trail)))
 
     by : (t : Bool) → Leads (if t && true then Ok (s.at_stage (staged.Braces (the_head ws before kind at) (forms.Tests (the_part ws (hd ws k before kind at tree.no_choice (test_by behind word) []) 0) (s.starred_of behind)) places.TestDue) v) else Err (s.untested at behind))
         (λ again. after (o.turn_bar (hd ws k before kind at tree.no_choice tree.no_test []) (if t then Some (test_by behind word) else None) (is_bare behind)) ws again n)
@@ -382,7 +382,7 @@ bars_leads stage k {fs} {ws} before kind at choices tests patterns word kept tra
 bars_leads stage k {fs} {ws} before kind at choices tests patterns word kept trail behind n (held_later {r = q} {tests = ts} {items = xs} {choices = cs}) h = by (s.tests behind)
   where
     v : Walk
-    v = s.with_label (w.behind_test behind word) (s.with_leaf kinds.Test (s.first_of behind) (s.last_of behind) (s.open_alternative (s.first_of behind) (hw stage k fs ws before kind at (tree.choice q ts xs cs) tree.no_test [] word kept trail)))
+    v = s.with_label (w.after_test behind word) (s.with_leaf kinds.Test (s.first_of behind) (s.last_of behind) (s.open_alternative (s.first_of behind) (hw stage k fs ws before kind at (tree.choice q ts xs cs) tree.no_test [] word kept trail)))
 
     by : (t : Bool) → Leads (if t && true then Ok (s.at_stage (staged.Braces (the_head ws before kind at) (forms.Tests (the_part ws (hd ws k before kind at (tree.choice q ts xs cs) (test_by behind word) []) 0) (s.starred_of behind)) places.TestDue) v) else Err (s.untested at behind))
         (λ again. after (o.turn_bar (hd ws k before kind at (tree.choice q ts xs cs) tree.no_test []) (if t then Some (test_by behind word) else None) (is_bare behind)) ws again n)
@@ -391,7 +391,7 @@ bars_leads stage k {fs} {ws} before kind at choices tests patterns word kept tra
 bars_leads stage k {fs} {ws} before kind at choices tests patterns word kept trail behind n (held_tests {choices = cs} {r = q} {negated = sign} {asked = a} {tests = ts}) h = by (s.tests behind)
   where
     v : Walk
-    v = s.with_label (w.behind_test behind word) (s.with_leaf kinds.Test (s.first_of behind) (s.last_of behind) (hw stage k fs ws before kind at cs (tree.test q sign a ts) [] word kept trail))
+    v = s.with_label (w.after_test behind word) (s.with_leaf kinds.Test (s.first_of behind) (s.last_of behind) (hw stage k fs ws before kind at cs (tree.test q sign a ts) [] word kept trail))
 
     by : (t : Bool) → Leads (if t && true then Ok (s.at_stage (staged.Braces (the_head ws before kind at) (forms.Tests (the_part ws (hd ws k before kind at cs (tree.test q sign a ts) []) 0) (c.all_starred (tree.test q sign a ts) && s.starred_of behind)) places.TestDue) v) else Err (s.untested at behind))
         (λ again. after (o.turn_bar (hd ws k before kind at cs (tree.test q sign a ts) []) (if t then Some (tree.test q sign a (join_tests ts (test_by behind word))) else None) (is_bare behind)) ws again n)

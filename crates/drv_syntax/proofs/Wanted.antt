@@ -78,8 +78,8 @@ module _ (size : ℕ) (K : Outside) where
       × IsChoiceRest size (in_braces h.here.context) (join_tests tests others) end choices rest × chooses h choices rest)
       ⊎ (tests ≡ no_test)
 
-  abbrev pub behind_test : Head → Option (List (Span × Pattern)) → Option Tests → List ℕ → Type 0
-  behind_test h patterns tests text = Of (form_1 h text) patterns ⊎ Of (form_2 h text) tests
+  abbrev pub after_test : Head → Option (List (Span × Pattern)) → Option Tests → List ℕ → Type 0
+  after_test h patterns tests text = Of (form_1 h text) patterns ⊎ Of (form_2 h text) tests
 
   -- where a test or a pattern is due
   abbrev pub tests_due : Head → List ℕ → Type 0
@@ -104,11 +104,11 @@ module _ (size : ℕ) (K : Outside) where
 
   abbrev pub word_rest : Head → ℕ → Bool → List ℕ → List ℕ → Type 0
   word_rest h begun negated word text =
-      (p : Pattern) × (mid : List ℕ) × (m : ℕ) × IsPatternRest word text p mid × At size m mid × behind_test h (emitted h begun m negated p) (tested h begun m negated (HasSwitch p)) mid
+      (p : Pattern) × (mid : List ℕ) × (m : ℕ) × IsPatternRest word text p mid × At size m mid × after_test h (emitted h begun m negated p) (tested h begun m negated (HasSwitch p)) mid
 
   abbrev pub marked_plain : Head → ℕ → Bool → ℕ → List ℕ → List ℕ → Type 0
   marked_plain h begun negated mark word mid =
-      (m : ℕ) × At size m mid × Stops (λ b. b == 42) mid × behind_test h (emitted h begun m negated (pattern (mark ∷ word) false)) (tested h begun m negated (o.marked mark word)) mid
+      (m : ℕ) × At size m mid × Stops (λ b. b == 42) mid × after_test h (emitted h begun m negated (pattern (mark ∷ word) false)) (tested h begun m negated (o.marked mark word)) mid
 
   abbrev pub marked_starred : Head → ℕ → Bool → ℕ → List ℕ → List ℕ → Type 0
   marked_starred h begun negated mark word mid =
@@ -188,7 +188,7 @@ module _ (size : ℕ) (K : Outside) where
   Wanted (o.MarkedEscape h begun negated mark word) text = next_byte text (λ b rest. marked_rest h begun negated mark (word ++ b ∷ []) rest)
   Wanted (o.TestPercent h begun negated at) text = next_byte text (λ b rest. (b ≡ 58) × test_call h begun negated [] rest)
   Wanted (o.TestFunction h begun negated at name) text = test_call h begun negated name text
-  Wanted (o.BehindTest h patterns tests bare) text = behind_test h patterns tests text
+  Wanted (o.BehindTest h patterns tests bare) text = after_test h patterns tests text
 
 -- around a list for whose end a directive waits
 abbrev pub Inside : ℕ → Outside → Waiting → Outside

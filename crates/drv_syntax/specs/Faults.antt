@@ -39,7 +39,7 @@ pub data IsOpenAt (size : ℕ) : List ℕ → ℕ → Type 0 where
   open_last : {b n : ℕ} {text : List ℕ} → is_closed_by_end (directive_of b) ≡ true
       → CutsItem size top (ascii.percent ∷ b ∷ text) → n + 1 ≡ size
       → IsOpenAt size (ascii.percent ∷ b ∷ text) n
-  behind_item : {text rest : List ℕ} {item : Item} {n : ℕ} → IsItem size top text item rest
+  after_item : {text rest : List ℕ} {item : Item} {n : ℕ} → IsItem size top text item rest
       → IsOpenAt size rest n → IsOpenAt size text n
 
 -- a text without a tree is cut short, and at this place stands what it leaves open: its outermost

@@ -25,8 +25,8 @@ pub data RunsOut (f : ℕ → Bool) : List ℕ → Type 0 where
 -- patterns, without the brace that closes them
 pub data CutsPatterns : List ℕ → Type 0 where
   in_pattern : {t u : List ℕ} → AreSpaces t u → RunsOut is_word u → CutsPatterns t
-  behind_pattern : {t u v : List ℕ} {p : Pattern} → AreSpaces t u → IsPattern u p v → AreSpaces v [] → CutsPatterns t
-  behind_and : {t u v w : List ℕ} {p : Pattern} → AreSpaces t u → IsPattern u p v → AreSpaces v (ascii.ampersand ∷ w) → CutsPatterns w → CutsPatterns t
+  after_pattern : {t u v : List ℕ} {p : Pattern} → AreSpaces t u → IsPattern u p v → AreSpaces v [] → CutsPatterns t
+  after_and : {t u v w : List ℕ} {p : Pattern} → AreSpaces t u → IsPattern u p v → AreSpaces v (ascii.ampersand ∷ w) → CutsPatterns w → CutsPatterns t
 
 mutual
   -- items, of which the last may be cut
@@ -80,8 +80,8 @@ mutual
   -- tests, without their colon
   pub data CutsTests (size : ℕ) : Context → List ℕ → Type 0 where
     in_asked : {c : Context} {t u v : List ℕ} {negated : Bool} → AreSpaces t u → IsSign u negated v → CutsAsked size c v → CutsTests size c t
-    behind_asked : {c : Context} {t u v w : List ℕ} {negated : Bool} {asked : Asked} → AreSpaces t u → IsSign u negated v → IsAsked size c v asked w → AreSpaces w [] → CutsTests size c t
-    behind_bar : {c : Context} {t u v w x : List ℕ} {negated : Bool} {asked : Asked} → AreSpaces t u → IsSign u negated v → IsAsked size c v asked w → AreSpaces w (ascii.bar ∷ x)
+    after_asked : {c : Context} {t u v w : List ℕ} {negated : Bool} {asked : Asked} → AreSpaces t u → IsSign u negated v → IsAsked size c v asked w → AreSpaces w [] → CutsTests size c t
+    after_bar : {c : Context} {t u v w x : List ℕ} {negated : Bool} {asked : Asked} → AreSpaces t u → IsSign u negated v → IsAsked size c v asked w → AreSpaces w (ascii.bar ∷ x)
         → CutsTests size c x → CutsTests size c t
 
   -- what a test asks

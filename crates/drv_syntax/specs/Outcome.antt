@@ -235,8 +235,8 @@ abbrev pub turn_and : Head → Option (List (Span × Pattern)) → Turn
 turn_and h (Some patterns) = Goes (PatternDue (with_patterns h patterns))
 turn_and h None = Refused (BadDirective h.at)
 
-abbrev pub turn_behind : Head → Option (List (Span × Pattern)) → Option Tests → Bool → ℕ → ℕ → Turn
-turn_behind h patterns tests bare n b =
+abbrev pub turn_after : Head → Option (List (Span × Pattern)) → Option Tests → Bool → ℕ → ℕ → Turn
+turn_after h patterns tests bare n b =
     if is_space b then Goes (BehindTest h patterns tests bare)
     else if b == ascii.closing_brace then turn_brace h patterns n
     else if b == ascii.ampersand then turn_and h patterns
@@ -263,15 +263,15 @@ abbrev pub tested : Head → ℕ → ℕ → Bool → Asked → Option Tests
 tested h start end negated asked = tested_by h.patterns (join_tests h.tests (test (span start end) negated asked no_test))
 
 -- behind a pattern that ends at this place
-abbrev pub behind_pattern : Head → ℕ → ℕ → Bool → Pattern → Place
-behind_pattern h start end negated p = BehindTest h (emitted h start end negated p) (tested h start end negated (HasSwitch p)) false
+abbrev pub after_pattern : Head → ℕ → ℕ → Bool → Pattern → Place
+after_pattern h start end negated p = BehindTest h (emitted h start end negated p) (tested h start end negated (HasSwitch p)) false
 
 abbrev pub turn_word : Head → ℕ → Bool → List ℕ → ℕ → ℕ → Turn
 turn_word h start negated word n b =
     if b == ascii.backslash then Goes (TestWordEscape h start negated word)
     else if is_word b then Goes (TestWord h start negated (word ++ b ∷ []))
-    else if b == ascii.asterisk then Goes (behind_pattern h start (n + 1) negated (pattern word true))
-    else turn_behind h (emitted h start n negated (pattern word false)) (tested h start n negated (HasSwitch (pattern word false))) false n b
+    else if b == ascii.asterisk then Goes (after_pattern h start (n + 1) negated (pattern word true))
+    else turn_after h (emitted h start n negated (pattern word false)) (tested h start n negated (HasSwitch (pattern word false))) false n b
 
 abbrev pub marked : ℕ → List ℕ → Asked
 marked mark word = if mark == ascii.period then HasSuffix word else HasLanguage word
@@ -301,7 +301,7 @@ turn_marked_word h start negated mark word n b =
     if b == ascii.backslash then Goes (MarkedEscape h start negated mark word)
     else if is_word b then Goes (MarkedWord h start negated mark (word ++ b ∷ []))
     else if b == ascii.asterisk then turn_starred_mark h (emitted h start (n + 1) negated (pattern (mark ∷ word) true))
-    else turn_behind h (emitted h start n negated (pattern (mark ∷ word) false)) (tested h start n negated (marked mark word)) false n b
+    else turn_after h (emitted h start n negated (pattern (mark ∷ word) false)) (tested h start n negated (marked mark word)) false n b
 
 -- where a test's pattern, mark or function is due
 abbrev pub turn_asked : Head → ℕ → Bool → ℕ → ℕ → Turn
@@ -309,7 +309,7 @@ turn_asked h start negated n b =
     if b == ascii.backslash then Goes (TestWordEscape h start negated [])
     else if is_mark b then Goes (TestMark h start negated b)
     else if is_word b then Goes (TestWord h start negated (b ∷ []))
-    else if b == ascii.asterisk then Goes (behind_pattern h start (n + 1) negated (pattern [] true))
+    else if b == ascii.asterisk then Goes (after_pattern h start (n + 1) negated (pattern [] true))
     else if b == ascii.percent then nested (h.here.context.levels - 1) n (Goes (TestPercent h start negated n))
     else Refused (EmptyTest h.at)
 
@@ -321,7 +321,7 @@ turn_pattern h n b =
     if is_space b then Goes (PatternDue h)
     else if b == ascii.backslash then Goes (TestWordEscape h n false [])
     else if is_word b then Goes (TestWord h n false (b ∷ []))
-    else if b == ascii.asterisk then Goes (behind_pattern h n (n + 1) false (pattern [] true))
+    else if b == ascii.asterisk then Goes (after_pattern h n (n + 1) false (pattern [] true))
     else Refused (EmptyTest h.at)
 
 -- where an alternative begins, which may be a default
@@ -359,7 +359,7 @@ turn (MarkedEscape h start negated mark word) n b = Goes (MarkedWord h start neg
 turn (TestPercent h start negated at) n b = if b == ascii.colon then Goes (TestFunction h start negated at []) else Refused (BadDirective at)
 turn (TestFunction h start negated at name) n b =
     turn_function at name b (Opens (list_in (in_arguments (in_braces h.here.context))) (WaitsTest h start negated name)) (TestFunction h start negated at (name ++ b ∷ []))
-turn (BehindTest h patterns tests bare) n b = turn_behind h patterns tests bare n b
+turn (BehindTest h patterns tests bare) n b = turn_after h patterns tests bare n b
 
 -- how a directive goes on behind the list in it, and behind the byte b at the place n that ended it
 pub data Resumed : Type 0 where

@@ -59,21 +59,21 @@ ends_either = codes ":|}&"
 pub data ReachesPatterns (n : ℕ) : List ℕ → Due → List ℕ → Type 0 where
   pattern_due : {text rest : List ℕ} → AreSpaces text rest → ReachesPatterns n text (APattern n) rest
   pattern_ends : {t u v rest : List ℕ} {p : Pattern} → AreSpaces t u → IsPattern u p v → AreSpaces v rest → ReachesPatterns n t (AnEnd n ends_pattern) rest
-  behind_and : {t u v w rest : List ℕ} {p : Pattern} {due : Due} → AreSpaces t u → IsPattern u p v → AreSpaces v (ascii.ampersand ∷ w) → ReachesPatterns n w due rest → ReachesPatterns n t due rest
+  after_and : {t u v w rest : List ℕ} {p : Pattern} {due : Due} → AreSpaces t u → IsPattern u p v → AreSpaces v (ascii.ampersand ∷ w) → ReachesPatterns n w due rest → ReachesPatterns n t due rest
 
 -- in braces that are patterns, or are not alternatives yet
 pub data ReachesEmits (n : ℕ) : List ℕ → Due → List ℕ → Type 0 where
   starred_ends : {mark : ℕ} {t u v word rest : List ℕ} → AreSpaces t (mark ∷ u) → is_mark mark ≡ true → IsPattern (mark ∷ u) (pattern word true) v → AreSpaces v rest
       → ReachesEmits n t (AnEnd n ends_pattern) rest
-  behind_mark : {mark : ℕ} {t rest : List ℕ} → AreSpaces t (mark ∷ rest) → is_mark mark ≡ true → IsPattern (mark ∷ rest) (pattern (mark ∷ []) false) rest → ReachesEmits n t (BehindMark n) rest
+  after_mark : {mark : ℕ} {t rest : List ℕ} → AreSpaces t (mark ∷ rest) → is_mark mark ≡ true → IsPattern (mark ∷ rest) (pattern (mark ∷ []) false) rest → ReachesEmits n t (BehindMark n) rest
   past_mark : {mark b : ℕ} {t u rest : List ℕ} → AreSpaces t (mark ∷ b ∷ u) → is_mark mark ≡ true → is_space b ≡ true → AreSpaces u rest → ReachesEmits n t (PastMark n) rest
-  behind_first : {t u v w rest : List ℕ} {p : Pattern} {due : Due} → AreSpaces t u → IsPattern u p v → AreSpaces v (ascii.ampersand ∷ w) → ReachesPatterns n w due rest → ReachesEmits n t due rest
+  after_first : {t u v w rest : List ℕ} {p : Pattern} {due : Due} → AreSpaces t u → IsPattern u p v → AreSpaces v (ascii.ampersand ∷ w) → ReachesPatterns n w due rest → ReachesEmits n t due rest
 
 mutual
   -- a list leads to a place where this is due, and to the rest of the text there
   pub data Reaches (size : ℕ) : Context → List ℕ → Due → List ℕ → Type 0 where
     item_due : {c : Context} {rest : List ℕ} → Reaches size c rest (AnItem c) rest
-    behind_item : {c : Context} {text mid rest : List ℕ} {item : Item} {due : Due} → IsItem size c text item mid → Reaches size c mid due rest → Reaches size c text due rest
+    after_item : {c : Context} {text mid rest : List ℕ} {item : Item} {due : Due} → IsItem size c text item mid → Reaches size c mid due rest → Reaches size c text due rest
     in_directive : {c : Context} {n b : ℕ} {text rest : List ℕ} {due : Due} → At size n (ascii.percent ∷ b ∷ text) → is_allowed c.in_arguments b ≡ true → ReachesIn size c n (directive_of b) text due rest
         → Reaches size c (ascii.percent ∷ b ∷ text) due rest
 
@@ -95,21 +95,21 @@ mutual
     to_tests : {c : Context} {n : ℕ} {order : Order} {text rest : List ℕ} {due : Due} → ReachesTests size c n order text due rest → ReachesChoices size c n order text due rest
     to_x : {c : Context} {n : ℕ} {order : Order} {text mid rest : List ℕ} {tests : Tests} {due : Due} → AreTests size c text tests (ascii.colon ∷ mid) → Reaches size (in_x c tests) mid due rest
         → ReachesChoices size c n order text due rest
-    behind_x : {c : Context} {n : ℕ} {order : Order} {text mid next rest : List ℕ} {tests : Tests} {items : Items} {due : Due} → AreTests size c text tests (ascii.colon ∷ mid)
+    after_x : {c : Context} {n : ℕ} {order : Order} {text mid next rest : List ℕ} {tests : Tests} {items : Items} {due : Due} → AreTests size c text tests (ascii.colon ∷ mid)
         → AreItems size (in_x c tests) mid items (ascii.semicolon ∷ next) → ReachesLater size c n next due rest → ReachesChoices size c n order text due rest
 
   -- in alternatives behind the first
   pub data ReachesLater (size : ℕ) : Context → ℕ → List ℕ → Due → List ℕ → Type 0 where
     to_next : {c : Context} {n : ℕ} {text rest : List ℕ} {due : Due} → ReachesChoices size c n AtNext text due rest → ReachesLater size c n text due rest
     to_default : {c : Context} {n : ℕ} {text mid rest : List ℕ} {due : Due} → AreSpaces text (ascii.colon ∷ mid) → Reaches size (in_x c no_test) mid due rest → ReachesLater size c n text due rest
-    behind_default : {c : Context} {n : ℕ} {text mid rest : List ℕ} {items : Items} → AreSpaces text (ascii.colon ∷ mid) → AreItems size (in_x c no_test) mid items (ascii.semicolon ∷ rest)
+    after_default : {c : Context} {n : ℕ} {text mid rest : List ℕ} {items : Items} → AreSpaces text (ascii.colon ∷ mid) → AreItems size (in_x c no_test) mid items (ascii.semicolon ∷ rest)
         → ReachesLater size c n text (NoMore n) (ascii.semicolon ∷ rest)
 
   -- in tests, of which the first stands there
   pub data ReachesTests (size : ℕ) : Context → ℕ → Order → List ℕ → Due → List ℕ → Type 0 where
     in_test : {c : Context} {n : ℕ} {order : Order} {t u v rest : List ℕ} {negated : Bool} {due : Due} → AreSpaces t u → IsSign u negated v → ReachesAsked size c n order negated v due rest
         → ReachesTests size c n order t due rest
-    behind_bar : {c : Context} {n : ℕ} {order : Order} {t u v w x rest : List ℕ} {negated : Bool} {asked : Asked} {due : Due} → AreSpaces t u → IsSign u negated v → IsAsked size c v asked w
+    after_bar : {c : Context} {n : ℕ} {order : Order} {t u v w x rest : List ℕ} {negated : Bool} {asked : Asked} {due : Due} → AreSpaces t u → IsSign u negated v → IsAsked size c v asked w
         → AreSpaces w (ascii.bar ∷ x) → ReachesTests size c n AtBar x due rest → ReachesTests size c n order t due rest
 
   -- in a test and behind it

@@ -19,7 +19,7 @@ pub fn shortest_prefix()
 {}
 
 /// A text that has a front, which with the next byte is none, is refused at that byte.
-pub fn refused_behind_front()
+pub fn refused_after_front()
     ensures { (text : List ℕ) (k : ℕ) → k < length text → Front (take k text) → (Front (take (k + 1) text) → ⊥) → (fault : SyntaxFault) × (read text ≡ Bad k fault) }
 {}
 

@@ -18,4 +18,4 @@ mod turns;
 mod walk;
 
 pub use ending::Ended;
-pub use reading::{read_behind, read_nothing, read_text};
+pub use reading::{read_after, read_nothing, read_text};

@@ -13,7 +13,7 @@ ghost use Rattle.std.specs.Prelude.{◌≡◌, ◌<◌, ◌++◌, [], IfErr, IfO
 use crate::fault::SyntaxFault;
 use crate::labels::Labels;
 use crate::lent::LentLabels;
-use crate::reader::{Ended, read_behind, read_nothing, read_text};
+use crate::reader::{Ended, read_after, read_nothing, read_text};
 use crate::token::{TestKind, Token};
 use crate::written::WrittenTree;
 use std::alloc::{AllocError, Global};
@@ -163,7 +163,7 @@ impl SpecTree {
         if !ended.ending.goes_on(more) {
             return parse(alloc, text.as_slice());
         }
-        let ended = read_behind(start as u32, more, ended.walk)?;
+        let ended = read_after(start as u32, more, ended.walk)?;
         Ok(SpecTree {
             text,
             parts: Parts::Read(ended),

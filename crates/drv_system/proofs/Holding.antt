@@ -1,6 +1,6 @@
 use Rattle.drv_system.specs.Code.Holding.{AreBelow, Holds, IsBelow, Numbered}
 use Rattle.drv_system.specs.Running.{made, run_of}
-use Rattle.drv_system.specs.Script.{children_behind, start_numbered}
+use Rattle.drv_system.specs.Script.{children_after, start_numbered}
 use Rattle.drv_system.proofs.Running.{pending-append, run_of-append}
 use Rattle.drv_system.specs.declared.event.Event.{Event}
 use Rattle.drv_words.specs.Stepping.{fits_start, is_child, pending_with, pipe_pending}
@@ -69,18 +69,18 @@ holds_beside {events = events} {events' = events'} event holds is none same_n sa
 }
 
 -- a step may start one
-pub numbered_behind : {n m : ℕ} {events events' : List Event} (step : Step) (a : Answer) → Numbered n events → events' ≡ events ++ made step a ∷ []
+pub numbered_after : {n m : ℕ} {events events' : List Event} (step : Step) (a : Answer) → Numbered n events → events' ≡ events ++ made step a ∷ []
     → n ≤ m → m ≤ n + 1 → IsBelow m a → Numbered m events'
-numbered_behind {n} {m} {events} {events'} step a numbered is le ge last = record {
+numbered_after {n} {m} {events} {events'} step a numbered is le ge last = record {
   below = subst (λ run. AreBelow m run) (sym (behind events events' step a is))
       (below_more n m (run_of events) (record { step = step; answer = a }) le numbered.below last);
   few = one_more n m events events' (made step a) is numbered.few ge;
 }
 
-pub holds_behind : {n m : ℕ} {p q : Bool} {events events' : List Event} (step : Step) (a : Answer) → Holds n p events → events' ≡ events ++ made step a ∷ []
+pub holds_after : {n m : ℕ} {p q : Bool} {events events' : List Event} (step : Step) (a : Answer) → Holds n p events → events' ≡ events ++ made step a ∷ []
     → n ≤ m → m ≤ n + 1 → IsBelow m a → q ≡ pending_with p step a → Holds m q events'
-holds_behind {events = events} {events' = events'} step a holds is le ge last pipe = record {
-  numbered = numbered_behind step a holds.numbered is le ge last;
+holds_after {events = events} {events' = events'} step a holds is le ge last pipe = record {
+  numbered = numbered_after step a holds.numbered is le ge last;
   pipe = pipe ∙ ap (λ pending. pending_with pending step a) holds.pipe
       ∙ sym (pending-append (run_of events) (record { step = step; answer = a })) ∙ ap pipe_pending (sym (behind events events' step a is));
 }
@@ -93,12 +93,12 @@ pub holds_started : {n m l : ℕ} {p q : Bool} {events events' : List Event} (st
     → events' ≡ events ++ made step (answer.Start (start.Started l)) ∷ [] → m ≡ n + 1 → l ≡ n
     → q ≡ pending_with p step (answer.Start (start.Started l)) → Holds m q events'
 holds_started {n = n} {m = m} {l = l} step holds is more same pipe =
-    let numbers = next_number n m l more same in holds_behind step (answer.Start (start.Started l)) holds is numbers.0 numbers.1 numbers.2 pipe
+    let numbers = next_number n m l more same in holds_after step (answer.Start (start.Started l)) holds is numbers.0 numbers.1 numbers.2 pipe
 
 -- the same, where the number of children stays
 pub numbered_step : {n m : ℕ} {events events' : List Event} (step : Step) (a : Answer) → Numbered n events → events' ≡ events ++ made step a ∷ []
     → m ≡ n → IsBelow n a → Numbered m events'
-numbered_step {n} {m} {events} {events'} step a numbered is same last = rw same (numbered_behind {n = n} {m = n} {events = events} {events' = events'} step a numbered is (le_itself n) (no_more n) last)
+numbered_step {n} {m} {events} {events'} step a numbered is same last = rw same (numbered_after {n = n} {m = n} {events = events} {events' = events'} step a numbered is (le_itself n) (no_more n) last)
   where
     le_itself : (n : ℕ) → n ≤ n
     le_itself n = omega arith
@@ -135,7 +135,7 @@ pub holds_is_new : {n : ℕ} {p : Bool} {events : List Event} {x : StartAnswer} 
 holds_is_new holds is = new_number holds.numbered is
 
 -- a script's children
-started_below : (n : ℕ) (taken : Option StartAnswer) → IsBelow (children_behind n (start_numbered n taken)) (answer.Start (start_numbered n taken))
+started_below : (n : ℕ) (taken : Option StartAnswer) → IsBelow (children_after n (start_numbered n taken)) (answer.Start (start_numbered n taken))
 started_below n None = lt_next n
   where
     lt_next : (n : ℕ) → n < n + 1
@@ -146,15 +146,15 @@ started_below n (Some (start.Started id)) = lt_next n
     lt_next n = omega arith
 started_below n (Some (start.NotStarted why)) = tt
 
-children_grow : (n : ℕ) (x : StartAnswer) → (n ≤ children_behind n x) × (children_behind n x ≤ n + 1)
+children_grow : (n : ℕ) (x : StartAnswer) → (n ≤ children_after n x) × (children_after n x ≤ n + 1)
 children_grow n (start.Started id) = (omega arith, omega arith)
 children_grow n (start.NotStarted why) = (omega arith, omega arith)
 
 pub numbered_start : {n m : ℕ} {events events' : List Event} {x : StartAnswer} (step : Step) (taken : Option StartAnswer) → Numbered n events
-    → events' ≡ events ++ made step (answer.Start x) ∷ [] → x ≡ start_numbered n taken → m ≡ children_behind n x → Numbered m events'
+    → events' ≡ events ++ made step (answer.Start x) ∷ [] → x ≡ start_numbered n taken → m ≡ children_after n x → Numbered m events'
 numbered_start {n} {m} {events} {events'} {x} step taken numbered is numbers count =
-    rw count (numbered_behind {n = n} {m = children_behind n x} {events = events} {events' = events'} step (answer.Start x) numbered is (children_grow n x).0 (children_grow n x).1
-    (subst (λ y. IsBelow (children_behind n y) (answer.Start y)) (sym numbers) (started_below n taken)))
+    rw count (numbered_after {n = n} {m = children_after n x} {events = events} {events' = events'} step (answer.Start x) numbered is (children_grow n x).0 (children_grow n x).1
+    (subst (λ y. IsBelow (children_after n y) (answer.Start y)) (sym numbers) (started_below n taken)))
 
 pub script_is_new : {n : ℕ} {events : List Event} {x : StartAnswer} (taken : Option StartAnswer) → Numbered n events → x ≡ start_numbered n taken
     → fits_start (run_of events) x ≡ true

@@ -73,8 +73,8 @@ and_parts true b e = (refl, e)
 and_parts false b e = absurd cc
 
 -- the condition of `wait` behind any journal, for a child that the run's own events have open
-pub open_behind : (place : Place) (id : ℕ) (journal after : List Event) → is_open place id (run_of after) ≡ true → is_child_open place id (journal ++ after) ≡ true
-open_behind place id journal after is =
+pub open_after : (place : Place) (id : ℕ) (journal after : List Event) → is_open place id (run_of after) ≡ true → is_child_open place id (journal ++ after) ≡ true
+open_after place id journal after is =
     let both = and_parts (list_any (λ (e : RunEvent). is_start_at place e.step && is_child id e.answer) (run_of after)) _ is in
     ap (λ run. open_from place id false run) (run_of-append journal after)
     ∙ open_from-append place id false (run_of journal) (run_of after)

@@ -106,6 +106,6 @@ abbrev pub scripted_removal : Script → RemoveAnswer
 scripted_removal script = unwrap_or (removal_in (front script)) remove.Removed
 
 -- how many children there are behind a start
-abbrev pub children_behind : ℕ → StartAnswer → ℕ
-children_behind n (start.Started id) = n + 1
-children_behind n (start.NotStarted why) = n
+abbrev pub children_after : ℕ → StartAnswer → ℕ
+children_after n (start.Started id) = n + 1
+children_after n (start.NotStarted why) = n

@@ -168,7 +168,7 @@ impl System for HostSystem {
         answer
     }
 
-    #[tactic(auto, using(crate::proofs::Holding::holds_behind, crate::proofs::Holding::holds_step, crate::proofs::Holding::holds_is_new))]
+    #[tactic(auto, using(crate::proofs::Holding::holds_after, crate::proofs::Holding::holds_step, crate::proofs::Holding::holds_is_new))]
     /// Starts a program that is looked for along PATH where its name has no slash. A file that is
     /// neither a program nor begins with `#!` is not started. A child has this process's standard
     /// streams but for the pipes, and no other open file.

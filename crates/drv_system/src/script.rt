@@ -2,7 +2,7 @@
 
 ghost use Rattle.drv_system.specs.Limit.{IsWithinLimit};
 ghost use Rattle.drv_system.specs.Running.{is_told, made, run_of};
-ghost use Rattle.drv_system.specs.Script.{behind, children_behind, claim_in, front, read_as, removal_in, script_children, scripted_claim, scripted_kind, scripted_read, scripted_removal, scripted_start, scripted_telling, scripted_variable, scripted_wait, start_in, start_numbered, wait_in};
+ghost use Rattle.drv_system.specs.Script.{behind, children_after, claim_in, front, read_as, removal_in, script_children, scripted_claim, scripted_kind, scripted_read, scripted_removal, scripted_start, scripted_telling, scripted_variable, scripted_wait, start_in, start_numbered, wait_in};
 ghost use Rattle.drv_system.specs.declared.event.Event.TheVariants as event;
 ghost use Rattle.drv_system.specs.declared.event.TellAnswer.TheVariants as tell;
 ghost use Rattle.drv_words.specs.Stepping.{fits_start};
@@ -256,7 +256,7 @@ impl System for ScriptSystem {
         ensures answer { result ≡ scripted_start self.old.children self.old.script }
         ensures script { self.new.script
             ≡ behind (start_in (front self.old.script)) self.old.script }
-        ensures started { self.new.children ≡ children_behind self.old.children result }
+        ensures started { self.new.children ≡ children_after self.old.children result }
     {
         let _asked = plan;
         let taken = start_of(front_of(self.answers.as_slice(), self.taken));
@@ -434,7 +434,7 @@ fn removal_of(front: Option<Answer>) -> Option<RemoveAnswer>
 /// How many children there are behind a start.
 fn count_with(children: u64, answer: StartAnswer) -> u64
     requires { children < 18446744073709551615 }
-    ensures { result ≡ children_behind children answer }
+    ensures { result ≡ children_after children answer }
 {
     match answer {
         StartAnswer::Started(_) => children + 1,

@@ -80,9 +80,9 @@ any_run : (text : List ℕ) (words : List (List ℕ)) (word : Option (List ℕ))
 any_run text words None some = run_opens text words some
 any_run text words (Some word) some = run_taken text words word
 
-behind_run : (s : Splitter) (text run rest : List ℕ) (count : ℕ) → is_outside s ≡ true → count ≡ plain_length text → 0 < count
+after_run : (s : Splitter) (text run rest : List ℕ) (count : ℕ) → is_outside s ≡ true → count ≡ plain_length text → 0 < count
     → run ≡ take count text → rest ≡ drop count text → words_of (outside s.words (Some (open_word s.word ++ run))) rest ≡ words_of s text
-behind_run s text run rest count is counted some front behind =
+after_run s text run rest count is counted some front behind =
     let n : 0 < plain_length text = let P : ℕ → Type 0 = λ m. 0 < m in subst P counted some in
     let first : run ≡ take (plain_length text) text = front ∙ ap (λ m. take m text) counted in
     let second : rest ≡ drop (plain_length text) text = behind ∙ ap (λ m. drop m text) counted in
@@ -95,7 +95,7 @@ pub run_goes : (s after : Splitter) (text run rest : List ℕ) (count : ℕ) →
     → run ≡ take count text → rest ≡ drop count text → after ≡ with_bytes s run → words_of after rest ≡ words_of s text
 run_goes s after text run rest count is counted some front behind taken =
     ap (λ a. words_of a rest) (taken ∙ ap (λ (t : Splitter). record t { word = Some (open_word s.word ++ run) }) (outside_is s is))
-    ∙ behind_run s text run rest count is counted some front behind
+    ∙ after_run s text run rest count is counted some front behind
 
 no_word : (word : Option (List ℕ)) (none : Bool) → is_some word ≡ not none → none ≡ true → word ≡ None
 no_word None none e is = refl
@@ -119,4 +119,4 @@ word_goes s text run word (byte ∷ behind) words count space none is counted so
     ∙ ap (λ held. words_of (outside words held) behind) empty
     ∙ ap (λ ws. words_of (outside ws None) behind) (added ∙ ap (λ w. s.words ++ w ∷ []) copied)
     ∙ over ∙ ap (λ held. words_of (outside s.words (Some (open_word held ++ run))) (byte ∷ behind)) (sym empty)
-    ∙ behind_run s text run (byte ∷ behind) count is counted some front back
+    ∙ after_run s text run (byte ∷ behind) count is counted some front back

@@ -248,7 +248,7 @@ escape_takes lines program words word b text is none = by (is_special b) refl
 -- a byte behind the bar
 bar_takes : (lines : List PlanLine) (program : Option (List ℕ)) (words : List (List ℕ)) (b : ℕ) (text : List ℕ)
     → text ≡ lines_text lines ++ open_text program words ++ 32 ∷ 124 ∷ [] → NoWords program words
-    → Takes (r.behind_bar (at lines program words [] Bar) b) (text ++ b ∷ [])
+    → Takes (r.after_bar (at lines program words [] Bar) b) (text ++ b ∷ [])
 bar_takes lines program words b text is none = by (b == 10) refl
   where
     by : (newline : Bool) → (b == 10) ≡ newline

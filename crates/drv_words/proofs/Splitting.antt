@@ -97,7 +97,7 @@ record Goes (text : List ℕ) : Type 0 where
   went : Went text
   ran : (mark : ℕ) → Ran mark text
   behind : Begun (92 ∷ text)
-  ran_behind : (mark : ℕ) → Ran mark (92 ∷ text)
+  ran_after : (mark : ℕ) → Ran mark (92 ∷ text)
 
 begun_goes : {text : List ℕ} → Begun text → Went text
 begun_goes begun = record { word = begun.bytes ++ begun.word; rest = begun.rest; words = begun.words; pieces = more begun.piece begun.pieces; others = begun.others }
@@ -127,7 +127,7 @@ runs b text goes mark = by (b == mark) refl (b == 92) refl
     by true e slash f =
         let P : ℕ → Type 0 = λ c. Ran mark (c ∷ text) in
         subst P (sym (eqb-true b mark e)) (record { bytes = []; mid = text; run = run_closed; went = goes.went })
-    by false e true f = let P : ℕ → Type 0 = λ c. Ran mark (c ∷ text) in subst P (sym (eqb-true b 92 f)) (goes.ran_behind mark)
+    by false e true f = let P : ℕ → Type 0 = λ c. Ran mark (c ∷ text) in subst P (sym (eqb-true b 92 f)) (goes.ran_after mark)
     by false e false f =
         let ran : Ran mark text = goes.ran mark in
         record { bytes = b ∷ ran.bytes; mid = ran.mid; run = run_plain e f ran.run; went = ran.went }
@@ -139,7 +139,7 @@ goes_on [] = record {
   went = at_the_end;
   ran = λ mark. record { bytes = []; mid = []; run = run_unclosed; went = at_the_end };
   behind = record { bytes = []; mid = []; word = []; rest = []; words = []; piece = backslash; pieces = no_more at_end; others = nothing };
-  ran_behind = λ mark. record { bytes = []; mid = []; run = run_backslash; went = at_the_end };
+  ran_after = λ mark. record { bytes = []; mid = []; run = run_backslash; went = at_the_end };
 }
 goes_on (b ∷ text) = by (is_space b) refl (goes_on text)
   where
@@ -156,7 +156,7 @@ goes_on (b ∷ text) = by (is_space b) refl (goes_on text)
       went = record { word = []; rest = b ∷ text; words = goes.words; pieces = no_more (at_space s); others = space s goes.splits };
       ran = runs b text goes;
       behind = escape goes;
-      ran_behind = run_escape goes;
+      ran_after = run_escape goes;
     }
     by false s goes =
         let begun : Begun (b ∷ text) = begins b text s goes in
@@ -166,7 +166,7 @@ goes_on (b ∷ text) = by (is_space b) refl (goes_on text)
           went = begun_goes begun;
           ran = runs b text goes;
           behind = escape goes;
-          ran_behind = run_escape goes;
+          ran_after = run_escape goes;
         }
 
 -- what the splitter gives is in the grammar, and nothing else is

@@ -15,12 +15,12 @@ use Rattle.std.specs.Prelude.{◌&&◌, Bool, List, [], ◌∷◌, false, if◌t
 -- When a step can be made, over the run's events so far, and which answers it can have (this project's profile).
 
 -- whether a pipe is pending behind one more event: a started child takes the one that is, and may leave a new one
-abbrev pub pending_behind_start : Bool → Bool → StartAnswer → Bool
-pending_behind_start pending to_pipe (start.Started id) = to_pipe
-pending_behind_start pending to_pipe (start.NotStarted why) = pending
+abbrev pub pending_after_start : Bool → Bool → StartAnswer → Bool
+pending_after_start pending to_pipe (start.Started id) = to_pipe
+pending_after_start pending to_pipe (start.NotStarted why) = pending
 
 abbrev pub pending_with : Bool → Step → Answer → Bool
-pending_with pending (step.Start p from_pipe to_pipe) (answer.Start x) = pending_behind_start pending to_pipe x
+pending_with pending (step.Start p from_pipe to_pipe) (answer.Start x) = pending_after_start pending to_pipe x
 pending_with pending step.ClosePipe a = false
 pending_with pending s a = pending
 

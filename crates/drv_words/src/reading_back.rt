@@ -1,7 +1,7 @@
 //! Reading printed lines back.
 
 ghost use Rattle.drv_words.specs.Printed.{Shows};
-ghost use Rattle.drv_words.specs.Code.LineReader.{at_word, bare, behind_bar, between, escape, finished, inside, lines_read, start, step, with_line, with_word};
+ghost use Rattle.drv_words.specs.Code.LineReader.{at_word, bare, after_bar, between, escape, finished, inside, lines_read, start, step, with_line, with_word};
 ghost use Rattle.drv_words.specs.declared.plan.PlanLine.{PlanLine};
 ghost use Rattle.std.specs.Prelude.{◌≡◌, IfOk, IfSome, List, OnOk, Some, ℕ};
 
@@ -147,8 +147,8 @@ impl LineReader {
         Ok(())
     }
 
-    fn take_behind_bar(&mut self, alloc: Global, byte: u8) -> Result<(), AllocError>
-        ensures { OnOk result (self.new ≡ behind_bar self.old byte) }
+    fn take_after_bar(&mut self, alloc: Global, byte: u8) -> Result<(), AllocError>
+        ensures { OnOk result (self.new ≡ after_bar self.old byte) }
     {
         if byte == b'\n' {
             return self.end_line(alloc, true);
@@ -167,7 +167,7 @@ impl LineReader {
             Place::Bare => self.take_bare(alloc, byte),
             Place::Quoted => self.take_quoted(alloc, byte),
             Place::Escaped => self.take_escaped(byte),
-            Place::Bar => self.take_behind_bar(alloc, byte),
+            Place::Bar => self.take_after_bar(alloc, byte),
             Place::Wrong => Ok(()),
         }
     }

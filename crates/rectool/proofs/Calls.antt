@@ -1,4 +1,4 @@
-use Rattle.rectool.specs.Call.{code_behind, code_of, file_named, number_behind, with_digit}
+use Rattle.rectool.specs.Call.{code_after, code_of, file_named, number_after, with_digit}
 use Rattle.std.proofs.Common.{◌≡◌, ◌<◌, ◌≤◌, ◌*◌, ◌+◌, ◌-◌, ◌&&◌, ◌==◌, Bool, List, [], ◌∷◌, None, Option, Some, ap, arith, drop, false, get_or, refl, sym, true, ◌∙◌, ℕ}
 use Rattle.std.proofs.lemmas.Bool.Decides.{nat_tests}
 use Rattle.std.proofs.lemmas.List.{drop_all, drop_more}
@@ -9,9 +9,9 @@ use Rattle.std.specs.Prelude.{if◌then◌else◌, length, nat_le}
 
 -- The last of the values that words have, whatever stood before the first.
 
-pub last_behind : {X : Type 0} (d : X) (xs : List X) → unwrap_or (last_or (Some d) xs) d ≡ unwrap_or (last_or None xs) d
-last_behind d [] = refl
-last_behind d (x ∷ xs) = refl
+pub last_after : {X : Type 0} (d : X) (xs : List X) → unwrap_or (last_or (Some d) xs) d ≡ unwrap_or (last_or None xs) d
+last_after d [] = refl
+last_after d (x ∷ xs) = refl
 
 -- What stands behind the last `-o`, as far as a walk has come.
 
@@ -29,10 +29,10 @@ nothing_here (Some path) before = refl
 
 -- A number grows with each digit.
 
-grows : (n : ℕ) (digits : List ℕ) → n ≤ number_behind n digits
+grows : (n : ℕ) (digits : List ℕ) → n ≤ number_after n digits
 grows n [] = omega arith
 grows n (digit ∷ digits) =
-    let more : n * 10 + (digit - 48) ≤ number_behind (n * 10 + (digit - 48)) digits = grows (n * 10 + (digit - 48)) digits in omega (arith, more)
+    let more : n * 10 + (digit - 48) ≤ number_after (n * 10 + (digit - 48)) digits = grows (n * 10 + (digit - 48)) digits in omega (arith, more)
 
 no_code : (are_digits is_small : Bool) (n : ℕ) → is_small ≡ false → (if are_digits && is_small then Some n else None) ≡ None
 no_code true small n is = rw is refl
@@ -46,44 +46,44 @@ above n m more large = grind (arith, nat_tests)
 some_is : {a b : ℕ} → Some a ≡ Some b → a ≡ b
 some_is {a} {b} e = ap (λ o. unwrap_or o 0) e
 
-pub one_more : (n digit m : ℕ) (digits : List ℕ) → with_digit n digit ≡ Some m → code_behind n (digit ∷ digits) ≡ code_behind m digits
+pub one_more : (n digit m : ℕ) (digits : List ℕ) → with_digit n digit ≡ Some m → code_after n (digit ∷ digits) ≡ code_after m digits
 one_more n digit m digits is = by (is_ascii_digit digit) (nat_le (n * 10 + (digit - 48)) 255) refl is
   where
     by : (is_digit is_small : Bool) → is_ascii_digit digit ≡ is_digit → (if is_digit && is_small then Some (n * 10 + (digit - 48)) else None) ≡ Some m
-        → code_behind n (digit ∷ digits) ≡ code_behind m digits
-    by true true is_digit some = let same : n * 10 + (digit - 48) ≡ m = some_is some in rw is_digit (ap (λ k. code_behind k digits) same)
+        → code_after n (digit ∷ digits) ≡ code_after m digits
+    by true true is_digit some = let same : n * 10 + (digit - 48) ≡ m = some_is some in rw is_digit (ap (λ k. code_after k digits) same)
     by true false is_digit some = absurd cc
     by false is_small is_digit some = absurd cc
 
-pub no_more : (n digit : ℕ) (digits : List ℕ) → with_digit n digit ≡ None → code_behind n (digit ∷ digits) ≡ None
+pub no_more : (n digit : ℕ) (digits : List ℕ) → with_digit n digit ≡ None → code_after n (digit ∷ digits) ≡ None
 no_more n digit digits is = by (is_ascii_digit digit) (nat_le (n * 10 + (digit - 48)) 255) refl refl is
   where
-    large : nat_le (n * 10 + (digit - 48)) 255 ≡ false → nat_le (number_behind n (digit ∷ digits)) 255 ≡ false
+    large : nat_le (n * 10 + (digit - 48)) 255 ≡ false → nat_le (number_after n (digit ∷ digits)) 255 ≡ false
     large = above (n * 10 + (digit - 48)) _ (grows (n * 10 + (digit - 48)) digits)
 
     by : (is_digit is_small : Bool) → is_ascii_digit digit ≡ is_digit → nat_le (n * 10 + (digit - 48)) 255 ≡ is_small
-        → (if is_digit && is_small then Some (n * 10 + (digit - 48)) else None) ≡ None → code_behind n (digit ∷ digits) ≡ None
+        → (if is_digit && is_small then Some (n * 10 + (digit - 48)) else None) ≡ None → code_after n (digit ∷ digits) ≡ None
     by true true is_digit is_small none = absurd cc
     by true false is_digit is_small none = no_code (list_all is_ascii_digit (digit ∷ digits)) _ _ (large is_small)
     by false is_small is_digit same none = rw is_digit refl
 
-pub at_end : (n : ℕ) → n < 256 → code_behind n [] ≡ Some n
+pub at_end : (n : ℕ) → n < 256 → code_after n [] ≡ Some n
 at_end n small = let fits : nat_le n 255 ≡ true = within n small in rw fits refl
   where
     within : (n : ℕ) → n < 256 → nat_le n 255 ≡ true
     within n small = grind (arith, nat_tests)
 
-pub some_digits : (digits : List ℕ) → (length digits == 0) ≡ false → code_of digits ≡ code_behind 0 digits
+pub some_digits : (digits : List ℕ) → (length digits == 0) ≡ false → code_of digits ≡ code_after 0 digits
 some_digits [] some = absurd cc
 some_digits (digit ∷ digits) some = refl
 
 -- what is left of the digits has their code, and so has none with them
-pub refused : (digits : List ℕ) (n i : ℕ) → (length digits == 0) ≡ false → i < length digits → code_behind n (drop i digits) ≡ code_behind 0 digits
+pub refused : (digits : List ℕ) (n i : ℕ) → (length digits == 0) ≡ false → i < length digits → code_after n (drop i digits) ≡ code_after 0 digits
     → with_digit n (get_or digits i 0) ≡ None → code_of digits ≡ None
 refused digits n i some below rest is =
-    some_digits digits some ∙ sym rest ∙ ap (λ xs. code_behind n xs) (drop_more digits i 0 below) ∙ no_more n (get_or digits i 0) (drop (i + 1) digits) is
+    some_digits digits some ∙ sym rest ∙ ap (λ xs. code_after n xs) (drop_more digits i 0 below) ∙ no_more n (get_or digits i 0) (drop (i + 1) digits) is
 
-pub accepted : (digits : List ℕ) (n i : ℕ) → (length digits == 0) ≡ false → length digits ≤ i → n < 256 → code_behind n (drop i digits) ≡ code_behind 0 digits
+pub accepted : (digits : List ℕ) (n i : ℕ) → (length digits == 0) ≡ false → length digits ≤ i → n < 256 → code_after n (drop i digits) ≡ code_after 0 digits
     → Some n ≡ code_of digits
 accepted digits n i some past small rest =
-    sym (some_digits digits some ∙ sym rest ∙ ap (λ xs. code_behind n xs) (drop_all i digits past) ∙ at_end n small)
+    sym (some_digits digits some ∙ sym rest ∙ ap (λ xs. code_after n xs) (drop_all i digits past) ∙ at_end n small)

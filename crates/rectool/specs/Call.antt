@@ -18,9 +18,9 @@ abbrev pub is_output_option : List ℕ → Bool
 is_output_option word = same word (codes "-o")
 
 -- what stands directly behind the last `-o`, if there is one: a word, or nothing where the words end with it
-abbrev pub behind_output : List (List ℕ) → Option (Option (List ℕ))
-behind_output [] = None
-behind_output (word ∷ words) = option_or (behind_output words) (if is_output_option word then Some (slice_get words 0) else None)
+abbrev pub after_output : List (List ℕ) → Option (Option (List ℕ))
+after_output [] = None
+after_output (word ∷ words) = option_or (after_output words) (if is_output_option word then Some (slice_get words 0) else None)
 
 -- the file that the record goes to; none stands for standard output, as `-` does
 abbrev pub file_named : Option (Option (List ℕ)) → Option (List ℕ)
@@ -29,14 +29,14 @@ file_named (Some None) = None
 file_named None = None
 
 abbrev pub output_file : List (List ℕ) → Option (List ℕ)
-output_file words = file_named (behind_output (operands words))
+output_file words = file_named (after_output (operands words))
 
 -- a word is an input unless it begins with `-` or stands directly behind an `-o`
 abbrev pub begins_as_option : List ℕ → Bool
 begins_as_option word = starts_with nat_eq word (codes "-")
 
 abbrev pub input_of : Bool × List ℕ → Option (List ℕ)
-input_of (is_behind, word) = if is_behind || begins_as_option word then None else Some word
+input_of (is_after, word) = if is_after || begins_as_option word then None else Some word
 
 -- each word, with whether an `-o` stands directly before it
 abbrev pub with_option_before : Bool → List (List ℕ) → List (Bool × List ℕ)
@@ -46,16 +46,16 @@ abbrev pub inputs_of : List (List ℕ) → List (List ℕ)
 inputs_of words = filter_map input_of (with_option_before false (operands words))
 
 -- the number that decimal digits write, behind a number
-abbrev pub number_behind : ℕ → List ℕ → ℕ
-number_behind n digits = fold (λ n digit. n * 10 + (digit - byte "0")) n digits
+abbrev pub number_after : ℕ → List ℕ → ℕ
+number_after n digits = fold (λ n digit. n * 10 + (digit - byte "0")) n digits
 
-abbrev pub code_behind : ℕ → List ℕ → Option ℕ
-code_behind n digits = if list_all is_ascii_digit digits && nat_le (number_behind n digits) 255 then Some (number_behind n digits) else None
+abbrev pub code_after : ℕ → List ℕ → Option ℕ
+code_after n digits = if list_all is_ascii_digit digits && nat_le (number_after n digits) 255 then Some (number_after n digits) else None
 
 -- the exit status that digits name: there are some, and their number is at most 255
 abbrev pub code_of : List ℕ → Option ℕ
 code_of [] = None
-code_of (digit ∷ digits) = code_behind 0 (digit ∷ digits)
+code_of (digit ∷ digits) = code_after 0 (digit ∷ digits)
 
 abbrev pub code_option : List ℕ
 code_option = codes "-frec-exit="

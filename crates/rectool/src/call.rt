@@ -50,12 +50,12 @@ pub fn inputs(alloc: Global, words: &[Word]) -> Result<Listing<Word>, AllocError
     ensures { IfOk result (λ inputs. inputs ≡ inputs_of words.now) }
 {
     let mut inputs = Listing::new(alloc);
-    let mut is_behind = false;
+    let mut is_after = false;
     for word in operands(words) {
-        if !is_behind && !word.as_bytes().starts_with(b"-") {
+        if !is_after && !word.as_bytes().starts_with(b"-") {
             inputs.push(word.clone()?)?;
         }
-        is_behind = is_output_option(word);
+        is_after = is_output_option(word);
     }
     Ok(inputs)
 }
@@ -95,7 +95,7 @@ fn code_asked(word: &Word) -> Option<u8>
 }
 
 /// The status that the last word asks for that asks for one, or else 0.
-#[tactic(auto, using(crate::proofs::Calls::last_behind))]
+#[tactic(auto, using(crate::proofs::Calls::last_after))]
 pub fn exit_status(words: &[Word]) -> u8
     ensures { result ≡ exit_status words.now }
 {

@@ -1,7 +1,7 @@
 use Rattle.drv_args.specs.Fronts as fronts
 use Rattle.drv_args.specs.Fronts.{Item, Start, item}
 use Rattle.drv_args.specs.Jobs.{jobs_named}
-use Rattle.drv_args.specs.Lines.{assembler_pieces, inputs_of, is_on, language_behind, last_jobs, last_output, line_of, prefix_of, preprocessor_pieces, spec_of, switches_of}
+use Rattle.drv_args.specs.Lines.{assembler_pieces, inputs_of, is_on, language_after, last_jobs, last_output, line_of, prefix_of, preprocessor_pieces, spec_of, switches_of}
 use Rattle.drv_args.specs.declared.building.LineBuilder.{LineBuilder}
 use Rattle.drv_args.specs.declared.fault.ArgsFault.{ArgsFault}
 use Rattle.drv_args.specs.declared.line.Input.TheVariants as input
@@ -46,7 +46,7 @@ with_items b items = record {
 
 -- one item more
 abbrev pub noted : LineBuilder → Item → LineBuilder
-noted b i = record { line = with_items b (i ∷ []); language = language_behind i.effect i.argument b.language }
+noted b i = record { line = with_items b (i ∷ []); language = language_after i.effect i.argument b.language }
 
 -- the line with what the rest of the words comes to
 abbrev pub line_with : LineBuilder → Result (List Item) ArgsFault → Result Line ArgsFault

@@ -66,11 +66,11 @@ abbrev pub removing : Course → List File → Course
 removing c due = record c { phase = if none due then Done else Removals; due = due }
 
 -- behind the link, whose job was this
-abbrev pub behind_link : Plan → Job → Course → Course
-behind_link plan job c = removing c (due_files plan job (λ k. tally k c.events))
+abbrev pub after_link : Plan → Job → Course → Course
+after_link plan job c = removing c (due_files plan job (λ k. tally k c.events))
 
 abbrev pub linking : Plan → Job → Course → Course
-linking plan job c = if left c.link then record c { phase = Link } else behind_link plan job c
+linking plan job c = if left c.link then record c { phase = Link } else after_link plan job c
 
 -- behind the sources, the link's job being this
 abbrev pub behind_sources : Plan → Job → Course → Course

@@ -29,8 +29,8 @@ choosing plan p k = if between_blocks p.phase p.fleet then record p { fleet = se
 -- by answers to what is asked for, of its kind, and by choices
 pub data Reached (plan : Plan) (N room : ℕ) : Position → Type 0 where
   at_first : Reached plan N room (fresh_position plan N room)
-  behind_answer : (p : Position) (s : Step) (a : Answer) → Reached plan N room p → next_of plan p ≡ Some s → is_kind s a ≡ true → Reached plan N room (moved plan p s a)
-  behind_choice : (p : Position) (k : ℕ) → Reached plan N room p → k < choices_at plan p → Reached plan N room (choosing plan p k)
+  after_answer : (p : Position) (s : Step) (a : Answer) → Reached plan N room p → next_of plan p ≡ Some s → is_kind s a ≡ true → Reached plan N room (moved plan p s a)
+  after_choice : (p : Position) (k : ℕ) → Reached plan N room p → k < choices_at plan p → Reached plan N room (choosing plan p k)
 
 -- what is kept of a run
 pub record Kept (plan : Plan) (N : ℕ) (p : Position) : Type 0 where

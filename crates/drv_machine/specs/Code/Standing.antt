@@ -41,6 +41,6 @@ abbrev pub tests_in : Nodes → Nodes
 tests_in no_node = no_node
 tests_in (node kind label span inner others) = if is_test kind then node kind label span inner (tests_in others) else no_node
 
-abbrev pub behind_tests : Nodes → Nodes
-behind_tests no_node = no_node
-behind_tests (node kind label span inner others) = if is_test kind then behind_tests others else node kind label span inner others
+abbrev pub after_tests : Nodes → Nodes
+after_tests no_node = no_node
+after_tests (node kind label span inner others) = if is_test kind then after_tests others else node kind label span inner others

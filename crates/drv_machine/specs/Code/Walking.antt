@@ -183,8 +183,8 @@ module _ (F : Facts) (C : Context) where
   back_at outer r = Is (Ok (r.1.cut.line.words, record { cut = outer; world = r.1.world }))
 
   -- the end of arguments, and what is done with their words behind it
-  abbrev pub behind_arguments : {X : Type 0} → Cut → (List (List ℕ) → Step X) → Machine → Answer (X × Machine)
-  behind_arguments outer go s = (run F C s (puts (Break ∷ [])) >>- back_at outer) >>- λ r. run F C r.1 (go r.0)
+  abbrev pub after_arguments : {X : Type 0} → Cut → (List (List ℕ) → Step X) → Machine → Answer (X × Machine)
+  after_arguments outer go s = (run F C s (puts (Break ∷ [])) >>- back_at outer) >>- λ r. run F C r.1 (go r.0)
 
   -- what a test by a function asks, whose arguments these items are
   abbrev pub arguments_of : Items → List ℕ → Levels → List ℕ → Step Bool
@@ -218,8 +218,8 @@ module _ (F : Facts) (C : Context) where
   closing levels star (Failure back) p items kept s = run F C s (puts (Break ∷ To ∷ []))
   closing levels star (File back) p items kept s = file_end s
   closing levels star (Inside back) p items kept s = run F C s nothing
-  closing levels star (Call at back outer) p items kept s = behind_arguments outer.value (value_step F C kept.name) s
-  closing levels star (Asks asking outer) p items kept s = behind_arguments outer.value (asked_on items kept levels star) s
+  closing levels star (Call at back outer) p items kept s = after_arguments outer.value (value_step F C kept.name) s
+  closing levels star (Asks asking outer) p items kept s = after_arguments outer.value (asked_on items kept levels star) s
 
   -- what follows the innermost open part
   abbrev pub ends : List Around → Machine → Answer (Unit {0} × Machine)

@@ -3,7 +3,7 @@
 ghost use Rattle.drv_machine.specs.Code.Asked.{Asked};
 ghost use Rattle.drv_machine.specs.Atoms.{call_step, has_value, value_step};
 ghost use Rattle.drv_machine.specs.Code.Running.{run};
-ghost use Rattle.drv_machine.specs.Code.Walking.{behind_arguments};
+ghost use Rattle.drv_machine.specs.Code.Walking.{after_arguments};
 ghost use Rattle.drv_system.specs.Asking.{Extends};
 ghost use Rattle.drv_system.specs.Facts.{Facts};
 ghost use Rattle.drv_system.specs.Gives.{GivesKnown};
@@ -53,7 +53,7 @@ impl Machine {
     }
 
     /// Arguments have been cut, and what was cut before them goes on: what the function of a name gives for them.
-    fn call_behind<S: System>(
+    fn call_after<S: System>(
         &mut self,
         name: &[u8],
         outer: Box<Cutter>,
@@ -62,7 +62,7 @@ impl Machine {
     ) -> Result<Option<Word>, MachineFault>
         requires { length self.old.world.hidden ≡ length context.now.switches }
         ensures asks { Asked S.events outside.old outside.new }
-        ensures does { (F : Facts) → Extends outside.new.facts.now F → GivesKnown MachineFault.Memory (λ given. (given, self.new)) result (behind_arguments F context.now outer.value (call_step F context.now name.now) self.old) }
+        ensures does { (F : Facts) → Extends outside.new.facts.now F → GivesKnown MachineFault.Memory (λ given. (given, self.new)) result (after_arguments F context.now outer.value (call_step F context.now name.now) self.old) }
         ensures sized { length self.new.world.hidden ≡ length self.old.world.hidden }
         ensures uncounted { OnOk result (self.new.world.items ≡ self.old.world.items) }
     {
@@ -83,11 +83,11 @@ impl Machine {
     ) -> Result<(), MachineFault>
         requires { length self.old.world.hidden ≡ length context.now.switches }
         ensures asks { Asked S.events outside.old outside.new }
-        ensures does { (F : Facts) → Extends outside.new.facts.now F → GivesKnown MachineFault.Memory (λ u. (tt, self.new)) result (behind_arguments F context.now outer.value (value_step F context.now name.now) self.old) }
+        ensures does { (F : Facts) → Extends outside.new.facts.now F → GivesKnown MachineFault.Memory (λ u. (tt, self.new)) result (after_arguments F context.now outer.value (value_step F context.now name.now) self.old) }
         ensures sized { length self.new.world.hidden ≡ length self.old.world.hidden }
         ensures uncounted { OnOk result (self.new.world.items ≡ self.old.world.items) }
     {
-        let Some(word) = self.call_behind(name, outer, context, outside)? else {
+        let Some(word) = self.call_after(name, outer, context, outside)? else {
             return Ok(());
         };
         self.put(word.as_bytes())
@@ -105,11 +105,11 @@ impl Machine {
     ) -> Result<bool, MachineFault>
         requires { length self.old.world.hidden ≡ length context.now.switches }
         ensures asks { Asked S.events outside.old outside.new }
-        ensures does { (F : Facts) → Extends outside.new.facts.now F → GivesKnown MachineFault.Memory (λ holds. (holds, self.new)) result (behind_arguments F context.now outer.value (has_value F context.now name.now) self.old) }
+        ensures does { (F : Facts) → Extends outside.new.facts.now F → GivesKnown MachineFault.Memory (λ holds. (holds, self.new)) result (after_arguments F context.now outer.value (has_value F context.now name.now) self.old) }
         ensures sized { length self.new.world.hidden ≡ length self.old.world.hidden }
         ensures uncounted { OnOk result (self.new.world.items ≡ self.old.world.items) }
     {
-        let given = self.call_behind(name, outer, context, outside)?;
+        let given = self.call_after(name, outer, context, outside)?;
         Ok(given.is_some())
     }
 }

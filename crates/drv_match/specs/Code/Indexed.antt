@@ -36,6 +36,6 @@ positive _ = None
 
 -- the place of the last name that passes a test, or 0 where none does
 pub record IsLast (test : List ℕ → Bool) (names : List (List ℕ)) (place : ℕ) : Type 0 where
-  pub none_behind : (i : ℕ) → place < i → i < length names → test (name_at names i) ≡ false
+  pub none_after : (i : ℕ) → place < i → i < length names → test (name_at names i) ≡ false
   pub within : 0 < place → place < length names
   pub passes : 0 < place → test (name_at names place) ≡ true

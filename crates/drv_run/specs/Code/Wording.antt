@@ -1,6 +1,6 @@
 use Rattle.drv_args.specs.Expansion.{Expands, Refuses as RefusesExpansion}
 use Rattle.drv_args.specs.declared.line.Expanded.{Expanded}
-use Rattle.drv_run.specs.Drives.{Words, behind_c99, fronted, is_c99}
+use Rattle.drv_run.specs.Drives.{Words, after_c99, fronted, is_c99}
 use Rattle.drv_run.specs.declared.ending.Ending.TheVariants.{Done, OutOfMemory, Refused}
 use Rattle.drv_run.specs.declared.ending.Ending.{Ending}
 use Rattle.drv_run.specs.declared.ending.Refusal.TheVariants.{Args, C99 as NoFront, Plan as NoPlan, Specs as NoSpecs}
@@ -13,7 +13,7 @@ abbrev pub GivesWords : Facts → List (List ℕ) → Result Expanded Ending →
 GivesWords F args (Ok words) = Words F args words
 GivesWords F args (Err OutOfMemory) = ⊤
 GivesWords F args (Err (Done status)) = ⊥
-GivesWords F args (Err (Refused (Args fault))) = RefusesExpansion F 2000 (behind_c99 args) fault
-GivesWords F args (Err (Refused (NoFront fault))) = (expanded : Expanded) × Expands F 2000 (behind_c99 args) (Ok expanded) × (fronted (is_c99 args) expanded ≡ Err fault)
+GivesWords F args (Err (Refused (Args fault))) = RefusesExpansion F 2000 (after_c99 args) fault
+GivesWords F args (Err (Refused (NoFront fault))) = (expanded : Expanded) × Expands F 2000 (after_c99 args) (Ok expanded) × (fronted (is_c99 args) expanded ≡ Err fault)
 GivesWords F args (Err (Refused (NoSpecs fault))) = ⊥
 GivesWords F args (Err (Refused (NoPlan fault))) = ⊥

@@ -2,7 +2,7 @@ use Rattle.drv_words.specs.Bytes as ascii
 use Rattle.drv_syntax.specs.Bytes.{is_of, is_space}
 use Rattle.drv_syntax.specs.Labels.{Label, no_label, star_label, word_label}
 use Rattle.drv_syntax.specs.Code.Marks.{byte_labels}
-use Rattle.drv_syntax.specs.Code.Turns.{behind_pattern, behind_test, called_label, chooses, choice_action, emits, head_action, single_kind, single_label, list_turn, percent_action, start_action, taken_word}
+use Rattle.drv_syntax.specs.Code.Turns.{after_pattern, after_test, called_label, chooses, choice_action, emits, head_action, single_kind, single_label, list_turn, percent_action, start_action, taken_word}
 use Rattle.drv_syntax.specs.declared.fault.SyntaxFault.TheVariants.{BadDirective, EmptyTest, Unclosed}
 use Rattle.drv_syntax.specs.declared.fault.SyntaxFault.{SyntaxFault}
 use Rattle.drv_syntax.specs.declared.reader.stages.Behind.TheVariants as behinds
@@ -149,8 +149,8 @@ abbrev pub in_word : Head → Form → ℕ → Bool → List ℕ → Walk → Wa
 in_word head form start negated word w = at_stage (at.Braces head form (places.TestWord start negated)) (with_word word w)
 
 -- behind an item that ends at this place, in a list with this context
-abbrev pub behind_item : Context → ℕ → Walk → Walk
-behind_item c end w = record { stage = at.List stages.Start; context = c; waiting = w.waiting; tokens = w.tokens; labels = w.labels; word = []; kept = end; trailing = 0; holds_star = w.holds_star }
+abbrev pub after_item : Context → ℕ → Walk → Walk
+after_item c end w = record { stage = at.List stages.Start; context = c; waiting = w.waiting; tokens = w.tokens; labels = w.labels; word = []; kept = end; trailing = 0; holds_star = w.holds_star }
 
 abbrev pub deeper_context : Context → Context
 deeper_context c = record { kind = c.kind; in_arguments = c.in_arguments; owner = c.owner; levels = c.levels - 1 }
@@ -250,15 +250,15 @@ untested at (behinds.StarredMark start end negated mark) = BadDirective at
 untested at (behinds.Bare start end negated mark) = EmptyTest at
 
 abbrev pub with_pattern : Behind → Walk → Walk
-with_pattern behind w = with_label (behind_pattern behind w.word) (with_leaf kinds.Pattern (first_of behind) (last_of behind) w)
+with_pattern behind w = with_label (after_pattern behind w.word) (with_leaf kinds.Pattern (first_of behind) (last_of behind) w)
 
 abbrev pub with_test : Form → Behind → Walk → Walk
 with_test form behind w =
-    with_label (behind_test behind w.word) (with_leaf kinds.Test (first_of behind) (last_of behind) (with_alternative form (first_of behind) w))
+    with_label (after_test behind w.word) (with_leaf kinds.Test (first_of behind) (last_of behind) (with_alternative form (first_of behind) w))
 
 -- at the braces' end
 abbrev pub close_braces : Head → Bool → ℕ → Context → Walk → Walk
-close_braces head emitted end c w = behind_item c end (close_token (brace_token head.kind emitted) head.part end w)
+close_braces head emitted end c w = after_item c end (close_token (brace_token head.kind emitted) head.part end w)
 
 abbrev pub with_star : Bool → Walk → Walk
 with_star holds w = record w { holds_star = holds }
@@ -312,7 +312,7 @@ close_alternative part around w =
 abbrev pub close_x : Context → Head → Bool → ℕ → ℕ → Walk → Result Walk SyntaxFault
 close_x c head tested n b w =
     if b == ascii.closing_brace then Ok (close_braces head false (n + 1) c w)
-    else if tested then Ok (at_stage (at.Choice head true) (behind_item c 0 w))
+    else if tested then Ok (at_stage (at.Choice head true) (after_item c 0 w))
     else Err (EmptyTest head.part.start)
 
 abbrev pub with_waiting : List Frame → Walk → Walk
@@ -320,9 +320,9 @@ with_waiting waiting w = record w { waiting = waiting }
 
 abbrev pub close_frame : Frame → ℕ → ℕ → Walk → Result Walk SyntaxFault
 close_frame (frames.X c head colon part tested around) n b w = close_x c head tested n b (close_alternative part around w)
-close_frame (frames.Call c part) n b w = Ok (behind_item c (n + 1) (close_token kinds.Function part (n + 1) w))
+close_frame (frames.Call c part) n b w = Ok (after_item c (n + 1) (close_token kinds.Function part (n + 1) w))
 close_frame (frames.Test c head alternative part chosen) n b w =
-    Ok (at_stage (at.Result head alternative chosen) (behind_item c 0 (close_token kinds.Test part (n + 1) w)))
+    Ok (at_stage (at.Result head alternative chosen) (after_item c 0 (close_token kinds.Test part (n + 1) w)))
 
 abbrev pub close : List Frame → ℕ → ℕ → Walk → Result Walk SyntaxFault
 close [] n b w = Err (Unclosed n)

@@ -76,20 +76,20 @@ single_label (singles.Hide starred) word = pattern_label (pattern word starred)
 single_label _ word = no_label
 
 -- the label of a pattern, and of a test, with this word
-abbrev pub behind_pattern : Behind → List ℕ → Label
-behind_pattern (behinds.Switch start end negated starred) word = pattern_label (pattern word starred)
-behind_pattern (behinds.Marked start end negated mark) word = pattern_label (pattern (mark ∷ word) false)
-behind_pattern (behinds.StarredMark start end negated mark) word = pattern_label (pattern (mark ∷ word) true)
-behind_pattern (behinds.Bare start end negated mark) word = pattern_label (pattern (mark ∷ []) false)
+abbrev pub after_pattern : Behind → List ℕ → Label
+after_pattern (behinds.Switch start end negated starred) word = pattern_label (pattern word starred)
+after_pattern (behinds.Marked start end negated mark) word = pattern_label (pattern (mark ∷ word) false)
+after_pattern (behinds.StarredMark start end negated mark) word = pattern_label (pattern (mark ∷ word) true)
+after_pattern (behinds.Bare start end negated mark) word = pattern_label (pattern (mark ∷ []) false)
 
 abbrev pub mark_asks : ℕ → TestKind
 mark_asks mark = if mark == ascii.period then asking.Suffix else asking.Language
 
-abbrev pub behind_test : Behind → List ℕ → Label
-behind_test (behinds.Switch start end negated starred) word = part_label word starred negated asking.Switch
-behind_test (behinds.Marked start end negated mark) word = part_label word false negated (mark_asks mark)
-behind_test (behinds.StarredMark start end negated mark) word = part_label word false negated (mark_asks mark)
-behind_test (behinds.Bare start end negated mark) word = part_label word false negated (mark_asks mark)
+abbrev pub after_test : Behind → List ℕ → Label
+after_test (behinds.Switch start end negated starred) word = part_label word starred negated asking.Switch
+after_test (behinds.Marked start end negated mark) word = part_label word false negated (mark_asks mark)
+after_test (behinds.StarredMark start end negated mark) word = part_label word false negated (mark_asks mark)
+after_test (behinds.Bare start end negated mark) word = part_label word false negated (mark_asks mark)
 
 -- the label of a test of a function
 abbrev pub called_label : Bool → List ℕ → Label
@@ -254,8 +254,8 @@ chooses forms.Patterns = false
 chooses forms.Later = true
 chooses (forms.Tests part starred) = true
 
-abbrev pub behind_action : ℕ → Behind → ℕ → HeadAction
-behind_action at behind b =
+abbrev pub after_action : ℕ → Behind → ℕ → HeadAction
+after_action at behind b =
     if is_space b then heads.Keeps (places.BehindTest behind)
     else if b == ascii.closing_brace then heads.Ends behind
     else if b == ascii.ampersand then heads.Joins behind
@@ -268,7 +268,7 @@ word_action at start negated n b =
     if b == ascii.backslash then heads.Keeps (places.TestWordEscape start negated)
     else if is_word b then heads.Adds (places.TestWord start negated)
     else if b == ascii.asterisk then heads.Keeps (places.BehindTest (behinds.Switch start (n + 1) negated true))
-    else behind_action at (behinds.Switch start n negated false) b
+    else after_action at (behinds.Switch start n negated false) b
 
 abbrev pub bare_action : ℕ → ℕ → Bool → ℕ → ℕ → ℕ → HeadAction
 bare_action at start negated mark n b =
@@ -290,7 +290,7 @@ marked_action at form start negated mark n b =
     if b == ascii.backslash then heads.Keeps (places.MarkedEscape start negated mark)
     else if is_word b then heads.Adds (places.MarkedWord start negated mark)
     else if b == ascii.asterisk then (if emits form negated then heads.Keeps (places.BehindTest (behinds.StarredMark start (n + 1) negated mark)) else bad at)
-    else behind_action at (behinds.Marked start n negated mark) b
+    else after_action at (behinds.Marked start n negated mark) b
 
 abbrev pub asked_action : ℕ → ℕ → ℕ → Bool → ℕ → ℕ → HeadAction
 asked_action levels at start negated n b =
@@ -332,7 +332,7 @@ head_action (places.MarkedEscape start negated mark) levels at form word n b = h
 head_action (places.TestPercent start negated percent) levels at form word n b =
     if b == ascii.colon then heads.Clears (places.TestFunction start negated percent) else bad percent
 head_action (places.TestFunction start negated percent) levels at form word n b = test_call_action start negated percent word b
-head_action (places.BehindTest behind) levels at form word n b = behind_action at behind b
+head_action (places.BehindTest behind) levels at form word n b = after_action at behind b
 
 -- where an alternative begins
 abbrev pub choice_action : Bool → ℕ → ℕ → ℕ → ℕ → ChoiceAction

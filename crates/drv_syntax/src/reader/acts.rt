@@ -10,7 +10,7 @@ use crate::fault::SyntaxFault;
 use crate::reader::bytes::is_space;
 use crate::reader::edits::close_token;
 use crate::reader::nesting::{
-    alternative_of, ask, behind_item, chooses, close_braces, emits, first_of, lent_pattern,
+    alternative_of, ask, after_item, chooses, close_braces, emits, first_of, lent_pattern,
     lent_test, negates, starred_of, stars, tests, untested, with_pattern, with_test,
 };
 use crate::reader::stages::{Behind, Context, Form, Frame, Head, HeadStage, Open, Stage};
@@ -175,7 +175,7 @@ pub fn act_lent(
     requires end { steps.ends_word b ≡ true }
     requires room { length w.old.tokens.items < 2 ^ 31 }
     requires place { n < 2 ^ 31 }
-    ensures does { Gives SyntaxFault.Memory (λ _. state w.new) result (steps.act_head head form (turns.behind_action head.part.start behind b) n b (steps.with_word word.now (state w.old))) }
+    ensures does { Gives SyntaxFault.Memory (λ _. state w.new) result (steps.act_head head form (turns.after_action head.part.start behind b) n b (steps.with_word word.now (state w.old))) }
     ensures fits { OnOk result (Fits w.old w.new) }
 {
     if b == b'}' {
@@ -226,7 +226,7 @@ fn close_x(
         close_braces(head, false, n + 1, c, w);
         Ok(())
     } else if tested {
-        behind_item(c, 0, w);
+        after_item(c, 0, w);
         w.stage = Stage::Choice { head, later: true };
         Ok(())
     } else {
@@ -254,7 +254,7 @@ fn close_frame(frame: Frame, n: u32, b: u8, w: &mut Walk) -> Result<(), SyntaxFa
         }
         Frame::Call { context: c, part } => {
             close_token(TokenKind::Function, part, n + 1, w);
-            behind_item(c, n + 1, w);
+            after_item(c, n + 1, w);
             Ok(())
         }
         Frame::Test {
@@ -265,7 +265,7 @@ fn close_frame(frame: Frame, n: u32, b: u8, w: &mut Walk) -> Result<(), SyntaxFa
             chosen,
         } => {
             close_token(TokenKind::Test, part, n + 1, w);
-            behind_item(c, 0, w);
+            after_item(c, 0, w);
             w.stage = Stage::Result {
                 head,
                 alternative,

@@ -35,7 +35,7 @@ pub fn at(head: Head, form: Form, stage: HeadStage) -> Stage
 
 /// Behind a test or a pattern.
 #[inline(never)]
-pub fn behind_test(
+pub fn after_test(
     head: Head,
     form: Form,
     behind: Behind,
@@ -45,7 +45,7 @@ pub fn behind_test(
 ) -> Result<(), SyntaxFault>
     requires room { length w.old.tokens.items < 2 ^ 31 }
     requires place { n < 2 ^ 31 }
-    ensures does { Gives SyntaxFault.Memory (λ _. state w.new) result (steps.act_head head form (turns.behind_action head.part.start behind b) n b (state w.old)) }
+    ensures does { Gives SyntaxFault.Memory (λ _. state w.new) result (steps.act_head head form (turns.after_action head.part.start behind b) n b (state w.old)) }
     ensures fits { OnOk result (Fits w.old w.new) }
 {
     if is_space(b) {
@@ -101,7 +101,7 @@ pub fn test_word(
             negated,
             starred: false,
         };
-        behind_test(head, form, behind, n, b, w)
+        after_test(head, form, behind, n, b, w)
     }
 }
 
@@ -220,7 +220,7 @@ fn marked_word(
             negated,
             mark,
         };
-        behind_test(head, form, behind, n, b, w)
+        after_test(head, form, behind, n, b, w)
     } else if emits(form, negated) {
         let behind = Behind::StarredMark {
             start,
@@ -435,7 +435,7 @@ pub fn head_step(
             negated,
             percent,
         } => test_function(head, form, start, negated, percent, n, b, w),
-        HeadStage::BehindTest(behind) => behind_test(head, form, behind, n, b, w),
+        HeadStage::BehindTest(behind) => after_test(head, form, behind, n, b, w),
     }
 }
 

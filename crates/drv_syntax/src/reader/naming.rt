@@ -67,7 +67,7 @@ pub fn name_single(single: Single, word: &[u8], labels: &mut Labels) -> Result<(
 /// A pattern, with this word.
 #[inline(always)]
 pub fn name_pattern(behind: Behind, word: &[u8], labels: &mut Labels) -> Result<(), SyntaxFault>
-    ensures { Gives SyntaxFault.Memory (λ _. labels.new) result (Ok (labels.old ++ walk.behind_pattern behind word.now ∷ [])) }
+    ensures { Gives SyntaxFault.Memory (λ _. labels.new) result (Ok (labels.old ++ walk.after_pattern behind word.now ∷ [])) }
 {
     match behind {
         Behind::Switch { starred, .. } => labels.push(word, starred, false, TestKind::Switch),
@@ -90,7 +90,7 @@ fn mark_asks(mark: u8) -> TestKind
 /// A test that asks no function, with this word.
 #[inline(always)]
 pub fn name_test(behind: Behind, word: &[u8], labels: &mut Labels) -> Result<(), SyntaxFault>
-    ensures { Gives SyntaxFault.Memory (λ _. labels.new) result (Ok (labels.old ++ walk.behind_test behind word.now ∷ [])) }
+    ensures { Gives SyntaxFault.Memory (λ _. labels.new) result (Ok (labels.old ++ walk.after_test behind word.now ∷ [])) }
 {
     match behind {
         Behind::Switch {

@@ -37,8 +37,8 @@ pub fn chooses(form: Form) -> bool
 }
 
 /// Behind an item that ends at this place, in a list with this context.
-pub fn behind_item(c: Context, end: u32, w: &mut Walk)
-    ensures { state w.new ≡ steps.behind_item c end (state w.old) }
+pub fn after_item(c: Context, end: u32, w: &mut Walk)
+    ensures { state w.new ≡ steps.after_item c end (state w.old) }
 {
     w.stage = Stage::List(ListStage::Start);
     w.context = c;
@@ -345,7 +345,7 @@ pub fn close_braces(head: Head, emitted: bool, end: u32, c: Context, w: &mut Wal
     ensures trail { w.new.trailing ≡ 0 }
 {
     close_token(brace_token(head.kind, emitted), head.part, end, w);
-    behind_item(c, end, w);
+    after_item(c, end, w);
 }
 
 /// The X of an alternative opens.

@@ -186,7 +186,7 @@ fn read_to_end(start: u32, text: &[u8], w: &mut Walk) -> Result<Ending, SyntaxFa
 }
 
 /// What a text comes to, the first bytes of which have come to this state, so many: by the rest of it.
-pub fn read_behind(start: u32, more: &[u8], walk: Walk) -> Result<Ended, SyntaxFault>
+pub fn read_after(start: u32, more: &[u8], walk: Walk) -> Result<Ended, SyntaxFault>
     requires short { start + length more.now ≤ 1048576 }
     requires room { length walk.tokens.items ≤ 5 * start + 1 }
     requires trail { walk.trailing ≤ 5 * start + 1 }

@@ -8,7 +8,7 @@ ghost use Rattle.std.specs.Prelude.{◌≡◌, ◌<◌, ◌≤◌, ◌^◌, ◌+
 use crate::fault::SyntaxFault;
 use crate::reader::acts::act_lent;
 use crate::reader::bytes::{ends_word, is_mark, is_word};
-use crate::reader::head_steps::{at, behind_test, test_word};
+use crate::reader::head_steps::{at, after_test, test_word};
 use crate::reader::runs::{extend, front, word_length};
 use crate::reader::stages::{Behind, Form, Head, HeadStage, Stage};
 use crate::reader::walk::Walk;
@@ -46,7 +46,7 @@ fn word_end(
         starred: true,
     };
     w.stage = at(head, form, HeadStage::BehindTest(behind));
-    behind_test(head, form, behind, n + 1, text[1], w)?;
+    after_test(head, form, behind, n + 1, text[1], w)?;
     Ok(2)
 }
 

@@ -69,8 +69,8 @@ inside reader b =
 abbrev pub escape : LineReader → ℕ → LineReader
 escape reader b = if is_special b then longer reader b Quoted else placed reader Wrong
 
-abbrev pub behind_bar : LineReader → ℕ → LineReader
-behind_bar reader b = if b == byte.newline then with_line reader true else placed reader Wrong
+abbrev pub after_bar : LineReader → ℕ → LineReader
+after_bar reader b = if b == byte.newline then with_line reader true else placed reader Wrong
 
 -- one byte
 abbrev pub step_at : Place → LineReader → ℕ → LineReader
@@ -79,7 +79,7 @@ step_at AtWord reader b = at_word reader b
 step_at Bare reader b = bare reader b
 step_at Quoted reader b = inside reader b
 step_at Escaped reader b = escape reader b
-step_at Bar reader b = behind_bar reader b
+step_at Bar reader b = after_bar reader b
 step_at Wrong reader b = reader
 
 abbrev pub step : LineReader → ℕ → LineReader

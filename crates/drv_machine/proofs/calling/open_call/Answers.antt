@@ -3,7 +3,7 @@ use Rattle.drv_machine.proofs.calling.open_call.Goals as goal
 use Rattle.drv_machine.specs.Atoms.{value_step}
 use Rattle.drv_machine.specs.Cutting.{Cut}
 use Rattle.drv_machine.specs.Code.Running.{Machine}
-use Rattle.drv_machine.specs.Code.Walking.{Left, behind_arguments}
+use Rattle.drv_machine.specs.Code.Walking.{Left, after_arguments}
 use Rattle.drv_machine.specs.declared.walk.Opened.TheVariants.{Call}
 use Rattle.std.proofs.Common.{ap, refl, rules, subst, sym, ◌+◌, ◌∙◌}
 
@@ -18,5 +18,5 @@ returns-clause-does c F C text name items given within named stands b =
     let outer = c.in_ok-outer.ensures.ok ∙ c.put_aside.ensures.aside in
     subst (λ (m : Machine). Left F C text (record c.args.walk.now { at = c.args.at + 1; end = c.args.next; frames = c.push.new.self }) m given) (sym c.put_aside.ensures.begun)
     (call_opened F C text c.args.walk.now c.args.machine.now c.args.next name items given b (Call c.args.at c.args.next c.in_ok-outer.outer)
-    (record { in_list = within; name_is = named }) refl refl (λ levels star r. ap (λ (cut : Cut). behind_arguments F C cut (value_step F C name) r) outer)
+    (record { in_list = within; name_is = named }) refl refl (λ levels star r. ap (λ (cut : Cut). after_arguments F C cut (value_step F C name) r) outer)
     c.in_ok-push.ensures.room (c.args.at + 1) stands (record c.args.walk.now { at = c.args.at + 1; end = c.args.next; frames = c.push.new.self }) refl refl refl c.in_ok-push.ensures.ok)

@@ -1,10 +1,10 @@
 use Rattle.drv_machine.proofs.Judging.{answer_refused, answered}
-use Rattle.drv_machine.proofs.Onward.{after_leaf, as_behind, behind_in, leaf, once_lighter, went_in}
+use Rattle.drv_machine.proofs.Onward.{after_leaf, as_after, after_in, leaf, once_lighter, went_in}
 use Rattle.drv_machine.proofs.turns.close.Goals as goal
 use Rattle.drv_machine.specs.Atoms.{has_value, value_step}
 use Rattle.drv_machine.specs.Cutting.{Cut}
 use Rattle.drv_machine.specs.Code.Running.{run}
-use Rattle.drv_machine.specs.Code.Walking.{After, OpenedFits, back_of, behind_arguments, closing, file_end, hit_end, hits_left, text_around, weight}
+use Rattle.drv_machine.specs.Code.Walking.{After, OpenedFits, back_of, after_arguments, closing, file_end, hit_end, hits_left, text_around, weight}
 use Rattle.drv_machine.specs.Working.{Break, To, nothing, puts}
 use Rattle.drv_machine.specs.declared.fault.MachineFault.TheVariants.{Memory}
 use Rattle.drv_machine.specs.declared.walk.Opened.{Opened}
@@ -24,21 +24,21 @@ pub returns-in-Hit-clause-does : goal.returns-in-Hit-clause-does
 returns-in-Hit-clause-does g c F e p items kept given fits a =
     went_in F c.args.context.now c.args.walk.now.text.now c.close_hit.new.walk.text.now c.close_hit.new.walk c.close_hit.new.machine given c.close_hit.result c.close_hit.ensures.same_text
     (c.close_hit.ensures.does F e p items given (subst (λ (o : Opened). OpenedFits c.args.walk.now.text.now c.args.context.now o p items kept) c.in-Hit.is fits)
-    (as_behind F c.args.context.now c.args.walk.now.text.now (record c.args.walk.now { end = c.args.frame.end; star = c.args.frame.star }) c.in-Hit.each.end (λ levels star. hit_end F c.args.context.now p items levels c.in-Hit.switch) c.args.machine.now given
+    (as_after F c.args.context.now c.args.walk.now.text.now (record c.args.walk.now { end = c.args.frame.end; star = c.args.frame.star }) c.in-Hit.each.end (λ levels star. hit_end F c.args.context.now p items levels c.in-Hit.switch) c.args.machine.now given
     (subst (λ (o : Opened). After F c.args.context.now (text_around c.args.walk.now.text.now o) (record c.args.walk.now { end = c.args.frame.end; star = c.args.frame.star }) (back_of o) (λ levels star s. closing F c.args.context.now levels star o p items kept s) c.args.machine.now given) c.in-Hit.is a)))
 
 pub returns-in-Text-clause-does : goal.returns-in-Text-clause-does
 returns-in-Text-clause-does g c F e p items kept given fits a =
     leaf F c.args.context.now c.in-Text.around.now (record c.args.walk.now { text = c.in-Text.around; end = c.args.frame.end; star = c.args.frame.star }) c.args.machine.now given c.in-Text.back (λ levels star. nothing)
-    (behind_in F c.args.context.now c.in-Text.around.now (record c.args.walk.now { end = c.args.frame.end; star = c.args.frame.star }) (record c.args.walk.now { text = c.in-Text.around; end = c.args.frame.end; star = c.args.frame.star })
+    (after_in F c.args.context.now c.in-Text.around.now (record c.args.walk.now { end = c.args.frame.end; star = c.args.frame.star }) (record c.args.walk.now { text = c.in-Text.around; end = c.args.frame.end; star = c.args.frame.star })
     c.in-Text.back (λ levels star. nothing) c.args.machine.now given refl refl refl
-    (as_behind F c.args.context.now c.in-Text.around.now (record c.args.walk.now { end = c.args.frame.end; star = c.args.frame.star }) c.in-Text.back (λ levels star. nothing) c.args.machine.now given
+    (as_after F c.args.context.now c.in-Text.around.now (record c.args.walk.now { end = c.args.frame.end; star = c.args.frame.star }) c.in-Text.back (λ levels star. nothing) c.args.machine.now given
     (subst (λ (o : Opened). After F c.args.context.now (text_around c.args.walk.now.text.now o) (record c.args.walk.now { end = c.args.frame.end; star = c.args.frame.star }) (back_of o) (λ levels star s. closing F c.args.context.now levels star o p items kept s) c.args.machine.now given) c.in-Text.is a))) (Ok tt) c.args.machine.now refl
 
 pub returns-in-Failure-clause-does : goal.returns-in-Failure-clause-does
 returns-in-Failure-clause-does g c F e p items kept given fits a =
     leaf F c.args.context.now c.args.walk.now.text.now (record c.args.walk.now { end = c.args.frame.end; star = c.args.frame.star }) c.args.machine.now given c.in-Failure.back (λ levels star. puts (Break ∷ To ∷ []))
-    (as_behind F c.args.context.now c.args.walk.now.text.now (record c.args.walk.now { end = c.args.frame.end; star = c.args.frame.star }) c.in-Failure.back (λ levels star. puts (Break ∷ To ∷ [])) c.args.machine.now given
+    (as_after F c.args.context.now c.args.walk.now.text.now (record c.args.walk.now { end = c.args.frame.end; star = c.args.frame.star }) c.in-Failure.back (λ levels star. puts (Break ∷ To ∷ [])) c.args.machine.now given
     (subst (λ (o : Opened). After F c.args.context.now (text_around c.args.walk.now.text.now o) (record c.args.walk.now { end = c.args.frame.end; star = c.args.frame.star }) (back_of o) (λ levels star s. closing F c.args.context.now levels star o p items kept s) c.args.machine.now given) c.in-Failure.is a)) c.end_failure.result c.end_failure.new.self (c.end_failure.ensures.does F e)
 
 pub returns-in-File-clause-does : goal.returns-in-File-clause-does
@@ -58,11 +58,11 @@ word-requires g c =
 pub returns-in-Call-clause-does : goal.returns-in-Call-clause-does
 returns-in-Call-clause-does g c F e p items kept given fits a =
     let call = subst (λ (o : Opened). OpenedFits c.args.walk.now.text.now c.args.context.now o p items kept) c.in-Call.is fits in
-    after_leaf F c.args.context.now c.args.walk.now.text.now (record c.args.walk.now { end = c.args.frame.end; star = c.args.frame.star }) c.args.machine.now given c.in-Call.back (λ levels star s. behind_arguments F c.args.context.now c.in-Call.outer.value (value_step F c.args.context.now kept.name) s)
+    after_leaf F c.args.context.now c.args.walk.now.text.now (record c.args.walk.now { end = c.args.frame.end; star = c.args.frame.star }) c.args.machine.now given c.in-Call.back (λ levels star s. after_arguments F c.args.context.now c.in-Call.outer.value (value_step F c.args.context.now kept.name) s)
     (subst (λ (o : Opened). After F c.args.context.now (text_around c.args.walk.now.text.now o) (record c.args.walk.now { end = c.args.frame.end; star = c.args.frame.star }) (back_of o) (λ levels star s. closing F c.args.context.now levels star o p items kept s) c.args.machine.now given) c.in-Call.is a) c.put_value.result c.put_value.new.self
-    (subst (λ (name : List ℕ). GivesKnown Memory (λ u. (tt, c.put_value.new.self)) c.put_value.result (behind_arguments F c.args.context.now c.in-Call.outer.value (value_step F c.args.context.now name) c.args.machine.now))
+    (subst (λ (name : List ℕ). GivesKnown Memory (λ u. (tt, c.put_value.new.self)) c.put_value.result (after_arguments F c.args.context.now c.in-Call.outer.value (value_step F c.args.context.now name) c.args.machine.now))
     (c.word.ensures ∙ call.name_is)
-    (subst (λ (cut : Cut). GivesKnown Memory (λ u. (tt, c.put_value.new.self)) c.put_value.result (behind_arguments F c.args.context.now cut (value_step F c.args.context.now c.word.result.now) c.args.machine.now))
+    (subst (λ (cut : Cut). GivesKnown Memory (λ u. (tt, c.put_value.new.self)) c.put_value.result (after_arguments F c.args.context.now cut (value_step F c.args.context.now c.word.result.now) c.args.machine.now))
     (search rules) (c.put_value.ensures.does F e)))
 
 pub returns-in-Hit-clause-lighter : goal.returns-in-Hit-clause-lighter
@@ -106,8 +106,8 @@ returns-in_err-holds-in-Asks-clause-does g c F e p items kept given fits a =
     let failed =
     answer_refused F c.args.context.now c.args.walk.now.text.now (record c.args.walk.now { end = c.args.frame.end; star = c.args.frame.star }) items kept given c.in-Asks.asking.end c.in-Asks.outer.value c.args.machine.now
     (subst (λ (o : Opened). After F c.args.context.now (text_around c.args.walk.now.text.now o) (record c.args.walk.now { end = c.args.frame.end; star = c.args.frame.star }) (back_of o) (λ levels star s. closing F c.args.context.now levels star o p items kept s) c.args.machine.now given) c.in-Asks.is a) c.in_err-holds-in-Asks.field-0.0
-    (subst (λ (name : List ℕ). (c.in_err-holds-in-Asks.field-0.0 ≡ Memory) ⊎ (behind_arguments F c.args.context.now c.in-Asks.outer.value (has_value F c.args.context.now name) c.args.machine.now ≡ Is (Err c.in_err-holds-in-Asks.field-0.0))) (c.word-name.ensures ∙ ask.name_is)
-    (subst (λ (cut : Cut). (c.in_err-holds-in-Asks.field-0.0 ≡ Memory) ⊎ (behind_arguments F c.args.context.now cut (has_value F c.args.context.now c.word-name.result.now) c.args.machine.now ≡ Is (Err c.in_err-holds-in-Asks.field-0.0))) (search rules) (c.in_err-holds-in-Asks.ensures.does F e))) in
+    (subst (λ (name : List ℕ). (c.in_err-holds-in-Asks.field-0.0 ≡ Memory) ⊎ (after_arguments F c.args.context.now c.in-Asks.outer.value (has_value F c.args.context.now name) c.args.machine.now ≡ Is (Err c.in_err-holds-in-Asks.field-0.0))) (c.word-name.ensures ∙ ask.name_is)
+    (subst (λ (cut : Cut). (c.in_err-holds-in-Asks.field-0.0 ≡ Memory) ⊎ (after_arguments F c.args.context.now cut (has_value F c.args.context.now c.word-name.result.now) c.args.machine.now ≡ Is (Err c.in_err-holds-in-Asks.field-0.0))) (search rules) (c.in_err-holds-in-Asks.ensures.does F e))) in
     let f = c.from_residual.ensures in
     search rules
 
@@ -118,6 +118,6 @@ returns-in_ok-holds-in-Asks-clause-does g c F e p items kept given fits a =
     (c.answer.ensures.does F items kept given ask
     (answered F c.args.context.now c.args.walk.now.text.now (record c.args.walk.now { end = c.args.frame.end; star = c.args.frame.star }) items kept given c.in-Asks.asking.end c.in-Asks.outer.value c.args.machine.now
     (subst (λ (o : Opened). After F c.args.context.now (text_around c.args.walk.now.text.now o) (record c.args.walk.now { end = c.args.frame.end; star = c.args.frame.star }) (back_of o) (λ levels star s. closing F c.args.context.now levels star o p items kept s) c.args.machine.now given) c.in-Asks.is a) c.in_ok-holds-in-Asks.holds c.has_value.new.self
-    (subst (λ (name : List ℕ). behind_arguments F c.args.context.now c.in-Asks.outer.value (has_value F c.args.context.now name) c.args.machine.now ≡ Is (Ok (c.in_ok-holds-in-Asks.holds, c.has_value.new.self))) (c.word-name.ensures ∙ ask.name_is)
-    (subst (λ (cut : Cut). behind_arguments F c.args.context.now cut (has_value F c.args.context.now c.word-name.result.now) c.args.machine.now ≡ Is (Ok (c.in_ok-holds-in-Asks.holds, c.has_value.new.self))) (search rules)
+    (subst (λ (name : List ℕ). after_arguments F c.args.context.now c.in-Asks.outer.value (has_value F c.args.context.now name) c.args.machine.now ≡ Is (Ok (c.in_ok-holds-in-Asks.holds, c.has_value.new.self))) (c.word-name.ensures ∙ ask.name_is)
+    (subst (λ (cut : Cut). after_arguments F c.args.context.now cut (has_value F c.args.context.now c.word-name.result.now) c.args.machine.now ≡ Is (Ok (c.in_ok-holds-in-Asks.holds, c.has_value.new.self))) (search rules)
     (c.in_ok-holds-in-Asks.ensures.does F e)))))

@@ -1,9 +1,9 @@
-use Rattle.drv_run.proofs.Tellings.{no_pipe_behind_announced, plan_carried_out}
+use Rattle.drv_run.proofs.Tellings.{no_pipe_after_announced, plan_carried_out}
 use Rattle.drv_run.proofs.driving.run_plan.Goals as goal
 
 pub execute-requires-clause-pipe : goal.execute-requires-clause-pipe
 execute-requires-clause-pipe g c =
-    no_pipe_behind_announced (g.S.System.events c.args.sys.now) (g.S.System.events c.announce.new.sys) c.args.manner.telling c.args.plan.now c.in_ok-announce.ensures.announces c.requires.pipe
+    no_pipe_after_announced (g.S.System.events c.args.sys.now) (g.S.System.events c.announce.new.sys) c.args.manner.telling c.args.plan.now c.in_ok-announce.ensures.announces c.requires.pipe
 
 pub returns-clause-runs : goal.returns-clause-runs
 returns-clause-runs g c =

@@ -1,5 +1,5 @@
 use Rattle.drv_core.specs.Run.{IfMake}
-use Rattle.drv_run.proofs.Behind.{can_behind, executed, fits_behind}
+use Rattle.drv_run.proofs.Behind.{can_after, executed, fits_after}
 use Rattle.drv_run.proofs.executing.execute.Goals as goal
 use Rattle.drv_run.specs.Code.Making.{CanMake}
 use Rattle.drv_system.specs.Running.{run_of}
@@ -16,11 +16,11 @@ returns-in-Done-clause-executed g c =
 pub make-answer-requires-clause-can : goal.make-answer-requires-clause-can
 make-answer-requires-clause-can g c =
     subst (λ journal. CanMake c.args.plan.now journal c.in-Make.step) (sym c.loop-status.invariant.journal)
-    (can_behind c.args.plan.now (g.S.System.events c.args.sys.now) c.loop-status.run.events c.in-Make.step c.requires.pipe
+    (can_after c.args.plan.now (g.S.System.events c.args.sys.now) c.loop-status.run.events c.in-Make.step c.requires.pipe
     (subst (λ plan. can_make plan c.loop-status.run.events c.in-Make.step ≡ true) c.loop-status.invariant.plan c.in-Make.ensures.possible))
 
 pub answer-requires-clause-fits : goal.answer-requires-clause-fits
 answer-requires-clause-fits g c =
     subst (λ action. IfMake action (λ step. fits c.loop-status.run.events step c.make-answer.result ≡ true)) c.in-Make.ensures.action
-    (fits_behind (g.S.System.events c.args.sys.now) c.loop-status.run.events c.in-Make.step c.make-answer.result
+    (fits_after (g.S.System.events c.args.sys.now) c.loop-status.run.events c.in-Make.step c.make-answer.result
     (subst (λ journal. fits (run_of journal) c.in-Make.step c.make-answer.result ≡ true) c.loop-status.invariant.journal c.make-answer.ensures.fits))

@@ -1,4 +1,4 @@
-use Rattle.drv_search.proofs.Options.{behind_options}
+use Rattle.drv_search.proofs.Options.{after_options}
 use Rattle.drv_search.specs.Search.{folders_under, options_for}
 use Rattle.drv_system.specs.Asking.{Asks, Extends}
 use Rattle.drv_system.specs.Facts.{Facts}
@@ -8,5 +8,5 @@ use Rattle.drv_search.proofs.folders.push_all.Given as goal
 abbrev pub invariant-loop-prefix : goal.invariant-loop-prefix
 invariant-loop-prefix g l = record {
   asks : Asks (g.S.System.events l.fn.sys) (g.S.System.events l.sys) l.fn.facts l.facts;
-  rest : (F : Facts) → Extends l.facts F → behind_options l.options (options_for F (flat_map folders_under (drop l.prefix-index l.prefixes))) ≡ behind_options l.fn.options (options_for F (flat_map folders_under l.prefixes));
+  rest : (F : Facts) → Extends l.facts F → after_options l.options (options_for F (flat_map folders_under (drop l.prefix-index l.prefixes))) ≡ after_options l.fn.options (options_for F (flat_map folders_under l.prefixes));
 }

@@ -9,4 +9,4 @@ returns-in_err-given-clause-does g c F e =
 
 pub returns-clause-does : goal.returns-clause-does
 returns-clause-does g c F e =
-    holds_as F c.args.context.now c.args.outer.value c.args.name.now c.args.self.now c.call_behind.new.self c.in_ok-given.given _ (sym c.is_some.ensures) (c.in_ok-given.ensures.does F e)
+    holds_as F c.args.context.now c.args.outer.value c.args.name.now c.args.self.now c.call_after.new.self c.in_ok-given.given _ (sym c.is_some.ensures) (c.in_ok-given.ensures.does F e)

@@ -1,6 +1,6 @@
 use Rattle.drv_args.proofs.Lookups.{no_rows, rows_at}
 use Rattle.drv_args.specs.Options.{option_table}
-use Rattle.drv_args.proofs.option_table.rows_behind.Goals as goal
+use Rattle.drv_args.proofs.option_table.rows_after.Goals as goal
 use Rattle.std.proofs.Common.{arith, refl}
 
 pub returns-in-35 : goal.returns-in-35
