@@ -4,7 +4,7 @@ use Rattle.drv_args.specs.declared.line.Line.{Line}
 use Rattle.drv_machine.specs.Context.{Context}
 use Rattle.drv_plan.specs.Denoted.{Planned, begun, context_of, denoted, finished, planned, then_by, with_file, with_input, with_inputs}
 use Rattle.drv_plan.specs.Languages.{Alias, Missing, PairText, Worked, by_language, by_suffix, chosen, in_language, is_of_language, is_standard_input, is_suffix_of, chosen_for, last_pair, last_text, or_before, pair_meaning, with_suffix}
-use Rattle.drv_plan.specs.declared.going.Going.{Going}
+use Rattle.drv_plan.specs.declared.progress.Progress.{Progress}
 use Rattle.drv_search.specs.Search.{prefixes_of}
 use Rattle.drv_specs.specs.Dumping.{doubled}
 use Rattle.drv_specs.specs.Sets.{Set}
@@ -76,12 +76,12 @@ then_alike Unasked next next' same = refl
 then_alike (Is (Ok x)) next next' same = same x
 then_alike (Is (Err fault)) next next' same = refl
 
-input_doubled : (F : Facts) (set : Set) (place : ℕ) (input : Input) (g : Going) → with_input F (doubled set) place input g ≡ with_input F set place input g
+input_doubled : (F : Facts) (set : Set) (place : ℕ) (input : Input) (g : Progress) → with_input F (doubled set) place input g ≡ with_input F set place input g
 input_doubled F set place (File name language) g = ap (λ r. with_file F place name r g) (language_doubled set (File name language))
 input_doubled F set place (Library word) g = refl
 input_doubled F set place (LinkWord word) g = refl
 
-inputs_doubled : (F : Facts) (set : Set) (place : ℕ) (inputs : List Input) (g : Going) → with_inputs F (doubled set) place inputs g ≡ with_inputs F set place inputs g
+inputs_doubled : (F : Facts) (set : Set) (place : ℕ) (inputs : List Input) (g : Progress) → with_inputs F (doubled set) place inputs g ≡ with_inputs F set place inputs g
 inputs_doubled F set place [] g = refl
 inputs_doubled F set place (input ∷ inputs) g =
     ap (λ step. then_by step (λ g'. with_inputs F (doubled set) (place + 1) inputs g')) (input_doubled F set place input g)

@@ -11,7 +11,7 @@ use Rattle.drv_plan.specs.Denoted.{Planned, begun, after_job, after_text, contex
 use Rattle.drv_plan.specs.Languages.{Chosen, chosen_for}
 use Rattle.drv_plan.specs.declared.fault.PlanFault.TheVariants.{Memory}
 use Rattle.drv_plan.specs.declared.fault.PlanFault.{PlanFault}
-use Rattle.drv_plan.specs.declared.going.Going.{Going}
+use Rattle.drv_plan.specs.declared.progress.Progress.{Progress}
 use Rattle.drv_search.specs.Search.{prefixes_of}
 use Rattle.drv_search.specs.declared.prefixes.Prefixes.{Prefixes}
 use Rattle.drv_specs.specs.Sets.{Set, text_of}
@@ -64,13 +64,13 @@ refused_alike fault found defined alike (inl memory) = inl memory
 refused_alike fault found defined alike (inr refuses) = inr (alike ∙ refuses)
 
 -- a file, once what it is worked with is known
-pub file_chosen : (F : Facts) (set : Set) (place : ℕ) (input : Input) (name : List ℕ) (language : Option (List ℕ)) (chosen : Option Chosen) (g : Going)
+pub file_chosen : (F : Facts) (set : Set) (place : ℕ) (input : Input) (name : List ℕ) (language : Option (List ℕ)) (chosen : Option Chosen) (g : Progress)
     → input ≡ File name language → chosen_for set input ≡ Ok chosen → with_input F set place input g ≡ with_file F place name (Ok chosen) g
 file_chosen F set place input name language chosen g is chose =
     ap (λ i. with_input F set place i g) is ∙ ap (λ r. with_file F place name r g) (ap (chosen_for set) (sym is) ∙ chose)
 
 -- what has no language has no plan; words of the link aren't asked for theirs
-pub language_refused : (F : Facts) (set : Set) (place : ℕ) (input : Input) (g : Going) (fault : PlanFault) → (fault ≡ Memory) ⊎ (chosen_for set input ≡ Err fault)
+pub language_refused : (F : Facts) (set : Set) (place : ℕ) (input : Input) (g : Progress) (fault : PlanFault) → (fault ≡ Memory) ⊎ (chosen_for set input ≡ Err fault)
     → (fault ≡ Memory) ⊎ (with_input F set place input g ≡ Is (Err fault))
 language_refused F set place input g fault (inl memory) = inl memory
 language_refused F set place (File name language) g fault (inr refuses) = inr (ap (λ r. with_file F place name r g) refuses)
@@ -78,29 +78,29 @@ language_refused F set place (Library word) g fault (inr refuses) = absurd cc
 language_refused F set place (LinkWord word) g fault (inr refuses) = absurd cc
 
 -- a source, once its names are known
-pub source_chosen : (F : Facts) (place : ℕ) (name : List ℕ) (c : Chosen) (source : Source) (text : List ℕ) (g : Going)
+pub source_chosen : (F : Facts) (place : ℕ) (name : List ℕ) (c : Chosen) (source : Source) (text : List ℕ) (g : Progress)
     → source ≡ record { name = name; language = c.name } → text ≡ c.text → with_file F place name (Ok (Some c)) g ≡ with_source F place source text g
 source_chosen F place name c source text g is same =
     ap (λ (s : Source). with_source F place s c.text g) (sym is) ∙ ap (λ t. with_source F place source t g) (sym same)
 
 -- where the next input stands
-abbrev then_inputs : Facts → Set → ℕ → List Input → Planned Going → Planned Going
+abbrev then_inputs : Facts → Set → ℕ → List Input → Planned Progress → Planned Progress
 then_inputs F set place inputs step = then_by step (λ g. with_inputs F set place inputs g)
 
-at_input : (F : Facts) (set : Set) (inputs : List Input) (place : ℕ) (next : Input) (g : Going) → place < length inputs → next ≡ get_or inputs place next
+at_input : (F : Facts) (set : Set) (inputs : List Input) (place : ℕ) (next : Input) (g : Progress) → place < length inputs → next ≡ get_or inputs place next
     → with_inputs F set place (drop place inputs) g ≡ then_inputs F set (place + 1) (drop (place + 1) inputs) (with_input F set place next g)
 at_input F set inputs place next g below here =
     ap (λ left. with_inputs F set place left g) (drop_more inputs place next below ∙ ap (λ input. input ∷ drop (place + 1) inputs) (sym here))
 
 -- the next input is taken
-pub input_taken : (F : Facts) (set : Set) (inputs : List Input) (place : ℕ) (next : Input) (g after : Going) (whole : Planned Going)
+pub input_taken : (F : Facts) (set : Set) (inputs : List Input) (place : ℕ) (next : Input) (g after : Progress) (whole : Planned Progress)
     → place < length inputs → next ≡ get_or inputs place next → with_input F set place next g ≡ Is (Ok after) → with_inputs F set place (drop place inputs) g ≡ whole
     → with_inputs F set (place + 1) (drop (place + 1) inputs) after ≡ whole
 input_taken F set inputs place next g after whole below here is before =
     sym (at_input F set inputs place next g below here ∙ ap (then_inputs F set (place + 1) (drop (place + 1) inputs)) is) ∙ before
 
 -- the next input is refused
-pub input_refused : (F : Facts) (set : Set) (inputs : List Input) (place : ℕ) (next : Input) (g : Going) (fault : PlanFault) (whole : Planned Going)
+pub input_refused : (F : Facts) (set : Set) (inputs : List Input) (place : ℕ) (next : Input) (g : Progress) (fault : PlanFault) (whole : Planned Progress)
     → place < length inputs → next ≡ get_or inputs place next → (fault ≡ Memory) ⊎ (with_input F set place next g ≡ Is (Err fault)) → with_inputs F set place (drop place inputs) g ≡ whole
     → (fault ≡ Memory) ⊎ (whole ≡ Is (Err fault))
 input_refused F set inputs place next g fault whole below here (inl memory) before = inl memory
@@ -115,15 +115,15 @@ pub not_lent : {T V : Type 0} (now : T → V) (lent : Option T) (value : Option 
 not_lent now lent value shows is = sym shows ∙ ap (option_map now) is
 
 -- the link, where nothing is to be linked, and where there is something
-abbrev by_emptiness : Facts → Going → Option (List ℕ) → Bool → Planned (Option Job × Going)
+abbrev by_emptiness : Facts → Progress → Option (List ℕ) → Bool → Planned (Option Job × Progress)
 by_emptiness F g text none = if none then Is (Ok (None, g)) else with_text F text g
 
-pub link_empty : (F : Facts) (set : Set) (g : Going) (outputs : List (List ℕ)) (empty : Bool) → outputs ≡ g.outputs → empty ≡ (length outputs == 0) → empty ≡ true
+pub link_empty : (F : Facts) (set : Set) (g : Progress) (outputs : List (List ℕ)) (empty : Bool) → outputs ≡ g.outputs → empty ≡ (length outputs == 0) → empty ≡ true
     → with_link F set g ≡ Is (Ok (None, g))
 link_empty F set g outputs empty are tests none =
     ap (by_emptiness F g (text_of set (codes "link_command"))) (ap (λ list. length list == 0) (sym are) ∙ sym tests ∙ none)
 
-pub link_tried : (F : Facts) (set : Set) (g : Going) (outputs : List (List ℕ)) (empty : Bool) (name : List ℕ) (text : Option (List ℕ))
+pub link_tried : (F : Facts) (set : Set) (g : Progress) (outputs : List (List ℕ)) (empty : Bool) (name : List ℕ) (text : Option (List ℕ))
     → outputs ≡ g.outputs → empty ≡ (length outputs == 0) → empty ≡ false → name ≡ codes "link_command" → text_of set name ≡ text
     → with_link F set g ≡ with_text F text g
 link_tried F set g outputs empty name text are tests some named has =
@@ -131,17 +131,17 @@ link_tried F set g outputs empty name text are tests some named has =
     ∙ ap (λ t. with_text F t g) (ap (text_of set) (sym named) ∙ has)
 
 -- the inputs first, and then the rest
-abbrev after_inputs : Facts → Set → List Input → Going → Planned Plan
+abbrev after_inputs : Facts → Set → List Input → Progress → Planned Plan
 after_inputs F set inputs g = then_by (with_inputs F set 0 inputs g) (λ g'. finished F set g')
 
-pub inputs_worked : (F : Facts) (set : Set) (inputs : List Input) (g after : Going) → with_inputs F set 0 inputs g ≡ Is (Ok after) → after_inputs F set inputs g ≡ finished F set after
+pub inputs_worked : (F : Facts) (set : Set) (inputs : List Input) (g after : Progress) → with_inputs F set 0 inputs g ≡ Is (Ok after) → after_inputs F set inputs g ≡ finished F set after
 inputs_worked F set inputs g after went = goes after (with_inputs F set 0 inputs g) (λ g'. finished F set g') went
 
-pub inputs_refused : (F : Facts) (set : Set) (inputs : List Input) (g : Going) (fault : PlanFault) → (fault ≡ Memory) ⊎ (with_inputs F set 0 inputs g ≡ Is (Err fault))
+pub inputs_refused : (F : Facts) (set : Set) (inputs : List Input) (g : Progress) (fault : PlanFault) → (fault ≡ Memory) ⊎ (with_inputs F set 0 inputs g ≡ Is (Err fault))
     → (fault ≡ Memory) ⊎ (after_inputs F set inputs g ≡ Is (Err fault))
 inputs_refused F set inputs g fault refused = stops fault (with_inputs F set 0 inputs g) (λ g'. finished F set g') refused
 
-pub plan_begun : (F : Facts) (set : Set) (inputs : List Input) (C : Context) (start : Going) → start ≡ begun C → planned F set inputs C ≡ after_inputs F set inputs start
+pub plan_begun : (F : Facts) (set : Set) (inputs : List Input) (C : Context) (start : Progress) → start ≡ begun C → planned F set inputs C ≡ after_inputs F set inputs start
 plan_begun F set inputs C start is = ap (after_inputs F set inputs) (sym is)
 
 -- the prefixes are made first
@@ -153,58 +153,58 @@ prefixes_first F line set seed dirs inputs prefixes C dirs_are inputs_are made i
     ∙ ap (planned F set line.inputs) (sym is) ∙ ap (λ list. planned F set list C) (sym inputs_are)
 
 -- what a text leaves, once it is kept
-pub text_kept : (g : Going) (done : Outcome) (C : Context) (notes : List (List ℕ)) → notes ≡ g.notes ++ done.notices → C ≡ record g.context { options = done.accumulated; number = done.next_number }
+pub text_kept : (g : Progress) (done : Outcome) (C : Context) (notes : List (List ℕ)) → notes ≡ g.notes ++ done.notices → C ≡ record g.context { options = done.accumulated; number = done.next_number }
     → after_text done g ≡ record g { context = C; notes = notes }
 text_kept g done C notes told kept =
     ap (λ (D : Context). record g { context = D; notes = g.notes ++ done.notices }) (sym kept) ∙ ap (λ list. record g { context = C; notes = list }) (sym told)
 
-pub text_worked : (F : Facts) (text : List ℕ) (g after : Going) (done : Outcome) (job : Job) → outcome F g.context (tree_of text) ≡ Is (Ok done)
+pub text_worked : (F : Facts) (text : List ℕ) (g after : Progress) (done : Outcome) (job : Job) → outcome F g.context (tree_of text) ≡ Is (Ok done)
     → after ≡ after_text done g → job ≡ done.job → worked F text g ≡ Is (Ok (job, after))
 text_worked F text g after done job works kept same =
     text_goes done (outcome F g.context (tree_of text)) (λ o. Is (Ok (o.job, after_text o g))) works
-    ∙ ap (λ (j : Job). Is (Ok (j, after_text done g))) (sym same) ∙ ap (λ (g' : Going). Is (Ok (job, g'))) (sym kept)
+    ∙ ap (λ (j : Job). Is (Ok (j, after_text done g))) (sym same) ∙ ap (λ (g' : Progress). Is (Ok (job, g'))) (sym kept)
 
-pub text_refused : (F : Facts) (text : List ℕ) (g : Going) (fault : MachineFault) → (fault ≡ machine.Memory) ⊎ (outcome F g.context (tree_of text) ≡ Is (Err fault))
+pub text_refused : (F : Facts) (text : List ℕ) (g : Progress) (fault : MachineFault) → (fault ≡ machine.Memory) ⊎ (outcome F g.context (tree_of text) ≡ Is (Err fault))
     → (lifted fault ≡ Memory) ⊎ (worked F text g ≡ Is (Err (lifted fault)))
 text_refused F text g fault refused = text_stops fault (outcome F g.context (tree_of text)) (λ o. Is (Ok (o.job, after_text o g))) refused
 
 -- a source, once the context has it
-pub source_set : (g : Going) (source : Source) (C : Context) → C ≡ record g.context { input = Some source } → for_source source g ≡ record g { context = C }
+pub source_set : (g : Progress) (source : Source) (C : Context) → C ≡ record g.context { input = Some source } → for_source source g ≡ record g { context = C }
 source_set g source C is = ap (λ (D : Context). record g { context = D }) (sym is)
 
-pub source_worked : (F : Facts) (place : ℕ) (source : Source) (text : List ℕ) (g : Going) (C : Context) (job placed : Job) (worked_on after : Going) → C ≡ record g.context { input = Some source }
+pub source_worked : (F : Facts) (place : ℕ) (source : Source) (text : List ℕ) (g : Progress) (C : Context) (job placed : Job) (worked_on after : Progress) → C ≡ record g.context { input = Some source }
     → worked F text (record g { context = C }) ≡ Is (Ok (job, worked_on)) → placed ≡ of_source place job → after ≡ after_job placed worked_on → with_source F place source text g ≡ Is (Ok after)
 source_worked F place source text g C job placed worked_on after is works its added =
     goes (job, worked_on) (worked F text (for_source source g)) (λ done. Is (Ok (after_job (of_source place done.0) done.1))) (ap (worked F text) (source_set g source C is) ∙ works)
-    ∙ ap (λ (j : Job). Is (Ok (after_job j worked_on))) (sym its) ∙ ap (λ (g' : Going). Is (Ok g')) (sym added)
+    ∙ ap (λ (j : Job). Is (Ok (after_job j worked_on))) (sym its) ∙ ap (λ (g' : Progress). Is (Ok g')) (sym added)
 
-pub source_refused : (F : Facts) (place : ℕ) (source : Source) (text : List ℕ) (g : Going) (C : Context) (fault : PlanFault) → C ≡ record g.context { input = Some source }
+pub source_refused : (F : Facts) (place : ℕ) (source : Source) (text : List ℕ) (g : Progress) (C : Context) (fault : PlanFault) → C ≡ record g.context { input = Some source }
     → (fault ≡ Memory) ⊎ (worked F text (record g { context = C }) ≡ Is (Err fault)) → (fault ≡ Memory) ⊎ (with_source F place source text g ≡ Is (Err fault))
 source_refused F place source text g C fault is refused =
     stops fault (worked F text (for_source source g)) (λ done. Is (Ok (after_job (of_source place done.0) done.1)))
     (refused_alike fault (worked F text (record g { context = C })) (worked F text (for_source source g)) (ap (worked F text) (source_set g source C is)) refused)
 
 -- the link, once the context has its outputs
-pub link_set : (g : Going) (C D : Context) (outputs left none : List (List ℕ)) → C ≡ record g.context { input = None } → D ≡ record C { outputs = outputs }
+pub link_set : (g : Progress) (C D : Context) (outputs left none : List (List ℕ)) → C ≡ record g.context { input = None } → D ≡ record C { outputs = outputs }
     → outputs ≡ g.outputs → left ≡ none → none ≡ [] → for_link g ≡ record g { context = D; outputs = left }
 link_set g C D outputs left none first second are behind empty =
     ap (λ list. record g { context = record g.context { input = None; outputs = list }; outputs = [] }) (sym are)
     ∙ ap (λ (E : Context). record g { context = record E { outputs = outputs }; outputs = [] }) (sym first)
     ∙ ap (λ (E : Context). record g { context = E; outputs = [] }) (sym second) ∙ ap (λ list. record g { context = D; outputs = list }) (sym empty ∙ sym behind)
 
-pub link_done : (F : Facts) (text : List ℕ) (g after : Going) (job : Job) (link : Option Job) → worked F text (for_link g) ≡ Is (Ok (job, after)) → link ≡ with_command job
+pub link_done : (F : Facts) (text : List ℕ) (g after : Progress) (job : Job) (link : Option Job) → worked F text (for_link g) ≡ Is (Ok (job, after)) → link ≡ with_command job
     → with_text F (Some text) g ≡ Is (Ok (link, after))
 link_done F text g after job link works is =
     goes (job, after) (worked F text (for_link g)) (λ done. Is (Ok (linked done))) works ∙ ap (λ l. Is (Ok (l, after))) (sym is)
 
-pub link_refused : (F : Facts) (text : List ℕ) (g : Going) (fault : PlanFault) → (fault ≡ Memory) ⊎ (worked F text (for_link g) ≡ Is (Err fault)) → (fault ≡ Memory) ⊎ (with_text F (Some text) g ≡ Is (Err fault))
+pub link_refused : (F : Facts) (text : List ℕ) (g : Progress) (fault : PlanFault) → (fault ≡ Memory) ⊎ (worked F text (for_link g) ≡ Is (Err fault)) → (fault ≡ Memory) ⊎ (with_text F (Some text) g ≡ Is (Err fault))
 link_refused F text g fault refused = stops fault (worked F text (for_link g)) (λ done. Is (Ok (linked done))) refused
 
 -- the plan, once the link is known
-pub plan_finished : (F : Facts) (set : Set) (g after : Going) (link : Option Job) (plan : Plan) → with_link F set g ≡ Is (Ok (link, after)) → plan ≡ plan_of (link, after)
+pub plan_finished : (F : Facts) (set : Set) (g after : Progress) (link : Option Job) (plan : Plan) → with_link F set g ≡ Is (Ok (link, after)) → plan ≡ plan_of (link, after)
     → finished F set g ≡ Is (Ok plan)
 plan_finished F set g after link plan works is =
     goes (link, after) (with_link F set g) (λ done. Is (Ok (plan_of done))) works ∙ ap (λ (p : Plan). Is (Ok p)) (sym is)
 
-pub plan_refused : (F : Facts) (set : Set) (g : Going) (fault : PlanFault) → (fault ≡ Memory) ⊎ (with_link F set g ≡ Is (Err fault)) → (fault ≡ Memory) ⊎ (finished F set g ≡ Is (Err fault))
+pub plan_refused : (F : Facts) (set : Set) (g : Progress) (fault : PlanFault) → (fault ≡ Memory) ⊎ (with_link F set g ≡ Is (Err fault)) → (fault ≡ Memory) ⊎ (finished F set g ≡ Is (Err fault))
 plan_refused F set g fault refused = stops fault (with_link F set g) (λ done. Is (Ok (plan_of done))) refused

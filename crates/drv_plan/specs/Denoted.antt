@@ -10,7 +10,7 @@ use Rattle.drv_machine.specs.declared.outcome.Outcome.{Outcome}
 use Rattle.drv_plan.specs.Languages.{Chosen, chosen_for}
 use Rattle.drv_plan.specs.declared.fault.PlanFault.TheVariants.{Machine, Memory}
 use Rattle.drv_plan.specs.declared.fault.PlanFault.{PlanFault}
-use Rattle.drv_plan.specs.declared.going.Going.{Going}
+use Rattle.drv_plan.specs.declared.progress.Progress.{Progress}
 use Rattle.drv_search.specs.Search.{prefixes_of}
 use Rattle.drv_search.specs.declared.prefixes.Prefixes.{Prefixes}
 use Rattle.drv_specs.specs.Sets.{Set, text_of}
@@ -62,25 +62,25 @@ context_of line set prefixes seed = record {
 }
 
 -- nothing was worked yet
-abbrev pub begun : Context → Going
+abbrev pub begun : Context → Progress
 begun C = record { context = C; notes = []; jobs = []; outputs = []; passed_on = [] }
 
 -- behind a text: the options of %x and the number of the next name go on to the next one, and hidden switches don't
-abbrev pub after_text : Outcome → Going → Going
+abbrev pub after_text : Outcome → Progress → Progress
 after_text worked g = record g {
   context = record g.context { options = worked.accumulated; number = worked.next_number };
   notes = g.notes ++ worked.notices;
 }
 
 -- a text is worked: its job, and what goes on
-abbrev pub worked : Facts → List ℕ → Going → Planned (Job × Going)
+abbrev pub worked : Facts → List ℕ → Progress → Planned (Job × Progress)
 worked F text g = then_by (of_text (outcome F g.context (tree_of text))) (λ done. Is (Ok (done.job, after_text done g)))
 
-abbrev pub for_source : Source → Going → Going
+abbrev pub for_source : Source → Progress → Progress
 for_source source g = record g { context = record g.context { input = Some source } }
 
 -- the link takes the outputs
-abbrev pub for_link : Going → Going
+abbrev pub for_link : Progress → Progress
 for_link g = record g { context = record g.context { input = None; outputs = g.outputs }; outputs = [] }
 
 abbrev pub output_list : Option (List ℕ) → List (List ℕ)
@@ -92,34 +92,34 @@ abbrev pub of_source : ℕ → Job → Job
 of_source place job = record job { source = Some place }
 
 -- a source that has a job: its output is one of the link's
-abbrev pub after_job : Job → Going → Going
+abbrev pub after_job : Job → Progress → Progress
 after_job job g = record g { jobs = g.jobs ++ job ∷ []; outputs = g.outputs ++ output_list job.output }
 
 -- a word of the link: a library, or what -Wl and -Xlinker say
-abbrev pub after_word : List ℕ → Going → Going
+abbrev pub after_word : List ℕ → Progress → Progress
 after_word word g = record g { outputs = g.outputs ++ word ∷ [] }
 
 -- a file that is the linker's
-abbrev pub after_object : List ℕ → Going → Going
+abbrev pub after_object : List ℕ → Progress → Progress
 after_object name g = record g { outputs = g.outputs ++ name ∷ []; passed_on = g.passed_on ++ name ∷ [] }
 
 -- the source at this place of the line, which is worked with this text
-abbrev pub with_source : Facts → ℕ → Source → List ℕ → Going → Planned Going
+abbrev pub with_source : Facts → ℕ → Source → List ℕ → Progress → Planned Progress
 with_source F place source text g = then_by (worked F text (for_source source g)) (λ done. Is (Ok (after_job (of_source place done.0) done.1)))
 
 -- a file, by what it is worked with
-abbrev pub with_file : Facts → ℕ → List ℕ → Result (Option Chosen) PlanFault → Going → Planned Going
+abbrev pub with_file : Facts → ℕ → List ℕ → Result (Option Chosen) PlanFault → Progress → Planned Progress
 with_file F place name (Err fault) g = Is (Err fault)
 with_file F place name (Ok None) g = Is (Ok (after_object name g))
 with_file F place name (Ok (Some c)) g = with_source F place (record { name = name; language = c.name }) c.text g
 
-abbrev pub with_input : Facts → Set → ℕ → Input → Going → Planned Going
+abbrev pub with_input : Facts → Set → ℕ → Input → Progress → Planned Progress
 with_input F set place (File name language) g = with_file F place name (chosen_for set (File name language)) g
 with_input F set place (Library word) g = Is (Ok (after_word word g))
 with_input F set place (LinkWord word) g = Is (Ok (after_word word g))
 
 -- inputs, of which the first has this place in the line
-abbrev pub with_inputs : Facts → Set → ℕ → List Input → Going → Planned Going
+abbrev pub with_inputs : Facts → Set → ℕ → List Input → Progress → Planned Progress
 with_inputs F set place [] g = Is (Ok g)
 with_inputs F set place (input ∷ inputs) g = then_by (with_input F set place input g) (λ g'. with_inputs F set (place + 1) inputs g')
 
@@ -127,15 +127,15 @@ with_inputs F set place (input ∷ inputs) g = then_by (with_input F set place i
 abbrev pub with_command : Job → Option Job
 with_command job = if length job.groups == 0 then None else Some job
 
-abbrev pub linked : Job × Going → Option Job × Going
+abbrev pub linked : Job × Progress → Option Job × Progress
 linked done = (with_command done.0, done.1)
 
 -- the link, where there is anything to be linked and a text for it
-abbrev pub with_text : Facts → Option (List ℕ) → Going → Planned (Option Job × Going)
+abbrev pub with_text : Facts → Option (List ℕ) → Progress → Planned (Option Job × Progress)
 with_text F None g = Is (Ok (None, g))
 with_text F (Some text) g = then_by (worked F text (for_link g)) (λ done. Is (Ok (linked done)))
 
-abbrev pub with_link : Facts → Set → Going → Planned (Option Job × Going)
+abbrev pub with_link : Facts → Set → Progress → Planned (Option Job × Progress)
 with_link F set g = if length g.outputs == 0 then Is (Ok (None, g)) else with_text F (text_of set (codes "link_command")) g
 
 -- a word between two texts
@@ -148,14 +148,14 @@ unused (Some link) names = []
 unused None names = map (between (codes "warning: ") (codes ": linker input file unused because linking not done")) names
 
 -- the notices: what texts tell, and behind it the files that no link takes
-abbrev pub notices : Option Job → Going → List (List ℕ)
+abbrev pub notices : Option Job → Progress → List (List ℕ)
 notices link g = g.notes ++ unused link g.passed_on
 
-abbrev pub plan_of : Option Job × Going → Plan
+abbrev pub plan_of : Option Job × Progress → Plan
 plan_of done = record { notices = notices done.0 done.1; jobs = done.1.jobs; link = done.0 }
 
 -- the plan, once all inputs were worked
-abbrev pub finished : Facts → Set → Going → Planned Plan
+abbrev pub finished : Facts → Set → Progress → Planned Plan
 finished F set g = then_by (with_link F set g) (λ done. Is (Ok (plan_of done)))
 
 -- the plan of inputs, in this context

@@ -2,7 +2,7 @@
 #![tactic(auto)]
 
 mod fault;
-mod going;
+mod progress;
 mod languages;
 mod laws;
 mod notices;

@@ -3,7 +3,7 @@
 ghost use Rattle.drv_plan.specs.Denoted.{between, notices, unused};
 ghost use Rattle.std.specs.Prelude.{◌≡◌, ◌++◌, IfOk, OnOk, map};
 
-use crate::going::Going;
+use crate::progress::Progress;
 use drv_words::{Job, Listing, Word};
 use std::alloc::{AllocError, Global};
 use std::mem;
@@ -63,12 +63,12 @@ fn push_unused(
 pub(crate) fn notices_of(
     alloc: Global,
     link: &Option<Job>,
-    going: &mut Going<'_>,
+    progress: &mut Progress<'_>,
 ) -> Result<Listing<Word>, AllocError>
-    ensures told { IfOk result (λ told. told ≡ notices link.now going.old) }
-    ensures jobs { going.new.jobs ≡ going.old.jobs }
+    ensures told { IfOk result (λ told. told ≡ notices link.now progress.old) }
+    ensures jobs { progress.new.jobs ≡ progress.old.jobs }
 {
-    let mut told = mem::replace(&mut going.notes, Listing::new(alloc));
-    push_unused(alloc, &mut told, link, going.passed_on.as_slice())?;
+    let mut told = mem::replace(&mut progress.notes, Listing::new(alloc));
+    push_unused(alloc, &mut told, link, progress.passed_on.as_slice())?;
     Ok(told)
 }

@@ -8,7 +8,7 @@ ghost use Rattle.drv_system.specs.Gives.{GivesKnown};
 ghost use Rattle.std.specs.Prelude.{◌≡◌, ◌==◌, ◌≢◌, IfErr, IfOk, Some, length};
 
 use crate::PlanFault;
-use crate::going::Going;
+use crate::progress::Progress;
 use crate::notices::notices_of;
 use crate::sources::add_inputs;
 use drv_args::{Input, Line};
@@ -46,17 +46,17 @@ fn is_empty_link(outputs: &[Word]) -> bool
 fn link_with<S: System>(
     alloc: Global,
     text: &SpecTree,
-    going: &mut Going<'_>,
+    progress: &mut Progress<'_>,
     sys: &mut S,
     facts: &mut FactTable,
 ) -> Result<Option<Job>, PlanFault>
     ensures asks { Asks (S.events sys.old) (S.events sys.new) facts.old facts.new }
     ensures works { (F : Facts) → Extends facts.new F
-        → GivesKnown PlanFault.Memory (λ link. (link, going.new)) result
-        (with_text F (Some text.now) going.old) }
+        → GivesKnown PlanFault.Memory (λ link. (link, progress.new)) result
+        (with_text F (Some text.now) progress.old) }
     ensures apart { IfErr result (λ fault. fault ≢ PlanFault.Machine machine.Memory) }
 {
-    let job = going.work_link(alloc, text, sys, facts)?;
+    let job = progress.work_link(alloc, text, sys, facts)?;
     Ok(with_command(job))
 }
 
@@ -64,33 +64,33 @@ fn link_with<S: System>(
 fn link_of<S: System>(
     alloc: Global,
     set: &SpecSet,
-    going: &mut Going<'_>,
+    progress: &mut Progress<'_>,
     sys: &mut S,
     facts: &mut FactTable,
 ) -> Result<Option<Job>, PlanFault>
     ensures asks { Asks (S.events sys.old) (S.events sys.new) facts.old facts.new }
     ensures works { (F : Facts) → Extends facts.new F
-        → GivesKnown PlanFault.Memory (λ link. (link, going.new)) result
-        (with_link F set.now going.old) }
+        → GivesKnown PlanFault.Memory (λ link. (link, progress.new)) result
+        (with_link F set.now progress.old) }
     ensures apart { IfErr result (λ fault. fault ≢ PlanFault.Machine machine.Memory) }
 {
-    if is_empty_link(going.outputs.as_slice()) {
+    if is_empty_link(progress.outputs.as_slice()) {
         return Ok(None);
     }
     match set.tree(LINK_COMMAND) {
-        Some(text) => link_with(alloc, text, going, sys, facts),
+        Some(text) => link_with(alloc, text, progress, sys, facts),
         None => Ok(None),
     }
 }
 
 /// The plan with this link. Jobs and notices are moved out of what the inputs have given.
-fn plan_of(alloc: Global, link: Option<Job>, going: &mut Going<'_>) -> Result<Plan, AllocError>
-    ensures { IfOk result (λ plan. plan ≡ plan_of (link, going.old)) }
+fn plan_of(alloc: Global, link: Option<Job>, progress: &mut Progress<'_>) -> Result<Plan, AllocError>
+    ensures { IfOk result (λ plan. plan ≡ plan_of (link, progress.old)) }
 {
-    let notices = notices_of(alloc, &link, going)?;
+    let notices = notices_of(alloc, &link, progress)?;
     Ok(Plan {
         notices,
-        jobs: mem::replace(&mut going.jobs, Listing::new(alloc)),
+        jobs: mem::replace(&mut progress.jobs, Listing::new(alloc)),
         link,
     })
 }
@@ -99,17 +99,17 @@ fn plan_of(alloc: Global, link: Option<Job>, going: &mut Going<'_>) -> Result<Pl
 fn finish<S: System>(
     alloc: Global,
     set: &SpecSet,
-    going: &mut Going<'_>,
+    progress: &mut Progress<'_>,
     sys: &mut S,
     facts: &mut FactTable,
 ) -> Result<Plan, PlanFault>
     ensures asks { Asks (S.events sys.old) (S.events sys.new) facts.old facts.new }
     ensures works { (F : Facts) → Extends facts.new F
-        → GivesKnown PlanFault.Memory (λ plan. plan) result (finished F set.now going.old) }
+        → GivesKnown PlanFault.Memory (λ plan. plan) result (finished F set.now progress.old) }
     ensures apart { IfErr result (λ fault. fault ≢ PlanFault.Machine machine.Memory) }
 {
-    let link = link_of(alloc, set, going, sys, facts)?;
-    Ok(plan_of(alloc, link, going)?)
+    let link = link_of(alloc, set, progress, sys, facts)?;
+    Ok(plan_of(alloc, link, progress)?)
 }
 
 /// The plan of inputs, behind what was worked before them.
@@ -118,18 +118,18 @@ fn plan_inputs<'a, S: System>(
     alloc: Global,
     set: &'a SpecSet,
     inputs: &'a [Input],
-    going: &mut Going<'a>,
+    progress: &mut Progress<'a>,
     sys: &mut S,
     facts: &mut FactTable,
 ) -> Result<Plan, PlanFault>
     ensures asks { Asks (S.events sys.old) (S.events sys.new) facts.old facts.new }
     ensures works { (F : Facts) → Extends facts.new F
         → GivesKnown PlanFault.Memory (λ plan. plan) result
-        (then_by (with_inputs F set.now 0 inputs.now going.old) (λ g. finished F set.now g)) }
+        (then_by (with_inputs F set.now 0 inputs.now progress.old) (λ g. finished F set.now g)) }
     ensures apart { IfErr result (λ fault. fault ≢ PlanFault.Machine machine.Memory) }
 {
-    add_inputs(alloc, set, inputs, going, sys, facts)?;
-    finish(alloc, set, going, sys, facts)
+    add_inputs(alloc, set, inputs, progress, sys, facts)?;
+    finish(alloc, set, progress, sys, facts)
 }
 
 /// The plan of inputs, in this context.
@@ -147,8 +147,8 @@ fn planned<'a, S: System>(
         (planned F set.now inputs.now context.entry) }
     ensures apart { IfErr result (λ fault. fault ≢ PlanFault.Machine machine.Memory) }
 {
-    let mut going = Going::new(alloc, context);
-    plan_inputs(alloc, set, inputs, &mut going, sys, facts)
+    let mut progress = Progress::new(alloc, context);
+    plan_inputs(alloc, set, inputs, &mut progress, sys, facts)
 }
 
 /// The plan of a line over its specs: each source worked with the text of its language, in the

@@ -8,7 +8,7 @@ ghost use Rattle.drv_system.specs.Gives.{GivesKnown};
 ghost use Rattle.std.specs.Prelude.{◌≡◌, ◌≢◌, IfErr, Ok};
 
 use crate::PlanFault;
-use crate::going::Going;
+use crate::progress::Progress;
 use crate::languages::{Chosen, language};
 use drv_args::Input;
 use drv_machine::Source;
@@ -33,22 +33,22 @@ fn add_file<'a, S: System>(
     place: usize,
     name: &'a Word,
     chosen: Option<Chosen<'a>>,
-    going: &mut Going<'a>,
+    progress: &mut Progress<'a>,
     sys: &mut S,
     facts: &mut FactTable,
 ) -> Result<(), PlanFault>
     ensures asks { Asks (S.events sys.old) (S.events sys.new) facts.old facts.new }
     ensures works { (F : Facts) → Extends facts.new F
-        → GivesKnown PlanFault.Memory (λ _. going.new) result
-        (with_file F place name.now (Ok chosen.entry) going.old) }
+        → GivesKnown PlanFault.Memory (λ _. progress.new) result
+        (with_file F place name.now (Ok chosen.entry) progress.old) }
     ensures apart { IfErr result (λ fault. fault ≢ PlanFault.Machine machine.Memory) }
 {
     let Some(chosen) = chosen else {
-        going.add_object(name)?;
+        progress.add_object(name)?;
         return Ok(());
     };
     let source = source_of(name, &chosen);
-    going.add_source(alloc, place, source, chosen.tree, sys, facts)
+    progress.add_source(alloc, place, source, chosen.tree, sys, facts)
 }
 
 /// An input: a file in its language, or a word of the link, which has none.
@@ -57,25 +57,25 @@ fn add_input<'a, S: System>(
     set: &'a SpecSet,
     place: usize,
     input: &'a Input,
-    going: &mut Going<'a>,
+    progress: &mut Progress<'a>,
     sys: &mut S,
     facts: &mut FactTable,
 ) -> Result<(), PlanFault>
     ensures asks { Asks (S.events sys.old) (S.events sys.new) facts.old facts.new }
     ensures works { (F : Facts) → Extends facts.new F
-        → GivesKnown PlanFault.Memory (λ _. going.new) result
-        (with_input F set.now place input.now going.old) }
+        → GivesKnown PlanFault.Memory (λ _. progress.new) result
+        (with_input F set.now place input.now progress.old) }
     ensures apart { IfErr result (λ fault. fault ≢ PlanFault.Machine machine.Memory) }
 {
     let chosen = language(alloc, input, set)?;
     match input {
-        Input::File { name, .. } => add_file(alloc, place, name, chosen, going, sys, facts),
+        Input::File { name, .. } => add_file(alloc, place, name, chosen, progress, sys, facts),
         Input::Library(word) => {
-            going.add_word(word)?;
+            progress.add_word(word)?;
             Ok(())
         }
         Input::LinkWord(word) => {
-            going.add_word(word)?;
+            progress.add_word(word)?;
             Ok(())
         }
     }
@@ -91,18 +91,18 @@ pub(crate) fn add_inputs<'a, S: System>(
     alloc: Global,
     set: &'a SpecSet,
     inputs: &'a [Input],
-    going: &mut Going<'a>,
+    progress: &mut Progress<'a>,
     sys: &mut S,
     facts: &mut FactTable,
 ) -> Result<(), PlanFault>
     ensures asks { Asks (S.events sys.old) (S.events sys.new) facts.old facts.new }
     ensures works { (F : Facts) → Extends facts.new F
-        → GivesKnown PlanFault.Memory (λ _. going.new) result
-        (with_inputs F set.now 0 inputs.now going.old) }
+        → GivesKnown PlanFault.Memory (λ _. progress.new) result
+        (with_inputs F set.now 0 inputs.now progress.old) }
     ensures apart { IfErr result (λ fault. fault ≢ PlanFault.Machine machine.Memory) }
 {
     for (place, input) in inputs.iter().enumerate() {
-        add_input(alloc, set, place, input, going, sys, facts)?;
+        add_input(alloc, set, place, input, progress, sys, facts)?;
     }
     Ok(())
 }

@@ -5,11 +5,11 @@ use Rattle.std.proofs.Common.{Ok}
 
 pub returns-in_err-chosen-clause-works : goal.returns-in_err-chosen-clause-works
 returns-in_err-chosen-clause-works g c F e =
-    refusal_given c.in_err-chosen.field-0.0 c.from_residual.result _ (with_input F c.args.set.now c.args.place c.args.input.now c.args.going.now) c.from_residual.ensures.1
-    (language_refused F c.args.set.now c.args.place c.args.input.now c.args.going.now c.in_err-chosen.field-0.0 c.in_err-chosen.ensures.gives)
+    refusal_given c.in_err-chosen.field-0.0 c.from_residual.result _ (with_input F c.args.set.now c.args.place c.args.input.now c.args.progress.now) c.from_residual.ensures.1
+    (language_refused F c.args.set.now c.args.place c.args.input.now c.args.progress.now c.in_err-chosen.field-0.0 c.in_err-chosen.ensures.gives)
 
 pub returns-in-File-clause-works : goal.returns-in-File-clause-works
 returns-in-File-clause-works g c F e =
-    given_alike _ c.add_file.result (with_file F c.args.place c.in-File.name (Ok c.in_ok-chosen.chosen) c.args.going.now) (with_input F c.args.set.now c.args.place c.args.input.now c.args.going.now)
-    (file_chosen F c.args.set.now c.args.place c.args.input.now _ _ c.in_ok-chosen.chosen c.args.going.now c.in-File.is c.in_ok-chosen.ensures.gives)
+    given_alike _ c.add_file.result (with_file F c.args.place c.in-File.name (Ok c.in_ok-chosen.chosen) c.args.progress.now) (with_input F c.args.set.now c.args.place c.args.input.now c.args.progress.now)
+    (file_chosen F c.args.set.now c.args.place c.args.input.now _ _ c.in_ok-chosen.chosen c.args.progress.now c.in-File.is c.in_ok-chosen.ensures.gives)
     (c.add_file.ensures.works F e)

@@ -7,5 +7,5 @@ use Rattle.std.proofs.Common.{◌≡◌, drop}
 abbrev pub invariant-loop-place : goal.invariant-loop-place
 invariant-loop-place g l = record {
   asks : Asks (g.S.System.events l.fn.sys) (g.S.System.events l.sys) l.fn.facts l.facts;
-  rest : (F : Facts) → Extends l.facts F → with_inputs F l.set l.place (drop l.place l.inputs) l.going ≡ with_inputs F l.set 0 l.inputs l.fn.going;
+  rest : (F : Facts) → Extends l.facts F → with_inputs F l.set l.place (drop l.place l.inputs) l.progress ≡ with_inputs F l.set 0 l.inputs l.fn.progress;
 }

@@ -1,5 +1,5 @@
 use Rattle.drv_plan.proofs.Steps.{text_worked}
-use Rattle.drv_plan.proofs.going.Going.work.Goals as goal
+use Rattle.drv_plan.proofs.progress.Progress.work.Goals as goal
 use Rattle.std.proofs.Common.{◌∙◌}
 
 pub returns-clause-works : goal.returns-clause-works

@@ -1,4 +1,4 @@
-//! What goes on from one input of a line to the next.
+//! How far a plan is: what goes on from one input of the line to the next.
 
 ghost use Rattle.drv_machine.specs.declared.fault.MachineFault.TheVariants as machine;
 ghost use Rattle.drv_plan.specs.Denoted.{begun, after_job, after_object, after_text, after_word, for_link, of_source, output_list, with_source, worked};
@@ -15,9 +15,9 @@ use drv_words::{Job, Listing, Word};
 use std::alloc::{AllocError, Global};
 use std::mem;
 
-/// What goes on from one input to the next, and what they have given so far.
+/// How far a plan is: what goes on from one input to the next, and what they have given so far.
 #[derive(Drop)]
-pub(crate) struct Going<'a> {
+pub(crate) struct Progress<'a> {
     /// What the last text was worked for, with what it left to the next one.
     pub(crate) context: Context<'a>,
     /// What texts tell the user.
@@ -67,12 +67,12 @@ fn into_job(done: Outcome) -> Job
     done.job
 }
 
-impl<'a> Going<'a> {
+impl<'a> Progress<'a> {
     /// Nothing was worked yet.
-    pub(crate) fn new(alloc: Global, context: Context<'a>) -> Going<'a>
+    pub(crate) fn new(alloc: Global, context: Context<'a>) -> Progress<'a>
         ensures { result ≡ begun context.entry }
     {
-        Going {
+        Progress {
             context,
             notes: Listing::new(alloc),
             jobs: Listing::new(alloc),

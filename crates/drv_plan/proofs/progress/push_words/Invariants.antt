@@ -1,4 +1,4 @@
-use Rattle.drv_plan.proofs.going.push_words.Given as goal
+use Rattle.drv_plan.proofs.progress.push_words.Given as goal
 use Rattle.std.proofs.Common.{◌≡◌, ◌++◌, drop}
 
 abbrev pub invariant-loop-word : goal.invariant-loop-word

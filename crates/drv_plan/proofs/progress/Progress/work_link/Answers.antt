@@ -1,5 +1,5 @@
 use Rattle.drv_plan.proofs.Steps.{given_alike, link_set}
-use Rattle.drv_plan.proofs.going.Going.work_link.Goals as goal
+use Rattle.drv_plan.proofs.progress.Progress.work_link.Goals as goal
 use Rattle.drv_plan.specs.Denoted.{for_link, worked}
 use Rattle.std.proofs.Common.{ap}
 

@@ -1,5 +1,5 @@
 use Rattle.drv_plan.proofs.Steps.{refusal_given, source_refused, source_worked}
-use Rattle.drv_plan.proofs.going.Going.add_source.Goals as goal
+use Rattle.drv_plan.proofs.progress.Progress.add_source.Goals as goal
 use Rattle.drv_plan.specs.Denoted.{with_source}
 
 pub returns-in_err-job-clause-works : goal.returns-in_err-job-clause-works
