@@ -25,7 +25,7 @@ pub itself_by : (path : List ℕ) (answer : ReadAnswer) → (answer ≡ Missing)
 itself_by path answer (inl e) = ap (λ a. Is (by_answer path a)) e
 itself_by path answer (inr e) = ap (λ a. Is (by_answer path a)) e
 
--- what words in front and words behind them respond to
+-- what words in front and words after them respond to
 record Parts (F : Facts) (left : ℕ) (front words : List (List ℕ)) (left' : ℕ) (out : List (List ℕ)) : Type 0 where
   mid : ℕ
   out_front : List (List ℕ)
@@ -43,7 +43,7 @@ parts_of (word ∷ front) words (by_text {out = o} m splits inner rest) =
     let p = parts_of front words rest in
     record { mid = p.mid; out_front = o ++ p.out_front; out_after = p.out_after; is = ap (λ b. o ++ b) p.is ∙ sym (append_assoc o p.out_front p.out_after); first = by_text m splits inner p.first; second = p.second }
 
--- a refusal in words in front, or in those behind them
+-- a refusal in words in front, or in those after them
 data Refused (F : Facts) (left : ℕ) (front words : List (List ℕ)) (fault : ArgsFault) : Type 0 where
   in_front : Refuses F left front fault → Refused F left front words fault
   in_rest : {mid : ℕ} {out : List (List ℕ)} → Responds F left front mid out → Refuses F mid words fault → Refused F left front words fault

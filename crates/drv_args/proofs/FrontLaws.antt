@@ -31,12 +31,12 @@ comes (word ∷ next ∷ words) = by (start_of word) refl (comes (next ∷ words
     by Bad e others behind = bad_jobs e
     by (Wants effect option) e others behind = with_front (word ∷ next ∷ []) words (item effect option next) (with_next e) (items_of words) behind
 
--- a word that is a front by itself, and what is behind it
+-- a word that is a front by itself, and what is after it
 pub alone_first : (word : List ℕ) (i : Item) (words : List (List ℕ)) → start_of word ≡ Alone i → items_of (word ∷ words) ≡ and_items i (items_of words)
 alone_first word i [] e = ap (λ s. at_last s word) e
 alone_first word i (next ∷ words) e = ap (λ s. at_word s word next (items_of (next ∷ words)) (items_of words)) e
 
--- a word that wants the next one, and what is behind the two
+-- a word that wants the next one, and what is after the two
 pub with_next_first : (word next option : List ℕ) (effect : Effect) (words : List (List ℕ)) → start_of word ≡ Wants effect option → items_of (word ∷ next ∷ words) ≡ and_items (item effect option next) (items_of words)
 with_next_first word next option effect words e = ap (λ s. at_word s word next (items_of (next ∷ words)) (items_of words)) e
 

@@ -72,7 +72,7 @@ alone_next (w ∷ words) word bytes b b' effect option argument whole some first
     ∙ ap (line_with b) (sym (alone_first w i words (ap start_of (sym (same ∙ first)) ∙ sym starts)))
     ∙ so_far
 
--- the next word wants the one behind it
+-- the next word wants the one after it
 pub wants_next : (left : List (List ℕ)) (word bytes next next_bytes : List ℕ) (b b' : LineBuilder) (effect : Effect) (option : List ℕ) (whole : Result Line ArgsFault)
     → 1 ≤ length left → word ≡ get_or left 0 word → bytes ≡ word → Wants effect option ≡ start_of bytes
     → 1 ≤ length (take (length left - 1) (drop 1 left)) → next ≡ get_or (take (length left - 1) (drop 1 left)) 0 next → next_bytes ≡ next → b' ≡ noted b (item effect option next_bytes)

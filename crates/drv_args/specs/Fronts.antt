@@ -36,7 +36,7 @@ by_form Separate effect option word = Wants effect option
 by_form Joined effect option word = Alone (item effect option (drop (length option) word))
 by_form Either effect option word = with_rest (length option == length word) effect option (drop (length option) word)
 
--- what stands behind --jobs is a number of jobs, or the word is refused
+-- what stands after --jobs is a number of jobs, or the word is refused
 abbrev pub is_bad : Effect → List ℕ → Bool
 is_bad effect.Jobs argument = is_none (jobs_named argument)
 is_bad _ argument = false
@@ -86,7 +86,7 @@ at_last (Alone i) word = Ok (i ∷ [])
 at_last (Wants effect option) word = Err (MissingArgument word)
 at_last Bad word = Err (BadJobs word)
 
--- a word with others behind it: what those come to, the next one included or not
+-- a word with others after it: what those come to, the next one included or not
 abbrev pub at_word : Start → List ℕ → List ℕ → Result (List Item) ArgsFault → Result (List Item) ArgsFault → Result (List Item) ArgsFault
 at_word (Alone i) word next from_next after_next = and_items i from_next
 at_word (Wants effect option) word next from_next after_next = and_items (item effect option next) after_next

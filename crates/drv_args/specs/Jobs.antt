@@ -35,7 +35,7 @@ abbrev pub in_range : Option ℕ → Option ℕ
 in_range None = None
 in_range (Some n) = if is_within 1 most_jobs n then Some n else None
 
--- the number that stands behind --jobs, an equals sign and digits, if one does
+-- the number that stands after --jobs, an equals sign and digits, if one does
 abbrev pub jobs_named : List ℕ → Option ℕ
 jobs_named [] = None
 jobs_named (b ∷ digits) = if b == equals then in_range (number_of digits) else None

@@ -62,7 +62,7 @@ preprocessor_pieces (effect.Pieces tool.Preprocessor) argument = pieces_of argum
 preprocessor_pieces (effect.Piece tool.Preprocessor) argument = argument ∷ []
 preprocessor_pieces _ argument = []
 
--- the language in force behind -x: `none` turns it off
+-- the language in force after -x: `none` turns it off
 abbrev pub language_of : List ℕ → Option (List ℕ)
 language_of word = if same word (codes "none") then None else Some word
 

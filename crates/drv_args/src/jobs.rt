@@ -57,7 +57,7 @@ fn in_range(number: Option<usize>) -> Option<usize>
     None
 }
 
-/// The number of jobs that stands behind `--jobs`: an equals sign, and a number from 1 to 64 in
+/// The number of jobs that stands after `--jobs`: an equals sign, and a number from 1 to 64 in
 /// decimal digits without a leading zero.
 pub(crate) fn jobs_named(behind: &[u8]) -> Option<usize>
     ensures { result ≡ jobs_named behind.now }

@@ -91,7 +91,7 @@ enum Start<'a> {
     Bad,
 }
 
-/// The rest of a word behind an option.
+/// The rest of a word after an option.
 fn rest_after<'a>(word: &'a [u8], option: &[u8]) -> &'a [u8]
     ensures { result.now ≡ drop (length option.now) word.now }
 {

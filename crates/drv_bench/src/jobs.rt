@@ -99,7 +99,7 @@ fn add_option(text: &mut Word, length: usize) -> Result<(), AllocError> {
     text.push(b'\n')
 }
 
-/// A response text of so many options, each with a newline behind it.
+/// A response text of so many options, each with a newline after it.
 fn response(alloc: Global, count: usize, length: usize) -> Result<Word, AllocError> {
     let mut text = Word::empty(alloc);
     for _ in 0..count {

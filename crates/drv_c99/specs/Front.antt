@@ -47,7 +47,7 @@ pub data Start : Type 0 where
   Ends : Start
   Unknown : Start
 
--- what stands behind an option's letter is its argument, if anything does
+-- what stands after an option's letter is its argument, if anything does
 abbrev pub with_argument : Taking → List ℕ → Start
 with_argument option [] = Wants option
 with_argument option (b ∷ rest) = Joined option (b ∷ rest)
@@ -68,7 +68,7 @@ start_before [] = Names []
 start_before (b ∷ []) = Names []
 start_before (b ∷ letter ∷ rest) = if b == hyphen then option_start letter rest else Names []
 
--- behind the end of the options a library is read still, and any other word that begins with a hyphen is a file
+-- after the end of the options a library is read still, and any other word that begins with a hyphen is a file
 abbrev pub hyphened_start : List ℕ → Start
 hyphened_start [] = Names (codes "./")
 hyphened_start (letter ∷ rest) = if pointwise nat_eq (hyphen ∷ letter ∷ []) (codes "-l") then with_argument Library rest else Names (codes "./")
@@ -115,7 +115,7 @@ at_last (Wants option) word = Err (MissingArgument (name_of option))
 at_last Ends word = Ok []
 at_last Unknown word = Err (UnknownOption word)
 
--- a word with others behind it: what those come to, the next one included, left out, or where the options have ended
+-- a word with others after it: what those come to, the next one included, left out, or where the options have ended
 abbrev pub at_word : Start → List ℕ → List ℕ → Result (List Item) C99Fault → Result (List Item) C99Fault → Result (List Item) C99Fault → Result (List Item) C99Fault
 at_word Flag word next from_next after_next ended = and_items (Ok (Passed (word ∷ []))) from_next
 at_word (Names prefix) word next from_next after_next ended = and_items (Ok (Operand (prefix ++ word))) from_next

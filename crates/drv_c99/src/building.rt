@@ -59,7 +59,7 @@ fn is_level(argument: &[u8]) -> bool
     matches!(argument, b"0" | b"1")
 }
 
-/// Moves a list's words behind others.
+/// Moves a list's words after others.
 fn move_list(list: Listing<Word>, words: &mut Vec<Word>) -> Result<(), AllocError>
     ensures { OnOk result (words.new.items ≡ words.old.items ++ list) }
 {
@@ -126,7 +126,7 @@ impl Front {
         Ok(added?)
     }
 
-    /// Moves its words behind others: what is defined, what is undefined, and all else.
+    /// Moves its words after others: what is defined, what is undefined, and all else.
     fn move_after(&mut self, alloc: Global, words: &mut Vec<Word>) -> Result<(), AllocError>
         ensures { OnOk result (words.new.items
             ≡ words.old.items ++ self.old.defined ++ self.old.undefined ++ self.old.others) }

@@ -74,7 +74,7 @@ pub(crate) enum Start<'a> {
     Unknown,
 }
 
-/// An option with what stands behind its letter.
+/// An option with what stands after its letter.
 fn with_argument<'a>(option: Taking, rest: &'a [u8]) -> Start<'a>
     ensures { start_shown result ≡ with_argument option rest.now }
 {
@@ -113,7 +113,7 @@ fn start_before<'a>(word: &'a [u8]) -> Start<'a>
     }
 }
 
-/// How a word begins behind the end of the options.
+/// How a word begins after the end of the options.
 fn start_after<'a>(word: &'a [u8]) -> Start<'a>
     ensures { start_shown result ≡ start_after word.now }
 {
@@ -129,7 +129,7 @@ fn start_after<'a>(word: &'a [u8]) -> Start<'a>
 pub(crate) enum Part {
     /// That before the end of the options.
     BeforeEnd,
-    /// That behind it.
+    /// That after it.
     BehindEnd,
 }
 

@@ -43,7 +43,7 @@ fn add_words(alloc: Global, front: &mut Front, words: &[Word]) -> Result<(), C99
 
 /// The words of the driver for a line of `c99`: `-std=c99`, what `-D` defines, what `-U` undefines,
 /// and all else in its order (POSIX, c99). An argument is a word of its own, but for those of `-O`
-/// and `-l`; behind `--` an operand that begins with a hyphen gets `./` in front.
+/// and `-l`; after `--` an operand that begins with a hyphen gets `./` in front.
 ///
 /// # Errors
 /// At the first offending word `UnknownOption` with the word, `MissingArgument` with the option, or

@@ -11,7 +11,7 @@ use Rattle.std.specs.Prelude.{◌==◌, ◌&&◌, ◌||◌, Bool, List, [], ◌�
 
 -- Parts of a name.
 
--- the bytes before the last one of a kind, and those behind it, if there is one
+-- the bytes before the last one of a kind, and those after it, if there is one
 abbrev pub parted : ℕ → List ℕ → Option (List ℕ × List ℕ)
 parted mark [] = None
 parted mark (b ∷ bs) = by (parted mark bs)
@@ -20,7 +20,7 @@ parted mark (b ∷ bs) = by (parted mark bs)
     by (Some parts) = Some (b ∷ parts.0, parts.1)
     by None = if b == mark then Some ([], bs) else None
 
--- what stands behind the last slash of a name, and its folder with that slash
+-- what stands after the last slash of a name, and its folder with that slash
 abbrev pub base : List ℕ → List ℕ
 base name = by (parted slash name)
   where

@@ -51,7 +51,7 @@ row_of s entry = record { option = option_of entry; takes = s.takes; name = or_i
 abbrev pub section_rows : Section → List OptionRow
 section_rows s = map (row_of s) (texts s.entries)
 
--- an option that takes the rest of a word stands behind those that begin with it
+-- an option that takes the rest of a word stands after those that begin with it
 unfoldable pub sections : List Section
 sections =
     section Nothing Alone Switch

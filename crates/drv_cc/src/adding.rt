@@ -124,7 +124,7 @@ fn add_path_prefixes(
     }
 }
 
-/// Adds all folders of programs behind those of the line.
+/// Adds all folders of programs after those of the line.
 fn add_all_prefixes(
     alloc: Global,
     around: &Surroundings,

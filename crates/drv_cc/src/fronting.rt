@@ -106,7 +106,7 @@ fn answer_of(
 /// are the names of options beyond this crate's table, as `gcc --completion=-` says them, those
 /// that end with `=` with any argument; `named` are names of switches that spec files of the line
 /// have, which no option has to be, those that end with `*` with any rest. Of the words each is
-/// spelled as gcc's driver hands it on, of options of one class the last stays, and behind them
+/// spelled as gcc's driver hands it on, of options of one class the last stays, and after them
 /// stands what gcc's driver adds: words that begin with `--gdrv-` are for the spec file.
 ///
 /// # Errors

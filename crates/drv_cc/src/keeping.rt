@@ -87,7 +87,7 @@ fn has_class(items: &[Item], class: &[u8]) -> bool
     items.iter().any(|other| class == other.class.as_bytes())
 }
 
-/// Whether an item goes, by those behind it.
+/// Whether an item goes, by those after it.
 fn goes(item: &Item, behind: &[Item]) -> bool
     ensures { result ≡ goes item.now behind.now }
 {

@@ -6,7 +6,7 @@ ghost use Rattle.std.specs.Prelude.{◌≡◌};
 
 use crate::reading::rest_after;
 
-/// The bytes before the last one of a kind, and those behind it, if there is one.
+/// The bytes before the last one of a kind, and those after it, if there is one.
 pub(crate) fn parted(mark: u8, name: &[u8]) -> Option<(&[u8], &[u8])>
     ensures { option_map (λ parts. (parts.0.now, parts.1.now)) result ≡ parted mark name.now }
 {

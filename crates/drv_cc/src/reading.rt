@@ -20,7 +20,7 @@ enum Start {
     Wants(Row),
 }
 
-/// The rest of a word behind an option.
+/// The rest of a word after an option.
 pub(crate) fn rest_after<'a>(word: &'a [u8], option: &[u8]) -> &'a [u8]
     ensures { result.now ≡ drop (length option.now) word.now }
 {
@@ -31,7 +31,7 @@ pub(crate) fn rest_after<'a>(word: &'a [u8], option: &[u8]) -> &'a [u8]
     }
 }
 
-/// An option with what stands behind it in its word.
+/// An option with what stands after it in its word.
 fn with_rest(alloc: Global, row: Row, rest: &[u8]) -> Result<Start, AllocError>
     ensures { IfOk result (λ start. start_shown start ≡ with_rest row.takes (shown row) rest.now) }
 {

@@ -43,7 +43,7 @@ fn renames() -> &'static [Rename]
 }
 
 impl Rename {
-    /// Whether a word begins so, and goes on behind it.
+    /// Whether a word begins so, and goes on after it.
     fn fits(&self, word: &[u8]) -> bool
         ensures { result ≡ is_longer word.now (pair_shown self.now) }
     {

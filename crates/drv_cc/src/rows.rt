@@ -18,7 +18,7 @@ macro_rules! section {
     };
 }
 
-/// The sections. An option that takes the rest of a word stands behind those that begin with it.
+/// The sections. An option that takes the rest of a word stands after those that begin with it.
 const SECTIONS: [Section; 52] = [
     section!(
         Nothing,

@@ -139,7 +139,7 @@ fn files(items: &[Item]) -> Count<'_>
     count
 }
 
-/// The language of the files behind an item.
+/// The language of the files after an item.
 fn language_by<'a>(language: &'a [u8], item: &'a Item) -> &'a [u8]
     ensures { result.now ≡ language_by language.now item.now }
 {

@@ -96,7 +96,7 @@ fly_is jobs N f blocks keep c = ap (λ n. nat_eq n (min f.window f.unended)) (sy
     least : min f.window f.unended ≡ min N (count (length jobs) (λ j. left (stage_in f j)))
     least = ap (λ n. min n f.unended) c.window_is ∙ ap (λ n. min N n) c.unended_is
 
--- the test, where the source stands before the next that begins, there, and behind
+-- the test, where the source stands before the next that begins, there, and after
 
 before_next : (jobs : List Job) (N : ℕ) (f : Fleet) (blocks : List SourceBlock) → Keeps jobs N (stage_in f) blocks → Counts jobs N f blocks → (k : ℕ) → k < f.next → test jobs N f blocks k ≡ (left (stage_in f k) && may_go (all_fly f) f k)
 before_next jobs N f blocks keep c k lt = by (left (stage_in f k)) refl

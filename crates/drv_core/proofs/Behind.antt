@@ -22,7 +22,7 @@ use Rattle.drv_words.specs.declared.plan.Plan.{Plan}
 use Rattle.drv_words.specs.declared.steps.RunEvent.{RunEvent}
 use Rattle.std.proofs.Common.{◌≡◌, ◌<◌, ◌∙◌, Bool, false, true, List, [], ◌∷◌, ◌++◌, ap, append-nil, get_or, length, subst, suc, sym, ℕ}
 
--- Behind the sources no story goes on.
+-- After the sources no story goes on.
 
 -- the sources that ran, and blocks of the link and of the removals at the end
 pub record Behind (plan : Plan) (N : ℕ) (E : List RunEvent) : Type 0 where

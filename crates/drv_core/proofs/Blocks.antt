@@ -40,7 +40,7 @@ starts_fit (c ∷ cs) [] = false
 starts_fit (c ∷ cs) (start.Started id ∷ xs) = starts_fit cs xs
 starts_fit (c ∷ cs) (start.NotStarted why ∷ xs) = none xs
 
--- One block from a stage between blocks, and the stage behind it.
+-- One block from a stage between blocks, and the stage after it.
 
 pub record ClaimBlock (k : ℕ) (job : Job) (i : ℕ) (b : Block) (m : Stage) : Type 0 where
   pub a : Told ClaimAnswer

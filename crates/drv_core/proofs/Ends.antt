@@ -105,7 +105,7 @@ few_unlinked plan =
     let d : length (files_from 0 plan.jobs ++ files_from (0 + length plan.jobs) (option_to_list plan.link)) ≡ length (files_from 0 plan.jobs) + length (files_from (0 + length plan.jobs) (option_to_list plan.link)) = length-append {A = File} (files_from 0 plan.jobs) (files_from (0 + length plan.jobs) (option_to_list plan.link)) in
     omega (arith, a, b, c, d)
 
--- behind the link
+-- after the link
 pub link_ends : (plan : Plan) (N : ℕ) (c : Course) (job : Job) → plan.link ≡ Some job → Linking plan N (most_of plan + first_cost job) job Ended c.events → Holds plan N (after_link plan job c)
 link_ends plan N c job is k = removing_holds plan N 0 c (due_files plan job (λ j. tally j c.events)) (end_of_link plan N (most_of plan + first_cost job) job c.events k) (sym files) (omega arith) k.pipe bound
   where
@@ -125,7 +125,7 @@ link_ends plan N c job is k = removing_holds plan N 0 c (due_files plan job (λ 
         let le = k.bound in
         omega (arith, many, few, all, fits, cost, le)
 
--- behind the sources, where no link runs
+-- after the sources, where no link runs
 pub sources_end : (plan : Plan) (N : ℕ) (c : Course) → Over plan.jobs N (most_of plan) c.fleet c.events → link_by plan.link (run_code c.events) ≡ no_job → Holds plan N (after_link plan no_job c)
 sources_end plan N c o none_runs = removing_holds plan N 0 c (due_files plan no_job (λ j. tally j c.events)) (end_of_sources plan N (most_of plan) c.fleet c.events o none_runs) (sym files) (omega arith) o.pipe bound
   where

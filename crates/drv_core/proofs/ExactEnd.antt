@@ -87,7 +87,7 @@ last_after plan N S ran own last = of_after plan N S ran own last (suc (length p
     ∙ ap (λ (t : Bool). (if t then own else []) ++ (if nat_eq (suc (length plan.jobs)) (suc (length plan.jobs)) then last else [])) (apart (length plan.jobs) (suc (length plan.jobs)) (omega arith))
     ∙ ap (λ (t : Bool). if t then last else []) (nat_eq_equiv.refl (suc (length plan.jobs)))
 
--- Two ways to take one list of events apart: as a whole run, and as the sources that ran with what came behind them.
+-- Two ways to take one list of events apart: as a whole run, and as the sources that ran with what came after them.
 
 record Apart (plan : Plan) (N : ℕ) (o : Answers) (S : List RunEvent) (ran : Ran plan.jobs N S) (own last : List Block) : Type 0 where
   sources : (j : ℕ) → j < length plan.jobs → events_of (story j (get_or plan.jobs j no_job) (get_or o.jobs j no_answers)) ≡ events_of (of j ran.blocks)

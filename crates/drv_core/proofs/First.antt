@@ -27,7 +27,7 @@ no_test : (t : Bool) → t ≡ false → t ≡ true → ⊥
 no_test true e h = absurd cc
 no_test false e h = absurd cc
 
--- behind the sources no block of theirs comes
+-- after the sources no block of theirs comes
 
 shown_closed : (p : Position) (f : Fleet) → between_blocks (shown p).phase f ≡ false
 shown_closed p f = by (nat_lt p.remains.at (length p.remains.files))
@@ -63,7 +63,7 @@ removal_closed p a f = by (removal_failed (remove_of a))
     by true = refl
     by false = next_closed p f
 
--- behind a block the first is picked
+-- after a block the first is picked
 
 settled_first : (jobs : List Job) (f : Fleet) → not (inside (stage_in (settled jobs f) (settled jobs f).current)) ≡ true → get_or (able jobs (settled jobs f)) 0 (settled jobs f).next ≡ (settled jobs f).current
 settled_first jobs f = by (inside (stage_in f f.current)) refl

@@ -78,7 +78,7 @@ pub turn_about : (a b : ℕ) (t : Bool) → nat_eq a b ≡ t → nat_eq b a ≡ 
 turn_about a b true e = ap (λ n. nat_eq b n) (same a b e) ∙ nat_eq_equiv.refl b
 turn_about a b false e = grind (arith, nat_tests)
 
--- the current source stands behind none that hasn't begun
+-- the current source stands after none that hasn't begun
 current_before : (jobs : List Job) (N : ℕ) (f : Fleet) (E : List RunEvent) → (g : Going jobs N f E) → f.current ≤ f.next
 current_before jobs N f E g = by (nat_lt f.next f.current) refl
   where
@@ -99,7 +99,7 @@ current_before jobs N f E g = by (nat_lt f.next f.current) refl
         )
     by false e = is_not_less f.next f.current e
 
--- behind a block: another goes on, or all have ended
+-- after a block: another goes on, or all have ended
 settles : (jobs : List Job) (N : ℕ) (h : Fleet) (cur : ℕ) (st : ℕ → Stage) (E : List RunEvent) → 1 ≤ N → (r : Running jobs N st cur E) → inside (st cur) ≡ false → ((j : ℕ) → stage_in h j ≡ st j) → Counts jobs N h r.blocks
     → Going jobs N (chosen h) E ⊎ Landed jobs N (chosen h) E
 settles jobs N h cur st E some r out at c = by (find (length jobs) (λ j. left (stage_in h j)))

@@ -86,7 +86,7 @@ whole_waits (c ∷ cs) (start.NotStarted why ∷ []) [] e = refl
 whole_waits (c ∷ cs) (start.NotStarted why ∷ []) (w ∷ ws) e = absurd cc
 whole_waits (c ∷ cs) (start.NotStarted why ∷ x ∷ xs) ws e = absurd cc
 
--- behind the waits of a group
+-- after the waits of a group
 group_ends : (k : ℕ) (job : Job) (g : ℕ) (started failed : Bool) (gs : List GroupAnswers) (rs : List (Told RemoveAnswer)) → (if failed then none gs else whole_groups (drop (g + 1) job.groups) gs) ≡ true
     → length rs ≡ length (failed_removals ((failed || list_any group_failed gs) && (started || any_child gs)) job)
     → (whole_groups (drop (g + 1) job.groups) gs ≡ true → length rs ≡ length (failed_removals (list_any group_failed gs && (started || any_child gs)) job) → Walk k job (enter_group job (g + 1) started) (group_blocks k (g + 1) (drop (g + 1) job.groups) gs ++ own_removals k 0 rs))

@@ -31,7 +31,7 @@ pub record Counts (jobs : List Job) (N : ℕ) (f : Fleet) (blocks : List SourceB
   pub room_is : f.room ≡ N + 1
   pub rooms : (j : ℕ) → j < length jobs → (worker_in f j).room ≡ greatest (λ group. length group) (get_or jobs j no_job).groups
 
--- behind the first block of the next source, as if the source that is worked had more to do
+-- after the first block of the next source, as if the source that is worked had more to do
 pub record Opened (jobs : List Job) (N : ℕ) (f : Fleet) (blocks : List SourceBlock) : Type 0 where
   pub sizes : length f.workers ≡ length jobs
   pub next_within : f.next ≤ length jobs
@@ -61,7 +61,7 @@ pub and_none : (t : Bool) → (t && false) ≡ false
 and_none true = refl
 and_none false = refl
 
--- behind its last block
+-- after its last block
 pub counts_closed : (jobs : List Job) (N : ℕ) (f : Fleet) (blocks : List SourceBlock) → Opened jobs N f blocks → Counts jobs N (closed f) blocks
 counts_closed jobs N f blocks o = by (left (stage_in f f.current)) refl
   where
@@ -175,7 +175,7 @@ begun_next job e = left_begin job ∙ ap not e
 pub idle_next : (job : Job) → none job.groups ≡ true → left (begin job) ≡ false
 idle_next job e = left_begin job ∙ ap not e
 
--- a block of the source that is worked has ended: behind its first it has begun
+-- a block of the source that is worked has ended: after its first it has begun
 pub record Worked (jobs : List Job) (N : ℕ) (f g : Fleet) (blocks more : List SourceBlock) : Type 0 where
   pub counts : Counts jobs N f blocks
   pub same_next : g.next ≡ f.next

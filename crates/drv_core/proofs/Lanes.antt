@@ -30,7 +30,7 @@ use Rattle.std.specs.Prelude.{⊤}
 
 -- Each event tells whose it is: that of the job of its place, or of the job of the event before; a removal at the end is nobody's.
 
--- n: the number of the sources, which is the link's; behind it the removals at the end
+-- n: the number of the sources, which is the link's; after it the removals at the end
 abbrev pub remover : ℕ → Place → ℕ
 remover n (place.Command k g i) = k
 remover n (place.Temp k i) = suc n

@@ -30,7 +30,7 @@ use Rattle.std.proofs.Math.Seq.{get_or-append_seam}
 use Rattle.std.proofs.lemmas.Cmp.{nat_eq_equiv}
 use Rattle.std.specs.Option.{option_to_list}
 
--- The link behind the sources: each step can be made, and takes one of the events that can come.
+-- The link after the sources: each step can be made, and takes one of the events that can come.
 
 pub record Linking (plan : Plan) (N most : ℕ) (job : Job) (s : Stage) (E : List RunEvent) : Type 0 where
   pub sources : List RunEvent

@@ -131,11 +131,11 @@ removing_matches plan room p x from c due a is = by (nat_lt (sought x from (drop
         (shows (nat_lt (sought x from (drop from x.files)) (length x.files)) (not (none due)) (e ∙ sym (ap not (no_place due (is ∙ f.none_due (is_not_less (sought x from (drop from x.files)) (length x.files) e)))))
         (λ h. is_less (sought x from (drop from x.files)) (length x.files) h))
 
--- behind the link
+-- after the link
 first_matches : (plan : Plan) (room : ℕ) (p : Position) (c : Course) (job : Job) → Alike plan room p c → p.remains.gone ≡ replicate (length (all_files plan)) false → LinkNoted plan p.remains job → Matches plan room (removing_first p) (after_link plan job c)
 first_matches plan room p c job a gone l = removing_matches plan room p p.remains 0 c (due_files plan job (λ k. tally k c.events)) a (due_places plan p.remains job c.events a.files gone a.many a.counted l)
 
--- behind a file
+-- after a file
 next_matches : (plan : Plan) (room : ℕ) (p : Position) (c : Course) → Alike plan room p c → InEnd p.remains c.due → Matches plan room (removing_next p) (removing c (drop 1 c.due))
 next_matches plan room p c a h = removing_matches plan room p (record p.remains { gone = slice_set p.remains.gone (get_or p.remains.files p.remains.at no_left).first true }) (p.remains.at + 1) c (drop 1 c.due)
     (record { fleet = a.fleet; events = a.events; code = a.code; room_is = a.room_is; files = a.files; many = a.many; counted = record { sizes = a.counted.sizes; counts = a.counted.counts } })

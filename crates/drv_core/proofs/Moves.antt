@@ -5,7 +5,7 @@ use Rattle.drv_words.specs.declared.plan.Plan.{Plan}
 use Rattle.drv_words.specs.declared.steps.Step.{Step}
 use Rattle.std.proofs.Common.{◌≡◌, ◌∙◌, ap, sym}
 
--- The work goes on behind an answer.
+-- The work goes on after an answer.
 
 pub in_part : (plan : Plan) (p q r : Position) (s : Step) (a : Answer) (h : Phase) → q ≡ kept p s a → q.phase ≡ h → r ≡ moved_in h plan q a → r ≡ moved plan p s a
 in_part plan p q r s a h e at is = is ∙ ap (λ x. moved_in h plan x a) e ∙ ap (λ t. moved_in t plan (kept p s a) a) (sym at ∙ ap (λ x. x.phase) e)

@@ -14,7 +14,7 @@ use Rattle.std.specs.Cmp.Lexicographic.{pointwise, same_text}
 
 -- Files, and the numbers of their paths.
 
--- looking on behind a list
+-- looking on after a list
 
 abbrev pub found_then : Option ℕ → Option ℕ → Option ℕ
 found_then None o = o

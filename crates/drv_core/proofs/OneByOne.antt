@@ -14,7 +14,7 @@ use Rattle.std.proofs.lemmas.Cmp.{nat_eq_equiv}
 absent : (j : ℕ) (bs : List SourceBlock) → of j bs ≡ [] → has j bs ≡ false
 absent j bs e = rw e refl
 
--- the block of source k, where those before it have ended, and those behind it haven't begun
+-- the block of source k, where those before it have ended, and those after it haven't begun
 may : (n k : ℕ) (before later : List SourceBlock) (wait : Bool) → k < n → ((j : ℕ) → j < k → of j later ≡ []) → ((j : ℕ) → k < j → of j before ≡ []) → has k later ≡ true → ((j : ℕ) → j < k → in_flight (of j before) ≡ false) → (wait ≡ true → in_flight (of k before) ≡ true)
     → MayCome n 1 (λ j. has j before) (λ j. has j later || nowhere j) (λ j. in_flight (of j before)) k wait
 may n k before later wait lt ended waiting here done flies = record {

@@ -105,7 +105,7 @@ of_after m j (b ∷ bs) u h =
     let under : b.source < j = omega arith in
     rw (apart b.source j under) (of_after m j bs u.1 h)
 
--- one source's blocks, behind those of sources below it
+-- one source's blocks, after those of sources below it
 ordered_only : (lo n : ℕ) (bs : List SourceBlock) → lo ≤ n → Ordered lo (suc n) (only n bs)
 ordered_only lo n [] le = tt
 ordered_only lo n (b ∷ bs) le = by (nat_eq b.source n) refl (ordered_only lo n bs le) (ordered_only n n bs (omega arith))

@@ -17,7 +17,7 @@ clash : (t : Bool) → t ≡ true → t ≡ false → ⊥
 clash true e h = absurd cc
 clash false e h = absurd cc
 
--- behind the files before it, a path is found at its file if not before
+-- after the files before it, a path is found at its file if not before
 first_here : (i : ℕ) (p : List ℕ) (before : List File) (f : File) (rest : List File) → pointwise nat_eq p f.path ≡ true → first_with i p (before ++ f ∷ rest) ≡ Some (unwrap_or (first_with i p before) (i + length before))
 first_here i p [] f rest e = ap (λ (t : Bool). if t then Some i else first_with (i + 1) p rest) e ∙ ap (λ n. Some n) (let z : i ≡ i + 0 = omega arith in z)
 first_here i p (b ∷ before) f rest e = by (pointwise nat_eq p b.path) (first_here (i + 1) p before f rest e)

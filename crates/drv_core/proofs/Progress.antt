@@ -65,7 +65,7 @@ find (suc n) p = by (find n p)
 -- What holds between blocks: waits: which sources' next block is a wait.
 pub record Between (n N : ℕ) (begun left flying waits : ℕ → Bool) : Type 0 where
   pub in_window : count n (λ j. begun j && left j) ≤ N
-  -- a source that has begun stands behind none that hasn't begun and has blocks to come
+  -- a source that has begun stands after none that hasn't begun and has blocks to come
   pub in_order : (j k : ℕ) → j < k → begun k ≡ true → (not (begun j) && left j) ≡ false
   -- a child is in flight exactly where the next block is a wait, and then the source has begun and not ended
   pub fly : (j : ℕ) → j < n → flying j ≡ waits j

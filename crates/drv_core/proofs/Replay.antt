@@ -23,7 +23,7 @@ use Rattle.drv_words.specs.declared.steps.RunEvent.{RunEvent}
 use Rattle.drv_words.specs.declared.steps.Step.TheVariants as step
 use Rattle.std.proofs.Common.{◌≡◌, ◌<◌, ◌+◌, ◌||◌, Bool, false, true, List, [], ◌∷◌, ◌++◌, ap, append-nil, append_assoc, arith, get_or, if◌then◌else◌, length, length-append, nat_lt, refl, subst, sym, ℕ}
 
--- A block, event by event: the machine asks for each of its steps, and comes to the stage behind it.
+-- A block, event by event: the machine asks for each of its steps, and comes to the stage after it.
 
 abbrev pub Replays : ℕ → Job → Stage → List RunEvent → Stage → Type 0
 Replays k job s [] m = s ≡ m

@@ -33,7 +33,7 @@ pub replays_then : (k : ℕ) (job : Job) (s : Stage) (E : List RunEvent) (t : St
 replays_then k job s [] t F m p q = subst (λ u. Replays k job u F m) (sym p) q
 replays_then k job s (e ∷ E) t F m p q = (p.0, replays_then k job (after job s e.answer) E t F m p.1 q)
 
--- what is valid stays valid behind a block
+-- what is valid stays valid after a block
 
 one_valid : (k : ℕ) (job : Job) (s : Stage) (b : Block) (m : Stage) → Filled job → OneBlock k job s b m → Valid job m
 one_valid k job (Claims i) b m filled o = subst (λ t. Valid job t) (sym o.leads) (by (is_claimed o.a.answer))

@@ -6,7 +6,7 @@ use Rattle.std.specs.List.{filter}
 
 -- The sources that may go on, as the code finds them.
 
--- behind the list stands what is found where it has no such number
+-- after the list stands what is found where it has no such number
 found_after : (xs : List ℕ) (n k : ℕ) → get_or xs k n ≡ get_or (xs ++ n ∷ []) k n
 found_after [] n zero = refl
 found_after [] n (suc k) = refl

@@ -183,7 +183,7 @@ waits_more k job g started fault ids i b bs a lt is more = record {
   many = more.many ∙ ap (λ (t : Bool). length (failed_removals ((t || list_any group_failed more.gs) && (started || any_child more.gs)) job)) (or_assoc fault (wait_failed a) (list_any wait_failed more.ws));
 }
 
--- a group's starts are behind
+-- a group's starts are after
 groups_more : (k : ℕ) (job : Job) (g : ℕ) (was : Bool) (b : Block) (bs : List Block) (xs : List StartAnswer) (refused : Bool) → g < length job.groups → starts_fit (group_at job g) xs ≡ true
     → b ≡ starts_block k g (length (group_at job g)) 0 refused xs → TellsWaits k job g (was || not (none (ids_of xs))) (ids_of xs) 0 (any_refused xs) bs → TellsGroups k job g was (b ∷ bs)
 groups_more k job g was b bs xs refused lt fit is more = record {

@@ -118,7 +118,7 @@ await_all : (cs : List Child) (acts : List Act) → Waited [] acts → Waited cs
 await_all [] acts w = w
 await_all (c ∷ cs) acts w = awaits c cs (map Awaits cs ++ acts) (await_all cs acts w)
 
--- acts that may stand behind others: their children come behind this place
+-- acts that may stand after others: their children come after this place
 record Behind (g i : ℕ) (acts : List Act) : Type 0 where
   each : Waited [] acts
   once : Ascends g i acts

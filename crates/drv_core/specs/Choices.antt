@@ -13,7 +13,7 @@ use Rattle.std.specs.Prelude.{◌≡◌, ◌<◌, Bool, List, [], ◌∷◌, ◌
 
 -- Which sources may go on, where the events so far are whole blocks of the sources.
 
--- behind these blocks a source's story goes on, with a block that is a wait or isn't
+-- after these blocks a source's story goes on, with a block that is a wait or isn't
 pub record GoesOn (k : ℕ) (job : Job) (blocks : List Block) (wait : Bool) : Type 0 where
   pub a : JobAnswers
   pub all : whole_job job a ≡ true

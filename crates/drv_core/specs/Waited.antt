@@ -34,7 +34,7 @@ acts_of k s a = []
 abbrev pub acts_in : ℕ → List RunEvent → List Act
 acts_in k events = flat_map (λ e. acts_of k e.step e.answer) events
 
--- Behind these open children: each wait is for the one of them that was started first, and in the end none is open.
+-- After these open children: each wait is for the one of them that was started first, and in the end none is open.
 pub data Waited : List Child → List Act → Type 0 where
   over : Waited [] []
   begins : (child : Child) (waiting : List Child) (acts : List Act) → Waited (waiting ++ child ∷ []) acts → Waited waiting (Begins child ∷ acts)

@@ -158,7 +158,7 @@ impl Flight {
         self.current = self.nth_going(0);
     }
 
-    /// Behind its first block a source has begun.
+    /// After its first block a source has begun.
     fn open(&mut self, jobs: &[Job])
         requires jobs { self.old.current < length jobs.now }
         requires room { length self.old.begun.items < vec_capacity self.old.begun }
@@ -170,7 +170,7 @@ impl Flight {
         }
     }
 
-    /// Behind its last block it has ended.
+    /// After its last block it has ended.
     fn close(&mut self)
         ensures { fleet_of self.new ≡ closed (fleet_of self.old) }
     {

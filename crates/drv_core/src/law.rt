@@ -26,7 +26,7 @@ pub fn started_first()
         (plan.jobs ++ link_run plan.link o.jobs ∷ []) (o.jobs ++ o.link ∷ []) }
 {}
 
-/// The law that in the events of a whole run each child that was started is waited for once, behind
+/// The law that in the events of a whole run each child that was started is waited for once, after
 /// its start and at its place, that no other wait is made, and that no place starts a second child.
 pub fn waiting_law()
     ensures { (plan : Plan) (N : ℕ) (o : Answers) (events : List RunEvent)

@@ -271,7 +271,7 @@ impl Leftovers {
         }
     }
 
-    /// Goes to the next file that is to be removed, from this number on, or behind the last.
+    /// Goes to the next file that is to be removed, from this number on, or after the last.
     pub(crate) fn seek(&mut self, from: usize)
         ensures { remains_of self.new ≡ seeking (remains_of self.old) from }
     {

@@ -145,7 +145,7 @@ impl<'a> Run<'a> {
     }
 
     /// What the step of `next` was answered, by an answer of its kind; the number of a child that
-    /// was started is new. Behind a block of a source comes one of the first source that may go on.
+    /// was started is new. After a block of a source comes one of the first source that may go on.
     pub fn answer(&mut self, answer: Answer)
         requires more { IfDone self.old.action (λ status. ⊥) }
         requires fits { IfMake self.old.action (λ step. fits self.old.events step answer ≡ true) }

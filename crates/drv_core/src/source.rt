@@ -150,7 +150,7 @@ fn told_of(answer: Answer) -> bool
     }
 }
 
-/// Whether a number stands behind `index` below `count`.
+/// Whether a number stands after `index` below `count`.
 fn is_followed(index: usize, count: usize) -> bool
     ensures { result ≡ nat_lt (index + 1) count }
 {
@@ -389,7 +389,7 @@ impl SourceState {
         }
     }
 
-    /// Goes on behind a child that was waited for.
+    /// Goes on after a child that was waited for.
     fn pass_wait(&mut self, job: &Job, group: usize, index: usize, fault: bool)
         ensures stage { stage_at self.new
             ≡ enter_waits job.now group self.old.started_before self.old.children.items
@@ -407,7 +407,7 @@ impl SourceState {
         }
     }
 
-    /// Goes on behind a removal.
+    /// Goes on after a removal.
     fn pass_removal(&mut self, job: &Job, index: usize)
         ensures stage { stage_at self.new ≡ enter_removals job.now (index + 1) }
         ensures capacity { vec_capacity self.new.children ≡ vec_capacity self.old.children }

@@ -242,7 +242,7 @@ impl RunState {
         self.leave_sources();
     }
 
-    /// Behind the last source comes the link.
+    /// After the last source comes the link.
     fn leave_sources(&mut self)
         ensures { position_of self.new ≡ flown (position_of self.old) }
     {
@@ -330,7 +330,7 @@ impl RunState {
         }
     }
 
-    /// Goes on behind a file.
+    /// Goes on after a file.
     fn pass(&mut self)
         requires { self.old.leftovers.at < length self.old.leftovers.files.items }
         ensures { position_of self.new ≡ removing_next (position_of self.old) }

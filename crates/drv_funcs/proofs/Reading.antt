@@ -210,7 +210,7 @@ digit_step numbers number digits text i whole below digit few done = step ∙ do
     step : read_on numbers (number * 10 + (get_or text i 0 - byte "0")) (digits + 1) (drop (i + 1) text) ≡ read_on numbers number digits (drop i text)
     step = rw (drop_more text i 0 below, digit, lt-ltb digits 9 few) refl
 
--- a dot behind a part
+-- a dot after a part
 pub dot_step : (numbers after : List ℕ) (number digits : ℕ) (text : List ℕ) (i : ℕ) (whole : Option (List ℕ)) → i < length text → get_or text i 0 ≡ byte "." → 0 < digits → length numbers < 32 → after ≡ numbers ++ number ∷ [] → read_on numbers number digits (drop i text) ≡ whole → read_on after 0 0 (drop (i + 1) text) ≡ whole
 dot_step numbers after number digits text i whole below dot some room is done = rw is (step ∙ done)
   where

@@ -102,7 +102,7 @@ abbrev pub word_if : List ℕ → Result Bool FuncsFault → Given
 word_if word (Ok holds) = Ok (if holds then Some word else None)
 word_if word (Err fault) = Err fault
 
--- the arguments behind the comparison: one version or two, the prefix of a switch, and the word that is given
+-- the arguments after the comparison: one version or two, the prefix of a switch, and the word that is given
 abbrev pub with_versions : List (List ℕ) → List Bool → Operator → Bool → List (List ℕ) → Given
 with_versions names hidden operator false (first ∷ prefix ∷ word ∷ []) = word_if word (judged operator first first (value_of names hidden prefix))
 with_versions names hidden operator true (first ∷ second ∷ prefix ∷ word ∷ []) = word_if word (judged operator first second (value_of names hidden prefix))

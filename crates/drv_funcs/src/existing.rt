@@ -13,7 +13,7 @@ use drv_system::{FactTable, PathKind, System};
 use drv_words::Word;
 use std::alloc::AllocError;
 
-/// The value of the variable that the first argument names, and the second argument behind it.
+/// The value of the variable that the first argument names, and the second argument after it.
 pub fn getenv<S: System>(
     args: &[Word],
     sys: &mut S,

@@ -6,7 +6,7 @@ ghost use Rattle.std.specs.Prelude.{◌≡◌};
 /// A function of spec texts (GCC manual, "Spec Files").
 #[derive(Clone, Copy, Debug)]
 pub enum Function {
-    /// The value of a variable, and a string behind it.
+    /// The value of a variable, and a string after it.
     Getenv,
     /// A path that is there.
     IfExists,

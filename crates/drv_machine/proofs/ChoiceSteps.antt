@@ -66,7 +66,7 @@ pub no_choices_left : (text : List ℕ) (at : ℕ) (choices : Choices) (end : �
 no_choices_left text at tree.no_choice end h s = refl
 no_choices_left text at (tree.choice span tests items others) end h (next, part, within, behind) = absurd (omega (arith, h, part.later, stand_grows _ _ next (choice_nodes others) end behind))
 
--- behind the tests of an alternative stand its items
+-- after the tests of an alternative stand its items
 pub tests_after : (tests : Tests) (items : Items) → after_tests (both (test_nodes tests) (nodes_of items)) ≡ nodes_of items
 tests_after tree.no_test tree.none = refl
 tests_after tree.no_test (tree.more span item items) = rw (item_no_test item) refl
@@ -77,7 +77,7 @@ no_tests : (text : List ℕ) (at end : ℕ) (tests : Tests) → end ≡ at → S
 no_tests text at end tree.no_test h s = refl
 no_tests text at end (tree.test span negated asked tests) h (next, part, within, behind) = absurd (omega (arith, h, part.later, stand_grows _ _ next (test_nodes tests) end behind))
 
--- an X by the first of its tests that is true, and the alternatives behind it
+-- an X by the first of its tests that is true, and the alternatives after it
 abbrev pub by_found : Facts → Context → Items → Choices → Levels → List ℕ → Option Asked → Step (Unit {0})
 by_found F C items others levels star found = worked F C found (has_star items) (λ rest inside. items_step F C items inside rest) levels star (choices_step F C others levels star)
 
@@ -91,7 +91,7 @@ module _ (F : Facts) (C : Context) (text : List ℕ) (s t : Machine) (at end : �
   from_rest f = sym left.same ∙ ap (λ xs. run F C t (choices_step F C xs levels star)) f.is
 
   module _ (token : Token) (there : slice_get (tokens_of (tree_of text)) at ≡ Some token) where
-    -- the alternatives behind the first one
+    -- the alternatives after the first one
     pub others_there : (choices : Choices) × Stands text token.next (choice_nodes choices) end
     others_there =
         let f = front_choice text at left.rest end h left.stands in

@@ -75,7 +75,7 @@ module _ (F : Facts) (C : Context) where
   broken_plain : (c : Cut) → (broken F C c >>- as_plain) ≡ (broken F C (plain c) >>- as_plain)
   broken_plain c = broken_by c c.word c.marks.script c.marks.file
 
-  -- a pipe behind a word
+  -- a pipe after a word
   piped_plain : (a b : Answer Cut) → (a >>- as_plain) ≡ (b >>- as_plain) → ((a >>- λ d. Is (Ok (pipe_ended d))) >>- as_plain) ≡ ((b >>- λ d. Is (Ok (pipe_ended d))) >>- as_plain)
   piped_plain a b e =
       then_then a (λ d. Is (Ok (pipe_ended d))) as_plain
@@ -99,7 +99,7 @@ module _ (F : Facts) (C : Context) where
   taken_plain c FileFrom = refl
   taken_plain c FileTo = ap (λ (x : Cut). Is (Ok x)) (file_plain c c.outer)
 
-  -- an atom, and those behind it
+  -- an atom, and those after it
   then_plain : (x : Cut) (atom : Atom) (atoms : List Atom) → ((d : Cut) → (all_taken F C d atoms >>- as_plain) ≡ (all_taken F C (plain d) atoms >>- as_plain))
       → ((taken F C x atom >>- λ d. all_taken F C d atoms) >>- as_plain) ≡ ((taken F C x atom >>- as_plain) >>- λ d. all_taken F C d atoms >>- as_plain)
   then_plain x atom atoms next =
@@ -291,7 +291,7 @@ pipe_outside c None = words_outside (record c { outer = None }) c.line.words
 pipe_outside c (Some line) = refl
 
 module _ (F : Facts) (C : Context) where
-  -- behind a break
+  -- after a break
   broken_closed : (c d : Cut) → broken F C c ≡ Is (Ok d) → Closed d × (d.outer ≡ c.outer)
   broken_closed c d e = by (open_in c).begun (name_of F C (open_in c)) (sym (broken_is F C c) ∙ e)
     where

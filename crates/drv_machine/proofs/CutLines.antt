@@ -114,7 +114,7 @@ end_lined : (c : Cut) (outer : Option Line) → outer ≡ None → lined (line_e
 end_lined c None e = line_done_lined c c.line.words c.line.piped
 end_lined c (Some line) e = absurd cc
 
--- a pipe behind these words
+-- a pipe after these words
 pipe_done_lined : (c : Cut) (words : List (List ℕ)) → lined (pipe_done (record c { outer = None; line = record { words = words; piped = c.line.piped } }))
     ≡ record { outer = None; line = record { words = words; piped = true }; lines = c.lines; stray = if is_nil words then true else c.stray || c.line.piped }
 pipe_done_lined c [] = refl
@@ -295,7 +295,7 @@ module _ (F : Facts) (C : Context) where
   goes_alike x c run atoms ps s d same goes st =
       subst (λ (l : Lined). Commanded (commands run ps atoms) (open_command run ps atoms) s l.lines d) same (goes (subst (λ (l : Lined). Stands F C ps s l) (sym same) st))
 
-  -- a pipe behind a run
+  -- a pipe after a run
   pipe_after : (c d : Cut) (run atoms : List Atom) (ps : List Piece) (s : Bool) → c.outer ≡ None
       → (Stands F C ((ps ++ word_of (record { atoms = run; behind = atoms })) ++ Pipe ∷ []) s (lined (pipe_ended c)) → Commanded (commands run ps (Piped ∷ atoms)) (open_command run ps (Piped ∷ atoms)) s (pipe_ended c).lines d)
       → Stands F C (ps ++ word_of (record { atoms = run; behind = atoms })) s (lined c) → Commanded (commands run ps (Piped ∷ atoms)) (open_command run ps (Piped ∷ atoms)) s c.lines d

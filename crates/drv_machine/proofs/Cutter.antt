@@ -47,7 +47,7 @@ module _ (F : Facts) (C : Context) where
       ended : Cut → Answer (Unit {0} × Machine)
       ended d = Is (Ok (tt, record { cut = d; world = s.world }))
 
-  -- what is put first, and then what is put behind it
+  -- what is put first, and then what is put after it
   pub puts_then : (s : Machine) (xs ys : List Atom) → run F C s (puts (xs ++ ys)) ≡ (run F C s (puts xs) >>- λ r. run F C r.1 (puts ys))
   puts_then s xs ys = run_then F C s (puts xs) (λ u. puts ys)
 

@@ -96,7 +96,7 @@ seventeen = refl
 seventeen_apart : sizes (on [] (codes "a.c")) (times 16 (codes "c |\n") ++ codes "c") ≡ Is (Ok (times 17 (1 ∷ [])))
 seventeen_apart = refl
 
--- a mark behind a pipe is stray, and a list, a notice or a %V is not
+-- a mark after a pipe is stray, and a list, a notice or a %V is not
 stray_mark : sizes piping (codes "c |%d\nd") ≡ Is (Err StrayPipe)
 stray_mark = refl
 

@@ -18,7 +18,7 @@ use Rattle.std.specs.Fmt.{decimal}
 regroup : (a b c d e f : List ℕ) → (((((([] ++ a) ++ b) ++ c) ++ d) ++ e) ++ f) ≡ a ++ b ++ c ++ d ++ e ++ f
 regroup a b c d e f = simp append_assoc
 
--- a name in its parts, one put behind the other
+-- a name in its parts, one put after the other
 pub temp_named : (F : Facts) (dir : Option (List ℕ)) (seed number : ℕ) (suffix p0 p1 p2 p3 p4 p5 p6 : List ℕ) → variable_of F (codes "TMPDIR") ≡ Some dir
     → p0 ≡ [] → p1 ≡ p0 ++ folder dir → p2 ≡ p1 ++ codes "cc" → p3 ≡ p2 ++ hex 8 seed → p4 ≡ p3 ++ codes "_" → p5 ≡ p4 ++ decimal number → p6 ≡ p5 ++ suffix
     → temp_name F seed number suffix ≡ Is p6

@@ -64,7 +64,7 @@ pub well_given : (new whole : Machine) (result : Result (Unit {0}) MachineFault)
 well_given new whole (Ok u) given is ok memory = is ∙ ap (λ (m : Machine). Is (Ok (tt, m))) (sym ok)
 well_given new whole (Err fault) given is ok memory = inl memory
 
--- a script's path is put behind its option
+-- a script's path is put after its option
 pub script_finished : (path option : List ℕ) (s a b : Machine) → option ≡ script_option → a ≡ word_pushed option s → b ≡ record a { cut = word_done a.cut (path ∷ []) path }
     → b ≡ record s { cut = word_done s.cut (script_option ∷ path ∷ []) path }
 script_finished path option s a b eo ea eb =

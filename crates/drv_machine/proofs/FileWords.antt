@@ -154,7 +154,7 @@ module _ (F : Facts) (C : Context) where
       ∙ ap (λ v. all_seen v (atoms ++ Break ∷ []) >>- λ u. Is (Ok (seen_words u))) (sym e)
       ∙ sym (words_are c (atoms ++ Break ∷ []))
 
-  -- behind a break one may begin
+  -- after a break one may begin
   begun_as : {Y : Type 0} (c : Cut) (word : Option (List ℕ)) (script file : Bool) (f g : Cut → Answer Y) → ((d : Cut) → Begun (file_begun d) → f d ≡ g d)
       → (broken F C (record c { word = word; marks = record c.marks { script = script; file = file } }) >>- f) ≡ (broken F C (record c { word = word; marks = record c.marks { script = script; file = file } }) >>- g)
   begun_as c None script file f g e = e (record c { word = None; marks = no_marks; barred = false }) refl

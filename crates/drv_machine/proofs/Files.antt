@@ -75,7 +75,7 @@ module _ (F : Facts) (C : Context) where
   abbrev ended : World → Cut → Answer (Unit {0} × Machine)
   ended v d = Is (Ok (tt, record { cut = d; world = v }))
 
-  -- the file is named behind its words
+  -- the file is named after its words
   abbrev names_file : World → Cut → Answer (Unit {0} × Machine)
   names_file v d = done F C (file_done d) (named_file F C (words_in_file d) (outside v))
 

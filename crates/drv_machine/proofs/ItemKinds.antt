@@ -122,7 +122,7 @@ item_no_test item = by (kind_of item) (item_no_part item)
 pub item_no_alternative : (item : Item) → kind_of item ≡ kinds.Alternative → ⊥
 item_no_alternative item e = let f = item_no_part item in let g : is_part (kind_of item) ≡ true = ap is_part e in cc
 
--- the tests of an alternative, and its items behind them
+-- the tests of an alternative, and its items after them
 pub tests_first : (tests : Tests) (items : Items) → tests_in (both (test_nodes tests) (nodes_of items)) ≡ test_nodes tests
 tests_first tree.no_test tree.none = refl
 tests_first tree.no_test (tree.more span item items) = rw (item_no_test item) refl

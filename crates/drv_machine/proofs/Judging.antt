@@ -28,7 +28,7 @@ use Rattle.drv_system.specs.Known.{Is}
 use Rattle.std.proofs.Common.{◌≡◌, ◌⊎◌, ◌+◌, ◌∙◌, Bool, Err, List, None, Ok, Some, ap, arith, false, if◌then◌else◌, inl, inr, refl, slice_get, subst, sym, true, ℕ}
 use Rattle.std.proofs.lemmas.Option.{slice_get_within}
 
--- A test by a function, answered behind its arguments.
+-- A test by a function, answered after its arguments.
 
 module _ (F : Facts) (C : Context) (text : List ℕ) (w : Walk) (items : Items) (kept : Kept) (given : Answer (Unit {0} × Machine)) where
   -- the arguments have ended, and the function was called
@@ -75,7 +75,7 @@ module _ (F : Facts) (C : Context) (text : List ℕ) (w : Walk) (items : Items) 
         (λ levels star. first_true F C kept.tests levels star >>= found_step F C items kept.choices levels star) s
         (ap (λ holds. run F C s ((if holds then give (Some kept.asked) else first_true F C kept.tests (levels_in F C b.arounds) (star_of C w.star)) >>= found_step F C items kept.choices (levels_in F C b.arounds) (star_of C w.star))) t)
 
-    -- the tests behind it
+    -- the tests after it
     module _ (c : Behind F C text w asking.end (λ levels star. first_true F C kept.tests levels star >>= found_step F C items kept.choices levels star) s given) where
       abbrev others : Step (Unit {0})
       others = choices_step F C kept.choices (levels_in F C c.arounds) (star_of C w.star)

@@ -14,7 +14,7 @@ use Rattle.std.proofs.lemmas.Option.{slice_get_within}
 
 -- Items that are left of an open part, and the alternatives between them.
 
--- some alternatives, and others behind them
+-- some alternatives, and others after them
 abbrev choices_joined : Choices → Choices → Choices
 choices_joined tree.no_choice ys = ys
 choices_joined (tree.choice span tests items xs) ys = tree.choice span tests items (choices_joined xs ys)
@@ -31,7 +31,7 @@ lies_after text a b tree.none end s l = (choices_joined s.0 l.0, skips_join text
 lies_after text a b (tree.more span item items) end s (start, next, skips, part, within, behind) =
     (start, next, (choices_joined s.0 skips.0, skips_join text s.0 skips.0 a b start s.1 skips.1), part, within, behind)
 
--- some items, and others behind them
+-- some items, and others after them
 abbrev pub joined : Items → Items → Items
 joined tree.none ys = ys
 joined (tree.more span item xs) ys = tree.more span item (joined xs ys)

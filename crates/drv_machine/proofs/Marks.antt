@@ -85,7 +85,7 @@ module _ (F : Facts) where
   failure_file_none : left_behind (Put letter_a ∷ Break ∷ From ∷ Break ∷ To ∷ []) ≡ Is (Ok (None, []))
   failure_file_none = refl
 
-  -- a mark stands behind a pipe, and a %V doesn't
+  -- a mark stands after a pipe, and a %V doesn't
   abbrev is_stray : List Atom → Answer Bool
   is_stray atoms = all_taken F one_switch nothing_cut atoms >>- λ c. Is (Ok c.stray)
 

@@ -150,7 +150,7 @@ module _ (F : Facts) (C : Context) where
       ∙ then_then (run F C u (item_step F C item levels star)) (λ r. run F C r.1 (items_step F C others levels star)) k
 
   module _ (text : List ℕ) (w : Walk) (s : Machine) (given : Answer (Unit {0} × Machine)) where
-    -- the item that is reached, behind its count
+    -- the item that is reached, after its count
     pub after_item : (left : Left F C text w s given) (r : Reached text w.at left.rest w.end) (u : Machine) → run F C s counted ≡ Is (Ok (tt, u)) → Behind F C text w r.next (λ levels star. item_step F C r.item levels star) u given
     after_item left r u e = record {
       rest = r.others;
@@ -282,7 +282,7 @@ module _ (F : Facts) (C : Context) where
               ≡ (run F C s (items_step F C items (levels_left F C (most_open - n)) (drop size (name_at (names C) switch))) >>- λ r. ends F C (around ∷ b.arounds) r.1)
           deeper_is m n e = ap (λ k. run F C s (items_step F C items (levels_left F C (most_open - k)) (drop size (name_at (names C) switch))) >>- λ r. ends F C (around ∷ b.arounds) r.1) e
 
-    -- what a part was opened for, behind its end
+    -- what a part was opened for, after its end
     pub closes : (left : Left F C text w s given) → w.end ≤ w.at → (frame : Frame) (outer : List Frame) (o : Popped text C left.arounds frame outer) (v : Walk) → v.end ≡ frame.end → v.star ≡ frame.star → v.frames ≡ outer
         → After F C (text_around text frame.opened) v (back_of frame.opened) (λ levels star t. closing F C levels star frame.opened o.around.pattern o.around.items o.around.kept t) s given
     closes left h frame outer o v end_is star_is frames_is =

@@ -181,7 +181,7 @@ module _ (F : Facts) where
   cost_of_test : cost_of (linking (alone (codes "mv=2") ∷ [])) (codes "%{%:version-compare(>= 1 mv= x):y}") ≡ Is (Ok 12)
   cost_of_test = refl
 
-  -- tests behind one by a function, and alternatives behind it
+  -- tests after one by a function, and alternatives after it
   later_test : words_of (linking (alone (codes "q") ∷ [])) (codes "%{%:version-compare(>= 1 mv= x)|q:A;:B}") ≡ Is (Ok ((codes "A" ∷ []) ∷ []))
   later_test = refl
 
@@ -197,7 +197,7 @@ module _ (F : Facts) where
   later_for_each : words_of (linking (alone (codes "ma") ∷ alone (codes "mb") ∷ [])) (codes "%{%:version-compare(>= 1 mv= x):A;m*:%*}") ≡ Is (Ok ((codes "a" ∷ codes "b" ∷ []) ∷ []))
   later_for_each = refl
 
-  -- what is cut around arguments goes on behind them
+  -- what is cut around arguments goes on after them
   word_goes_on : words_of (linking (alone (codes "mv=2") ∷ [])) (codes "c a%:version-compare(>= 1 mv= x)b") ≡ Is (Ok ((codes "c" ∷ codes "axb" ∷ []) ∷ []))
   word_goes_on = refl
 
@@ -255,7 +255,7 @@ file_contents = rw (decimal_digit 1 (omega arith)) refl
 no_words : temps_of (from_file (on [] (codes "a.q"))) (codes "prog %@{I*} %i") ≡ Is (Ok [])
 no_words = refl
 
--- the name is drawn behind those inside, as by %u, and an inner %@ makes no file
+-- the name is drawn after those inside, as by %u, and an inner %@ makes no file
 drawn_after : texts.words_of untouched two_folders (codes "prog %@{I*:%g.s %@{I*}} %U.args") ≡ Is (Ok ((codes "prog" ∷ codes "@/tmp/cc0000002a_2.args" ∷ codes "/tmp/cc0000002a_2.args" ∷ []) ∷ []))
 drawn_after = rw (decimal_digit 1 (omega arith), decimal_digit 2 (omega arith)) refl
 
@@ -267,7 +267,7 @@ inner_file = rw (decimal_digit 1 (omega arith)) refl
 file_breaks : texts.words_of untouched two_folders (codes "%@{I*:a |\nb}c") ≡ Is (Ok ((codes "@/tmp/cc0000002a_1.args" ∷ codes "c" ∷ []) ∷ []))
 file_breaks = rw (decimal_digit 1 (omega arith)) refl
 
--- behind a pipe a file with words is stray, and one without is not
+-- after a pipe a file with words is stray, and one without is not
 file_after_pipe : texts.words_of untouched two_folders (codes "c | %@{I*}\nd") ≡ Is (Err StrayPipe)
 file_after_pipe = rw (decimal_digit 1 (omega arith)) refl
 

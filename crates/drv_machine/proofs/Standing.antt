@@ -13,7 +13,7 @@ use Rattle.std.proofs.Math.Seq.{get_or-append_seam}
 
 -- Where the parts of a tree stand in its flat list.
 
--- parts in a list of tokens, between what stands before them and what stands behind
+-- parts in a list of tokens, between what stands before them and what stands after
 slice_seam : {A : Type 0} (xs : List A) (y : A) (ys : List A) → slice_get (xs ++ y ∷ ys) (length xs) ≡ Some y
 slice_seam [] y ys = refl
 slice_seam (x ∷ xs) y ys = slice_seam xs y ys

@@ -26,7 +26,7 @@ neither : (a b : Bool) → (a || b) ≡ false → a ≡ false
 neither true b e = absurd cc
 neither false b e = refl
 
--- behind the whole text no pipe is stray, and the groups are those of the commands
+-- after the whole text no pipe is stray, and the groups are those of the commands
 pub record Ended (F : Facts) (C : Context) (w : World) (c : Cut) (o : Outcome) : Type 0 where
   pub none_stray : c.stray ≡ false
   pub commands : List (List Command)

@@ -89,7 +89,7 @@ module _ (text : List ℕ) (w : Walk) (item : AtItem text w) (token : Token) (th
           (λ levels inner means. subst (λ (kind : TokenKind). GivesKnown Memory (λ x. (tt, t)) result (run F C u (kind_step F C kind (label_at (tree_of text) w.at) (star_of C w.star) inner))) (sym k)
           (subst (λ (n : List ℕ). GivesKnown Memory (λ x. (tt, t)) result (run F C u (bytes n))) is put))
 
-      -- a named text, from the place behind it
+      -- a named text, from the place after it
       text_after : (name : List ℕ) → name ≡ (label_at (tree_of text) w.at).word
           → item_step F C front.item (levels_in F C counted_item.arounds) (star_of C w.star) ≡ named F C (tree_named F C (label_at (tree_of text) w.at).word) (levels_in F C counted_item.arounds)
           → Behind F C text (record w { at = token.next }) token.next (λ levels star. named F C (tree_named F C name) levels) u given

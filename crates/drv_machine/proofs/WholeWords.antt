@@ -18,7 +18,7 @@ use Rattle.std.specs.Prelude.{None}
 
 -- Words that are put whole.
 
--- behind one no word is open
+-- after one no word is open
 pub between_again : (s : Machine) (word : List ℕ) → IsBetweenWords (word_added s word).cut
 between_again s word = (refl, refl, refl)
 

@@ -51,7 +51,7 @@ noted text = codes "note: " ++ text
 abbrev pub options_step : Step (Unit {0})
 options_step = look (λ w. words w.options) >>= puts
 
--- a word's bytes with a break behind them
+-- a word's bytes with a break after them
 abbrev pub broken_word : List ℕ → List Atom
 broken_word word = map Put word ++ Break ∷ []
 
@@ -128,7 +128,7 @@ module _ (F : Facts) (C : Context) where
   abbrev pub arguments : Step (Unit {0}) → Step (List (List ℕ))
   arguments step w = words_of w (step w)
 
-  -- what a function gives for these words, which were worked before it is called, and the outputs behind it; no text has a function of another name
+  -- what a function gives for these words, which were worked before it is called, and the outputs after it; no text has a function of another name
   abbrev pub called_step : List (List ℕ) → Option Func → World → Step (Option (List ℕ))
   called_step args None w = give None
   called_step args (Some function) w =
@@ -266,7 +266,7 @@ module _ (F : Facts) (C : Context) where
   abbrev pub judged : Bool → Asked → Tests → Levels → List ℕ → Bool → Step (Option Asked)
   judged negated asked tests levels star holds = if turned negated holds then give (Some asked) else first_true tests levels star
 
-  -- an X by what was found of its tests, and the alternatives behind it
+  -- an X by what was found of its tests, and the alternatives after it
   abbrev pub found_step : Items → Choices → Levels → List ℕ → Option Asked → Step (Unit {0})
   found_step items choices levels star found =
       worked found (has_star items) (λ rest inside. items_step items inside rest) levels star (choices_step choices levels star)

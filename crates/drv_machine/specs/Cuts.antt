@@ -48,7 +48,7 @@ abbrev pub is_bar : Atom → Bool
 is_bar Without = true
 is_bar atom = false
 
--- atoms between two places where a word ends, and what stands behind them
+-- atoms between two places where a word ends, and what stands after them
 pub record Run : Type 0 where
   pub atoms : List Atom
   pub behind : List Atom
@@ -68,12 +68,12 @@ words_after before atoms = filter is_word (runs before atoms)
 abbrev pub words : List Atom → List Run
 words atoms = words_after [] atoms
 
--- a %V stands behind the beginning of the word
+-- a %V stands after the beginning of the word
 abbrev pub is_barred : List Atom → Bool
 is_barred [] = false
 is_barred (atom ∷ atoms) = if opens_word atom then list_any is_bar atoms else is_barred atoms
 
--- the output: the last word that is marked as one and begins behind the last %V
+-- the output: the last word that is marked as one and begins after the last %V
 abbrev pub may_be_output : Run → Bool
 may_be_output word = list_any is_output word.atoms && not (is_barred (word.atoms ++ word.behind))
 
@@ -121,7 +121,7 @@ places_after before (atom ∷ atoms) =
 abbrev pub places : List Atom → List Place
 places atoms = places_after [] atoms
 
--- the run that ends behind these atoms
+-- the run that ends after these atoms
 abbrev pub run_before : List Atom → List Atom
 run_before [] = []
 run_before (atom ∷ before) = if ends_word atom then [] else run_before before ++ atom ∷ []
@@ -130,7 +130,7 @@ run_before (atom ∷ before) = if ends_word atom then [] else run_before before 
 abbrev pub is_word_before : List Atom → Bool
 is_word_before before = list_any opens_word (run_before before)
 
--- a %W begins before, that ends behind these atoms; so many, which end before, are passed
+-- a %W begins before, that ends after these atoms; so many, which end before, are passed
 abbrev pub has_begun : ℕ → List Atom → Bool
 has_begun passed [] = false
 has_begun zero (From ∷ before) = true
@@ -153,7 +153,7 @@ abbrev pub list_of : {X : Type 0} → Option X → List X
 list_of None = []
 list_of (Some x) = x ∷ []
 
--- the word that ends behind these atoms, if it is marked as an output
+-- the word that ends after these atoms, if it is marked as an output
 abbrev pub output_before : List Atom → List (List Atom)
 output_before before =
     if is_word_before before && list_any is_output (run_before before) then run_before before ∷ []
@@ -236,7 +236,7 @@ lacks_word (Word word ∷ pieces) = false
 lacks_word (Part ∷ pieces) = lacks_word pieces
 lacks_word (Pipe ∷ pieces) = true
 
--- and where part of a word or a pipe stands behind it
+-- and where part of a word or a pipe stands after it
 abbrev pub has_more : List Piece → Bool
 has_more [] = false
 has_more (Word word ∷ pieces) = has_more pieces

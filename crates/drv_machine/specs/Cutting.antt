@@ -57,7 +57,7 @@ marked AsOutput marks = record marks { output = true }
 marked AsFile marks = record marks { file = true }
 marked AsScript marks = record marks { script = true }
 
--- something stands here: behind a pipe nothing of its command may
+-- something stands here: after a pipe nothing of its command may
 abbrev pub touched : Cut → Cut
 touched c = record c { stray = c.stray || c.line.piped }
 
@@ -86,7 +86,7 @@ line_done c = by c.line.words c.line.piped
     by [] false = c
     by words piped = record c { line = no_line; lines = c.lines ++ record { words = words; piped = piped } ∷ [] }
 
--- a pipe stands behind the words so far: there has to be one, and no pipe yet
+-- a pipe stands after the words so far: there has to be one, and no pipe yet
 abbrev pub pipe_done : Cut → Cut
 pipe_done c = by c.line.words
   where

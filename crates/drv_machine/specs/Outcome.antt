@@ -20,7 +20,7 @@ use Rattle.std.specs.Prelude.{◌&&◌, ◌||◌, Bool, List, [], ◌∷◌, Non
 abbrev pub most_piped : ℕ
 most_piped = 16
 
--- a command before the groups of those behind it: it goes into the first of them, or is a group of its own
+-- a command before the groups of those after it: it goes into the first of them, or is a group of its own
 abbrev pub add_command : Bool → Command → List (List Command) → List (List Command)
 add_command true c (group ∷ groups) = (c ∷ group) ∷ groups
 add_command _ c groups = (c ∷ []) ∷ groups
@@ -65,7 +65,7 @@ job w c commands = record {
   output = c.output;
 }
 
--- behind the whole text: first that pipes stand right, then that none is too long
+-- after the whole text: first that pipes stand right, then that none is too long
 abbrev pub finished : Facts → Context → World → Cut → Answer Outcome
 finished F C w c =
     if c.stray || ends_piped c.lines then Is (Err StrayPipe)

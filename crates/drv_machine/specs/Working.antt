@@ -73,7 +73,7 @@ called Unasked = Unasked
 called (Is (Ok x)) = Is (Ok x)
 called (Is (Err fault)) = Is (Err (funcs_lifted fault))
 
--- atoms, and then a value and the world behind them; or a refusal; or the want of an answer of the facts
+-- atoms, and then a value and the world after them; or a refusal; or the want of an answer of the facts
 pub data Work (X : Type 0) : Type 0 where
   Goes : List Atom → X → World → Work X
   Refuses : List Atom → MachineFault → Work X
@@ -141,7 +141,7 @@ counted w = if nat_lt w.items most_items then Goes [] tt (record w { items = w.i
 abbrev pub is_among : List (List ℕ) → List ℕ → Bool
 is_among list word = list_any (pointwise nat_eq word) list
 
--- a word with an opening before it and a break behind it
+-- a word with an opening before it and a break after it
 abbrev pub whole_word : List ℕ → List Atom
 whole_word word = Open ∷ map Put word ++ Break ∷ []
 
@@ -152,7 +152,7 @@ abbrev pub word_of : Option (List ℕ) → List Atom
 word_of None = []
 word_of (Some word) = words (word ∷ [])
 
--- what items mean behind each part that may still be opened, the next one first
+-- what items mean after each part that may still be opened, the next one first
 abbrev pub Levels : Type 0
 Levels = List (Items → Step (Unit {0}))
 

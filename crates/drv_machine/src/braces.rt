@@ -57,8 +57,8 @@ fn enter_alternative(
     Ok(())
 }
 
-/// A test by a function was answered: its X is reached or opened, or the tests behind it are judged, and then the
-/// alternatives behind them.
+/// A test by a function was answered: its X is reached or opened, or the tests after it are judged, and then the
+/// alternatives after them.
 #[inline(never)]
 pub(crate) fn answer(
     text: &SpecTree,
@@ -102,7 +102,7 @@ pub(crate) fn answer(
 }
 
 /// The first of the alternatives with a true test that stand from one place up to another is reached or opened, or the
-/// default, or the place behind them.
+/// default, or the place after them.
 #[inline(never)]
 pub(crate) fn choose(
     text: &SpecTree,

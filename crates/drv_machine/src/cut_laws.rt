@@ -15,7 +15,7 @@ ghost use Rattle.std.specs.List.{flat_map, list_any};
 ghost use Rattle.std.specs.Prelude.{◌≡◌, ◌∷◌, ◌++◌, [], List, Ok, false, ℕ};
 
 /// The law that a list of atoms is cut as the list as it stands says: the output is the last word that is
-/// marked as one and begins behind the last `%V`, the removed files are the words that are marked so, the failure
+/// marked as one and begins after the last `%V`, the removed files are the words that are marked so, the failure
 /// files are the words that are marked as outputs and of each `%W` the last word that ends in it, and the
 /// cut stops exactly where, of the words in their order, the first is not found. It takes and gives nothing.
 pub fn cut_law()
@@ -32,7 +32,7 @@ pub fn cut_law()
 
 /// The law that a list of atoms in which no file begins is cut into the commands that the list as it stands says: the words
 /// of a command are those that end in it, a command without a word and a pipe is dropped, and a pipe is stray exactly
-/// where no word stands before it in its command, or part of a word or a pipe stands behind it. The words of
+/// where no word stands before it in its command, or part of a word or a pipe stands after it. The words of
 /// arguments are those of their last command. It takes and gives nothing.
 pub fn command_law()
     ensures lines { (F : Facts) (C : specs.Context) (atoms : List Atom) (c : Cut) → list_any begins_file atoms ≡ false

@@ -56,7 +56,7 @@ fn open_hit(each: Each, switch: usize, size: usize, walk: &mut Walk<'_>) -> Resu
     Ok(())
 }
 
-/// An X for each hit from a switch on: it is opened for the next one, or the walk goes on behind it.
+/// An X for each hit from a switch on: it is opened for the next one, or the walk goes on after it.
 pub(crate) fn enter_next(
     text: &SpecTree,
     context: &Context<'_>,

@@ -71,7 +71,7 @@ pub(crate) struct Machine {
     word: SmallVec<u8, 256>,
     /// The words of the open command.
     line: Listing<Word>,
-    /// Whether a pipe stands behind them.
+    /// Whether a pipe stands after them.
     is_piped: bool,
     lines: Listing<Line>,
     /// Whether a pipe stood where none may.
@@ -230,7 +230,7 @@ impl Machine {
         Ok(())
     }
 
-    /// A pipe stands behind the words of the open command: there has to be one, and no pipe yet. In a file it is none.
+    /// A pipe stands after the words of the open command: there has to be one, and no pipe yet. In a file it is none.
     fn close_with_pipe(&mut self)
         ensures { self.new ≡ record self.old { cut = pipe_ended self.old.cut } }
     {
@@ -257,7 +257,7 @@ impl Machine {
         self.close_line()
     }
 
-    /// The open word ends, and its command with a pipe. Whether pipes stand right is judged behind the whole text.
+    /// The open word ends, and its command with a pipe. Whether pipes stand right is judged after the whole text.
     #[tactic(auto, using(crate::proofs::AskedCalls::asked_further))]
     pub(crate) fn pipe<S: System>(
         &mut self,
@@ -274,7 +274,7 @@ impl Machine {
         Ok(())
     }
 
-    /// The open word ends, and the argument of the switch at a place, if it has one, is a word behind it.
+    /// The open word ends, and the argument of the switch at a place, if it has one, is a word after it.
     pub(crate) fn put_argument<S: System>(
         &mut self,
         context: &Context<'_>,

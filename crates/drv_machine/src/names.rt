@@ -7,7 +7,7 @@ ghost use Rattle.std.specs.Prelude.{◌≡◌};
 use crate::Source;
 use bstr::ByteSlice;
 
-/// The bytes before the last one of a kind, and those behind it, if there is one.
+/// The bytes before the last one of a kind, and those after it, if there is one.
 fn parted(mark: u8, name: &[u8]) -> Option<(&[u8], &[u8])>
     ensures { option_map (λ parts. (parts.0.now, parts.1.now)) result ≡ parted mark name.now }
 {
@@ -17,7 +17,7 @@ fn parted(mark: u8, name: &[u8]) -> Option<(&[u8], &[u8])>
     }
 }
 
-/// A name without its folder: what stands behind its last slash.
+/// A name without its folder: what stands after its last slash.
 pub(crate) fn base(name: &[u8]) -> &[u8]
     ensures { result.now ≡ base name.now }
 {
@@ -27,7 +27,7 @@ pub(crate) fn base(name: &[u8]) -> &[u8]
     }
 }
 
-/// What stands before the last period of a name without its folder, and behind it; a period in first place doesn't
+/// What stands before the last period of a name without its folder, and after it; a period in first place doesn't
 /// count.
 fn suffixed(name: &[u8]) -> Option<(&[u8], &[u8])>
     ensures { option_map (λ parts. (parts.0.now, parts.1.now)) result ≡ suffixed name.now }

@@ -31,7 +31,7 @@ pub(crate) struct Each {
     pub(crate) end: usize,
 }
 
-/// A test by a function: its place, and where the tests behind it begin; where the X begins that it asks for, and where that
+/// A test by a function: its place, and where the tests after it begin; where the X begins that it asks for, and where that
 /// ends, and whether it has a `%*` of its own; and where the braces end.
 #[derive(Clone, Copy, Debug, Default)]
 pub(crate) struct Asking {
@@ -46,7 +46,7 @@ pub(crate) struct Asking {
 /// What a part was opened for. A row that opens a part of another kind adds a variant.
 #[derive(Drop)]
 pub(crate) enum Opened<'a> {
-    /// A working of an X for the hit at a place of the line. The part around it goes on behind X.
+    /// A working of an X for the hit at a place of the line. The part around it goes on after X.
     Hit(Each, usize),
     /// A named text. The part around it lies in this text, and goes on at a place of it.
     Text(&'a SpecTree, usize),

@@ -88,7 +88,7 @@ module _ (names : List (List ℕ)) (hidden : List Bool) where
   pub hits_none : (pattern : Pattern) (i : ℕ) → nat_lt 0 (length (hits names hidden pattern)) ≡ false → i < length names → is_hit names hidden pattern i ≡ false
   hits_none pattern i none within = not_in (is_hit names hidden pattern) (length names) i (any_filter (is_hit names hidden pattern) (range_with_len 0 (length names)) ∙ none) within
 
-  -- the patterns behind one that hits nothing hit the same
+  -- the patterns after one that hits nothing hit the same
   pub passed : (patterns : List Pattern) (at : ℕ) (pattern : Pattern) (has : Bool) → at < length patterns → pattern ≡ get_or patterns at pattern → has ≡ nat_lt 0 (length (hits names hidden pattern)) → has ≡ false
       → SameHits names hidden (drop at patterns) patterns → SameHits names hidden (drop (at + 1) patterns) patterns
   passed patterns at pattern has within is says missed same = λ i low.

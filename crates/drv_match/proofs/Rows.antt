@@ -54,7 +54,7 @@ ascending (suc (suc (suc (suc k)))) d low high = absurd (omega (arith, high))
 in_order : IsOrder line places
 in_order = record { places = record { moves = (3, 4) ∷ (2, 3) ∷ (1, 4) ∷ (0, 1) ∷ []; below = (omega arith, omega arith, (omega arith, omega arith, (omega arith, omega arith, (omega arith, omega arith, tt)))); is = refl }; sorted = ascending }
 
--- those that the starred `m` names stand behind the levels, `m` itself first among them
+-- those that the starred `m` names stand after the levels, `m` itself first among them
 
 levels_before : AllWithin (λ i. is_named (starred (codes "m")) (name_at line i) ≡ false) places 0 2
 levels_before zero d low high = refl

@@ -17,7 +17,7 @@ abbrev pub has_negative : List ℕ → Bool
 has_negative [] = false
 has_negative (letter ∷ rest) = letter == byte "f" || letter == byte "m" || letter == byte "W"
 
--- the negative form: `no-` stands behind the letter (GCC manual, "Invoking GCC")
+-- the negative form: `no-` stands after the letter (GCC manual, "Invoking GCC")
 abbrev pub negative : List ℕ → List ℕ
 negative [] = []
 negative (letter ∷ rest) = letter ∷ codes "no-" ++ rest

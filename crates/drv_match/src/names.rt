@@ -35,7 +35,7 @@ impl<'a> Names<'a> {
         self.switches.len()
     }
 
-    /// The name at this place; behind the last one there are empty names.
+    /// The name at this place; after the last one there are empty names.
     pub fn get(&self, place: usize) -> &'a [u8]
         ensures { result.now ≡ name_at self.now place }
     {

@@ -17,7 +17,7 @@ pub fn places_by_name(alloc: Global, names: &Names<'_>) -> Result<Vec<usize>, Al
 }
 
 /// Where, within the places by name, those stand that the pattern names: the start, and the end
-/// behind them.
+/// after them.
 pub fn block_of(names: &Names<'_>, order: &[usize], pattern: &Pattern<'_>) -> (usize, usize)
     requires { IsOrder names.now order.now }
     ensures { IsBlock names.now order.now pattern.now result.0 result.1 }

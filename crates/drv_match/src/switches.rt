@@ -64,7 +64,7 @@ impl<'a> Switches<'a> {
         self.names.get(i)
     }
 
-    /// The name of the switch at this place behind so many bytes. It takes no memory.
+    /// The name of the switch at this place after so many bytes. It takes no memory.
     pub fn rest(&self, i: usize, size: usize) -> &'a [u8]
         requires { i < length self.now }
         ensures { result.now ≡ drop size (name_at self.now i) }
@@ -93,7 +93,7 @@ impl<'a> Switches<'a> {
     }
 
     /// Where, within the order, the switches stand that a pattern names: the start, and the end
-    /// behind them. It takes no memory.
+    /// after them. It takes no memory.
     pub fn block(&self, pattern: &Pattern<'_>) -> (usize, usize)
         ensures { (order : List ℕ) → IsOrder self.now order
             → IsBlock self.now order pattern.now result.0 result.1 }

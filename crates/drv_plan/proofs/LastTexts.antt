@@ -11,7 +11,7 @@ use Rattle.std.specs.Prelude.{get_or, slice_get}
 abbrev Pair : Type 0
 Pair = List ℕ × List ℕ
 
--- a pair behind all others counts first
+-- a pair after all others counts first
 abbrev or_else : Bool → List ℕ → Option (List ℕ) → Option (List ℕ)
 or_else fits text others = if fits then Some text else others
 

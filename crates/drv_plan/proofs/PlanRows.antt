@@ -109,7 +109,7 @@ nothing_linked : plan (with_texts (codes "prog %i") (codes "%ebad")) [] (file (c
     ≡ Is (Ok (record { notices = []; jobs = job (Some 0) (command (codes "prog") (codes "a.c" ∷ []) ∷ []) [] None ∷ []; link = None }))
 nothing_linked = refl
 
--- the first refusal in the order of the inputs, with the link behind them
+-- the first refusal in the order of the inputs, with the link after them
 first_refusal : plan compiling [] (file (codes "a.c") ∷ file (codes "b.z") ∷ File (codes "c") (Some (codes "foo")) ∷ []) ≡ Is (Err (NotInstalled (codes "Zed")))
 unfolding digits
 first_refusal = refl

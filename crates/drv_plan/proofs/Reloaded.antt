@@ -14,7 +14,7 @@ use Rattle.std.proofs.Common.{◌≡◌, ◌+◌, ◌∙◌, Bool, List, [], ◌
 use Rattle.std.specs.Option.{option_map}
 use Rattle.std.specs.Prelude.{codes}
 
--- A set whose pairs stand once more behind themselves gives the same plans.
+-- A set whose pairs stand once more after themselves gives the same plans.
 
 -- of two, the later one where it is there
 abbrev or_first : Option (List ℕ) → Option (List ℕ) → Option (List ℕ)

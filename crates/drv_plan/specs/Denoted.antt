@@ -65,7 +65,7 @@ context_of line set prefixes seed = record {
 abbrev pub begun : Context → Progress
 begun C = record { context = C; notes = []; jobs = []; outputs = []; passed_on = [] }
 
--- behind a text: the options of %x and the number of the next name go on to the next one, and hidden switches don't
+-- after a text: the options of %x and the number of the next name go on to the next one, and hidden switches don't
 abbrev pub after_text : Outcome → Progress → Progress
 after_text worked g = record g {
   context = record g.context { options = worked.accumulated; number = worked.next_number };
@@ -147,7 +147,7 @@ abbrev pub unused : Option Job → List (List ℕ) → List (List ℕ)
 unused (Some link) names = []
 unused None names = map (between (codes "warning: ") (codes ": linker input file unused because linking not done")) names
 
--- the notices: what texts tell, and behind it the files that no link takes
+-- the notices: what texts tell, and after it the files that no link takes
 abbrev pub notices : Option Job → Progress → List (List ℕ)
 notices link g = g.notes ++ unused link g.passed_on
 
@@ -162,7 +162,7 @@ finished F set g = then_by (with_link F set g) (λ done. Is (Ok (plan_of done)))
 abbrev pub planned : Facts → Set → List Input → Context → Planned Plan
 planned F set inputs C = then_by (with_inputs F set 0 inputs (begun C)) (λ g. finished F set g)
 
--- The plan of a line, or the first refusal in the order of its inputs, with the link behind them. It looks at none of `dry`,
+-- The plan of a line, or the first refusal in the order of its inputs, with the link after them. It looks at none of `dry`,
 -- `verbose`, `pass_codes` and `jobs` of the settings.
 abbrev pub denoted : Facts → Line → Set → ℕ → Planned Plan
 denoted F line set seed = prefixes_of F line.settings.prefixes >>= λ prefixes. planned F set line.inputs (context_of line set prefixes seed)

@@ -11,7 +11,7 @@ use std::mem;
 /// What stands before the name of a file that no link takes.
 const UNUSED_FRONT: &[u8] = b"warning: ";
 
-/// And behind it.
+/// And after it.
 const UNUSED_END: &[u8] = b": linker input file unused because linking not done";
 
 /// A word between two texts, in one allocation.
@@ -58,7 +58,7 @@ fn push_unused(
     }
 }
 
-/// The notices of a plan with this link: those of texts, which are moved, and behind them those of
+/// The notices of a plan with this link: those of texts, which are moved, and after them those of
 /// files that no link takes.
 pub(crate) fn notices_of(
     alloc: Global,

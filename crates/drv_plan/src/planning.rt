@@ -112,7 +112,7 @@ fn finish<S: System>(
     Ok(plan_of(alloc, link, progress)?)
 }
 
-/// The plan of inputs, behind what was worked before them.
+/// The plan of inputs, after what was worked before them.
 #[tactic(auto, using(drv_system::proofs::Asking::asks_then))]
 fn plan_inputs<'a, S: System>(
     alloc: Global,
@@ -157,7 +157,7 @@ fn planned<'a, S: System>(
 /// answer.
 ///
 /// # Errors
-/// The first refusal in the order of the inputs, with the link behind them: `UnknownLanguage` and
+/// The first refusal in the order of the inputs, with the link after them: `UnknownLanguage` and
 /// `NotInstalled` of a file, and the machine's refusal of a text.
 #[tactic(auto, using(drv_system::proofs::Asking::asks_then))]
 pub fn plan<S: System>(

@@ -22,8 +22,8 @@ use Rattle.std.proofs.Common.{refl, ap, sym, subst, ◌∙◌}
 use Rattle.std.specs.List.{list_any}
 use Rattle.std.specs.Prelude.{◌≡◌, ◌≤◌, ◌&&◌, ◌||◌, Bool, List, [], ◌∷◌, ◌++◌, false, length, map, not, true, ℕ}
 
--- The events of a run behind a journal without a pending pipe: what can be made behind them can be made behind both, and what
--- fits behind both fits behind them.
+-- The events of a run after a journal without a pending pipe: what can be made after them can be made after both, and what
+-- fits after both fits after them.
 
 pub run_is : (events : List RunEvent) → run_of (map Run events) ≡ events
 run_is [] = refl
@@ -56,7 +56,7 @@ can_after plan journal events (step.Wait p id) none can = open_after p id journa
 can_after plan journal events (step.Remove p) none can = can
 can_after plan journal events (step.Report n) none can = can
 
--- a number that is new behind both is new behind the run's own events
+-- a number that is new after both is new after the run's own events
 
 new_rest : (id : ℕ) (before events : List RunEvent) → is_new id (before ++ events) ≡ true → is_new id events ≡ true
 new_rest id [] events is = is

@@ -114,7 +114,7 @@ by_specs : (F : Facts) (args : List (List ℕ)) (seed : ℕ) (fault : SpecsFault
 by_specs F args seed fault (inl memory) = subst (λ f. Comes F args seed (Err (stopped_by_specs f))) (sym memory) tt
 by_specs F args seed fault (inr refused) = refused_specs F args seed fault refused
 
--- the steps behind the words
+-- the steps after the words
 
 pub reading_ends : (F : Facts) (args : List (List ℕ)) (seed : ℕ) (words : Expanded) (fault : ArgsFault) (result : Result Work Ending)
     → IsErrAnd result (λ e. e ≡ stopped_by_args fault) → Words F args words → (fault ≡ args_fault.Memory) ⊎ (line_read words ≡ Err fault) → Comes F args seed result

@@ -17,7 +17,7 @@ use Rattle.drv_words.specs.declared.plan.Plan.{Plan}
 use Rattle.std.proofs.Common.{◌≡◌, ◌∙◌, Bool, List, [], ◌∷◌, ◌++◌, ap, append_assoc, false, map, refl, subst, sym, true, ℕ}
 use Rattle.std.proofs.lemmas.List.{append-nil}
 
--- Texts that are said, one behind another, and a run behind them.
+-- Texts that are said, one after another, and a run after them.
 
 said_only : (text : List ℕ) (status : ℕ) (said : List Event) → Says text status said → AreSaid said
 said_only [] status said is = subst (λ events. AreSaid events) (sym is.1) tt
@@ -55,7 +55,7 @@ plan_carried_out journal journal' journal'' plan manner status announces execute
   },
 )
 
--- no step of a run stands among questions and texts, so no pipe is pending behind them that was not before
+-- no step of a run stands among questions and texts, so no pipe is pending after them that was not before
 
 pub none_ran : (said : List Event) → AreSaid said → run_of said ≡ []
 none_ran [] is = refl

@@ -22,7 +22,7 @@ use Rattle.std.specs.List.{flat_map}
 use Rattle.std.specs.Prelude.{◌≡◌, Bool, List, [], ◌∷◌, ◌++◌, codes, false, true, ℕ, ⊤}
 
 -- What a call of the driver does (GCC manual, "Overall Options", -v, -###, -dumpspecs, -pass-exit-codes): what stands in the
--- journal behind its questions, and its ending.
+-- journal after its questions, and its ending.
 
 -- the exit status after a text was said or put
 abbrev pub status_of : TellAnswer → ℕ
@@ -55,7 +55,7 @@ abbrev pub Announces : Telling → Plan → List Event → Type 0
 Announces Commands plan said = (status : ℕ) × Shows plan status said
 Announces Notices plan said = (status : ℕ) × Says (notices_text plan.notices) status said
 
--- A plan is carried out behind that, and the status is that of its run.
+-- A plan is carried out after that, and the status is that of its run.
 pub record CarriesOut (plan : Plan) (manner : Manner) (status : ℕ) (said : List Event) : Type 0 where
   pub announced : List Event
   pub ran : List Event
@@ -75,7 +75,7 @@ AreSaid [] = ⊤
 AreSaid (Say text answer ∷ events) = AreSaid events
 AreSaid (event ∷ events) = ⊥
 
--- what stands behind the questions of a call, by how it ended: its work after `Done`; nothing after a refusal; and where memory was
+-- what stands after the questions of a call, by how it ended: its work after `Done`; nothing after a refusal; and where memory was
 -- wanted nothing was made or started
 abbrev pub Ends : Facts → List (List ℕ) → ℕ → Ending → List Event → Type 0
 Ends F args seed (Done status) said = (work : Work) × Drives F args seed work × Does work status said

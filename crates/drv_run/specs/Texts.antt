@@ -21,7 +21,7 @@ use Rattle.std.specs.Prelude.{◌++◌, List, codes, decimal, ℕ}
 
 -- What a refusal is told as (the wording is this project's profile).
 
--- a word between the bytes before and behind it
+-- a word between the bytes before and after it
 abbrev pub around : List ℕ → List ℕ → List ℕ → List ℕ
 around before word behind = before ++ word ++ behind
 

@@ -27,7 +27,7 @@ fn put_dump<S: System>(sys: &mut S, text: &Word) -> Result<u8, AllocError>
     Ok(status_of(sys.put(text)?))
 }
 
-/// Carries a plan out behind what is told of it, and answers the exit status.
+/// Carries a plan out after what is told of it, and answers the exit status.
 fn run_plan<S: System>(
     alloc: Global,
     sys: &mut S,
@@ -74,7 +74,7 @@ fn ending_of<S: System>(alloc: Global, sys: &mut S, work: &Work) -> Ending
     }
 }
 
-/// A call of the driver with these arguments (GCC manual, "Overall Options"; behind a first
+/// A call of the driver with these arguments (GCC manual, "Overall Options"; after a first
 /// argument `--c99`, POSIX c99).
 ///
 /// With `-dumpspecs` it writes the specs. Otherwise it plans the commands of the line, says the

@@ -17,7 +17,7 @@ use std::alloc::{AllocError, Global};
 /// several sources that may go on, one does that need not wait.
 ///
 /// # Errors
-/// Want of memory, of which nothing was made or started; behind the first step it is no error any
+/// Want of memory, of which nothing was made or started; after the first step it is no error any
 /// more.
 pub fn execute<S: System>(
     alloc: Global,

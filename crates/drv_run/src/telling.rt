@@ -34,7 +34,7 @@ fn say_text<S: System>(sys: &mut S, text: &Word) -> Result<u8, AllocError>
     Ok(status_of(sys.say(text)?))
 }
 
-/// Adds a notice as it is told: behind the program's name, on a line of its own.
+/// Adds a notice as it is told: after the program's name, on a line of its own.
 fn push_notice(text: &mut Word, notice: &Word) -> Result<(), AllocError>
     ensures { OnOk result (text.new ≡ text.old ++ notice_line notice.now) }
 {

@@ -33,7 +33,7 @@ prefix_more F dirs i dir prefix done after below here is grown so_far =
     ∙ ap (λ known. known >>= λ p. given_of F (drop (i + 1) dirs) >>= λ ps. Is (p ∷ ps)) is))
     ∙ so_far
 
--- candidates behind others
+-- candidates after others
 abbrev pub or_found : Option (List ℕ) → Known (Option (List ℕ)) → Known (Option (List ℕ))
 or_found None others = others
 or_found (Some path) others = Is (Some path)
@@ -53,7 +53,7 @@ pub found-append : (F : Facts) (paths others : List (List ℕ)) → found F (pat
 found-append F [] others = refl
 found-append F (path ∷ paths) others = found_by F path paths others (kind_of F path) (found-append F paths others)
 
--- what was found among candidates, and among those behind them
+-- what was found among candidates, and among those after them
 pub found_first : (F : Facts) (paths others : List (List ℕ)) (path : List ℕ) → found F paths ≡ Is (Some path) → found F (paths ++ others) ≡ Is (Some path)
 found_first F paths others path is = found-append F paths others ∙ ap (λ known. known >>= λ hit. or_found hit (found F others)) is
 

@@ -39,7 +39,7 @@ abbrev pub given_of : Facts → List (List ℕ) → Known (List (List ℕ))
 given_of F [] = Is []
 given_of F (dir ∷ dirs) = prefix_of F dir >>= λ prefix. given_of F dirs >>= λ prefixes. Is (prefix ∷ prefixes)
 
--- The two lists of prefixes: those of -B, and the folders behind them.
+-- The two lists of prefixes: those of -B, and the folders after them.
 
 abbrev pub program_folders : List (List ℕ)
 program_folders = codes "/usr/lib/gcc/" ∷ codes "/usr/local/lib/gcc/" ∷ []

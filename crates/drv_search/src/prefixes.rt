@@ -1,4 +1,4 @@
-//! The prefixes of a search: those of `-B`, and the folders behind them.
+//! The prefixes of a search: those of `-B`, and the folders after them.
 
 ghost use Rattle.drv_search.specs.Search.{as_prefix, ends_with_slash, given_of, is_prefix};
 ghost use Rattle.drv_search.specs.Search.{library_folders, machine_folder, prefix_of, prefixes_of};
@@ -16,10 +16,10 @@ use std::alloc::{AllocError, Global};
 /// The folder of the machine under a prefix.
 const MACHINE_FOLDER: &[u8] = b"generic-elf/13/";
 
-/// Where programs are looked for behind the prefixes of `-B`.
+/// Where programs are looked for after the prefixes of `-B`.
 const PROGRAM_FOLDERS: [&[u8]; 2] = [b"/usr/lib/gcc/", b"/usr/local/lib/gcc/"];
 
-/// Where other files are looked for behind the prefixes of `-B`.
+/// Where other files are looked for after the prefixes of `-B`.
 const LIBRARY_FOLDERS: [&[u8]; 4] = [
     b"/usr/lib/gcc/",
     b"/usr/local/lib/gcc/",
@@ -106,7 +106,7 @@ fn push_folders(
     Ok(())
 }
 
-/// These prefixes, and the folders behind them.
+/// These prefixes, and the folders after them.
 fn with_folders(
     alloc: Global,
     given: &[Word],

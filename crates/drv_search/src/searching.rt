@@ -106,7 +106,7 @@ fn found_under<S: System>(
     bare_hit(alloc, prefix, name, sys, facts)
 }
 
-/// What is found under prefixes. Behind the first hit nothing is asked.
+/// What is found under prefixes. After the first hit nothing is asked.
 #[tactic(auto, using(drv_system::proofs::Asking::asks_then))]
 fn search<S: System>(
     alloc: Global,

@@ -134,7 +134,7 @@ put_by set name text set' (Ok items) names body tree is kept =
 put_keeps : (set : Set) (name text : List ℕ) (set' : Set) → is_name name ≡ true → is_text text ≡ true → put set name text ≡ Ok set' → Kept set → Kept set'
 put_keeps set name text set' names body is kept = put_by set name text set' (parsed text) names body refl is kept
 
--- a body with another behind it, and one without the white space at its front
+-- a body with another after it, and one without the white space at its front
 body_append : (old addition : List ℕ) (seen back : Bool) → is_body seen back old ≡ true → is_body true false addition ≡ true → is_body seen back (old ++ addition) ≡ true
 body_append [] addition true false is later = later
 body_append [] addition true true is later = absurd cc
@@ -334,7 +334,7 @@ last_sees b seen back fit white = by (is_blank b) refl (b == newline) refl
         or_true true = refl
         or_true false = refl
 
--- a body that is cut behind a byte
+-- a body that is cut after a byte
 body_cut : (front : List ℕ) (last : ℕ) (end : List ℕ) (seen back : Bool) → is_body seen back (front ++ last ∷ end) ≡ true → is_white last ≡ false → ends_with_backslash (last ∷ []) ≡ false
     → is_body seen back (front ++ last ∷ []) ≡ true
 body_cut [] last end seen back is solid ends =

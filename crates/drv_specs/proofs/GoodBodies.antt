@@ -46,7 +46,7 @@ bytes_after zero text is = is
 bytes_after (suc n) [] is = refl
 bytes_after (suc n) (b ∷ text) is = bytes_after n text (and_second (is_line_byte b) _ is)
 
--- what stands behind the blanks of a line
+-- what stands after the blanks of a line
 record Fronted (text : List ℕ) : Type 0 where
   ends : ends_with_backslash text ≡ false → ends_with_backslash (without_front is_blank text) ≡ false
   bytes : list_all is_line_byte text ≡ true → list_all is_line_byte (without_front is_blank text) ≡ true
@@ -93,7 +93,7 @@ line_step b seen back rest kept plain =
     ap (λ c. (c && (not (b == newline) || (seen && not back))) && is_body (sees seen b) (ends_with_backslash (b ∷ [])) rest) kept
     ∙ ap (λ c. (not c || (seen && not back)) && is_body (not c && (seen || not (is_blank b))) (ends_with_backslash (b ∷ [])) rest) plain
 
--- a line, and a line with a newline and a body behind it
+-- a line, and a line with a newline and a body after it
 line_body : (line : List ℕ) (seen back : Bool) → list_all is_line_byte line ≡ true → (seen || is_full line) ≡ true → last_back back line ≡ false → is_body seen back line ≡ true
 line_body [] seen back bytes full last = ends_full seen back full last
 line_body (b ∷ line) seen back bytes full last =

@@ -123,7 +123,7 @@ module _ {K X : Type 0} (t : K → Bool) (k : K) (x : X) where
       ∙ ap (λ e. take (length es) (set (es ++ (k, x) ∷ []) i e)) (last_of es (k, x) (k, x))
       ∙ put_there es i h is
 
-  -- behind the entries, and then in the place of the one whose key passes
+  -- after the entries, and then in the place of the one whose key passes
   key_renamed : (es : List (K × X)) → lookup t es ≡ Some x → swap_remove_entry t (es ++ (k, x) ∷ []) ≡ set_key t es k
   key_renamed es is =
       let first = first_of t x es is in

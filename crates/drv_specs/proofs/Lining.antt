@@ -13,7 +13,7 @@ use Rattle.std.specs.List.{join_with_byte, list_all}
 
 -- Texts and their lines.
 
--- a text with a newline and more behind it
+-- a text with a newline and more after it
 pub pieces_then : (text front rest : List ℕ) → pieces_from ends_line front (text ++ newline ∷ rest) ≡ pieces_from ends_line front text ++ pieces_from ends_line [] rest
 pieces_then [] front rest = refl
 pieces_then (b ∷ text) front rest = by (ends_line b) refl (pieces_then text [] rest) (pieces_then text (front ++ b ∷ []) rest)
@@ -75,7 +75,7 @@ body_full (b ∷ text) front seen back same is = by (ends_line b) refl (body_ful
         rw cuts (rw (sym same ∙ seen_is) (cut (ap (λ c. not c && (seen || not (is_blank b))) cuts) later))
     by false cuts cut on = rw cuts (on (full_more front b seen same cuts) later)
 
--- the lines of a body, with an empty line and more behind them
+-- the lines of a body, with an empty line and more after them
 pub body_lines_are : (lines rest : List (List ℕ)) → list_all is_full lines ≡ true → body_lines (lines ++ [] ∷ rest) ≡ lines
 body_lines_are [] rest is = refl
 body_lines_are (line ∷ lines) rest is =

@@ -11,7 +11,7 @@ use Rattle.std.specs.List.{join_with_byte, list_all, position}
 
 -- The directives of lines: by cases, and line by line.
 
--- the lines of a body, and what stands behind it
+-- the lines of a body, and what stands after it
 body_is : (body lines : List (List ℕ)) → list_all is_full_line body ≡ true → EndsBody lines → body_lines (body ++ lines) ≡ body_lines body
 body_is [] [] full ends = refl
 body_is [] (line ∷ lines) full (at_empty is) = rw is refl
@@ -57,7 +57,7 @@ reads_gives (entry {n} {b} {line} {text} body {lines} begins no_comment no_keywo
 abbrev AreRead : List (List ℕ) → Type 0
 AreRead lines = (n : ℕ) → (directives : List Directive) × Reads n lines directives
 
--- the lines of a body in front, and those behind it
+-- the lines of a body in front, and those after it
 record Cut (lines : List (List ℕ)) : Type 0 where
   body : List (List ℕ)
   rest : List (List ℕ)

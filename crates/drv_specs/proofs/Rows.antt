@@ -41,7 +41,7 @@ text_in name Unasked = None
 text_in name (Is (Err fault)) = None
 text_in name (Is (Ok set)) = text_of set name
 
--- comments, also behind blanks, between directives
+-- comments, also after blanks, between directives
 file_1 : shown (loaded no_facts here no_specs (codes "# c\n  # d\n*a:\nx\n\n\t# e\n")) ≡ Some (codes "*a:\nx\n\n")
 unfolding loaded including
 file_1 = refl
@@ -76,7 +76,7 @@ file_7 : shown (loaded no_facts here no_specs (codes "*na\\\nme:\nx\n")) ≡ Som
 unfolding loaded including
 file_7 = refl
 
--- a tab behind the colon
+-- a tab after the colon
 file_8 : shown (loaded no_facts here no_specs (codes "*a:\tx\n")) ≡ Some (codes "*a:\nx\n\n")
 unfolding loaded including
 file_8 = refl
@@ -91,7 +91,7 @@ file_10 : shown (loaded no_facts here no_specs (codes "*a: x\ny\n")) ≡ Some (c
 unfolding loaded including
 file_10 = refl
 
--- blanks behind the colon, and the body on the next line
+-- blanks after the colon, and the body on the next line
 file_11 : shown (loaded no_facts here no_specs (codes "*a: \t\nx\n")) ≡ Some (codes "*a:\nx\n\n")
 unfolding loaded including
 file_11 = refl
@@ -181,7 +181,7 @@ file_28 : shown (loaded no_facts here no_specs (codes "*a:\nx\n\n*a:\n+ \t \n"))
 unfolding loaded including
 file_28 = refl
 
--- a + without a blank behind it
+-- a + without a blank after it
 file_29 : shown (loaded no_facts here no_specs (codes "*a:\nx\n\n*a:\n+y\n")) ≡ Some (codes "*a:\n+y\n\n")
 unfolding loaded including
 file_29 = refl
@@ -196,7 +196,7 @@ file_31 : shown (loaded no_facts here no_specs (codes "*a:\nx\n\n%rename a a\n")
 unfolding loaded including
 file_31 = refl
 
--- a name given away, and put again behind
+-- a name given away, and put again after
 file_32 : shown (loaded no_facts here no_specs (codes "*a:\nx\n\n*b:\ny\n\n%rename  a\told_a  \n\n*a:\n%(old_a) z\n")) ≡ Some (codes "*old_a:\nx\n\n*b:\ny\n\n*a:\n%(old_a) z\n\n")
 unfolding loaded including
 file_32 = refl
@@ -211,7 +211,7 @@ file_34 : shown (loaded no_facts here no_specs (codes ".q:\n#Q x  \n")) ≡ Some
 unfolding loaded including
 file_34 = refl
 
--- an @ and a word behind it, and an @ alone, are texts
+-- an @ and a word after it, and an @ alone, are texts
 file_35 : shown (loaded no_facts here no_specs (codes ".q:\n@c x\n\n.r:\n@\n")) ≡ Some (codes ".q:\n@c x\n\n.r:\n@\n\n")
 unfolding loaded including
 file_35 = refl
@@ -231,7 +231,7 @@ file_38 : shown (loaded no_facts here no_specs (codes ".q:\n\n")) ≡ Some (code
 unfolding loaded including
 file_38 = refl
 
--- names first, pairs behind them
+-- names first, pairs after them
 file_39 : shown (loaded no_facts here no_specs (codes ".q:\n@c\n\n*a:\nx\n")) ≡ Some (codes "*a:\nx\n\n.q:\n@c\n\n")
 unfolding loaded including
 file_39 = refl
@@ -277,7 +277,7 @@ appended_again : shown (loaded no_facts here no_specs (codes "*extra:\n -lx\n\n"
 unfolding loaded including
 appended_again = refl
 
--- pairs behind the built-in ones
+-- pairs after the built-in ones
 pairs_after : shown (loaded no_facts here (record { named = []; pairs = builtin_pairs }) (codes ".ZZ:\n@c\n\n.ZZ:\n#Zed\n")) ≡ Some (dumped (record { named = []; pairs = builtin_pairs ++ (codes ".ZZ", codes "@c") ∷ (codes ".ZZ", codes "#Zed") ∷ [] }))
 unfolding builtin_pairs loaded including
 pairs_after = refl

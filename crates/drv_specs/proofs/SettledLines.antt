@@ -9,7 +9,7 @@ use Rattle.std.proofs.lemmas.List.Folds.{list_all-append}
 
 -- What settling leaves: its lines.
 
--- whether a backslash is last, behind a text
+-- whether a backslash is last, after a text
 abbrev pub last_back : Bool → List ℕ → Bool
 last_back back [] = back
 last_back back (b ∷ text) = last_back (ends_with_backslash (b ∷ [])) text

@@ -31,7 +31,7 @@ ends_more b c text =
     by : (n : ℕ) → pointwise nat_eq (backslash ∷ []) (drop (suc n) (b ∷ c ∷ text)) ≡ pointwise nat_eq (backslash ∷ []) (drop n (c ∷ text))
     by n = refl
 
--- a text without carriage returns, and without a newline behind a backslash
+-- a text without carriage returns, and without a newline after a backslash
 abbrev pub is_settled : Bool → List ℕ → Bool
 is_settled back [] = true
 is_settled back (b ∷ text) = is_kept b && (not (b == newline && back) && is_settled (ends_with_backslash (b ∷ [])) text)
@@ -62,7 +62,7 @@ no_pair true seen false is = refl
 no_pair true true true is = is
 no_pair true false true is = is
 
--- a body with a newline behind it
+-- a body with a newline after it
 pub body_settled : (text rest : List ℕ) (seen back : Bool) → is_body seen back text ≡ true → is_settled false (newline ∷ rest) ≡ true → is_settled back (text ++ newline ∷ rest) ≡ true
 body_settled [] rest true false is later = later
 body_settled [] rest true true is later = absurd cc
@@ -73,7 +73,7 @@ body_settled (b ∷ text) rest seen back is later =
     let apart = no_pair (b == newline) seen back (and_second (is_kept b) _ fit) in
     rw kept (rw apart (body_settled text rest (sees seen b) (ends_with_backslash (b ∷ [])) (and_second (fits seen back b) _ is) later))
 
--- a line with a colon behind it, and a newline
+-- a line with a colon after it, and a newline
 pub head_settled : (key rest : List ℕ) (back : Bool) → list_all is_line_byte key ≡ true → is_settled false rest ≡ true → is_settled back (key ++ colon ∷ newline ∷ rest) ≡ true
 head_settled [] rest back is later = later
 head_settled (b ∷ key) rest back is later =

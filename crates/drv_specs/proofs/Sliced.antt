@@ -20,7 +20,7 @@ use Rattle.std.specs.Prelude.{None, Option, Some, get_or, slice_index}
 
 -- Directives read from slices of a settled text.
 
--- a line, and what stands behind it
+-- a line, and what stands after it
 pub lines_cut : (line : List ℕ) (behind : Option (List ℕ)) → list_all (λ b. not (ends_line b)) line ≡ true → lines_of (line ++ bytes_from behind) ≡ line ∷ lines_from behind
 lines_cut line None is = ap lines_of (append-nil line) ∙ one_piece line [] is
 lines_cut line (Some text) is = pieces_then line [] text ∙ ap (λ ls. ls ++ lines_of text) (one_piece line [] is)
@@ -106,7 +106,7 @@ pub tail_lines : (tail line rest : List ℕ) (behind : Option (List ℕ)) → ta
     → lines_of tail ≡ rest ∷ lines_from behind
 tail_lines tail line rest behind is clean h = lines_are tail rest behind is (clean_end line rest clean h)
 
--- what stands behind the blanks at the front of a text is no empty line
+-- what stands after the blanks at the front of a text is no empty line
 full_front : (text : List ℕ) → has_byte (without_front is_blank text) ≡ true → is_empty_line (without_front is_blank text) ≡ false
 full_front [] is = absurd cc
 full_front (b ∷ text) is = by (is_blank b) refl (full_front text) is

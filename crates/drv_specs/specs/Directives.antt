@@ -44,7 +44,7 @@ by_keyword n line (word ∷ words) =
     else if pointwise nat_eq word (codes "%include_noerr") then included n PassOver (trimmed (drop (length word) line))
     else Bad n
 
--- a body: what stands behind the colon, if anything does, and the lines up to the next one that is empty
+-- a body: what stands after the colon, if anything does, and the lines up to the next one that is empty
 abbrev pub first_line : List ℕ → List (List ℕ)
 first_line rest = filter has_byte (without_front is_blank rest ∷ [])
 
@@ -67,7 +67,7 @@ abbrev pub by_colon : ℕ → List ℕ → List (List ℕ) → Option ℕ → Di
 by_colon n line lines None = Bad n
 by_colon n line lines (Some at) = by_key (take at line) (body_of (drop (at + 1) line) lines)
 
--- what a line does that is not empty and stands in no body, without the blanks at its front; behind it come these lines
+-- what a line does that is not empty and stands in no body, without the blanks at its front; after it come these lines
 abbrev pub start_of : ℕ → List ℕ → List (List ℕ) → Start
 start_of n [] lines = Passed
 start_of n (b ∷ line) lines =

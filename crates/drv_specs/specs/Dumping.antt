@@ -25,6 +25,6 @@ appends (b ∷ c ∷ text) = b == plus && is_blank c
 abbrev pub Plain : Set → Type 0
 Plain set = list_all (λ entry. not (appends entry.1)) set.named ≡ true
 
--- a set with its pairs once more behind them
+-- a set with its pairs once more after them
 abbrev pub doubled : Set → Set
 doubled set = record set { pairs = set.pairs ++ set.pairs }

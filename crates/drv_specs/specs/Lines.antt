@@ -5,7 +5,7 @@ use Rattle.std.specs.Prelude.{◌-◌, ◌==◌, ◌&&◌, Bool, List, [], ◌�
 
 -- The lines of a spec file's text (GCC manual, "Spec Files"; what is removed is this project's profile).
 
--- a text and one more byte behind it: a newline behind a backslash goes, and takes the backslash with it
+-- a text and one more byte after it: a newline after a backslash goes, and takes the backslash with it
 abbrev pub joined_onto : List ℕ → ℕ → List ℕ
 joined_onto text b = if b == newline && ends_with nat_eq text (backslash ∷ []) then take (length text - 1) text else text ++ b ∷ []
 

@@ -36,7 +36,7 @@ is_sized name = has_byte name && nat_le (length name) 255
 abbrev pub is_name : List ℕ → Bool
 is_name name = is_sized name && list_all is_name_byte name
 
--- a key has 1 to 255 printing bytes without a colon; behind an initial @ it is a name
+-- a key has 1 to 255 printing bytes without a colon; after an initial @ it is a name
 abbrev pub is_key_byte : ℕ → Bool
 is_key_byte b = nat_le 33 b && nat_le b 126 && not (b == colon)
 

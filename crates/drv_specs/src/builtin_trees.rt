@@ -16,7 +16,7 @@ macro_rules! tokens {
     };
 }
 
-/// The marks of a tree: each where its word begins and ends, whether a star stands behind it, and a
+/// The marks of a tree: each where its word begins and ends, whether a star stands after it, and a
 /// `!` before it.
 macro_rules! marks {
     ($($start:literal $end:literal $starred:literal $negated:literal),*) => {

@@ -146,7 +146,7 @@ fn parsed_text(alloc: Global, name: &[u8], text: &[u8]) -> Result<Text, SpecsFau
     }
 }
 
-/// A text with more behind it, which is refused if that has no tree.
+/// A text with more after it, which is refused if that has no tree.
 #[tactic(auto, using(crate::proofs::TreeChecks::tree_given, crate::proofs::TreeChecks::tree_refused))]
 fn extended_text(alloc: Global, name: &[u8], text: Text, more: &[u8]) -> Result<Text, SpecsFault>
     ensures tree { (set : Set) → Gives fault.Memory (λ _. set) result

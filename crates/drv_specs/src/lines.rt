@@ -20,14 +20,14 @@ pub(crate) struct Lines<'a> {
     pub(crate) number: usize,
 }
 
-/// A body, and the lines behind it.
+/// A body, and the lines after it.
 #[derive(Clone, Copy)]
 pub(crate) struct Body<'a> {
     pub(crate) text: &'a [u8],
     pub(crate) left: Lines<'a>,
 }
 
-/// A text's first line, and what stands behind its newline, if it has one.
+/// A text's first line, and what stands after its newline, if it has one.
 #[tactic(auto, using(crate::proofs::Found::line_found, crate::proofs::Found::line_clean, crate::proofs::Found::line_alone))]
 pub(crate) fn cut_line(text: &[u8]) -> (&[u8], Option<&[u8]>)
     ensures whole { text.now
@@ -40,7 +40,7 @@ pub(crate) fn cut_line(text: &[u8]) -> (&[u8], Option<&[u8]>)
     }
 }
 
-/// The next line and those behind it, unless it is empty or has blanks alone, or there is none.
+/// The next line and those after it, unless it is empty or has blanks alone, or there is none.
 fn full_line<'a>(lines: Lines<'a>) -> Option<(&'a [u8], Lines<'a>)>
     requires { lines.number + size_left lines < 2 ^ 64 }
     ensures none { IfNone result (body_lines (lines_left lines.entry) ≡ []) }
@@ -104,7 +104,7 @@ pub(crate) fn cut_body<'a>(lines: Lines<'a>) -> Body<'a>
     }
 }
 
-/// A text's first word, cut at blanks, and what stands behind it.
+/// A text's first word, cut at blanks, and what stands after it.
 pub(crate) fn next_word(text: &[u8]) -> Option<(&[u8], &[u8])>
     ensures none { IfNone result (words_of text.now ≡ []) }
     ensures some { IfSome result (λ found. words_of text.now ≡ found.0.now ∷ words_of found.1.now) }

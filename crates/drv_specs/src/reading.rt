@@ -15,7 +15,7 @@ use crate::lines::{Lines, cut_body, cut_line, next_word};
 use bstr::ByteSlice;
 use std::marker::Model;
 
-/// What a line begins, and the lines behind that.
+/// What a line begins, and the lines after that.
 #[derive(Clone, Copy)]
 struct Begun<'a> {
     directive: Option<Directive<'a>>,
@@ -32,7 +32,7 @@ fn by_key<'a>(key: &'a [u8], body: &'a [u8]) -> Directive<'a>
     }
 }
 
-/// The directive of a line `%rename`, by what stands behind that.
+/// The directive of a line `%rename`, by what stands after that.
 fn renamed<'a>(number: usize, text: &'a [u8]) -> Directive<'a>
     ensures { shown result ≡ renamed number (words_of text.now) }
 {
@@ -48,7 +48,7 @@ fn renamed<'a>(number: usize, text: &'a [u8]) -> Directive<'a>
     }
 }
 
-/// The directive of a line `%include`, by what stands behind that.
+/// The directive of a line `%include`, by what stands after that.
 fn included<'a>(number: usize, if_missing: IfMissing, text: &'a [u8]) -> Directive<'a>
     ensures { shown result ≡ included number if_missing text.now }
 {
@@ -81,7 +81,7 @@ fn by_keyword<'a>(number: usize, line: &'a [u8]) -> Directive<'a>
     Directive::Bad(number)
 }
 
-/// Where a body begins: behind the colon of its line, or where nothing stands there but blanks,
+/// Where a body begins: after the colon of its line, or where nothing stands there but blanks,
 /// with the next line.
 fn body_start<'a>(text: &'a [u8], line: &[u8], value: &[u8], lines: Lines<'a>) -> Lines<'a>
     requires whole { text.now ≡ line.now ++ bytes_from (text_left lines) }
@@ -179,7 +179,7 @@ fn begin<'a>(number: usize, text: &'a [u8]) -> Begun<'a>
     with_colon(text, line, start, left)
 }
 
-/// The next directive of lines, if there is one, and the lines behind it.
+/// The next directive of lines, if there is one, and the lines after it.
 fn next_of<'a>(lines: Lines<'a>) -> Begun<'a>
     requires { lines.number + size_left lines < 2 ^ 64 }
     ensures directives { directives_left lines.entry

@@ -17,7 +17,7 @@ pub(crate) fn ends_with_backslash(text: &[u8]) -> bool
     text.ends_with(b"\\")
 }
 
-/// Puts the end of a line behind a text: a carriage return goes, and a newline behind a backslash
+/// Puts the end of a line after a text: a carriage return goes, and a newline after a backslash
 /// with that.
 fn settle_onto(text: &mut Vec<u8>, byte: u8) -> Result<(), AllocError>
     ensures { OnOk result (text.new.items ≡ settled_onto text.old.items byte) }

@@ -12,7 +12,7 @@ use std::alloc::{AllocError, Global};
 use std::marker::Model;
 use std::rc::Rc;
 
-/// A text and another behind it.
+/// A text and another after it.
 pub(crate) fn joined(alloc: Global, front: &[u8], back: &[u8]) -> Result<Word, AllocError>
     ensures { IfOk result (λ text. text ≡ front.now ++ back.now) }
 {
@@ -21,7 +21,7 @@ pub(crate) fn joined(alloc: Global, front: &[u8], back: &[u8]) -> Result<Word, A
     Ok(text)
 }
 
-/// The tree of a text with more behind it. Where no other text shares the tree of the first, that
+/// The tree of a text with more after it. Where no other text shares the tree of the first, that
 /// one is read on.
 fn extended_tree(alloc: Global, shared: Rc<SpecTree>, more: &[u8]) -> Result<SpecTree, SyntaxFault>
     ensures tree { Gives syntax.Memory tree_of result (parsed (shared.value ++ more.now)) }
@@ -70,7 +70,7 @@ impl Text {
         })
     }
 
-    /// The text with more behind it, if that has a tree.
+    /// The text with more after it, if that has a tree.
     pub(crate) fn extended(self, alloc: Global, more: &[u8]) -> Result<Text, SyntaxFault>
         ensures tree { Gives syntax.Memory tree_of result (parsed (self ++ more.now)) }
         ensures text { IfOk result (λ text. text ≡ self ++ more.now) }

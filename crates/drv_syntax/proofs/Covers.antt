@@ -42,7 +42,7 @@ after_byte size n m b text rest a e = omega arith
 abbrev pub head : Context → Items → ℕ → BraceKind → Choices → Tests → Head
 head c past at kind cs before = choosing (list c past) at kind cs before
 
--- what goes on from a colon or a bar behind tests
+-- what goes on from a colon or a bar after tests
 abbrev Then : List Waiting → Here → ℕ → BraceKind → Choices → Tests → ℕ → List ℕ → List Waiting → (ℕ → Place) → List ℕ → Type 0
 Then ws here at kind cs all size end vs q rest = (m : ℕ) (middle : Tests) (patterns : Option (List (Span × Pattern))) → At size m end
     → Leads ws (o.BehindTest (choosing here at kind cs middle) patterns (Some all) false) m end vs q rest
@@ -55,7 +55,7 @@ sign_read h asked (s.plain_sign g) k p asks bang n a = k p n n (asks n) a
 sign_read {ws = ws} h asked (s.not_sign sp) k p asks bang n a =
     goes (bang n) (and_then (spaces_read ws (o.TestNegated h n) (negated_space h n) (n + 1) sp) (λ m f. k (o.TestNegated h n) m n (negated_asks h n m) (omega (arith, a, f))))
 
--- behind a . or , and its word no star stands
+-- after a . or , and its word no star stands
 abbrev pub Unstarred : Asked → List ℕ → Type 0
 Unstarred (HasSwitch p) w = Unit {0}
 Unstarred (HasSuffix word) w = Stops (λ b. b == 42) w

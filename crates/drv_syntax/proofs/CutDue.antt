@@ -51,7 +51,7 @@ due_cut_space size h b text e (inl (inl (others, end, t, r))) = inl (inl (others
 due_cut_space size h b text e (inl (inr t)) = inl (inr (tests_cut_space e t))
 due_cut_space size h b text e (inr (x, y, p)) = inr (x, y, patterns_cut_space e p)
 
--- patterns, and what is behind the first of them
+-- patterns, and what is after the first of them
 patterns_cut : (size : ℕ) {t u v : List ℕ} {p : Pattern} → AreSpaces t u → IsPattern u p v → after_patterns size v → CutsPatterns t
 patterns_cut size d q (inl f) = cuts.after_pattern d q f
 patterns_cut size d q (inr (rest, f, t)) = cuts.after_and d q f t
@@ -176,7 +176,7 @@ module _ (size : ℕ) (K : Outside) (ending : (c : Context) (all : Items) (rest 
       let r = emitted_only (λ _. after_patterns size mid) h.choices h.tests negated h.patterns (span begun m, p) g in
       inr (r.0, r.1, patterns_cut size d (subst (λ (y : List ℕ). IsPattern y p mid) (sym (unsigned f r.2)) q) r.3)
 
-  -- behind white space or not
+  -- after white space or not
   due_cut_row : (h : Head) (same_place : Place) (n b : ℕ) (text : List ℕ) → At size n (b ∷ text) → h.patterns ≡ [] → CutAfter size K b text (o.turn_due h same_place n b)
       → due_cut size h (b ∷ text) ⊎ ((is_space b ≡ true) × Cut size same_place text)
   due_cut_row h same_place n b text a z g =

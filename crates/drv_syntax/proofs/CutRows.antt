@@ -24,7 +24,7 @@ use Rattle.std.proofs.Common.{◌≡◌, ◌≤◌, ◌∙◌, ◌+◌, ◌++◌
 use Rattle.std.proofs.lemmas.Bool.Decides.{nat_tests}
 use Rattle.std.specs.Prelude.{◌==◌, nat_le}
 
--- The rows of items and functions, backwards: where the text ends inside a directive behind a byte, it does so before it, or
+-- The rows of items and functions, backwards: where the text ends inside a directive after a byte, it does so before it, or
 -- the directive has ended before the byte.
 
 pub le_true : {m n : ℕ} → nat_le m n ≡ true → m ≤ n
@@ -79,7 +79,7 @@ module _ (size : ℕ) (K : Outside) (ending : (c : Context) (all : Items) (rest 
       when (CutAfter size K b text) (b == 10) _ _ h (λ e g. absurd g) (λ e5 h.
       when (CutAfter size K b text) (b == 124) _ _ h (λ e g. absurd g) (λ e6 g. absurd g))))))
 
-  -- behind a list in a directive, the directive goes on, or the text ends in it
+  -- after a list in a directive, the directive goes on, or the text ends in it
   pub opened_list : (w : Waiting) (c : Context) (text : List ℕ) → WantsList size (Beyond size K w) (record { context = c; done = none }) text ⊎ ⊥
       → WantsList size (Inside size K w) (record { context = c; done = none }) text ⊎ InsideCut size w c text
   opened_list w c text (inr x) = absurd x

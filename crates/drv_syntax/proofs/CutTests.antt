@@ -24,7 +24,7 @@ pub left : {A : Type 0} → A ⊎ ⊥ → A
 left (inl x) = x
 left (inr x) = absurd x
 
--- what braces can still hold behind a test
+-- what braces can still hold after a test
 
 tested_more : (before : Tests) (x : Span) (negated : Bool) (asked : Asked) → Tested (join_tests before (test x negated asked no_test))
 tested_more no_test x negated asked = tt
@@ -53,7 +53,7 @@ pub possible : (h : Head) (begun m : ℕ) (negated : Bool) (p : Pattern) (asked 
 possible h begun m negated p asked f =
     possible_by h.choices h.tests (join_tests h.tests (test (span begun m) negated asked no_test)) negated h.patterns (span begun m, p) (tested_more h.tests (span begun m) negated asked) f
 
--- behind a function
+-- after a function
 pub possible_test : (h : Head) (begun m : ℕ) (negated : Bool) (asked : Asked) → h.patterns ≡ [] → Possible h None (tested h begun m negated asked)
 possible_test h begun m negated asked e =
     let r = by h.patterns (join_tests h.tests (test (span begun m) negated asked no_test)) (tested_more h.tests (span begun m) negated asked) e in (tt, r.0, inr r.1)
@@ -89,7 +89,7 @@ space_cut size h b text None ts e (inl g) = absurd g
 space_cut size h b text ps (Some tests) e (inr g) = inr (tests_after_space size b (in_braces h.here.context) tests text e g)
 space_cut size h b text ps None e (inr g) = absurd g
 
--- behind an X
+-- after an X
 
 pub next_start : (h : Head) (colon : ℕ) (ts : Tests) (items : Items) (k : ℕ) (q : Place) → o.resume_x h colon ts items k 59 ≡ On q → o.ChoiceStart (o.next_head h colon items) ≡ q
 next_start h colon no_test items k q e = absurd cc
@@ -115,7 +115,7 @@ x_cut size h n text (inr (items, b, rest, q, k, d, f, a, r, g)) = by (each (λ (
         absurd (subst (λ (x : Place). Cut size x rest) (sym p) g)
 
 module _ (size : ℕ) (K : Outside) (ending : (c : Context) (all : Items) (rest : List ℕ) → AreFrontItems size c rest → K c all rest) where
-  -- behind a test
+  -- after a test
 
   colon_cut : (h : Head) (ps : Option (List (Span × Pattern))) (ts : Option Tests) (bare : Bool) (n : ℕ) (text : List ℕ) → At size n (58 ∷ text) → CutAfter size K 58 text (o.turn_colon h ts bare n)
       → Wanted size K (o.BehindTest h ps ts bare) (58 ∷ text) ⊎ Cut size (o.BehindTest h ps ts bare) (58 ∷ text)
@@ -215,7 +215,7 @@ module _ (size : ℕ) (K : Outside) (ending : (c : Context) (all : Items) (rest 
             (g (possible h begun n negated (pattern word false) (HasSwitch (pattern word false)) f)),
       ))
 
-  -- words behind a mark
+  -- words after a mark
 
   marked_longer : (h : Head) (begun : ℕ) (negated : Bool) (mark : ℕ) (word : List ℕ) (c : ℕ) (text longer : List ℕ) → (RunsOut is_word text → RunsOut is_word longer)
       → ((run end : List ℕ) → IsQuoted is_word text run end → IsQuoted is_word longer (c ∷ run) end)

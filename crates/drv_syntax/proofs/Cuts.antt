@@ -13,7 +13,7 @@ use Rattle.std.specs.Prelude.{◌==◌, None, Option, Some}
 
 -- What is left of a text that ends inside the directive that a place stands in.
 
--- behind a backslash in such bytes
+-- after a backslash in such bytes
 abbrev pub Escaped : (ℕ → Bool) → List ℕ → Type 0
 Escaped f text = (text ≡ []) ⊎ ((b : ℕ) × (rest : List ℕ) × (text ≡ b ∷ rest) × RunsOut f rest)
 
@@ -41,7 +41,7 @@ abbrev pub Tested : Tests → Type 0
 Tested no_test = ⊥
 Tested (test s negated asked tests) = Unit {0}
 
--- behind a test, one of the two is left
+-- after a test, one of the two is left
 abbrev pub Possible : Head → Option (List (Span × Pattern)) → Option Tests → Type 0
 Possible h ps ts = Any (λ xs. Bare h × Filled xs) ps × Any (λ xs. (h.patterns ≡ []) × Tested xs) ts × (There ps ⊎ There ts)
 
@@ -55,11 +55,11 @@ module _ (size : ℕ) where
       (mid : List ℕ) × (end ≡ 58 ∷ mid)
       × (AreFrontItems size (in_x c tests) mid ⊎ ((items : Items) × (next : List ℕ) × AreItems size (in_x c tests) mid items (59 ∷ next) × CutsLater size c next))
 
-  -- where a test is due, behind these tests
+  -- where a test is due, after these tests
   abbrev pub tests_cut : Context → Tests → List ℕ → Type 0
   tests_cut c tests text = ((others : Tests) × (end : List ℕ) × AreTests size c text others end × choice_cut c (join_tests tests others) end) ⊎ CutsTests size c text
 
-  -- behind the last of these tests
+  -- after the last of these tests
   abbrev pub after_tests : Context → Tests → List ℕ → Type 0
   after_tests c tests text =
       ((others : Tests) × (end : List ℕ) × IsTestsRest size c text others end × choice_cut c (join_tests tests others) end)
@@ -151,7 +151,7 @@ module _ (size : ℕ) where
   Cut (o.TestFunction h begun negated at name) text = h.patterns ≡ [] → is_function_front name ≡ true → test_call_cut h begun negated name text
   Cut (o.BehindTest h ps ts bare) text = Possible h ps ts → some_after h ps ts text
 
--- around a list for whose end a directive waits: the text ends in the list, or the directive goes on behind it
+-- around a list for whose end a directive waits: the text ends in the list, or the directive goes on after it
 abbrev pub Beyond : ℕ → Outside → Waiting → Outside
 Beyond size K w c all end =
     AreFrontItems size c end
@@ -162,7 +162,7 @@ abbrev pub FrontAround : ℕ → List Waiting → Outside
 FrontAround size [] c all rest = c.kind ≡ Top → AreFrontItems size c rest
 FrontAround size (w ∷ ws) c all rest = Beyond size (FrontAround size ws) w c all rest
 
--- what is left of a list in a directive, where the directive ends inside the list or behind it
+-- what is left of a list in a directive, where the directive ends inside the list or after it
 abbrev pub InsideCut : ℕ → Waiting → Context → List ℕ → Type 0
 InsideCut size w c text =
     AreFrontItems size c text

@@ -91,7 +91,7 @@ module _ (ws : List Waiting) (here : Here) (at : ℕ) (kind : BraceKind) where
       place : ℕ → Place
       place m = o.BehindTest head (Some ((span n m, pattern (b ∷ c ∷ word) false) ∷ [])) (o.tested head n m false (o.marked b (c ∷ word))) false
 
-  -- behind a mark, a word and a star
+  -- after a mark, a word and a star
   abbrev pub starred : ℕ → ℕ → List ℕ → ℕ → Place
   starred n b word m = o.BehindTest head (Some ((span n m, pattern (b ∷ word) true) ∷ [])) None false
 
@@ -136,7 +136,7 @@ module _ (ws : List Waiting) (here : Here) (at : ℕ) (kind : BraceKind) where
     closing = λ m. after_closing ws m end here at kind before (before ++ (span n m, pat) ∷ []) (o.tested (emitting here at kind before) n m false (HasSwitch pat)) false;
   }
 
-  -- patterns from a place that reads its first one so, behind white space
+  -- patterns from a place that reads its first one so, after white space
   pub patterns_from : {size : ℕ} {text rest : List ℕ} {ps : List (Span × Pattern)} (p : Place) (before : List (Span × Pattern)) → ((n b : ℕ) → is_space b ≡ true → turn p n b ≡ Goes p)
       → ((n : ℕ) (u end : List ℕ) (pat : Pattern) → IsPattern u pat end → First ws p n u here at kind before pat end) → (n : ℕ) → At size n text → ArePatterns size text ps rest
       → Leads ws p n text ws (λ m. o.AtItem (emitted_item (emitting here at kind []) m (before ++ ps))) rest

@@ -44,7 +44,7 @@ pub opening : {place : ℕ} {ws : List Waiting} {w : Waiting} {p q : Place} {n b
     → IsFrontFrom (place_of w) ws p n (b ∷ text)
 opening {ws = ws} {w} e k = record { is = rw e (around w ws k.is) }
 
--- where a text of this size ends in a word, or behind a backslash in it
+-- where a text of this size ends in a word, or after a backslash in it
 pub record WordEnds (place size : ℕ) (P : List ℕ → Place) (E : List ℕ → ℕ → Place) : Type 0 where
   pub word : (word : List ℕ) (n : ℕ) → IsTreeOrCut place (finish (P word) n)
   pub escape : (word : List ℕ) (back n : ℕ) → back + 1 ≡ size → IsTreeOrCut place (finish (E word back) n)

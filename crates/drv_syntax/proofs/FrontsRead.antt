@@ -90,7 +90,7 @@ no_star_end : {text end : List ℕ} → AreSpaces text end → end ≡ [] → St
 no_star_end s.no_space f = rw f s.at_end
 no_star_end (s.space {b} g q) f = s.at_byte (other is_space b 42 g refl)
 
--- tests, and what is behind them
+-- tests, and what is after them
 tests_to : {size : ℕ} {c c' : Context} {text end : List ℕ} {tests : Tests} → AreTests size c' text tests end → in_braces c ≡ c' → (ws : List Waiting) (past : Items) (at : ℕ) (kind : BraceKind) (cs : Choices)
     (before : Tests) (p : Place) → ((n b : ℕ) → is_space b ≡ true → turn p n b ≡ Goes p) → ((n : ℕ) → Asks p n (head c past at kind cs before) n false)
     → ((n : ℕ) → turn p n 33 ≡ Goes (o.TestNegated (head c past at kind cs before) n)) → (n : ℕ) → At size n text
@@ -278,6 +278,6 @@ front_is_read text d = read_from d none 0 (omega arith)
         subst IsFront (sym l.is) (read_from f (join past (more (span n l.at) item none)) l.at (further size n l.at rest others a l.fits))
     read_from {size} {rest} (cuts.cut_item q) past n a = either (run [] (at_item top past) n rest) (item_cut_place size n rest) (item_front q [] past n a).is
 
--- behind the byte at which a text is refused no text is a front
+-- after the byte at which a text is refused no text is a front
 pub no_front : (text : List ℕ) (k : ℕ) (fault : SyntaxFault) → read text ≡ Bad k fault → (rest : List ℕ) → Front (take (k + 1) text ++ rest) → ⊥
 no_front text k fault h rest f = not_bad (read (take (k + 1) text ++ rest)) k fault (front_is_read (take (k + 1) text ++ rest) f) ((shortest text k fault h).2 rest)

@@ -8,7 +8,7 @@ use Rattle.std.proofs.Common.{◌≡◌, ℕ, ◌+◌, ◌-◌, ◌<◌, ◌≤�
 use Rattle.std.proofs.Math.Seq.{drop-append_seam, take-length}
 use Rattle.std.proofs.lemmas.List.{drop-append-le, drop_more, length-drop, length-map, map-append, map-set, take-append-le, take-map}
 
--- Labels whose words stand one behind another.
+-- Labels whose words stand one after another.
 
 pub within_more : (n m : ℕ) (marks : List Mark) → n ≤ m → Within n marks → Within m marks
 within_more n m [] h w = tt

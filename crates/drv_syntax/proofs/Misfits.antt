@@ -5,7 +5,7 @@ use Rattle.drv_syntax.specs.Outcome.{Bad, read}
 use Rattle.drv_syntax.specs.declared.fault.SyntaxFault.{SyntaxFault}
 use Rattle.std.proofs.Common.{◌≡◌, ◌+◌, ◌++◌, ◌<◌, ◌≤◌, ◌⊎◌, List, arith, drop, inl, inr, length, subst, suc, take, zero, ℕ}
 
--- The byte of a refusal is the one behind the longest prefix that is a front.
+-- The byte of a refusal is the one after the longest prefix that is a front.
 
 at_most_or_more : (j k : ℕ) → (j ≤ k) ⊎ (k + 1 ≤ j)
 at_most_or_more zero k = inl (omega arith)

@@ -101,7 +101,7 @@ name_text ws here at w n (s.run_goes {b} {run = others} e q) h =
 
 -- tests
 
--- the patterns that the inside of braces may still be behind this test
+-- the patterns that the inside of braces may still be after this test
 abbrev pub patterns_of : Head → ℕ → ℕ → Bool → Asked → Option (List (Span × Pattern))
 patterns_of h start end negated (HasSwitch p) = emitted h start end negated p
 patterns_of h start end negated (HasSuffix word) = emitted h start end negated (pattern (46 ∷ word) false)

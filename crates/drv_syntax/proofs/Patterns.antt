@@ -66,7 +66,7 @@ asks_escape a = a.byte 92 refl refl refl
 pub asks_mark : {p : Place} {n start : ℕ} {h : Head} {negated : Bool} → Asks p n h start negated → (b : ℕ) → is_mark b ≡ true → turn p n b ≡ Goes (o.TestMark h start negated b)
 asks_mark a b e = a.byte b (none_of is_mark (32 ∷ 9 ∷ 10 ∷ []) b e (refl, (refl, (refl, tt)))) (other is_mark b 33 e refl) (other is_mark b 58 e refl) ∙ rw (other is_mark b 92 e refl, e) refl
 
--- behind a word without a star
+-- after a word without a star
 word_ends : (ws : List Waiting) (h : Head) (start : ℕ) (negated : Bool) (word : List ℕ) (m : ℕ) (rest : List ℕ) → Stops (λ b. b == 92) rest → Stops is_word rest → Stops (λ b. b == 42) rest
     → run ws (o.TestWord h start negated word) m rest ≡ run ws (after_pattern h start m negated (pattern word false)) m rest
 word_ends ws h start negated word m rest e f g =
@@ -106,7 +106,7 @@ emitting here at kind ps = record { here = here; at = at; kind = kind; choices =
 abbrev pub choosing : Here → ℕ → BraceKind → Choices → Tests → Head
 choosing here at kind choices tests = record { here = here; at = at; kind = kind; choices = choices; tests = tests; patterns = [] }
 
--- a place behind a pattern of form 1
+-- a place after a pattern of form 1
 pub record Closing (ws : List Waiting) (p : Place) (n : ℕ) (text : List ℕ) (here : Here) (at : ℕ) (kind : BraceKind) (ps : List (Span × Pattern)) : Type 0 where
   pub brace : {rest : List ℕ} → AreSpaces text (125 ∷ rest) → Leads ws p n text ws (λ m. o.AtItem (emitted_item (emitting here at kind []) m ps)) rest
   pub and : {rest : List ℕ} → AreSpaces text (38 ∷ rest) → Leads ws p n text ws (λ _. o.PatternDue (emitting here at kind ps)) rest

@@ -73,7 +73,7 @@ due_none order h n b (b1, b2, b3) sp nb np d = rw (sp, nb, b1, not_mark b b2, b2
 pub negated_none : (h : Head) (start n b : ℕ) → Empty b → is_space b ≡ false → (b == 37) ≡ false → turn (o.TestNegated h start) n b ≡ Refused (EmptyTest h.at)
 negated_none h start n b (b1, b2, b3) sp np = rw (sp, b1, not_mark b b2, b2, b3, np) refl
 
--- behind what can be no pattern, no test, and what can be either
+-- after what can be no pattern, no test, and what can be either
 pub tests_only : (h : Head) (ts : Option Tests) (n b : ℕ) → is_space b ≡ false → (b == 58) ≡ false → (b == 124) ≡ false → o.turn_after h None ts false n b ≡ Refused (BadDirective h.at)
 tests_only h ts n b sp x y = by (b == 125) refl (b == 38) refl
   where

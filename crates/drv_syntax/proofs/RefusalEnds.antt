@@ -54,7 +54,7 @@ nested_directive here at end WithCall e lv = rw lv refl
 nested_directive here at end WithBraces e lv = rw lv refl
 nested_directive here at end (WithMarkedBraces kind) e lv = rw lv refl
 
--- no function's name behind %:
+-- no function's name after %:
 unknown : (ws : List Waiting) (p : Place) (m c : ℕ) (P : List ℕ → Place) (opened : List ℕ → Turn) → ((w : List ℕ) (n b : ℕ) → turn (P w) n b ≡ o.turn_function m w b (opened w) (P (w ++ b ∷ [])))
     → (name rest : List ℕ) (b n : ℕ) → n ≡ m → is_function_front name ≡ true → run ws p m (37 ∷ c ∷ name ++ b ∷ rest) ≡ run ws (P []) (m + 1 + 1) (name ++ b ∷ rest)
     → turn (P name) (m + 1 + 1 + length name) b ≡ Refused (UnknownFunction m) → run ws p m (37 ∷ c ∷ name ++ b ∷ rest) ≡ Bad (n + 2 + length name) (UnknownFunction n)

@@ -38,7 +38,7 @@ pub refused_fronts : (text : List ℕ) (k : ℕ) (fault : SyntaxFault) → read 
 refused_fronts text k fault h =
     ((shortest text k fault h).0, λ j l. unrefused_is_front (take j text) ((shortest text k fault h).1 j l), no_front text k fault h, (shortest text k fault h).2)
 
--- a text is refused at the byte behind its longest front
+-- a text is refused at the byte after its longest front
 pub refused_after : (text : List ℕ) (k : ℕ) → k < length text → Front (take k text) → (Front (take (k + 1) text) → ⊥) → (fault : SyntaxFault) × (read text ≡ Bad k fault)
 refused_after text k h f g = by (read (take (k + 1) text)) refl
   where

@@ -80,7 +80,7 @@ module _ (size : ℕ) (rest : List ℕ) where
       on due (bang n) (onto due (spaces_read ws (o.TestNegated h n) (negated_space h n) (n + 1) sp)
       (λ m f. k (o.TestNegated h n) m n (negated_asks h n m) (λ b e x sp np d. negated_none h n m b x sp np) (omega (arith, a, f))))
 
-  -- tests, and what is behind them
+  -- tests, and what is after them
   tests_to : (due : Due) {c c' : Context} {text end : List ℕ} {tests : Tests} → AreTests size c' text tests end → in_braces c ≡ c' → (ws : List Waiting) (past : Items) (at : ℕ) (kind : BraceKind) (cs : Choices)
       (before : Tests) (p : Place) → ((n b : ℕ) → is_space b ≡ true → turn p n b ≡ Goes p) → ((n : ℕ) → Asks p n (head c past at kind cs before) n false)
       → ((n : ℕ) → turn p n 33 ≡ Goes (o.TestNegated (head c past at kind cs before) n)) → (n : ℕ) → At size n text
@@ -191,7 +191,7 @@ emits_reached {size} {at} {rest = rest} {due} (r.after_first {u = u} {v} {w} {p 
     onto size rest due y.leads (λ l g. onto size rest due ((y.closing l).and sp') (λ m h.
     patterns_reached d ws here kind ((span k l, p) ∷ []) tt m (omega (arith, a, f, g, h)))))
 
--- behind a test
+-- after a test
 
 star_or_not : (text : List ℕ) → Stops (λ b. b == 42) text ⊎ ((rest : List ℕ) × (text ≡ 42 ∷ rest))
 star_or_not [] = inl s.at_end
@@ -216,7 +216,7 @@ module _ (size : ℕ) (c : Context) (ws : List Waiting) (past : Items) (at : ℕ
   abbrev h : Head
   h = head c past at kind cs before
 
-  -- behind what is only a test
+  -- after what is only a test
   test_ended : {v mid : List ℕ} {p : Place} {n : ℕ} (start : ℕ) (negated : Bool) (asked : Asked) → ((m : ℕ) → patterns_of h start m negated asked ≡ None) → At size n v
       → Leads ws p n v ws (λ m. after_asked h start m negated asked) mid → AreSpaces mid rest → Comes size ws p n v (AnEnd at ends_test) rest
   test_ended start negated asked e a l sp =
@@ -233,7 +233,7 @@ module _ (size : ℕ) (c : Context) (ws : List Waiting) (past : Items) (at : ℕ
         );
       }))
 
-  -- behind what may be a pattern and a test
+  -- after what may be a pattern and a test
   either_ended : {v mid : List ℕ} {p : Place} {n : ℕ} (ps : ℕ → Option (List (Span × Pattern))) (ts : ℕ → Option Tests) → At size n v → Leads ws p n v ws (λ m. o.BehindTest h (ps m) (ts m) false) mid
       → AreSpaces mid rest → Comes size ws p n v (AnEnd at ends_either) rest
   either_ended ps ts a l sp =
@@ -241,7 +241,7 @@ module _ (size : ℕ) (c : Context) (ws : List Waiting) (past : Items) (at : ℕ
       onto size rest (AnEnd at ends_either) (spaces_read ws (o.BehindTest h (ps k) (ts k) false) (after_space h (ps k) (ts k) false) k sp)
       (λ m g. record { is = (ws, o.BehindTest h (ps k) (ts k) false, m, omega (arith, a, f, g), either_answers h (ps k) (ts k) m, refl) }))
 
-  -- behind a mark and a word, which is no pattern
+  -- after a mark and a word, which is no pattern
   marked_ended : {u mid word : List ℕ} {p : Place} {n start : ℕ} {negated : Bool} (order : Order) (mark x : ℕ) (asked : Asked) → is_mark mark ≡ true → Stands order cs before → may_emit order negated ≡ false
       → Asks p n h start negated → IsQuoted is_word u (x ∷ word) mid → At size n (mark ∷ u)
       → (Stops (λ b. b == 42) mid → Leads ws p n (mark ∷ u) ws (λ m. after_asked h start m negated asked) mid) → AreSpaces mid rest → Comes size ws p n (mark ∷ u) (AnEnd at ends_test) rest

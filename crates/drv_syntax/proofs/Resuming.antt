@@ -55,7 +55,7 @@ pass_more (b ∷ text) more v n = by (step v n b) (λ u. pass_more text more u (
     by (Ok u) ih = ih u ∙ ap (λ (i : ℕ). then_walk (pass u (n + 1) text) (λ x. pass x i more)) (omega arith)
     by (Err fault) ih = refl
 
--- Behind the end of a text that closes an item, a blank does what it does behind the item.
+-- After the end of a text that closes an item, a blank does what it does after the item.
 
 abbrev walk_in : Walk → Result Walk SyntaxFault → Walk
 walk_in v (Ok u) = u
@@ -120,7 +120,7 @@ module _ (v u : Walk) (n : ℕ) where
   resumes_in [] more e goes = resumes_at v.stage more refl e goes
   resumes_in (f ∷ fs) more e goes = absurd cc
 
--- bytes behind a text whose end came to this state
+-- bytes after a text whose end came to this state
 pub followed : (v m u : Walk) (n : ℕ) (text : List ℕ) → pass v n text ≡ Ok m → finish (n + length text) m ≡ Ok u → Follows (ending_at m.stage) v n text u
 followed v m u n text h e more goes =
     pass_more text more v n
@@ -164,7 +164,7 @@ ended_nothing text e none begun item =
     passed : Walk → Result Walk SyntaxFault
     passed v = Ok v
 
--- and of more behind it
+-- and of more after it
 module _ (text more : List ℕ) (old : Ended) (is : IsEnded text old) (short : length text + length more ≤ 1048576) (goes : goes_on old.ending more ≡ true) where
   both_short : length (text ++ more) ≤ 1048576
   both_short = omega (arith, length-append text more, short)

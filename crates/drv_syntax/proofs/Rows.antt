@@ -18,7 +18,7 @@ use Rattle.std.proofs.Common.{◌≡◌, ◌≤◌, ◌∙◌, ◌+◌, ◌++◌
 use Rattle.std.proofs.lemmas.Bool.Decides.{nat_tests}
 use Rattle.std.specs.Prelude.{◌==◌, if◌then◌else◌, nat_le}
 
--- The rows of items, backwards: what is wanted behind a byte is wanted before it.
+-- The rows of items, backwards: what is wanted after a byte is wanted before it.
 
 -- a row by a test
 pub when : {G : Type 0} (P : Turn → Type 0) (z : Bool) (x y : Turn) → P (if z then x else y) → (z ≡ true → P x → G) → (z ≡ false → P y → G) → G
@@ -51,14 +51,14 @@ pub pattern_from : (c : ℕ) (text longer : List ℕ) {rest : List ℕ} {p : Pat
 pattern_from c text longer k (rest_unstarred {run = run} {rest} q e) = s.unstarred (k run rest q) e
 pattern_from c text longer k (rest_starred {run = run} {rest} q) = s.starred (k run (42 ∷ rest) q)
 
--- behind the tests of an alternative
+-- after the tests of an alternative
 pub choices_of : {size : ℕ} {c : Context} {text end rest : List ℕ} {tests : Tests} {choices : Choices} → AreTests size c text tests end → IsChoiceRest size c tests end choices rest
     → AreChoices size c text choices rest
 choices_of t (choice_last colon a d) = s.last_choice colon t a d
 choices_of t (choice_next colon a d l) = s.next_choice colon t a d l
 
 module _ (size : ℕ) (K : Outside) where
-  -- an item, and the items behind it
+  -- an item, and the items after it
   pub item_ended : (here : Here) (n : ℕ) (text rest : List ℕ) (item : Item) → At size n text → IsItem size here.context text item rest → Ended size K here n item rest → WantsList size K here text
   item_ended here n text rest item a d e = record {
     items = more (span n e.m) item e.list.items;

@@ -143,7 +143,7 @@ module _ (size : ℕ) (K : Outside) where
   due_space h b text e (inl (tests, end, choices, rest, t, c, w)) = inl (tests, end, choices, rest, tests_space e t, c, w)
   due_space h b text e (inr (x, y, (ps, rest, d, w))) = inr (x, y, (ps, rest, patterns_space e d, w))
 
-  -- behind white space or not
+  -- after white space or not
   pub due_row : (h : Head) (same_place : Place) (n b : ℕ) (text : List ℕ) → At size n (b ∷ text) → After size K b text (o.turn_due h same_place n b)
       → due size K h (b ∷ text) ⊎ ((is_space b ≡ true) × Wanted size K same_place text)
   due_row h same_place n b text a g =

@@ -20,7 +20,7 @@ is_word_mark : (b : ℕ) → is_mark b ≡ true → is_word b ≡ true
 is_word_mark b e = each (λ (x : ℕ). is_word x ≡ true) (46 ∷ 44 ∷ []) b e (refl, (refl, tt))
 
 module _ (size : ℕ) (K : Outside) where
-  -- behind a test
+  -- after a test
 
   brace_part : (h : Head) (n : ℕ) (text : List ℕ) (ps : Option (List (Span × Pattern))) → At size (n + 1) text → After size K 125 text (o.turn_brace h ps n) → Of (form_1 size K h (125 ∷ text)) ps
   brace_part h n text (Some ps) a g = inl (
@@ -113,7 +113,7 @@ module _ (size : ℕ) (K : Outside) where
             (after_row h (emitted h begun n negated (pattern word false)) (tested h begun n negated (HasSwitch (pattern word false))) false n b text a g),
       ))))
 
-  -- words behind a mark
+  -- words after a mark
 
   abbrev pub after_marked : Head → ℕ → Bool → ℕ → List ℕ → List ℕ → Type 0
   after_marked h begun negated mark word mid = marked_plain size K h begun negated mark word mid ⊎ marked_starred size K h begun negated mark word mid

@@ -116,7 +116,7 @@ run_step lists.InX n b v h k g =
 run_step lists.InArguments n b v h k g =
     rw (h, k, other (runs lists.InArguments) b 92 g refl, other (runs lists.InArguments) b 37 g refl, other (runs lists.InArguments) b 41 g refl, other (runs lists.InArguments) b 32 g refl, other (runs lists.InArguments) b 9 g refl, other (runs lists.InArguments) b 10 g refl, other (runs lists.InArguments) b 124 g refl) refl
 
--- behind such a byte
+-- after such a byte
 module _ (c : Context) (waiting : List Frame) (holds : Bool) where
   abbrev after_plain : List Token → List Label → ℕ → Walk
   after_plain tokens labels kept =
@@ -191,7 +191,7 @@ pub reads_fault : (v u : Walk) (n : ℕ) (text : List ℕ) (r : Result ℕ Synta
 reads_fault v u n text (Ok taken) fault is h = absurd is
 reads_fault v u n text (Err e) fault is h = subst (λ (x : SyntaxFault). (x ≡ Memory) ⊎ (pass v n text ≡ Err x)) (sym is) h
 
--- a run, and the byte behind it
+-- a run, and the byte after it
 module _ (v m : Walk) (n k b : ℕ) (text : List ℕ) (within : k < length text) (is : b ≡ get_or text k 0) (run : pass v n text ≡ pass m (n + k) (drop k text)) where
   run_on : pass v n text ≡ pass m (n + k) (b ∷ drop (k + 1) text)
   run_on = run ∙ ap (λ (t : List ℕ). pass m (n + k) t) (drop_more text k 0 within ∙ ap (λ (x : ℕ). x ∷ drop (k + 1) text) (sym is))
@@ -210,7 +210,7 @@ abbrev stage_in : Result Walk SyntaxFault → Stage
 stage_in (Ok w) = w.stage
 stage_in (Err fault) = at.List stages.Start
 
--- where a word grows, the byte behind it stands at the same place
+-- where a word grows, the byte after it stands at the same place
 pub same_stage : (v m : Walk) (word : List ℕ) (stage : Stage) → v.stage ≡ stage → walked (with_word word v) ≡ walked m → m.stage ≡ stage
 same_stage v m word stage h e = sym (ap (λ (r : Result Walk SyntaxFault). stage_in r) e) ∙ h
 
@@ -241,11 +241,11 @@ named_takes v u start k n text name h w e some short inside end is d =
     ended : step_at (at.List (stages.NameText start)) (n + k) 41 (with_word name v) ≡ walked (with_part (part singles.NamedText takes.Word start (n + k + 1)) (with_word name v))
     ended = rw full refl
 
--- a byte, and those behind it
+-- a byte, and those after it
 pub turn_takes : (v x u : Walk) (n b taken : ℕ) (text : List ℕ) → step v n b ≡ Ok x → pass x (n + 1) text ≡ pass u (n + 1 + taken) (drop taken text) → pass v n (b ∷ text) ≡ pass u (n + 1 + taken) (drop taken text)
 turn_takes v x u n b taken text h g = ap (λ (r : Result Walk SyntaxFault). then_walk r (λ y. pass y (n + 1) text)) h ∙ g
 
--- a byte that stands for itself, and those behind it that do
+-- a byte that stands for itself, and those after it that do
 pub run_takes : (v u : Walk) (n b : ℕ) (text behind run : List ℕ) (k : ℕ) → text ≡ b ∷ behind → v.stage ≡ at.List stages.Start → k ≡ prefix_len (runs v.context.kind) text → 0 < k → run ≡ take k text → k ≤ length text
     → walked (with_plains n run v) ≡ walked u → (k - 1 ≤ length behind) × (pass v n (b ∷ behind) ≡ pass u (n + 1 + (k - 1)) (drop (k - 1) behind))
 run_takes v u n b text behind run k f h e positive g w d =
@@ -259,7 +259,7 @@ run_takes v u n b text behind run k f h e positive g w d =
         let less : suc j - 1 ≡ j = omega arith in
         (omega (arith, l), x ∙ ap (λ (i : ℕ). pass u i (drop j behind)) (omega arith) ∙ ap (λ (z : ℕ). pass u (n + 1 + z) (drop z behind)) (sym less))
 
--- the %, and those behind it
+-- the %, and those after it
 pub percent_walk : (v : Walk) (n : ℕ) (text : List ℕ) → v.stage ≡ at.List stages.Start → pass v n (37 ∷ text) ≡ pass (at_stage (at.List (stages.Percent n)) v) (n + 1) text
 percent_walk v n text h = rw h refl
 

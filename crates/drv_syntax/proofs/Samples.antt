@@ -409,7 +409,7 @@ row_130 = refl
 row_131 : read (codes "%{a:%{a:%{a:%{a:%{a:%{a:%{a:%{a:%{a:%{a:%{a:%{a:%{a:%{a:%{a:%{a:%{a:%{a:%{a:%{a:%{a:%{a:%{a:%{a:%{a:%{a:%{a:%{a:%{a:%{a:%{a:%{a:%{a:%{a:%{a:%{a:%{a:%{a:%{a:%{a:%{a:%{a:%{a:%{a:%{a:%{a:%{a:%{a:%{a:%{a:%{a:%{a:%{a:%{a:%{a:%{a:%{a:%{a:%{a:%{a:%{a:%{a:%{a:%{a:%q") ≡ Bad 257 (BadDirective 256)
 row_131 = refl
 
--- Texts with their tokens: kind, start, end, and the place behind the tokens inside.
+-- Texts with their tokens: kind, start, end, and the place after the tokens inside.
 
 abbrev token_at : TokenKind → ℕ → ℕ → ℕ → Token
 token_at kind start end next = record { kind = kind; start = start; end = end; next = next }

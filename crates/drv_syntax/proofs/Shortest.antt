@@ -10,7 +10,7 @@ use Rattle.std.proofs.Common.{◌≡◌, ◌⊎◌, ◌+◌, ◌++◌, ◌<◌, 
 abbrev pub IsFront : Out → Type 0
 IsFront out = ((items : Items) × (out ≡ Got items)) ⊎ ((at : ℕ) × (out ≡ Cut at))
 
--- the byte that doesn't fit, so far behind the place n: each prefix before it is a front, and what follows it counts for nothing
+-- the byte that doesn't fit, so far after the place n: each prefix before it is a front, and what follows it counts for nothing
 pub record Fails (ws : List Waiting) (p : Place) (n : ℕ) (text : List ℕ) (k : ℕ) (fault : SyntaxFault) : Type 0 where
   pub j : ℕ
   pub is : k ≡ n + j

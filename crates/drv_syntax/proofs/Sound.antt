@@ -31,7 +31,7 @@ module _ (size : ℕ) (K : Outside) where
   brace_of here at kind text e (inl (inr (x, y, (ps, rest, d, w)))) = (Emit ps, rest, s.emits e d, w)
   brace_of here at kind text e (inr (x, g)) = absurd x
 
-  -- behind a directive's byte
+  -- after a directive's byte
   abbrev Directed : Here → ℕ → Directive → List ℕ → Type 0
   Directed here at f text = (item : Item) × (rest : List ℕ) × IsDirective size here.context f text item rest × Ended size K here at item rest
 

@@ -29,7 +29,7 @@ order_by no_test (choice s tests items cs) = AtNext
 abbrev pub order_of : Head → Order
 order_of h = order_by h.tests h.choices
 
--- what may stand behind a test, by what the braces can still hold
+-- what may stand after a test, by what the braces can still hold
 abbrev pub ends_of : Option (List (Span × Pattern)) → Option Tests → List ℕ
 ends_of (Some ps) (Some ts) = ends_either
 ends_of (Some ps) None = ends_pattern
@@ -68,7 +68,7 @@ module _ (size : ℕ) (F : SyntaxFault) where
       (mid : List ℕ) × (end ≡ 58 ∷ mid)
       × (list_stuck (in_x c tests) mid ⊎ ((items : Items) × (next : List ℕ) × AreItems size (in_x c tests) mid items (59 ∷ next) × later_stuck c n next))
 
-  -- behind a test
+  -- after a test
   abbrev pub after_patterns : ℕ → List ℕ → Type 0
   after_patterns n text = (rest : List ℕ) × AreSpaces text (38 ∷ rest) × patterns_stuck n rest
 
@@ -105,7 +105,7 @@ module _ (size : ℕ) (F : SyntaxFault) where
   word_stuck h begun negated word text =
       (p : Pattern) × (mid : List ℕ) × (m : ℕ) × IsPatternRest word text p mid × At size m mid × some_stuck h (emitted h begun m negated p) (tested h begun m negated (HasSwitch p)) false mid
 
-  -- words behind a mark
+  -- words after a mark
   abbrev pub starred_stuck : Head → ℕ → Bool → ℕ → List ℕ → List ℕ → Type 0
   starred_stuck h begun negated mark word mid =
       (rest : List ℕ) × (m : ℕ) × (mid ≡ 42 ∷ rest)
@@ -134,14 +134,14 @@ module _ (size : ℕ) (F : SyntaxFault) where
       ⊎ (starred_stuck h begun negated mark [] text
       ⊎ ((m : ℕ) × Absent (emitted h begun m negated (pattern (mark ∷ []) false)) × Refuses size (AWord h.at) text F)))
 
-  -- behind a front of a function's name, whose % has this place
+  -- after a front of a function's name, whose % has this place
   abbrev pub call_stuck : ℕ → Context → List ℕ → List ℕ → (List ℕ → Items → List ℕ → Type 0) → Type 0
   call_stuck at c name text behind =
       (IsNoFunction (name ++ text) × (UnknownFunction at ≡ F))
       ⊎ ((others : List ℕ) × (mid : List ℕ) × (text ≡ others ++ 40 ∷ mid) × (is_function (name ++ others) ≡ true)
       × (list_stuck (in_arguments c) mid ⊎ ((arguments : Items) × (rest : List ℕ) × AreItems size (in_arguments c) mid arguments (41 ∷ rest) × behind (name ++ others) arguments rest)))
 
-  -- behind a function in a test
+  -- after a function in a test
   abbrev pub result_stuck : Head → ℕ → Bool → List ℕ → Items → List ℕ → Type 0
   result_stuck h begun negated name arguments rest =
       (m : ℕ) × At size m rest × (Of (λ tests. after_tests (in_braces h.here.context) h.at tests rest) (tested h begun m negated (HasResult name arguments)) ⊎ end_stuck (AnEnd h.at ends_test) rest)
@@ -189,7 +189,7 @@ module _ (size : ℕ) (F : SyntaxFault) where
   Stuck (o.TestFunction h begun negated at name) text = h.patterns ≡ [] → is_function_front name ≡ true → test_call_stuck h begun negated at name text
   Stuck (o.BehindTest h ps ts bare) text = Possible h ps ts × (bare ≡ true → There ps) → some_stuck h ps ts bare text
 
-  -- around a list for whose end a directive waits: the text ends in the list, or at its end, or the directive goes on behind it
+  -- around a list for whose end a directive waits: the text ends in the list, or at its end, or the directive goes on after it
   abbrev pub Beyond : Outside → Waiting → Outside
   Beyond K w c all end =
       list_stuck c end
@@ -201,7 +201,7 @@ module _ (size : ℕ) (F : SyntaxFault) where
   StuckAround [] c all rest = c.kind ≡ Top → list_stuck c rest
   StuckAround (w ∷ ws) c all rest = Beyond (StuckAround ws) w c all rest
 
-  -- what is left of a list in a directive, where the text ends inside the list, at its end or behind it
+  -- what is left of a list in a directive, where the text ends inside the list, at its end or after it
   abbrev pub InsideStuck : Waiting → Context → List ℕ → Type 0
   InsideStuck w c text =
       list_stuck c text

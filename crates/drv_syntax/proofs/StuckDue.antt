@@ -85,11 +85,11 @@ module _ (size : ℕ) (F : SyntaxFault) (h : Head) where
   abbrev Asked' : Bool → List ℕ → Type 0
   Asked' negated text = Ends size F (ReachesAsked size inner h.at (order_of h) negated text)
 
-  -- behind a pattern of braces that may be patterns
+  -- after a pattern of braces that may be patterns
   emits_from : (text mid : List ℕ) (p : Pattern) → IsPattern text p mid → after_patterns size F h.at mid → emits_stuck size F h.at text
   emits_from text mid p q (rest, d, (due, last, x, y)) = (due, last, r.after_first s.no_space q d x, y)
 
-  -- behind a pattern that is a test too
+  -- after a pattern that is a test too
   pattern_end : (begun m : ℕ) (negated : Bool) (text mid : List ℕ) (p : Pattern) → h.patterns ≡ [] → Stops is_mark text → IsPattern text p mid
       → end_stuck size F (AnEnd h.at (ends_of (emitted h begun m negated p) (tested h begun m negated (HasSwitch p)))) mid → Asked' negated text
   pattern_end begun m negated text mid p z e q x = by h.choices h.tests negated h.patterns (join_tests h.tests (test (span begun m) negated (HasSwitch p) no_test)) z x
@@ -146,7 +146,7 @@ module _ (size : ℕ) (F : SyntaxFault) (h : Head) where
     marked_asked : {c : ℕ} {run mid : List ℕ} → IsQuoted is_word text (c ∷ run) mid → IsAsked size inner (b ∷ text) (o.marked b (c ∷ run)) mid
     marked_asked {c} {run} {mid} q = each (λ (x : ℕ). IsAsked size inner (x ∷ text) (o.marked x (c ∷ run)) mid) (46 ∷ 44 ∷ []) b e (s.suffix q, (s.language q, tt))
 
-    -- a star behind a mark and a word
+    -- a star after a mark and a word
     from_star : (word mid : List ℕ) → IsQuoted is_word text word mid → starred_stuck size F h begun negated b word mid → asked_stuck size F h begun negated (b ∷ text)
     from_star word mid q (rest, m, f, g) =
         by (emitted_there begun m negated (pattern (b ∷ word) true) (after_patterns size F h.at rest ⊎ end_stuck size F (AnEnd h.at ends_pattern) rest) g)
@@ -302,7 +302,7 @@ module _ (size : ℕ) (F : SyntaxFault) (K : Outside) (ending : (c : Context) (a
       ))
       by (x, inr (rest, d, (due, last, w, y))) = inl (inr (due, last, r.after_bar s.no_space f q d w, y))
 
-  -- behind white space or not
+  -- after white space or not
   due_stuck_row : (h : Head) (same_place : Place) (n b : ℕ) (text : List ℕ) → At size n (b ∷ text) → h.patterns ≡ [] → is_default (order_of h) false b ≡ false
       → StuckAfter size F K b text (o.turn_due h same_place n b) → due_stuck size F h (b ∷ text) ⊎ ((is_space b ≡ true) × Stuck size F same_place text)
   due_stuck_row h same_place n b text a z df g =

@@ -27,7 +27,7 @@ use Rattle.std.proofs.lemmas.Bool.Decides.{nat_tests}
 use Rattle.std.specs.Prelude.{◌==◌, nat_le}
 
 -- The rows of items and functions, backwards, for a text that ends in the byte that no longer fits: where it does so inside
--- a directive behind a byte, it does so before it, or the directive has ended before the byte.
+-- a directive after a byte, it does so before it, or the directive has ended before the byte.
 
 le_true : {m n : ℕ} → nat_le m n ≡ true → m ≤ n
 le_true h = grind (arith, nat_tests)
@@ -112,7 +112,7 @@ module _ (size : ℕ) (F : SyntaxFault) (K : Outside) (ending : (c : Context) (a
       when (StuckAfter size F K b text) (b == 10) _ _ h (λ e g. absurd g) (λ e5 h.
       when (StuckAfter size F K b text) (b == 124) _ _ h (λ e g. absurd g) (λ e6 g. absurd g))))))
 
-  -- behind a list in a directive, the directive goes on, or the text ends in it
+  -- after a list in a directive, the directive goes on, or the text ends in it
   pub opened_list : (w : Waiting) (c : Context) (text : List ℕ) → WantsList size (Beyond size F K w) (record { context = c; done = none }) text ⊎ ⊥
       → WantsList size (Inside size K w) (record { context = c; done = none }) text ⊎ InsideStuck size F w c text
   opened_list w c text (inr x) = absurd x

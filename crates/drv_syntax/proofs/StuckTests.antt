@@ -83,7 +83,7 @@ module _ (size : ℕ) (F : SyntaxFault) where
   no_end h (Some ps) None false b text sp x y z w g = end_here (AnEnd h.at ends_pattern) b text (BadDirective h.at) g (r.no_end sp (rw (x, y) refl))
   no_end h None ts false b text sp x y z w g = end_here (AnEnd h.at ends_test) b text (BadDirective h.at) g (r.no_end sp (rw (z, w) refl))
 
-  -- behind an X
+  -- after an X
 
   later_of : (h : Head) (colon : ℕ) (items : Items) (rest : List ℕ) → start_stuck size F (o.next_head h colon items) rest → later_stuck size F (in_braces h.here.context) h.at rest
   later_of h colon items rest (inl (inl t)) =
@@ -114,7 +114,7 @@ module _ (size : ℕ) (F : SyntaxFault) where
           absurd (subst (λ (y : Place). Stuck size F y rest) (sym p) g)
 
 module _ (size : ℕ) (F : SyntaxFault) (K : Outside) (ending : (c : Context) (all : Items) (rest : List ℕ) → list_stuck size F c rest → K c all rest) where
-  -- behind a test
+  -- after a test
 
   abbrev Behind : Head → Option (List (Span × Pattern)) → Option Tests → Bool → List ℕ → Type 0
   Behind h ps ts bare text = Wanted size K (o.BehindTest h ps ts bare) text ⊎ Stuck size F (o.BehindTest h ps ts bare) text
@@ -222,7 +222,7 @@ module _ (size : ℕ) (F : SyntaxFault) (K : Outside) (ending : (c : Context) (a
             (g (possible h begun n negated (pattern word false) (HasSwitch (pattern word false)) f, λ z. unmarked z)),
       ))
 
-  -- words behind a mark
+  -- words after a mark
 
   marked_longer : (h : Head) (begun : ℕ) (negated : Bool) (mark : ℕ) (word : List ℕ) (c : ℕ) (text longer : List ℕ)
       → ((run end : List ℕ) → IsQuoted is_word text run end → IsQuoted is_word longer (c ∷ run) end)
@@ -234,7 +234,7 @@ module _ (size : ℕ) (F : SyntaxFault) (K : Outside) (ending : (c : Context) (a
       → marked_stuck size F h begun negated mark word (92 ∷ text)
   marked_escape h begun negated mark word text (c, rest, e, w) = rw e (marked_longer h begun negated mark word c rest (92 ∷ c ∷ rest) (λ run end q. s.quoted_escape q) w)
 
-  -- behind a star
+  -- after a star
   starred_part : (h : Head) (ps : List (Span × Pattern)) (text : List ℕ) → some_stuck size F h (Some ps) None false text → after_patterns size F h.at text ⊎ end_stuck size F (AnEnd h.at ends_pattern) text
   starred_part h ps text (inl g) = inl g
   starred_part h ps text (inr (inl g)) = absurd g

@@ -18,7 +18,7 @@ use Rattle.std.specs.Prelude.{◌&&◌, ◌==◌, ◌||◌, not, IsErrAnd, Resul
 
 -- The word of a test, and what ends it.
 
--- some bytes, and those behind them
+-- some bytes, and those after them
 module _ (v m : Walk) (n k : ℕ) (text rest : List ℕ) (within : k ≤ length text) (is : rest ≡ drop k text) (run : pass v n text ≡ pass m (n + k) (drop k text)) where
   run_rest : pass v n text ≡ pass m (n + k) rest
   run_rest = run ∙ ap (λ (t : List ℕ). pass m (n + k) t) (sym is)
@@ -49,7 +49,7 @@ step_fails v u n text r fault l e (inl h) = reads_fault v u n text r fault e (in
 step_fails v u n [] r fault l e (inr h) = absurd (omega (arith, l))
 step_fails v u n (b ∷ text) r fault l e (inr h) = reads_fault v u n (b ∷ text) r fault e (inr (ap (λ (r : Result Walk SyntaxFault). then_walk r (λ x. pass x (n + 1) text)) h))
 
--- a star behind the word
+-- a star after the word
 abbrev pub after_star : Head → Form → ℕ → Bool → ℕ → Walk → Walk
 after_star head form start negated n v = at_stage (at.Braces head form (places.BehindTest (behinds.Switch start (n + 1) negated true))) v
 
@@ -63,7 +63,7 @@ star_takes v head form start negated n (b ∷ text) h l e =
     starred : step v n 42 ≡ Ok (after_star head form start negated n v)
     starred = rw h refl
 
--- what ends it behind that star, which is refused
+-- what ends it after that star, which is refused
 stuck : (t : Bool) (x y : Walk) (found fault : SyntaxFault) (again : Walk → Result Walk SyntaxFault) → (if t then Ok x else Err found) ≡ Err fault → then_walk (if t then Ok y else Err found) again ≡ Err fault
 stuck true x y found fault again h = absurd cc
 stuck false x y found fault again h = h

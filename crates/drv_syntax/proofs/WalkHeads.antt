@@ -178,7 +178,7 @@ choice_leads later k {fs} {ws} before kind at choices word kept trail n b fits h
     (choice_row later k before (the_head ws before kind at) choices tree.no_test [] fits word n b)
     (choice_action_leads later (w.choice_action later k.levels at n b) k before kind at choices word kept trail n b fits h)
 
--- a byte behind a test of a function
+-- a byte after a test of a function
 pub either_leads : (t : Bool) (a b : Result Walk SyntaxFault) (x y : Turn) (ws : List o.Waiting) (n : ℕ) → Leads a (λ again. after x ws again n) → Leads b (λ again. after y ws again n)
     → Leads (if t then a else b) (λ again. after (if t then x else y) ws again n)
 either_leads true a b x y ws n p q = p

@@ -62,7 +62,7 @@ plain_walk k fs ws before start end item e =
     parts : Parts
     parts = list_parts ws (with_item before start end item)
 
--- behind an item that isn't white space
+-- after an item that isn't white space
 pub shows_item : (k : Context) {fs : List Frame} {ws : List o.Waiting} (before : Items) (start end : ℕ) (item : Item) (kind : TokenKind) (label : Label) (inner : Nodes) (own : Bool) → Waits fs ws
     → kind_of item ≡ kind → label_of item ≡ label → inner_nodes item ≡ inner → own ≡ (item_has_star item || list_star ws before) → white item ≡ false
     → Shows (placed_walk k fs (all own (levels_of ws) (both (both (prefix_of ws) (nodes_of before)) (node kind label (span start end) inner no_node))) end) ws (o.AtItem (o.placed (here k before) start end item))

@@ -34,7 +34,7 @@ use Rattle.drv_syntax.proofs.WalkLists.{placed_walk, starred_join, shows_emit}
 use Rattle.drv_syntax.proofs.WalkStars.{marked_star, test_star}
 use Rattle.drv_syntax.specs.Stars.{asked_has_star, choices_have_star, tests_have_star}
 
--- Patterns and tests of braces, each with the byte behind it.
+-- Patterns and tests of braces, each with the byte after it.
 
 -- braces, to the left of a colon
 pub emitted_is : (ws : List o.Waiting) (k : Context) (before : Items) (kind : BraceKind) (at : ℕ) (choices : Choices) (tests : Tests) (patterns : List (Span × Pattern)) → Held choices tests patterns
@@ -252,7 +252,7 @@ pub shown_if : (u : Bool) → shown_owner (if u then owners.Starred else owners.
 shown_if true = refl
 shown_if false = refl
 
--- a colon behind tests
+-- a colon after tests
 pub asks_on : (stage : Stage) (k : Context) {fs : List Frame} {ws : List o.Waiting} (before : Items) (kind : BraceKind) (at : ℕ) (choices : Choices) (r : Span) (negated : Bool) (asked : Asked) (others : Tests)
     (word : List ℕ) (kept trail : ℕ) (n : ℕ) (st : Bool) → c.all_starred (tree.test r negated asked others) ≡ st → Waits fs ws
     → Shows (s.ask (the_head ws before kind at) (the_part ws (hd ws k before kind at choices (tree.test r negated asked others) []) 0) true st n (hw stage k fs ws before kind at choices (tree.test r negated asked others) [] word kept trail))

@@ -19,17 +19,17 @@ use Rattle.std.specs.Prelude.{◌==◌, None, Option, Some}
 abbrev pub Outside : Type 1
 Outside = Context → Items → List ℕ → Type 0
 
--- behind a front of a word
+-- after a front of a word
 pub data IsPatternRest (word : List ℕ) : List ℕ → Pattern → List ℕ → Type 0 where
   rest_unstarred : {text run rest : List ℕ} → IsQuoted is_word text run rest → Stops (λ c. c == 42) rest → IsPatternRest word text (pattern (word ++ run) false) rest
   rest_starred : {text run rest : List ℕ} → IsQuoted is_word text run (42 ∷ rest) → IsPatternRest word text (pattern (word ++ run) true) rest
 
--- behind a pattern of form 1
+-- after a pattern of form 1
 pub data IsEmitsRest (size : ℕ) : List ℕ → List (Span × Pattern) → List ℕ → Type 0 where
   emits_end : {text rest : List ℕ} → AreSpaces text (125 ∷ rest) → IsEmitsRest size text [] rest
   emits_and : {text mid rest : List ℕ} {ps : List (Span × Pattern)} → AreSpaces text (38 ∷ mid) → ArePatterns size mid ps rest → IsEmitsRest size text ps rest
 
--- behind a test
+-- after a test
 pub data IsTestsRest (size : ℕ) (c : Context) : List ℕ → Tests → List ℕ → Type 0 where
   tests_colon : {text rest : List ℕ} → AreSpaces text (58 ∷ rest) → IsTestsRest size c text no_test (58 ∷ rest)
   tests_bar : {text mid end : List ℕ} {tests : Tests} → AreSpaces text (124 ∷ mid) → AreTests size c mid tests end → IsTestsRest size c text tests end
@@ -118,14 +118,14 @@ module _ (size : ℕ) (K : Outside) where
   marked_rest h begun negated mark word text =
       (run : List ℕ) × (mid : List ℕ) × IsQuoted is_word text run mid × (marked_plain h begun negated mark (word ++ run) mid ⊎ marked_starred h begun negated mark (word ++ run) mid)
 
-  -- behind a mark: a word, or the mark is the whole pattern, without a star or with one
+  -- after a mark: a word, or the mark is the whole pattern, without a star or with one
   abbrev pub mark_rest : Head → ℕ → Bool → ℕ → List ℕ → Type 0
   mark_rest h begun negated mark text =
       ((b : ℕ) × (run : List ℕ) × (mid : List ℕ) × IsQuoted is_word text (b ∷ run) mid × (marked_plain h begun negated mark (b ∷ run) mid ⊎ marked_starred h begun negated mark (b ∷ run) mid))
       ⊎ ((m : ℕ) × At size m text × IsQuoted is_word text [] text × Stops (λ b. b == 42) text × Of (form_1 h text) (emitted h begun m negated (pattern (mark ∷ []) false)))
       ⊎ marked_starred h begun negated mark [] text
 
-  -- behind a front of a function's name
+  -- after a front of a function's name
   abbrev pub call_rest : Context → List ℕ → List ℕ → (List ℕ → Items → List ℕ → Type 0) → Type 0
   call_rest c name text behind = (others : List ℕ) × (mid : List ℕ) × (arguments : Items) × (rest : List ℕ) × (text ≡ others ++ 40 ∷ mid) × (is_function (name ++ others) ≡ true)
       × AreItems size (in_arguments c) mid arguments (41 ∷ rest) × behind (name ++ others) arguments rest
@@ -199,7 +199,7 @@ abbrev pub Around : ℕ → List Waiting → Items → Outside
 Around size [] out c all rest = (rest ≡ []) × (all ≡ out)
 Around size (w ∷ ws) out c all rest = Inside size (Around size ws out) w c all rest
 
--- what is wanted behind a byte that does this
+-- what is wanted after a byte that does this
 abbrev pub After : ℕ → Outside → ℕ → List ℕ → Turn → Type 0
 After size K b text (o.Goes q) = Wanted size K q text
 After size K b text (o.Opens q w) = Wanted size (Inside size K w) q text

@@ -13,7 +13,7 @@ use Rattle.std.specs.Prelude.{◌==◌}
 
 -- Runs of bytes and of escapes in a directive, as their places read them.
 
--- a place for each word so far, and one behind a backslash
+-- a place for each word so far, and one after a backslash
 pub record Runs (f : ℕ → Bool) (P : List ℕ → Place) (E : List ℕ → ℕ → Place) : Type 0 where
   pub byte : (word : List ℕ) (n b : ℕ) → (b == 92) ≡ false → f b ≡ true → turn (P word) n b ≡ Goes (P (word ++ b ∷ []))
   pub escape : (word : List ℕ) (n : ℕ) → turn (P word) n 92 ≡ Goes (E word n)

@@ -12,7 +12,7 @@ use Rattle.drv_syntax.specs.declared.token.Leaf.TheVariants.{AssemblerOptions, B
 use Rattle.drv_syntax.specs.declared.token.TempKind.TheVariants.{Last, New, PipedIn, PipedOut, Shared}
 use Rattle.std.specs.Prelude.{◌==◌, Bool, false, true, if◌then◌else◌, List, [], ◌∷◌, codes, ℕ}
 
--- The directives, by the byte behind their % (GCC manual, "Spec Files").
+-- The directives, by the byte after their % (GCC manual, "Spec Files").
 
 -- a row of a table by bytes, for the byte that this text is
 abbrev pub on : {X : Type 0} → List ℕ → X → ℕ × X

@@ -14,7 +14,7 @@ use Rattle.std.specs.Prelude.{◌≡◌, ◌⊎◌, ◌<◌, ◌≤◌, ◌+◌,
 
 -- Why a text has no tree, by the grammar (GCC manual, "Spec Files"; this project's profile).
 
--- the byte at this place is the first that doesn't fit: it stands behind the longest prefix that is
+-- the byte at this place is the first that doesn't fit: it stands after the longest prefix that is
 -- a front
 pub record IsMisfit (text : List ℕ) (place : ℕ) : Type 0 where
   pub inside : place < length text
@@ -27,9 +27,9 @@ is_closed_by_end (WithSaying kind) = true
 is_closed_by_end (WithSuffix kind) = true
 is_closed_by_end directive = false
 
--- the place of what a text of this size leaves open at its end, behind whole items: a % or a
+-- the place of what a text of this size leaves open at its end, after whole items: a % or a
 -- backslash that is all that is left; a directive; or the last byte of one that the end closes, a
--- backslash or the % behind a suffix that isn't there
+-- backslash or the % after a suffix that isn't there
 pub data IsOpenAt (size : ℕ) : List ℕ → ℕ → Type 0 where
   open_byte : {b n : ℕ} → CutsItem size top (b ∷ []) → At size n (b ∷ [])
       → IsOpenAt size (b ∷ []) n

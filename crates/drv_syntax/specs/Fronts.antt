@@ -41,7 +41,7 @@ mutual
     cut_percent : {c : Context} → CutsItem size c (ascii.percent ∷ [])
     cut_directive : {c : Context} {b : ℕ} {text : List ℕ} → is_allowed c.in_arguments b ≡ true → CutsDirective size c (directive_of b) text → CutsItem size c (ascii.percent ∷ b ∷ text)
 
-  -- behind the byte of a directive
+  -- after the byte of a directive
   pub data CutsDirective (size : ℕ) : Context → Directive → List ℕ → Type 0 where
     cut_suffix : {c : Context} {kind : TempKind} → CutsDirective size c (WithSuffix kind) (ascii.percent ∷ [])
     cut_option : {c : Context} → CutsDirective size c WithOption []
@@ -72,7 +72,7 @@ mutual
     in_others : {c : Context} {text mid next : List ℕ} {tests : Tests} {items : Items} → AreTests size c text tests (ascii.colon ∷ mid)
         → AreItems size (in_x c tests) mid items (ascii.semicolon ∷ next) → CutsLater size c next → CutsChoices size c text
 
-  -- alternatives behind the first, of which the last may be the default
+  -- alternatives after the first, of which the last may be the default
   pub data CutsLater (size : ℕ) : Context → List ℕ → Type 0 where
     in_next : {c : Context} {text : List ℕ} → CutsChoices size c text → CutsLater size c text
     in_default : {c : Context} {text mid : List ℕ} → AreSpaces text (ascii.colon ∷ mid) → AreFrontItems size (in_x c no_test) mid → CutsLater size c text

@@ -65,7 +65,7 @@ with_choice h colon items = join_choices h.choices (alternative colon h.tests it
 abbrev pub next_head : Head → ℕ → Items → Head
 next_head h colon items = record { here = h.here; at = h.at; kind = h.kind; choices = with_choice h colon items; tests = no_test; patterns = [] }
 
--- behind braces that end at this place
+-- after braces that end at this place
 abbrev pub emitted_item : Head → ℕ → List (Span × Pattern) → Here
 emitted_item h end patterns = placed h.here h.at end (braced h.kind (Emit patterns))
 
@@ -140,7 +140,7 @@ turn_star here at end Starred = then_item here at end Star
 abbrev pub nested : ℕ → ℕ → Turn → Turn
 nested levels at turn = if levels == 0 then Refused (TooNested at) else turn
 
--- behind a directive's byte, which ends at this place
+-- after a directive's byte, which ends at this place
 abbrev pub turn_directive : Here → ℕ → ℕ → Directive → Turn
 turn_directive here at end Nowhere = Refused (BadDirective at)
 turn_directive here at end (Whole leaf) = then_item here at end (Leaf leaf)
@@ -155,7 +155,7 @@ turn_directive here at end WithCall = nested here.context.levels at (Goes (Funct
 turn_directive here at end WithBraces = nested here.context.levels at (Goes (ChoiceStart (fresh here at InPlace)))
 turn_directive here at end (WithMarkedBraces kind) = nested here.context.levels at (Goes (BraceOpen here at kind))
 
--- behind the % of an item
+-- after the % of an item
 abbrev pub turn_percent : Here → ℕ → ℕ → ℕ → Turn
 turn_percent here at n b = if is_allowed here.context.in_arguments b then turn_directive here at (n + 1) (directive_of b) else Refused (BadDirective at)
 
@@ -208,7 +208,7 @@ turn_hide_word here at word n b =
     else if b == ascii.asterisk then then_item here at (n + 1) (Hide (pattern word true))
     else turn_item (placed here at n (Hide (pattern word false))) n b
 
--- behind %: and so much of a name: what a ( does, and what a further byte of the name
+-- after %: and so much of a name: what a ( does, and what a further byte of the name
 abbrev pub turn_function : ℕ → List ℕ → ℕ → Turn → Place → Turn
 turn_function at name b opened further =
     if is_function_front (name ++ b ∷ []) then Goes further
@@ -218,7 +218,7 @@ turn_function at name b opened further =
 abbrev pub list_in : Context → Place
 list_in c = AtItem (record { context = c; done = none })
 
--- behind a test, where white space may stand: at the colon, | , } and &
+-- after a test, where white space may stand: at the colon, | , } and &
 abbrev pub turn_colon : Head → Option Tests → Bool → ℕ → Turn
 turn_colon h (Some tests) bare n = Opens (list_in (in_x (in_braces h.here.context) tests)) (WaitsX (with_tests h tests) n)
 turn_colon h None bare n = Refused (if bare then EmptyTest h.at else BadDirective h.at)
@@ -262,7 +262,7 @@ tested_by (p ∷ ps) tests = None
 abbrev pub tested : Head → ℕ → ℕ → Bool → Asked → Option Tests
 tested h start end negated asked = tested_by h.patterns (join_tests h.tests (test (span start end) negated asked no_test))
 
--- behind a pattern that ends at this place
+-- after a pattern that ends at this place
 abbrev pub after_pattern : Head → ℕ → ℕ → Bool → Pattern → Place
 after_pattern h start end negated p = BehindTest h (emitted h start end negated p) (tested h start end negated (HasSwitch p)) false
 
@@ -276,7 +276,7 @@ turn_word h start negated word n b =
 abbrev pub marked : ℕ → List ℕ → Asked
 marked mark word = if mark == ascii.period then HasSuffix word else HasLanguage word
 
--- behind a . or , that may be the whole word of a pattern, without a star or with one
+-- after a . or , that may be the whole word of a pattern, without a star or with one
 abbrev pub turn_bare : Head → Option (List (Span × Pattern)) → Option (List (Span × Pattern)) → ℕ → ℕ → Turn
 turn_bare h None starred n b = Refused (EmptyTest h.at)
 turn_bare h (Some patterns) starred n b =
@@ -361,7 +361,7 @@ turn (TestFunction h start negated at name) n b =
     turn_function at name b (Opens (list_in (in_arguments (in_braces h.here.context))) (WaitsTest h start negated name)) (TestFunction h start negated at (name ++ b ∷ []))
 turn (BehindTest h patterns tests bare) n b = turn_after h patterns tests bare n b
 
--- how a directive goes on behind the list in it, and behind the byte b at the place n that ended it
+-- how a directive goes on after the list in it, and after the byte b at the place n that ended it
 pub data Resumed : Type 0 where
   On : Place → Resumed
   Not : SyntaxFault → Resumed

@@ -45,7 +45,7 @@ pub data Due : Type 0 where
   PastMark : ℕ → Due  -- behind such a mark and white space
   NoMore : ℕ → Due  -- the end of the braces, behind the X of a default
 
--- what may stand behind a test, behind a pattern, and behind what may be either
+-- what may stand after a test, after a pattern, and after what may be either
 abbrev pub ends_test : List ℕ
 ends_test = codes ":|"
 
@@ -55,7 +55,7 @@ ends_pattern = codes "}&"
 abbrev pub ends_either : List ℕ
 ends_either = codes ":|}&"
 
--- behind an & of patterns, in braces whose % has the place n
+-- after an & of patterns, in braces whose % has the place n
 pub data ReachesPatterns (n : ℕ) : List ℕ → Due → List ℕ → Type 0 where
   pattern_due : {text rest : List ℕ} → AreSpaces text rest → ReachesPatterns n text (APattern n) rest
   pattern_ends : {t u v rest : List ℕ} {p : Pattern} → AreSpaces t u → IsPattern u p v → AreSpaces v rest → ReachesPatterns n t (AnEnd n ends_pattern) rest
@@ -77,7 +77,7 @@ mutual
     in_directive : {c : Context} {n b : ℕ} {text rest : List ℕ} {due : Due} → At size n (ascii.percent ∷ b ∷ text) → is_allowed c.in_arguments b ≡ true → ReachesIn size c n (directive_of b) text due rest
         → Reaches size c (ascii.percent ∷ b ∷ text) due rest
 
-  -- behind the byte of a directive, whose % has this place
+  -- after the byte of a directive, whose % has this place
   pub data ReachesIn (size : ℕ) : Context → ℕ → Directive → List ℕ → Due → List ℕ → Type 0 where
     in_call : {c : Context} {n : ℕ} {text rest : List ℕ} {due : Due} (name : List ℕ) → (c.levels == 0) ≡ false → is_function name ≡ true → Reaches size (in_arguments c) text due rest
         → ReachesIn size c n WithCall (name ++ ascii.opening_parenthesis ∷ text) due rest
@@ -98,7 +98,7 @@ mutual
     after_x : {c : Context} {n : ℕ} {order : Order} {text mid next rest : List ℕ} {tests : Tests} {items : Items} {due : Due} → AreTests size c text tests (ascii.colon ∷ mid)
         → AreItems size (in_x c tests) mid items (ascii.semicolon ∷ next) → ReachesLater size c n next due rest → ReachesChoices size c n order text due rest
 
-  -- in alternatives behind the first
+  -- in alternatives after the first
   pub data ReachesLater (size : ℕ) : Context → ℕ → List ℕ → Due → List ℕ → Type 0 where
     to_next : {c : Context} {n : ℕ} {text rest : List ℕ} {due : Due} → ReachesChoices size c n AtNext text due rest → ReachesLater size c n text due rest
     to_default : {c : Context} {n : ℕ} {text mid rest : List ℕ} {due : Due} → AreSpaces text (ascii.colon ∷ mid) → Reaches size (in_x c no_test) mid due rest → ReachesLater size c n text due rest
@@ -112,7 +112,7 @@ mutual
     after_bar : {c : Context} {n : ℕ} {order : Order} {t u v w x rest : List ℕ} {negated : Bool} {asked : Asked} {due : Due} → AreSpaces t u → IsSign u negated v → IsAsked size c v asked w
         → AreSpaces w (ascii.bar ∷ x) → ReachesTests size c n AtBar x due rest → ReachesTests size c n order t due rest
 
-  -- in a test and behind it
+  -- in a test and after it
   pub data ReachesAsked (size : ℕ) : Context → ℕ → Order → Bool → List ℕ → Due → List ℕ → Type 0 where
     asked_due : {c : Context} {n : ℕ} {order : Order} {negated : Bool} {rest : List ℕ} → ReachesAsked size c n order negated rest (ATest c n order negated) rest
     word_due : {c : Context} {n mark : ℕ} {order : Order} {negated : Bool} {rest : List ℕ} → may_emit order negated ≡ false → is_mark mark ≡ true
@@ -139,12 +139,12 @@ nests _ = false
 abbrev pub Empty : ℕ → Type 0
 Empty b = ((b == ascii.backslash) ≡ false) × (is_word b ≡ false) × ((b == ascii.asterisk) ≡ false)
 
--- behind %: the front of a function's name and a byte that it can't go on with, or a ( behind a front that is no name
+-- after %: the front of a function's name and a byte that it can't go on with, or a ( after a front that is no name
 pub data IsNoFunction : List ℕ → Type 0 where
   not_a_front : (name : List ℕ) (b : ℕ) → is_function_front name ≡ true → is_function_front (name ++ b ∷ []) ≡ false → (b == ascii.opening_parenthesis) ≡ false → IsNoFunction (name ++ b ∷ [])
   not_a_name : (name : List ℕ) → is_function_front name ≡ true → is_function name ≡ false → IsNoFunction (name ++ ascii.opening_parenthesis ∷ [])
 
--- behind the byte of a directive, up to a byte with which it can't be whole any more
+-- after the byte of a directive, up to a byte with which it can't be whole any more
 pub data Breaks : Context → Directive → List ℕ → Type 0 where
   no_option : {c : Context} {b : ℕ} → (b == ascii.opening_brace) ≡ false → Breaks c WithOption (b ∷ [])
   empty_option : {c : Context} → Breaks c WithOption (codes "{}")
@@ -160,7 +160,7 @@ pub data Refuses (size : ℕ) : Due → List ℕ → SyntaxFault → Type 0 wher
       → Refuses size (AnItem c) (ascii.percent ∷ b ∷ []) (StarOutside n)
   mixed_star : {c : Context} {n b : ℕ} → At size n (ascii.percent ∷ b ∷ []) → is_allowed c.in_arguments b ≡ true → directive_of b ≡ OfStar → c.owner ≡ Mixed
       → Refuses size (AnItem c) (ascii.percent ∷ b ∷ []) (MixedStar n)
-  -- braces or arguments within 64 others: the {, W, @ or : behind a %, where that may stand, or the % of a test
+  -- braces or arguments within 64 others: the {, W, @ or : after a %, where that may stand, or the % of a test
   item_within_all : {c : Context} {n b : ℕ} → At size n (ascii.percent ∷ b ∷ []) → is_allowed c.in_arguments b ≡ true → nests (directive_of b) ≡ true → (c.levels == 0) ≡ true
       → Refuses size (AnItem c) (ascii.percent ∷ b ∷ []) (TooNested n)
   test_within_all : {c : Context} {at n : ℕ} {order : Order} {negated : Bool} → At size n (ascii.percent ∷ []) → (c.levels == 0) ≡ true
@@ -170,7 +170,7 @@ pub data Refuses (size : ℕ) : Due → List ℕ → SyntaxFault → Type 0 wher
       → IsNoFunction last → Refuses size (AnItem c) (ascii.percent ∷ b ∷ last) (UnknownFunction n)
   test_no_function : {c : Context} {at n : ℕ} {order : Order} {negated : Bool} {last : List ℕ} → At size n (ascii.percent ∷ ascii.colon ∷ last) → (c.levels == 0) ≡ false → IsNoFunction last
       → Refuses size (ATest c at order negated) (ascii.percent ∷ ascii.colon ∷ last) (UnknownFunction n)
-  -- a pattern or a test without a word and a star: behind %< and %>, in braces, behind a . or , and behind &
+  -- a pattern or a test without a word and a star: after %< and %>, in braces, after a . or , and after &
   hides_nothing : {c : Context} {n b x : ℕ} → At size n (ascii.percent ∷ b ∷ x ∷ []) → is_allowed c.in_arguments b ≡ true → directive_of b ≡ WithPattern → Empty x
       → Refuses size (AnItem c) (ascii.percent ∷ b ∷ x ∷ []) (EmptyTest n)
   no_test_there : {c : Context} {at b : ℕ} {order : Order} {negated : Bool} → Empty b → is_space b ≡ false → (b == ascii.percent) ≡ false → is_default order negated b ≡ false
@@ -181,7 +181,7 @@ pub data Refuses (size : ℕ) : Due → List ℕ → SyntaxFault → Type 0 wher
   mark_is_no_test : {at b : ℕ} → is_of ends_test b ≡ true → Refuses size (PastMark at) (b ∷ []) (EmptyTest at)
   -- a default that is not last
   default_goes_on : {at : ℕ} → Refuses size (NoMore at) (ascii.semicolon ∷ []) (EmptyTest at)
-  -- no such directive, or not allowed where it stands; inside one; behind the % of a test no colon; behind a test or a pattern
+  -- no such directive, or not allowed where it stands; inside one; after the % of a test no colon; after a test or a pattern
   not_allowed : {c : Context} {n b : ℕ} → At size n (ascii.percent ∷ b ∷ []) → is_allowed c.in_arguments b ≡ false → Refuses size (AnItem c) (ascii.percent ∷ b ∷ []) (BadDirective n)
   no_directive : {c : Context} {n b : ℕ} → At size n (ascii.percent ∷ b ∷ []) → is_allowed c.in_arguments b ≡ true → directive_of b ≡ Nowhere
       → Refuses size (AnItem c) (ascii.percent ∷ b ∷ []) (BadDirective n)

@@ -51,7 +51,7 @@ pub data IsSuffix : List ℕ → List ℕ → List ℕ → Type 0 where
   suffix_other : {b : ℕ} {rest : List ℕ} → is_suffix b ≡ false → (b == ascii.percent) ≡ false → IsSuffix (b ∷ rest) [] (b ∷ rest)
   suffix_directive : {b : ℕ} {rest : List ℕ} → (b == ascii.capital_o) ≡ false → IsSuffix (ascii.percent ∷ b ∷ rest) [] (ascii.percent ∷ b ∷ rest)
 
--- behind the text of %e and %n: its newline, or what else ends it
+-- after the text of %e and %n: its newline, or what else ends it
 pub data EndsSaying : List ℕ → List ℕ → Type 0 where
   by_newline : {rest : List ℕ} → EndsSaying (ascii.newline ∷ rest) rest
   by_other : {rest : List ℕ} → Stops (λ b. b == ascii.newline) rest → EndsSaying rest rest
@@ -95,7 +95,7 @@ mutual
     directive : {c : Context} {b : ℕ} {text rest : List ℕ} {item : Item} → is_allowed c.in_arguments b ≡ true → IsDirective size c (directive_of b) text item rest
         → IsItem size c (ascii.percent ∷ b ∷ text) item rest
 
-  -- what stands behind the byte of a directive
+  -- what stands after the byte of a directive
   pub data IsDirective (size : ℕ) : Context → Directive → List ℕ → Item → List ℕ → Type 0 where
     whole : {c : Context} {rest : List ℕ} {leaf : leaf.Leaf} → IsDirective size c (Whole leaf) rest (Leaf leaf) rest
     named : {c : Context} {rest : List ℕ} {name : BuiltinName} → IsDirective size c (Named name) rest (BuiltinText (text_of name)) rest
@@ -132,7 +132,7 @@ mutual
         → At size colon (ascii.colon ∷ mid) → AreItems size (in_x c tests) mid items (ascii.semicolon ∷ next) → AreLater size c next choices rest
         → AreChoices size c text (alternative colon tests items choices) rest
 
-  -- alternatives behind the first, of which the last may be the default
+  -- alternatives after the first, of which the last may be the default
   pub data AreLater (size : ℕ) : Context → List ℕ → Choices → List ℕ → Type 0 where
     with_tests : {c : Context} {text rest : List ℕ} {choices : Choices} → AreChoices size c text choices rest → AreLater size c text choices rest
     default : {c : Context} (colon : ℕ) {text mid rest : List ℕ} {items : Items} → AreSpaces text (ascii.colon ∷ mid) → At size colon (ascii.colon ∷ mid)

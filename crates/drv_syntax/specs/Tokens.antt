@@ -29,7 +29,7 @@ kind_of tree.Star = kinds.Star
 kind_of (tree.FailureFile brace) = kinds.FailureFile
 kind_of (tree.ArgumentsFile brace) = kinds.ArgumentsFile
 
--- a token, the tokens inside it, and what follows from the place behind these; the token has the place n in the list
+-- a token, the tokens inside it, and what follows from the place after these; the token has the place n in the list
 abbrev pub token : ℕ → TokenKind → Span → List Token → (ℕ → List Token) → List Token
 token n kind span inner others =
     record { kind = kind; start = span.start; end = span.end; next = n + 1 + length inner } ∷ inner ++ others (n + 1 + length inner)

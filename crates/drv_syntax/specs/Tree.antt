@@ -10,7 +10,7 @@ pub record Span : Type 0 where
   pub start : ℕ
   pub end : ℕ
 
--- a word, and whether a star stands behind it
+-- a word, and whether a star stands after it
 pub data Pattern : Type 0 where
   pattern : List ℕ → Bool → Pattern
 
@@ -82,7 +82,7 @@ abbrev pub last_place : Items → ℕ → ℕ
 last_place none place = place
 last_place (more span item items) place = last_place items span.end
 
--- the alternative of these tests and items with its colon at this place, and the alternatives behind it
+-- the alternative of these tests and items with its colon at this place, and the alternatives after it
 abbrev pub alternative : ℕ → Tests → Items → Choices → Choices
 alternative colon tests items others =
     choice (record { start = first_place tests colon; end = last_place (trimmed items) (colon + 1) }) tests (trimmed items) others

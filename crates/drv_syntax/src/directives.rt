@@ -1,4 +1,4 @@
-//! The directives of spec texts, by the byte behind their `%`.
+//! The directives of spec texts, by the byte after their `%`.
 
 ghost use Rattle.drv_syntax.specs.Directives as directives;
 ghost use Rattle.std.specs.Prelude.{◌≡◌};
@@ -50,7 +50,7 @@ pub enum SayKind {
     AsNotice,
 }
 
-/// What a directive goes on with behind its byte.
+/// What a directive goes on with after its byte.
 #[derive(Clone, Copy)]
 pub enum Directive {
     /// No such directive.

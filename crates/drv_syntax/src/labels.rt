@@ -18,7 +18,7 @@ pub struct Mark {
     pub start: u32,
     /// Where it ends.
     pub end: u32,
-    /// A star stands behind it.
+    /// A star stands after it.
     pub starred: bool,
     /// A `!` stands before it.
     pub negated: bool,
@@ -47,7 +47,7 @@ impl Model for Labels {
     ghost invariant = { λ l. Within (length l.words.items) l.marks.items };
 }
 
-/// The marks of bytes that stand one behind another from this place on.
+/// The marks of bytes that stand one after another from this place on.
 fn push_marks(start: u32, run: &[u8], marks: &mut Vec<Mark>)
     requires place { start + length run.now < 2 ^ 32 }
     requires reserved { vec_len marks.old + length run.now ≤ vec_capacity marks.old }
@@ -118,7 +118,7 @@ impl Labels {
         Ok(())
     }
 
-    /// One more, which names this byte and this word behind it.
+    /// One more, which names this byte and this word after it.
     #[tactic(auto, using(crate::proofs::MarkedWords::within_more, crate::proofs::MarkedWords::within_push, crate::proofs::MarkedWords::labels_marked))]
     pub fn push_marked(&mut self, mark: u8, word: &[u8], starred: bool) -> Result<(), SyntaxFault>
         ensures { Gives SyntaxFault.Memory (λ _. self.new) result (Ok (self.old

@@ -23,7 +23,7 @@ pub fn refused_after_front()
     ensures { (text : List ℕ) (k : ℕ) → k < length text → Front (take k text) → (Front (take (k + 1) text) → ⊥) → (fault : SyntaxFault) × (read text ≡ Bad k fault) }
 {}
 
-/// A text is refused at the byte behind its longest prefix that is a front, and at no other.
+/// A text is refused at the byte after its longest prefix that is a front, and at no other.
 pub fn refused_at_misfit()
     ensures refused { (text : List ℕ) (place : ℕ) (fault : SyntaxFault)
         → read text ≡ Bad place fault → IsMisfit text place }

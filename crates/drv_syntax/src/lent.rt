@@ -46,7 +46,7 @@ impl<'a> LentLabels<'a> {
         &words[mark.start as usize..mark.end as usize]
     }
 
-    /// Whether a star stands behind its word.
+    /// Whether a star stands after its word.
     pub fn starred(&self, place: usize) -> bool
         requires { place < length self.now }
         ensures { result ≡ (get_or self.now place no_label).starred }

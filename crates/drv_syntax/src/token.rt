@@ -119,7 +119,7 @@ pub struct Token {
     pub kind: TokenKind,
     /// Where it begins, in bytes from the start of the text.
     pub start: u32,
-    /// Where it ends: the place of the first byte behind it.
+    /// Where it ends: the place of the first byte after it.
     pub end: u32,
     /// The place in the list of the first token that isn't inside this one.
     pub next: u32,

@@ -110,7 +110,7 @@ impl SpecTree {
         self.labels().word(place)
     }
 
-    /// Whether a star stands behind the word of the part at this place.
+    /// Whether a star stands after the word of the part at this place.
     pub fn starred(&self, place: usize) -> bool
         requires { place < length (tokens_of (tree_of self.now)) }
         ensures { result ≡ (label_at (tree_of self.now) place).starred }
@@ -142,7 +142,7 @@ impl SpecTree {
         self.labels().holds_star(place)
     }
 
-    /// The tree of the text with more behind it, or its first fault. What was read of the text isn't read again where an item ends
+    /// The tree of the text with more after it, or its first fault. What was read of the text isn't read again where an item ends
     /// with it, or where a blank follows that ends the last one: where it doesn't end in a text for the user.
     #[tactic(auto, using(crate::proofs::WalkReads::parsed_long, crate::proofs::Resuming::tree_more, crate::proofs::Resuming::fault_more, crate::proofs::Resuming::ended_more, crate::proofs::Resuming::short_kept))]
     pub fn extended(self, alloc: Global, more: &[u8]) -> Result<SpecTree, SyntaxFault>

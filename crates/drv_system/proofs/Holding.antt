@@ -16,7 +16,7 @@ use Rattle.std.proofs.lemmas.List.{append-nil, length-append}
 use Rattle.std.specs.List.{list_any}
 use Rattle.std.specs.Prelude.{◌≡◌, ◌<◌, ◌≤◌, ◌+◌, Bool, List, [], ◌∷◌, ◌++◌, None, Option, Some, false, length, nat_eq, true, ℕ}
 
--- What a system keeps beside its journal, behind one more event; the number of the next child is new.
+-- What a system keeps beside its journal, after one more event; the number of the next child is new.
 
 below_answer : (n m : ℕ) (a : Answer) → n ≤ m → IsBelow n a → IsBelow m a
 below_answer n m (answer.Start (start.Started id)) le below = omega (arith, le, below)
@@ -31,7 +31,7 @@ below_more : (n m : ℕ) (events : List RunEvent) (e : RunEvent) → n ≤ m →
 below_more n m [] e le below last = (last, tt)
 below_more n m (f ∷ events) e le below last = (below_answer n m f.answer le below.0, below_more n m events e le below.1 last)
 
--- the run behind one more event
+-- the run after one more event
 beside : (events events' : List Event) (event : Event) → events' ≡ events ++ event ∷ [] → run_of (event ∷ []) ≡ [] → run_of events' ≡ run_of events
 beside events events' event is none =
     ap run_of is ∙ run_of-append events (event ∷ []) ∙ ap (λ rest. run_of events ++ rest) none ∙ append-nil (run_of events)

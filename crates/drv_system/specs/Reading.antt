@@ -16,7 +16,7 @@ ReadsAs (Some left) TooLarge = is_too_large left ≡ true
 ReadsAs (Some left) Failed = ⊤
 ReadsAs (Some left) Missing = ⊥
 
--- reading is given up only behind a read that failed, or behind the most reads
+-- reading is given up only after a read that failed, or after the most reads
 abbrev pub GivesUp : ℕ → ℕ → Bool → ReadAnswer → Type 0
 GivesUp most reads failed Failed = (failed ≡ true) ⊎ (reads ≡ most)
 GivesUp most reads failed answer = ⊤

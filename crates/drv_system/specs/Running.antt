@@ -27,7 +27,7 @@ abbrev pub is_told : TellAnswer → Bool
 is_told tell.Told = true
 is_told tell.Failed = false
 
--- whether the child of a number, started at a place, is open behind one more event: a start opens it, and a wait for it there closes it
+-- whether the child of a number, started at a place, is open after one more event: a start opens it, and a wait for it there closes it
 abbrev pub open_with : Place → ℕ → Bool → RunEvent → Bool
 open_with place id was e = if is_start_at place e.step && is_child id e.answer then true else if is_wait_for place id e.step then false else was
 

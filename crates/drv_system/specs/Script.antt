@@ -62,7 +62,7 @@ scripted_variable script name = lookup (pointwise nat_eq name) script.variables
 abbrev pub scripted_telling : Script → TellAnswer
 scripted_telling script = if script.mute then tell.Failed else tell.Told
 
--- The steps of a run: an answer in front that is one of the call's kind is taken, and any other one stays and blocks those behind it.
+-- The steps of a run: an answer in front that is one of the call's kind is taken, and any other one stays and blocks those after it.
 
 -- the answer of that kind in front, if there is one
 abbrev pub claim_in : Option Answer → Option ClaimAnswer
@@ -84,7 +84,7 @@ removal_in other = None
 abbrev pub front : Script → Option Answer
 front script = slice_get script.answers 0
 
--- the script behind a call: an answer that was taken is gone
+-- the script after a call: an answer that was taken is gone
 abbrev pub behind : {X : Type 0} → Option X → Script → Script
 behind taken script = if is_some taken then record script { answers = drop 1 script.answers } else script
 
@@ -105,7 +105,7 @@ scripted_wait script = unwrap_or (wait_in (front script)) (wait.Exit 0)
 abbrev pub scripted_removal : Script → RemoveAnswer
 scripted_removal script = unwrap_or (removal_in (front script)) remove.Removed
 
--- how many children there are behind a start
+-- how many children there are after a start
 abbrev pub children_after : ℕ → StartAnswer → ℕ
 children_after n (start.Started id) = n + 1
 children_after n (start.NotStarted why) = n

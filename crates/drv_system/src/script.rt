@@ -26,7 +26,7 @@ use std::marker::Model;
 /// list, and the first counts.
 ///
 /// A step of a run takes the next answer of its list, if that is one of the step's kind. Any other
-/// answer stays, and blocks those behind it; the step is then answered Claimed, Started, Exit(0) or
+/// answer stays, and blocks those after it; the step is then answered Claimed, Started, Exit(0) or
 /// Removed. Children are numbered from 0, whatever the list says.
 #[derive(Drop)]
 pub struct ScriptSystem {
@@ -431,7 +431,7 @@ fn removal_of(front: Option<Answer>) -> Option<RemoveAnswer>
     }
 }
 
-/// How many children there are behind a start.
+/// How many children there are after a start.
 fn count_with(children: u64, answer: StartAnswer) -> u64
     requires { children < 18446744073709551615 }
     ensures { result ≡ children_after children answer }

@@ -83,7 +83,7 @@ pub trait System {
 
     /// Starts a command of the plan. It reads the pipe that is pending, or this process's standard
     /// input, and writes a new pipe, which is then the pending one, or this process's standard
-    /// output. The number of a child is new in the journal. Behind a start that failed the pipe
+    /// output. The number of a child is new in the journal. After a start that failed the pipe
     /// that was pending still is.
     fn start(&mut self, plan: &Plan, place: Place, from_pipe: bool, to_pipe: bool) -> StartAnswer
         requires place { is_command plan.now place ≡ true }

@@ -1,4 +1,4 @@
-//! Single calls of the library. Behind what a call gives stands how many questions it asked.
+//! Single calls of the library. After what a call gives stands how many questions it asked.
 //!
 //! ```text
 //! read | kind PATH..                     what the system answers: a file's bytes, what a path leads to

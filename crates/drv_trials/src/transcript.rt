@@ -42,7 +42,7 @@ impl Transcript {
         self.add(quoted.as_bytes())
     }
 
-    /// Adds words as `-###` quotes them, with a bar behind each.
+    /// Adds words as `-###` quotes them, with a bar after each.
     pub fn add_list(&mut self, words: &[Word]) -> Result<(), AllocError> {
         for word in words {
             self.add_quoted(word)?;

@@ -11,7 +11,7 @@ use Rattle.std.proofs.Math.Seq.{append_snoc}
 use Rattle.std.specs.List.{list_all}
 
 -- The reader gives back the lines that a text shows: running over what a derivation covers leads to the state
--- behind it.
+-- after it.
 
 -- a reader with these fields
 abbrev pub at : List PlanLine → Option (List ℕ) → List (List ℕ) → List ℕ → Place → LineReader
@@ -128,7 +128,7 @@ word_read : {text word : List ℕ} → ShowsWord text word → (next : List ℕ)
 word_read (bare {word} e) next ends lines program words = bare_read word next e ends lines program words
 word_read (in_quotes e inside) next ends lines program words = quoted_read e inside next lines program words
 
--- what stands behind a word goes on with a space or with what stands behind the words
+-- what stands after a word goes on with a space or with what stands after the words
 words_end : {text : List ℕ} {words : List (List ℕ)} → ShowsWords text words → (next : List ℕ) → Ends next → Ends (text ++ next)
 words_end no_word next ends = ends
 words_end (one_more {text} {word} {rest} first others) next ends =

@@ -26,7 +26,7 @@ plain_is b e = by (is_space b) refl (is_quote b) refl (b == 92) refl e
     by false s false q true f e = absurd cc
     by false s false q false f e = record { space = s; quote = q; slash = f }
 
--- behind one plain byte
+-- after one plain byte
 one_taken : (b : ℕ) (text : List ℕ) (words : List (List ℕ)) (word : List ℕ) → is_marked b ≡ false
     → words_of (outside words (Some word)) (b ∷ text) ≡ words_of (outside words (Some (word ++ b ∷ []))) text
 one_taken b text words word e = let p : Plain b = plain_is b e in rw (p.space, p.slash, p.quote) refl
@@ -35,7 +35,7 @@ first_taken : (b : ℕ) (text : List ℕ) (words : List (List ℕ)) → is_marke
     → words_of (outside words None) (b ∷ text) ≡ words_of (outside words (Some (b ∷ []))) text
 first_taken b text words e = let p : Plain b = plain_is b e in rw (p.space, p.slash, p.quote) refl
 
--- a run behind the word that is open
+-- a run after the word that is open
 run_taken : (text : List ℕ) (words : List (List ℕ)) (word : List ℕ)
     → words_of (outside words (Some (word ++ take (plain_length text) text))) (drop (plain_length text) text) ≡ words_of (outside words (Some word)) text
 run_taken [] words word = ap (λ w. words_of (outside words (Some w)) []) (append-nil word)
@@ -90,7 +90,7 @@ after_run s text run rest count is counted some front behind =
     ∙ ap (words_of (outside s.words (Some (open_word s.word ++ take (plain_length text) text)))) second
     ∙ any_run text s.words s.word n ∙ ap (λ t. words_of t text) (sym (outside_is s is))
 
--- the word goes on behind a run
+-- the word goes on after a run
 pub run_goes : (s after : Splitter) (text run rest : List ℕ) (count : ℕ) → is_outside s ≡ true → count ≡ plain_length text → 0 < count
     → run ≡ take count text → rest ≡ drop count text → after ≡ with_bytes s run → words_of after rest ≡ words_of s text
 run_goes s after text run rest count is counted some front behind taken =
@@ -101,7 +101,7 @@ no_word : (word : Option (List ℕ)) (none : Bool) → is_some word ≡ not none
 no_word None none e is = refl
 no_word (Some word) none e is = absurd (let z : true ≡ false = e ∙ ap not is in cc)
 
--- a run that is a whole word, with the white space behind it
+-- a run that is a whole word, with the white space after it
 pub word_goes : (s : Splitter) (text run word rest : List ℕ) (words : List (List ℕ)) (count : ℕ) (space none : Bool)
     → is_outside s ≡ true → count ≡ plain_length text → 0 < count → run ≡ take count text → rest ≡ drop count text
     → 1 ≤ length rest → space ≡ is_space (get_or rest 0 0) → space ≡ true → is_some s.word ≡ not none → none ≡ true

@@ -91,7 +91,7 @@ bare_more (c ∷ word) b bare e =
     let both : (nat_lt 0 (length (c ∷ word)) ≡ true) × (list_all is_plain (c ∷ word) ≡ true) = and_both (nat_lt 0 (length (c ∷ word))) (list_all is_plain (c ∷ word)) bare in
     both_true (has_byte c (word ++ b ∷ [])) (all_more (c ∷ word) b both.1 e)
 
--- the end of a line, behind what stands before its newline
+-- the end of a line, after what stands before its newline
 line_takes : (lines : List PlanLine) (program : Option (List ℕ)) (words : List (List ℕ)) (place : Place) (piped : Bool) (front text : List ℕ)
     → end_text piped ≡ front ++ 10 ∷ [] → text ≡ lines_text lines ++ open_text program words ++ front
     → Takes (r.with_line (at lines program words [] place) piped) (text ++ 10 ∷ [])
@@ -159,7 +159,7 @@ closed_takes lines program words word text is none = by (is_bare word) refl
         rw e (ap (λ t. t ++ 34 ∷ []) is ∙ append_assoc (lines_text lines ++ open_text program words) (32 ∷ 34 ∷ escaped word) (34 ∷ [])) in
         closed_word program lines words word (text ++ 34 ∷ []) shown none
 
--- a byte behind the space before a word
+-- a byte after the space before a word
 at_word_takes : (lines : List PlanLine) (program : Option (List ℕ)) (words : List (List ℕ)) (b : ℕ) (text : List ℕ)
     → text ≡ lines_text lines ++ open_text program words ++ 32 ∷ [] → NoWords program words
     → Takes (r.at_word (at lines program words [] AtWord) b) (text ++ b ∷ [])
@@ -176,7 +176,7 @@ at_word_takes lines program words b text is none = by (is_plain b) refl (b == 34
     by false e false f true g false = tt
     by false e false f false g some = tt
 
--- a byte behind a bare word
+-- a byte after a bare word
 bare_takes : (lines : List PlanLine) (program : Option (List ℕ)) (words : List (List ℕ)) (word : List ℕ) (b : ℕ) (text : List ℕ)
     → text ≡ lines_text lines ++ open_text program words ++ 32 ∷ word → NoWords program words → is_bare word ≡ true
     → Takes (r.bare (at lines program words word Bare) b) (text ++ b ∷ [])
@@ -223,7 +223,7 @@ inside_takes lines program words word b text is none = by (b == 92) refl (b == 3
           tt,
         )
 
--- a byte behind a backslash
+-- a byte after a backslash
 escape_takes : (lines : List PlanLine) (program : Option (List ℕ)) (words : List (List ℕ)) (word : List ℕ) (b : ℕ) (text : List ℕ)
     → text ≡ lines_text lines ++ open_text program words ++ 32 ∷ 34 ∷ (escaped word ++ 92 ∷ []) → NoWords program words
     → Takes (r.escape (at lines program words word Escaped) b) (text ++ b ∷ [])
@@ -245,7 +245,7 @@ escape_takes lines program words word b text is none = by (is_special b) refl
     )
     by false e = tt
 
--- a byte behind the bar
+-- a byte after the bar
 bar_takes : (lines : List PlanLine) (program : Option (List ℕ)) (words : List (List ℕ)) (b : ℕ) (text : List ℕ)
     → text ≡ lines_text lines ++ open_text program words ++ 32 ∷ 124 ∷ [] → NoWords program words
     → Takes (r.after_bar (at lines program words [] Bar) b) (text ++ b ∷ [])

@@ -12,7 +12,7 @@ use Rattle.std.proofs.lemmas.List.{append-nil}
 abbrev at : List (List ℕ) → Option (List ℕ) → Option ℕ → Bool → Splitter
 at words word quote marked = record { words = words; word = word; quote = quote; escaped = marked }
 
--- Running over what a derivation covers leads to the state behind it.
+-- Running over what a derivation covers leads to the state after it.
 
 run_splits : {mark : ℕ} {text bytes rest : List ℕ} → IsRun mark text bytes rest → (mark == 92) ≡ false → (words : List (List ℕ)) (word : List ℕ)
     → words_of (at words (Some word) (Some mark) false) text ≡ words_of (at words (Some (word ++ bytes)) None false) rest

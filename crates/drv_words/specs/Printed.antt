@@ -15,7 +15,7 @@ is_plain b = is_ascii_alphanumeric b || b == byte.period || b == byte.slash || b
 abbrev pub is_bare : List ℕ → Bool
 is_bare word = nat_lt 0 (length word) && list_all is_plain word
 
--- a byte behind a backslash between quotes: a double quote, a backslash or a dollar sign
+-- a byte after a backslash between quotes: a double quote, a backslash or a dollar sign
 abbrev pub is_special : ℕ → Bool
 is_special b = b == byte.double_quote || b == byte.backslash || b == byte.dollar
 
@@ -32,7 +32,7 @@ pub data ShowsWord : List ℕ → List ℕ → Type 0 where
   bare : {word : List ℕ} → is_bare word ≡ true → ShowsWord word word
   in_quotes : {text word : List ℕ} → is_bare word ≡ false → Escapes text word → ShowsWord (byte.double_quote ∷ text ++ byte.double_quote ∷ []) word
 
--- words, each behind a space
+-- words, each after a space
 pub data ShowsWords : List ℕ → List (List ℕ) → Type 0 where
   no_word : ShowsWords [] []
   one_more : {text word rest : List ℕ} {words : List (List ℕ)} → ShowsWord text word → ShowsWords rest words → ShowsWords (byte.space ∷ text ++ rest) (word ∷ words)

@@ -14,7 +14,7 @@ is_space b = is_in_range byte.tab byte.carriage_return b || b == byte.space
 abbrev pub is_quote : ℕ → Bool
 is_quote b = b == byte.single_quote || b == byte.double_quote
 
--- a quoted run behind its opening quote: a backslash stands for the byte behind it, and the end of the text
+-- a quoted run after its opening quote: a backslash stands for the byte after it, and the end of the text
 -- closes the run
 pub data IsRun : ℕ → List ℕ → List ℕ → List ℕ → Type 0 where
   run_closed : {mark : ℕ} {rest : List ℕ} → IsRun mark (mark ∷ rest) [] rest
@@ -48,7 +48,7 @@ pub data Splits : List ℕ → List (List ℕ) → Type 0 where
 
 -- The text that stands for words: a line each.
 
--- the bytes behind a backslash: white space, both quotes and the backslash
+-- the bytes after a backslash: white space, both quotes and the backslash
 abbrev pub is_marked : ℕ → Bool
 is_marked b = is_space b || is_quote b || b == byte.backslash
 

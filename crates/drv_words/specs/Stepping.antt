@@ -14,7 +14,7 @@ use Rattle.std.specs.Prelude.{◌&&◌, Bool, List, [], ◌∷◌, false, if◌t
 
 -- When a step can be made, over the run's events so far, and which answers it can have (this project's profile).
 
--- whether a pipe is pending behind one more event: a started child takes the one that is, and may leave a new one
+-- whether a pipe is pending after one more event: a started child takes the one that is, and may leave a new one
 abbrev pub pending_after_start : Bool → Bool → StartAnswer → Bool
 pending_after_start pending to_pipe (start.Started id) = to_pipe
 pending_after_start pending to_pipe (start.NotStarted why) = pending

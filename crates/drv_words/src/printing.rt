@@ -48,7 +48,7 @@ pub fn plan_lines(alloc: Global, plan: &Plan) -> Result<Listing<PlanLine>, Alloc
     Ok(lines)
 }
 
-/// Adds a word behind a space.
+/// Adds a word after a space.
 fn push_word(text: &mut Vec<u8>, word: &Word) -> Result<(), AllocError>
     ensures { OnOk result (text.new.items ≡ text.old.items ++ 32 ∷ quoted word.now) }
 {
@@ -56,7 +56,7 @@ fn push_word(text: &mut Vec<u8>, word: &Word) -> Result<(), AllocError>
     push_quoted(text, word)
 }
 
-/// Adds words, each behind a space.
+/// Adds words, each after a space.
 fn push_words(text: &mut Vec<u8>, words: &[Word]) -> Result<(), AllocError>
     ensures { OnOk result (text.new.items ≡ text.old.items ++ words_text words.now) }
 {

@@ -13,19 +13,19 @@ use std::mem;
 /// Where a reader stands.
 #[derive(Clone, Copy)]
 enum Place {
-    /// At the start of a line, or behind a word.
+    /// At the start of a line, or after a word.
     Between,
-    /// Behind the space before a word.
+    /// After the space before a word.
     AtWord,
     /// In a word without quotes.
     Bare,
     /// Between the quotes of a word.
     Quoted,
-    /// There behind a backslash.
+    /// There after a backslash.
     Escaped,
-    /// Behind the bar that ends a piped line.
+    /// After the bar that ends a piped line.
     Bar,
-    /// Behind a byte that no printed text has there.
+    /// After a byte that no printed text has there.
     Wrong,
 }
 

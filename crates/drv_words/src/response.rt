@@ -21,7 +21,7 @@ fn is_quote_byte(byte: u8) -> bool
     matches!(byte, b'\'' | b'"')
 }
 
-/// Whether a byte stands behind a backslash in the text of a word.
+/// Whether a byte stands after a backslash in the text of a word.
 fn is_marked_byte(byte: u8) -> bool
     ensures { result ≡ is_marked byte }
 {
@@ -151,14 +151,14 @@ impl Splitter {
         }
     }
 
-    /// Whether the next byte is neither in quotes nor behind a backslash.
+    /// Whether the next byte is neither in quotes nor after a backslash.
     fn is_outside(&self) -> bool
         ensures { result ≡ is_outside self.now }
     {
         !self.escaped && self.quote.is_none()
     }
 
-    /// Takes a run of plain bytes at the front of a text outside quotes, with the white space behind it where that ends a word,
+    /// Takes a run of plain bytes at the front of a text outside quotes, with the white space after it where that ends a word,
     /// and gives the rest.
     fn take_run<'a>(
         &mut self,

@@ -9,7 +9,7 @@ use Rattle.std.specs.Prelude.{◌==◌, ◌||◌, Bool, List, [], ◌∷◌, cod
 abbrev pub lines : List ℕ → List (List ℕ)
 lines = slice_split (λ b. b == newline)
 
--- the values of a key: what stands behind it in each line that begins with it
+-- the values of a key: what stands after it in each line that begins with it
 abbrev pub value_in : List ℕ → List ℕ → List (List ℕ)
 value_in key line = if starts_with nat_eq line key then drop (length key) line ∷ [] else []
 

@@ -75,7 +75,7 @@ writing specs machine = codes "'write_specs -o " ++ specs ++ codes " " ++ machin
 abbrev pub unwritten_text : List ℕ → List ℕ → List ℕ → List ℕ → List ℕ → List ℕ
 unwritten_text name before path specs machine = error_line name (quoted before path (codes "'; ") ++ writing specs machine)
 
--- behind a run that did not find a program
+-- after a run that did not find a program
 abbrev pub gone_text : List ℕ → List ℕ → List ℕ → List ℕ
 gone_text name specs machine = name ++ codes ": note: where the compiler of the spec file is gone, " ++ writing specs machine ++ codes " anew\n"
 

@@ -216,7 +216,7 @@ pub fn known_options(
     values(alloc, b"", text.as_bytes())
 }
 
-/// The folders that are looked in for files of the driver's words: behind each `-B`.
+/// The folders that are looked in for files of the driver's words: after each `-B`.
 fn prefix_folders(alloc: Global, words: &[Word]) -> Result<Listing<Word>, AllocError> {
     let mut folders = Listing::new(alloc);
     let mut is_folder = false;

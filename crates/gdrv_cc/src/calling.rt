@@ -27,7 +27,7 @@ pub struct Calling {
     pub front: Front,
 }
 
-/// What stands behind the last slash of a path.
+/// What stands after the last slash of a path.
 pub fn last_part(path: &[u8]) -> &[u8]
     ensures { result.now ≡ last_part path.now }
 {

@@ -22,7 +22,7 @@ fn add_value(
     Ok(())
 }
 
-/// The values of a key in a text, in its order: what stands behind the key in each line that begins with it.
+/// The values of a key in a text, in its order: what stands after the key in each line that begins with it.
 pub fn values(alloc: Global, key: &[u8], text: &[u8]) -> Result<Listing<Word>, AllocError>
     ensures { IfOk result (λ found. found ≡ values key.now text.now) }
 {

@@ -24,7 +24,7 @@ fn is_near(word: usize, name: usize, edits: usize) -> bool {
     edits.saturating_mul(2) <= most_apart(word.max(name), word.min(name))
 }
 
-/// How many bytes of a word stand for a name: of one that takes an argument behind `=`, those up to and with that sign.
+/// How many bytes of a word stand for a name: of one that takes an argument after `=`, those up to and with that sign.
 fn length_compared(word: &[u8], name: &[u8]) -> usize
     ensures { result ≤ length word.now }
 {
@@ -74,7 +74,7 @@ fn nearest(alloc: Global, known: &[Word], word: &[u8]) -> Result<Option<usize>, 
     Ok(found)
 }
 
-/// The option that a word was meant to be, if one is near: with the word's own argument, where it takes one behind `=`.
+/// The option that a word was meant to be, if one is near: with the word's own argument, where it takes one after `=`.
 pub fn meant(alloc: Global, known: &[Word], word: &[u8]) -> Result<Option<Word>, AllocError> {
     let Some(place) = nearest(alloc, known, word)? else {
         return Ok(None);

@@ -18,7 +18,7 @@ fn add(text: &mut Word, before: &[u8], word: &[u8], behind: &[u8]) -> Result<(),
     text.extend_from_slice(behind)
 }
 
-/// A line of three texts behind the program's name.
+/// A line of three texts after the program's name.
 pub fn error_line(
     alloc: Global,
     name: &[u8],
@@ -97,7 +97,7 @@ fn lacking(option: &[u8]) -> &'static [u8]
     }
 }
 
-/// Adds what is said behind a word that is no option.
+/// Adds what is said after a word that is no option.
 fn add_meant(text: &mut Word, near: Option<&[u8]>) -> Result<(), AllocError>
     ensures { OnOk result (text.new ≡ text.old ++ meant (option_copied near.entry)) }
 {
@@ -131,7 +131,7 @@ fn add_unknown_line(
     text.push(b'\n')
 }
 
-/// Adds a line of three texts behind the program's name.
+/// Adds a line of three texts after the program's name.
 fn add_line(
     text: &mut Word,
     name: &[u8],
@@ -267,7 +267,7 @@ fn unworked(alloc: Global, name: &[u8], words: &[Word]) -> Result<Word, AllocErr
     Ok(text)
 }
 
-/// What is told behind a run of a line with these words that did not find a program.
+/// What is told after a run of a line with these words that did not find a program.
 pub fn hint(
     alloc: Global,
     name: &[u8],

@@ -13,7 +13,7 @@ pub last_after : {X : Type 0} (d : X) (xs : List X) → unwrap_or (last_or (Some
 last_after d [] = refl
 last_after d (x ∷ xs) = refl
 
--- What stands behind the last `-o`, as far as a walk has come.
+-- What stands after the last `-o`, as far as a walk has come.
 
 pub none_named : (behind : Option (Option (List ℕ))) → file_named (option_or behind (Some None)) ≡ file_named behind
 none_named None = refl
@@ -41,7 +41,7 @@ no_code false small n is = refl
 above : (n m : ℕ) → n ≤ m → nat_le n 255 ≡ false → nat_le m 255 ≡ false
 above n m more large = grind (arith, nat_tests)
 
--- Behind one more digit, and behind one that is none or too much.
+-- After one more digit, and after one that is none or too much.
 
 some_is : {a b : ℕ} → Some a ≡ Some b → a ≡ b
 some_is {a} {b} e = ap (λ o. unwrap_or o 0) e

@@ -6,7 +6,7 @@ use Rattle.std.specs.Prelude.{◌&&◌, ◌||◌, ◌*◌, ◌+◌, ◌-◌, Boo
 use Rattle.std.specs.Str.{byte}
 
 -- What the words of a call ask for (this project's profile). The first word is the role, which is neither an option nor an
--- input. Places count, not a reading in order: what stands directly behind an `-o` is an output, whatever it is.
+-- input. Places count, not a reading in order: what stands directly after an `-o` is an output, whatever it is.
 
 abbrev pub same : List ℕ → List ℕ → Bool
 same = pointwise nat_eq
@@ -17,7 +17,7 @@ operands words = drop 1 words
 abbrev pub is_output_option : List ℕ → Bool
 is_output_option word = same word (codes "-o")
 
--- what stands directly behind the last `-o`, if there is one: a word, or nothing where the words end with it
+-- what stands directly after the last `-o`, if there is one: a word, or nothing where the words end with it
 abbrev pub after_output : List (List ℕ) → Option (Option (List ℕ))
 after_output [] = None
 after_output (word ∷ words) = option_or (after_output words) (if is_output_option word then Some (slice_get words 0) else None)
@@ -31,7 +31,7 @@ file_named None = None
 abbrev pub output_file : List (List ℕ) → Option (List ℕ)
 output_file words = file_named (after_output (operands words))
 
--- a word is an input unless it begins with `-` or stands directly behind an `-o`
+-- a word is an input unless it begins with `-` or stands directly after an `-o`
 abbrev pub begins_as_option : List ℕ → Bool
 begins_as_option word = starts_with nat_eq word (codes "-")
 
@@ -45,7 +45,7 @@ with_option_before first words = zip (first ∷ map is_output_option words) word
 abbrev pub inputs_of : List (List ℕ) → List (List ℕ)
 inputs_of words = filter_map input_of (with_option_before false (operands words))
 
--- the number that decimal digits write, behind a number
+-- the number that decimal digits write, after a number
 abbrev pub number_after : ℕ → List ℕ → ℕ
 number_after n digits = fold (λ n digit. n * 10 + (digit - byte "0")) n digits
 
@@ -68,6 +68,6 @@ code_asked word = if same (take (length code_option) word) code_option then code
 abbrev pub exit_status : List (List ℕ) → ℕ
 exit_status words = unwrap_or (last_or None (filter_map code_asked (operands words))) 0
 
--- For the code alone: a number with one more digit behind it.
+-- For the code alone: a number with one more digit after it.
 abbrev pub with_digit : ℕ → ℕ → Option ℕ
 with_digit n digit = if is_ascii_digit digit && nat_le (n * 10 + (digit - byte "0")) 255 then Some (n * 10 + (digit - byte "0")) else None

@@ -10,7 +10,7 @@ use std::alloc::{AllocError, Global};
 /// The option that the status follows, in decimal.
 const CODE_OPTION: &[u8] = b"-frec-exit=";
 
-/// The words behind the role.
+/// The words after the role.
 fn operands(words: &[Word]) -> &[Word]
     ensures { result.now ≡ operands words.now }
 {
@@ -27,7 +27,7 @@ fn is_output_option(word: &Word) -> bool
     word.as_bytes() == b"-o".as_slice()
 }
 
-/// The file behind the last `-o`; none for standard output, which `-`, or nothing behind it, stands for too.
+/// The file behind the last `-o`; none for standard output, which `-`, or nothing after it, stands for too.
 #[tactic(auto, using(crate::proofs::Calls::none_named, crate::proofs::Calls::later_counts, crate::proofs::Calls::nothing_here))]
 pub fn output_file(words: &[Word]) -> Option<&Word>
     ensures { option_copied result ≡ output_file words.now }
@@ -45,7 +45,7 @@ pub fn output_file(words: &[Word]) -> Option<&Word>
     }
 }
 
-/// The inputs of a call: each word that doesn't begin with `-` and doesn't stand directly behind an `-o`.
+/// The inputs of a call: each word that doesn't begin with `-` and doesn't stand directly after an `-o`.
 pub fn inputs(alloc: Global, words: &[Word]) -> Result<Listing<Word>, AllocError>
     ensures { IfOk result (λ inputs. inputs ≡ inputs_of words.now) }
 {
@@ -60,7 +60,7 @@ pub fn inputs(alloc: Global, words: &[Word]) -> Result<Listing<Word>, AllocError
     Ok(inputs)
 }
 
-/// A number with one more digit behind it, if it is a digit and that number is at most 255.
+/// A number with one more digit after it, if it is a digit and that number is at most 255.
 fn with_digit(number: u8, digit: u8) -> Option<u8>
     ensures { result ≡ with_digit number digit }
 {

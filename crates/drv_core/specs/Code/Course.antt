@@ -34,7 +34,7 @@ pub record Course : Type 0 where
   pub due : List File
   pub events : List RunEvent
 
--- the link's job where it runs behind these events
+-- the link's job where it runs after these events
 abbrev pub link_by : Option Job → ℕ → Job
 link_by None code = no_job
 link_by (Some job) code = if nat_eq code 0 then job else no_job
@@ -65,14 +65,14 @@ asked_by plan c = asked_at plan c.phase c
 abbrev pub removing : Course → List File → Course
 removing c due = record c { phase = if none due then Done else Removals; due = due }
 
--- behind the link, whose job was this
+-- after the link, whose job was this
 abbrev pub after_link : Plan → Job → Course → Course
 after_link plan job c = removing c (due_files plan job (λ k. tally k c.events))
 
 abbrev pub linking : Plan → Job → Course → Course
 linking plan job c = if left c.link then record c { phase = Link } else after_link plan job c
 
--- behind the sources, the link's job being this
+-- after the sources, the link's job being this
 abbrev pub behind_sources : Plan → Job → Course → Course
 behind_sources plan job c = linking plan job (record c { link = begin job })
 

@@ -87,7 +87,7 @@ worked job f a = record f {
   workers = slice_set f.workers f.current (record { stage = after job (stage_in f f.current) a; room = (worker_in f f.current).room });
 }
 
--- behind its block: it has begun, if it is the next that begins
+-- after its block: it has begun, if it is the next that begins
 abbrev pub opened : List Job → Fleet → Fleet
 opened jobs f = if nat_eq f.current f.next then record f { begun = f.begun ++ f.current ∷ []; next = first_busy (f.current + 1) (drop (f.current + 1) jobs) } else f
 

@@ -71,7 +71,7 @@ is_call label = by label.asks
     by asks.Result = true
     by _ = false
 
--- a test that is true, at a place, and the state behind it
+-- a test that is true, at a place, and the state after it
 pub record TrueTest (F : Facts) (C : Context) (text : List ℕ) (s t : Machine) (at : ℕ) (step : Step (Option Asked)) : Type 0 where
   pub negated : Bool
   pub asked : Asked

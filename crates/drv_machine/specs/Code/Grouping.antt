@@ -6,11 +6,11 @@ use Rattle.std.specs.Prelude.{◌++◌, List, [], ◌∷◌, Ok, true}
 
 -- Commands that go into groups, line by line. Private clauses alone cite it.
 
--- commands of a group that is begun, and the groups behind them
+-- commands of a group that is begun, and the groups after them
 abbrev pub ahead : List Command → List (List Command) → List (List Command)
 ahead [] gs = gs
 ahead (c ∷ begun) gs = add_command true c (ahead begun gs)
 
--- groups that have ended, commands of one that is begun, and what the lines behind them give
+-- groups that have ended, commands of one that is begun, and what the lines after them give
 abbrev pub grouped : List (List Command) → List Command → Answer (List (List Command)) → Answer (List (List Command))
 grouped done begun others = others >>- λ gs. Is (Ok (done ++ ahead begun gs))

@@ -36,7 +36,7 @@ abbrev pub is_test : TokenKind → Bool
 is_test kinds.Test = true
 is_test _ = false
 
--- the tests that stand first, and what stands behind them
+-- the tests that stand first, and what stands after them
 abbrev pub tests_in : Nodes → Nodes
 tests_in no_node = no_node
 tests_in (node kind label span inner others) = if is_test kind then node kind label span inner (tests_in others) else no_node

@@ -33,7 +33,7 @@ use Rattle.std.specs.Prelude.{◌≡◌, ◌⊎◌, ◌<◌, ◌+◌, ◌-◌, �
 abbrev pub Skips : List ℕ → ℕ → ℕ → Type 0
 Skips text at end = (choices : Choices) × Stands text at (choice_nodes choices) end
 
--- the items that are left of an open part, with other alternatives to be passed over before each and behind the last
+-- the items that are left of an open part, with other alternatives to be passed over before each and after the last
 abbrev pub Lies : List ℕ → ℕ → Items → ℕ → Type 0
 Lies text at none end = Skips text at end
 Lies text at (more span item items) end =
@@ -45,8 +45,8 @@ abbrev pub star_of : Context → Option Rest → List ℕ
 star_of C None = []
 star_of C (Some rest) = drop rest.size (name_at (names C) rest.switch)
 
--- what follows arguments: the function that they are for; and where that answers a test, the test, those behind it, and the
--- alternatives behind its X
+-- what follows arguments: the function that they are for; and where that answers a test, the test, those after it, and the
+-- alternatives after its X
 pub record Kept : Type 0 where
   pub name : List ℕ
   pub negated : Bool
@@ -79,7 +79,7 @@ pub record CallFits (text : List ℕ) (at : ℕ) (kept : Kept) : Type 0 where
   pub in_list : at < length (tokens_of (tree_of text))
   pub name_is : (label_at (tree_of text) at).word ≡ kept.name
 
--- a test by a function, and what stands behind it
+-- a test by a function, and what stands after it
 pub record AskFits (text : List ℕ) (asking : Asking) (items : Items) (kept : Kept) : Type 0 where
   pub in_list : asking.test < length (tokens_of (tree_of text))
   pub name_is : (label_at (tree_of text) asking.test).word ≡ kept.name
@@ -144,7 +144,7 @@ abbrev pub weight : ℕ → List Frame → ℕ
 weight size [] = 0
 weight size (f ∷ frames) = hits_left size f.opened + weight size frames
 
--- the words behind this are those of a file; and the command's again
+-- the words after this are those of a file; and the command's again
 abbrev pub into_file : Machine → Machine
 into_file s = record { cut = file_begun s.cut; world = record s.world { is_in_file = true } }
 
@@ -161,7 +161,7 @@ module _ (F : Facts) (C : Context) where
   hit_step p items levels i =
       opened levels (λ deeper inside. items_step F C items inside (drop (length (matching p).name) (name_at (names C) i))) >> puts (Break ∷ word_of (argument C i))
 
-  -- and then for the switches behind it
+  -- and then for the switches after it
   abbrev pub from_hit : Pattern → Items → Levels → ℕ → Step (Unit {0})
   from_hit p items levels i = hit_step p items levels i >> each_from p items levels (i + 1)
 
@@ -182,7 +182,7 @@ module _ (F : Facts) (C : Context) where
   abbrev pub back_at : Cut → Unit {0} × Machine → Answer (List (List ℕ) × Machine)
   back_at outer r = Is (Ok (r.1.cut.line.words, record { cut = outer; world = r.1.world }))
 
-  -- the end of arguments, and what is done with their words behind it
+  -- the end of arguments, and what is done with their words after it
   abbrev pub after_arguments : {X : Type 0} → Cut → (List (List ℕ) → Step X) → Machine → Answer (X × Machine)
   after_arguments outer go s = (run F C s (puts (Break ∷ [])) >>- back_at outer) >>- λ r. run F C r.1 (go r.0)
 
@@ -190,7 +190,7 @@ module _ (F : Facts) (C : Context) where
   abbrev pub arguments_of : Items → List ℕ → Levels → List ℕ → Step Bool
   arguments_of items name levels star = opened levels (λ deeper inside. arguments F C (items_step F C items inside star) >>= has_value F C name)
 
-  -- what a test decides that was answered so: its X, or what stands behind it
+  -- what a test decides that was answered so: its X, or what stands after it
   abbrev pub decided_on : Items → Kept → Levels → List ℕ → Bool → Step (Unit {0})
   decided_on items kept levels star holds = judged F C kept.negated kept.asked kept.tests levels star holds >>= found_step F C items kept.choices levels star
 

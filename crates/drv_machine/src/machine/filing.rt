@@ -25,7 +25,7 @@ impl Machine {
         self.is_in_file
     }
 
-    /// The words behind this are those of a file: the command is put aside.
+    /// The words after this are those of a file: the command is put aside.
     fn enter_file(&mut self)
         ensures { self.new ≡ into_file self.old }
     {
@@ -35,7 +35,7 @@ impl Machine {
         self.is_in_file = true;
     }
 
-    /// The open word ends, and the words behind it are those of a file.
+    /// The open word ends, and the words after it are those of a file.
     #[tactic(auto, using(crate::proofs::AskedCalls::asked_further))]
     pub(crate) fn begin_file<S: System>(
         &mut self,

@@ -1,4 +1,4 @@
-//! What stands behind the whole text: pipes judged, and the commands as a job.
+//! What stands after the whole text: pipes judged, and the commands as a job.
 
 ghost use Rattle.drv_machine.specs.Code.Asked.{Asked};
 ghost use Rattle.drv_machine.specs.Cutting as cutting;
@@ -162,7 +162,7 @@ fn groups_of<S: System>(
     Ok(groups)
 }
 
-/// The command of one line more goes behind those of the group that is begun, which then goes behind those that have ended,
+/// The command of one line more goes after those of the group that is begun, which then goes after those that have ended,
 /// unless the next one is joined to it. Want of memory is the only error.
 #[tactic(auto, using(crate::proofs::AskedCalls::asked_none))]
 fn add_line<S: System>(

@@ -45,7 +45,7 @@ pub(crate) fn is_among(list: &[Word], word: &[u8]) -> bool
 }
 
 impl Machine {
-    /// A whole word is put, with an opening before it and a break behind it.
+    /// A whole word is put, with an opening before it and a break after it.
     #[tactic(auto, using(crate::proofs::AskedCalls::asked_further))]
     fn put_word<S: System>(
         &mut self,
@@ -62,7 +62,7 @@ impl Machine {
         self.put_broken(word, context, outside)
     }
 
-    /// Bytes are put, with a break behind them.
+    /// Bytes are put, with a break after them.
     #[tactic(auto, using(crate::proofs::AskedCalls::asked_further))]
     pub(crate) fn put_broken<S: System>(
         &mut self,
@@ -113,7 +113,7 @@ impl Machine {
         self.put_words(options.as_slice(), context, outside)
     }
 
-    /// Whole words are put behind a break.
+    /// Whole words are put after a break.
     #[tactic(auto, using(crate::proofs::AskedCalls::asked_none))]
     fn put_apart<S: System>(
         &mut self,
@@ -170,7 +170,7 @@ impl Machine {
         put
     }
 
-    /// Lists of bytes are put, with a break behind each.
+    /// Lists of bytes are put, with a break after each.
     #[tactic(auto, using(crate::proofs::AskedCalls::asked_none))]
     fn put_all_broken<S: System>(
         &mut self,

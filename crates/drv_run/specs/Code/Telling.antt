@@ -8,7 +8,7 @@ use Rattle.drv_system.specs.declared.event.Event.{Event}
 use Rattle.drv_words.specs.declared.plan.Plan.{Plan}
 use Rattle.std.specs.Prelude.{◌≡◌, ◌≤◌, List, ◌++◌, ℕ, ⊤}
 
--- The same of two journals, the one behind the other. Private clauses alone cite it.
+-- The same of two journals, the one after the other. Private clauses alone cite it.
 
 -- a text was said
 abbrev pub SaysText : List Event → List Event → List ℕ → ℕ → Type 0

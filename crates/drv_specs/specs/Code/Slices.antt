@@ -16,7 +16,7 @@ use Rattle.std.specs.Prelude.{◌≡◌, ◌==◌, Bool, Err, List, [], ◌∷�
 
 -- How the code reads directives: they are slices of a settled text, of which it keeps what is left. For the code alone.
 
--- what stands behind a line, where its newline is there: the lines, and the bytes
+-- what stands after a line, where its newline is there: the lines, and the bytes
 abbrev pub lines_from : Option (List ℕ) → List (List ℕ)
 lines_from None = []
 lines_from (Some text) = lines_of text
@@ -25,7 +25,7 @@ abbrev pub bytes_from : Option (List ℕ) → List ℕ
 bytes_from None = []
 bytes_from (Some text) = newline ∷ text
 
--- a text and the end of a line behind it
+-- a text and the end of a line after it
 abbrev pub settled_onto : List ℕ → ℕ → List ℕ
 settled_onto text b = if is_kept b then joined_onto text b else text
 

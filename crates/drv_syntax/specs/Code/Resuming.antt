@@ -11,7 +11,7 @@ use Rattle.drv_syntax.specs.declared.reader.stages.Stage.TheVariants as at
 use Rattle.drv_syntax.specs.declared.reader.stages.Stage.{Stage}
 use Rattle.std.specs.Prelude.{◌≡◌, ◌+◌, ◌*◌, ◌≤◌, Bool, false, true, List, [], ◌∷◌, ◌++◌, length, Ok, ℕ}
 
--- Where a text can be read on behind its end (this project's profile). For the clauses of the code alone.
+-- Where a text can be read on after its end (this project's profile). For the clauses of the code alone.
 
 -- how a text ends that ends at this stage
 abbrev pub ending_at : Stage → Ending
@@ -29,13 +29,13 @@ abbrev pub begins_blank : List ℕ → Bool
 begins_blank [] = false
 begins_blank (b ∷ text) = is_blank b
 
--- whether what was read can be kept where this stands behind it
+-- whether what was read can be kept where this stands after it
 abbrev pub goes_on : Ending → List ℕ → Bool
 goes_on endings.Item more = begins more
 goes_on endings.Word more = begins_blank more
 goes_on endings.Message more = false
 
--- what is read behind a text, the first byte of which has the place n, goes on from the second state as from the first before it
+-- what is read after a text, the first byte of which has the place n, goes on from the second state as from the first before it
 abbrev pub Follows : Ending → Walk → ℕ → List ℕ → Walk → Type 0
 Follows ending v n text w = (more : List ℕ) → goes_on ending more ≡ true → pass v n (text ++ more) ≡ pass w (n + length text) more
 

@@ -20,7 +20,7 @@ abbrev pub parts_in : Result Walk SyntaxFault → Result (List Token × List Lab
 parts_in (Ok w) = Ok (w.tokens, w.labels)
 parts_in (Err fault) = Err fault
 
--- a turn takes the byte b at the place n and so many of those behind it: what is left comes to the same, or to this fault
+-- a turn takes the byte b at the place n and so many of those after it: what is left comes to the same, or to this fault
 abbrev pub Turns : ℕ → ℕ → List ℕ → Walk → Walk → Result ℕ SyntaxFault → Type 0
 Turns n b behind old new (Ok taken) = (taken ≤ length behind) × (pass old n (b ∷ behind) ≡ pass new (n + 1 + taken) (drop taken behind))
 Turns n b behind old new (Err fault) = (fault ≡ Memory) ⊎ (pass old n (b ∷ behind) ≡ Err fault)

@@ -115,7 +115,7 @@ said_stops lists.InArguments = ascii.backslash ∷ ascii.newline ∷ []
 abbrev pub said : ListKind → ℕ → Bool
 said kind b = not (is_of (said_stops kind) b)
 
--- the tokens of bytes that stand for themselves, the first at the place n, with the place in the list behind it
+-- the tokens of bytes that stand for themselves, the first at the place n, with the place in the list after it
 abbrev pub plain_tokens : ℕ → ℕ → List ℕ → List Token
 plain_tokens n next [] = []
 plain_tokens n next (b ∷ run) = record { kind = kinds.Plain; start = n; end = n + 1; next = next } ∷ plain_tokens (n + 1) (next + 1) run
@@ -148,7 +148,7 @@ ends_word b = b == ascii.closing_brace || b == ascii.colon
 abbrev pub in_word : Head → Form → ℕ → Bool → List ℕ → Walk → Walk
 in_word head form start negated word w = at_stage (at.Braces head form (places.TestWord start negated)) (with_word word w)
 
--- behind an item that ends at this place, in a list with this context
+-- after an item that ends at this place, in a list with this context
 abbrev pub after_item : Context → ℕ → Walk → Walk
 after_item c end w = record { stage = at.List stages.Start; context = c; waiting = w.waiting; tokens = w.tokens; labels = w.labels; word = []; kept = end; trailing = 0; holds_star = w.holds_star }
 
@@ -210,7 +210,7 @@ enter_test head part chosen start negated w =
 abbrev pub open_test : Head → Form → ℕ → Bool → Walk → Walk
 open_test head form start negated w = enter_test head (alternative_of form start w) (chooses form) start negated (with_alternative form start w)
 
--- what stands behind a test
+-- what stands after a test
 abbrev pub first_of : Behind → ℕ
 first_of (behinds.Switch start end negated starred) = start
 first_of (behinds.Marked start end negated mark) = start
@@ -352,7 +352,7 @@ act_list (acts.Refused fault) n b w = Err fault
 abbrev pub start : ℕ → ℕ → Walk → Result Walk SyntaxFault
 start n b w = act_list (start_action w.context n b) n b w
 
--- behind the % of an item
+-- after the % of an item
 abbrev pub percent : ℕ → ℕ → ℕ → Walk → Result Walk SyntaxFault
 percent at n b w = act_list (percent_action w.context at n b) n b w
 
@@ -363,7 +363,7 @@ with_first (Some p) w = with_part p w
 abbrev pub act_turn : ListTurn → ℕ → ℕ → Walk → Result Walk SyntaxFault
 act_turn t n b w = act_list t.then n b (with_first t.first w)
 
--- behind a test of a function's result
+-- after a test of a function's result
 abbrev pub act_result : Head → Open → Bool → ℕ → ℕ → Walk → Result Walk SyntaxFault
 act_result head part chosen n b w =
     if is_space b then Ok w

@@ -17,7 +17,7 @@ use crate::reader::stages::{Behind, Context, Form, Frame, Head, HeadStage, Open,
 use crate::reader::walk::Walk;
 use crate::token::TokenKind;
 
-/// `}` behind a pattern.
+/// `}` after a pattern.
 #[inline(always)]
 pub fn act_ends(
     head: Head,
@@ -39,7 +39,7 @@ pub fn act_ends(
     Ok(())
 }
 
-/// `&` behind a pattern.
+/// `&` after a pattern.
 pub fn act_joins(head: Head, form: Form, behind: Behind, w: &mut Walk) -> Result<(), SyntaxFault>
     requires room { length w.old.tokens.items < 2 ^ 31 }
     ensures does { Gives SyntaxFault.Memory (λ _. state w.new) result (steps.act_joins head form behind (state w.old)) }
@@ -57,7 +57,7 @@ pub fn act_joins(head: Head, form: Form, behind: Behind, w: &mut Walk) -> Result
     Ok(())
 }
 
-/// `:` behind a test.
+/// `:` after a test.
 #[inline(always)]
 pub fn act_asks(
     head: Head,
@@ -86,7 +86,7 @@ pub fn act_asks(
     )
 }
 
-/// `|` behind a test.
+/// `|` after a test.
 pub fn act_bars(head: Head, form: Form, behind: Behind, w: &mut Walk) -> Result<(), SyntaxFault>
     requires room { length w.old.tokens.items < 2 ^ 31 }
     ensures does { Gives SyntaxFault.Memory (λ _. state w.new) result (steps.act_bars head form behind (state w.old)) }
@@ -108,7 +108,7 @@ pub fn act_bars(head: Head, form: Form, behind: Behind, w: &mut Walk) -> Result<
     Ok(())
 }
 
-/// `}` behind a pattern whose word is this one.
+/// `}` after a pattern whose word is this one.
 #[inline(always)]
 fn ends_with(
     head: Head,
@@ -131,7 +131,7 @@ fn ends_with(
     Ok(())
 }
 
-/// `:` behind a test whose word is this one.
+/// `:` after a test whose word is this one.
 #[inline(always)]
 fn asks_with(
     head: Head,
@@ -161,7 +161,7 @@ fn asks_with(
     )
 }
 
-/// `}` or `:` behind a test or a pattern whose word is this one.
+/// `}` or `:` after a test or a pattern whose word is this one.
 #[inline(never)]
 pub fn act_lent(
     head: Head,
@@ -289,7 +289,7 @@ pub fn close(n: u32, b: u8, w: &mut Walk) -> Result<(), SyntaxFault>
     }
 }
 
-/// What a byte behind a test of a function's result makes of the state.
+/// What a byte after a test of a function's result makes of the state.
 pub fn act_result(
     head: Head,
     part: Open,

@@ -10,7 +10,7 @@ use crate::reader::walk::Walk;
 /// How a text ends.
 #[derive(Clone, Copy)]
 pub enum Ending {
-    /// Behind an item.
+    /// After an item.
     Item,
     /// In an item that a blank ends as well.
     Word,
@@ -21,7 +21,7 @@ pub enum Ending {
 /// What a text came to.
 #[derive(Drop)]
 pub struct Ended {
-    /// Its state behind its last item.
+    /// Its state after its last item.
     pub walk: Walk,
     /// How it ends.
     pub ending: Ending,
@@ -43,7 +43,7 @@ impl Ending {
         }
     }
 
-    /// Whether what was read of a text that ends so can be kept where this stands behind it.
+    /// Whether what was read of a text that ends so can be kept where this stands after it.
     pub fn goes_on(self, more: &[u8]) -> bool
         ensures { result ≡ resuming.goes_on self more.now }
     {

@@ -33,7 +33,7 @@ pub fn at(head: Head, form: Form, stage: HeadStage) -> Stage
     Stage::Braces { head, form, stage }
 }
 
-/// Behind a test or a pattern.
+/// After a test or a pattern.
 #[inline(never)]
 pub fn after_test(
     head: Head,
@@ -105,7 +105,7 @@ pub fn test_word(
     }
 }
 
-/// Behind a `.` or `,` that no word follows.
+/// After a `.` or `,` that no word follows.
 fn bare_mark(
     head: Head,
     form: Form,
@@ -146,7 +146,7 @@ fn bare_mark(
     }
 }
 
-/// Behind the `.` or `,` that begins a test.
+/// After the `.` or `,` that begins a test.
 fn test_mark(
     head: Head,
     form: Form,
@@ -183,7 +183,7 @@ fn test_mark(
     }
 }
 
-/// In the word behind it.
+/// In the word after it.
 fn marked_word(
     head: Head,
     form: Form,
@@ -234,7 +234,7 @@ fn marked_word(
     }
 }
 
-/// Where what a test asks begins, behind a `!` or not.
+/// Where what a test asks begins, after a `!` or not.
 fn asked(
     head: Head,
     form: Form,

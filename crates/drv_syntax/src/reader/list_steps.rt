@@ -91,7 +91,7 @@ pub fn start(n: u32, b: u8, w: &mut Walk) -> Result<(), SyntaxFault>
     }
 }
 
-/// Behind the `%` at a place.
+/// After the `%` at a place.
 #[inline(always)]
 pub fn percent(at: u32, n: u32, b: u8, w: &mut Walk) -> Result<(), SyntaxFault>
     requires room { length w.old.tokens.items < 2 ^ 31 }
@@ -128,7 +128,7 @@ pub fn percent(at: u32, n: u32, b: u8, w: &mut Walk) -> Result<(), SyntaxFault>
     }
 }
 
-/// Behind `%g`.
+/// After `%g`.
 fn suffix_start(at: u32, kind: TempKind, n: u32, b: u8, w: &mut Walk) -> Result<(), SyntaxFault>
     requires room { length w.old.tokens.items < 2 ^ 30 }
     requires place { n < 2 ^ 31 }
@@ -167,7 +167,7 @@ pub fn suffix_run(at: u32, kind: TempKind, n: u32, b: u8, w: &mut Walk) -> Resul
     start(n, b, w)
 }
 
-/// Behind `%g%`.
+/// After `%g%`.
 fn suffix_percent(
     at: u32,
     kind: TempKind,
@@ -260,7 +260,7 @@ pub fn name_text(at: u32, n: u32, b: u8, w: &mut Walk) -> Result<(), SyntaxFault
     }
 }
 
-/// Behind `%<`.
+/// After `%<`.
 fn hide_start(at: u32, n: u32, b: u8, w: &mut Walk) -> Result<(), SyntaxFault>
     requires room { length w.old.tokens.items < 2 ^ 31 }
     requires place { n < 2 ^ 31 }

@@ -36,7 +36,7 @@ pub fn chooses(form: Form) -> bool
     }
 }
 
-/// Behind an item that ends at this place, in a list with this context.
+/// After an item that ends at this place, in a list with this context.
 pub fn after_item(c: Context, end: u32, w: &mut Walk)
     ensures { state w.new ≡ steps.after_item c end (state w.old) }
 {

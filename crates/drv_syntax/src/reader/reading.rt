@@ -168,7 +168,7 @@ fn read(start: u32, text: &[u8], w: &mut Walk) -> Result<(), SyntaxFault>
     Ok(())
 }
 
-/// The same, and the end of the text behind them: how it ends.
+/// The same, and the end of the text after them: how it ends.
 #[tactic(auto, using(crate::proofs::Resuming::walked_to, crate::proofs::Resuming::walk_fails, crate::proofs::Resuming::followed))]
 fn read_to_end(start: u32, text: &[u8], w: &mut Walk) -> Result<Ending, SyntaxFault>
     requires short { start + length text.now ≤ 1048576 }

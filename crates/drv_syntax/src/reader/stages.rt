@@ -43,15 +43,15 @@ pub struct Context {
 pub enum ListStage {
     /// Where an item begins.
     Start,
-    /// Behind a backslash.
+    /// After a backslash.
     Backslash {
         backslash: u32,
     },
-    /// Behind a `%`.
+    /// After a `%`.
     Percent {
         at: u32,
     },
-    /// Behind `%g`.
+    /// After `%g`.
     SuffixStart {
         at: u32,
         kind: TempKind,
@@ -61,13 +61,13 @@ pub enum ListStage {
         at: u32,
         kind: TempKind,
     },
-    /// Behind `%g%`, and the place of the second `%`.
+    /// After `%g%`, and the place of the second `%`.
     SuffixPercent {
         at: u32,
         kind: TempKind,
         percent: u32,
     },
-    /// Behind `%x`.
+    /// After `%x`.
     OptionOpen {
         at: u32,
     },
@@ -75,26 +75,26 @@ pub enum ListStage {
     OptionText {
         at: u32,
     },
-    /// Behind a backslash in it.
+    /// After a backslash in it.
     OptionEscape {
         at: u32,
     },
-    /// Behind `%e`, in its text.
+    /// After `%e`, in its text.
     SayingText {
         at: u32,
         kind: SayKind,
     },
-    /// Behind a backslash in it, which has this place.
+    /// After a backslash in it, which has this place.
     SayingEscape {
         at: u32,
         kind: SayKind,
         backslash: u32,
     },
-    /// Behind `%(`, in the name.
+    /// After `%(`, in the name.
     NameText {
         at: u32,
     },
-    /// Behind `%<`.
+    /// After `%<`.
     HideStart {
         at: u32,
     },
@@ -102,15 +102,15 @@ pub enum ListStage {
     HideWord {
         at: u32,
     },
-    /// Behind a backslash in it.
+    /// After a backslash in it.
     HideEscape {
         at: u32,
     },
-    /// Behind `%:`, in the name.
+    /// After `%:`, in the name.
     FunctionName {
         at: u32,
     },
-    /// Behind `%W`.
+    /// After `%W`.
     BraceOpen {
         at: u32,
         kind: BraceKind,
@@ -148,7 +148,7 @@ pub enum Form {
     Tests { alternative: Open, starred: bool },
 }
 
-/// What stands behind a test or a pattern, by its start, its end, and whether it has a `!`.
+/// What stands after a test or a pattern, by its start, its end, and whether it has a `!`.
 #[derive(Clone, Copy)]
 pub enum Behind {
     /// A word, with a star or without.
@@ -184,43 +184,43 @@ pub enum Behind {
 /// A place in braces, to the left of a colon. The first number is the start of the test.
 #[derive(Clone, Copy)]
 pub enum HeadStage {
-    /// Behind `|`.
+    /// After `|`.
     TestDue,
-    /// Behind `!`.
+    /// After `!`.
     TestNegated {
         start: u32,
     },
-    /// Behind `&`.
+    /// After `&`.
     PatternDue,
     /// In a word, with a `!` or without.
     TestWord {
         start: u32,
         negated: bool,
     },
-    /// Behind a backslash in it.
+    /// After a backslash in it.
     TestWordEscape {
         start: u32,
         negated: bool,
     },
-    /// Behind the `.` or `,` that begins a test.
+    /// After the `.` or `,` that begins a test.
     TestMark {
         start: u32,
         negated: bool,
         mark: u8,
     },
-    /// In the word behind it.
+    /// In the word after it.
     MarkedWord {
         start: u32,
         negated: bool,
         mark: u8,
     },
-    /// Behind a backslash in it.
+    /// After a backslash in it.
     MarkedEscape {
         start: u32,
         negated: bool,
         mark: u8,
     },
-    /// Behind the `%` of a test, and its place.
+    /// After the `%` of a test, and its place.
     TestPercent {
         start: u32,
         negated: bool,
@@ -232,7 +232,7 @@ pub enum HeadStage {
         negated: bool,
         percent: u32,
     },
-    /// Behind a test or a pattern.
+    /// After a test or a pattern.
     BehindTest(Behind),
 }
 
@@ -252,7 +252,7 @@ pub enum Stage {
         form: Form,
         stage: HeadStage,
     },
-    /// Behind a test of a function's result, in this alternative; whether the braces can hold alternatives.
+    /// After a test of a function's result, in this alternative; whether the braces can hold alternatives.
     Result {
         head: Head,
         alternative: Open,

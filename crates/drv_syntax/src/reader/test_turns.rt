@@ -13,7 +13,7 @@ use crate::reader::runs::{extend, front, word_length};
 use crate::reader::stages::{Behind, Form, Head, HeadStage, Stage};
 use crate::reader::walk::Walk;
 
-/// Behind the word of a test: what ends it, with the byte behind a star.
+/// After the word of a test: what ends it, with the byte after a star.
 #[inline(always)]
 fn word_end(
     head: Head,
@@ -83,7 +83,7 @@ pub fn word_turn(
     Ok(size + more)
 }
 
-/// Behind a word of a test that is put here: what ends it, with the byte behind a star.
+/// After a word of a test that is put here: what ends it, with the byte after a star.
 #[inline(never)]
 fn put_end(
     head: Head,
@@ -108,7 +108,7 @@ fn put_end(
     word_end(head, form, start, negated, n, text, w)
 }
 
-/// Behind a word of a test that was not yet put: what ends it, with the byte behind a star.
+/// After a word of a test that was not yet put: what ends it, with the byte after a star.
 #[inline(always)]
 fn lent_end(
     head: Head,
@@ -195,7 +195,7 @@ fn begins_word(b: u8) -> bool
     is_word(b) && !is_mark(b)
 }
 
-/// The `!` of a test, and its word, if one begins behind it, and what ends that.
+/// The `!` of a test, and its word, if one begins after it, and what ends that.
 #[inline(always)]
 fn mark_turn(
     head: Head,
@@ -248,7 +248,7 @@ pub fn choice_turn(
     begun_turn(head, form, n, false, n, text, w)
 }
 
-/// Behind `|`: a word of a test, if one begins here, and what ends it.
+/// After `|`: a word of a test, if one begins here, and what ends it.
 #[inline(always)]
 pub fn due_turn(
     head: Head,
@@ -271,7 +271,7 @@ pub fn due_turn(
     begun_turn(head, form, n, false, n, text, w)
 }
 
-/// Behind the `!` of a test: its word, if one begins here, and what ends it.
+/// After the `!` of a test: its word, if one begins here, and what ends it.
 #[inline(always)]
 pub fn negated_turn(
     head: Head,

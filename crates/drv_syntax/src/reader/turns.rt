@@ -1,4 +1,4 @@
-//! A byte of a text, and those behind it that go on as it did.
+//! A byte of a text, and those after it that go on as it did.
 
 ghost use Rattle.drv_words.specs.Bytes as ascii;
 ghost use Rattle.drv_syntax.specs.Code.States.{Reads, Turns, state};
@@ -20,7 +20,7 @@ use crate::reader::test_turns::{choice_turn, due_turn, negated_turn, word_turn};
 use crate::reader::walk::Walk;
 use crate::token::TempKind;
 
-/// In a suffix: the rest of it, and the byte behind it.
+/// In a suffix: the rest of it, and the byte after it.
 #[inline(never)]
 fn suffix_turn(
     at: u32,
@@ -46,7 +46,7 @@ fn suffix_turn(
     Ok(size + 1)
 }
 
-/// The name of a text, of so many bytes, which was not yet put, and the parenthesis behind it.
+/// The name of a text, of so many bytes, which was not yet put, and the parenthesis after it.
 #[inline(always)]
 fn named_turn(at: u32, size: usize, n: u32, text: &[u8], w: &mut Walk) -> Result<usize, SyntaxFault>
     requires here { w.old.stage ≡ Stage.List (ListStage.NameText at) }
@@ -67,7 +67,7 @@ fn named_turn(at: u32, size: usize, n: u32, text: &[u8], w: &mut Walk) -> Result
     Ok(size + 1)
 }
 
-/// In the name of a text: the rest of it, and the byte behind it.
+/// In the name of a text: the rest of it, and the byte after it.
 #[inline(never)]
 fn name_turn(at: u32, n: u32, text: &[u8], w: &mut Walk) -> Result<usize, SyntaxFault>
     requires here { w.old.stage ≡ Stage.List (ListStage.NameText at) }
@@ -93,7 +93,7 @@ fn name_turn(at: u32, n: u32, text: &[u8], w: &mut Walk) -> Result<usize, Syntax
     Ok(size + 1)
 }
 
-/// In the word of `%<`: the rest of it, and the byte behind it.
+/// In the word of `%<`: the rest of it, and the byte after it.
 #[inline(never)]
 fn hide_turn(at: u32, n: u32, text: &[u8], w: &mut Walk) -> Result<usize, SyntaxFault>
     requires here { w.old.stage ≡ Stage.List (ListStage.HideWord at) }
@@ -113,7 +113,7 @@ fn hide_turn(at: u32, n: u32, text: &[u8], w: &mut Walk) -> Result<usize, Syntax
     Ok(size + 1)
 }
 
-/// In a text for the user: the rest of it, and the byte behind it.
+/// In a text for the user: the rest of it, and the byte after it.
 #[inline(never)]
 fn saying_turn(
     at: u32,
@@ -163,7 +163,7 @@ fn plain_turn(n: u32, text: &[u8], w: &mut Walk) -> Result<usize, SyntaxFault>
     Ok(size)
 }
 
-/// What the first bytes of a text make of the state, where they go on as the byte before them did, with the byte behind them:
+/// What the first bytes of a text make of the state, where they go on as the byte before them did, with the byte after them:
 /// how many.
 #[inline(always)]
 fn run(n: u32, text: &[u8], w: &mut Walk) -> Result<usize, SyntaxFault>
@@ -192,7 +192,7 @@ fn run(n: u32, text: &[u8], w: &mut Walk) -> Result<usize, SyntaxFault>
     }
 }
 
-/// What the byte at this place and those that go on as it did make of the state: how many of those behind it.
+/// What the byte at this place and those that go on as it did make of the state: how many of those after it.
 #[inline(never)]
 fn byte_turn(n: u32, b: u8, behind: &[u8], w: &mut Walk) -> Result<usize, SyntaxFault>
     requires room { length w.old.tokens.items < 2 ^ 28 }
@@ -207,7 +207,7 @@ fn byte_turn(n: u32, b: u8, behind: &[u8], w: &mut Walk) -> Result<usize, Syntax
     Ok(taken)
 }
 
-/// The `%` of an item at this place, and what goes on behind it: how many bytes of that.
+/// The `%` of an item at this place, and what goes on after it: how many bytes of that.
 #[inline(always)]
 fn directive_turn(n: u32, behind: &[u8], w: &mut Walk) -> Result<usize, SyntaxFault>
     requires here { w.old.stage ≡ Stage.List ListStage.Start }
@@ -230,8 +230,8 @@ fn directive_turn(n: u32, behind: &[u8], w: &mut Walk) -> Result<usize, SyntaxFa
     }
 }
 
-/// Where an item begins, at a byte that does not stand for itself: what it and those that go on behind it make of the state: how
-/// many of those behind it.
+/// Where an item begins, at a byte that does not stand for itself: what it and those that go on after it make of the state: how
+/// many of those after it.
 #[inline(always)]
 fn first_turn(n: u32, b: u8, behind: &[u8], w: &mut Walk) -> Result<usize, SyntaxFault>
     requires here { w.old.stage ≡ Stage.List ListStage.Start }
@@ -247,8 +247,8 @@ fn first_turn(n: u32, b: u8, behind: &[u8], w: &mut Walk) -> Result<usize, Synta
     Ok(taken)
 }
 
-/// Where an item begins, at a byte that is no `%`: what this byte and those that go on behind it make of the state: how many of
-/// those behind it.
+/// Where an item begins, at a byte that is no `%`: what this byte and those that go on after it make of the state: how many of
+/// those after it.
 #[inline(always)]
 fn start_turn(n: u32, b: u8, text: &[u8], behind: &[u8], w: &mut Walk) -> Result<usize, SyntaxFault>
     requires here { w.old.stage ≡ Stage.List ListStage.Start }
@@ -276,7 +276,7 @@ fn start_turn(n: u32, b: u8, text: &[u8], behind: &[u8], w: &mut Walk) -> Result
     Ok(size - 1)
 }
 
-/// What the first byte of a text, at this place, and some of those behind it make of the state: how many of those behind
+/// What the first byte of a text, at this place, and some of those after it make of the state: how many of those after
 /// it.
 #[inline(always)]
 pub fn turn(n: u32, b: u8, text: &[u8], behind: &[u8], w: &mut Walk) -> Result<usize, SyntaxFault>

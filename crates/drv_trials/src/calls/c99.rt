@@ -5,7 +5,7 @@ use drv_c99::{C99Fault, front};
 use drv_words::Word;
 use std::alloc::{AllocError, Global};
 
-/// A refusal's name, and behind it the word at fault.
+/// A refusal's name, and after it the word at fault.
 fn add_named(name: &[u8], word: &Word, out: &mut Transcript) -> Result<(), AllocError> {
     out.add(name)?;
     out.add(b" ")?;

@@ -1,4 +1,4 @@
-//! Functions of spec texts: what one gives, and the outputs of the link behind it.
+//! Functions of spec texts: what one gives, and the outputs of the link after it.
 
 use super::NO_CALL;
 use crate::transcript::Transcript;
@@ -46,7 +46,7 @@ fn outputs_of(alloc: Global, outputs: Option<&Word>) -> Result<Listing<Word>, Al
     }
 }
 
-/// A refusal's name, and behind it its value in parentheses.
+/// A refusal's name, and after it its value in parentheses.
 fn add_named(name: &[u8], value: &[u8], out: &mut Transcript) -> Result<(), AllocError> {
     out.add(name)?;
     out.add(b"(")?;
@@ -100,7 +100,7 @@ fn outside_link(words: &[Word]) -> Option<Called<'_>> {
     }
 }
 
-/// The call in the link's text that words say: the same, with the outputs of the link behind the switches.
+/// The call in the link's text that words say: the same, with the outputs of the link after the switches.
 fn in_link(words: &[Word]) -> Option<Called<'_>> {
     match words {
         [switches, outputs, name, args @ ..] => Some(Called {
@@ -131,7 +131,7 @@ impl Called<'_> {
         )
     }
 
-    /// What the function gives with these switches, and behind it the outputs.
+    /// What the function gives with these switches, and after it the outputs.
     fn try_with<S: System>(
         &self,
         alloc: Global,
@@ -148,7 +148,7 @@ impl Called<'_> {
         add_outputs(outputs.as_slice(), out)
     }
 
-    /// What the function gives, and behind it the outputs.
+    /// What the function gives, and after it the outputs.
     fn try_function<S: System>(
         &self,
         alloc: Global,

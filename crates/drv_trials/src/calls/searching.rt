@@ -44,7 +44,7 @@ fn add_found(found: &Result<Word, SearchFault>, out: &mut Transcript) -> Result<
     }
 }
 
-/// What a search finds: its words are a name, and behind it the arguments of `-B`.
+/// What a search finds: its words are a name, and after it the arguments of `-B`.
 pub fn try_search<S: System>(
     alloc: Global,
     sys: &mut S,

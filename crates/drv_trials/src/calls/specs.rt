@@ -140,7 +140,7 @@ fn add_loaded(
     }
 }
 
-/// The pairs: a key, a blank, its text, and a bar behind each.
+/// The pairs: a key, a blank, its text, and a bar after each.
 fn add_pairs(set: &SpecSet, out: &mut Transcript) -> Result<(), AllocError> {
     for (key, value) in set.pairs() {
         out.add(key.as_bytes())?;
@@ -358,7 +358,7 @@ fn sign_in(step: &[u8]) -> Option<usize>
     step.iter().position(|byte| *byte == b'=')
 }
 
-/// What stands before the first `=` of a step, and what stands behind it.
+/// What stands before the first `=` of a step, and what stands after it.
 fn parts(step: &[u8]) -> (&[u8], &[u8]) {
     match sign_in(step) {
         Some(at) => (&step[..at], &step[at + 1..]),

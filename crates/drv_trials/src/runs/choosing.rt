@@ -1,4 +1,4 @@
-//! A run made block by block, where the source that goes on is chosen. Behind the plan standard input says the blocks, a line each:
+//! A run made block by block, where the source that goes on is chosen. After the plan standard input says the blocks, a line each:
 //!
 //! ```text
 //! go CHOICE ANSWER    the source of this number among those that may go on makes its step, which is answered so

@@ -53,7 +53,7 @@ fn temps(alloc: Global, lines: &[Listing<Word>]) -> Result<Listing<Temp>, AllocE
     Ok(temps)
 }
 
-/// The commands of a group: that of the first line, and those piped behind it, up to the next group.
+/// The commands of a group: that of the first line, and those piped after it, up to the next group.
 fn commands(alloc: Global, lines: &[Listing<Word>]) -> Result<Vec<Command>, AllocError> {
     let mut commands = Vec::new(alloc);
     for (number, line) in lines.iter().enumerate() {
@@ -96,7 +96,7 @@ fn job(alloc: Global, lines: &[Listing<Word>]) -> Result<Job, AllocError> {
     })
 }
 
-/// The jobs behind the lines that begin with this word.
+/// The jobs after the lines that begin with this word.
 fn jobs(alloc: Global, lines: &[Listing<Word>], what: &[u8]) -> Result<Listing<Job>, AllocError> {
     let mut jobs = Listing::new(alloc);
     for (number, line) in lines.iter().enumerate() {

@@ -131,7 +131,7 @@ fn told_text(answer: TellAnswer) -> &'static [u8] {
     }
 }
 
-/// What became of a text, and behind it the text.
+/// What became of a text, and after it the text.
 fn add_told(
     what: &[u8],
     told: &Word,

@@ -8,7 +8,7 @@ ghost use Rattle.std.specs.Prelude.{◌≡◌};
 use drv_system::Event;
 use drv_words::{Answer, Place, RunEvent, StartAnswer, Step};
 
-/// Whether a pipe is pending behind one more event.
+/// Whether a pipe is pending after one more event.
 fn pending_with(pending: bool, event: RunEvent) -> bool
     ensures { result ≡ pending_with pending event.step event.answer }
 {
@@ -72,7 +72,7 @@ fn is_child(id: u64, answer: Answer) -> bool
     }
 }
 
-/// Whether the child of this number, started as the command, is open behind one more event.
+/// Whether the child of this number, started as the command, is open after one more event.
 fn open_with(id: u64, was: bool, event: RunEvent) -> bool
     ensures { result ≡ open_with (the.Command 0 0 0) id was event }
 {
