@@ -33,7 +33,8 @@ fn may_end(option: &[u8], word: &[u8]) -> bool
     }
 }
 
-/// Whether a word begins with an option. Options are short, so that their bytes are compared one by one in place.
+/// Whether a word begins with an option. Options are short, so that their bytes are compared one by
+/// one in place.
 fn begins_with(word: &[u8], option: &[u8]) -> bool
     ensures { result ≡ starts_with nat_eq word.now option.now }
 {

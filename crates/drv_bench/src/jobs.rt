@@ -289,7 +289,8 @@ fn worked(alloc: Global, count: usize) -> Result<usize, AllocError> {
     }
 }
 
-/// A path for each number. All of them end in the bytes that make an unkeyed folding hash forget what stood before.
+/// A path for each number. All of them end in the bytes that make an unkeyed folding hash forget
+/// what stood before.
 fn hostile_path(alloc: Global, number: u32) -> Result<Word, AllocError> {
     let mut path = Word::from_bytes(alloc, b"/some/long/folder/")?;
     path.extend_from_slice(&number.to_be_bytes())?;
@@ -353,7 +354,8 @@ fn load(alloc: Global, set: &mut SpecSet, file: &[u8]) -> bool {
     load_on(alloc, &mut sys, set, file)
 }
 
-/// How many bytes the first text has that a spec file of so many named texts puts into the empty set.
+/// How many bytes the first text has that a spec file of so many named texts puts into the empty
+/// set.
 fn loaded(alloc: Global, count: usize) -> Result<usize, AllocError> {
     let file = spec_file(alloc, count)?;
     let mut set = SpecSet::empty(alloc);
@@ -372,7 +374,8 @@ fn built_in(alloc: Global, count: usize) -> Result<usize, AllocError> {
     Ok(pairs)
 }
 
-/// Does a job, and answers the size of what came of it; none if there is no such job, or memory ran out.
+/// Does a job, and answers the size of what came of it; none if there is no such job, or memory ran
+/// out.
 pub fn run(alloc: Global, job: &str, count: &str, length: &str) -> Option<usize> {
     let count = count.parse::<usize>().ok()?;
     let length = length.parse::<usize>().ok()?;

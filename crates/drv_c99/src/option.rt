@@ -1,7 +1,8 @@
 //! The options that take an argument, and how a word begins.
 
 ghost use Rattle.drv_c99.specs.Code.Building.{start_shown};
-ghost use Rattle.drv_c99.specs.Front.{name_of, option_start, options, start_before, start_after, start_of, with_argument};
+ghost use Rattle.drv_c99.specs.Front.{name_of, option_start, options, start_before, start_after};
+ghost use Rattle.drv_c99.specs.Front.{start_of, with_argument};
 ghost use Rattle.drv_words.specs.Bytes.{hyphen};
 ghost use Rattle.std.specs.Cmp.Lexicographic.{pointwise};
 ghost use Rattle.std.specs.Map.{lookup};

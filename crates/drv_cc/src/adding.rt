@@ -1,6 +1,9 @@
 //! What is added to a line.
 
-ghost use Rattle.drv_cc.specs.Front.{added, all_prefixes, folder_words, folders, is_piped, is_several, library_words, named_folder, needs_threads, pipe_words, prefix_words, program_words, thread_words, unpiped};
+ghost use Rattle.drv_cc.specs.Front.{added, all_prefixes, folder_words, folders, is_piped};
+ghost use Rattle.drv_cc.specs.Front.{is_several, library_words, named_folder, needs_threads};
+ghost use Rattle.drv_cc.specs.Front.{pipe_words, prefix_words, program_words, thread_words};
+ghost use Rattle.drv_cc.specs.Front.{unpiped};
 ghost use Rattle.drv_cc.specs.Items.{is_among};
 ghost use Rattle.std.specs.List.{flat_map, list_any};
 ghost use Rattle.std.specs.Option.{option_map};

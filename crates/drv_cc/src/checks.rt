@@ -1,6 +1,8 @@
 //! The libraries of checks.
 
-ghost use Rattle.drv_cc.specs.Levels.{check_words, checked_by, is_checked, library_word, needs_leak_library, needs_undefined_library, speaks_of, stands_for, ubsan_checks};
+ghost use Rattle.drv_cc.specs.Levels.{check_words, checked_by, is_checked, library_word};
+ghost use Rattle.drv_cc.specs.Levels.{needs_leak_library, needs_undefined_library, speaks_of};
+ghost use Rattle.drv_cc.specs.Levels.{stands_for, ubsan_checks};
 ghost use Rattle.drv_cc.specs.Table.{texts};
 ghost use Rattle.std.specs.List.{list_any};
 ghost use Rattle.std.specs.Prelude.{◌≡◌, ◌++◌, OnOk};

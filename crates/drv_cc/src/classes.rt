@@ -1,6 +1,7 @@
 //! The class of an option, of which the last item of a line stays.
 
-ghost use Rattle.drv_cc.specs.Items.{class_alone, class_by, class_of, has_two_signs, is_among, paired, same};
+ghost use Rattle.drv_cc.specs.Items.{class_alone, class_by, class_of, has_two_signs, is_among};
+ghost use Rattle.drv_cc.specs.Items.{paired, same};
 ghost use Rattle.drv_cc.specs.Table.{ignored, rings, texts, unpaired};
 ghost use Rattle.std.specs.Option.{option_map};
 ghost use Rattle.std.specs.Prelude.{◌≡◌, IfOk, find, map};

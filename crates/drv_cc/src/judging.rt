@@ -1,6 +1,7 @@
 //! What is refused of a line.
 
-ghost use Rattle.drv_cc.specs.Kept.{before_star, is_named, is_vendors, names, refusals, refused_item};
+ghost use Rattle.drv_cc.specs.Kept.{before_star, is_named, is_vendors, names, refusals};
+ghost use Rattle.drv_cc.specs.Kept.{refused_item};
 ghost use Rattle.std.specs.List.{list_any};
 ghost use Rattle.std.specs.Option.{option_copied};
 ghost use Rattle.std.specs.Prelude.{◌≡◌, ◌++◌, IfOk, OnOk};

@@ -1,6 +1,7 @@
 //! What stands on a line, and which of its items stay.
 
-ghost use Rattle.drv_cc.specs.Kept.{goes, has, has_input, is_asked, is_input, is_question, kept, last_argument, tells};
+ghost use Rattle.drv_cc.specs.Kept.{goes, has, has_input, is_asked, is_input, is_question, kept};
+ghost use Rattle.drv_cc.specs.Kept.{last_argument, tells};
 ghost use Rattle.drv_cc.specs.Items.{same};
 ghost use Rattle.std.specs.List.{list_any};
 ghost use Rattle.std.specs.Option.{option_map};

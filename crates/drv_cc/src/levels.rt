@@ -1,6 +1,9 @@
 //! The level of debugging information, and the libraries of checks.
 
-ghost use Rattle.drv_cc.specs.Levels.{debug_words, debug_words_of, debugged, debugged_by, level_words, leveled, no_debugging, raised, toggled, versioned, with_level, with_raised, with_toggle, with_version};
+ghost use Rattle.drv_cc.specs.Levels.{debug_words, debug_words_of, debugged, debugged_by};
+ghost use Rattle.drv_cc.specs.Levels.{level_words, leveled, no_debugging, raised, toggled};
+ghost use Rattle.drv_cc.specs.Levels.{versioned, with_level, with_raised, with_toggle};
+ghost use Rattle.drv_cc.specs.Levels.{with_version};
 ghost use Rattle.std.specs.Prelude.{◌≡◌, ◌++◌, OnOk};
 
 use crate::classes::{is, stands_in};

@@ -1,6 +1,9 @@
 //! The switches of a link as one text, for its children.
 
-ghost use Rattle.drv_cc.specs.Front.{assembler_line, assembler_variables, children, collected, compiler_variables, has_pieces, is_switch, piece_byte, piece_text, piece_variables, quoted, quoted_byte, quoted_line, quoted_pieces, switch_words, variable};
+ghost use Rattle.drv_cc.specs.Front.{assembler_line, assembler_variables, children, collected};
+ghost use Rattle.drv_cc.specs.Front.{compiler_variables, has_pieces, is_switch, piece_byte};
+ghost use Rattle.drv_cc.specs.Front.{piece_text, piece_variables, quoted, quoted_byte, quoted_line};
+ghost use Rattle.drv_cc.specs.Front.{quoted_pieces, switch_words, variable};
 ghost use Rattle.std.specs.List.{flat_map};
 ghost use Rattle.std.specs.Prelude.{◌≡◌, ◌∷◌, ◌++◌, [], IfOk, OnOk};
 

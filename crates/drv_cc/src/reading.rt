@@ -1,7 +1,8 @@
 //! A line read as a list of items.
 
 ghost use Rattle.drv_cc.specs.Code.Building.{Notes, row_shown, shown, start_shown};
-ghost use Rattle.drv_cc.specs.Items.{beyond, first_row, head_of, is_among, is_file, items_of, renamed, start_of, start_renamed, with_rest};
+ghost use Rattle.drv_cc.specs.Items.{beyond, first_row, head_of, is_among, is_file, items_of};
+ghost use Rattle.drv_cc.specs.Items.{renamed, start_of, start_renamed, with_rest};
 ghost use Rattle.std.specs.Prelude.{◌≡◌, IfOk, None, drop, length};
 
 use crate::classes::{ignored, paired, stands_in};

@@ -1,7 +1,11 @@
 //! The names of side files.
 
 ghost use Rattle.drv_cc.specs.SideFiles as sides;
-ghost use Rattle.drv_cc.specs.SideFiles.{aux_asked, aux_words, base_words, beginning, dependencies, dependencies_asked, dependency_words, given_or, is_named, link_beginning, named, named_words, only, output, own_beginning, own_folder, program, program_of, real, saves, side_words, stem_of, stops, with_value, worked};
+ghost use Rattle.drv_cc.specs.SideFiles.{aux_asked, aux_words, base_words, beginning, dependencies};
+ghost use Rattle.drv_cc.specs.SideFiles.{dependencies_asked, dependency_words, given_or, is_named};
+ghost use Rattle.drv_cc.specs.SideFiles.{link_beginning, named, named_words, only, output};
+ghost use Rattle.drv_cc.specs.SideFiles.{own_beginning, own_folder, program, program_of, real};
+ghost use Rattle.drv_cc.specs.SideFiles.{saves, side_words, stem_of, stops, with_value, worked};
 ghost use Rattle.drv_cc.specs.Code.Building.{kinds_shown};
 ghost use Rattle.drv_cc.specs.Kept.{last_argument};
 ghost use Rattle.std.specs.Option.{option_map};

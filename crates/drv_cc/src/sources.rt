@@ -1,8 +1,10 @@
 //! The files and the sources of a line.
 
-ghost use Rattle.drv_cc.specs.Code.Building.{count_of, count_shown, counted, counted_only, is_counted, kinds_shown};
+ghost use Rattle.drv_cc.specs.Code.Building.{count_of, count_shown, counted, counted_only};
+ghost use Rattle.drv_cc.specs.Code.Building.{is_counted, kinds_shown};
 ghost use Rattle.drv_cc.specs.Kept.{is_file_part};
-ghost use Rattle.drv_cc.specs.SideFiles.{files, inputs, is_looked_for, is_some, is_source, language_by, only, sources, worked};
+ghost use Rattle.drv_cc.specs.SideFiles.{files, inputs, is_looked_for, is_some, is_source};
+ghost use Rattle.drv_cc.specs.SideFiles.{language_by, only, sources, worked};
 ghost use Rattle.std.specs.Option.{option_map};
 ghost use Rattle.std.specs.Prelude.{◌≡◌, IfOk};
 

@@ -1,6 +1,8 @@
 //! The sources of a run, of which some are under way, and the one of them that is worked.
 
-ghost use Rattle.drv_core.specs.Code.Fleet.{able, all_fly, asked_of, busy, closed, ended, first_busy, flying, fresh, fresh_fleet, may_go, opened, selected, stage_in, taken, turned, worked, worker_in};
+ghost use Rattle.drv_core.specs.Code.Fleet.{able, all_fly, asked_of, busy, closed, ended};
+ghost use Rattle.drv_core.specs.Code.Fleet.{first_busy, flying, fresh, fresh_fleet, may_go, opened};
+ghost use Rattle.drv_core.specs.Code.Fleet.{selected, stage_in, taken, turned, worked, worker_in};
 ghost use Rattle.drv_core.specs.Filled.{AllFilled};
 ghost use Rattle.drv_core.specs.Code.FleetView.{fleet_of, worker_of};
 ghost use Rattle.drv_core.specs.Code.Machine.{awaits, inside, left};

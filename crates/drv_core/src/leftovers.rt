@@ -5,9 +5,11 @@ ghost use Rattle.drv_core.specs.Code.LeftoverView.{left_of, lefts_of, remains_of
 ghost use Rattle.drv_core.specs.Code.Leftovers.{all_files, files_from, job_files, temp_files};
 ghost use Rattle.drv_core.specs.Code.Numbering.{Noted, lefts, number_in, numbered_too};
 ghost use Rattle.drv_core.specs.Outcomes.{File, marked_files};
-ghost use Rattle.drv_core.specs.Code.Counting.{counting, fresh_remains, noting, noting_claim, place_at};
+ghost use Rattle.drv_core.specs.Code.Counting.{counting, fresh_remains, noting, noting_claim};
+ghost use Rattle.drv_core.specs.Code.Counting.{place_at};
 ghost use Rattle.drv_core.specs.Code.Remains.{is_due, is_left, passing, seeking, sought};
-ghost use Rattle.std.specs.Prelude.{◌≡◌, ◌-◌, ◌++◌, ◌∷◌, ◌<◌, ◌^◌, [], IfOk, List, OnOk, drop, false, get_or, length, unwrap_or, ℕ};
+ghost use Rattle.std.specs.Prelude.{◌≡◌, ◌-◌, ◌++◌, ◌∷◌, ◌<◌, ◌^◌, [], IfOk, List, OnOk, drop};
+ghost use Rattle.std.specs.Prelude.{false, get_or, length, unwrap_or, ℕ};
 
 use drv_words::{Answer, ClaimAnswer, Job, Place, Plan, Step, Word};
 use std::alloc::{AllocError, Global};

@@ -1,6 +1,10 @@
 //! One source of a run: what is asked next for it, and where an answer leads.
 
-ghost use Rattle.drv_core.specs.Code.Machine.{after, after_claim, after_refusal, after_removal, after_start, after_wait, asks, begin, claim_of, end_group, enter_claims, enter_group, enter_removals, enter_waits, remove_of, start_of, told_of, wait_note, wait_of};
+ghost use Rattle.drv_core.specs.Code.Machine.{after, after_claim, after_refusal, after_removal};
+ghost use Rattle.drv_core.specs.Code.Machine.{after_start, after_wait, asks, begin, claim_of};
+ghost use Rattle.drv_core.specs.Code.Machine.{end_group, enter_claims, enter_group, enter_removals};
+ghost use Rattle.drv_core.specs.Code.Machine.{enter_waits, remove_of, start_of, told_of, wait_note};
+ghost use Rattle.drv_core.specs.Code.Machine.{wait_of};
 ghost use Rattle.drv_core.specs.Filled.{Filled};
 ghost use Rattle.drv_core.specs.Code.Fleet.{fresh};
 ghost use Rattle.drv_core.specs.Code.FleetView.{worker_of};
@@ -10,7 +14,8 @@ ghost use Rattle.drv_core.specs.Code.Source.{HasRoom, stage_at};
 ghost use Rattle.drv_words.specs.declared.steps.Place.TheVariants as place;
 ghost use Rattle.drv_words.specs.declared.steps.Step.TheVariants as step;
 ghost use Rattle.drv_words.specs.Places.{group_at, no_job};
-ghost use Rattle.std.specs.Prelude.{◌≡◌, ◌||◌, ◌+◌, ◌<◌, IfOk, OnOk, Some, false, get_or, length, nat_lt, not};
+ghost use Rattle.std.specs.Prelude.{◌≡◌, ◌||◌, ◌+◌, ◌<◌, IfOk, OnOk, Some, false, get_or, length};
+ghost use Rattle.std.specs.Prelude.{nat_lt, not};
 ghost use Rattle.std.specs.Vec.{vec_capacity};
 
 use drv_words::{

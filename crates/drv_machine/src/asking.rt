@@ -23,7 +23,8 @@ fn truth(text: &SpecTree, context: &Context<'_>, at: usize, machine: &Machine) -
     requires in_list { at < length (tokens_of (tree_of text.now)) }
     requires no_result { is_call (label_at (tree_of text.now) at) ≡ false }
     requires sized { length machine.now.world.hidden ≡ length context.now.switches }
-    ensures { (F : Facts) → run F context.now machine.now (asked_step context.now (label_at (tree_of text.now) at)) ≡ Is (Ok (result, machine.now)) }
+    ensures { (F : Facts) → run F context.now machine.now
+        (asked_step context.now (label_at (tree_of text.now) at)) ≡ Is (Ok (result, machine.now)) }
 {
     match text.asks(at) {
         TestKind::Switch => {
@@ -51,7 +52,8 @@ fn is_call(text: &SpecTree, at: usize) -> bool
 pub(crate) enum Judged {
     /// The test at this place is true, and none before it.
     True(usize),
-    /// The test at this place is by a function, whose arguments are worked first, and none before it is true.
+    /// The test at this place is by a function, whose arguments are worked first, and none before
+    /// it is true.
     Asks(usize),
     /// None is true.
     Neither,
@@ -68,7 +70,9 @@ pub(crate) fn first_true(
     requires spans { Spans text.now start end }
     requires sized { length machine.now.world.hidden ≡ length context.now.switches }
     ensures within { Within start end (length (tokens_of (tree_of text.now))) result }
-    ensures does { (F : Facts) (tests : Tests) (levels : Levels) (star : List ℕ) → Stands text.now start (test_nodes tests) end → Found F context.now text.now end machine.now machine.now (Ok result) tests levels star }
+    ensures does { (F : Facts) (tests : Tests) (levels : Levels) (star : List ℕ)
+        → Stands text.now start (test_nodes tests) end
+        → Found F context.now text.now end machine.now machine.now (Ok result) tests levels star }
 {
     let mut at = start;
     while at < end {

@@ -23,7 +23,8 @@ use crate::walk::{Asking, Each, Walk};
 use crate::{Context, MachineFault};
 use drv_syntax::{SpecTree, TestKind};
 
-/// Whether an X is worked for each hit: the test at a place asks for a switch, and X has a `%*` of its own.
+/// Whether an X is worked for each hit: the test at a place asks for a switch, and X has a `%*` of
+/// its own.
 fn is_for_each(text: &SpecTree, test: usize, own: bool) -> bool
     requires { test < length (tokens_of (tree_of text.now)) }
     ensures { result ≡ (asks_switch (label_at (tree_of text.now) test) && own) }
@@ -34,8 +35,8 @@ fn is_for_each(text: &SpecTree, test: usize, own: bool) -> bool
     }
 }
 
-/// An X by the test at a place, which is true: it is opened for each hit where X has a `%*` of its own, as is said, else
-/// reached.
+/// An X by the test at a place, which is true: it is opened for each hit where X has a `%*` of its
+/// own, as is said, else reached.
 fn enter_alternative(
     text: &SpecTree,
     context: &Context<'_>,
@@ -46,8 +47,16 @@ fn enter_alternative(
 ) -> Result<(), MachineFault>
     requires in_list { each.test < length (tokens_of (tree_of text.now)) }
     requires sized { length machine.now.world.hidden ≡ length context.now.switches }
-    ensures does { (F : Facts) (negated : Bool) (asked : tree.Asked) (items : tree.Items) (others : Step (Unit {0})) (given : Answer (Unit {0} × running.Machine)) → own ≡ has_star items → label_at (tree_of text.now) each.test ≡ test_label negated asked → Stands text.now each.start (nodes_of items) each.end → Behind F context.now text.now walk.old each.end (λ levels star. worked F context.now (Some asked) (has_star items) (λ rest inside. items_step F context.now items inside rest) levels star others) machine.now given → Went F context.now text.now walk.new machine.now given result }
-    ensures lighter { OnOk result (weight (length context.now.switches) walk.new.frames ≤ weight (length context.now.switches) walk.old.frames + length context.now.switches) }
+    ensures does { (F : Facts) (negated : Bool) (asked : tree.Asked) (items : tree.Items)
+        (others : Step (Unit {0})) (given : Answer (Unit {0} × running.Machine))
+        → own ≡ has_star items → label_at (tree_of text.now) each.test ≡ test_label negated asked
+        → Stands text.now each.start (nodes_of items) each.end
+        → Behind F context.now text.now walk.old each.end
+        (λ levels star. worked F context.now (Some asked) (has_star items)
+        (λ rest inside. items_step F context.now items inside rest) levels star others)
+        machine.now given → Went F context.now text.now walk.new machine.now given result }
+    ensures lighter { OnOk result (weight (length context.now.switches) walk.new.frames
+        ≤ weight (length context.now.switches) walk.old.frames + length context.now.switches) }
     ensures same_text { walk.new.text.now ≡ walk.old.text.now }
 {
     if is_for_each(text, each.test, own) {
@@ -57,8 +66,8 @@ fn enter_alternative(
     Ok(())
 }
 
-/// A test by a function was answered: its X is reached or opened, or the tests after it are judged, and then the
-/// alternatives after them.
+/// A test by a function was answered: its X is reached or opened, or the tests after it are judged,
+/// and then the alternatives after them.
 #[inline(never)]
 pub(crate) fn answer(
     text: &SpecTree,
@@ -70,8 +79,14 @@ pub(crate) fn answer(
 ) -> Result<(), MachineFault>
     requires fits { (items : tree.Items) × (kept : Kept) × AskFits text.now asking items kept }
     requires sized { length machine.old.world.hidden ≡ length context.now.switches }
-    ensures does { (F : Facts) (items : tree.Items) (kept : Kept) (given : Answer (Unit {0} × running.Machine)) → AskFits text.now asking items kept → Behind F context.now text.now walk.old asking.end (λ levels star. decided_on F context.now items kept levels star holds) machine.old given → Went F context.now text.now walk.new machine.new given result }
-    ensures lighter { OnOk result (weight (length context.now.switches) walk.new.frames ≤ weight (length context.now.switches) walk.old.frames + (length context.now.switches + (asking.end - asking.test))) }
+    ensures does { (F : Facts) (items : tree.Items) (kept : Kept)
+        (given : Answer (Unit {0} × running.Machine)) → AskFits text.now asking items kept
+        → Behind F context.now text.now walk.old asking.end
+        (λ levels star. decided_on F context.now items kept levels star holds) machine.old given
+        → Went F context.now text.now walk.new machine.new given result }
+    ensures lighter { OnOk result (weight (length context.now.switches) walk.new.frames
+        ≤ weight (length context.now.switches) walk.old.frames +
+        (length context.now.switches + (asking.end - asking.test))) }
     ensures sized { length machine.new.world.hidden ≡ length machine.old.world.hidden }
     ensures uncounted { OnOk result (machine.new.world.items ≡ machine.old.world.items) }
     ensures same_text { walk.new.text.now ≡ walk.old.text.now }
@@ -101,8 +116,8 @@ pub(crate) fn answer(
     }
 }
 
-/// The first of the alternatives with a true test that stand from one place up to another is reached or opened, or the
-/// default, or the place after them.
+/// The first of the alternatives with a true test that stand from one place up to another is
+/// reached or opened, or the default, or the place after them.
 #[inline(never)]
 pub(crate) fn choose(
     text: &SpecTree,
@@ -114,10 +129,17 @@ pub(crate) fn choose(
 ) -> Result<(), MachineFault>
     requires spans { Spans text.now start end }
     requires sized { length machine.old.world.hidden ≡ length context.now.switches }
-    ensures does { (F : Facts) (choices : tree.Choices) (given : Answer (Unit {0} × running.Machine)) → Stands text.now start (choice_nodes choices) end → Behind F context.now text.now walk.old end (λ levels star. choices_step F context.now choices levels star) machine.old given → Went F context.now text.now walk.new machine.new given result }
+    ensures does { (F : Facts) (choices : tree.Choices)
+        (given : Answer (Unit {0} × running.Machine))
+        → Stands text.now start (choice_nodes choices) end
+        → Behind F context.now text.now walk.old end
+        (λ levels star. choices_step F context.now choices levels star) machine.old given
+        → Went F context.now text.now walk.new machine.new given result }
     ensures sized { length machine.new.world.hidden ≡ length machine.old.world.hidden }
     ensures uncounted { OnOk result (machine.new.world.items ≡ machine.old.world.items) }
-    ensures lighter { OnOk result (weight (length context.now.switches) walk.new.frames ≤ weight (length context.now.switches) walk.old.frames + (length context.now.switches + (end - start))) }
+    ensures lighter { OnOk result (weight (length context.now.switches) walk.new.frames
+        ≤ weight (length context.now.switches) walk.old.frames +
+        (length context.now.switches + (end - start))) }
     ensures same_text { walk.new.text.now ≡ walk.old.text.now }
 {
     let mut at = start;

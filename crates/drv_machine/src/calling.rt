@@ -17,8 +17,8 @@ use crate::MachineFault;
 use crate::machine::Machine;
 use crate::walk::{Asking, Frame, Opened, Walk};
 
-/// The arguments of the function item at a place are opened, which end where the next item begins. What is cut so far is put
-/// aside.
+/// The arguments of the function item at a place are opened, which end where the next item begins.
+/// What is cut so far is put aside.
 ///
 /// # Errors
 /// `SpecTooDeep` where 64 parts are open.
@@ -30,7 +30,13 @@ pub(crate) fn open_call(
     machine: &mut Machine,
 ) -> Result<(), MachineFault>
     requires { at < next }
-    ensures does { (F : Facts) (C : specs.Context) (text : List ℕ) (name : List ℕ) (items : tree.Items) (given : Answer (Unit {0} × running.Machine)) → at < length (tokens_of (tree_of text)) → (label_at (tree_of text) at).word ≡ name → Stands text (at + 1) (nodes_of items) next → Behind F C text walk.old next (λ levels star. item_step F C (tree.Function name items) levels star) machine.old given → Went F C text walk.new machine.new given result }
+    ensures does { (F : Facts) (C : specs.Context) (text : List ℕ) (name : List ℕ)
+        (items : tree.Items) (given : Answer (Unit {0} × running.Machine))
+        → at < length (tokens_of (tree_of text)) → (label_at (tree_of text) at).word ≡ name
+        → Stands text (at + 1) (nodes_of items) next
+        → Behind F C text walk.old next (λ levels star. item_step F C
+        (tree.Function name items) levels star) machine.old given
+        → Went F C text walk.new machine.new given result }
     ensures same { machine.new.world ≡ machine.old.world }
     ensures same_text { walk.new.text.now ≡ walk.old.text.now }
 {
@@ -56,8 +62,15 @@ pub(crate) fn open_test(
     machine: &mut Machine,
 ) -> Result<(), MachineFault>
     requires { asking.test < asking.start }
-    ensures does { (F : Facts) (C : specs.Context) (text : List ℕ) (items arguments : tree.Items) (kept : Kept) (given : Answer (Unit {0} × running.Machine)) → AskFits text asking items kept → Stands text (asking.test + 1) (nodes_of arguments) asking.from → Behind F C text walk.old asking.end (λ levels star. tested_on F C arguments items kept levels star) machine.old given → Went F C text walk.new machine.new given result }
-    ensures lighter { (n : ℕ) → OnOk result (weight n walk.new.frames ≤ weight n walk.old.frames + (n + 1 + (asking.end - asking.test))) }
+    ensures does { (F : Facts) (C : specs.Context) (text : List ℕ) (items arguments : tree.Items)
+        (kept : Kept) (given : Answer (Unit {0} × running.Machine)) → AskFits text asking items kept
+        → Stands text (asking.test + 1) (nodes_of arguments) asking.from
+        → Behind F C text walk.old asking.end
+        (λ levels star. tested_on F C arguments items kept levels star) machine.old given
+        → Went F C text walk.new machine.new given result }
+    ensures lighter { (n : ℕ) → OnOk result
+        (weight n walk.new.frames ≤ weight n walk.old.frames +
+        (n + 1 + (asking.end - asking.test))) }
     ensures same { machine.new.world ≡ machine.old.world }
     ensures same_text { walk.new.text.now ≡ walk.old.text.now }
 {

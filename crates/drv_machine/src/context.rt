@@ -31,8 +31,8 @@ impl<'a> Model for Source<'a> {
     ghost view = { λ s. record { name = s.name.now; language = option_map (λ name. name.now) s.language } };
 }
 
-/// What a text is worked for: a line, the named texts and the prefixes of its searches, which are lent, what goes on from
-/// one text to the next, and an input or the link.
+/// What a text is worked for: a line, the named texts and the prefixes of its searches, which are
+/// lent, what goes on from one text to the next, and an input or the link.
 #[derive(Drop)]
 pub struct Context<'a> {
     line: &'a Line,
@@ -80,8 +80,9 @@ fn argument_at(switches: &[Switch], i: usize) -> &Option<Word>
 }
 
 impl<'a> Context<'a> {
-    /// What the first text of a line is worked for, as it would be for a link without outputs: no option was added, and the
-    /// names of temporaries are numbered from 1. Want of memory is the only error.
+    /// What the first text of a line is worked for, as it would be for a link without outputs: no
+    /// option was added, and the names of temporaries are numbered from 1. Want of memory is the
+    /// only error.
     pub fn new(
         alloc: Global,
         line: &'a Line,
@@ -125,8 +126,8 @@ impl<'a> Context<'a> {
         self.input = input;
     }
 
-    /// The same, with what goes on from a text: the options that were added so far, and the number of the next name that is
-    /// drawn. It takes no memory.
+    /// The same, with what goes on from a text: the options that were added so far, and the number
+    /// of the next name that is drawn. It takes no memory.
     pub fn go_on(&mut self, options: Listing<Word>, number: usize)
         ensures { self.new ≡ record self.old { options = options; number = number } }
     {

@@ -2,8 +2,12 @@
 
 ghost use Rattle.drv_machine.specs.Atoms.{atoms};
 ghost use Rattle.drv_machine.specs.Context as specs;
-ghost use Rattle.drv_machine.specs.Cuts.{Stretch, Stretched, begins_file, bounds_file, each, failure_files, has_stray_pipe, if_any, is_broken, line_of, lines, open_command, output, path, path_of, removed, stretch_atoms, texts, whether, without_file, words};
-ghost use Rattle.drv_machine.specs.Cutting.{Cut, all_taken, argument_words, file_words, nothing_cut};
+ghost use Rattle.drv_machine.specs.Cuts.{Stretch, Stretched, begins_file, bounds_file, each};
+ghost use Rattle.drv_machine.specs.Cuts.{failure_files, has_stray_pipe, if_any, is_broken, line_of};
+ghost use Rattle.drv_machine.specs.Cuts.{lines, open_command, output, path, path_of, removed};
+ghost use Rattle.drv_machine.specs.Cuts.{stretch_atoms, texts, whether, without_file, words};
+ghost use Rattle.drv_machine.specs.Cutting.{Cut, all_taken, argument_words, file_words};
+ghost use Rattle.drv_machine.specs.Cutting.{nothing_cut};
 ghost use Rattle.drv_machine.specs.Outcome.{outcome};
 ghost use Rattle.drv_machine.specs.Told.{Told};
 ghost use Rattle.drv_machine.specs.Working.{◌>>-◌, Atom, Break, Goes, World};
@@ -14,15 +18,18 @@ ghost use Rattle.drv_system.specs.Known.{Is};
 ghost use Rattle.std.specs.List.{flat_map, list_any};
 ghost use Rattle.std.specs.Prelude.{◌≡◌, ◌∷◌, ◌++◌, [], List, Ok, false, ℕ};
 
-/// The law that a list of atoms is cut as the list as it stands says: the output is the last word that is
-/// marked as one and begins after the last `%V`, the removed files are the words that are marked so, the failure
-/// files are the words that are marked as outputs and of each `%W` the last word that ends in it, and the
-/// cut stops exactly where, of the words in their order, the first is not found. It takes and gives nothing.
+/// The law that a list of atoms is cut as the list as it stands says: the output is the last word
+/// that is marked as one and begins after the last `%V`, the removed files are the words that are
+/// marked so, the failure files are the words that are marked as outputs and of each `%W` the last
+/// word that ends in it, and the cut stops exactly where, of the words in their order, the first is
+/// not found. It takes and gives nothing.
 pub fn cut_law()
     ensures output { (F : Facts) (C : specs.Context) (atoms : List Atom) (c : Cut)
-        → all_taken F C nothing_cut atoms ≡ Is (Ok c) → if_any (path F C) (output atoms) ≡ Is (Ok c.output) }
+        → all_taken F C nothing_cut atoms ≡ Is (Ok c)
+        → if_any (path F C) (output atoms) ≡ Is (Ok c.output) }
     ensures removed { (F : Facts) (C : specs.Context) (atoms : List Atom) (c : Cut)
-        → all_taken F C nothing_cut atoms ≡ Is (Ok c) → each (path F C) (removed atoms) ≡ Is (Ok c.removed) }
+        → all_taken F C nothing_cut atoms ≡ Is (Ok c)
+        → each (path F C) (removed atoms) ≡ Is (Ok c.removed) }
     ensures failures { (F : Facts) (C : specs.Context) (atoms : List Atom) (c : Cut)
         → all_taken F C nothing_cut atoms ≡ Is (Ok c)
         → each (path_of F C) (failure_files atoms) ≡ Is (Ok c.on_failure) }
@@ -30,23 +37,27 @@ pub fn cut_law()
         → whether (all_taken F C nothing_cut atoms) ≡ whether (each (path F C) (words atoms)) }
 {}
 
-/// The law that a list of atoms in which no file begins is cut into the commands that the list as it stands says: the words
-/// of a command are those that end in it, a command without a word and a pipe is dropped, and a pipe is stray exactly
-/// where no word stands before it in its command, or part of a word or a pipe stands after it. The words of
-/// arguments are those of their last command. It takes and gives nothing.
+/// The law that a list of atoms in which no file begins is cut into the commands that the list as
+/// it stands says: the words of a command are those that end in it, a command without a word and a
+/// pipe is dropped, and a pipe is stray exactly where no word stands before it in its command, or
+/// part of a word or a pipe stands after it. The words of arguments are those of their last
+/// command. It takes and gives nothing.
 pub fn command_law()
-    ensures lines { (F : Facts) (C : specs.Context) (atoms : List Atom) (c : Cut) → list_any begins_file atoms ≡ false
+    ensures lines { (F : Facts) (C : specs.Context) (atoms : List Atom) (c : Cut)
+        → list_any begins_file atoms ≡ false
         → all_taken F C nothing_cut atoms ≡ Is (Ok c) → lines F C atoms ≡ Is (Ok c.lines) }
-    ensures stray { (F : Facts) (C : specs.Context) (atoms : List Atom) (c : Cut) → list_any begins_file atoms ≡ false
+    ensures stray { (F : Facts) (C : specs.Context) (atoms : List Atom) (c : Cut)
+        → list_any begins_file atoms ≡ false
         → all_taken F C nothing_cut atoms ≡ Is (Ok c) → has_stray_pipe atoms ≡ c.stray }
     ensures arguments { (F : Facts) (C : specs.Context) (atoms : List Atom) (found : List (List ℕ))
         → list_any begins_file atoms ≡ false → argument_words F C atoms ≡ Is (Ok found)
-        → (line_of F C (open_command [] [] (atoms ++ Break ∷ [])) >>- λ line. Is (Ok line.words)) ≡ Is (Ok found) }
+        → (line_of F C (open_command [] [] (atoms ++ Break ∷ [])) >>- λ line. Is (Ok line.words))
+        ≡ Is (Ok found) }
 {}
 
-/// The law of a list of atoms in which `%@` makes files: their words are those that end in them, and the commands,
-/// stray pipes and arguments are those of the list from which the files are taken out, each of them a break. It
-/// takes and gives nothing.
+/// The law of a list of atoms in which `%@` makes files: their words are those that end in them,
+/// and the commands, stray pipes and arguments are those of the list from which the files are taken
+/// out, each of them a break. It takes and gives nothing.
 pub fn file_law()
     ensures words { (F : Facts) (C : specs.Context) (atoms : List Atom) (found : List (List ℕ))
         → list_any bounds_file atoms ≡ false → file_words F C atoms ≡ Is (Ok found)
@@ -67,9 +78,9 @@ pub fn file_law()
         >>- λ line. Is (Ok line.words)) ≡ Is (Ok found) }
 {}
 
-/// The law that the atoms of every text are a list of which `file_law` speaks: no file stands in another, and none is
-/// left open. So the job of a text is told by its list of atoms as it stands: its groups, output, marked files
-/// and failure files. It takes and gives nothing.
+/// The law that the atoms of every text are a list of which `file_law` speaks: no file stands in
+/// another, and none is left open. So the job of a text is told by its list of atoms as it stands:
+/// its groups, output, marked files and failure files. It takes and gives nothing.
 pub fn text_law()
     ensures stretched { (F : Facts) (C : specs.Context) (items : Items) (list : List Atom)
         (w : World) → atoms F C items ≡ Goes list tt w → Stretched list }

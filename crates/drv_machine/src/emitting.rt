@@ -31,7 +31,9 @@ fn patterns_in<'a>(
     end: usize,
 ) -> Result<Listing<Pattern<'a>>, AllocError>
     requires { Spans text.now start end }
-    ensures { (patterns : List (tree.Span × tree.Pattern)) → Stands text.now start (pattern_nodes patterns) end → IfOk result (λ all. all ≡ map (λ p. matching p.1) patterns) }
+    ensures { (patterns : List (tree.Span × tree.Pattern))
+        → Stands text.now start (pattern_nodes patterns) end
+        → IfOk result (λ all. all ≡ map (λ p. matching p.1) patterns) }
 {
     let mut patterns = Listing::new(alloc);
     let mut at = start;
@@ -51,7 +53,9 @@ fn put_switches<S: System>(
 ) -> Result<(), MachineFault>
     requires { All (λ place. place < length context.now.switches) places.now }
     ensures asks { Asked S.events outside.old outside.new }
-    ensures does { (F : Facts) → Extends outside.new.facts.now F → GivesKnown MachineFault.Memory (λ u. (tt, machine.new)) result (run F context.now machine.old (puts (put_at F context.now places.now))) }
+    ensures does { (F : Facts) → Extends outside.new.facts.now F
+        → GivesKnown MachineFault.Memory (λ u. (tt, machine.new)) result
+        (run F context.now machine.old (puts (put_at F context.now places.now))) }
     ensures sized { length machine.new.world.hidden ≡ length machine.old.world.hidden }
     ensures uncounted { OnOk result (machine.new.world.items ≡ machine.old.world.items) }
 {
@@ -84,7 +88,9 @@ fn put_all<S: System>(
 ) -> Result<(), MachineFault>
     requires { All (λ place. place < length context.now.switches) places.now }
     ensures asks { Asked S.events outside.old outside.new }
-    ensures does { (F : Facts) → Extends outside.new.facts.now F → GivesKnown MachineFault.Memory (λ u. (tt, machine.new)) result (run F context.now machine.old (puts (put_at F context.now places.now))) }
+    ensures does { (F : Facts) → Extends outside.new.facts.now F
+        → GivesKnown MachineFault.Memory (λ u. (tt, machine.new)) result
+        (run F context.now machine.old (puts (put_at F context.now places.now))) }
     ensures sized { length machine.new.world.hidden ≡ length machine.old.world.hidden }
     ensures uncounted { OnOk result (machine.new.world.items ≡ machine.old.world.items) }
 {
@@ -105,7 +111,12 @@ pub(crate) fn emit<S: System>(
     requires spans { Spans text.now start end }
     requires sized { length machine.old.world.hidden ≡ length context.now.switches }
     ensures asks { Asked S.events outside.old outside.new }
-    ensures does { (F : Facts) → Extends outside.new.facts.now F → (patterns : List (tree.Span × tree.Pattern)) → Stands text.now start (pattern_nodes patterns) end → GivesKnown MachineFault.Memory (λ u. (tt, machine.new)) result (run F context.now machine.old (puts (emitted F context.now patterns machine.old.world.hidden))) }
+    ensures does { (F : Facts) → Extends outside.new.facts.now F
+        → (patterns : List (tree.Span × tree.Pattern))
+        → Stands text.now start (pattern_nodes patterns) end
+        → GivesKnown MachineFault.Memory (λ u. (tt, machine.new)) result
+        (run F context.now machine.old (puts
+        (emitted F context.now patterns machine.old.world.hidden))) }
     ensures sized { length machine.new.world.hidden ≡ length machine.old.world.hidden }
     ensures uncounted { OnOk result (machine.new.world.items ≡ machine.old.world.items) }
 {

@@ -26,8 +26,10 @@ use drv_system::System;
 /// Whether patterns stand from one place up to another, and no alternatives.
 fn has_patterns(text: &SpecTree, start: usize, end: usize) -> bool
     requires { Spans text.now start end }
-    ensures patterns { IsTrue result → (brace : tree.Brace) → Stands text.now start (brace_nodes brace) end → Emits brace }
-    ensures choices { IsFalse result → (brace : tree.Brace) → Stands text.now start (brace_nodes brace) end → Chooses text.now start end brace }
+    ensures patterns { IsTrue result → (brace : tree.Brace)
+        → Stands text.now start (brace_nodes brace) end → Emits brace }
+    ensures choices { IsFalse result → (brace : tree.Brace)
+        → Stands text.now start (brace_nodes brace) end → Chooses text.now start end brace }
 {
     if start >= end {
         return false;
@@ -52,7 +54,12 @@ pub(crate) fn work_brace<S: System>(
     requires spans { Spans text.now start end }
     requires sized { length machine.old.world.hidden ≡ length context.now.switches }
     ensures asks { Asked S.events outside.old outside.new }
-    ensures does { (F : Facts) → Extends outside.new.facts.now F → (brace : tree.Brace) (given : Answer (Unit {0} × running.Machine)) → Stands text.now start (brace_nodes brace) end → Behind F context.now text.now walk.old end (λ levels star. brace_step F context.now brace levels star) machine.old given → Went F context.now text.now walk.new machine.new given result }
+    ensures does { (F : Facts) → Extends outside.new.facts.now F
+        → (brace : tree.Brace) (given : Answer (Unit {0} × running.Machine))
+        → Stands text.now start (brace_nodes brace) end
+        → Behind F context.now text.now walk.old end
+        (λ levels star. brace_step F context.now brace levels star) machine.old given
+        → Went F context.now text.now walk.new machine.new given result }
     ensures sized { length machine.new.world.hidden ≡ length machine.old.world.hidden }
     ensures uncounted { OnOk result (machine.new.world.items ≡ machine.old.world.items) }
     ensures same_text { walk.new.text.now ≡ walk.old.text.now }
@@ -69,7 +76,12 @@ pub(crate) fn work_brace<S: System>(
 /// # Errors
 /// `SpecTooDeep` where 64 parts are open.
 fn open_failure(end: usize, walk: &mut Walk<'_>, machine: &mut Machine) -> Result<(), MachineFault>
-    ensures does { (F : Facts) (C : specs.Context) (text : List ℕ) (brace : tree.Brace) (given : Answer (Unit {0} × running.Machine)) → Behind F C text walk.old end (λ levels star. item_step F C (tree.FailureFile brace) levels star) machine.old given → Reaches F C text walk.new end (λ levels star. brace_step F C brace levels star) machine.new given result }
+    ensures does { (F : Facts) (C : specs.Context) (text : List ℕ) (brace : tree.Brace)
+        (given : Answer (Unit {0} × running.Machine))
+        → Behind F C text walk.old end (λ levels star. item_step F C
+        (tree.FailureFile brace) levels star) machine.old given
+        → Reaches F C text walk.new end (λ levels star. brace_step F C brace levels star)
+        machine.new given result }
     ensures same { machine.new.world ≡ machine.old.world }
     ensures same_text { walk.new.text.now ≡ walk.old.text.now }
 {
@@ -97,7 +109,12 @@ pub(crate) fn work_failure<S: System>(
     requires spans { Spans text.now start end }
     requires sized { length machine.old.world.hidden ≡ length context.now.switches }
     ensures asks { Asked S.events outside.old outside.new }
-    ensures does { (F : Facts) → Extends outside.new.facts.now F → (brace : tree.Brace) (given : Answer (Unit {0} × running.Machine)) → Stands text.now start (brace_nodes brace) end → Behind F context.now text.now walk.old end (λ levels star. item_step F context.now (tree.FailureFile brace) levels star) machine.old given → Went F context.now text.now walk.new machine.new given result }
+    ensures does { (F : Facts) → Extends outside.new.facts.now F
+        → (brace : tree.Brace) (given : Answer (Unit {0} × running.Machine))
+        → Stands text.now start (brace_nodes brace) end
+        → Behind F context.now text.now walk.old end
+        (λ levels star. item_step F context.now (tree.FailureFile brace) levels star) machine.old
+        given → Went F context.now text.now walk.new machine.new given result }
     ensures sized { length machine.new.world.hidden ≡ length machine.old.world.hidden }
     ensures uncounted { OnOk result (machine.new.world.items ≡ machine.old.world.items) }
     ensures same_text { walk.new.text.now ≡ walk.old.text.now }

@@ -15,7 +15,8 @@ pub enum MachineFault {
     /// The text has an error for the user, with this text.
     #[error("error that the spec text says")]
     UserError(Word),
-    /// More than 64 named texts, workings of an X with a `%*`, function arguments, `%W` and `%@` are open at one time.
+    /// More than 64 named texts, workings of an X with a `%*`, function arguments, `%W` and `%@`
+    /// are open at one time.
     #[error("specs nested too deep")]
     SpecTooDeep,
     /// More than 1,000,000 items are reached.

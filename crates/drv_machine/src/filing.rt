@@ -32,9 +32,19 @@ fn starts_file(context: &Context<'_>, machine: &Machine) -> bool
 /// # Errors
 /// `SpecTooDeep` where 64 parts are open.
 fn open_part<'w>(opened: Opened<'w>, end: usize, walk: &mut Walk<'w>) -> Result<(), MachineFault>
-    ensures ok { OnOk result (walk.new ≡ record walk.old { end = end; frames = walk.old.frames ++ record { opened = opened.entry; end = walk.old.end; star = walk.old.star } ∷ [] }) }
+    ensures ok { OnOk result (walk.new ≡ record walk.old {
+      end = end;
+      frames = walk.old.frames
+          ++ record {
+            opened = opened.entry;
+            end = walk.old.end;
+            star =
+                walk.old.star;
+          } ∷ [];
+    }) }
     ensures room { OnOk result (length walk.old.frames < most_open) }
-    ensures err { IfErr result (λ fault. (fault ≡ MachineFault.Memory) ⊎ ((fault ≡ MachineFault.SpecTooDeep) × (length walk.old.frames ≡ most_open))) }
+    ensures err { IfErr result (λ fault. (fault ≡ MachineFault.Memory) ⊎
+        ((fault ≡ MachineFault.SpecTooDeep) × (length walk.old.frames ≡ most_open))) }
     ensures same_text { walk.new.text.now ≡ walk.old.text.now }
 {
     walk.frames.push(Frame {
@@ -59,7 +69,12 @@ fn open_filed<S: System>(
     outside: &mut Outside<'_, S>,
 ) -> Result<(), MachineFault>
     ensures asks { Asked S.events outside.old outside.new }
-    ensures does { (F : Facts) → Extends outside.new.facts.now F → (text : List ℕ) (brace : tree.Brace) (given : Answer (Unit {0} × running.Machine)) → Behind F context.now text walk.old end (λ levels star. item_step F context.now (tree.ArgumentsFile brace) levels star) machine.old given → Reaches F context.now text walk.new end (λ levels star. brace_step F context.now brace levels star) machine.new given result }
+    ensures does { (F : Facts) → Extends outside.new.facts.now F
+        → (text : List ℕ) (brace : tree.Brace) (given : Answer (Unit {0} × running.Machine))
+        → Behind F context.now text walk.old end
+        (λ levels star. item_step F context.now (tree.ArgumentsFile brace) levels star) machine.old
+        given → Reaches F context.now text walk.new end
+        (λ levels star. brace_step F context.now brace levels star) machine.new given result }
     ensures sized { length machine.new.world.hidden ≡ length machine.old.world.hidden }
     ensures uncounted { OnOk result (machine.new.world.items ≡ machine.old.world.items) }
     ensures same_text { walk.new.text.now ≡ walk.old.text.now }
@@ -85,7 +100,12 @@ pub(crate) fn work_filed<S: System>(
     requires spans { Spans text.now start end }
     requires sized { length machine.old.world.hidden ≡ length context.now.switches }
     ensures asks { Asked S.events outside.old outside.new }
-    ensures does { (F : Facts) → Extends outside.new.facts.now F → (brace : tree.Brace) (given : Answer (Unit {0} × running.Machine)) → Stands text.now start (brace_nodes brace) end → Behind F context.now text.now walk.old end (λ levels star. item_step F context.now (tree.ArgumentsFile brace) levels star) machine.old given → Went F context.now text.now walk.new machine.new given result }
+    ensures does { (F : Facts) → Extends outside.new.facts.now F
+        → (brace : tree.Brace) (given : Answer (Unit {0} × running.Machine))
+        → Stands text.now start (brace_nodes brace) end
+        → Behind F context.now text.now walk.old end
+        (λ levels star. item_step F context.now (tree.ArgumentsFile brace) levels star) machine.old
+        given → Went F context.now text.now walk.new machine.new given result }
     ensures sized { length machine.new.world.hidden ≡ length machine.old.world.hidden }
     ensures uncounted { OnOk result (machine.new.world.items ≡ machine.old.world.items) }
     ensures same_text { walk.new.text.now ≡ walk.old.text.now }

@@ -6,7 +6,8 @@ ghost use Rattle.drv_machine.specs.Context as specs;
 ghost use Rattle.drv_machine.specs.Code.ByKind.{labelled};
 ghost use Rattle.drv_machine.specs.Code.Running as running;
 ghost use Rattle.drv_machine.specs.Code.Standing.{Stands};
-ghost use Rattle.drv_machine.specs.Code.Walking.{Behind, HitFits, NextHit, Went, each_from, from_hit, hit_end, weight};
+ghost use Rattle.drv_machine.specs.Code.Walking.{Behind, HitFits, NextHit, Went, each_from};
+ghost use Rattle.drv_machine.specs.Code.Walking.{from_hit, hit_end, weight};
 ghost use Rattle.drv_machine.specs.Working.{Answer, Levels};
 ghost use Rattle.drv_syntax.specs.Labels.{label_at, nodes_of};
 ghost use Rattle.drv_syntax.specs.Parsed.{tree_of};
@@ -34,15 +35,22 @@ fn next_hit(
 ) -> Option<usize>
     requires sized { length machine.now.world.hidden ≡ length context.now.switches }
     ensures within { IfSome result (λ i. (from ≤ i) × (i < length context.now.switches)) }
-    ensures finds { (F : Facts) (p : tree.Pattern) (items : tree.Items) (levels : Levels) → pattern.now ≡ matching p → NextHit F context.now machine.now p items levels from result }
+    ensures finds { (F : Facts) (p : tree.Pattern) (items : tree.Items) (levels : Levels)
+        → pattern.now ≡ matching p → NextHit F context.now machine.now p items levels from result }
 {
     context.switches().next_hit(pattern, machine.hidden(), from)
 }
 
 /// An X is opened for the hit at a place of the line.
 fn open_hit(each: Each, switch: usize, size: usize, walk: &mut Walk<'_>) -> Result<(), MachineFault>
-    ensures does { (F : Facts) (C : specs.Context) (text : List ℕ) (p : tree.Pattern) (items : tree.Items) (s : running.Machine) (given : Answer (Unit {0} × running.Machine)) → HitFits text C each switch p items → size ≡ length (matching p).name → Behind F C text walk.old each.end (λ levels star. from_hit F C p items levels switch) s given → Went F C text walk.new s given result }
-    ensures lighter { (n : ℕ) → OnOk result (weight n walk.new.frames ≤ weight n walk.old.frames + (n - switch)) }
+    ensures does { (F : Facts) (C : specs.Context) (text : List ℕ) (p : tree.Pattern)
+        (items : tree.Items) (s : running.Machine) (given : Answer (Unit {0} × running.Machine))
+        → HitFits text C each switch p items → size ≡ length (matching p).name
+        → Behind F C text walk.old each.end
+        (λ levels star. from_hit F C p items levels switch) s given
+        → Went F C text walk.new s given result }
+    ensures lighter { (n : ℕ) → OnOk result
+        (weight n walk.new.frames ≤ weight n walk.old.frames + (n - switch)) }
     ensures same_text { walk.new.text.now ≡ walk.old.text.now }
 {
     walk.frames.push(Frame {
@@ -67,8 +75,16 @@ pub(crate) fn enter_next(
 ) -> Result<(), MachineFault>
     requires in_list { each.test < length (tokens_of (tree_of text.now)) }
     requires sized { length machine.now.world.hidden ≡ length context.now.switches }
-    ensures does { (F : Facts) (p : tree.Pattern) (items : tree.Items) (given : Answer (Unit {0} × running.Machine)) → labelled (label_at (tree_of text.now) each.test) ≡ matching p → Stands text.now each.start (nodes_of items) each.end → Behind F context.now text.now walk.old each.end (λ levels star. each_from F context.now p items levels from) machine.now given → Went F context.now text.now walk.new machine.now given result }
-    ensures lighter { OnOk result (weight (length context.now.switches) walk.new.frames ≤ weight (length context.now.switches) walk.old.frames + (length context.now.switches - from)) }
+    ensures does { (F : Facts) (p : tree.Pattern) (items : tree.Items)
+        (given : Answer (Unit {0} × running.Machine))
+        → labelled (label_at (tree_of text.now) each.test) ≡ matching p
+        → Stands text.now each.start (nodes_of items) each.end
+        → Behind F context.now text.now walk.old each.end
+        (λ levels star. each_from F context.now p items levels from) machine.now given
+        → Went F context.now text.now walk.new machine.now given result }
+    ensures lighter { OnOk result (weight (length context.now.switches) walk.new.frames
+        ≤ weight (length context.now.switches) walk.old.frames +
+        (length context.now.switches - from)) }
     ensures same_text { walk.new.text.now ≡ walk.old.text.now }
 {
     let pattern = pattern_at(text, each.test);
@@ -81,7 +97,8 @@ pub(crate) fn enter_next(
     }
 }
 
-/// A working of an X for a hit ends: the switch's argument is put, and X is opened for the next one.
+/// A working of an X for a hit ends: the switch's argument is put, and X is opened for the next
+/// one.
 #[inline(never)]
 #[tactic(auto, using(crate::proofs::AskedCalls::asked_further))]
 pub(crate) fn close_hit<S: System>(
@@ -97,8 +114,15 @@ pub(crate) fn close_hit<S: System>(
     requires in_line { switch < length context.now.switches }
     requires sized { length machine.old.world.hidden ≡ length context.now.switches }
     ensures asks { Asked S.events outside.old outside.new }
-    ensures does { (F : Facts) → Extends outside.new.facts.now F → (p : tree.Pattern) (items : tree.Items) (given : Answer (Unit {0} × running.Machine)) → HitFits text.now context.now each switch p items → Behind F context.now text.now walk.old each.end (λ levels star. hit_end F context.now p items levels switch) machine.old given → Went F context.now text.now walk.new machine.new given result }
-    ensures lighter { OnOk result (weight (length context.now.switches) walk.new.frames < weight (length context.now.switches) walk.old.frames + (length context.now.switches - switch)) }
+    ensures does { (F : Facts) → Extends outside.new.facts.now F
+        → (p : tree.Pattern) (items : tree.Items) (given : Answer (Unit {0} × running.Machine))
+        → HitFits text.now context.now each switch p items
+        → Behind F context.now text.now walk.old each.end
+        (λ levels star. hit_end F context.now p items levels switch) machine.old given
+        → Went F context.now text.now walk.new machine.new given result }
+    ensures lighter { OnOk result (weight (length context.now.switches) walk.new.frames
+        < weight (length context.now.switches) walk.old.frames +
+        (length context.now.switches - switch)) }
     ensures same_text { walk.new.text.now ≡ walk.old.text.now }
     ensures sized { length machine.new.world.hidden ≡ length machine.old.world.hidden }
     ensures uncounted { OnOk result (machine.new.world.items ≡ machine.old.world.items) }

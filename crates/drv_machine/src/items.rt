@@ -33,7 +33,9 @@ use std::alloc::Global;
 
 /// The name of the input; the link has none.
 fn input_name<'a>(context: &'a Context<'_>) -> Result<&'a [u8], MachineFault>
-    ensures { (F : Facts) (s : running.Machine) → GivesKnown MachineFault.Memory (λ name. (name.now, s)) result (run F context.now s (input_name F context.now)) }
+    ensures { (F : Facts) (s : running.Machine)
+        → GivesKnown MachineFault.Memory (λ name. (name.now, s)) result
+        (run F context.now s (input_name F context.now)) }
 {
     match context.input() {
         Some(source) => Ok(source.name),
@@ -45,7 +47,8 @@ fn input_name<'a>(context: &'a Context<'_>) -> Result<&'a [u8], MachineFault>
 fn hide(text: &SpecTree, context: &Context<'_>, at: usize, machine: &mut Machine)
     requires in_list { at < length (tokens_of (tree_of text.now)) }
     requires sized { length machine.old.world.hidden ≡ length context.now.switches }
-    ensures does { (F : Facts) → run F context.now machine.old (hide_step context.now (label_at (tree_of text.now) at)) ≡ Is (Ok (tt, machine.new)) }
+    ensures does { (F : Facts) → run F context.now machine.old
+        (hide_step context.now (label_at (tree_of text.now) at)) ≡ Is (Ok (tt, machine.new)) }
     ensures sized { length machine.new.world.hidden ≡ length machine.old.world.hidden }
     ensures uncounted { machine.new.world.items ≡ machine.old.world.items }
 {
@@ -54,7 +57,9 @@ fn hide(text: &SpecTree, context: &Context<'_>, at: usize, machine: &mut Machine
 
 /// The text is refused by an error for the user.
 fn user_error(alloc: Global, text: &[u8]) -> Result<(), MachineFault>
-    ensures { (F : Facts) (C : specs.Context) (s : running.Machine) → GivesKnown MachineFault.Memory (λ u. (tt, s)) result (run F C {X = Unit {0}} s (refuse (MachineFault.UserError text.now))) }
+    ensures { (F : Facts) (C : specs.Context) (s : running.Machine)
+        → GivesKnown MachineFault.Memory (λ u. (tt, s)) result
+        (run F C {X = Unit {0}} s (refuse (MachineFault.UserError text.now))) }
 {
     Err(MachineFault::UserError(Word::from_bytes(alloc, text)?))
 }
@@ -69,7 +74,9 @@ fn work_leaf<S: System>(
 ) -> Result<(), MachineFault>
     requires sized { length machine.old.world.hidden ≡ length context.now.switches }
     ensures asks { Asked S.events outside.old outside.new }
-    ensures does { (F : Facts) → Extends outside.new.facts.now F → GivesKnown MachineFault.Memory (λ u. (tt, machine.new)) result (run F context.now machine.old (leaf_step F context.now leaf)) }
+    ensures does { (F : Facts) → Extends outside.new.facts.now F
+        → GivesKnown MachineFault.Memory (λ u. (tt, machine.new)) result
+        (run F context.now machine.old (leaf_step F context.now leaf)) }
     ensures sized { length machine.new.world.hidden ≡ length machine.old.world.hidden }
     ensures uncounted { OnOk result (machine.new.world.items ≡ machine.old.world.items) }
 {
@@ -107,8 +114,8 @@ fn work_leaf<S: System>(
     }
 }
 
-/// Works the item at a place, which is this token, and opens no part and has no alternatives; `star` is what `%*` stands
-/// for.
+/// Works the item at a place, which is this token, and opens no part and has no alternatives;
+/// `star` is what `%*` stands for.
 #[inline(never)]
 #[tactic(auto, using(crate::proofs::AskedCalls::asked_none))]
 pub(crate) fn work_item<S: System>(
@@ -130,7 +137,13 @@ pub(crate) fn work_item<S: System>(
     requires no_call { token.kind ≡ kinds.Function → ⊥ }
     requires no_file { token.kind ≡ kinds.ArgumentsFile → ⊥ }
     ensures asks { Asked S.events outside.old outside.new }
-    ensures does { (F : Facts) → Extends outside.new.facts.now F → (levels : Levels) (inner : Step (Unit {0})) → Means F context.now text.now token.kind (at + 1) token.next levels (star_of context.now star) inner → GivesKnown MachineFault.Memory (λ u. (tt, machine.new)) result (run F context.now machine.old (kind_step F context.now token.kind (label_at (tree_of text.now) at) (star_of context.now star) inner)) }
+    ensures does { (F : Facts) → Extends outside.new.facts.now F
+        → (levels : Levels) (inner : Step (Unit {0}))
+        → Means F context.now text.now token.kind (at + 1) token.next levels
+        (star_of context.now star) inner
+        → GivesKnown MachineFault.Memory (λ u. (tt, machine.new)) result
+        (run F context.now machine.old (kind_step F context.now token.kind
+        (label_at (tree_of text.now) at) (star_of context.now star) inner)) }
     ensures sized { length machine.new.world.hidden ≡ length machine.old.world.hidden }
     ensures uncounted { OnOk result (machine.new.world.items ≡ machine.old.world.items) }
 {

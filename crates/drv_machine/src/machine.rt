@@ -134,8 +134,8 @@ impl Model for Machine {
 }
 
 impl Machine {
-    /// Nothing is cut, hidden or counted; options, numbers and outputs go on from the texts before. Want of memory is the
-    /// only error.
+    /// Nothing is cut, hidden or counted; options, numbers and outputs go on from the texts before.
+    /// Want of memory is the only error.
     pub(crate) fn new(alloc: Global, context: &Context<'_>) -> Result<Machine, AllocError>
         ensures { IfOk result (λ made. (F : Facts) → made ≡ begun F context.now) }
     {
@@ -167,7 +167,9 @@ impl Machine {
 
     /// Bytes go into the open word, or open one; no bytes change nothing.
     pub(crate) fn put(&mut self, bytes: &[u8]) -> Result<(), MachineFault>
-        ensures does { (F : Facts) (C : specs.Context) → GivesKnown MachineFault.Memory (λ u. (tt, self.new)) result (run F C self.old (step.bytes bytes.now)) }
+        ensures does { (F : Facts) (C : specs.Context)
+            → GivesKnown MachineFault.Memory (λ u. (tt, self.new)) result
+            (run F C self.old (step.bytes bytes.now)) }
         ensures sized { length self.new.world.hidden ≡ length self.old.world.hidden }
         ensures uncounted { OnOk result (self.new.world.items ≡ self.old.world.items) }
     {
@@ -182,7 +184,9 @@ impl Machine {
 
     /// A byte goes into the open word, or opens one.
     fn put_byte(&mut self, byte: u8) -> Result<(), MachineFault>
-        ensures does { (F : Facts) (C : specs.Context) → GivesKnown MachineFault.Memory (λ u. (tt, self.new)) result (run F C self.old (step.bytes (byte ∷ []))) }
+        ensures does { (F : Facts) (C : specs.Context)
+            → GivesKnown MachineFault.Memory (λ u. (tt, self.new)) result
+            (run F C self.old (step.bytes (byte ∷ []))) }
         ensures sized { length self.new.world.hidden ≡ length self.old.world.hidden }
         ensures uncounted { OnOk result (self.new.world.items ≡ self.old.world.items) }
     {
@@ -192,9 +196,12 @@ impl Machine {
         Ok(())
     }
 
-    /// The bytes of an item go into the open word, or open one: mostly one byte, which has a shorter path.
+    /// The bytes of an item go into the open word, or open one: mostly one byte, which has a
+    /// shorter path.
     pub(crate) fn put_item(&mut self, bytes: &[u8]) -> Result<(), MachineFault>
-        ensures does { (F : Facts) (C : specs.Context) → GivesKnown MachineFault.Memory (λ u. (tt, self.new)) result (run F C self.old (step.bytes bytes.now)) }
+        ensures does { (F : Facts) (C : specs.Context)
+            → GivesKnown MachineFault.Memory (λ u. (tt, self.new)) result
+            (run F C self.old (step.bytes bytes.now)) }
         ensures sized { length self.new.world.hidden ≡ length self.old.world.hidden }
         ensures uncounted { OnOk result (self.new.world.items ≡ self.old.world.items) }
     {
@@ -206,7 +213,8 @@ impl Machine {
 
     /// A word is open, which may stay empty.
     fn open(&mut self)
-        ensures does { (F : Facts) (C : specs.Context) → run F C self.old (puts (Open ∷ [])) ≡ Is (Ok (tt, self.new)) }
+        ensures does { (F : Facts) (C : specs.Context)
+            → run F C self.old (puts (Open ∷ [])) ≡ Is (Ok (tt, self.new)) }
         ensures same { self.new.world ≡ self.old.world }
     {
         self.is_open = true;
@@ -215,7 +223,9 @@ impl Machine {
 
     /// The open command ends; one without a word and a pipe is dropped. In a file none ends.
     fn close_line(&mut self) -> Result<(), MachineFault>
-        ensures does { (F : Facts) (C : specs.Context) → GivesKnown MachineFault.Memory (λ u. (tt, self.new)) result (run F C self.old (puts (End ∷ []))) }
+        ensures does { (F : Facts) (C : specs.Context)
+            → GivesKnown MachineFault.Memory (λ u. (tt, self.new)) result
+            (run F C self.old (puts (End ∷ []))) }
         ensures same { self.new.world ≡ self.old.world }
     {
         if self.outer.is_some() {
@@ -230,7 +240,8 @@ impl Machine {
         Ok(())
     }
 
-    /// A pipe stands after the words of the open command: there has to be one, and no pipe yet. In a file it is none.
+    /// A pipe stands after the words of the open command: there has to be one, and no pipe yet. In
+    /// a file it is none.
     fn close_with_pipe(&mut self)
         ensures { self.new ≡ record self.old { cut = pipe_ended self.old.cut } }
     {
@@ -249,7 +260,9 @@ impl Machine {
         outside: &mut Outside<'_, S>,
     ) -> Result<(), MachineFault>
         ensures asks { Asked S.events outside.old outside.new }
-        ensures does { (F : Facts) → Extends outside.new.facts.now F → GivesKnown MachineFault.Memory (λ u. (tt, self.new)) result (run F context.now self.old (puts (Break ∷ End ∷ []))) }
+        ensures does { (F : Facts) → Extends outside.new.facts.now F
+            → GivesKnown MachineFault.Memory (λ u. (tt, self.new)) result
+            (run F context.now self.old (puts (Break ∷ End ∷ []))) }
         ensures sized { length self.new.world.hidden ≡ length self.old.world.hidden }
         ensures uncounted { OnOk result (self.new.world.items ≡ self.old.world.items) }
     {
@@ -257,7 +270,8 @@ impl Machine {
         self.close_line()
     }
 
-    /// The open word ends, and its command with a pipe. Whether pipes stand right is judged after the whole text.
+    /// The open word ends, and its command with a pipe. Whether pipes stand right is judged after
+    /// the whole text.
     #[tactic(auto, using(crate::proofs::AskedCalls::asked_further))]
     pub(crate) fn pipe<S: System>(
         &mut self,
@@ -265,7 +279,9 @@ impl Machine {
         outside: &mut Outside<'_, S>,
     ) -> Result<(), MachineFault>
         ensures asks { Asked S.events outside.old outside.new }
-        ensures does { (F : Facts) → Extends outside.new.facts.now F → GivesKnown MachineFault.Memory (λ u. (tt, self.new)) result (run F context.now self.old (puts (Piped ∷ []))) }
+        ensures does { (F : Facts) → Extends outside.new.facts.now F
+            → GivesKnown MachineFault.Memory (λ u. (tt, self.new)) result
+            (run F context.now self.old (puts (Piped ∷ []))) }
         ensures sized { length self.new.world.hidden ≡ length self.old.world.hidden }
         ensures uncounted { OnOk result (self.new.world.items ≡ self.old.world.items) }
     {
@@ -274,7 +290,8 @@ impl Machine {
         Ok(())
     }
 
-    /// The open word ends, and the argument of the switch at a place, if it has one, is a word after it.
+    /// The open word ends, and the argument of the switch at a place, if it has one, is a word
+    /// after it.
     pub(crate) fn put_argument<S: System>(
         &mut self,
         context: &Context<'_>,
@@ -283,7 +300,9 @@ impl Machine {
     ) -> Result<(), MachineFault>
         requires { i < length context.now.switches }
         ensures asks { Asked S.events outside.old outside.new }
-        ensures does { (F : Facts) → Extends outside.new.facts.now F → GivesKnown MachineFault.Memory (λ u. (tt, self.new)) result (run F context.now self.old (puts (Break ∷ word_of (argument context.now i)))) }
+        ensures does { (F : Facts) → Extends outside.new.facts.now F
+            → GivesKnown MachineFault.Memory (λ u. (tt, self.new)) result
+            (run F context.now self.old (puts (Break ∷ word_of (argument context.now i)))) }
         ensures sized { length self.new.world.hidden ≡ length self.old.world.hidden }
         ensures uncounted { OnOk result (self.new.world.items ≡ self.old.world.items) }
     {
@@ -296,8 +315,8 @@ impl Machine {
         self.end_word(context, outside)
     }
 
-    /// The switch at a place as it stands on the line, its first `-` and its argument included; it ends the word that it
-    /// stands in.
+    /// The switch at a place as it stands on the line, its first `-` and its argument included; it
+    /// ends the word that it stands in.
     #[tactic(auto, using(crate::proofs::AskedCalls::asked_further))]
     pub(crate) fn put_switch<S: System>(
         &mut self,
@@ -307,7 +326,9 @@ impl Machine {
     ) -> Result<(), MachineFault>
         requires { i < length context.now.switches }
         ensures asks { Asked S.events outside.old outside.new }
-        ensures does { (F : Facts) → Extends outside.new.facts.now F → GivesKnown MachineFault.Memory (λ u. (tt, self.new)) result (run F context.now self.old (puts (switch_atoms F context.now i))) }
+        ensures does { (F : Facts) → Extends outside.new.facts.now F
+            → GivesKnown MachineFault.Memory (λ u. (tt, self.new)) result
+            (run F context.now self.old (puts (switch_atoms F context.now i))) }
         ensures sized { length self.new.world.hidden ≡ length self.old.world.hidden }
         ensures uncounted { OnOk result (self.new.world.items ≡ self.old.world.items) }
     {
@@ -324,7 +345,9 @@ impl Machine {
     /// # Errors
     /// `TooManySteps` where 1,000,000 were reached before.
     pub(crate) fn count(&mut self) -> Result<(), MachineFault>
-        ensures does { (F : Facts) (C : specs.Context) → GivesKnown MachineFault.Memory (λ u. (tt, self.new)) result (run F C self.old counted) }
+        ensures does { (F : Facts) (C : specs.Context)
+            → GivesKnown MachineFault.Memory (λ u. (tt, self.new)) result
+            (run F C self.old counted) }
         ensures sized { length self.new.world.hidden ≡ length self.old.world.hidden }
         ensures counts { OnOk result (self.new.world.items ≡ self.old.world.items + 1) }
         ensures below { OnOk result (self.old.world.items < 1000000) }
@@ -339,7 +362,10 @@ impl Machine {
     /// Hides every switch that a pattern names. It takes no memory.
     pub(crate) fn hide(&mut self, switches: &Switches<'_>, pattern: &Pattern<'_>)
         requires { length self.old.world.hidden ≡ length switches.now }
-        ensures does { self.new ≡ record self.old { world = record self.old.world { hidden = hidden_by pattern.now switches.now self.old.world.hidden } } }
+        ensures does { self.new ≡ record self.old {
+          world = record self.old.world
+              { hidden = hidden_by pattern.now switches.now self.old.world.hidden };
+        } }
         ensures sized { length self.new.world.hidden ≡ length self.old.world.hidden }
         ensures uncounted { self.new.world.items ≡ self.old.world.items }
     {

@@ -18,7 +18,10 @@ pub(crate) fn open_text<'w>(
     name: &[u8],
     walk: &mut Walk<'w>,
 ) -> Result<(), MachineFault>
-    ensures { (F : Facts) (s : running.Machine) (given : Answer (Unit {0} × running.Machine)) → Behind F context.now walk.old.text.now walk.old walk.old.at (λ levels star. named F context.now (tree_named F context.now name.now) levels) s given → Went F context.now walk.new.text.now walk.new s given result }
+    ensures { (F : Facts) (s : running.Machine) (given : Answer (Unit {0} × running.Machine))
+        → Behind F context.now walk.old.text.now walk.old walk.old.at
+        (λ levels star. named F context.now (tree_named F context.now name.now) levels) s given
+        → Went F context.now walk.new.text.now walk.new s given result }
 {
     let Some(text) = context.named(name) else {
         return Ok(());

@@ -1,6 +1,7 @@
 //! The parts of an input's name. No part takes memory.
 
-ghost use Rattle.drv_machine.specs.Names.{base, is_word, language_of, parted, stem, suffix_of, suffixed};
+ghost use Rattle.drv_machine.specs.Names.{base, is_word, language_of, parted, stem, suffix_of};
+ghost use Rattle.drv_machine.specs.Names.{suffixed};
 ghost use Rattle.std.specs.Option.{option_map};
 ghost use Rattle.std.specs.Prelude.{◌≡◌};
 
@@ -27,8 +28,8 @@ pub(crate) fn base(name: &[u8]) -> &[u8]
     }
 }
 
-/// What stands before the last period of a name without its folder, and after it; a period in first place doesn't
-/// count.
+/// What stands before the last period of a name without its folder, and after it; a period in first
+/// place doesn't count.
 fn suffixed(name: &[u8]) -> Option<(&[u8], &[u8])>
     ensures { option_map (λ parts. (parts.0.now, parts.1.now)) result ≡ suffixed name.now }
 {

@@ -32,8 +32,10 @@ pub fn pattern_at(tree: &SpecTree, at: usize) -> Pattern<'_>
 /// Where the tests end that stand first among parts.
 pub fn tests_end(tree: &SpecTree, start: usize, end: usize) -> usize
     requires { Spans tree.now start end }
-    ensures tests { (nodes : Nodes) → Stands tree.now start nodes end → Stands tree.now start (tests_in nodes) result }
-    ensures rest { (nodes : Nodes) → Stands tree.now start nodes end → Stands tree.now result (after_tests nodes) end }
+    ensures tests { (nodes : Nodes) → Stands tree.now start nodes end
+        → Stands tree.now start (tests_in nodes) result }
+    ensures rest { (nodes : Nodes) → Stands tree.now start nodes end
+        → Stands tree.now result (after_tests nodes) end }
 {
     let mut at = start;
     while at < end {

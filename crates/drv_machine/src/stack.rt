@@ -1,7 +1,8 @@
 //! The open parts of a walk.
 
 ghost use Rattle.drv_machine.specs.Working.{most_open};
-ghost use Rattle.std.specs.Prelude.{◌≡◌, ◌⊎◌, ◌↔◌, ◌<◌, ◌∷◌, ◌++◌, [], IfErr, IfOk, IsFalse, IsSome, IsTrue, OnOk, length, option_to_list};
+ghost use Rattle.std.specs.Prelude.{◌≡◌, ◌⊎◌, ◌↔◌, ◌<◌, ◌∷◌, ◌++◌, [], IfErr, IfOk, IsFalse};
+ghost use Rattle.std.specs.Prelude.{IsSome, IsTrue, OnOk, length, option_to_list};
 
 use crate::MachineFault;
 use crate::walk::Frame;
@@ -9,8 +10,8 @@ use arrayvec::ArrayVec;
 use std::alloc::{AllocError, Global};
 use std::marker::Model;
 
-/// The open parts, the innermost last: at most 64. Their table is made when the first is opened, so that a text without
-/// open parts pays nothing for it.
+/// The open parts, the innermost last: at most 64. Their table is made when the first is opened, so
+/// that a text without open parts pays nothing for it.
 #[derive(Drop)]
 pub(crate) struct Stack<'a> {
     alloc: Global,
@@ -61,7 +62,8 @@ impl<'a> Stack<'a> {
     pub(crate) fn push(&mut self, frame: Frame<'a>) -> Result<(), MachineFault>
         ensures ok { OnOk result (self.new ≡ self.old ++ frame.entry ∷ []) }
         ensures room { OnOk result (length self.old < most_open) }
-        ensures err { IfErr result (λ fault. (fault ≡ MachineFault.Memory) ⊎ ((fault ≡ MachineFault.SpecTooDeep) × (length self.old ≡ most_open))) }
+        ensures err { IfErr result (λ fault. (fault ≡ MachineFault.Memory) ⊎
+            ((fault ≡ MachineFault.SpecTooDeep) × (length self.old ≡ most_open))) }
     {
         if self.is_full() {
             return Err(MachineFault::SpecTooDeep);

@@ -4,7 +4,9 @@ ghost use Rattle.drv_machine.specs.Code.Asked.{Asked};
 ghost use Rattle.drv_machine.specs.Atoms.{items_step, levels_left};
 ghost use Rattle.drv_machine.specs.Code.Running as running;
 ghost use Rattle.drv_machine.specs.Code.Running.{run};
-ghost use Rattle.drv_machine.specs.Code.Walking.{After, AtItem, HasFrames, Kept, Lain, Left, OpenedFits, Settled, Went, back_of, closing, hits_left, text_around, weight};
+ghost use Rattle.drv_machine.specs.Code.Walking.{After, AtItem, HasFrames, Kept, Lain, Left};
+ghost use Rattle.drv_machine.specs.Code.Walking.{OpenedFits, Settled, Went, back_of, closing};
+ghost use Rattle.drv_machine.specs.Code.Walking.{hits_left, text_around, weight};
 ghost use Rattle.drv_machine.specs.Working.{Answer, most_open};
 ghost use Rattle.drv_syntax.specs.Parsed.{tree_of};
 ghost use Rattle.drv_syntax.specs.Tree as tree;
@@ -28,7 +30,8 @@ use crate::{Context, MachineFault};
 use drv_syntax::{SpecTree, TokenKind};
 use drv_system::System;
 
-/// The innermost open part ends: what it was opened for is done, or done once more, in the part around it.
+/// The innermost open part ends: what it was opened for is done, or done once more, in the part
+/// around it.
 #[tactic(auto, using(crate::proofs::AskedCalls::asked_none, crate::proofs::AskedCalls::asked_further))]
 fn close<'w, S: System>(
     context: &Context<'_>,
@@ -37,11 +40,22 @@ fn close<'w, S: System>(
     machine: &mut Machine,
     outside: &mut Outside<'_, S>,
 ) -> Result<(), MachineFault>
-    requires fits { (p : tree.Pattern) × (items : tree.Items) × (kept : Kept) × OpenedFits walk.old.text.now context.now frame.opened p items kept }
+    requires fits { (p : tree.Pattern) × (items : tree.Items) × (kept : Kept)
+        × OpenedFits walk.old.text.now context.now frame.opened p items kept }
     requires sized { length machine.old.world.hidden ≡ length context.now.switches }
     ensures asks { Asked S.events outside.old outside.new }
-    ensures does { (F : Facts) → Extends outside.new.facts.now F → (p : tree.Pattern) (items : tree.Items) (kept : Kept) (given : Answer (Unit {0} × running.Machine)) → OpenedFits walk.old.text.now context.now frame.entry.opened p items kept → After F context.now (text_around walk.old.text.now frame.entry.opened) (record walk.old { end = frame.entry.end; star = frame.entry.star }) (back_of frame.entry.opened) (λ levels star s. closing F context.now levels star frame.entry.opened p items kept s) machine.old given → Went F context.now walk.new.text.now walk.new machine.new given result }
-    ensures lighter { OnOk result (weight (length context.now.switches) walk.new.frames < weight (length context.now.switches) walk.old.frames + hits_left (length context.now.switches) frame.entry.opened) }
+    ensures does { (F : Facts) → Extends outside.new.facts.now F
+        → (p : tree.Pattern) (items : tree.Items) (kept : Kept)
+        (given : Answer (Unit {0} × running.Machine))
+        → OpenedFits walk.old.text.now context.now frame.entry.opened p items kept
+        → After F context.now (text_around walk.old.text.now frame.entry.opened)
+        (record walk.old { end = frame.entry.end; star = frame.entry.star })
+        (back_of frame.entry.opened) (λ levels star s. closing F context.now levels star
+        frame.entry.opened p items kept s) machine.old given
+        → Went F context.now walk.new.text.now walk.new machine.new given result }
+    ensures lighter { OnOk result (weight (length context.now.switches) walk.new.frames
+        < weight (length context.now.switches) walk.old.frames + hits_left
+        (length context.now.switches) frame.entry.opened) }
     ensures sized { length machine.new.world.hidden ≡ length machine.old.world.hidden }
     ensures uncounted { OnOk result (machine.new.world.items ≡ machine.old.world.items) }
 {
@@ -92,7 +106,10 @@ fn settle<S: System>(
     requires framed { HasFrames context.now walk.old.text.now walk.old }
     requires sized { length machine.old.world.hidden ≡ length context.now.switches }
     ensures asks { Asked S.events outside.old outside.new }
-    ensures does { (F : Facts) → Extends outside.new.facts.now F → (given : Answer (Unit {0} × running.Machine)) → Left F context.now walk.old.text.now walk.old machine.old given → Settled F context.now walk.new.text.now walk.new machine.new given result }
+    ensures does { (F : Facts) → Extends outside.new.facts.now F
+        → (given : Answer (Unit {0} × running.Machine))
+        → Left F context.now walk.old.text.now walk.old machine.old given
+        → Settled F context.now walk.new.text.now walk.new machine.new given result }
     ensures reached { IfOk result (λ more. IsTrue more → AtItem walk.new.text.now walk.new) }
     ensures sized { length machine.new.world.hidden ≡ length machine.old.world.hidden }
     ensures uncounted { OnOk result (machine.new.world.items ≡ machine.old.world.items) }
@@ -122,7 +139,10 @@ fn turn<'w, S: System>(
     requires at_item { AtItem walk.old.text.now walk.old }
     requires sized { length machine.old.world.hidden ≡ length context.now.switches }
     ensures asks { Asked S.events outside.old outside.new }
-    ensures does { (F : Facts) → Extends outside.new.facts.now F → (given : Answer (Unit {0} × running.Machine)) → Left F context.now walk.old.text.now walk.old machine.old given → Went F context.now walk.new.text.now walk.new machine.new given result }
+    ensures does { (F : Facts) → Extends outside.new.facts.now F
+        → (given : Answer (Unit {0} × running.Machine))
+        → Left F context.now walk.old.text.now walk.old machine.old given
+        → Went F context.now walk.new.text.now walk.new machine.new given result }
     ensures sized { length machine.new.world.hidden ≡ length machine.old.world.hidden }
     ensures counts { OnOk result (machine.new.world.items ≡ machine.old.world.items + 1) }
     ensures below { OnOk result (machine.old.world.items < 1000000) }
@@ -172,7 +192,10 @@ fn work_items<'w, S: System>(
     requires framed { HasFrames context.now walk.old.text.now walk.old }
     requires sized { length machine.old.world.hidden ≡ length context.now.switches }
     ensures asks { Asked S.events outside.old outside.new }
-    ensures does { (F : Facts) → Extends outside.new.facts.now F → (given : Answer (Unit {0} × running.Machine)) → Left F context.now walk.old.text.now walk.old machine.old given → GivesKnown MachineFault.Memory (λ u. (tt, machine.new)) result given }
+    ensures does { (F : Facts) → Extends outside.new.facts.now F
+        → (given : Answer (Unit {0} × running.Machine))
+        → Left F context.now walk.old.text.now walk.old machine.old given
+        → GivesKnown MachineFault.Memory (λ u. (tt, machine.new)) result given }
 {
     while settle(context, walk, machine, outside)? {
         turn(context, walk, machine, outside)?;
@@ -189,7 +212,10 @@ pub(crate) fn work_text<'w, S: System>(
 ) -> Result<(), MachineFault>
     requires { length machine.old.world.hidden ≡ length context.now.switches }
     ensures asks { Asked S.events outside.old outside.new }
-    ensures does { (F : Facts) → Extends outside.new.facts.now F → GivesKnown MachineFault.Memory (λ u. (tt, machine.new)) result (run F context.now machine.old (items_step F context.now (tree_of text.now) (levels_left F context.now most_open) [])) }
+    ensures does { (F : Facts) → Extends outside.new.facts.now F
+        → GivesKnown MachineFault.Memory (λ u. (tt, machine.new)) result
+        (run F context.now machine.old (items_step F context.now (tree_of text.now)
+        (levels_left F context.now most_open) [])) }
 {
     let mut walk = Walk::new(machine.alloc(), text, text.tokens().len());
     work_items(context, &mut walk, machine, outside)

@@ -23,7 +23,8 @@ pub(crate) struct Rest {
     pub(crate) size: usize,
 }
 
-/// An X that is worked for each hit: the place of the test that asks for the switch, and where X begins and ends.
+/// An X that is worked for each hit: the place of the test that asks for the switch, and where X
+/// begins and ends.
 #[derive(Clone, Copy, Debug, Default)]
 pub(crate) struct Each {
     pub(crate) test: usize,
@@ -31,8 +32,8 @@ pub(crate) struct Each {
     pub(crate) end: usize,
 }
 
-/// A test by a function: its place, and where the tests after it begin; where the X begins that it asks for, and where that
-/// ends, and whether it has a `%*` of its own; and where the braces end.
+/// A test by a function: its place, and where the tests after it begin; where the X begins that it
+/// asks for, and where that ends, and whether it has a `%*` of its own; and where the braces end.
 #[derive(Clone, Copy, Debug, Default)]
 pub(crate) struct Asking {
     pub(crate) test: usize,
@@ -56,7 +57,8 @@ pub(crate) enum Opened<'a> {
     File(usize),
     /// A `%@` that means what its braces mean. The part around it goes on at a place.
     Inside(usize),
-    /// The arguments of the function at a place, and what was cut before them. The part around it goes on at a place.
+    /// The arguments of the function at a place, and what was cut before them. The part around it
+    /// goes on at a place.
     Call(usize, usize, Box<Cutter>),
     /// The arguments of a function that a test asks, and what was cut before them.
     Asks(Asking, Box<Cutter>),
@@ -68,7 +70,8 @@ impl<'a> Default for Opened<'a> {
     }
 }
 
-/// An open part: what it was opened for, and of the part around it where it ends, and what `%*` is there.
+/// An open part: what it was opened for, and of the part around it where it ends, and what `%*` is
+/// there.
 #[derive(Default, Drop)]
 pub(crate) struct Frame<'a> {
     pub(crate) opened: Opened<'a>,
@@ -76,8 +79,8 @@ pub(crate) struct Frame<'a> {
     pub(crate) star: Option<Rest>,
 }
 
-/// A walk: the text that is worked, the place of it that is reached, where the innermost open part ends, what `%*` stands
-/// for in it, and the open parts.
+/// A walk: the text that is worked, the place of it that is reached, where the innermost open part
+/// ends, what `%*` stands for in it, and the open parts.
 #[derive(Drop)]
 pub(crate) struct Walk<'a> {
     pub(crate) text: &'a SpecTree,
@@ -108,7 +111,9 @@ impl<'a> Walk<'a> {
     /// Passes over other alternatives than the one that was worked.
     pub(crate) fn skip(&mut self, text: &SpecTree)
         requires { Lain text.now self.old }
-        ensures does { (F : Facts) (C : specs.Context) (s : running.Machine) (given : Answer (Unit {0} × running.Machine)) → Left F C text.now self.old s given → Left F C text.now self.new s given }
+        ensures does { (F : Facts) (C : specs.Context) (s : running.Machine)
+            (given : Answer (Unit {0} × running.Machine)) → Left F C text.now self.old s given
+            → Left F C text.now self.new s given }
         ensures reached { self.new.at < self.new.end → AtItem text.now self.new }
         ensures same { self.new ≡ record self.old { at = self.new.at } }
     {

@@ -28,7 +28,9 @@ fn work_whole<S: System>(
 ) -> Result<(), MachineFault>
     requires { length machine.old.world.hidden ≡ length context.now.switches }
     ensures asks { Asked S.events outside.old outside.new }
-    ensures does { (F : Facts) → Extends outside.new.facts.now F → GivesKnown MachineFault.Memory (λ u. (tt, machine.new)) result (run F context.now machine.old (whole_text F context.now (tree_of text.now))) }
+    ensures does { (F : Facts) → Extends outside.new.facts.now F
+        → GivesKnown MachineFault.Memory (λ u. (tt, machine.new)) result
+        (run F context.now machine.old (whole_text F context.now (tree_of text.now))) }
 {
     work_text(text, context, machine, outside)?;
     machine.end_line(context, outside)
@@ -43,7 +45,10 @@ fn finish<S: System>(
 ) -> Result<Outcome, MachineFault>
     requires { length machine.old.world.hidden ≡ length context.now.switches }
     ensures asks { Asked S.events outside.old outside.new }
-    ensures does { (F : Facts) → Extends outside.new.facts.now F → GivesKnown MachineFault.Memory (λ o. o) result (run F context.now machine.old (whole_text F context.now (tree_of text.now)) >>- λ r. finished F context.now r.1.world r.1.cut) }
+    ensures does { (F : Facts) → Extends outside.new.facts.now F
+        → GivesKnown MachineFault.Memory (λ o. o) result
+        (run F context.now machine.old (whole_text F context.now (tree_of text.now)) >>- λ r.
+        finished F context.now r.1.world r.1.cut) }
 {
     work_whole(text, context, machine, outside)?;
     outcome_of(machine, context, outside)
@@ -57,13 +62,16 @@ fn worked<S: System>(
     outside: &mut Outside<'_, S>,
 ) -> Result<Outcome, MachineFault>
     ensures asks { Asked S.events outside.old outside.new }
-    ensures does { (F : Facts) → Extends outside.new.facts.now F → GivesKnown MachineFault.Memory (λ o. o) result (outcome F context.now (tree_of text.now)) }
+    ensures does { (F : Facts) → Extends outside.new.facts.now F
+        → GivesKnown MachineFault.Memory (λ o. o) result
+        (outcome F context.now (tree_of text.now)) }
 {
     let mut machine = Machine::new(alloc, context)?;
     finish(text, context, &mut machine, outside)
 }
 
-/// Works a spec text: its job, and what it cost. It asks the system only where the table has no answer.
+/// Works a spec text: its job, and what it cost. It asks the system only where the table has no
+/// answer.
 ///
 /// # Errors
 /// The first refusal in the order of the text, those of pipes last; see `MachineFault`.
@@ -75,7 +83,9 @@ pub fn run<S: System>(
     facts: &mut FactTable,
 ) -> Result<Outcome, MachineFault>
     ensures asks { Asks (S.events sys.old) (S.events sys.new) facts.old facts.new }
-    ensures works { (F : Facts) → Extends facts.new F → GivesKnown MachineFault.Memory (λ o. o) result (outcome F context.now (tree_of tree.now)) }
+    ensures works { (F : Facts) → Extends facts.new F
+        → GivesKnown MachineFault.Memory (λ o. o) result
+        (outcome F context.now (tree_of tree.now)) }
 {
     worked(alloc, tree, context, &mut Outside { sys, facts })
 }

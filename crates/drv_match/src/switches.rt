@@ -214,8 +214,8 @@ impl<'a> Switches<'a> {
         &patterns[at..]
     }
 
-    /// Whether a pattern names so many switches of several names that to go over the line is less work than to sort their
-    /// places. Those of one name are in order.
+    /// Whether a pattern names so many switches of several names that to go over the line is less
+    /// work than to sort their places. Those of one name are in order.
     fn is_spread(&self, pattern: &Pattern<'_>) -> bool {
         match self.named(pattern) {
             named @ [first, .., last] => {

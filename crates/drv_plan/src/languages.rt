@@ -1,14 +1,17 @@
 //! The language of an input, and the text that it is worked with.
 
 ghost use Rattle.drv_machine.specs.declared.fault.MachineFault.TheVariants as machine;
-ghost use Rattle.drv_plan.specs.Languages.{by_language, by_suffix, is_of_language, is_standard_input, is_suffix_of, chosen_for, last_pair, last_text, pair_meaning};
+ghost use Rattle.drv_plan.specs.Languages.{by_language, by_suffix, is_of_language};
+ghost use Rattle.drv_plan.specs.Languages.{is_standard_input, is_suffix_of, chosen_for, last_pair};
+ghost use Rattle.drv_plan.specs.Languages.{last_text, pair_meaning};
 ghost use Rattle.drv_plan.specs.Code.Looking.{fits, shown};
 ghost use Rattle.drv_plan.specs.declared.fault.PlanFault.TheVariants as fault;
 ghost use Rattle.drv_specs.specs.Sets.{begins_with_at, is_no_text};
 ghost use Rattle.drv_words.specs.Gives.{Gives};
 ghost use Rattle.std.specs.List.{ends_with};
 ghost use Rattle.std.specs.Option.{option_map};
-ghost use Rattle.std.specs.Prelude.{◌≡◌, ◌≢◌, IfErr, None, Some, false, if◌then◌else◌, nat_eq, option_and_then, slice_get};
+ghost use Rattle.std.specs.Prelude.{◌≡◌, ◌≢◌, IfErr, None, Some, false, if◌then◌else◌, nat_eq};
+ghost use Rattle.std.specs.Prelude.{option_and_then, slice_get};
 
 use crate::PlanFault;
 use drv_args::Input;

@@ -2,11 +2,11 @@
 #![tactic(auto)]
 
 mod fault;
-mod progress;
 mod languages;
 mod laws;
 mod notices;
 mod planning;
+mod progress;
 mod sources;
 
 pub use fault::PlanFault;

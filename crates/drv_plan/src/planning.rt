@@ -1,15 +1,16 @@
 //! The plan of a line.
 
 ghost use Rattle.drv_machine.specs.declared.fault.MachineFault.TheVariants as machine;
-ghost use Rattle.drv_plan.specs.Denoted.{denoted, finished, plan_of, planned, then_by, with_command, with_inputs, with_link, with_text};
+ghost use Rattle.drv_plan.specs.Denoted.{denoted, finished, plan_of, planned, then_by};
+ghost use Rattle.drv_plan.specs.Denoted.{with_command, with_inputs, with_link, with_text};
 ghost use Rattle.drv_system.specs.Asking.{Asks, Extends};
 ghost use Rattle.drv_system.specs.Facts.{Facts};
 ghost use Rattle.drv_system.specs.Gives.{GivesKnown};
 ghost use Rattle.std.specs.Prelude.{◌≡◌, ◌==◌, ◌≢◌, IfErr, IfOk, Some, length};
 
 use crate::PlanFault;
-use crate::progress::Progress;
 use crate::notices::notices_of;
+use crate::progress::Progress;
 use crate::sources::add_inputs;
 use drv_args::{Input, Line};
 use drv_machine::Context;
@@ -84,7 +85,11 @@ fn link_of<S: System>(
 }
 
 /// The plan with this link. Jobs and notices are moved out of what the inputs have given.
-fn plan_of(alloc: Global, link: Option<Job>, progress: &mut Progress<'_>) -> Result<Plan, AllocError>
+fn plan_of(
+    alloc: Global,
+    link: Option<Job>,
+    progress: &mut Progress<'_>,
+) -> Result<Plan, AllocError>
     ensures { IfOk result (λ plan. plan ≡ plan_of (link, progress.old)) }
 {
     let notices = notices_of(alloc, &link, progress)?;

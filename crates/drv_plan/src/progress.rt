@@ -1,7 +1,8 @@
 //! How far a plan is: what goes on from one input of the line to the next.
 
 ghost use Rattle.drv_machine.specs.declared.fault.MachineFault.TheVariants as machine;
-ghost use Rattle.drv_plan.specs.Denoted.{begun, after_job, after_object, after_text, after_word, for_link, of_source, output_list, with_source, worked};
+ghost use Rattle.drv_plan.specs.Denoted.{begun, after_job, after_object, after_text, after_word};
+ghost use Rattle.drv_plan.specs.Denoted.{for_link, of_source, output_list, with_source, worked};
 ghost use Rattle.drv_system.specs.Asking.{Asks, Extends};
 ghost use Rattle.drv_system.specs.Facts.{Facts};
 ghost use Rattle.drv_system.specs.Gives.{GivesKnown};

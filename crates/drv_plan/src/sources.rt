@@ -8,8 +8,8 @@ ghost use Rattle.drv_system.specs.Gives.{GivesKnown};
 ghost use Rattle.std.specs.Prelude.{◌≡◌, ◌≢◌, IfErr, Ok};
 
 use crate::PlanFault;
-use crate::progress::Progress;
 use crate::languages::{Chosen, language};
+use crate::progress::Progress;
 use drv_args::Input;
 use drv_machine::Source;
 use drv_specs::SpecSet;

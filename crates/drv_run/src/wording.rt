@@ -1,7 +1,9 @@
 //! What a refusal is told as.
 
 ghost use Rattle.drv_run.specs.Exits.{told_of};
-ghost use Rattle.drv_run.specs.Texts.{args_text, around, at_byte, c99_text, funcs_text, machine_text, plan_text, refusal_line, refusal_text, search_text, specs_text, syntax_text};
+ghost use Rattle.drv_run.specs.Texts.{args_text, around, at_byte, c99_text, funcs_text};
+ghost use Rattle.drv_run.specs.Texts.{machine_text, plan_text, refusal_line, refusal_text};
+ghost use Rattle.drv_run.specs.Texts.{search_text, specs_text, syntax_text};
 ghost use Rattle.std.specs.Prelude.{◌≡◌, ◌++◌, OnOk, IfOk, decimal};
 
 use crate::ending::{Ending, Refusal};

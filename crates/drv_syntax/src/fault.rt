@@ -5,7 +5,8 @@ ghost use Rattle.std.specs.Prelude.{◌≡◌};
 use std::alloc::{AllocError, AllocFailed};
 use thiserror::Error;
 
-/// Why a spec text has no tree. A number is the place of the `%` concerned, in bytes from the start of the text.
+/// Why a spec text has no tree. A number is the place of the `%` concerned, in bytes from the start
+/// of the text.
 #[derive(Debug, Drop, Error)]
 pub enum SyntaxFault {
     /// An allocation was refused.
@@ -17,7 +18,8 @@ pub enum SyntaxFault {
     /// The text ends in this directive, or in the escape of this backslash.
     #[error("directive that does not end")]
     Unclosed(usize),
-    /// A `%*` that stands in no braces, or in braces that stand in no X, as in the arguments of a function that is a test.
+    /// A `%*` that stands in no braces, or in braces that stand in no X, as in the arguments of a
+    /// function that is a test.
     #[error("%* outside of braces")]
     StarOutside(usize),
     /// A `%*` whose alternative has a test that is no starred pattern, or no test.
@@ -29,7 +31,8 @@ pub enum SyntaxFault {
     /// A `%:` without the name of a function and a `(`.
     #[error("no such function")]
     UnknownFunction(usize),
-    /// A test or pattern without a word and a star, or an alternative without tests that is the only one or not the last.
+    /// A test or pattern without a word and a star, or an alternative without tests that is the
+    /// only one or not the last.
     #[error("condition without a word")]
     EmptyTest(usize),
     /// The text has more than 1,048,576 bytes.

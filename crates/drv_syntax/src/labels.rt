@@ -2,7 +2,8 @@
 
 ghost use Rattle.drv_syntax.specs.Labels.{no_label, part_label, star_label, word_label};
 ghost use Rattle.drv_syntax.specs.Code.Marks.{byte_labels, byte_marks};
-ghost use Rattle.std.specs.Prelude.{◌≡◌, ◌<◌, ◌≤◌, ◌+◌, ◌^◌, ◌++◌, ◌∷◌, [], false, length, Ok, slice_set, take, vec_capacity, vec_len};
+ghost use Rattle.std.specs.Prelude.{◌≡◌, ◌<◌, ◌≤◌, ◌+◌, ◌^◌, ◌++◌, ◌∷◌, [], false, length, Ok};
+ghost use Rattle.std.specs.Prelude.{slice_set, take, vec_capacity, vec_len};
 ghost use Rattle.drv_words.specs.Gives.{Gives};
 
 use crate::fault::SyntaxFault;
@@ -145,7 +146,8 @@ impl Labels {
     /// One more, which names this byte.
     #[tactic(auto, using(crate::proofs::MarkedWords::within_more, crate::proofs::MarkedWords::within_push, crate::proofs::MarkedWords::labels_added))]
     pub fn push_byte(&mut self, b: u8) -> Result<(), SyntaxFault>
-        ensures { Gives SyntaxFault.Memory (λ _. self.new) result (Ok (self.old ++ word_label (b ∷ []) ∷ [])) }
+        ensures { Gives SyntaxFault.Memory (λ _. self.new) result
+            (Ok (self.old ++ word_label (b ∷ []) ∷ [])) }
     {
         let start = self.words.len();
         self.words.push(b)?;
@@ -168,7 +170,8 @@ impl Labels {
     #[tactic(auto, using(crate::proofs::MarkedWords::within_more, crate::proofs::MarkedWords::within_run, crate::proofs::MarkedWords::labels_run))]
     #[inline(always)]
     pub fn push_bytes(&mut self, run: &[u8]) -> Result<(), SyntaxFault>
-        ensures { Gives SyntaxFault.Memory (λ _. self.new) result (Ok (self.old ++ byte_labels run.now)) }
+        ensures { Gives SyntaxFault.Memory (λ _. self.new) result
+            (Ok (self.old ++ byte_labels run.now)) }
     {
         self.marks.reserve(run.len())?;
         let start = self.words.len();
@@ -197,7 +200,8 @@ impl Labels {
         Ok(())
     }
 
-    /// The one at this place becomes that of an alternative, whose X has a `%*` of its own or has none.
+    /// The one at this place becomes that of an alternative, whose X has a `%*` of its own or has
+    /// none.
     #[tactic(auto, using(crate::proofs::MarkedWords::within_set, crate::proofs::MarkedWords::labels_set))]
     pub fn hold(&mut self, place: usize, holds_star: bool)
         ensures { self.new ≡ slice_set self.old place (star_label holds_star) }

@@ -10,17 +10,20 @@ ghost use Rattle.drv_syntax.specs.declared.fault.SyntaxFault.{SyntaxFault};
 ghost use Rattle.drv_syntax.specs.declared.fault.SyntaxFault.TheVariants.{TextTooLong, Unclosed};
 ghost use Rattle.std.specs.Prelude.{◌≡◌, ◌<◌, ◌≤◌, ◌+◌, ◌-◌, ◌++◌, Err, List, Ok, length, take, ℕ};
 
-/// A refused text is refused at the end of its shortest prefix that is no front: each prefix before it is a front, with that
-/// byte it is refused there whatever follows, and no text that begins so is a front.
+/// A refused text is refused at the end of its shortest prefix that is no front: each prefix before
+/// it is a front, with that byte it is refused there whatever follows, and no text that begins so
+/// is a front.
 pub fn shortest_prefix()
     ensures { (text : List ℕ) (k : ℕ) (fault : SyntaxFault) → read text ≡ Bad k fault
-        → (k < length text) × ((j : ℕ) → j ≤ k → Front (take j text)) × ((rest : List ℕ) → Front (take (k + 1) text ++ rest) → ⊥)
+        → (k < length text) × ((j : ℕ) → j ≤ k → Front (take j text))
+        × ((rest : List ℕ) → Front (take (k + 1) text ++ rest) → ⊥)
         × ((rest : List ℕ) → read (take (k + 1) text ++ rest) ≡ Bad k fault) }
 {}
 
 /// A text that has a front, which with the next byte is none, is refused at that byte.
 pub fn refused_after_front()
-    ensures { (text : List ℕ) (k : ℕ) → k < length text → Front (take k text) → (Front (take (k + 1) text) → ⊥) → (fault : SyntaxFault) × (read text ≡ Bad k fault) }
+    ensures { (text : List ℕ) (k : ℕ) → k < length text → Front (take k text)
+        → (Front (take (k + 1) text) → ⊥) → (fault : SyntaxFault) × (read text ≡ Bad k fault) }
 {}
 
 /// A text is refused at the byte after its longest prefix that is a front, and at no other.
@@ -38,7 +41,8 @@ pub fn front_prefix()
 
 /// A front that has no tree is cut short.
 pub fn cut_front()
-    ensures { (text : List ℕ) → Front text → ((items : Items) → Spells text items → ⊥) → (at : ℕ) × (read text ≡ Cut at) }
+    ensures { (text : List ℕ) → Front text → ((items : Items) → Spells text items → ⊥)
+        → (at : ℕ) × (read text ≡ Cut at) }
 {}
 
 /// A text that is cut short is cut at the place of what is open at its end, and at no other.
@@ -72,14 +76,18 @@ pub fn unrefused_is_front()
     ensures { (text : List ℕ) → Unrefused text → Front text }
 {}
 
-/// A text that ends in the byte that no longer fits is refused at that byte, whatever follows, by the fault of its case.
+/// A text that ends in the byte that no longer fits is refused at that byte, whatever follows, by
+/// the fault of its case.
 pub fn refusal_kinds()
-    ensures { (text rest : List ℕ) (fault : SyntaxFault) → IsRefused text fault → read (text ++ rest) ≡ Bad (length text - 1) fault }
+    ensures { (text rest : List ℕ) (fault : SyntaxFault) → IsRefused text fault
+        → read (text ++ rest) ≡ Bad (length text - 1) fault }
 {}
 
-/// A text that is refused has at its place one of these cases: up to that byte it is refused for this fault by the grammar.
+/// A text that is refused has at its place one of these cases: up to that byte it is refused for
+/// this fault by the grammar.
 pub fn refused_kinds()
-    ensures { (text : List ℕ) (k : ℕ) (fault : SyntaxFault) → read text ≡ Bad k fault → IsRefused (take (k + 1) text) fault }
+    ensures { (text : List ℕ) (k : ℕ) (fault : SyntaxFault) → read text ≡ Bad k fault
+        → IsRefused (take (k + 1) text) fault }
 {}
 
 /// A text is refused for a fault exactly where the grammar refuses it for that one.
@@ -90,11 +98,14 @@ pub fn refused_by_grammar()
         → Refused text fault → parsed text ≡ Err fault }
 {}
 
-/// What a text is parsed to, by the grammar: its tree, the fault of its shortest prefix that is no front, that it is cut
-/// short, with the place of what it leaves open, or that it is too long.
+/// What a text is parsed to, by the grammar: its tree, the fault of its shortest prefix that is no
+/// front, that it is cut short, with the place of what it leaves open, or that it is too long.
 pub fn parsed_by_grammar()
-    ensures tree { (text : List ℕ) (items : Items) → length text ≤ text_limit → Spells text items → parsed text ≡ Ok items }
-    ensures refusal { (text rest : List ℕ) (fault : SyntaxFault) → length (text ++ rest) ≤ text_limit → IsRefused text fault → parsed (text ++ rest) ≡ Err fault }
+    ensures tree { (text : List ℕ) (items : Items) → length text ≤ text_limit → Spells text items
+        → parsed text ≡ Ok items }
+    ensures refusal { (text rest : List ℕ) (fault : SyntaxFault)
+        → length (text ++ rest) ≤ text_limit → IsRefused text fault
+        → parsed (text ++ rest) ≡ Err fault }
     ensures cut { (text : List ℕ) → length text ≤ text_limit → Front text
         → ((items : Items) → Spells text items → ⊥)
         → (place : ℕ) × IsCutAt text place × (parsed text ≡ Err (Unclosed place)) }

@@ -8,7 +8,8 @@ use crate::labels::Mark;
 use crate::token::TestKind;
 use std::marker::Model;
 
-/// The labels of the parts of a text, in the order of their tokens, by the words that they name and where each stands.
+/// The labels of the parts of a text, in the order of their tokens, by the words that they name and
+/// where each stands.
 #[derive(Drop)]
 pub struct LentLabels<'a> {
     words: &'a [u8],

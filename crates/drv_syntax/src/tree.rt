@@ -31,7 +31,8 @@ enum Parts {
     Written(WrittenTree),
 }
 
-/// A spec text that has a tree, the list of its parts and what they name. Clauses see the text; its tree is `tree_of` it.
+/// A spec text that has a tree, the list of its parts and what they name. Clauses see the text; its
+/// tree is `tree_of` it.
 #[derive(Drop)]
 pub struct SpecTree {
     text: Vec<u8>,
@@ -101,8 +102,8 @@ impl SpecTree {
         LentLabels::new(tree.words, tree.marks)
     }
 
-    /// What the part at this place names, without escapes: a byte, a suffix, an option, a text, a name, or the word of a
-    /// pattern or a test; empty for other parts.
+    /// What the part at this place names, without escapes: a byte, a suffix, an option, a text, a
+    /// name, or the word of a pattern or a test; empty for other parts.
     pub fn word(&self, place: usize) -> &[u8]
         requires { place < length (tokens_of (tree_of self.now)) }
         ensures { result.now ≡ (label_at (tree_of self.now) place).word }
@@ -134,7 +135,8 @@ impl SpecTree {
         self.labels().asks(place)
     }
 
-    /// Whether the X of the alternative at this place has a `%*` of its own, one that stands outside the Xs of inner braces.
+    /// Whether the X of the alternative at this place has a `%*` of its own, one that stands
+    /// outside the Xs of inner braces.
     pub fn holds_star(&self, place: usize) -> bool
         requires { place < length (tokens_of (tree_of self.now)) }
         ensures { result ≡ (label_at (tree_of self.now) place).holds_star }
@@ -142,8 +144,9 @@ impl SpecTree {
         self.labels().holds_star(place)
     }
 
-    /// The tree of the text with more after it, or its first fault. What was read of the text isn't read again where an item ends
-    /// with it, or where a blank follows that ends the last one: where it doesn't end in a text for the user.
+    /// The tree of the text with more after it, or its first fault. What was read of the text isn't
+    /// read again where an item ends with it, or where a blank follows that ends the last one:
+    /// where it doesn't end in a text for the user.
     #[tactic(auto, using(crate::proofs::WalkReads::parsed_long, crate::proofs::Resuming::tree_more, crate::proofs::Resuming::fault_more, crate::proofs::Resuming::ended_more, crate::proofs::Resuming::short_kept))]
     pub fn extended(self, alloc: Global, more: &[u8]) -> Result<SpecTree, SyntaxFault>
         ensures tree { Gives SyntaxFault.Memory tree_of result (parsed (self ++ more.now)) }

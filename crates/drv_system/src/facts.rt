@@ -1,7 +1,8 @@
 //! The first answers to what was asked.
 
 ghost use Rattle.drv_system.specs.Asking.{Asks, Consults};
-ghost use Rattle.drv_system.specs.Facts.{first_kind, first_read, first_variable, kind_of, learn, no_facts, read_of, variable_of};
+ghost use Rattle.drv_system.specs.Facts.{first_kind, first_read, first_variable, kind_of, learn};
+ghost use Rattle.drv_system.specs.Facts.{no_facts, read_of, variable_of};
 ghost use Rattle.drv_system.specs.declared.event.Event.{Event};
 ghost use Rattle.drv_system.specs.declared.event.Event.TheVariants as event;
 ghost use Rattle.std.specs.Option.{option_copied};

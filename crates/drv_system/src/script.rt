@@ -2,7 +2,11 @@
 
 ghost use Rattle.drv_system.specs.Limit.{IsWithinLimit};
 ghost use Rattle.drv_system.specs.Running.{is_told, made, run_of};
-ghost use Rattle.drv_system.specs.Script.{behind, children_after, claim_in, front, read_as, removal_in, script_children, scripted_claim, scripted_kind, scripted_read, scripted_removal, scripted_start, scripted_telling, scripted_variable, scripted_wait, start_in, start_numbered, wait_in};
+ghost use Rattle.drv_system.specs.Script.{behind, children_after, claim_in, front, read_as};
+ghost use Rattle.drv_system.specs.Script.{removal_in, script_children, scripted_claim};
+ghost use Rattle.drv_system.specs.Script.{scripted_kind, scripted_read, scripted_removal};
+ghost use Rattle.drv_system.specs.Script.{scripted_start, scripted_telling, scripted_variable};
+ghost use Rattle.drv_system.specs.Script.{scripted_wait, start_in, start_numbered, wait_in};
 ghost use Rattle.drv_system.specs.declared.event.Event.TheVariants as event;
 ghost use Rattle.drv_system.specs.declared.event.TellAnswer.TheVariants as tell;
 ghost use Rattle.drv_words.specs.Stepping.{fits_start};
@@ -11,7 +15,8 @@ ghost use Rattle.drv_words.specs.declared.steps.Step.TheVariants as step;
 ghost use Rattle.std.specs.Cmp.Lexicographic.{pointwise};
 ghost use Rattle.std.specs.Map.{lookup};
 ghost use Rattle.std.specs.Option.{option_copied};
-ghost use Rattle.std.specs.Prelude.{◌≡◌, ◌+◌, ◌<◌, ◌≤◌, ◌∷◌, ◌++◌, [], IfOk, OnErr, OnOk, drop, false, if◌then◌else◌, is_some, nat_eq, slice_get, true};
+ghost use Rattle.std.specs.Prelude.{◌≡◌, ◌+◌, ◌<◌, ◌≤◌, ◌∷◌, ◌++◌, [], IfOk, OnErr, OnOk, drop};
+ghost use Rattle.std.specs.Prelude.{false, if◌then◌else◌, is_some, nat_eq, slice_get, true};
 
 use crate::noting::{note_kind, note_put, note_read, note_said, note_variable};
 use crate::{Event, MOST_BYTES, PathKind, ReadAnswer, System, TellAnswer};

@@ -7,7 +7,8 @@ ghost use Rattle.drv_words.specs.Places.{is_command, is_file, is_note, is_temp};
 ghost use Rattle.drv_words.specs.Stepping.{fits_start, pipe_pending};
 ghost use Rattle.drv_words.specs.declared.answers.Answer.TheVariants as answer;
 ghost use Rattle.drv_words.specs.declared.steps.Step.TheVariants as step;
-ghost use Rattle.std.specs.Prelude.{◌≡◌, ◌+◌, ◌<◌, ◌≤◌, ◌∷◌, ◌++◌, [], IfOk, List, OnErr, OnOk, true, ℕ};
+ghost use Rattle.std.specs.Prelude.{◌≡◌, ◌+◌, ◌<◌, ◌≤◌, ◌∷◌, ◌++◌, [], IfOk, List, OnErr, OnOk};
+ghost use Rattle.std.specs.Prelude.{true, ℕ};
 
 use crate::{Event, PathKind, ReadAnswer, TellAnswer};
 use drv_words::{ClaimAnswer, Note, Place, Plan, RemoveAnswer, StartAnswer, WaitAnswer, Word};

@@ -1,5 +1,6 @@
-//! How the answers to the steps of a run are written: claimed, taken, unclaimed; started, refused; signal, lost; removed, missing,
-//! kept, unremoved. A script says an exit status by its number alone, and each number of a child is the next one.
+//! How the answers to the steps of a run are written: claimed, taken, unclaimed; started, refused;
+//! signal, lost; removed, missing, kept, unremoved. A script says an exit status by its number
+//! alone, and each number of a child is the next one.
 
 use crate::names::named;
 use crate::transcript::Transcript;

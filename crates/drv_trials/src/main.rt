@@ -1,4 +1,5 @@
-//! Trials of parts of the driver, for tables of worked ones. The first word says what is tried, and what came of it is printed:
+//! Trials of parts of the driver, for tables of worked ones. The first word says what is tried, and
+//! what came of it is printed:
 //!
 //! ```text
 //! call CALL ARG..         a single call of the library, as `calls` says, over a script

@@ -1,5 +1,6 @@
-//! Runs over the script of standard input: of a plan, and of whole calls of the driver. What is printed are the steps with their
-//! answers, and the status; of a plan also how many events it needs at most; of a call also what was said, and how it ended.
+//! Runs over the script of standard input: of a plan, and of whole calls of the driver. What is
+//! printed are the steps with their answers, and the status; of a plan also how many events it
+//! needs at most; of a call also what was said, and how it ended.
 
 ghost use Rattle.std.specs.Prelude.{◌≡◌, ◌≤◌, [], IfSome};
 
@@ -36,7 +37,8 @@ fn window_of(word: &Word) -> Option<usize>
     None
 }
 
-/// What was said, and the steps with their answers. Parts of a plan that isn't known are named by their numbers.
+/// What was said, and the steps with their answers. Parts of a plan that isn't known are named by
+/// their numbers.
 fn add_events(
     events: &[Event],
     plan: Option<&Plan>,
@@ -111,7 +113,8 @@ fn run_lines(
     }
 }
 
-/// Makes the run of the plan that standard input says, with at most so many sources under way at once.
+/// Makes the run of the plan that standard input says, with at most so many sources under way at
+/// once.
 pub fn try_plan(
     rt: &HostRuntime,
     manner: Manner,
@@ -123,7 +126,14 @@ pub fn try_plan(
         return Ok(out.add(b"a window is 1 to 64\n")?);
     };
     let lines = read_lines(rt)?;
-    Ok(run_lines(rt.alloc(), lines.as_slice(), manner, window, pass_codes, out)?)
+    Ok(run_lines(
+        rt.alloc(),
+        lines.as_slice(),
+        manner,
+        window,
+        pass_codes,
+        out,
+    )?)
 }
 
 fn add_refusal(alloc: Global, refusal: &Refusal, out: &mut Transcript) -> Result<(), AllocError> {
@@ -148,7 +158,8 @@ fn is_step(event: &Event) -> bool {
 /// What a call did and how it ended.
 ///
 /// # Errors
-/// Want of memory, also where the call ended so, unless it made a step before: that is printed, and is wrong.
+/// Want of memory, also where the call ended so, unless it made a step before: that is printed, and
+/// is wrong.
 fn add_call(
     alloc: Global,
     events: &[Event],

@@ -1,4 +1,5 @@
-//! The script that answers in a machine's place. Standard input says what it has, a line each, words written as in a response file:
+//! The script that answers in a machine's place. Standard input says what it has, a line each,
+//! words written as in a response file:
 //!
 //! ```text
 //! file PATH TEXT         a file of these bytes; without a text it cannot be read

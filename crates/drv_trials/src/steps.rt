@@ -1,4 +1,5 @@
-//! The steps of a run, made on this machine. Each line of a file is a step, its words written as in a response file:
+//! The steps of a run, made on this machine. Each line of a file is a step, its words written as in
+//! a response file:
 //!
 //! ```text
 //! claim PATH CONTENTS      make a new file

@@ -57,8 +57,8 @@ pub enum RemoveAnswer {
     Failed,
 }
 
-/// The answer to a step of a run: to a claim, a start, the closing of a pipe, a wait, a removal, or a report
-/// with whether it was told.
+/// The answer to a step of a run: to a claim, a start, the closing of a pipe, a wait, a removal, or
+/// a report with whether it was told.
 #[derive(Clone, Copy, Debug, PartialEq, Eq)]
 pub enum Answer {
     Claim(ClaimAnswer),

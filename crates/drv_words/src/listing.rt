@@ -1,6 +1,7 @@
 //! An owned list that contracts see as the list of its items.
 
-ghost use Rattle.std.specs.Prelude.{◌≡◌, ◌∷◌, ◌++◌, [], IfErr, IfOk, List, OnErr, OnOk, length, ◌↔◌, IsTrue};
+ghost use Rattle.std.specs.Prelude.{◌≡◌, ◌∷◌, ◌++◌, [], IfErr, IfOk, List, OnErr, OnOk, length};
+ghost use Rattle.std.specs.Prelude.{◌↔◌, IsTrue};
 
 use std::alloc::{AllocError, AllocFailed, Global};
 use std::marker::Model;

@@ -1,6 +1,7 @@
 //! The plan of a driver: jobs of command groups, what they leave behind, and the link.
 
-ghost use Rattle.std.specs.Prelude.{◌≡◌, ◌==◌, ◌<◌, ◌∷◌, ◌++◌, [], None, OnErr, OnOk, IfErr, Some, if◌then◌else◌, length};
+ghost use Rattle.std.specs.Prelude.{◌≡◌, ◌==◌, ◌<◌, ◌∷◌, ◌++◌, [], None, OnErr, OnOk, IfErr, Some};
+ghost use Rattle.std.specs.Prelude.{if◌then◌else◌, length};
 
 use crate::{Listing, Word};
 use std::alloc::{AllocError, AllocFailed, Global};
@@ -69,7 +70,8 @@ impl Group {
         self.commands.as_slice()
     }
 
-    /// Adds a command at the end of the pipe. On an error the group is as it was, and the command comes back.
+    /// Adds a command at the end of the pipe. On an error the group is as it was, and the command
+    /// comes back.
     pub fn push(&mut self, command: Command) -> Result<(), AllocFailed<Command>>
         ensures ok { OnOk result (self.new ≡ self.old ++ command ∷ []) }
         ensures err { OnErr result (self.new ≡ self.old) }
@@ -89,8 +91,8 @@ pub struct Temp {
 /// The work on one source, or the link.
 #[derive(Debug, Drop)]
 pub struct Job {
-    /// The place of the source among the line's inputs; none for the link, and in a job as `run` of the machine
-    /// answers it.
+    /// The place of the source among the line's inputs; none for the link, and in a job as `run` of
+    /// the machine answers it.
     pub source: Option<usize>,
     /// The groups, one after another.
     pub groups: Listing<Group>,

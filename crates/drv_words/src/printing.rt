@@ -1,7 +1,8 @@
 //! The lines of a plan, and their text.
 
 ghost use Rattle.drv_words.specs.Lines.{group_lines, job_lines, lines_of};
-ghost use Rattle.drv_words.specs.Printed.{Shows, end_text, line_text, lines_text, quoted, words_text};
+ghost use Rattle.drv_words.specs.Printed.{Shows, end_text, line_text, lines_text, quoted};
+ghost use Rattle.drv_words.specs.Printed.{words_text};
 ghost use Rattle.std.specs.List.{flat_map};
 ghost use Rattle.std.specs.Prelude.{◌≡◌, ◌∷◌, ◌++◌, IfOk, OnOk};
 
@@ -33,8 +34,8 @@ fn push_job(lines: &mut Listing<PlanLine>, job: &Job) -> Result<(), AllocError>
     Ok(())
 }
 
-/// The lines of a plan: the commands of its jobs in order, then those of the link. Each is piped unless it is
-/// the last of its group.
+/// The lines of a plan: the commands of its jobs in order, then those of the link. Each is piped
+/// unless it is the last of its group.
 pub fn plan_lines(alloc: Global, plan: &Plan) -> Result<Listing<PlanLine>, AllocError>
     ensures { IfOk result (λ lines. lines ≡ lines_of plan.now) }
 {
@@ -68,7 +69,8 @@ fn push_words(text: &mut Vec<u8>, words: &[Word]) -> Result<(), AllocError>
 
 /// Adds the words of a command.
 fn push_command(text: &mut Vec<u8>, command: &Command) -> Result<(), AllocError>
-    ensures { OnOk result (text.new.items ≡ text.old.items ++ words_text (command.now.program ∷ command.now.words)) }
+    ensures { OnOk result (text.new.items ≡ text.old.items
+        ++ words_text (command.now.program ∷ command.now.words)) }
 {
     push_word(text, &command.program)?;
     push_words(text, command.words.as_slice())
@@ -90,8 +92,8 @@ fn push_line(text: &mut Vec<u8>, line: &PlanLine) -> Result<(), AllocError>
     push_end(text, line.piped)
 }
 
-/// The text of lines: of each a space before each word in its printed form, ` |` where it is piped, and a
-/// newline. It makes no copy of a word.
+/// The text of lines: of each a space before each word in its printed form, ` |` where it is piped,
+/// and a newline. It makes no copy of a word.
 pub fn render(alloc: Global, lines: &[PlanLine]) -> Result<Word, AllocError>
     ensures text { IfOk result (λ text. text ≡ lines_text lines.now) }
     ensures shows { IfOk result (λ text. Shows text lines.now) }
@@ -105,7 +107,8 @@ pub fn render(alloc: Global, lines: &[PlanLine]) -> Result<Word, AllocError>
 
 /// Adds the text of a group's lines.
 fn push_group_text(text: &mut Vec<u8>, commands: &[Command]) -> Result<(), AllocError>
-    ensures { OnOk result (text.new.items ≡ text.old.items ++ lines_text (group_lines commands.now)) }
+    ensures { OnOk result (text.new.items ≡ text.old.items
+        ++ lines_text (group_lines commands.now)) }
 {
     for (index, command) in commands.iter().enumerate() {
         push_command(text, command)?;
@@ -126,7 +129,8 @@ fn push_job_text(text: &mut Vec<u8>, job: &Job) -> Result<(), AllocError>
 
 /// Adds the text of the lines of a plan's jobs.
 fn push_jobs_text(text: &mut Vec<u8>, jobs: &[Job]) -> Result<(), AllocError>
-    ensures { OnOk result (text.new.items ≡ text.old.items ++ lines_text (flat_map job_lines jobs.now)) }
+    ensures { OnOk result (text.new.items ≡ text.old.items
+        ++ lines_text (flat_map job_lines jobs.now)) }
 {
     for job in jobs {
         push_job_text(text, job)?;

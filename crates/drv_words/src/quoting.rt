@@ -1,14 +1,16 @@
 //! The printed form of a word.
 
-ghost use Rattle.drv_words.specs.Printed.{ShowsWord, is_bare, is_plain, is_special, quoted, escaped};
+ghost use Rattle.drv_words.specs.Printed.{ShowsWord, is_bare, is_plain, is_special, quoted};
+ghost use Rattle.drv_words.specs.Printed.{escaped};
 ghost use Rattle.std.specs.List.{list_all};
 ghost use Rattle.std.specs.Prelude.{◌≡◌, ◌++◌, IfOk, OnOk};
 
 use crate::Word;
 use std::alloc::{AllocError, Global};
 
-/// Whether a byte needs no quotes: a letter, a digit or one of `./-_`. Small letters come first, since most bytes are
-/// those, and what is below decides alone; `-`, `.` and `/` stand right before the digits.
+/// Whether a byte needs no quotes: a letter, a digit or one of `./-_`. Small letters come first,
+/// since most bytes are those, and what is below decides alone; `-`, `.` and `/` stand right before
+/// the digits.
 pub(crate) fn is_plain_byte(byte: u8) -> bool
     ensures { result ≡ is_plain byte }
 {
@@ -69,8 +71,9 @@ pub(crate) fn push_quoted(text: &mut Vec<u8>, word: &Word) -> Result<(), AllocEr
     Ok(())
 }
 
-/// The printed form of a word, as in a line of `-###`: a word of letters, digits and `./-_` stands as it is,
-/// any other in double quotes with a backslash before `"`, `\` and `$` (GCC manual, "Overall Options").
+/// The printed form of a word, as in a line of `-###`: a word of letters, digits and `./-_` stands
+/// as it is, any other in double quotes with a backslash before `"`, `\` and `$` (GCC manual,
+/// "Overall Options").
 pub fn quote(alloc: Global, word: &Word) -> Result<Word, AllocError>
     ensures text { IfOk result (λ text. text ≡ quoted word.now) }
     ensures shows { IfOk result (λ text. ShowsWord text word.now) }

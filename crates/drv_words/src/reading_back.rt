@@ -1,7 +1,9 @@
 //! Reading printed lines back.
 
 ghost use Rattle.drv_words.specs.Printed.{Shows};
-ghost use Rattle.drv_words.specs.Code.LineReader.{at_word, bare, after_bar, between, escape, finished, inside, lines_read, start, step, with_line, with_word};
+ghost use Rattle.drv_words.specs.Code.LineReader.{at_word, bare, after_bar, between, escape};
+ghost use Rattle.drv_words.specs.Code.LineReader.{finished, inside, lines_read, start, step};
+ghost use Rattle.drv_words.specs.Code.LineReader.{with_line, with_word};
 ghost use Rattle.drv_words.specs.declared.plan.PlanLine.{PlanLine};
 ghost use Rattle.std.specs.Prelude.{◌≡◌, IfOk, IfSome, List, OnOk, Some, ℕ};
 
@@ -195,11 +197,12 @@ fn read_lines(alloc: Global, text: &[u8]) -> Result<Option<Listing<PlanLine>>, A
     Ok(reader.finish())
 }
 
-/// The lines that a text shows, or none if it is not the text of lines as [`render`](crate::render) gives it,
-/// byte for byte.
+/// The lines that a text shows, or none if it is not the text of lines as [`render`](crate::render)
+/// gives it, byte for byte.
 pub fn read_back(alloc: Global, text: &[u8]) -> Result<Option<Listing<PlanLine>>, AllocError>
     ensures shown { IfOk result (λ found. IfSome found (λ lines. Shows text.now lines)) }
-    ensures always { IfOk result (λ found. (lines : List PlanLine) → Shows text.now lines → found ≡ Some lines) }
+    ensures always { IfOk result (λ found. (lines : List PlanLine) → Shows text.now lines
+        → found ≡ Some lines) }
 {
     read_lines(alloc, text)
 }

@@ -1,8 +1,12 @@
 //! The text of response files, both ways.
 
-ghost use Rattle.drv_words.specs.Response.{Splits, is_marked, is_quote, is_space, marked, response, response_text};
-ghost use Rattle.drv_words.specs.Code.Splitter.{ended, is_outside, opened, plain_length, plain_step, quoted_step, start, step, with_byte, with_bytes, words_of};
-ghost use Rattle.std.specs.Prelude.{◌≡◌, ◌<◌, ◌≤◌, ◌∷◌, ◌++◌, [], IfOk, List, OnOk, length, true, ℕ};
+ghost use Rattle.drv_words.specs.Response.{Splits, is_marked, is_quote, is_space, marked, response};
+ghost use Rattle.drv_words.specs.Response.{response_text};
+ghost use Rattle.drv_words.specs.Code.Splitter.{ended, is_outside, opened, plain_length};
+ghost use Rattle.drv_words.specs.Code.Splitter.{plain_step, quoted_step, start, step, with_byte};
+ghost use Rattle.drv_words.specs.Code.Splitter.{with_bytes, words_of};
+ghost use Rattle.std.specs.Prelude.{◌≡◌, ◌<◌, ◌≤◌, ◌∷◌, ◌++◌, [], IfOk, List, OnOk, length, true};
+ghost use Rattle.std.specs.Prelude.{ℕ};
 
 use crate::{Listing, Word};
 use std::alloc::{AllocError, Global};
@@ -28,7 +32,8 @@ fn is_marked_byte(byte: u8) -> bool
     is_space_byte(byte) || is_quote_byte(byte) || byte == b'\\'
 }
 
-/// How many bytes at the front of a text are plain: before the first white space, quote or backslash.
+/// How many bytes at the front of a text are plain: before the first white space, quote or
+/// backslash.
 fn plain_length(text: &[u8]) -> usize
     ensures value { result ≡ plain_length text.now }
     ensures within { result ≤ length text.now }
@@ -40,8 +45,8 @@ fn plain_length(text: &[u8]) -> usize
     count
 }
 
-/// A splitter of response text: the words that ended, the word that is open, the quote of its run, and whether
-/// the last byte was a backslash that stands for the next.
+/// A splitter of response text: the words that ended, the word that is open, the quote of its run,
+/// and whether the last byte was a backslash that stands for the next.
 #[derive(Drop)]
 struct Splitter {
     words: Listing<Word>,
@@ -158,8 +163,8 @@ impl Splitter {
         !self.escaped && self.quote.is_none()
     }
 
-    /// Takes a run of plain bytes at the front of a text outside quotes, with the white space after it where that ends a word,
-    /// and gives the rest.
+    /// Takes a run of plain bytes at the front of a text outside quotes, with the white space after
+    /// it where that ends a word, and gives the rest.
     fn take_run<'a>(
         &mut self,
         alloc: Global,
@@ -170,7 +175,8 @@ impl Splitter {
         requires run { count ≡ plain_length text.now }
         requires within { count ≤ length text.now }
         requires some { 0 < count }
-        ensures goes { IfOk result (λ rest. words_of self.new rest.now ≡ words_of self.old text.now) }
+        ensures goes { IfOk result (λ rest. words_of self.new rest.now
+            ≡ words_of self.old text.now) }
         ensures shorter { IfOk result (λ rest. length rest.now < length text.now) }
     {
         let (run, rest) = text.split_at(count);
@@ -189,7 +195,8 @@ impl Splitter {
     /// Takes the front of a text: a run of plain bytes, or one byte. Gives the rest.
     fn take_front<'a>(&mut self, alloc: Global, text: &'a [u8]) -> Result<&'a [u8], AllocError>
         requires { 0 < length text.now }
-        ensures goes { IfOk result (λ rest. words_of self.new rest.now ≡ words_of self.old text.now) }
+        ensures goes { IfOk result (λ rest. words_of self.new rest.now
+            ≡ words_of self.old text.now) }
         ensures shorter { IfOk result (λ rest. length rest.now < length text.now) }
     {
         if self.is_outside() {
@@ -216,11 +223,12 @@ fn split_text(alloc: Global, text: &[u8]) -> Result<Listing<Word>, AllocError>
     Ok(splitter.words)
 }
 
-/// The words of a response file's text: separated by white space, with quoted runs and backslashes (GCC
-/// manual, "Overall Options", `@file`). Every text has one list of words.
+/// The words of a response file's text: separated by white space, with quoted runs and backslashes
+/// (GCC manual, "Overall Options", `@file`). Every text has one list of words.
 pub fn split(alloc: Global, text: &[u8]) -> Result<Listing<Word>, AllocError>
     ensures words { IfOk result (λ words. Splits text.now words) }
-    ensures only { IfOk result (λ words. (others : List (List ℕ)) → Splits text.now others → words ≡ others) }
+    ensures only { IfOk result (λ words. (others : List (List ℕ)) → Splits text.now others
+        → words ≡ others) }
 {
     split_text(alloc, text)
 }
@@ -254,8 +262,8 @@ fn push_response(text: &mut Word, word: &Word) -> Result<(), AllocError>
     }
 }
 
-/// The text of a response file that stands for these words: a line each, with a backslash before white space,
-/// quotes and backslash, and the empty word as `""`. [`split`] gives the words back.
+/// The text of a response file that stands for these words: a line each, with a backslash before
+/// white space, quotes and backslash, and the empty word as `""`. [`split`] gives the words back.
 pub fn respond_text(alloc: Global, words: &[Word]) -> Result<Word, AllocError>
     ensures text { IfOk result (λ text. text ≡ response_text words.now) }
     ensures again { IfOk result (λ text. Splits text words.now) }

@@ -2,8 +2,8 @@
 
 use crate::Answer;
 
-/// A part of a plan. Jobs are numbered from 0 in the order of the plan, and the link's number is that of the jobs; groups,
-/// commands and files are numbered from 0 in the order of their lists.
+/// A part of a plan. Jobs are numbered from 0 in the order of the plan, and the link's number is
+/// that of the jobs; groups, commands and files are numbered from 0 in the order of their lists.
 #[derive(Clone, Copy, Debug, PartialEq, Eq)]
 pub enum Place {
     /// A command of a group.

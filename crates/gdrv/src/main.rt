@@ -1,5 +1,5 @@
-//! The driver: a command line in, its commands carried out; its plan or its refusal on standard error, or the specs on
-//! standard output.
+//! The driver: a command line in, its commands carried out; its plan or its refusal on standard
+//! error, or the specs on standard output.
 #![tactic(auto)]
 
 ghost use Rattle.drv_run.specs.Exits.{exit_status_of};

@@ -84,7 +84,8 @@ fn expanded(
     Ok(words)
 }
 
-/// The words of this process's line as gcc takes them: response files expanded, and those of c99 turned into gcc's.
+/// The words of this process's line as gcc takes them: response files expanded, and those of c99
+/// turned into gcc's.
 pub fn line_words(
     rt: &HostRuntime,
     calling: &Calling,
@@ -103,7 +104,8 @@ fn variable(alloc: Global, sys: &mut HostSystem, name: &[u8]) -> Result<Option<W
     sys.variable(&Word::from_bytes(alloc, name)?)
 }
 
-/// The path of the spec file beside this program; none where the system doesn't say where the program lies.
+/// The path of the spec file beside this program; none where the system doesn't say where the
+/// program lies.
 fn own_specs(rt: &HostRuntime, machine: &[u8]) -> Result<Option<Word>, AllocError> {
     match current_exe(rt) {
         Ok(program) => Ok(Some(beside(rt.alloc(), program.as_str().as_bytes(), machine)?)),
@@ -186,7 +188,8 @@ fn without_compiler(alloc: Global, calling: &Calling, specs: &Word) -> Result<Wo
     )
 }
 
-/// What the front takes from outside the line: the compiler of the spec file with its folders, and the folders of two variables.
+/// What the front takes from outside the line: the compiler of the spec file with its folders, and
+/// the folders of two variables.
 pub fn surroundings(
     alloc: Global,
     calling: &Calling,

@@ -1,6 +1,7 @@
 //! By which name the program was called.
 
-ghost use Rattle.gdrv_cc.specs.Calling.{before_ending, calling_of, folder, for_machine, is_c99, last_from, last_part, machine_of, named};
+ghost use Rattle.gdrv_cc.specs.Calling.{before_ending, calling_of, folder, for_machine, is_c99};
+ghost use Rattle.gdrv_cc.specs.Calling.{last_from, last_part, machine_of, named};
 ghost use Rattle.std.specs.Option.{option_copied, option_map};
 ghost use Rattle.std.specs.Prelude.{◌≡◌, IfOk};
 
@@ -75,7 +76,8 @@ fn is_c99(name: &[u8]) -> bool
 
 /// A call by these names.
 fn made(alloc: Global, name: &[u8], machine: &[u8], front: Front) -> Result<Calling, AllocError>
-    ensures { IfOk result (λ calling. calling ≡ record { name = name.now; machine = machine.now; front = front }) }
+    ensures { IfOk result (λ calling. calling
+        ≡ record { name = name.now; machine = machine.now; front = front }) }
 {
     let name = Word::from_bytes(alloc, name)?;
     let machine = Word::from_bytes(alloc, machine)?;
@@ -99,8 +101,8 @@ fn named(alloc: Global, name: &[u8]) -> Result<Calling, AllocError>
     }
 }
 
-/// What the path by which the program was called says of the call: `c99` and `c99-gdrv` read a line of c99, and `MACHINE-gdrv-cc`
-/// compiles for that machine. By any other name it is `gdrv-cc`.
+/// What the path by which the program was called says of the call: `c99` and `c99-gdrv` read a line
+/// of c99, and `MACHINE-gdrv-cc` compiles for that machine. By any other name it is `gdrv-cc`.
 pub fn calling_of(alloc: Global, path: &[u8]) -> Result<Calling, AllocError>
     ensures { IfOk result (λ calling. calling ≡ calling_of path.now) }
 {

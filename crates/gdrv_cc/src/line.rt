@@ -39,7 +39,8 @@ fn unknown_switches(alloc: Global, refusals: &[Refusal]) -> Result<Listing<Word>
     Ok(switches)
 }
 
-/// The names of switches that the spec files of a line have, where it is refused for words that they may name.
+/// The names of switches that the spec files of a line have, where it is refused for words that
+/// they may name.
 fn named_by_files(
     alloc: Global,
     known: &[Word],
@@ -55,8 +56,8 @@ fn named_by_files(
     }
 }
 
-/// What a line comes to, where these are the names of the compiler's options. The spec files of the line are read only where a word of
-/// it is none of these.
+/// What a line comes to, where these are the names of the compiler's options. The spec files of the
+/// line are read only where a word of it is none of these.
 fn answer_with(
     alloc: Global,
     known: &[Word],
@@ -64,7 +65,8 @@ fn answer_with(
     words: &[Word],
     sys: &mut HostSystem,
 ) -> Result<Answer, AllocError>
-    ensures { IfOk result (λ answer. (named : List (List ℕ)) × (answer ≡ front_of known.now named around.now words.now)) }
+    ensures { IfOk result (λ answer. (named : List (List ℕ))
+        × (answer ≡ front_of known.now named around.now words.now)) }
 {
     let answer = front(alloc, known, &[], around, words)?;
     let Answer::Refuse(refusals) = &answer else {
@@ -74,7 +76,8 @@ fn answer_with(
     front(alloc, known, named.as_slice(), around, words)
 }
 
-/// What a line comes to. The names of the compiler's options are read only where a word of it wants them.
+/// What a line comes to. The names of the compiler's options are read only where a word of it wants
+/// them.
 pub fn answer_of(
     alloc: Global,
     specs: &Word,
@@ -82,7 +85,8 @@ pub fn answer_of(
     words: &[Word],
     sys: &mut HostSystem,
 ) -> Result<Answer, AllocError>
-    ensures { IfOk result (λ answer. (known : List (List ℕ)) × (named : List (List ℕ)) × (answer ≡ front_of known named around.now words.now)) }
+    ensures { IfOk result (λ answer. (known : List (List ℕ)) × (named : List (List ℕ))
+        × (answer ≡ front_of known named around.now words.now)) }
 {
     let answer = front(alloc, &[], &[], around, words)?;
     if !has_unknown(&answer) {

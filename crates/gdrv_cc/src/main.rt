@@ -1,5 +1,5 @@
-//! The compiler driver under the name that people call: a line of gcc in, or one of c99, its commands carried out by the driver with
-//! the spec file that stands beside the program.
+//! The compiler driver under the name that people call: a line of gcc in, or one of c99, its
+//! commands carried out by the driver with the spec file that stands beside the program.
 #![tactic(auto)]
 
 ghost use Rattle.gdrv_cc.specs.Endings.{status_of};

@@ -1,4 +1,5 @@
-//! Which option an unknown word was meant to be, as gcc reckons it. No contract says that it is the nearest one.
+//! Which option an unknown word was meant to be, as gcc reckons it. No contract says that it is the
+//! nearest one.
 
 ghost use Rattle.std.specs.Prelude.{◌<◌, ◌≤◌, IfOk, IfSome, length};
 
@@ -18,13 +19,15 @@ fn most_apart(longer: usize, shorter: usize) -> usize {
     longer.saturating_add(2).saturating_mul(2) / 3
 }
 
-/// Whether a word of this length may be meant by one of another, which so many edits lead to. Hyphens in front don't count.
+/// Whether a word of this length may be meant by one of another, which so many edits lead to.
+/// Hyphens in front don't count.
 fn is_near(word: usize, name: usize, edits: usize) -> bool {
     let (word, name) = (word.saturating_sub(1), name.saturating_sub(1));
     edits.saturating_mul(2) <= most_apart(word.max(name), word.min(name))
 }
 
-/// How many bytes of a word stand for a name: of one that takes an argument after `=`, those up to and with that sign.
+/// How many bytes of a word stand for a name: of one that takes an argument after `=`, those up to
+/// and with that sign.
 fn length_compared(word: &[u8], name: &[u8]) -> usize
     ensures { result ≤ length word.now }
 {
@@ -38,7 +41,8 @@ fn length_compared(word: &[u8], name: &[u8]) -> usize
     word.len()
 }
 
-/// How many edits lead from a part of a word to a name; none where that can't be as few as is wanted.
+/// How many edits lead from a part of a word to a name; none where that can't be as few as is
+/// wanted.
 fn edits(
     alloc: Global,
     part: &[u8],
@@ -54,7 +58,8 @@ fn edits(
     Ok(Some(osa_distance(alloc, part, name)?))
 }
 
-/// Of the names that are nearest to a word, the place of the first, if that is near enough to be meant.
+/// Of the names that are nearest to a word, the place of the first, if that is near enough to be
+/// meant.
 fn nearest(alloc: Global, known: &[Word], word: &[u8]) -> Result<Option<usize>, AllocError>
     ensures { IfOk result (λ found. IfSome found (λ place. place < length known.now)) }
 {
@@ -74,7 +79,8 @@ fn nearest(alloc: Global, known: &[Word], word: &[u8]) -> Result<Option<usize>, 
     Ok(found)
 }
 
-/// The option that a word was meant to be, if one is near: with the word's own argument, where it takes one after `=`.
+/// The option that a word was meant to be, if one is near: with the word's own argument, where it
+/// takes one after `=`.
 pub fn meant(alloc: Global, known: &[Word], word: &[u8]) -> Result<Option<Word>, AllocError> {
     let Some(place) = nearest(alloc, known, word)? else {
         return Ok(None);

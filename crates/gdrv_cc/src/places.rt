@@ -1,6 +1,7 @@
 //! Where the spec file stands, and the files beside it.
 
-ghost use Rattle.gdrv_cc.specs.Places.{beside, companion, given, texts_by, texts_for, texts_or, wants_whole, whole_words};
+ghost use Rattle.gdrv_cc.specs.Places.{beside, companion, given, texts_by, texts_for, texts_or};
+ghost use Rattle.gdrv_cc.specs.Places.{wants_whole, whole_words};
 ghost use Rattle.drv_cc.specs.Items.{is_among};
 ghost use Rattle.std.specs.List.{list_any};
 ghost use Rattle.std.specs.Prelude.{◌≡◌, ◌++◌, IfOk, OnOk};
@@ -93,7 +94,8 @@ fn texts_by(alloc: Global, specs: &[u8], stages: Stages) -> Result<Word, AllocEr
     }
 }
 
-/// The file that has the texts for a line with these words and stages: the spec file, or a part of it that stands beside it.
+/// The file that has the texts for a line with these words and stages: the spec file, or a part of
+/// it that stands beside it.
 pub fn texts_for(
     alloc: Global,
     specs: &[u8],

@@ -59,13 +59,15 @@ fn refuse_absent(
     Err(Outcome::Told(text))
 }
 
-/// The words of the driver's call: the spec file, that a front stands before it, and the words of the line.
+/// The words of the driver's call: the spec file, that a front stands before it, and the words of
+/// the line.
 fn driver_words(
     alloc: Global,
     specs: &[u8],
     words: Listing<Word>,
 ) -> Result<Listing<Word>, AllocError>
-    ensures { IfOk result (λ all. all ≡ (codes "-specs=" ++ specs.now) ∷ codes "--gdrv-front" ∷ words) }
+    ensures { IfOk result (λ all. all ≡ (codes "-specs=" ++ specs.now) ∷ codes
+        "--gdrv-front" ∷ words) }
 {
     let mut option = Word::from_bytes(alloc, b"-specs=")?;
     option.extend_from_slice(specs)?;
@@ -98,7 +100,8 @@ fn is_absent(event: &Event) -> bool {
     )
 }
 
-/// Has the driver carry out words, with variables for its children. Where the run does not find a program, the hint is told.
+/// Has the driver carry out words, with variables for its children. Where the run does not find a
+/// program, the hint is told.
 fn drive_words(
     rt: &HostRuntime,
     words: Listing<Word>,

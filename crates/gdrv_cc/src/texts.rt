@@ -1,6 +1,9 @@
 //! What the user is told.
 
-ghost use Rattle.gdrv_cc.specs.Texts.{absent_text, error_line, file_said, gone_text, hint_text, lacking, meant, names_specs, quoted, refusal_text, takes_file, takes_goal, takes_macro, takes_path, unknown_text, unworked_text, unwritten_text, writing};
+ghost use Rattle.gdrv_cc.specs.Texts.{absent_text, error_line, file_said, gone_text, hint_text};
+ghost use Rattle.gdrv_cc.specs.Texts.{lacking, meant, names_specs, quoted, refusal_text};
+ghost use Rattle.gdrv_cc.specs.Texts.{takes_file, takes_goal, takes_macro, takes_path};
+ghost use Rattle.gdrv_cc.specs.Texts.{unknown_text, unworked_text, unwritten_text, writing};
 ghost use Rattle.std.specs.List.{list_any};
 ghost use Rattle.std.specs.Option.{option_copied};
 ghost use Rattle.std.specs.Prelude.{◌≡◌, ◌∷◌, ◌++◌, [], IfOk, OnOk, codes, if◌then◌else◌};
@@ -26,7 +29,8 @@ pub fn error_line(
     word: &[u8],
     behind: &[u8],
 ) -> Result<Word, AllocError>
-    ensures { IfOk result (λ line. line ≡ error_line name.now (quoted before.now word.now behind.now)) }
+    ensures { IfOk result (λ line. line ≡ error_line name.now
+        (quoted before.now word.now behind.now)) }
 {
     let mut line = Word::from_bytes(alloc, name)?;
     line.extend_from_slice(b": error: ")?;
@@ -109,7 +113,8 @@ fn add_meant(text: &mut Word, near: Option<&[u8]>) -> Result<(), AllocError>
 
 /// Adds what is said of a word that is no option.
 fn add_unknown(text: &mut Word, word: &[u8], near: Option<&[u8]>) -> Result<(), AllocError>
-    ensures { OnOk result (text.new ≡ text.old ++ unknown_text word.now (option_copied near.entry)) }
+    ensures { OnOk result (text.new ≡ text.old
+        ++ unknown_text word.now (option_copied near.entry)) }
 {
     text.extend_from_slice(b"unrecognized command-line option '")?;
     text.extend_from_slice(word)?;
@@ -123,7 +128,8 @@ fn add_unknown_line(
     word: &[u8],
     near: Option<&[u8]>,
 ) -> Result<(), AllocError>
-    ensures { OnOk result (text.new ≡ text.old ++ error_line name.now (unknown_text word.now (option_copied near.entry))) }
+    ensures { OnOk result (text.new ≡ text.old
+        ++ error_line name.now (unknown_text word.now (option_copied near.entry))) }
 {
     text.extend_from_slice(name)?;
     text.extend_from_slice(b": error: ")?;
@@ -139,7 +145,8 @@ fn add_line(
     word: &[u8],
     behind: &[u8],
 ) -> Result<(), AllocError>
-    ensures { OnOk result (text.new ≡ text.old ++ error_line name.now (quoted before.now word.now behind.now)) }
+    ensures { OnOk result (text.new ≡ text.old
+        ++ error_line name.now (quoted before.now word.now behind.now)) }
 {
     text.extend_from_slice(name)?;
     text.extend_from_slice(b": error: ")?;
@@ -147,14 +154,16 @@ fn add_line(
     text.push(b'\n')
 }
 
-/// Adds what is told of a refusal of the front. `near` is the option that an unknown word was meant to be, if one is near.
+/// Adds what is told of a refusal of the front. `near` is the option that an unknown word was meant
+/// to be, if one is near.
 pub fn add_refusal(
     text: &mut Word,
     name: &[u8],
     refusal: &Refusal,
     near: Option<&[u8]>,
 ) -> Result<(), AllocError>
-    ensures { OnOk result (text.new ≡ text.old ++ refusal_text name.now refusal.now (option_copied near.entry)) }
+    ensures { OnOk result (text.new ≡ text.old
+        ++ refusal_text name.now refusal.now (option_copied near.entry)) }
 {
     match refusal {
         Refusal::UnknownOption(word) => add_unknown_line(text, name, word.as_bytes(), near),
@@ -210,7 +219,8 @@ fn add_writing(text: &mut Word, specs: &[u8], machine: &[u8]) -> Result<(), Allo
     text.extend_from_slice(b"' writes it")
 }
 
-/// What is told of a file that `write_specs` writes, and that is not there or is not what it writes.
+/// What is told of a file that `write_specs` writes, and that is not there or is not what it
+/// writes.
 pub fn unwritten(
     alloc: Global,
     name: &[u8],
@@ -219,7 +229,8 @@ pub fn unwritten(
     specs: &[u8],
     machine: &[u8],
 ) -> Result<Word, AllocError>
-    ensures { IfOk result (λ line. line ≡ unwritten_text name.now before.now path.now specs.now machine.now) }
+    ensures { IfOk result (λ line. line ≡ unwritten_text name.now before.now path.now specs.now
+        machine.now) }
 {
     let mut line = Word::from_bytes(alloc, name)?;
     line.extend_from_slice(b": error: ")?;
@@ -255,7 +266,8 @@ fn have_specs(words: &[Word]) -> bool
 
 /// What is told of an option that a spec file of the line may give, where the line names one.
 fn unworked(alloc: Global, name: &[u8], words: &[Word]) -> Result<Word, AllocError>
-    ensures { IfOk result (λ text. text ≡ (if list_any names_specs words.now then unworked_text name.now else [])) }
+    ensures { IfOk result (λ text. text ≡
+        (if list_any names_specs words.now then unworked_text name.now else [])) }
 {
     let mut text = Word::empty(alloc);
     if have_specs(words) {

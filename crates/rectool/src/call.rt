@@ -1,6 +1,8 @@
-//! What the words of a call ask for. The first of them is the role, and neither an option nor an input.
+//! What the words of a call ask for. The first of them is the role, and neither an option nor an
+//! input.
 
-ghost use Rattle.rectool.specs.Call.{code_asked, code_of, exit_status, inputs_of, is_output_option, operands, output_file, with_digit};
+ghost use Rattle.rectool.specs.Call.{code_asked, code_of, exit_status, inputs_of, is_output_option};
+ghost use Rattle.rectool.specs.Call.{operands, output_file, with_digit};
 ghost use Rattle.std.specs.Option.{option_copied};
 ghost use Rattle.std.specs.Prelude.{◌≡◌, IfOk};
 
@@ -27,7 +29,8 @@ fn is_output_option(word: &Word) -> bool
     word.as_bytes() == b"-o".as_slice()
 }
 
-/// The file behind the last `-o`; none for standard output, which `-`, or nothing after it, stands for too.
+/// The file behind the last `-o`; none for standard output, which `-`, or nothing after it, stands
+/// for too.
 #[tactic(auto, using(crate::proofs::Calls::none_named, crate::proofs::Calls::later_counts, crate::proofs::Calls::nothing_here))]
 pub fn output_file(words: &[Word]) -> Option<&Word>
     ensures { option_copied result ≡ output_file words.now }
@@ -45,7 +48,8 @@ pub fn output_file(words: &[Word]) -> Option<&Word>
     }
 }
 
-/// The inputs of a call: each word that doesn't begin with `-` and doesn't stand directly after an `-o`.
+/// The inputs of a call: each word that doesn't begin with `-` and doesn't stand directly after an
+/// `-o`.
 pub fn inputs(alloc: Global, words: &[Word]) -> Result<Listing<Word>, AllocError>
     ensures { IfOk result (λ inputs. inputs ≡ inputs_of words.now) }
 {

@@ -1,4 +1,5 @@
-//! A tool that stands in for a compiler's tools: it records how it was called and what it was given to read.
+//! A tool that stands in for a compiler's tools: it records how it was called and what it was given
+//! to read.
 #![tactic(auto)]
 
 mod call;
@@ -13,7 +14,8 @@ use std::io::{self, Write};
 use std::process::ExitCode;
 use std::{fs, str};
 
-/// Writes the record to the file of the call, or to standard output, and answers whether all of it was written.
+/// Writes the record to the file of the call, or to standard output, and answers whether all of it
+/// was written.
 fn write_record(rt: &HostRuntime, words: &[Word], record: &Word) -> bool {
     match output_file(words) {
         Some(path) => match str::from_utf8(path.as_bytes()) {

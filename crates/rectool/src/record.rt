@@ -60,7 +60,8 @@ fn push_standard_input(rt: &HostRuntime, record: &mut Word) -> Result<bool, Allo
     }
 }
 
-/// Adds what these inputs hold, and answers whether there is a record. Standard input is the one input where no word can be one.
+/// Adds what these inputs hold, and answers whether there is a record. Standard input is the one
+/// input where no word can be one.
 fn push_inputs(rt: &HostRuntime, record: &mut Word, inputs: &[Word]) -> Result<bool, AllocError> {
     if inputs.is_empty() {
         return push_standard_input(rt, record);
@@ -69,8 +70,8 @@ fn push_inputs(rt: &HostRuntime, record: &mut Word, inputs: &[Word]) -> Result<b
     Ok(true)
 }
 
-/// The record of a call. An input that can't be read is left out. Standard input is the one input where no word can be one; the
-/// record is none where that can't be read.
+/// The record of a call. An input that can't be read is left out. Standard input is the one input
+/// where no word can be one; the record is none where that can't be read.
 pub fn recorded(rt: &HostRuntime, words: &[Word]) -> Result<Option<Word>, AllocError> {
     let inputs = inputs(rt.alloc(), words)?;
     let mut record = line(rt.alloc(), words)?;

@@ -4,13 +4,15 @@ ghost use Rattle.drv_machine.specs.Code.Asked.{Asked};
 ghost use Rattle.drv_machine.specs.Cutting as cutting;
 ghost use Rattle.drv_machine.specs.Code.Grouping.{grouped};
 ghost use Rattle.drv_machine.specs.Code.Held.{made};
-ghost use Rattle.drv_machine.specs.Outcome.{command, ends_piped, finished, groups, job, lasting, most_piped, once};
+ghost use Rattle.drv_machine.specs.Outcome.{command, ends_piped, finished, groups, job, lasting};
+ghost use Rattle.drv_machine.specs.Outcome.{most_piped, once};
 ghost use Rattle.drv_system.specs.Asking.{Extends};
 ghost use Rattle.drv_system.specs.Facts.{Facts};
 ghost use Rattle.drv_system.specs.Gives.{GivesKnown};
 ghost use Rattle.drv_system.specs.Known.{Is};
 ghost use Rattle.std.specs.List.{list_any};
-ghost use Rattle.std.specs.Prelude.{◌≡◌, ◌&&◌, ◌||◌, ◌∷◌, ◌++◌, [], IfOk, List, Ok, OnOk, length, map, nat_lt};
+ghost use Rattle.std.specs.Prelude.{◌≡◌, ◌&&◌, ◌||◌, ◌∷◌, ◌++◌, [], IfOk, List, Ok, OnOk, length};
+ghost use Rattle.std.specs.Prelude.{map, nat_lt};
 
 use super::{Drawn, IndexedWords, Line, Machine};
 use crate::outside::Outside;
@@ -24,11 +26,12 @@ use std::mem;
 /// The most commands of a group.
 const MOST_PIPED: usize = 16;
 
-/// The job of a text that was worked to its end, and what goes on to the next text. Words are moved.
+/// The job of a text that was worked to its end, and what goes on to the next text. Words are
+/// moved.
 ///
 /// # Errors
-/// `StrayPipe` where a pipe is not at the end of a command with a word, or no further command follows it; `PipeTooLong`
-/// where more than 16 commands form one pipe.
+/// `StrayPipe` where a pipe is not at the end of a command with a word, or no further command
+/// follows it; `PipeTooLong` where more than 16 commands form one pipe.
 #[tactic(auto, using(crate::proofs::AskedCalls::asked_none))]
 pub(crate) fn outcome_of<S: System>(
     machine: &mut Machine,
@@ -36,7 +39,9 @@ pub(crate) fn outcome_of<S: System>(
     outside: &mut Outside<'_, S>,
 ) -> Result<Outcome, MachineFault>
     ensures asks { Asked S.events outside.old outside.new }
-    ensures does { (F : Facts) → Extends outside.new.facts.now F → GivesKnown MachineFault.Memory (λ o. o) result (finished F context.now machine.old.world machine.old.cut) }
+    ensures does { (F : Facts) → Extends outside.new.facts.now F
+        → GivesKnown MachineFault.Memory (λ o. o) result
+        (finished F context.now machine.old.world machine.old.cut) }
 {
     let job = job_of(machine, context, outside)?;
     let alloc = machine.alloc;
@@ -53,7 +58,8 @@ pub(crate) fn outcome_of<S: System>(
 /// What `%x` has added, which is moved out of the machine.
 fn options_of(machine: &mut Machine) -> Listing<Word>
     ensures options { result ≡ machine.old.world.options }
-    ensures others { machine.new ≡ record machine.old { world = record machine.old.world { options = [] } } }
+    ensures others { machine.new ≡ record machine.old
+        { world = record machine.old.world { options = [] } } }
 {
     let none = IndexedWords::new(machine.alloc, Listing::new(machine.alloc));
     mem::replace(&mut machine.options, none).into_listing()
@@ -67,7 +73,19 @@ fn job_of<S: System>(
     outside: &mut Outside<'_, S>,
 ) -> Result<Job, MachineFault>
     ensures asks { Asked S.events outside.old outside.new }
-    ensures does { (F : Facts) → Extends outside.new.facts.now F → GivesKnown MachineFault.Memory (λ j. record { job = j; notices = machine.old.world.notices; outs = machine.old.world.outputs; accumulated = machine.old.world.options; next_number = machine.old.world.number; cost = machine.old.world.items }) result (finished F context.now machine.old.world machine.old.cut) }
+    ensures does { (F : Facts) → Extends outside.new.facts.now F
+        → GivesKnown MachineFault.Memory
+        (λ j. record {
+          job = j;
+          notices = machine.old.world.notices;
+          outs =
+              machine.old.world.outputs;
+          accumulated = machine.old.world.options;
+          next_number =
+              machine.old.world.number;
+          cost = machine.old.world.items;
+        }) result
+        (finished F context.now machine.old.world machine.old.cut) }
     ensures notices { machine.new.world.notices ≡ machine.old.world.notices }
     ensures outputs { machine.new.world.outputs ≡ machine.old.world.outputs }
     ensures options { machine.new.world.options ≡ machine.old.world.options }
@@ -141,8 +159,8 @@ fn has_long_pipe(groups: &[Group]) -> bool
     false
 }
 
-/// The groups of commands: with `-pipe` piped commands form one, otherwise each command is one. Want of memory is the
-/// only error.
+/// The groups of commands: with `-pipe` piped commands form one, otherwise each command is one.
+/// Want of memory is the only error.
 #[tactic(auto, using(crate::proofs::AskedCalls::asked_none, crate::proofs::AskedCalls::asked_further))]
 fn groups_of<S: System>(
     alloc: Global,
@@ -151,7 +169,8 @@ fn groups_of<S: System>(
     outside: &mut Outside<'_, S>,
 ) -> Result<Listing<Group>, AllocError>
     ensures asks { Asked S.events outside.old outside.new }
-    ensures made { (F : Facts) → Extends outside.new.facts.now F → IfOk result (λ made. groups F context.now lines ≡ Is (Ok made)) }
+    ensures made { (F : Facts) → Extends outside.new.facts.now F
+        → IfOk result (λ made. groups F context.now lines ≡ Is (Ok made)) }
 {
     let mut groups = Listing::new(alloc);
     let mut begun = Vec::new(alloc);
@@ -162,8 +181,8 @@ fn groups_of<S: System>(
     Ok(groups)
 }
 
-/// The command of one line more goes after those of the group that is begun, which then goes after those that have ended,
-/// unless the next one is joined to it. Want of memory is the only error.
+/// The command of one line more goes after those of the group that is begun, which then goes after
+/// those that have ended, unless the next one is joined to it. Want of memory is the only error.
 #[tactic(auto, using(crate::proofs::AskedCalls::asked_none))]
 fn add_line<S: System>(
     alloc: Global,
@@ -174,7 +193,10 @@ fn add_line<S: System>(
     outside: &mut Outside<'_, S>,
 ) -> Result<(), AllocError>
     ensures asks { Asked S.events outside.old outside.new }
-    ensures added { (F : Facts) → Extends outside.new.facts.now F → OnOk result ((lines : List cutting.Line) → grouped ended.old begun.old.items (groups F context.now (line ∷ lines)) ≡ grouped ended.new begun.new.items (groups F context.now lines)) }
+    ensures added { (F : Facts) → Extends outside.new.facts.now F
+        → OnOk result ((lines : List cutting.Line)
+        → grouped ended.old begun.old.items (groups F context.now (line ∷ lines))
+        ≡ grouped ended.new begun.new.items (groups F context.now lines)) }
 {
     let is_joined = is_joined(context, &line);
     begun.push(command_of(alloc, line.words, context, outside)?)?;
@@ -202,7 +224,8 @@ fn push_group(groups: &mut Listing<Group>, commands: Vec<Command>) -> Result<(),
     Ok(())
 }
 
-/// The command of these words, of which the first names its program. Want of memory is the only error.
+/// The command of these words, of which the first names its program. Want of memory is the only
+/// error.
 #[tactic(auto, using(crate::proofs::AskedCalls::asked_none))]
 fn command_of<S: System>(
     alloc: Global,
@@ -211,7 +234,8 @@ fn command_of<S: System>(
     outside: &mut Outside<'_, S>,
 ) -> Result<Command, AllocError>
     ensures asks { Asked S.events outside.old outside.new }
-    ensures made { (F : Facts) → Extends outside.new.facts.now F → IfOk result (λ made. command F context.now words ≡ Is (Ok made)) }
+    ensures made { (F : Facts) → Extends outside.new.facts.now F
+        → IfOk result (λ made. command F context.now words ≡ Is (Ok made)) }
 {
     let mut words = words.into_vec();
     if words.is_empty() {
@@ -230,7 +254,8 @@ fn command_of<S: System>(
 
 /// The temporaries of a job, with what their files hold. Words are moved.
 fn temps_of(alloc: Global, drawn: Listing<Drawn>) -> Result<Listing<Temp>, AllocError>
-    ensures { IfOk result (λ temps. temps ≡ map (λ name. record { path = name.path; contents = name.contents }) drawn) }
+    ensures { IfOk result (λ temps. temps
+        ≡ map (λ name. record { path = name.path; contents = name.contents }) drawn) }
 {
     let mut temps = Listing::new(alloc);
     for name in drawn.into_vec() {

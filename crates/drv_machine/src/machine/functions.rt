@@ -17,7 +17,8 @@ use drv_system::System;
 use drv_words::Word;
 
 impl Machine {
-    /// What the function of a name gives for these words: a word, or nothing. In the link it may change the outputs.
+    /// What the function of a name gives for these words: a word, or nothing. In the link it may
+    /// change the outputs.
     ///
     /// # Errors
     /// `Funcs` where the function is refused.
@@ -31,7 +32,9 @@ impl Machine {
     ) -> Result<Option<Word>, MachineFault>
         requires { length self.old.world.hidden ≡ length context.now.switches }
         ensures asks { Asked S.events outside.old outside.new }
-        ensures does { (F : Facts) → Extends outside.new.facts.now F → GivesKnown MachineFault.Memory (λ given. (given, self.new)) result (run F context.now self.old (call_step F context.now name.now args.now)) }
+        ensures does { (F : Facts) → Extends outside.new.facts.now F
+            → GivesKnown MachineFault.Memory (λ given. (given, self.new)) result
+            (run F context.now self.old (call_step F context.now name.now args.now)) }
         ensures sized { length self.new.world.hidden ≡ length self.old.world.hidden }
         ensures uncounted { OnOk result (self.new.world.items ≡ self.old.world.items) }
     {
@@ -52,7 +55,8 @@ impl Machine {
         Ok(given)
     }
 
-    /// Arguments have been cut, and what was cut before them goes on: what the function of a name gives for them.
+    /// Arguments have been cut, and what was cut before them goes on: what the function of a name
+    /// gives for them.
     fn call_after<S: System>(
         &mut self,
         name: &[u8],
@@ -62,7 +66,10 @@ impl Machine {
     ) -> Result<Option<Word>, MachineFault>
         requires { length self.old.world.hidden ≡ length context.now.switches }
         ensures asks { Asked S.events outside.old outside.new }
-        ensures does { (F : Facts) → Extends outside.new.facts.now F → GivesKnown MachineFault.Memory (λ given. (given, self.new)) result (after_arguments F context.now outer.value (call_step F context.now name.now) self.old) }
+        ensures does { (F : Facts) → Extends outside.new.facts.now F
+            → GivesKnown MachineFault.Memory (λ given. (given, self.new)) result
+            (after_arguments F context.now outer.value
+            (call_step F context.now name.now) self.old) }
         ensures sized { length self.new.world.hidden ≡ length self.old.world.hidden }
         ensures uncounted { OnOk result (self.new.world.items ≡ self.old.world.items) }
     {
@@ -71,7 +78,8 @@ impl Machine {
         self.call(name, args.as_slice(), context, outside)
     }
 
-    /// Arguments have been cut, and what was cut before them goes on: the function's value is put, if it has one.
+    /// Arguments have been cut, and what was cut before them goes on: the function's value is put,
+    /// if it has one.
     #[inline(never)]
     #[tactic(auto, using(crate::proofs::AskedCalls::asked_further))]
     pub(crate) fn put_value<S: System>(
@@ -83,7 +91,10 @@ impl Machine {
     ) -> Result<(), MachineFault>
         requires { length self.old.world.hidden ≡ length context.now.switches }
         ensures asks { Asked S.events outside.old outside.new }
-        ensures does { (F : Facts) → Extends outside.new.facts.now F → GivesKnown MachineFault.Memory (λ u. (tt, self.new)) result (after_arguments F context.now outer.value (value_step F context.now name.now) self.old) }
+        ensures does { (F : Facts) → Extends outside.new.facts.now F
+            → GivesKnown MachineFault.Memory (λ u. (tt, self.new)) result
+            (after_arguments F context.now outer.value
+            (value_step F context.now name.now) self.old) }
         ensures sized { length self.new.world.hidden ≡ length self.old.world.hidden }
         ensures uncounted { OnOk result (self.new.world.items ≡ self.old.world.items) }
     {
@@ -93,7 +104,8 @@ impl Machine {
         self.put(word.as_bytes())
     }
 
-    /// Arguments have been cut, and what was cut before them goes on: whether the function has a value.
+    /// Arguments have been cut, and what was cut before them goes on: whether the function has a
+    /// value.
     #[inline(never)]
     #[tactic(auto, using(crate::proofs::AskedCalls::asked_further))]
     pub(crate) fn has_value<S: System>(
@@ -105,7 +117,10 @@ impl Machine {
     ) -> Result<bool, MachineFault>
         requires { length self.old.world.hidden ≡ length context.now.switches }
         ensures asks { Asked S.events outside.old outside.new }
-        ensures does { (F : Facts) → Extends outside.new.facts.now F → GivesKnown MachineFault.Memory (λ holds. (holds, self.new)) result (after_arguments F context.now outer.value (has_value F context.now name.now) self.old) }
+        ensures does { (F : Facts) → Extends outside.new.facts.now F
+            → GivesKnown MachineFault.Memory (λ holds. (holds, self.new)) result
+            (after_arguments F context.now outer.value
+            (has_value F context.now name.now) self.old) }
         ensures sized { length self.new.world.hidden ≡ length self.old.world.hidden }
         ensures uncounted { OnOk result (self.new.world.items ≡ self.old.world.items) }
     {

@@ -14,8 +14,8 @@ use std::marker::Model;
 /// The most words of a list that is gone over where it is asked for one.
 const FEW: usize = 16;
 
-/// A list of words, and of a longer one an ordered tree of the words in it, so that to look for a word isn't to go over
-/// the list.
+/// A list of words, and of a longer one an ordered tree of the words in it, so that to look for a
+/// word isn't to go over the list.
 #[derive(Drop)]
 pub(crate) struct IndexedWords {
     alloc: Global,

@@ -7,8 +7,8 @@ use drv_words::Word;
 use std::alloc::{AllocError, Global};
 use std::marker::Model;
 
-/// For each `%W` that is open the last word that ended in it. A word ends in all of them, so that they have one last word,
-/// but for the innermost ones in which none has ended.
+/// For each `%W` that is open the last word that ended in it. A word ends in all of them, so that
+/// they have one last word, but for the innermost ones in which none has ended.
 #[derive(Debug, Drop)]
 pub(crate) struct Inside {
     last: Word,

@@ -1,7 +1,8 @@
 //! Lists that are put word by word, or that grow.
 
 ghost use Rattle.drv_machine.specs.Code.Asked.{Asked};
-ghost use Rattle.drv_machine.specs.Atoms.{added, broken_word, folders_step, noted, options_step, outputs_step};
+ghost use Rattle.drv_machine.specs.Atoms.{added, broken_word, folders_step, noted, options_step};
+ghost use Rattle.drv_machine.specs.Atoms.{outputs_step};
 ghost use Rattle.drv_machine.specs.Context as specs;
 ghost use Rattle.drv_machine.specs.Code.Running.{run};
 ghost use Rattle.drv_machine.specs.Working.{Break, change, is_among, puts, whole_word, words};
@@ -54,7 +55,9 @@ impl Machine {
         outside: &mut Outside<'_, S>,
     ) -> Result<(), MachineFault>
         ensures asks { Asked S.events outside.old outside.new }
-        ensures does { (F : Facts) → Extends outside.new.facts.now F → GivesKnown MachineFault.Memory (λ u. (tt, self.new)) result (run F context.now self.old (puts (whole_word word.now))) }
+        ensures does { (F : Facts) → Extends outside.new.facts.now F
+            → GivesKnown MachineFault.Memory (λ u. (tt, self.new)) result
+            (run F context.now self.old (puts (whole_word word.now))) }
         ensures sized { length self.new.world.hidden ≡ length self.old.world.hidden }
         ensures uncounted { OnOk result (self.new.world.items ≡ self.old.world.items) }
     {
@@ -71,7 +74,9 @@ impl Machine {
         outside: &mut Outside<'_, S>,
     ) -> Result<(), MachineFault>
         ensures asks { Asked S.events outside.old outside.new }
-        ensures does { (F : Facts) → Extends outside.new.facts.now F → GivesKnown MachineFault.Memory (λ u. (tt, self.new)) result (run F context.now self.old (puts (broken_word word.now))) }
+        ensures does { (F : Facts) → Extends outside.new.facts.now F
+            → GivesKnown MachineFault.Memory (λ u. (tt, self.new)) result
+            (run F context.now self.old (puts (broken_word word.now))) }
         ensures sized { length self.new.world.hidden ≡ length self.old.world.hidden }
         ensures uncounted { OnOk result (self.new.world.items ≡ self.old.world.items) }
     {
@@ -88,7 +93,9 @@ impl Machine {
         outside: &mut Outside<'_, S>,
     ) -> Result<(), MachineFault>
         ensures asks { Asked S.events outside.old outside.new }
-        ensures does { (F : Facts) → Extends outside.new.facts.now F → GivesKnown MachineFault.Memory (λ u. (tt, self.new)) result (run F context.now self.old (puts (words list.now))) }
+        ensures does { (F : Facts) → Extends outside.new.facts.now F
+            → GivesKnown MachineFault.Memory (λ u. (tt, self.new)) result
+            (run F context.now self.old (puts (words list.now))) }
         ensures sized { length self.new.world.hidden ≡ length self.old.world.hidden }
         ensures uncounted { OnOk result (self.new.world.items ≡ self.old.world.items) }
     {
@@ -105,7 +112,9 @@ impl Machine {
         outside: &mut Outside<'_, S>,
     ) -> Result<(), MachineFault>
         ensures asks { Asked S.events outside.old outside.new }
-        ensures does { (F : Facts) → Extends outside.new.facts.now F → GivesKnown MachineFault.Memory (λ u. (tt, self.new)) result (run F context.now self.old options_step) }
+        ensures does { (F : Facts) → Extends outside.new.facts.now F
+            → GivesKnown MachineFault.Memory (λ u. (tt, self.new)) result
+            (run F context.now self.old options_step) }
         ensures sized { length self.new.world.hidden ≡ length self.old.world.hidden }
         ensures uncounted { OnOk result (self.new.world.items ≡ self.old.world.items) }
     {
@@ -122,7 +131,9 @@ impl Machine {
         outside: &mut Outside<'_, S>,
     ) -> Result<(), MachineFault>
         ensures asks { Asked S.events outside.old outside.new }
-        ensures does { (F : Facts) → Extends outside.new.facts.now F → GivesKnown MachineFault.Memory (λ u. (tt, self.new)) result (run F context.now self.old (puts (Break ∷ words list.now))) }
+        ensures does { (F : Facts) → Extends outside.new.facts.now F
+            → GivesKnown MachineFault.Memory (λ u. (tt, self.new)) result
+            (run F context.now self.old (puts (Break ∷ words list.now))) }
         ensures sized { length self.new.world.hidden ≡ length self.old.world.hidden }
         ensures uncounted { OnOk result (self.new.world.items ≡ self.old.world.items) }
     {
@@ -133,20 +144,22 @@ impl Machine {
     /// Takes the outputs of the jobs so far out.
     fn take_outputs(&mut self) -> Listing<Word>
         ensures taken { result ≡ self.old.world.outputs }
-        ensures left { self.new ≡ record self.old { world = record self.old.world { outputs = [] } } }
+        ensures left { self.new ≡ record self.old
+            { world = record self.old.world { outputs = [] } } }
     {
         mem::replace(&mut self.outputs, Listing::new(self.alloc))
     }
 
     /// Puts the outputs of the jobs so far back.
     fn give_back(&mut self, outputs: Listing<Word>)
-        ensures { self.new ≡ record self.old { world = record self.old.world { outputs = outputs } } }
+        ensures { self.new ≡ record self.old
+            { world = record self.old.world { outputs = outputs } } }
     {
         self.outputs = outputs;
     }
 
-    /// The outputs of the jobs so far are put, each as a word of its own. They are taken out while they are put, so that none is
-    /// copied twice.
+    /// The outputs of the jobs so far are put, each as a word of its own. They are taken out while
+    /// they are put, so that none is copied twice.
     ///
     /// # Errors
     /// `NotInLink` in a text other than the link's.
@@ -157,7 +170,9 @@ impl Machine {
         outside: &mut Outside<'_, S>,
     ) -> Result<(), MachineFault>
         ensures asks { Asked S.events outside.old outside.new }
-        ensures does { (F : Facts) → Extends outside.new.facts.now F → GivesKnown MachineFault.Memory (λ u. (tt, self.new)) result (run F context.now self.old (outputs_step F context.now)) }
+        ensures does { (F : Facts) → Extends outside.new.facts.now F
+            → GivesKnown MachineFault.Memory (λ u. (tt, self.new)) result
+            (run F context.now self.old (outputs_step F context.now)) }
         ensures sized { length self.new.world.hidden ≡ length self.old.world.hidden }
         ensures uncounted { OnOk result (self.new.world.items ≡ self.old.world.items) }
     {
@@ -179,7 +194,9 @@ impl Machine {
         outside: &mut Outside<'_, S>,
     ) -> Result<(), MachineFault>
         ensures asks { Asked S.events outside.old outside.new }
-        ensures does { (F : Facts) → Extends outside.new.facts.now F → GivesKnown MachineFault.Memory (λ u. (tt, self.new)) result (run F context.now self.old (puts (flat_map broken_word list.now))) }
+        ensures does { (F : Facts) → Extends outside.new.facts.now F
+            → GivesKnown MachineFault.Memory (λ u. (tt, self.new)) result
+            (run F context.now self.old (puts (flat_map broken_word list.now))) }
         ensures sized { length self.new.world.hidden ≡ length self.old.world.hidden }
         ensures uncounted { OnOk result (self.new.world.items ≡ self.old.world.items) }
     {
@@ -197,7 +214,9 @@ impl Machine {
         outside: &mut Outside<'_, S>,
     ) -> Result<(), MachineFault>
         ensures asks { Asked S.events outside.old outside.new }
-        ensures does { (F : Facts) → Extends outside.new.facts.now F → GivesKnown MachineFault.Memory (λ u. (tt, self.new)) result (run F context.now self.old (folders_step F context.now)) }
+        ensures does { (F : Facts) → Extends outside.new.facts.now F
+            → GivesKnown MachineFault.Memory (λ u. (tt, self.new)) result
+            (run F context.now self.old (folders_step F context.now)) }
         ensures sized { length self.new.world.hidden ≡ length self.old.world.hidden }
         ensures uncounted { OnOk result (self.new.world.items ≡ self.old.world.items) }
     {
@@ -207,7 +226,9 @@ impl Machine {
 
     /// An option goes to the end of the list, unless it is in it.
     pub(crate) fn add_option(&mut self, option: &[u8]) -> Result<(), MachineFault>
-        ensures does { (F : Facts) (C : specs.Context) → GivesKnown MachineFault.Memory (λ u. (tt, self.new)) result (run F C self.old (change (λ w. record w { options = added option.now w.options }))) }
+        ensures does { (F : Facts) (C : specs.Context)
+            → GivesKnown MachineFault.Memory (λ u. (tt, self.new)) result
+            (run F C self.old (change (λ w. record w { options = added option.now w.options }))) }
         ensures sized { length self.new.world.hidden ≡ length self.old.world.hidden }
         ensures uncounted { OnOk result (self.new.world.items ≡ self.old.world.items) }
     {
@@ -217,7 +238,10 @@ impl Machine {
 
     /// The user is told a text, as a note.
     pub(crate) fn add_notice(&mut self, text: &[u8]) -> Result<(), MachineFault>
-        ensures does { (F : Facts) (C : specs.Context) → GivesKnown MachineFault.Memory (λ u. (tt, self.new)) result (run F C self.old (change (λ w. record w { notices = w.notices ++ noted text.now ∷ [] }))) }
+        ensures does { (F : Facts) (C : specs.Context)
+            → GivesKnown MachineFault.Memory (λ u. (tt, self.new)) result
+            (run F C self.old (change (λ w. record w
+            { notices = w.notices ++ noted text.now ∷ [] }))) }
         ensures sized { length self.new.world.hidden ≡ length self.old.world.hidden }
         ensures uncounted { OnOk result (self.new.world.items ≡ self.old.world.items) }
     {
@@ -235,7 +259,8 @@ fn folders<S: System>(
     outside: &mut Outside<'_, S>,
 ) -> Result<Listing<Word>, AllocError>
     ensures asks { Asked S.events outside.old outside.new }
-    ensures options { (F : Facts) → Extends outside.new.facts.now F → IfOk result (λ options. folder_options F context.now.prefixes ≡ Is options) }
+    ensures options { (F : Facts) → Extends outside.new.facts.now F
+        → IfOk result (λ options. folder_options F context.now.prefixes ≡ Is options) }
 {
     dir_options(alloc, context.prefixes(), outside.sys, outside.facts)
 }

@@ -2,7 +2,8 @@
 
 ghost use Rattle.drv_machine.specs.Code.Asked.{Asked};
 ghost use Rattle.drv_machine.specs.Context as specs;
-ghost use Rattle.drv_machine.specs.Cutting.{found_file, found_script, marked, no_marks, script_option, word_done};
+ghost use Rattle.drv_machine.specs.Cutting.{found_file, found_script, marked, no_marks};
+ghost use Rattle.drv_machine.specs.Cutting.{script_option, word_done};
 ghost use Rattle.drv_machine.specs.Code.Held.{word_found};
 ghost use Rattle.drv_machine.specs.Code.Running.{run};
 ghost use Rattle.drv_machine.specs.Working.{Break, From, Marked, To, Without, puts};
@@ -10,7 +11,8 @@ ghost use Rattle.drv_system.specs.Asking.{Extends};
 ghost use Rattle.drv_system.specs.Facts.{Facts};
 ghost use Rattle.drv_system.specs.Gives.{GivesKnown};
 ghost use Rattle.drv_system.specs.Known.{Is};
-ghost use Rattle.std.specs.Prelude.{◌≡◌, ◌∷◌, ◌++◌, ◌&&◌, [], IfErr, None, Ok, OnOk, Some, false, if◌then◌else◌, length, map, not};
+ghost use Rattle.std.specs.Prelude.{◌≡◌, ◌∷◌, ◌++◌, ◌&&◌, [], IfErr, None, Ok, OnOk, Some, false};
+ghost use Rattle.std.specs.Prelude.{if◌then◌else◌, length, map, not};
 
 use super::Machine;
 use crate::outside::Outside;
@@ -80,7 +82,8 @@ impl Marking {
 impl Machine {
     /// The word that is open is marked, or else the next one.
     pub(crate) fn mark(&mut self, mark: Mark)
-        ensures does { (F : Facts) (C : specs.Context) → run F C self.old (puts (Marked mark ∷ [])) ≡ Is (Ok (tt, self.new)) }
+        ensures does { (F : Facts) (C : specs.Context)
+            → run F C self.old (puts (Marked mark ∷ [])) ≡ Is (Ok (tt, self.new)) }
         ensures same { self.new.world ≡ self.old.world }
     {
         self.marks = self.marks.with(mark);
@@ -89,7 +92,8 @@ impl Machine {
 
     /// From here on the job has no output, unless a later word is marked as one.
     pub(crate) fn bar_output(&mut self)
-        ensures does { (F : Facts) (C : specs.Context) → run F C self.old (puts (Without ∷ [])) ≡ Is (Ok (tt, self.new)) }
+        ensures does { (F : Facts) (C : specs.Context)
+            → run F C self.old (puts (Without ∷ [])) ≡ Is (Ok (tt, self.new)) }
         ensures same { self.new.world ≡ self.old.world }
     {
         self.output = None;
@@ -98,7 +102,8 @@ impl Machine {
 
     /// No word is open, and no mark waits.
     fn close_word(&mut self)
-        ensures { self.new ≡ record self.old { cut = record self.old.cut { word = None; marks = no_marks; barred = false } } }
+        ensures { self.new ≡ record self.old
+            { cut = record self.old.cut { word = None; marks = no_marks; barred = false } } }
     {
         self.word.clear();
         self.is_open = false;
@@ -108,7 +113,16 @@ impl Machine {
 
     /// The open command has one word more.
     fn push_word(&mut self, word: Word) -> Result<(), AllocError>
-        ensures does { OnOk result (self.new ≡ record self.old { cut = record self.old.cut { line = record { words = self.old.cut.line.words ++ word ∷ []; piped = self.old.cut.line.piped } } }) }
+        ensures does { OnOk result (self.new
+            ≡ record self.old {
+              cut = record self.old.cut {
+                line = record {
+                  words = self.old.cut.line.words
+                      ++ word ∷ [];
+                  piped = self.old.cut.line.piped;
+                };
+              };
+            }) }
         ensures same { self.new.world ≡ self.old.world }
     {
         self.line.push(word)?;
@@ -117,7 +131,13 @@ impl Machine {
 
     /// A word that is marked so is removed at the end of the run.
     fn keep_removed(&mut self, word: &Word) -> Result<(), AllocError>
-        ensures does { OnOk result (self.new ≡ record self.old { cut = record self.old.cut { removed = self.old.cut.removed ++ (if self.old.cut.marks.removed then word.now ∷ [] else []) } }) }
+        ensures does { OnOk result (self.new
+            ≡ record self.old {
+              cut = record self.old.cut {
+                removed = self.old.cut.removed
+                    ++ (if self.old.cut.marks.removed then word.now ∷ [] else []);
+              };
+            }) }
         ensures same { self.new.world ≡ self.old.world }
     {
         if !self.marks.removed {
@@ -129,7 +149,13 @@ impl Machine {
 
     /// A word that is marked so is a failure file.
     fn keep_failure(&mut self, word: &Word) -> Result<(), AllocError>
-        ensures does { OnOk result (self.new ≡ record self.old { cut = record self.old.cut { on_failure = self.old.cut.on_failure ++ (if self.old.cut.marks.output then word.now ∷ [] else []) } }) }
+        ensures does { OnOk result (self.new
+            ≡ record self.old {
+              cut = record self.old.cut {
+                on_failure = self.old.cut.on_failure
+                    ++ (if self.old.cut.marks.output then word.now ∷ [] else []);
+              };
+            }) }
         ensures same { self.new.world ≡ self.old.world }
     {
         if !self.marks.output {
@@ -141,7 +167,13 @@ impl Machine {
 
     /// A word that is marked so is the job's output, unless it began before a `%V`.
     fn keep_output(&mut self, word: &Word) -> Result<(), AllocError>
-        ensures does { OnOk result (self.new ≡ record self.old { cut = record self.old.cut { output = if self.old.cut.marks.output && not self.old.cut.barred then Some word.now else self.old.cut.output } }) }
+        ensures does { OnOk result (self.new
+            ≡ record self.old {
+              cut = record self.old.cut {
+                output = if self.old.cut.marks.output && not self.old.cut.barred then Some
+                    word.now else self.old.cut.output;
+              };
+            }) }
         ensures same { self.new.world ≡ self.old.world }
     {
         if !self.marks.output || self.is_barred {
@@ -153,7 +185,11 @@ impl Machine {
 
     /// A word has ended in each `%W` that is open.
     fn keep_inside(&mut self, word: &Word) -> Result<(), AllocError>
-        ensures does { OnOk result (self.new ≡ record self.old { cut = record self.old.cut { inside = map (λ before. Some word.now) self.old.cut.inside } }) }
+        ensures does { OnOk result (self.new
+            ≡ record self.old {
+              cut = record self.old.cut
+                  { inside = map (λ before. Some word.now) self.old.cut.inside };
+            }) }
         ensures same { self.new.world ≡ self.old.world }
     {
         self.inside.end_word(word)
@@ -162,7 +198,8 @@ impl Machine {
     /// The open word has ended as this one.
     #[tactic(auto, using(crate::proofs::Ends::word_finished))]
     pub(crate) fn finish_word(&mut self, word: Word) -> Result<(), MachineFault>
-        ensures ok { OnOk result (self.new ≡ record self.old { cut = word_done self.old.cut (word ∷ []) word }) }
+        ensures ok { OnOk result (self.new
+            ≡ record self.old { cut = word_done self.old.cut (word ∷ []) word }) }
         ensures memory { IfErr result (λ fault. fault ≡ MachineFault.Memory) }
         ensures same { self.new.world ≡ self.old.world }
     {
@@ -183,7 +220,9 @@ impl Machine {
         outside: &mut Outside<'_, S>,
     ) -> Result<(), MachineFault>
         ensures asks { Asked S.events outside.old outside.new }
-        ensures does { (F : Facts) → Extends outside.new.facts.now F → GivesKnown MachineFault.Memory (λ u. (tt, self.new)) result (word_found self.old (λ path. path ∷ []) (found_file F context.now word.now)) }
+        ensures does { (F : Facts) → Extends outside.new.facts.now F
+            → GivesKnown MachineFault.Memory (λ u. (tt, self.new)) result
+            (word_found self.old (λ path. path ∷ []) (found_file F context.now word.now)) }
         ensures same { self.new.world ≡ self.old.world }
     {
         let path = find_file(
@@ -204,7 +243,10 @@ impl Machine {
         outside: &mut Outside<'_, S>,
     ) -> Result<(), MachineFault>
         ensures asks { Asked S.events outside.old outside.new }
-        ensures does { (F : Facts) → Extends outside.new.facts.now F → GivesKnown MachineFault.Memory (λ u. (tt, self.new)) result (word_found self.old (λ path. script_option ∷ path ∷ []) (found_script F context.now word.now)) }
+        ensures does { (F : Facts) → Extends outside.new.facts.now F
+            → GivesKnown MachineFault.Memory (λ u. (tt, self.new)) result
+            (word_found self.old (λ path. script_option ∷ path ∷ [])
+            (found_script F context.now word.now)) }
         ensures same { self.new.world ≡ self.old.world }
     {
         let path = find_script(
@@ -218,7 +260,8 @@ impl Machine {
         self.finish_word(path)
     }
 
-    /// The open word, if there is one, ends: as it is, or as the path of a library file or a linker script.
+    /// The open word, if there is one, ends: as it is, or as the path of a library file or a linker
+    /// script.
     ///
     /// # Errors
     /// `Search` where a linker script isn't found.
@@ -229,7 +272,9 @@ impl Machine {
         outside: &mut Outside<'_, S>,
     ) -> Result<(), MachineFault>
         ensures asks { Asked S.events outside.old outside.new }
-        ensures does { (F : Facts) → Extends outside.new.facts.now F → GivesKnown MachineFault.Memory (λ u. (tt, self.new)) result (run F context.now self.old (puts (Break ∷ []))) }
+        ensures does { (F : Facts) → Extends outside.new.facts.now F
+            → GivesKnown MachineFault.Memory (λ u. (tt, self.new)) result
+            (run F context.now self.old (puts (Break ∷ []))) }
         ensures sized { length self.new.world.hidden ≡ length self.old.world.hidden }
         ensures uncounted { OnOk result (self.new.world.items ≡ self.old.world.items) }
     {
@@ -249,7 +294,9 @@ impl Machine {
 
     /// A `%W` begins.
     pub(crate) fn begin_failure(&mut self) -> Result<(), MachineFault>
-        ensures does { (F : Facts) (C : specs.Context) → GivesKnown MachineFault.Memory (λ u. (tt, self.new)) result (run F C self.old (puts (From ∷ []))) }
+        ensures does { (F : Facts) (C : specs.Context)
+            → GivesKnown MachineFault.Memory (λ u. (tt, self.new)) result
+            (run F C self.old (puts (From ∷ []))) }
         ensures same { self.new.world ≡ self.old.world }
     {
         self.inside.open()?;
@@ -258,7 +305,9 @@ impl Machine {
 
     /// The innermost `%W` ends, and the last word that ended in it is a failure file.
     fn close_inside(&mut self) -> Result<(), MachineFault>
-        ensures does { (F : Facts) (C : specs.Context) → GivesKnown MachineFault.Memory (λ u. (tt, self.new)) result (run F C self.old (puts (To ∷ []))) }
+        ensures does { (F : Facts) (C : specs.Context)
+            → GivesKnown MachineFault.Memory (λ u. (tt, self.new)) result
+            (run F C self.old (puts (To ∷ []))) }
         ensures same { self.new.world ≡ self.old.world }
     {
         let Some(word) = self.inside.close()? else {
@@ -277,7 +326,9 @@ impl Machine {
         outside: &mut Outside<'_, S>,
     ) -> Result<(), MachineFault>
         ensures asks { Asked S.events outside.old outside.new }
-        ensures does { (F : Facts) → Extends outside.new.facts.now F → GivesKnown MachineFault.Memory (λ u. (tt, self.new)) result (run F context.now self.old (puts (Break ∷ To ∷ []))) }
+        ensures does { (F : Facts) → Extends outside.new.facts.now F
+            → GivesKnown MachineFault.Memory (λ u. (tt, self.new)) result
+            (run F context.now self.old (puts (Break ∷ To ∷ []))) }
         ensures sized { length self.new.world.hidden ≡ length self.old.world.hidden }
         ensures uncounted { OnOk result (self.new.world.items ≡ self.old.world.items) }
     {

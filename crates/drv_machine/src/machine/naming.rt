@@ -1,7 +1,8 @@
 //! Names of temporaries.
 
 ghost use Rattle.drv_machine.specs.Code.Asked.{Asked};
-ghost use Rattle.drv_machine.specs.Atoms.{draw, draw_with, drawn_or_new, name_step, new_name_step, temp_step};
+ghost use Rattle.drv_machine.specs.Atoms.{draw, draw_with, drawn_or_new, name_step, new_name_step};
+ghost use Rattle.drv_machine.specs.Atoms.{temp_step};
 ghost use Rattle.drv_machine.specs.Code.Running.{run};
 ghost use Rattle.drv_machine.specs.Temps.{folder, hex, hex_digit, is_drawn, last_drawn, temp_name};
 ghost use Rattle.drv_system.specs.Asking.{Extends};
@@ -82,7 +83,8 @@ fn temp_name<S: System>(
     outside: &mut Outside<'_, S>,
 ) -> Result<Word, AllocError>
     ensures asks { Asked S.events outside.old outside.new }
-    ensures name { (F : Facts) → Extends outside.new.facts.now F → IfOk result (λ path. temp_name F seed number suffix.now ≡ Is path) }
+    ensures name { (F : Facts) → Extends outside.new.facts.now F
+        → IfOk result (λ path. temp_name F seed number suffix.now ≡ Is path) }
 {
     let variable = Word::from_bytes(alloc, b"TMPDIR")?;
     outside.facts.variable(outside.sys, &variable)?;
@@ -119,7 +121,8 @@ fn last_drawn<'a>(drawn: &'a [Drawn], shared: bool, suffix: &[u8]) -> Option<&'a
 }
 
 impl Machine {
-    /// A name is drawn, by `%g` or not, for a file with these contents, and it is a temporary of the job.
+    /// A name is drawn, by `%g` or not, for a file with these contents, and it is a temporary of
+    /// the job.
     pub(crate) fn draw_with<S: System>(
         &mut self,
         contents: Word,
@@ -129,7 +132,9 @@ impl Machine {
         outside: &mut Outside<'_, S>,
     ) -> Result<Word, MachineFault>
         ensures asks { Asked S.events outside.old outside.new }
-        ensures does { (F : Facts) → Extends outside.new.facts.now F → GivesKnown MachineFault.Memory (λ path. (path, self.new)) result (run F context.now self.old (draw_with F context.now contents shared suffix.now)) }
+        ensures does { (F : Facts) → Extends outside.new.facts.now F
+            → GivesKnown MachineFault.Memory (λ path. (path, self.new)) result
+            (run F context.now self.old (draw_with F context.now contents shared suffix.now)) }
         ensures sized { length self.new.world.hidden ≡ length self.old.world.hidden }
         ensures uncounted { OnOk result (self.new.world.items ≡ self.old.world.items) }
     {
@@ -156,7 +161,9 @@ impl Machine {
         outside: &mut Outside<'_, S>,
     ) -> Result<Word, MachineFault>
         ensures asks { Asked S.events outside.old outside.new }
-        ensures does { (F : Facts) → Extends outside.new.facts.now F → GivesKnown MachineFault.Memory (λ path. (path, self.new)) result (run F context.now self.old (draw F context.now shared suffix.now)) }
+        ensures does { (F : Facts) → Extends outside.new.facts.now F
+            → GivesKnown MachineFault.Memory (λ path. (path, self.new)) result
+            (run F context.now self.old (draw F context.now shared suffix.now)) }
         ensures sized { length self.new.world.hidden ≡ length self.old.world.hidden }
         ensures uncounted { OnOk result (self.new.world.items ≡ self.old.world.items) }
     {
@@ -173,7 +180,9 @@ impl Machine {
         outside: &mut Outside<'_, S>,
     ) -> Result<Word, MachineFault>
         ensures asks { Asked S.events outside.old outside.new }
-        ensures does { (F : Facts) → Extends outside.new.facts.now F → GivesKnown MachineFault.Memory (λ path. (path, self.new)) result (run F context.now self.old (drawn_or_new F context.now shared suffix.now)) }
+        ensures does { (F : Facts) → Extends outside.new.facts.now F
+            → GivesKnown MachineFault.Memory (λ path. (path, self.new)) result
+            (run F context.now self.old (drawn_or_new F context.now shared suffix.now)) }
         ensures sized { length self.new.world.hidden ≡ length self.old.world.hidden }
         ensures uncounted { OnOk result (self.new.world.items ≡ self.old.world.items) }
     {
@@ -192,7 +201,9 @@ impl Machine {
         outside: &mut Outside<'_, S>,
     ) -> Result<(), MachineFault>
         ensures asks { Asked S.events outside.old outside.new }
-        ensures does { (F : Facts) → Extends outside.new.facts.now F → GivesKnown MachineFault.Memory (λ u. (tt, self.new)) result (run F context.now self.old (name_step F context.now shared suffix.now)) }
+        ensures does { (F : Facts) → Extends outside.new.facts.now F
+            → GivesKnown MachineFault.Memory (λ u. (tt, self.new)) result
+            (run F context.now self.old (name_step F context.now shared suffix.now)) }
         ensures sized { length self.new.world.hidden ≡ length self.old.world.hidden }
         ensures uncounted { OnOk result (self.new.world.items ≡ self.old.world.items) }
     {
@@ -208,7 +219,9 @@ impl Machine {
         outside: &mut Outside<'_, S>,
     ) -> Result<(), MachineFault>
         ensures asks { Asked S.events outside.old outside.new }
-        ensures does { (F : Facts) → Extends outside.new.facts.now F → GivesKnown MachineFault.Memory (λ u. (tt, self.new)) result (run F context.now self.old (new_name_step F context.now suffix.now)) }
+        ensures does { (F : Facts) → Extends outside.new.facts.now F
+            → GivesKnown MachineFault.Memory (λ u. (tt, self.new)) result
+            (run F context.now self.old (new_name_step F context.now suffix.now)) }
         ensures sized { length self.new.world.hidden ≡ length self.old.world.hidden }
         ensures uncounted { OnOk result (self.new.world.items ≡ self.old.world.items) }
     {
@@ -216,7 +229,8 @@ impl Machine {
         self.put(path.as_bytes())
     }
 
-    /// The name of a temporary with this suffix is put; where commands are piped, `-` or nothing may stand for it.
+    /// The name of a temporary with this suffix is put; where commands are piped, `-` or nothing
+    /// may stand for it.
     #[tactic(auto, using(crate::proofs::AskedCalls::asked_none))]
     pub(crate) fn put_temp<S: System>(
         &mut self,
@@ -226,7 +240,9 @@ impl Machine {
         outside: &mut Outside<'_, S>,
     ) -> Result<(), MachineFault>
         ensures asks { Asked S.events outside.old outside.new }
-        ensures does { (F : Facts) → Extends outside.new.facts.now F → GivesKnown MachineFault.Memory (λ u. (tt, self.new)) result (run F context.now self.old (temp_step F context.now kind suffix.now)) }
+        ensures does { (F : Facts) → Extends outside.new.facts.now F
+            → GivesKnown MachineFault.Memory (λ u. (tt, self.new)) result
+            (run F context.now self.old (temp_step F context.now kind suffix.now)) }
         ensures sized { length self.new.world.hidden ≡ length self.old.world.hidden }
         ensures uncounted { OnOk result (self.new.world.items ≡ self.old.world.items) }
     {

@@ -41,7 +41,8 @@ impl Machine {
     pub(crate) fn add_switch(&mut self, context: &Context<'_>, i: usize) -> Result<(), MachineFault>
         requires at { i < length context.now.switches }
         requires between { IsBetweenWords self.old.cut }
-        ensures does { (F : Facts) → GivesKnown MachineFault.Memory (λ u. (tt, self.new)) result (run F context.now self.old (puts (switch_atoms F context.now i))) }
+        ensures does { (F : Facts) → GivesKnown MachineFault.Memory (λ u. (tt, self.new)) result
+            (run F context.now self.old (puts (switch_atoms F context.now i))) }
         ensures sized { length self.new.world.hidden ≡ length self.old.world.hidden }
         ensures uncounted { OnOk result (self.new.world.items ≡ self.old.world.items) }
     {

@@ -10,7 +10,7 @@ use crate::fault::SyntaxFault;
 use crate::reader::bytes::is_space;
 use crate::reader::edits::close_token;
 use crate::reader::nesting::{
-    alternative_of, ask, after_item, chooses, close_braces, emits, first_of, lent_pattern,
+    after_item, alternative_of, ask, chooses, close_braces, emits, first_of, lent_pattern,
     lent_test, negates, starred_of, stars, tests, untested, with_pattern, with_test,
 };
 use crate::reader::stages::{Behind, Context, Form, Frame, Head, HeadStage, Open, Stage};
@@ -28,7 +28,8 @@ pub fn act_ends(
 ) -> Result<(), SyntaxFault>
     requires room { length w.old.tokens.items < 2 ^ 31 }
     requires place { n < 2 ^ 31 }
-    ensures does { Gives SyntaxFault.Memory (λ _. state w.new) result (steps.act_ends head form behind n (state w.old)) }
+    ensures does { Gives SyntaxFault.Memory (λ _. state w.new) result
+        (steps.act_ends head form behind n (state w.old)) }
     ensures fits { OnOk result (Fits w.old w.new) }
 {
     if !emits(form, negates(behind)) {
@@ -42,7 +43,8 @@ pub fn act_ends(
 /// `&` after a pattern.
 pub fn act_joins(head: Head, form: Form, behind: Behind, w: &mut Walk) -> Result<(), SyntaxFault>
     requires room { length w.old.tokens.items < 2 ^ 31 }
-    ensures does { Gives SyntaxFault.Memory (λ _. state w.new) result (steps.act_joins head form behind (state w.old)) }
+    ensures does { Gives SyntaxFault.Memory (λ _. state w.new) result
+        (steps.act_joins head form behind (state w.old)) }
     ensures fits { OnOk result (Fits w.old w.new) }
 {
     if !emits(form, negates(behind)) {
@@ -68,7 +70,8 @@ pub fn act_asks(
 ) -> Result<(), SyntaxFault>
     requires room { length w.old.tokens.items < 2 ^ 31 }
     requires place { n < 2 ^ 31 }
-    ensures does { Gives SyntaxFault.Memory (λ _. state w.new) result (steps.act_asks head form behind n (state w.old)) }
+    ensures does { Gives SyntaxFault.Memory (λ _. state w.new) result
+        (steps.act_asks head form behind n (state w.old)) }
     ensures fits { OnOk result (Fits w.old w.new) }
 {
     if !(tests(behind) && chooses(form)) {
@@ -89,7 +92,8 @@ pub fn act_asks(
 /// `|` after a test.
 pub fn act_bars(head: Head, form: Form, behind: Behind, w: &mut Walk) -> Result<(), SyntaxFault>
     requires room { length w.old.tokens.items < 2 ^ 31 }
-    ensures does { Gives SyntaxFault.Memory (λ _. state w.new) result (steps.act_bars head form behind (state w.old)) }
+    ensures does { Gives SyntaxFault.Memory (λ _. state w.new) result
+        (steps.act_bars head form behind (state w.old)) }
     ensures fits { OnOk result (Fits w.old w.new) }
 {
     if !(tests(behind) && chooses(form)) {
@@ -120,7 +124,8 @@ fn ends_with(
 ) -> Result<(), SyntaxFault>
     requires room { length w.old.tokens.items < 2 ^ 31 }
     requires place { n < 2 ^ 31 }
-    ensures does { Gives SyntaxFault.Memory (λ _. state w.new) result (steps.act_ends head form behind n (steps.with_word word.now (state w.old))) }
+    ensures does { Gives SyntaxFault.Memory (λ _. state w.new) result
+        (steps.act_ends head form behind n (steps.with_word word.now (state w.old))) }
     ensures fits { OnOk result (Fits w.old w.new) }
 {
     if !emits(form, negates(behind)) {
@@ -143,7 +148,8 @@ fn asks_with(
 ) -> Result<(), SyntaxFault>
     requires room { length w.old.tokens.items < 2 ^ 31 }
     requires place { n < 2 ^ 31 }
-    ensures does { Gives SyntaxFault.Memory (λ _. state w.new) result (steps.act_asks head form behind n (steps.with_word word.now (state w.old))) }
+    ensures does { Gives SyntaxFault.Memory (λ _. state w.new) result
+        (steps.act_asks head form behind n (steps.with_word word.now (state w.old))) }
     ensures fits { OnOk result (Fits w.old w.new) }
 {
     if !(tests(behind) && chooses(form)) {
@@ -175,7 +181,9 @@ pub fn act_lent(
     requires end { steps.ends_word b ≡ true }
     requires room { length w.old.tokens.items < 2 ^ 31 }
     requires place { n < 2 ^ 31 }
-    ensures does { Gives SyntaxFault.Memory (λ _. state w.new) result (steps.act_head head form (turns.after_action head.part.start behind b) n b (steps.with_word word.now (state w.old))) }
+    ensures does { Gives SyntaxFault.Memory (λ _. state w.new) result
+        (steps.act_head head form (turns.after_action head.part.start behind b) n b
+        (steps.with_word word.now (state w.old))) }
     ensures fits { OnOk result (Fits w.old w.new) }
 {
     if b == b'}' {
@@ -219,7 +227,8 @@ fn close_x(
 ) -> Result<(), SyntaxFault>
     requires room { length w.old.tokens.items < 2 ^ 31 }
     requires place { n < 2 ^ 31 }
-    ensures does { Gives SyntaxFault.Memory (λ _. state w.new) result (steps.close_x c head tested n b (state w.old)) }
+    ensures does { Gives SyntaxFault.Memory (λ _. state w.new) result
+        (steps.close_x c head tested n b (state w.old)) }
     ensures fits { OnOk result (Fits w.old w.new) }
 {
     if b == b'}' {
@@ -237,7 +246,8 @@ fn close_x(
 fn close_frame(frame: Frame, n: u32, b: u8, w: &mut Walk) -> Result<(), SyntaxFault>
     requires room { length w.old.tokens.items < 2 ^ 31 }
     requires place { n < 2 ^ 31 }
-    ensures does { Gives SyntaxFault.Memory (λ _. state w.new) result (steps.close_frame frame n b (state w.old)) }
+    ensures does { Gives SyntaxFault.Memory (λ _. state w.new) result
+        (steps.close_frame frame n b (state w.old)) }
     ensures fits { OnOk result (Fits w.old w.new) }
 {
     match frame {
@@ -280,7 +290,8 @@ fn close_frame(frame: Frame, n: u32, b: u8, w: &mut Walk) -> Result<(), SyntaxFa
 pub fn close(n: u32, b: u8, w: &mut Walk) -> Result<(), SyntaxFault>
     requires room { length w.old.tokens.items < 2 ^ 31 }
     requires place { n < 2 ^ 31 }
-    ensures does { Gives SyntaxFault.Memory (λ _. state w.new) result (steps.close (state w.old).waiting n b (state w.old)) }
+    ensures does { Gives SyntaxFault.Memory (λ _. state w.new) result
+        (steps.close (state w.old).waiting n b (state w.old)) }
     ensures fits { OnOk result (Fits w.old w.new) }
 {
     match w.waiting.pop() {
@@ -301,7 +312,8 @@ pub fn act_result(
     requires room { length w.old.tokens.items < 2 ^ 30 }
     requires place { n < 2 ^ 31 }
     requires trail { w.old.trailing < 2 ^ 30 }
-    ensures does { Gives SyntaxFault.Memory (λ _. state w.new) result (steps.act_result head part chosen n b (state w.old)) }
+    ensures does { Gives SyntaxFault.Memory (λ _. state w.new) result
+        (steps.act_result head part chosen n b (state w.old)) }
     ensures size { OnOk result (length w.new.tokens.items ≤ length w.old.tokens.items + 4) }
     ensures trail { OnOk result (w.new.trailing ≤ w.old.trailing + 4) }
 {

@@ -1,10 +1,12 @@
-//! Parts of a text in the state in which it is read: the stage, the word, and items without an inside.
+//! Parts of a text in the state in which it is read: the stage, the word, and items without an
+//! inside.
 
 ghost use Rattle.drv_syntax.specs.Code.Steps as steps;
 ghost use Rattle.drv_syntax.specs.Code.Turns as turns;
 ghost use Rattle.drv_syntax.specs.Code.States.{Fits, state};
 ghost use Rattle.drv_words.specs.Gives.{Gives};
-ghost use Rattle.std.specs.Prelude.{◌≡◌, ◌<◌, ◌≤◌, ◌^◌, ◌+◌, ◌++◌, ◌∷◌, [], false, length, OnOk, Ok, vec_capacity, vec_len};
+ghost use Rattle.std.specs.Prelude.{◌≡◌, ◌<◌, ◌≤◌, ◌^◌, ◌+◌, ◌++◌, ◌∷◌, [], false, length, OnOk};
+ghost use Rattle.std.specs.Prelude.{Ok, vec_capacity, vec_len};
 
 use crate::directives::SayKind;
 use crate::fault::SyntaxFault;
@@ -39,7 +41,8 @@ pub fn single_kind(single: Single) -> TokenKind
 /// The next byte stands here, and the word stays.
 #[inline]
 pub fn keep(stage: Stage, w: &mut Walk) -> Result<(), SyntaxFault>
-    ensures does { Gives SyntaxFault.Memory (λ _. state w.new) result (Ok (steps.at_stage stage (state w.old))) }
+    ensures does { Gives SyntaxFault.Memory (λ _. state w.new) result
+        (Ok (steps.at_stage stage (state w.old))) }
     ensures fits { OnOk result (Fits w.old w.new) }
 {
     w.stage = stage;
@@ -49,7 +52,8 @@ pub fn keep(stage: Stage, w: &mut Walk) -> Result<(), SyntaxFault>
 /// The next byte stands here, and a word begins without a byte.
 #[inline]
 pub fn clear(stage: Stage, w: &mut Walk) -> Result<(), SyntaxFault>
-    ensures does { Gives SyntaxFault.Memory (λ _. state w.new) result (Ok (steps.at_stage stage (steps.with_word [] (state w.old)))) }
+    ensures does { Gives SyntaxFault.Memory (λ _. state w.new) result
+        (Ok (steps.at_stage stage (steps.with_word [] (state w.old)))) }
     ensures fits { OnOk result (Fits w.old w.new) }
 {
     w.stage = stage;
@@ -60,7 +64,8 @@ pub fn clear(stage: Stage, w: &mut Walk) -> Result<(), SyntaxFault>
 /// The next byte stands here, and a word begins with this one.
 #[inline]
 pub fn begin(stage: Stage, b: u8, w: &mut Walk) -> Result<(), SyntaxFault>
-    ensures does { Gives SyntaxFault.Memory (λ _. state w.new) result (Ok (steps.at_stage stage (steps.with_word (b ∷ []) (state w.old)))) }
+    ensures does { Gives SyntaxFault.Memory (λ _. state w.new) result
+        (Ok (steps.at_stage stage (steps.with_word (b ∷ []) (state w.old)))) }
     ensures fits { OnOk result (Fits w.old w.new) }
 {
     w.stage = stage;
@@ -72,7 +77,8 @@ pub fn begin(stage: Stage, b: u8, w: &mut Walk) -> Result<(), SyntaxFault>
 /// The next byte stands here, and this one goes to the word's end.
 #[inline]
 pub fn add(stage: Stage, b: u8, w: &mut Walk) -> Result<(), SyntaxFault>
-    ensures does { Gives SyntaxFault.Memory (λ _. state w.new) result (Ok (steps.at_stage stage (steps.with_word (w.old.word.items ++ b ∷ []) (state w.old)))) }
+    ensures does { Gives SyntaxFault.Memory (λ _. state w.new) result
+        (Ok (steps.at_stage stage (steps.with_word (w.old.word.items ++ b ∷ []) (state w.old)))) }
     ensures fits { OnOk result (Fits w.old w.new) }
 {
     w.stage = stage;
@@ -93,7 +99,8 @@ pub fn next_open(w: &Walk, start: u32) -> Open
 
 /// A part opens.
 pub fn with_token(kind: TokenKind, start: u32, w: &mut Walk) -> Result<(), SyntaxFault>
-    ensures does { Gives SyntaxFault.Memory (λ _. state w.new) result (Ok (steps.with_token kind start (state w.old))) }
+    ensures does { Gives SyntaxFault.Memory (λ _. state w.new) result
+        (Ok (steps.with_token kind start (state w.old))) }
     ensures size { OnOk result (length w.new.tokens.items ≤ length w.old.tokens.items + 1) }
 {
     w.tokens.push(Token {
@@ -109,7 +116,8 @@ pub fn with_token(kind: TokenKind, start: u32, w: &mut Walk) -> Result<(), Synta
 #[inline]
 pub fn with_leaf(kind: TokenKind, start: u32, end: u32, w: &mut Walk) -> Result<(), SyntaxFault>
     requires { length w.old.tokens.items + 1 < 2 ^ 32 }
-    ensures does { Gives SyntaxFault.Memory (λ _. state w.new) result (Ok (steps.with_leaf kind start end (state w.old))) }
+    ensures does { Gives SyntaxFault.Memory (λ _. state w.new) result
+        (Ok (steps.with_leaf kind start end (state w.old))) }
     ensures size { OnOk result (length w.new.tokens.items ≤ length w.old.tokens.items + 1) }
 {
     let next = w.tokens.len() as u32 + 1;
@@ -163,7 +171,8 @@ fn is_star(single: Single) -> bool
 pub fn with_part(p: Part, w: &mut Walk) -> Result<(), SyntaxFault>
     requires room { length w.old.tokens.items + 1 < 2 ^ 32 }
     requires trail { w.old.trailing + 1 < 2 ^ 32 }
-    ensures does { Gives SyntaxFault.Memory (λ _. state w.new) result (Ok (steps.with_part p (state w.old))) }
+    ensures does { Gives SyntaxFault.Memory (λ _. state w.new) result
+        (Ok (steps.with_part p (state w.old))) }
     ensures size { OnOk result (length w.new.tokens.items ≤ length w.old.tokens.items + 1) }
     ensures trail { OnOk result (w.new.trailing ≤ w.old.trailing + 1) }
 {
@@ -186,7 +195,8 @@ pub fn with_part(p: Part, w: &mut Walk) -> Result<(), SyntaxFault>
 pub fn with_plain(n: u32, b: u8, w: &mut Walk) -> Result<(), SyntaxFault>
     requires room { length w.old.tokens.items + 1 < 2 ^ 32 }
     requires place { n < 2 ^ 31 }
-    ensures does { Gives SyntaxFault.Memory (λ _. state w.new) result (Ok (steps.with_part (turns.part (Single.Plain b) Taken.Nothing n (n + 1)) (state w.old))) }
+    ensures does { Gives SyntaxFault.Memory (λ _. state w.new) result
+        (Ok (steps.with_part (turns.part (Single.Plain b) Taken.Nothing n (n + 1)) (state w.old))) }
     ensures fits { OnOk result (Fits w.old w.new) }
 {
     with_leaf(TokenKind::Plain, n, n + 1, w)?;
@@ -203,7 +213,8 @@ fn push_plains(n: u32, run: &[u8], tokens: &mut Vec<Token>)
     requires room { length tokens.old.items + length run.now < 2 ^ 31 }
     requires place { n + length run.now < 2 ^ 31 }
     requires reserved { vec_len tokens.old + length run.now ≤ vec_capacity tokens.old }
-    ensures does { tokens.new.items ≡ tokens.old.items ++ steps.plain_tokens n (length tokens.old.items + 1) run.now }
+    ensures does { tokens.new.items ≡ tokens.old.items
+        ++ steps.plain_tokens n (length tokens.old.items + 1) run.now }
     ensures size { length tokens.new.items ≡ length tokens.old.items + length run.now }
 {
     let mut place = n;
@@ -225,8 +236,10 @@ fn push_plains(n: u32, run: &[u8], tokens: &mut Vec<Token>)
 pub fn with_plains(n: u32, run: &[u8], w: &mut Walk) -> Result<(), SyntaxFault>
     requires room { length w.old.tokens.items + length run.now < 2 ^ 31 }
     requires place { n + length run.now < 2 ^ 31 }
-    ensures does { Gives SyntaxFault.Memory (λ _. state w.new) result (Ok (steps.with_plains n run.now (state w.old))) }
-    ensures size { OnOk result (length w.new.tokens.items ≤ length w.old.tokens.items + length run.now) }
+    ensures does { Gives SyntaxFault.Memory (λ _. state w.new) result
+        (Ok (steps.with_plains n run.now (state w.old))) }
+    ensures size { OnOk result (length w.new.tokens.items
+        ≤ length w.old.tokens.items + length run.now) }
     ensures trail { OnOk result (w.new.trailing ≡ 0) }
 {
     w.tokens.reserve(run.len())?;
@@ -243,7 +256,9 @@ pub fn with_plains(n: u32, run: &[u8], w: &mut Walk) -> Result<(), SyntaxFault>
 #[inline(always)]
 pub fn with_name(at: u32, end: u32, name: &[u8], w: &mut Walk) -> Result<(), SyntaxFault>
     requires room { length w.old.tokens.items + 1 < 2 ^ 32 }
-    ensures does { Gives SyntaxFault.Memory (λ _. state w.new) result (Ok (steps.with_part (turns.part Single.NamedText Taken.Word at end) (steps.with_word name.now (state w.old)))) }
+    ensures does { Gives SyntaxFault.Memory (λ _. state w.new) result
+        (Ok (steps.with_part (turns.part Single.NamedText Taken.Word at end)
+        (steps.with_word name.now (state w.old)))) }
     ensures size { OnOk result (length w.new.tokens.items ≤ length w.old.tokens.items + 1) }
     ensures trail { OnOk result (w.new.trailing ≡ 0) }
 {
@@ -262,7 +277,8 @@ pub fn with_blank(n: u32, w: &mut Walk) -> Result<(), SyntaxFault>
     requires room { length w.old.tokens.items + 1 < 2 ^ 32 }
     requires place { n < 2 ^ 31 }
     requires trail { w.old.trailing + 1 < 2 ^ 32 }
-    ensures does { Gives SyntaxFault.Memory (λ _. state w.new) result (Ok (steps.with_part (turns.part Single.Blank Taken.Nothing n (n + 1)) (state w.old))) }
+    ensures does { Gives SyntaxFault.Memory (λ _. state w.new) result
+        (Ok (steps.with_part (turns.part Single.Blank Taken.Nothing n (n + 1)) (state w.old))) }
     ensures fits { OnOk result (Fits w.old w.new) }
 {
     with_leaf(TokenKind::Blank, n, n + 1, w)?;

@@ -45,7 +45,8 @@ pub fn after_test(
 ) -> Result<(), SyntaxFault>
     requires room { length w.old.tokens.items < 2 ^ 31 }
     requires place { n < 2 ^ 31 }
-    ensures does { Gives SyntaxFault.Memory (λ _. state w.new) result (steps.act_head head form (turns.after_action head.part.start behind b) n b (state w.old)) }
+    ensures does { Gives SyntaxFault.Memory (λ _. state w.new) result
+        (steps.act_head head form (turns.after_action head.part.start behind b) n b (state w.old)) }
     ensures fits { OnOk result (Fits w.old w.new) }
 {
     if is_space(b) {
@@ -76,7 +77,9 @@ pub fn test_word(
 ) -> Result<(), SyntaxFault>
     requires room { length w.old.tokens.items < 2 ^ 31 }
     requires place { n < 2 ^ 31 }
-    ensures does { Gives SyntaxFault.Memory (λ _. state w.new) result (steps.act_head head form (turns.word_action head.part.start start negated n b) n b (state w.old)) }
+    ensures does { Gives SyntaxFault.Memory (λ _. state w.new) result
+        (steps.act_head head form (turns.word_action head.part.start start negated n b) n b
+        (state w.old)) }
     ensures fits { OnOk result (Fits w.old w.new) }
 {
     if b == b'\\' {
@@ -118,7 +121,9 @@ fn bare_mark(
 ) -> Result<(), SyntaxFault>
     requires room { length w.old.tokens.items < 2 ^ 31 }
     requires place { n < 2 ^ 31 }
-    ensures does { Gives SyntaxFault.Memory (λ _. state w.new) result (steps.act_head head form (turns.bare_action head.part.start start negated mark n b) n b (state w.old)) }
+    ensures does { Gives SyntaxFault.Memory (λ _. state w.new) result
+        (steps.act_head head form (turns.bare_action head.part.start start negated mark n b) n b
+        (state w.old)) }
     ensures fits { OnOk result (Fits w.old w.new) }
 {
     let bare = Behind::Bare {
@@ -159,7 +164,9 @@ fn test_mark(
 ) -> Result<(), SyntaxFault>
     requires room { length w.old.tokens.items < 2 ^ 31 }
     requires place { n < 2 ^ 31 }
-    ensures does { Gives SyntaxFault.Memory (λ _. state w.new) result (steps.act_head head form (turns.mark_action head.part.start form start negated mark n b) n b (state w.old)) }
+    ensures does { Gives SyntaxFault.Memory (λ _. state w.new) result
+        (steps.act_head head form (turns.mark_action head.part.start form start negated mark n b) n
+        b (state w.old)) }
     ensures fits { OnOk result (Fits w.old w.new) }
 {
     if b == b'\\' {
@@ -196,7 +203,9 @@ fn marked_word(
 ) -> Result<(), SyntaxFault>
     requires room { length w.old.tokens.items < 2 ^ 31 }
     requires place { n < 2 ^ 31 }
-    ensures does { Gives SyntaxFault.Memory (λ _. state w.new) result (steps.act_head head form (turns.marked_action head.part.start form start negated mark n b) n b (state w.old)) }
+    ensures does { Gives SyntaxFault.Memory (λ _. state w.new) result
+        (steps.act_head head form (turns.marked_action head.part.start form start negated mark n b)
+        n b (state w.old)) }
     ensures fits { OnOk result (Fits w.old w.new) }
 {
     if b == b'\\' {
@@ -246,7 +255,9 @@ fn asked(
 ) -> Result<(), SyntaxFault>
     requires room { length w.old.tokens.items < 2 ^ 31 }
     requires place { n < 2 ^ 31 }
-    ensures does { Gives SyntaxFault.Memory (λ _. state w.new) result (steps.act_head head form (turns.asked_action w.old.context.levels head.part.start start negated n b) n b (state w.old)) }
+    ensures does { Gives SyntaxFault.Memory (λ _. state w.new) result
+        (steps.act_head head form (turns.asked_action w.old.context.levels head.part.start start
+        negated n b) n b (state w.old)) }
     ensures fits { OnOk result (Fits w.old w.new) }
 {
     if b == b'\\' {
@@ -289,7 +300,9 @@ fn asked(
 fn due(head: Head, form: Form, n: u32, b: u8, w: &mut Walk) -> Result<(), SyntaxFault>
     requires room { length w.old.tokens.items < 2 ^ 31 }
     requires place { n < 2 ^ 31 }
-    ensures does { Gives SyntaxFault.Memory (λ _. state w.new) result (steps.act_head head form (turns.due_action w.old.context.levels head.part.start n b) n b (state w.old)) }
+    ensures does { Gives SyntaxFault.Memory (λ _. state w.new) result
+        (steps.act_head head form (turns.due_action w.old.context.levels head.part.start n b) n b
+        (state w.old)) }
     ensures fits { OnOk result (Fits w.old w.new) }
 {
     if b == b'!' {
@@ -303,7 +316,8 @@ fn due(head: Head, form: Form, n: u32, b: u8, w: &mut Walk) -> Result<(), Syntax
 fn pattern_due(head: Head, form: Form, n: u32, b: u8, w: &mut Walk) -> Result<(), SyntaxFault>
     requires room { length w.old.tokens.items < 2 ^ 31 }
     requires place { n < 2 ^ 31 }
-    ensures does { Gives SyntaxFault.Memory (λ _. state w.new) result (steps.act_head head form (turns.pattern_action head.part.start n b) n b (state w.old)) }
+    ensures does { Gives SyntaxFault.Memory (λ _. state w.new) result
+        (steps.act_head head form (turns.pattern_action head.part.start n b) n b (state w.old)) }
     ensures fits { OnOk result (Fits w.old w.new) }
 {
     let start = n;
@@ -343,7 +357,9 @@ fn test_function(
 ) -> Result<(), SyntaxFault>
     requires room { length w.old.tokens.items < 2 ^ 31 }
     requires place { n < 2 ^ 31 }
-    ensures does { Gives SyntaxFault.Memory (λ _. state w.new) result (steps.act_head head form (turns.test_call_action start negated percent w.old.word.items b) n b (state w.old)) }
+    ensures does { Gives SyntaxFault.Memory (λ _. state w.new) result
+        (steps.act_head head form (turns.test_call_action start negated percent w.old.word.items b)
+        n b (state w.old)) }
     ensures fits { OnOk result (Fits w.old w.new) }
 {
     if is_function_front(&w.word, b) {
@@ -371,7 +387,9 @@ pub fn head_step(
 ) -> Result<(), SyntaxFault>
     requires room { length w.old.tokens.items < 2 ^ 31 }
     requires place { n < 2 ^ 31 }
-    ensures does { Gives SyntaxFault.Memory (λ _. state w.new) result (steps.act_head head form (turns.head_action stage w.old.context.levels head.part.start form w.old.word.items n b) n b (state w.old)) }
+    ensures does { Gives SyntaxFault.Memory (λ _. state w.new) result
+        (steps.act_head head form (turns.head_action stage w.old.context.levels head.part.start form
+        w.old.word.items n b) n b (state w.old)) }
     ensures fits { OnOk result (Fits w.old w.new) }
 {
     match stage {
@@ -443,7 +461,9 @@ pub fn head_step(
 pub fn choice_step(head: Head, later: bool, n: u32, b: u8, w: &mut Walk) -> Result<(), SyntaxFault>
     requires room { length w.old.tokens.items < 2 ^ 31 }
     requires place { n < 2 ^ 31 }
-    ensures does { Gives SyntaxFault.Memory (λ _. state w.new) result (steps.act_choice head later (turns.choice_action later w.old.context.levels head.part.start n b) n b (state w.old)) }
+    ensures does { Gives SyntaxFault.Memory (λ _. state w.new) result
+        (steps.act_choice head later (turns.choice_action later w.old.context.levels head.part.start
+        n b) n b (state w.old)) }
     ensures fits { OnOk result (Fits w.old w.new) }
 {
     if later && b == b':' {

@@ -49,7 +49,8 @@ fn refused(at: u32) -> Result<(), SyntaxFault>
 fn item(single: Single, taken: Taken, start: u32, end: u32, w: &mut Walk) -> Result<(), SyntaxFault>
     requires room { length w.old.tokens.items < 2 ^ 31 }
     requires trail { w.old.trailing < 2 ^ 31 }
-    ensures does { Gives SyntaxFault.Memory (λ _. state w.new) result (Ok (steps.with_part (turns.part single taken start end) (state w.old))) }
+    ensures does { Gives SyntaxFault.Memory (λ _. state w.new) result
+        (Ok (steps.with_part (turns.part single taken start end) (state w.old))) }
     ensures size { OnOk result (length w.new.tokens.items ≤ length w.old.tokens.items + 1) }
     ensures trail { OnOk result (w.new.trailing ≤ w.old.trailing + 1) }
 {
@@ -69,7 +70,8 @@ pub fn start(n: u32, b: u8, w: &mut Walk) -> Result<(), SyntaxFault>
     requires room { length w.old.tokens.items < 2 ^ 31 }
     requires place { n < 2 ^ 31 }
     requires trail { w.old.trailing < 2 ^ 31 }
-    ensures does { Gives SyntaxFault.Memory (λ _. state w.new) result (steps.start n b (state w.old)) }
+    ensures does { Gives SyntaxFault.Memory (λ _. state w.new) result
+        (steps.start n b (state w.old)) }
     ensures fits { OnOk result (Fits w.old w.new) }
 {
     if b == b'\\' {
@@ -97,7 +99,8 @@ pub fn percent(at: u32, n: u32, b: u8, w: &mut Walk) -> Result<(), SyntaxFault>
     requires room { length w.old.tokens.items < 2 ^ 31 }
     requires place { n < 2 ^ 31 }
     requires trail { w.old.trailing < 2 ^ 31 }
-    ensures does { Gives SyntaxFault.Memory (λ _. state w.new) result (steps.percent at n b (state w.old)) }
+    ensures does { Gives SyntaxFault.Memory (λ _. state w.new) result
+        (steps.percent at n b (state w.old)) }
     ensures fits { OnOk result (Fits w.old w.new) }
 {
     if !allows(w.context.in_arguments, b) {
@@ -133,7 +136,8 @@ fn suffix_start(at: u32, kind: TempKind, n: u32, b: u8, w: &mut Walk) -> Result<
     requires room { length w.old.tokens.items < 2 ^ 30 }
     requires place { n < 2 ^ 31 }
     requires trail { w.old.trailing < 2 ^ 30 }
-    ensures does { Gives SyntaxFault.Memory (λ _. state w.new) result (steps.act_turn (turns.suffix_start w.old.context at kind n b) n b (state w.old)) }
+    ensures does { Gives SyntaxFault.Memory (λ _. state w.new) result
+        (steps.act_turn (turns.suffix_start w.old.context at kind n b) n b (state w.old)) }
     ensures size { OnOk result (length w.new.tokens.items ≤ length w.old.tokens.items + 4) }
     ensures trail { OnOk result (w.new.trailing ≤ w.old.trailing + 4) }
 {
@@ -156,7 +160,8 @@ pub fn suffix_run(at: u32, kind: TempKind, n: u32, b: u8, w: &mut Walk) -> Resul
     requires room { length w.old.tokens.items < 2 ^ 30 }
     requires place { n < 2 ^ 31 }
     requires trail { w.old.trailing < 2 ^ 30 }
-    ensures does { Gives SyntaxFault.Memory (λ _. state w.new) result (steps.act_turn (turns.suffix_run w.old.context at kind n b) n b (state w.old)) }
+    ensures does { Gives SyntaxFault.Memory (λ _. state w.new) result
+        (steps.act_turn (turns.suffix_run w.old.context at kind n b) n b (state w.old)) }
     ensures size { OnOk result (length w.new.tokens.items ≤ length w.old.tokens.items + 4) }
     ensures trail { OnOk result (w.new.trailing ≤ w.old.trailing + 4) }
 {
@@ -179,7 +184,8 @@ fn suffix_percent(
     requires room { length w.old.tokens.items < 2 ^ 30 }
     requires place { n < 2 ^ 31 }
     requires trail { w.old.trailing < 2 ^ 30 }
-    ensures does { Gives SyntaxFault.Memory (λ _. state w.new) result (steps.act_turn (turns.suffix_percent w.old.context at kind second n b) n b (state w.old)) }
+    ensures does { Gives SyntaxFault.Memory (λ _. state w.new) result
+        (steps.act_turn (turns.suffix_percent w.old.context at kind second n b) n b (state w.old)) }
     ensures size { OnOk result (length w.new.tokens.items ≤ length w.old.tokens.items + 4) }
     ensures trail { OnOk result (w.new.trailing ≤ w.old.trailing + 4) }
 {
@@ -195,7 +201,8 @@ fn option_text(at: u32, n: u32, b: u8, w: &mut Walk) -> Result<(), SyntaxFault>
     requires room { length w.old.tokens.items < 2 ^ 31 }
     requires place { n < 2 ^ 31 }
     requires trail { w.old.trailing < 2 ^ 31 }
-    ensures does { Gives SyntaxFault.Memory (λ _. state w.new) result (steps.act_list (turns.option_action at w.old.word.items n b) n b (state w.old)) }
+    ensures does { Gives SyntaxFault.Memory (λ _. state w.new) result
+        (steps.act_list (turns.option_action at w.old.word.items n b) n b (state w.old)) }
     ensures fits { OnOk result (Fits w.old w.new) }
 {
     if b == b'\\' {
@@ -214,7 +221,8 @@ pub fn saying_text(at: u32, kind: SayKind, n: u32, b: u8, w: &mut Walk) -> Resul
     requires room { length w.old.tokens.items < 2 ^ 30 }
     requires place { n < 2 ^ 31 }
     requires trail { w.old.trailing < 2 ^ 30 }
-    ensures does { Gives SyntaxFault.Memory (λ _. state w.new) result (steps.act_turn (turns.saying_turn w.old.context at kind n b) n b (state w.old)) }
+    ensures does { Gives SyntaxFault.Memory (λ _. state w.new) result
+        (steps.act_turn (turns.saying_turn w.old.context at kind n b) n b (state w.old)) }
     ensures size { OnOk result (length w.new.tokens.items ≤ length w.old.tokens.items + 4) }
     ensures trail { OnOk result (w.new.trailing ≤ w.old.trailing + 4) }
 {
@@ -244,7 +252,8 @@ pub fn name_text(at: u32, n: u32, b: u8, w: &mut Walk) -> Result<(), SyntaxFault
     requires room { length w.old.tokens.items < 2 ^ 31 }
     requires place { n < 2 ^ 31 }
     requires trail { w.old.trailing < 2 ^ 31 }
-    ensures does { Gives SyntaxFault.Memory (λ _. state w.new) result (steps.act_list (turns.name_action at w.old.word.items n b) n b (state w.old)) }
+    ensures does { Gives SyntaxFault.Memory (λ _. state w.new) result
+        (steps.act_list (turns.name_action at w.old.word.items n b) n b (state w.old)) }
     ensures fits { OnOk result (Fits w.old w.new) }
 {
     if is_name(b) {
@@ -265,7 +274,8 @@ fn hide_start(at: u32, n: u32, b: u8, w: &mut Walk) -> Result<(), SyntaxFault>
     requires room { length w.old.tokens.items < 2 ^ 31 }
     requires place { n < 2 ^ 31 }
     requires trail { w.old.trailing < 2 ^ 31 }
-    ensures does { Gives SyntaxFault.Memory (λ _. state w.new) result (steps.act_list (turns.hide_action at n b) n b (state w.old)) }
+    ensures does { Gives SyntaxFault.Memory (λ _. state w.new) result
+        (steps.act_list (turns.hide_action at n b) n b (state w.old)) }
     ensures fits { OnOk result (Fits w.old w.new) }
 {
     if b == b'\\' {
@@ -284,7 +294,8 @@ pub fn hide_word(at: u32, n: u32, b: u8, w: &mut Walk) -> Result<(), SyntaxFault
     requires room { length w.old.tokens.items < 2 ^ 30 }
     requires place { n < 2 ^ 31 }
     requires trail { w.old.trailing < 2 ^ 30 }
-    ensures does { Gives SyntaxFault.Memory (λ _. state w.new) result (steps.act_turn (turns.hide_word w.old.context at n b) n b (state w.old)) }
+    ensures does { Gives SyntaxFault.Memory (λ _. state w.new) result
+        (steps.act_turn (turns.hide_word w.old.context at n b) n b (state w.old)) }
     ensures size { OnOk result (length w.new.tokens.items ≤ length w.old.tokens.items + 4) }
     ensures trail { OnOk result (w.new.trailing ≤ w.old.trailing + 4) }
 {
@@ -306,7 +317,8 @@ fn function_name(at: u32, n: u32, b: u8, w: &mut Walk) -> Result<(), SyntaxFault
     requires room { length w.old.tokens.items < 2 ^ 31 }
     requires place { n < 2 ^ 31 }
     requires trail { w.old.trailing < 2 ^ 31 }
-    ensures does { Gives SyntaxFault.Memory (λ _. state w.new) result (steps.act_list (turns.call_action at w.old.word.items b) n b (state w.old)) }
+    ensures does { Gives SyntaxFault.Memory (λ _. state w.new) result
+        (steps.act_list (turns.call_action at w.old.word.items b) n b (state w.old)) }
     ensures fits { OnOk result (Fits w.old w.new) }
 {
     if is_function_front(&w.word, b) {
@@ -323,7 +335,9 @@ pub fn list_step(stage: ListStage, n: u32, b: u8, w: &mut Walk) -> Result<(), Sy
     requires room { length w.old.tokens.items < 2 ^ 30 }
     requires place { n < 2 ^ 31 }
     requires trail { w.old.trailing < 2 ^ 30 }
-    ensures does { Gives SyntaxFault.Memory (λ _. state w.new) result (steps.act_turn (turns.list_turn stage w.old.context w.old.word.items n b) n b (state w.old)) }
+    ensures does { Gives SyntaxFault.Memory (λ _. state w.new) result
+        (steps.act_turn (turns.list_turn stage w.old.context w.old.word.items n b) n b
+        (state w.old)) }
     ensures size { OnOk result (length w.new.tokens.items ≤ length w.old.tokens.items + 4) }
     ensures trail { OnOk result (w.new.trailing ≤ w.old.trailing + 4) }
 {

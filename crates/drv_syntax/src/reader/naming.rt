@@ -43,7 +43,8 @@ pub fn taken_word(taken: Taken, word: &[u8]) -> &[u8]
 
 /// A part that names a word alone.
 pub fn name_word(word: &[u8], labels: &mut Labels) -> Result<(), SyntaxFault>
-    ensures { Gives SyntaxFault.Memory (λ _. labels.new) result (Ok (labels.old ++ word_label word.now ∷ [])) }
+    ensures { Gives SyntaxFault.Memory (λ _. labels.new) result
+        (Ok (labels.old ++ word_label word.now ∷ [])) }
 {
     labels.push(word, false, false, TestKind::Switch)
 }
@@ -51,7 +52,8 @@ pub fn name_word(word: &[u8], labels: &mut Labels) -> Result<(), SyntaxFault>
 /// An item without parts inside it, with this word.
 #[inline(always)]
 pub fn name_single(single: Single, word: &[u8], labels: &mut Labels) -> Result<(), SyntaxFault>
-    ensures { Gives SyntaxFault.Memory (λ _. labels.new) result (Ok (labels.old ++ walk.single_label single word.now ∷ [])) }
+    ensures { Gives SyntaxFault.Memory (λ _. labels.new) result
+        (Ok (labels.old ++ walk.single_label single word.now ∷ [])) }
 {
     match single {
         Single::Plain(b) | Single::Escape(b) => labels.push_byte(b),
@@ -67,7 +69,8 @@ pub fn name_single(single: Single, word: &[u8], labels: &mut Labels) -> Result<(
 /// A pattern, with this word.
 #[inline(always)]
 pub fn name_pattern(behind: Behind, word: &[u8], labels: &mut Labels) -> Result<(), SyntaxFault>
-    ensures { Gives SyntaxFault.Memory (λ _. labels.new) result (Ok (labels.old ++ walk.after_pattern behind word.now ∷ [])) }
+    ensures { Gives SyntaxFault.Memory (λ _. labels.new) result
+        (Ok (labels.old ++ walk.after_pattern behind word.now ∷ [])) }
 {
     match behind {
         Behind::Switch { starred, .. } => labels.push(word, starred, false, TestKind::Switch),
@@ -90,7 +93,8 @@ fn mark_asks(mark: u8) -> TestKind
 /// A test that asks no function, with this word.
 #[inline(always)]
 pub fn name_test(behind: Behind, word: &[u8], labels: &mut Labels) -> Result<(), SyntaxFault>
-    ensures { Gives SyntaxFault.Memory (λ _. labels.new) result (Ok (labels.old ++ walk.after_test behind word.now ∷ [])) }
+    ensures { Gives SyntaxFault.Memory (λ _. labels.new) result
+        (Ok (labels.old ++ walk.after_test behind word.now ∷ [])) }
 {
     match behind {
         Behind::Switch {
@@ -106,7 +110,8 @@ pub fn name_test(behind: Behind, word: &[u8], labels: &mut Labels) -> Result<(),
 
 /// A test of a function with this name, with a `!` or without.
 pub fn name_call(negated: bool, name: &[u8], labels: &mut Labels) -> Result<(), SyntaxFault>
-    ensures { Gives SyntaxFault.Memory (λ _. labels.new) result (Ok (labels.old ++ walk.called_label negated name.now ∷ [])) }
+    ensures { Gives SyntaxFault.Memory (λ _. labels.new) result
+        (Ok (labels.old ++ walk.called_label negated name.now ∷ [])) }
 {
     labels.push(name, false, negated, TestKind::Result)
 }

@@ -92,7 +92,8 @@ fn brace_token(kind: BraceKind, emitted: bool) -> TokenKind
 }
 
 fn enter(frame: Frame, c: Context, kept: u32, w: &mut Walk) -> Result<(), SyntaxFault>
-    ensures does { Gives SyntaxFault.Memory (λ _. state w.new) result (Ok (steps.enter frame c kept (state w.old))) }
+    ensures does { Gives SyntaxFault.Memory (λ _. state w.new) result
+        (Ok (steps.enter frame c kept (state w.old))) }
     ensures size { OnOk result (length w.new.tokens.items ≤ length w.old.tokens.items) }
 {
     w.waiting.push(frame)?;
@@ -107,7 +108,8 @@ fn enter(frame: Frame, c: Context, kept: u32, w: &mut Walk) -> Result<(), Syntax
 /// Braces open.
 pub fn open_braces(start: u32, kind: BraceKind, w: &mut Walk) -> Result<(), SyntaxFault>
     requires room { length w.old.tokens.items < 2 ^ 31 }
-    ensures does { Gives SyntaxFault.Memory (λ _. state w.new) result (Ok (steps.open_braces start kind (state w.old))) }
+    ensures does { Gives SyntaxFault.Memory (λ _. state w.new) result
+        (Ok (steps.open_braces start kind (state w.old))) }
     ensures fits { OnOk result (Fits w.old w.new) }
 {
     let head = Head {
@@ -124,7 +126,8 @@ pub fn open_braces(start: u32, kind: BraceKind, w: &mut Walk) -> Result<(), Synt
 /// A function's arguments open.
 pub fn open_call(start: u32, w: &mut Walk) -> Result<(), SyntaxFault>
     requires room { length w.old.tokens.items < 2 ^ 31 }
-    ensures does { Gives SyntaxFault.Memory (λ _. state w.new) result (Ok (steps.open_call start (state w.old))) }
+    ensures does { Gives SyntaxFault.Memory (λ _. state w.new) result
+        (Ok (steps.open_call start (state w.old))) }
     ensures fits { OnOk result (Fits w.old w.new) }
 {
     let part = next_open(w, start);
@@ -157,7 +160,8 @@ pub fn alternative_of(form: Form, start: u32, w: &Walk) -> Open
 
 /// An alternative opens.
 pub fn open_alternative(start: u32, w: &mut Walk) -> Result<(), SyntaxFault>
-    ensures does { Gives SyntaxFault.Memory (λ _. state w.new) result (Ok (steps.open_alternative start (state w.old))) }
+    ensures does { Gives SyntaxFault.Memory (λ _. state w.new) result
+        (Ok (steps.open_alternative start (state w.old))) }
     ensures size { OnOk result (length w.new.tokens.items ≤ length w.old.tokens.items + 1) }
     ensures trail { OnOk result (w.new.trailing ≤ w.old.trailing) }
 {
@@ -166,7 +170,8 @@ pub fn open_alternative(start: u32, w: &mut Walk) -> Result<(), SyntaxFault>
 }
 
 fn with_alternative(form: Form, start: u32, w: &mut Walk) -> Result<(), SyntaxFault>
-    ensures does { Gives SyntaxFault.Memory (λ _. state w.new) result (Ok (steps.with_alternative form start (state w.old))) }
+    ensures does { Gives SyntaxFault.Memory (λ _. state w.new) result
+        (Ok (steps.with_alternative form start (state w.old))) }
     ensures size { OnOk result (length w.new.tokens.items ≤ length w.old.tokens.items + 1) }
     ensures trail { OnOk result (w.new.trailing ≤ w.old.trailing) }
 {
@@ -195,7 +200,8 @@ pub fn open_test(
     w: &mut Walk,
 ) -> Result<(), SyntaxFault>
     requires room { length w.old.tokens.items < 2 ^ 31 }
-    ensures does { Gives SyntaxFault.Memory (λ _. state w.new) result (Ok (steps.open_test head form start negated (state w.old))) }
+    ensures does { Gives SyntaxFault.Memory (λ _. state w.new) result
+        (Ok (steps.open_test head form start negated (state w.old))) }
     ensures fits { OnOk result (Fits w.old w.new) }
 {
     let alternative = alternative_of(form, start, w);
@@ -291,7 +297,8 @@ pub fn untested(at: u32, behind: Behind) -> SyntaxFault
 #[inline(always)]
 pub fn with_pattern(behind: Behind, w: &mut Walk) -> Result<(), SyntaxFault>
     requires { length w.old.tokens.items < 2 ^ 31 }
-    ensures does { Gives SyntaxFault.Memory (λ _. state w.new) result (Ok (steps.with_pattern behind (state w.old))) }
+    ensures does { Gives SyntaxFault.Memory (λ _. state w.new) result
+        (Ok (steps.with_pattern behind (state w.old))) }
     ensures size { OnOk result (length w.new.tokens.items ≤ length w.old.tokens.items + 1) }
     ensures trail { OnOk result (w.new.trailing ≤ w.old.trailing) }
 {
@@ -303,7 +310,8 @@ pub fn with_pattern(behind: Behind, w: &mut Walk) -> Result<(), SyntaxFault>
 #[inline(always)]
 pub fn lent_pattern(behind: Behind, word: &[u8], w: &mut Walk) -> Result<(), SyntaxFault>
     requires { length w.old.tokens.items < 2 ^ 31 }
-    ensures does { Gives SyntaxFault.Memory (λ _. steps.with_word word.now (state w.new)) result (Ok (steps.with_pattern behind (steps.with_word word.now (state w.old)))) }
+    ensures does { Gives SyntaxFault.Memory (λ _. steps.with_word word.now (state w.new)) result
+        (Ok (steps.with_pattern behind (steps.with_word word.now (state w.old)))) }
     ensures size { OnOk result (length w.new.tokens.items ≤ length w.old.tokens.items + 1) }
     ensures trail { OnOk result (w.new.trailing ≤ w.old.trailing) }
 {
@@ -315,7 +323,8 @@ pub fn lent_pattern(behind: Behind, word: &[u8], w: &mut Walk) -> Result<(), Syn
 #[inline(always)]
 pub fn lent_test(form: Form, behind: Behind, word: &[u8], w: &mut Walk) -> Result<(), SyntaxFault>
     requires { length w.old.tokens.items < 2 ^ 31 }
-    ensures does { Gives SyntaxFault.Memory (λ _. steps.with_word word.now (state w.new)) result (Ok (steps.with_test form behind (steps.with_word word.now (state w.old)))) }
+    ensures does { Gives SyntaxFault.Memory (λ _. steps.with_word word.now (state w.new)) result
+        (Ok (steps.with_test form behind (steps.with_word word.now (state w.old)))) }
     ensures size { OnOk result (length w.new.tokens.items ≤ length w.old.tokens.items + 2) }
     ensures trail { OnOk result (w.new.trailing ≤ w.old.trailing) }
 {
@@ -328,7 +337,8 @@ pub fn lent_test(form: Form, behind: Behind, word: &[u8], w: &mut Walk) -> Resul
 #[inline(always)]
 pub fn with_test(form: Form, behind: Behind, w: &mut Walk) -> Result<(), SyntaxFault>
     requires { length w.old.tokens.items < 2 ^ 31 }
-    ensures does { Gives SyntaxFault.Memory (λ _. state w.new) result (Ok (steps.with_test form behind (state w.old))) }
+    ensures does { Gives SyntaxFault.Memory (λ _. state w.new) result
+        (Ok (steps.with_test form behind (state w.old))) }
     ensures size { OnOk result (length w.new.tokens.items ≤ length w.old.tokens.items + 2) }
     ensures trail { OnOk result (w.new.trailing ≤ w.old.trailing) }
 {
@@ -358,7 +368,8 @@ pub fn ask(
     w: &mut Walk,
 ) -> Result<(), SyntaxFault>
     requires { colon < 2 ^ 31 }
-    ensures does { Gives SyntaxFault.Memory (λ _. state w.new) result (Ok (steps.ask head part tested starred colon (state w.old))) }
+    ensures does { Gives SyntaxFault.Memory (λ _. state w.new) result
+        (Ok (steps.ask head part tested starred colon (state w.old))) }
     ensures fits { OnOk result (Fits w.old w.new) }
 {
     let owner = if starred {

@@ -25,7 +25,8 @@ fn end_part(
 ) -> Result<(), SyntaxFault>
     requires room { length w.old.tokens.items < 2 ^ 30 }
     requires trail { w.old.trailing < 2 ^ 30 }
-    ensures does { Gives SyntaxFault.Memory (λ _. state w.new) result (steps.end_part single taken start end (state w.old)) }
+    ensures does { Gives SyntaxFault.Memory (λ _. state w.new) result
+        (steps.end_part single taken start end (state w.old)) }
     ensures size { OnOk result (length w.new.tokens.items ≤ length w.old.tokens.items + 1) }
     ensures trail { OnOk result (w.new.trailing ≤ w.old.trailing + 1) }
 {
@@ -49,7 +50,8 @@ fn unclosed(at: u32) -> Result<(), SyntaxFault>
 fn finish_list(stage: ListStage, n: u32, w: &mut Walk) -> Result<(), SyntaxFault>
     requires room { length w.old.tokens.items < 2 ^ 30 }
     requires trail { w.old.trailing < 2 ^ 30 }
-    ensures does { Gives SyntaxFault.Memory (λ _. state w.new) result (steps.finish_list stage n (state w.old)) }
+    ensures does { Gives SyntaxFault.Memory (λ _. state w.new) result
+        (steps.finish_list stage n (state w.old)) }
     ensures size { OnOk result (length w.new.tokens.items ≤ length w.old.tokens.items + 1) }
     ensures trail { OnOk result (w.new.trailing ≤ w.old.trailing + 1) }
 {
@@ -101,7 +103,8 @@ fn place_of(frame: Frame) -> u32
 fn finish(n: u32, w: &mut Walk) -> Result<(), SyntaxFault>
     requires room { length w.old.tokens.items < 2 ^ 30 }
     requires trail { w.old.trailing < 2 ^ 30 }
-    ensures does { Gives SyntaxFault.Memory (λ _. state w.new) result (steps.finish n (state w.old)) }
+    ensures does { Gives SyntaxFault.Memory (λ _. state w.new) result
+        (steps.finish n (state w.old)) }
     ensures size { OnOk result (length w.new.tokens.items ≤ length w.old.tokens.items + 1) }
     ensures trail { OnOk result (w.new.trailing ≤ w.old.trailing + 1) }
 {
@@ -154,8 +157,10 @@ fn read(start: u32, text: &[u8], w: &mut Walk) -> Result<(), SyntaxFault>
     requires short { start + length text.now ≤ 1048576 }
     requires room { length w.old.tokens.items ≤ 5 * start + 1 }
     requires trail { w.old.trailing ≤ 5 * start + 1 }
-    ensures does { Gives SyntaxFault.Memory (λ _. state w.new) result (steps.pass (state w.old) start text.now) }
-    ensures size { OnOk result (length w.new.tokens.items ≤ length w.old.tokens.items + 4 * length text.now) }
+    ensures does { Gives SyntaxFault.Memory (λ _. state w.new) result
+        (steps.pass (state w.old) start text.now) }
+    ensures size { OnOk result (length w.new.tokens.items
+        ≤ length w.old.tokens.items + 4 * length text.now) }
     ensures trail { OnOk result (w.new.trailing ≤ w.old.trailing + 4 * length text.now) }
 {
     let mut n = start;
@@ -174,9 +179,12 @@ fn read_to_end(start: u32, text: &[u8], w: &mut Walk) -> Result<Ending, SyntaxFa
     requires short { start + length text.now ≤ 1048576 }
     requires room { length w.old.tokens.items ≤ 5 * start + 1 }
     requires trail { w.old.trailing ≤ 5 * start + 1 }
-    ensures does { Gives SyntaxFault.Memory (λ _. state w.new) result (steps.walk (state w.old) start text.now) }
-    ensures resumes { IfOk result (λ ending. Follows ending (state w.old) start text.now (state w.new)) }
-    ensures size { OnOk result (length w.new.tokens.items ≤ length w.old.tokens.items + 4 * length text.now + 1) }
+    ensures does { Gives SyntaxFault.Memory (λ _. state w.new) result
+        (steps.walk (state w.old) start text.now) }
+    ensures resumes { IfOk result (λ ending. Follows ending (state w.old) start text.now
+        (state w.new)) }
+    ensures size { OnOk result (length w.new.tokens.items
+        ≤ length w.old.tokens.items + 4 * length text.now + 1) }
     ensures trail { OnOk result (w.new.trailing ≤ w.old.trailing + 4 * length text.now + 1) }
 {
     read(start, text, w)?;
@@ -185,14 +193,18 @@ fn read_to_end(start: u32, text: &[u8], w: &mut Walk) -> Result<Ending, SyntaxFa
     Ok(ending)
 }
 
-/// What a text comes to, the first bytes of which have come to this state, so many: by the rest of it.
+/// What a text comes to, the first bytes of which have come to this state, so many: by the rest of
+/// it.
 pub fn read_after(start: u32, more: &[u8], walk: Walk) -> Result<Ended, SyntaxFault>
     requires short { start + length more.now ≤ 1048576 }
     requires room { length walk.tokens.items ≤ 5 * start + 1 }
     requires trail { walk.trailing ≤ 5 * start + 1 }
-    ensures does { Gives SyntaxFault.Memory (λ e. state e.walk) result (steps.walk (state walk) start more.now) }
-    ensures resumes { IfOk result (λ e. Follows e.ending (state walk) start more.now (state e.walk)) }
-    ensures size { IfOk result (λ e. length e.walk.tokens.items ≤ length walk.tokens.items + 4 * length more.now + 1) }
+    ensures does { Gives SyntaxFault.Memory (λ e. state e.walk) result
+        (steps.walk (state walk) start more.now) }
+    ensures resumes { IfOk result (λ e. Follows e.ending (state walk) start more.now
+        (state e.walk)) }
+    ensures size { IfOk result (λ e. length e.walk.tokens.items
+        ≤ length walk.tokens.items + 4 * length more.now + 1) }
     ensures trail { IfOk result (λ e. e.walk.trailing ≤ walk.trailing + 4 * length more.now + 1) }
 {
     let mut walk = walk;
@@ -204,7 +216,8 @@ pub fn read_after(start: u32, more: &[u8], walk: Walk) -> Result<Ended, SyntaxFa
 #[inline(always)]
 pub fn read_text(alloc: Global, text: &[u8]) -> Result<Ended, SyntaxFault>
     requires { length text.now ≤ 1048576 }
-    ensures does { Gives SyntaxFault.Memory (λ e. state e.walk) result (steps.walk steps.started 0 text.now) }
+    ensures does { Gives SyntaxFault.Memory (λ e. state e.walk) result
+        (steps.walk steps.started 0 text.now) }
     ensures resumes { IfOk result (λ e. Follows e.ending steps.started 0 text.now (state e.walk)) }
     ensures size { IfOk result (λ e. length e.walk.tokens.items ≤ 4 * length text.now + 1) }
     ensures trail { IfOk result (λ e. e.walk.trailing ≤ 4 * length text.now + 1) }

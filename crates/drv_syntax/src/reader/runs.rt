@@ -30,7 +30,8 @@ fn stands(kind: ListKind, b: u8) -> bool
         }
 }
 
-/// How many bytes a text begins with that stand for themselves in such a list. Most runs have few bytes, so each is tested.
+/// How many bytes a text begins with that stand for themselves in such a list. Most runs have few
+/// bytes, so each is tested.
 #[inline(always)]
 pub fn run_length(kind: ListKind, text: &[u8]) -> usize
     ensures run { result ≡ prefix_len (steps.runs kind) text.now }
@@ -43,7 +44,8 @@ pub fn run_length(kind: ListKind, text: &[u8]) -> usize
     length
 }
 
-/// Where the first byte is that does more in a text for the user than stand for itself, in such a list.
+/// Where the first byte is that does more in a text for the user than stand for itself, in such a
+/// list.
 fn said_stop(kind: ListKind, text: &[u8]) -> Option<usize>
     ensures { IsFirstByte (is_in (steps.said_stops kind)) text.now result }
 {
@@ -111,7 +113,8 @@ pub fn front(text: &[u8], size: usize) -> &[u8]
 /// So many bytes go to the word's end.
 pub fn extend(size: usize, text: &[u8], w: &mut Walk) -> Result<(), SyntaxFault>
     requires { size ≤ length text.now }
-    ensures does { Gives SyntaxFault.Memory (λ _. state w.new) result (Ok (steps.with_word (w.old.word.items ++ take size text.now) (state w.old))) }
+    ensures does { Gives SyntaxFault.Memory (λ _. state w.new) result
+        (Ok (steps.with_word (w.old.word.items ++ take size text.now) (state w.old))) }
     ensures same { w.new.tokens.items ≡ w.old.tokens.items }
     ensures trail { w.new.trailing ≡ w.old.trailing }
 {

@@ -252,7 +252,8 @@ pub enum Stage {
         form: Form,
         stage: HeadStage,
     },
-    /// After a test of a function's result, in this alternative; whether the braces can hold alternatives.
+    /// After a test of a function's result, in this alternative; whether the braces can hold
+    /// alternatives.
     Result {
         head: Head,
         alternative: Open,
@@ -260,11 +261,12 @@ pub enum Stage {
     },
 }
 
-/// A directive that waits for the end of a list in it, and the context of the list that it stands in.
+/// A directive that waits for the end of a list in it, and the context of the list that it stands
+/// in.
 #[derive(Clone, Copy)]
 pub enum Frame {
-    /// An X: the braces, the place of the colon, the alternative, whether it has tests, and whether the X around has a `%*`
-    /// of its own so far.
+    /// An X: the braces, the place of the colon, the alternative, whether it has tests, and whether
+    /// the X around has a `%*` of its own so far.
     X {
         context: Context,
         head: Head,
@@ -278,7 +280,8 @@ pub enum Frame {
         context: Context,
         part: Open,
     },
-    /// A test of a function: the braces, the alternative, the test, and whether the braces can hold alternatives.
+    /// A test of a function: the braces, the alternative, the test, and whether the braces can hold
+    /// alternatives.
     Test {
         context: Context,
         head: Head,

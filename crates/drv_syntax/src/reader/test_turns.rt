@@ -3,12 +3,13 @@
 ghost use Rattle.drv_syntax.specs.Bytes as bytes;
 ghost use Rattle.drv_syntax.specs.Code.States.{Reads, state};
 ghost use Rattle.drv_syntax.specs.Code.Steps as steps;
-ghost use Rattle.std.specs.Prelude.{◌≡◌, ◌<◌, ◌≤◌, ◌^◌, ◌+◌, ◌*◌, ◌∷◌, ◌&&◌, [], IfOk, Ok, get_or, length, not, true};
+ghost use Rattle.std.specs.Prelude.{◌≡◌, ◌<◌, ◌≤◌, ◌^◌, ◌+◌, ◌*◌, ◌∷◌, ◌&&◌, [], IfOk, Ok, get_or};
+ghost use Rattle.std.specs.Prelude.{length, not, true};
 
 use crate::fault::SyntaxFault;
 use crate::reader::acts::act_lent;
 use crate::reader::bytes::{ends_word, is_mark, is_word};
-use crate::reader::head_steps::{at, after_test, test_word};
+use crate::reader::head_steps::{after_test, at, test_word};
 use crate::reader::runs::{extend, front, word_length};
 use crate::reader::stages::{Behind, Form, Head, HeadStage, Stage};
 use crate::reader::walk::Walk;
@@ -29,7 +30,8 @@ fn word_end(
     requires place { n + length text.now < 2 ^ 30 }
     requires trail { w.old.trailing < 2 ^ 29 }
     ensures does { Reads n text.now (state w.old) (state w.new) result }
-    ensures size { IfOk result (λ taken. length w.new.tokens.items ≤ length w.old.tokens.items + 4 * taken) }
+    ensures size { IfOk result (λ taken. length w.new.tokens.items
+        ≤ length w.old.tokens.items + 4 * taken) }
     ensures trail { IfOk result (λ taken. w.new.trailing ≤ w.old.trailing + 4 * taken) }
 {
     if text.is_empty() {
@@ -66,7 +68,8 @@ pub fn word_turn(
     requires place { n + length text.now < 2 ^ 30 }
     requires trail { w.old.trailing < 2 ^ 29 }
     ensures does { Reads n text.now (state w.old) (state w.new) result }
-    ensures size { IfOk result (λ taken. length w.new.tokens.items ≤ length w.old.tokens.items + 4 * taken) }
+    ensures size { IfOk result (λ taken. length w.new.tokens.items
+        ≤ length w.old.tokens.items + 4 * taken) }
     ensures trail { IfOk result (λ taken. w.new.trailing ≤ w.old.trailing + 4 * taken) }
 {
     let size = word_length(text);
@@ -98,8 +101,10 @@ fn put_end(
     requires room { length w.old.tokens.items < 2 ^ 29 }
     requires place { n + length text.now < 2 ^ 30 }
     requires trail { w.old.trailing < 2 ^ 29 }
-    ensures does { Reads n text.now (steps.in_word head form start negated word.now (state w.old)) (state w.new) result }
-    ensures size { IfOk result (λ taken. length w.new.tokens.items ≤ length w.old.tokens.items + 4 * taken) }
+    ensures does { Reads n text.now (steps.in_word head form start negated word.now (state w.old))
+        (state w.new) result }
+    ensures size { IfOk result (λ taken. length w.new.tokens.items
+        ≤ length w.old.tokens.items + 4 * taken) }
     ensures trail { IfOk result (λ taken. w.new.trailing ≤ w.old.trailing + 4 * taken) }
 {
     w.stage = at(head, form, HeadStage::TestWord { start, negated });
@@ -123,8 +128,10 @@ fn lent_end(
     requires room { length w.old.tokens.items < 2 ^ 29 }
     requires place { n + length text.now < 2 ^ 30 }
     requires trail { w.old.trailing < 2 ^ 29 }
-    ensures does { Reads n text.now (steps.in_word head form start negated word.now (state w.old)) (state w.new) result }
-    ensures size { IfOk result (λ taken. length w.new.tokens.items ≤ length w.old.tokens.items + 4 * taken) }
+    ensures does { Reads n text.now (steps.in_word head form start negated word.now (state w.old))
+        (state w.new) result }
+    ensures size { IfOk result (λ taken. length w.new.tokens.items
+        ≤ length w.old.tokens.items + 4 * taken) }
     ensures trail { IfOk result (λ taken. w.new.trailing ≤ w.old.trailing + 4 * taken) }
 {
     match text {
@@ -164,13 +171,15 @@ fn begun_turn(
     w: &mut Walk,
 ) -> Result<usize, SyntaxFault>
     requires word { bytes.is_word (get_or text.now 0 0) ≡ true }
-    requires begins { steps.step (state w.old) n (get_or text.now 0 0) ≡ Ok (steps.at_stage (Stage.Braces head form (HeadStage.TestWord start negated))
+    requires begins { steps.step (state w.old) n (get_or text.now 0 0)
+        ≡ Ok (steps.at_stage (Stage.Braces head form (HeadStage.TestWord start negated))
         (steps.with_word (get_or text.now 0 0 ∷ []) (state w.old))) }
     requires room { length w.old.tokens.items < 2 ^ 29 }
     requires place { n + length text.now < 2 ^ 30 }
     requires trail { w.old.trailing < 2 ^ 29 }
     ensures does { Reads n text.now (state w.old) (state w.new) result }
-    ensures size { IfOk result (λ taken. length w.new.tokens.items ≤ length w.old.tokens.items + 4 * taken) }
+    ensures size { IfOk result (λ taken. length w.new.tokens.items
+        ≤ length w.old.tokens.items + 4 * taken) }
     ensures trail { IfOk result (λ taken. w.new.trailing ≤ w.old.trailing + 4 * taken) }
 {
     let size = word_length(text);
@@ -205,12 +214,14 @@ fn mark_turn(
     w: &mut Walk,
 ) -> Result<usize, SyntaxFault>
     requires some { 0 < length text.now }
-    requires begins { steps.step (state w.old) n (get_or text.now 0 0) ≡ Ok (steps.at_stage (Stage.Braces head form (HeadStage.TestNegated n)) (state w.old)) }
+    requires begins { steps.step (state w.old) n (get_or text.now 0 0)
+        ≡ Ok (steps.at_stage (Stage.Braces head form (HeadStage.TestNegated n)) (state w.old)) }
     requires room { length w.old.tokens.items < 2 ^ 29 }
     requires place { n + length text.now < 2 ^ 30 }
     requires trail { w.old.trailing < 2 ^ 29 }
     ensures does { Reads n text.now (state w.old) (state w.new) result }
-    ensures size { IfOk result (λ taken. length w.new.tokens.items ≤ length w.old.tokens.items + 4 * taken) }
+    ensures size { IfOk result (λ taken. length w.new.tokens.items
+        ≤ length w.old.tokens.items + 4 * taken) }
     ensures trail { IfOk result (λ taken. w.new.trailing ≤ w.old.trailing + 4 * taken) }
 {
     w.stage = at(head, form, HeadStage::TestNegated { start: n });
@@ -218,7 +229,8 @@ fn mark_turn(
     Ok(1 + more)
 }
 
-/// Where an alternative begins: a test, if one begins here with a word or with `!`, and what ends it.
+/// Where an alternative begins: a test, if one begins here with a word or with `!`, and what ends
+/// it.
 #[inline(always)]
 pub fn choice_turn(
     head: Head,
@@ -232,7 +244,8 @@ pub fn choice_turn(
     requires place { n + length text.now < 2 ^ 30 }
     requires trail { w.old.trailing < 2 ^ 29 }
     ensures does { Reads n text.now (state w.old) (state w.new) result }
-    ensures size { IfOk result (λ taken. length w.new.tokens.items ≤ length w.old.tokens.items + 4 * taken) }
+    ensures size { IfOk result (λ taken. length w.new.tokens.items
+        ≤ length w.old.tokens.items + 4 * taken) }
     ensures trail { IfOk result (λ taken. w.new.trailing ≤ w.old.trailing + 4 * taken) }
 {
     if text.is_empty() {
@@ -262,7 +275,8 @@ pub fn due_turn(
     requires place { n + length text.now < 2 ^ 30 }
     requires trail { w.old.trailing < 2 ^ 29 }
     ensures does { Reads n text.now (state w.old) (state w.new) result }
-    ensures size { IfOk result (λ taken. length w.new.tokens.items ≤ length w.old.tokens.items + 4 * taken) }
+    ensures size { IfOk result (λ taken. length w.new.tokens.items
+        ≤ length w.old.tokens.items + 4 * taken) }
     ensures trail { IfOk result (λ taken. w.new.trailing ≤ w.old.trailing + 4 * taken) }
 {
     if text.is_empty() || !begins_word(text[0]) {
@@ -286,7 +300,8 @@ pub fn negated_turn(
     requires place { n + length text.now < 2 ^ 30 }
     requires trail { w.old.trailing < 2 ^ 29 }
     ensures does { Reads n text.now (state w.old) (state w.new) result }
-    ensures size { IfOk result (λ taken. length w.new.tokens.items ≤ length w.old.tokens.items + 4 * taken) }
+    ensures size { IfOk result (λ taken. length w.new.tokens.items
+        ≤ length w.old.tokens.items + 4 * taken) }
     ensures trail { IfOk result (λ taken. w.new.trailing ≤ w.old.trailing + 4 * taken) }
 {
     if text.is_empty() || !begins_word(text[0]) {

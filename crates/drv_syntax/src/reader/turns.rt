@@ -4,7 +4,8 @@ ghost use Rattle.drv_words.specs.Bytes as ascii;
 ghost use Rattle.drv_syntax.specs.Code.States.{Reads, Turns, state};
 ghost use Rattle.drv_syntax.specs.Bytes.{is_name};
 ghost use Rattle.std.specs.List.{prefix_len};
-ghost use Rattle.std.specs.Prelude.{◌≡◌, ◌<◌, ◌≤◌, ◌^◌, ◌+◌, ◌*◌, ◌∷◌, [], IfOk, OnOk, get_or, length};
+ghost use Rattle.std.specs.Prelude.{◌≡◌, ◌<◌, ◌≤◌, ◌^◌, ◌+◌, ◌*◌, ◌∷◌, [], IfOk, OnOk, get_or};
+ghost use Rattle.std.specs.Prelude.{length};
 
 use crate::directives::SayKind;
 use crate::fault::SyntaxFault;
@@ -34,7 +35,8 @@ fn suffix_turn(
     requires place { n + length text.now < 2 ^ 30 }
     requires trail { w.old.trailing < 2 ^ 29 }
     ensures does { Reads n text.now (state w.old) (state w.new) result }
-    ensures size { IfOk result (λ taken. length w.new.tokens.items ≤ length w.old.tokens.items + 4 * taken) }
+    ensures size { IfOk result (λ taken. length w.new.tokens.items
+        ≤ length w.old.tokens.items + 4 * taken) }
     ensures trail { IfOk result (λ taken. w.new.trailing ≤ w.old.trailing + 4 * taken) }
 {
     let size = suffix_length(text);
@@ -60,7 +62,8 @@ fn named_turn(at: u32, size: usize, n: u32, text: &[u8], w: &mut Walk) -> Result
     requires place { n + length text.now < 2 ^ 30 }
     requires trail { w.old.trailing < 2 ^ 29 }
     ensures does { Reads n text.now (state w.old) (state w.new) result }
-    ensures size { IfOk result (λ taken. length w.new.tokens.items ≤ length w.old.tokens.items + 4 * taken) }
+    ensures size { IfOk result (λ taken. length w.new.tokens.items
+        ≤ length w.old.tokens.items + 4 * taken) }
     ensures trail { IfOk result (λ taken. w.new.trailing ≤ w.old.trailing + 4 * taken) }
 {
     with_name(at, n + size as u32 + 1, front(text, size), w)?;
@@ -75,7 +78,8 @@ fn name_turn(at: u32, n: u32, text: &[u8], w: &mut Walk) -> Result<usize, Syntax
     requires place { n + length text.now < 2 ^ 30 }
     requires trail { w.old.trailing < 2 ^ 29 }
     ensures does { Reads n text.now (state w.old) (state w.new) result }
-    ensures size { IfOk result (λ taken. length w.new.tokens.items ≤ length w.old.tokens.items + 4 * taken) }
+    ensures size { IfOk result (λ taken. length w.new.tokens.items
+        ≤ length w.old.tokens.items + 4 * taken) }
     ensures trail { IfOk result (λ taken. w.new.trailing ≤ w.old.trailing + 4 * taken) }
 {
     let size = name_length(text);
@@ -101,7 +105,8 @@ fn hide_turn(at: u32, n: u32, text: &[u8], w: &mut Walk) -> Result<usize, Syntax
     requires place { n + length text.now < 2 ^ 30 }
     requires trail { w.old.trailing < 2 ^ 29 }
     ensures does { Reads n text.now (state w.old) (state w.new) result }
-    ensures size { IfOk result (λ taken. length w.new.tokens.items ≤ length w.old.tokens.items + 4 * taken) }
+    ensures size { IfOk result (λ taken. length w.new.tokens.items
+        ≤ length w.old.tokens.items + 4 * taken) }
     ensures trail { IfOk result (λ taken. w.new.trailing ≤ w.old.trailing + 4 * taken) }
 {
     let size = word_length(text);
@@ -127,7 +132,8 @@ fn saying_turn(
     requires place { n + length text.now < 2 ^ 30 }
     requires trail { w.old.trailing < 2 ^ 29 }
     ensures does { Reads n text.now (state w.old) (state w.new) result }
-    ensures size { IfOk result (λ taken. length w.new.tokens.items ≤ length w.old.tokens.items + 4 * taken) }
+    ensures size { IfOk result (λ taken. length w.new.tokens.items
+        ≤ length w.old.tokens.items + 4 * taken) }
     ensures trail { IfOk result (λ taken. w.new.trailing ≤ w.old.trailing + 4 * taken) }
 {
     let size = said_length(w.context.kind, text);
@@ -153,7 +159,8 @@ fn plain_turn(n: u32, text: &[u8], w: &mut Walk) -> Result<usize, SyntaxFault>
     requires place { n + length text.now < 2 ^ 30 }
     requires trail { w.old.trailing < 2 ^ 29 }
     ensures does { Reads n text.now (state w.old) (state w.new) result }
-    ensures size { IfOk result (λ taken. length w.new.tokens.items ≤ length w.old.tokens.items + 4 * taken) }
+    ensures size { IfOk result (λ taken. length w.new.tokens.items
+        ≤ length w.old.tokens.items + 4 * taken) }
     ensures trail { IfOk result (λ taken. w.new.trailing ≤ w.old.trailing + 4 * taken) }
 {
     let size = run_length(w.context.kind, text);
@@ -163,15 +170,16 @@ fn plain_turn(n: u32, text: &[u8], w: &mut Walk) -> Result<usize, SyntaxFault>
     Ok(size)
 }
 
-/// What the first bytes of a text make of the state, where they go on as the byte before them did, with the byte after them:
-/// how many.
+/// What the first bytes of a text make of the state, where they go on as the byte before them did,
+/// with the byte after them: how many.
 #[inline(always)]
 fn run(n: u32, text: &[u8], w: &mut Walk) -> Result<usize, SyntaxFault>
     requires room { length w.old.tokens.items < 2 ^ 29 }
     requires place { n + length text.now < 2 ^ 30 }
     requires trail { w.old.trailing < 2 ^ 29 }
     ensures does { Reads n text.now (state w.old) (state w.new) result }
-    ensures size { IfOk result (λ taken. length w.new.tokens.items ≤ length w.old.tokens.items + 4 * taken) }
+    ensures size { IfOk result (λ taken. length w.new.tokens.items
+        ≤ length w.old.tokens.items + 4 * taken) }
     ensures trail { IfOk result (λ taken. w.new.trailing ≤ w.old.trailing + 4 * taken) }
 {
     match w.stage {
@@ -192,14 +200,16 @@ fn run(n: u32, text: &[u8], w: &mut Walk) -> Result<usize, SyntaxFault>
     }
 }
 
-/// What the byte at this place and those that go on as it did make of the state: how many of those after it.
+/// What the byte at this place and those that go on as it did make of the state: how many of those
+/// after it.
 #[inline(never)]
 fn byte_turn(n: u32, b: u8, behind: &[u8], w: &mut Walk) -> Result<usize, SyntaxFault>
     requires room { length w.old.tokens.items < 2 ^ 28 }
     requires place { n + 1 + length behind.now < 2 ^ 30 }
     requires trail { w.old.trailing < 2 ^ 28 }
     ensures does { Turns n b behind.now (state w.old) (state w.new) result }
-    ensures size { IfOk result (λ taken. length w.new.tokens.items ≤ length w.old.tokens.items + 4 * (taken + 1)) }
+    ensures size { IfOk result (λ taken. length w.new.tokens.items
+        ≤ length w.old.tokens.items + 4 * (taken + 1)) }
     ensures trail { IfOk result (λ taken. w.new.trailing ≤ w.old.trailing + 4 * (taken + 1)) }
 {
     step(n, b, w)?;
@@ -215,7 +225,8 @@ fn directive_turn(n: u32, behind: &[u8], w: &mut Walk) -> Result<usize, SyntaxFa
     requires place { n + 1 + length behind.now < 2 ^ 30 }
     requires trail { w.old.trailing < 2 ^ 28 }
     ensures does { Turns n ascii.percent behind.now (state w.old) (state w.new) result }
-    ensures size { IfOk result (λ taken. length w.new.tokens.items ≤ length w.old.tokens.items + 4 * (taken + 1)) }
+    ensures size { IfOk result (λ taken. length w.new.tokens.items
+        ≤ length w.old.tokens.items + 4 * (taken + 1)) }
     ensures trail { IfOk result (λ taken. w.new.trailing ≤ w.old.trailing + 4 * (taken + 1)) }
 {
     w.stage = Stage::List(ListStage::Percent { at: n });
@@ -230,8 +241,8 @@ fn directive_turn(n: u32, behind: &[u8], w: &mut Walk) -> Result<usize, SyntaxFa
     }
 }
 
-/// Where an item begins, at a byte that does not stand for itself: what it and those that go on after it make of the state: how
-/// many of those after it.
+/// Where an item begins, at a byte that does not stand for itself: what it and those that go on
+/// after it make of the state: how many of those after it.
 #[inline(always)]
 fn first_turn(n: u32, b: u8, behind: &[u8], w: &mut Walk) -> Result<usize, SyntaxFault>
     requires here { w.old.stage ≡ Stage.List ListStage.Start }
@@ -239,7 +250,8 @@ fn first_turn(n: u32, b: u8, behind: &[u8], w: &mut Walk) -> Result<usize, Synta
     requires place { n + 1 + length behind.now < 2 ^ 30 }
     requires trail { w.old.trailing < 2 ^ 28 }
     ensures does { Turns n b behind.now (state w.old) (state w.new) result }
-    ensures size { IfOk result (λ taken. length w.new.tokens.items ≤ length w.old.tokens.items + 4 * (taken + 1)) }
+    ensures size { IfOk result (λ taken. length w.new.tokens.items
+        ≤ length w.old.tokens.items + 4 * (taken + 1)) }
     ensures trail { IfOk result (λ taken. w.new.trailing ≤ w.old.trailing + 4 * (taken + 1)) }
 {
     start(n, b, w)?;
@@ -247,8 +259,8 @@ fn first_turn(n: u32, b: u8, behind: &[u8], w: &mut Walk) -> Result<usize, Synta
     Ok(taken)
 }
 
-/// Where an item begins, at a byte that is no `%`: what this byte and those that go on after it make of the state: how many of
-/// those after it.
+/// Where an item begins, at a byte that is no `%`: what this byte and those that go on after it
+/// make of the state: how many of those after it.
 #[inline(always)]
 fn start_turn(n: u32, b: u8, text: &[u8], behind: &[u8], w: &mut Walk) -> Result<usize, SyntaxFault>
     requires here { w.old.stage ≡ Stage.List ListStage.Start }
@@ -258,7 +270,8 @@ fn start_turn(n: u32, b: u8, text: &[u8], behind: &[u8], w: &mut Walk) -> Result
     requires place { n + 1 + length behind.now < 2 ^ 30 }
     requires trail { w.old.trailing < 2 ^ 28 }
     ensures does { Turns n b behind.now (state w.old) (state w.new) result }
-    ensures size { IfOk result (λ taken. length w.new.tokens.items ≤ length w.old.tokens.items + 4 * (taken + 1)) }
+    ensures size { IfOk result (λ taken. length w.new.tokens.items
+        ≤ length w.old.tokens.items + 4 * (taken + 1)) }
     ensures trail { IfOk result (λ taken. w.new.trailing ≤ w.old.trailing + 4 * (taken + 1)) }
 {
     if is_blank(b) {
@@ -276,8 +289,8 @@ fn start_turn(n: u32, b: u8, text: &[u8], behind: &[u8], w: &mut Walk) -> Result
     Ok(size - 1)
 }
 
-/// What the first byte of a text, at this place, and some of those after it make of the state: how many of those after
-/// it.
+/// What the first byte of a text, at this place, and some of those after it make of the state: how
+/// many of those after it.
 #[inline(always)]
 pub fn turn(n: u32, b: u8, text: &[u8], behind: &[u8], w: &mut Walk) -> Result<usize, SyntaxFault>
     requires text { text.now ≡ b ∷ behind.now }
@@ -286,7 +299,8 @@ pub fn turn(n: u32, b: u8, text: &[u8], behind: &[u8], w: &mut Walk) -> Result<u
     requires place { n + 1 + length behind.now < 2 ^ 30 }
     requires trail { w.old.trailing < 2 ^ 28 }
     ensures does { Turns n b behind.now (state w.old) (state w.new) result }
-    ensures size { IfOk result (λ taken. length w.new.tokens.items ≤ length w.old.tokens.items + 4 * (taken + 1)) }
+    ensures size { IfOk result (λ taken. length w.new.tokens.items
+        ≤ length w.old.tokens.items + 4 * (taken + 1)) }
     ensures trail { IfOk result (λ taken. w.new.trailing ≤ w.old.trailing + 4 * (taken + 1)) }
 {
     match w.stage {

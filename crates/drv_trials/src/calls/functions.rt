@@ -100,7 +100,8 @@ fn outside_link(words: &[Word]) -> Option<Called<'_>> {
     }
 }
 
-/// The call in the link's text that words say: the same, with the outputs of the link after the switches.
+/// The call in the link's text that words say: the same, with the outputs of the link after the
+/// switches.
 fn in_link(words: &[Word]) -> Option<Called<'_>> {
     match words {
         [switches, outputs, name, args @ ..] => Some(Called {

@@ -206,7 +206,8 @@ fn load_file<S: System>(
     set.load_file(&name, &nowhere(alloc), sys, facts)
 }
 
-/// How many fronts of a text were taken, and how many left something in the empty set though they were refused.
+/// How many fronts of a text were taken, and how many left something in the empty set though they
+/// were refused.
 #[derive(Clone, Copy)]
 struct Fronts {
     taken: u64,

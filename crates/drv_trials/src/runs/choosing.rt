@@ -1,10 +1,12 @@
-//! A run made block by block, where the source that goes on is chosen. After the plan standard input says the blocks, a line each:
+//! A run made block by block, where the source that goes on is chosen. After the plan standard
+//! input says the blocks, a line each:
 //!
 //! ```text
 //! go CHOICE ANSWER    the source of this number among those that may go on makes its step, which is answered so
 //! ```
 //!
-//! What is printed are the steps with their answers, before each how many sources could go on, and at the end the status.
+//! What is printed are the steps with their answers, before each how many sources could go on, and
+//! at the end the status.
 
 ghost use Rattle.drv_words.specs.Stepping.{fits, fits_start, is_child, is_new};
 ghost use Rattle.std.specs.Prelude.{◌≡◌, ◌≤◌};

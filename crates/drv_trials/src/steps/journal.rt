@@ -1,7 +1,8 @@
 //! What the journal says of the conditions of a step.
 
 ghost use Rattle.drv_system.specs.Running.{is_child_open, open_with, run_of};
-ghost use Rattle.drv_words.specs.Stepping.{is_child, is_start_at, is_wait_for, pending_with, pipe_pending, same_command};
+ghost use Rattle.drv_words.specs.Stepping.{is_child, is_start_at, is_wait_for, pending_with};
+ghost use Rattle.drv_words.specs.Stepping.{pipe_pending, same_command};
 ghost use Rattle.drv_words.specs.declared.steps.Place.TheVariants as the;
 ghost use Rattle.std.specs.Prelude.{◌≡◌};
 

@@ -54,7 +54,8 @@ fn temp_of(alloc: Global, name: &Word, words: &[Word]) -> Result<Temp, AllocErro
 
 /// The job of the plan.
 fn job_of(alloc: Global, name: &Word, words: &[Word]) -> Result<Job, AllocError>
-    ensures { IfOk result (λ job. HasSites (record { notices = []; jobs = job ∷ []; link = None })) }
+    ensures { IfOk result (λ job. HasSites
+        (record { notices = []; jobs = job ∷ []; link = None })) }
 {
     Ok(Job {
         source: None,
@@ -66,8 +67,8 @@ fn job_of(alloc: Global, name: &Word, words: &[Word]) -> Result<Job, AllocError>
     })
 }
 
-/// The plan whose command has this program and these words, and whose files have the program's name; the temporary file holds the
-/// first of the words.
+/// The plan whose command has this program and these words, and whose files have the program's
+/// name; the temporary file holds the first of the words.
 pub fn plan_of(alloc: Global, name: &Word, words: &[Word]) -> Result<Plan, AllocError>
     ensures { IfOk result HasSites }
 {
