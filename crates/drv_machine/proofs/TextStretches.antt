@@ -1,7 +1,7 @@
 use Rattle.drv_funcs.specs.declared.function.Function.{Function as Func}
 use Rattle.drv_funcs.specs.Functions.{function_of}
 use Rattle.drv_machine.specs.Atoms.{added, filed, places, start, arguments, atoms, brace_step, broken_word, call_step, called_step, choices_step, draw, draw_with, drawn_or_new, each_hit, emitted, file_step, first_true, has_value, input_name, item_step, items_step, leaf_step, levels_left, matching, name_step, named, named_file, noted, outputs_step, starts_file, switch_atoms, temp_step, tree_named, truth, turned, value_step, worked, words_of}
-use Rattle.drv_machine.specs.Context.{Context, Source, argument, is_piping, names}
+use Rattle.drv_machine.specs.Context.{Context, Source, argument, names, site_of}
 use Rattle.drv_machine.specs.Cutting.{all_taken, argument_words, file_words, nothing_cut}
 use Rattle.drv_machine.specs.Names.{base, is_word, language_of, stem, suffix_of}
 use Rattle.drv_machine.specs.Temps.{last_drawn, temp_name}
@@ -28,7 +28,7 @@ use Rattle.std.proofs.Common.{◌≡◌, ◌∙◌, ◌++◌, ◌||◌, Bool, Li
 use Rattle.std.proofs.lemmas.Grind.{flat_map-append}
 use Rattle.std.proofs.lemmas.List.Folds.{list_any-append}
 use Rattle.std.specs.List.{filter, flat_map, list_any}
-use Rattle.std.specs.Option.{is_none, unwrap_or}
+use Rattle.std.specs.Option.{unwrap_or}
 use Rattle.std.specs.Prelude.{◌&&◌, ◌+◌, ⊤, codes, drop, if◌then◌else◌, is_some, length, nat_lt, not}
 
 -- The atoms of every text are atoms and files, and no file stands in another.
@@ -191,8 +191,8 @@ module _ (F : Facts) (C : Context) where
   temp_well Shared suffix = name_well true suffix
   temp_well New suffix = then_well (draw_well [] false suffix) (λ path. bytes_well path)
   temp_well Last suffix = name_well false suffix
-  temp_well PipedOut suffix = if_well (is_piping C) (bytes_well (hyphen ∷ [])) (name_well true suffix)
-  temp_well PipedIn suffix = if_well (is_piping C) (puts_well [] refl) (name_well true suffix)
+  temp_well PipedOut suffix = if_well C.is_piping (bytes_well (hyphen ∷ [])) (name_well true suffix)
+  temp_well PipedIn suffix = if_well C.is_piping (puts_well [] refl) (name_well true suffix)
 
   switch_bare : (i : ℕ) → None-bounds (switch_atoms F C i)
   switch_bare i = no_bounds (map Put (hyphen ∷ name_at (names C) i)) (Break ∷ word_of (argument C i)) (bytes_bare (hyphen ∷ name_at (names C) i)) (word_bare (argument C i))
@@ -203,7 +203,7 @@ module _ (F : Facts) (C : Context) where
   called_well : (args : List (List ℕ)) (function : Option Func) (v : World) → Well (called_step F C args function v)
   called_well args None v = give_well None
   called_well args (Some function) v =
-      then_well (needs_well (called (outcomes.called F (names C) v.hidden (is_none C.input) function args v.outputs))) (λ c. then_well (change_well (λ u. record u { outputs = c.outputs }) (λ u. refl)) (λ u. give_well c.given))
+      then_well (needs_well (called (outcomes.called F (names C) v.hidden (site_of C) function args v.outputs))) (λ c. then_well (change_well (λ u. record u { outputs = c.outputs }) (λ u. refl)) (λ u. give_well c.given))
 
   call_well : (name : List ℕ) (args : List (List ℕ)) → Well (call_step F C name args)
   call_well name args = record { stays = λ w b i. after_well b [] (called_step F C args (function_of name) w w) (fits_bare b [] refl) ((called_well args (function_of name) w).stays w b i) }
