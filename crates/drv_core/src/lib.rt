@@ -2,6 +2,7 @@
 #![tactic(auto)]
 
 mod action;
+mod answered;
 mod failure_status;
 mod flight;
 mod law;

@@ -1,27 +1,34 @@
 //! One source of a run: what is asked next for it, and where an answer leads.
 
 ghost use Rattle.drv_core.specs.Code.Machine.{after, after_claim, after_refusal, after_removal};
-ghost use Rattle.drv_core.specs.Code.Machine.{after_start, after_wait, asks, begin, claim_of};
+ghost use Rattle.drv_core.specs.Code.Machine.{after_start, after_wait, asks, begin};
 ghost use Rattle.drv_core.specs.Code.Machine.{end_group, enter_claims, enter_group, enter_removals};
-ghost use Rattle.drv_core.specs.Code.Machine.{enter_waits, remove_of, start_of, told_of, wait_note};
-ghost use Rattle.drv_core.specs.Code.Machine.{wait_of};
+ghost use Rattle.drv_core.specs.Code.Machine.{enter_waits, wait_note};
 ghost use Rattle.drv_core.specs.Filled.{Filled};
 ghost use Rattle.drv_core.specs.Code.Fleet.{fresh};
 ghost use Rattle.drv_core.specs.Code.FleetView.{worker_of};
 ghost use Rattle.drv_core.specs.Outcomes.{greatest, none};
 ghost use Rattle.drv_core.specs.Code.Machine.{Starts, awaits, inside, left};
-ghost use Rattle.drv_core.specs.Code.Source.{HasRoom, stage_at};
+ghost use Rattle.drv_core.specs.Code.Source.{HasRoom, has_failed, is_told, stage_at};
 ghost use Rattle.drv_words.specs.declared.steps.Place.TheVariants as place;
 ghost use Rattle.drv_words.specs.declared.steps.Step.TheVariants as step;
 ghost use Rattle.drv_words.specs.Places.{group_at, no_job};
 ghost use Rattle.std.specs.Prelude.{◌≡◌, ◌||◌, ◌+◌, ◌<◌, IfOk, OnOk, Some, false, get_or, length};
-ghost use Rattle.std.specs.Prelude.{nat_lt, not};
+ghost use Rattle.std.specs.Prelude.{nat_eq, nat_lt, not};
 ghost use Rattle.std.specs.Vec.{vec_capacity};
 
+use crate::answered::{ReportAnswer, claim_of, remove_of, start_of, told_of, wait_of};
 use drv_words::{
     Answer, ClaimAnswer, Job, NotStarted, Note, Place, RemoveAnswer, StartAnswer, Step, WaitAnswer,
 };
 use std::alloc::{AllocError, Global};
+
+/// Whether a command of a group has failed so far.
+#[derive(Clone, Copy)]
+pub(crate) enum GroupState {
+    Sound,
+    Failed,
+}
 
 /// Where the work on a source stands.
 #[derive(Clone, Copy)]
@@ -48,19 +55,19 @@ pub(crate) enum Point {
     Closing {
         group: usize,
         why: NotStarted,
-        told: bool,
+        told: ReportAnswer,
     },
-    /// A child of the group is waited for; whether the group has a fault so far.
+    /// A child of the group is waited for.
     Waits {
         group: usize,
         index: usize,
-        fault: bool,
+        state: GroupState,
     },
     /// It ended otherwise than by itself, and that is told.
     WaitReport {
         group: usize,
         index: usize,
-        fault: bool,
+        state: GroupState,
         answer: WaitAnswer,
     },
     /// This file is removed after a failure.
@@ -83,76 +90,6 @@ pub(crate) struct SourceState {
     pub(crate) started_before: bool,
     /// The children of the group, in the order of their starts.
     pub(crate) children: Vec<u64>,
-}
-
-/// What a claim was answered.
-fn claim_of(answer: Answer) -> ClaimAnswer
-    ensures { result ≡ claim_of answer }
-{
-    match answer {
-        Answer::Claim(claimed) => claimed,
-        Answer::Start(_) => ClaimAnswer::Failed,
-        Answer::Closed => ClaimAnswer::Failed,
-        Answer::Wait(_) => ClaimAnswer::Failed,
-        Answer::Remove(_) => ClaimAnswer::Failed,
-        Answer::Reported(_) => ClaimAnswer::Failed,
-    }
-}
-
-/// What a start was answered.
-fn start_of(answer: Answer) -> StartAnswer
-    ensures { result ≡ start_of answer }
-{
-    match answer {
-        Answer::Claim(_) => StartAnswer::NotStarted(NotStarted::Other),
-        Answer::Start(started) => started,
-        Answer::Closed => StartAnswer::NotStarted(NotStarted::Other),
-        Answer::Wait(_) => StartAnswer::NotStarted(NotStarted::Other),
-        Answer::Remove(_) => StartAnswer::NotStarted(NotStarted::Other),
-        Answer::Reported(_) => StartAnswer::NotStarted(NotStarted::Other),
-    }
-}
-
-/// What a wait was answered.
-fn wait_of(answer: Answer) -> WaitAnswer
-    ensures { result ≡ wait_of answer }
-{
-    match answer {
-        Answer::Claim(_) => WaitAnswer::Lost,
-        Answer::Start(_) => WaitAnswer::Lost,
-        Answer::Closed => WaitAnswer::Lost,
-        Answer::Wait(ended) => ended,
-        Answer::Remove(_) => WaitAnswer::Lost,
-        Answer::Reported(_) => WaitAnswer::Lost,
-    }
-}
-
-/// What a removal was answered.
-pub(crate) fn remove_of(answer: Answer) -> RemoveAnswer
-    ensures { result ≡ remove_of answer }
-{
-    match answer {
-        Answer::Claim(_) => RemoveAnswer::Failed,
-        Answer::Start(_) => RemoveAnswer::Failed,
-        Answer::Closed => RemoveAnswer::Failed,
-        Answer::Wait(_) => RemoveAnswer::Failed,
-        Answer::Remove(removed) => removed,
-        Answer::Reported(_) => RemoveAnswer::Failed,
-    }
-}
-
-/// Whether a report was told.
-fn told_of(answer: Answer) -> bool
-    ensures { result ≡ told_of answer }
-{
-    match answer {
-        Answer::Claim(_) => false,
-        Answer::Start(_) => false,
-        Answer::Closed => false,
-        Answer::Wait(_) => false,
-        Answer::Remove(_) => false,
-        Answer::Reported(told) => told,
-    }
 }
 
 /// Whether a number stands after `index` below `count`.
@@ -193,6 +130,15 @@ fn wait_note(job: usize, group: usize, index: usize, answer: WaitAnswer) -> Note
         WaitAnswer::Exit(_) => Note::Lost(place),
         WaitAnswer::Signal => Note::Signalled(place),
         WaitAnswer::Lost => Note::Lost(place),
+    }
+}
+
+impl GroupState {
+    /// The same after a command that ended with this code.
+    fn after_exit(self, code: u8) -> GroupState
+        ensures { has_failed result ≡ (has_failed self || not (nat_eq code 0)) }
+    {
+        if code == 0 { self } else { GroupState::Failed }
     }
 }
 
@@ -286,13 +232,18 @@ impl SourceState {
                 why,
                 told_of(answer),
             ),
-            Point::Closing { group, .. } => self.enter_waits(job, group, 0, true),
+            Point::Closing { group, .. } => self.enter_waits(job, group, 0, GroupState::Failed),
             Point::Waits {
                 group,
                 index,
-                fault,
-            } => self.take_wait(job, group, index, fault, wait_of(answer)),
-            Point::WaitReport { group, index, .. } => self.pass_wait(job, group, index, true),
+                state,
+            } => self.take_wait(job, group, index, state, wait_of(answer)),
+            Point::WaitReport { group, index, .. } => self.pass_wait(
+                job,
+                group,
+                index,
+                GroupState::Failed,
+            ),
             Point::Removals { index } => self.take_removal(job, index, remove_of(answer)),
             Point::RemovalReport { index } => self.pass_removal(job, index),
             Point::Ended => {}
@@ -309,7 +260,7 @@ impl SourceState {
                 if is_followed(index, job.temps.len()) {
                     self.point = Point::Claims { index: index + 1 };
                 } else {
-                    self.enter_group(job, 0, false);
+                    self.enter_first_group(job);
                 }
             }
             ClaimAnswer::Taken => self.point = Point::ClaimReport {
@@ -337,7 +288,7 @@ impl SourceState {
                 if is_followed(count, group_len(job, group)) {
                     self.point = Point::Starts { group };
                 } else {
-                    self.enter_waits(job, group, 0, false);
+                    self.enter_waits(job, group, 0, GroupState::Sound);
                 }
             }
             StartAnswer::NotStarted(why) => self.point = Point::StartReport { group, why },
@@ -345,37 +296,45 @@ impl SourceState {
     }
 
     /// A refused start was told.
-    fn take_refusal(&mut self, job: &Job, group: usize, why: NotStarted, told: bool)
+    fn take_refusal(&mut self, job: &Job, group: usize, why: NotStarted, told: ReportAnswer)
         ensures stage { stage_at self.new
-            ≡ after_refusal job.now group self.old.started_before self.old.children.items why told }
+            ≡ after_refusal job.now group self.old.started_before self.old.children.items why
+            (is_told told) }
         ensures capacity { vec_capacity self.new.children ≡ vec_capacity self.old.children }
     {
         if self.children.as_slice().len() > 0 {
             self.point = Point::Closing { group, why, told };
         } else {
-            self.enter_waits(job, group, 0, true);
+            self.enter_waits(job, group, 0, GroupState::Failed);
         }
     }
 
     /// A wait was answered.
-    fn take_wait(&mut self, job: &Job, group: usize, index: usize, fault: bool, ended: WaitAnswer)
+    fn take_wait(
+        &mut self,
+        job: &Job,
+        group: usize,
+        index: usize,
+        state: GroupState,
+        ended: WaitAnswer,
+    )
         ensures stage { stage_at self.new
             ≡ after_wait job.now group self.old.started_before self.old.children.items
-            index fault ended }
+            index (has_failed state) ended }
         ensures capacity { vec_capacity self.new.children ≡ vec_capacity self.old.children }
     {
         match ended {
-            WaitAnswer::Exit(code) => self.pass_wait(job, group, index, fault || code != 0),
+            WaitAnswer::Exit(code) => self.pass_wait(job, group, index, state.after_exit(code)),
             WaitAnswer::Signal => self.point = Point::WaitReport {
                 group,
                 index,
-                fault,
+                state,
                 answer: ended,
             },
             WaitAnswer::Lost => self.point = Point::WaitReport {
                 group,
                 index,
-                fault,
+                state,
                 answer: ended,
             },
         }
@@ -395,20 +354,20 @@ impl SourceState {
     }
 
     /// Goes on after a child that was waited for.
-    fn pass_wait(&mut self, job: &Job, group: usize, index: usize, fault: bool)
+    fn pass_wait(&mut self, job: &Job, group: usize, index: usize, state: GroupState)
         ensures stage { stage_at self.new
             ≡ enter_waits job.now group self.old.started_before self.old.children.items
-            (index + 1) fault }
+            (index + 1) (has_failed state) }
         ensures capacity { vec_capacity self.new.children ≡ vec_capacity self.old.children }
     {
         if is_followed(index, self.children.as_slice().len()) {
             self.point = Point::Waits {
                 group,
                 index: index + 1,
-                fault,
+                state,
             };
         } else {
-            self.end_group(job, group, fault);
+            self.end_group(job, group, state);
         }
     }
 
@@ -425,20 +384,20 @@ impl SourceState {
     }
 
     /// The children of a group are waited for, from this one on.
-    fn enter_waits(&mut self, job: &Job, group: usize, index: usize, fault: bool)
+    fn enter_waits(&mut self, job: &Job, group: usize, index: usize, state: GroupState)
         ensures stage { stage_at self.new
             ≡ enter_waits job.now group self.old.started_before self.old.children.items
-            index fault }
+            index (has_failed state) }
         ensures capacity { vec_capacity self.new.children ≡ vec_capacity self.old.children }
     {
         if index < self.children.as_slice().len() {
             self.point = Point::Waits {
                 group,
                 index,
-                fault,
+                state,
             };
         } else {
-            self.end_group(job, group, fault);
+            self.end_group(job, group, state);
         }
     }
 
@@ -453,38 +412,47 @@ impl SourceState {
     }
 
     /// A group has ended: the job goes on, or has failed.
-    fn end_group(&mut self, job: &Job, group: usize, fault: bool)
+    fn end_group(&mut self, job: &Job, group: usize, state: GroupState)
         ensures stage { stage_at self.new
             ≡ end_group job.now group
-            (self.old.started_before || not (none self.old.children.items)) fault }
+            (self.old.started_before || not (none self.old.children.items)) (has_failed state) }
         ensures capacity { vec_capacity self.new.children ≡ vec_capacity self.old.children }
     {
-        let started = self.started_before || self.has_child();
-        if fault {
-            if started && job.on_failure.len() > 0 {
+        self.started_before = self.started_before || self.has_child();
+        match state {
+            GroupState::Failed => if self.started_before && job.on_failure.len() > 0 {
                 self.point = Point::Removals { index: 0 };
             } else {
                 self.point = Point::Ended;
-            }
-        } else if is_followed(group, job.groups.len()) {
-            self.enter_group(job, group + 1, started);
-        } else {
-            self.point = Point::Ended;
+            },
+            GroupState::Sound => if is_followed(group, job.groups.len()) {
+                self.enter_group(job, group + 1);
+            } else {
+                self.point = Point::Ended;
+            },
         }
     }
 
     /// A group's first command is started next, if there is such a group.
-    fn enter_group(&mut self, job: &Job, group: usize, started_before: bool)
-        ensures stage { stage_at self.new ≡ enter_group job.now group started_before }
+    fn enter_group(&mut self, job: &Job, group: usize)
+        ensures stage { stage_at self.new ≡ enter_group job.now group self.old.started_before }
         ensures capacity { vec_capacity self.new.children ≡ vec_capacity self.old.children }
     {
-        self.started_before = started_before;
         self.children.clear();
         if group < job.groups.len() {
             self.point = Point::Starts { group };
         } else {
             self.point = Point::Ended;
         }
+    }
+
+    /// The first command of all is started next, if there is a group.
+    fn enter_first_group(&mut self, job: &Job)
+        ensures stage { stage_at self.new ≡ enter_group job.now 0 false }
+        ensures capacity { vec_capacity self.new.children ≡ vec_capacity self.old.children }
+    {
+        self.started_before = false;
+        self.enter_group(job, 0);
     }
 
     /// Nothing has begun, and there is room for the children of each group, of which none is empty.
@@ -577,7 +545,7 @@ impl SourceState {
         } else if job.temps.len() > 0 {
             self.point = Point::Claims { index: 0 };
         } else {
-            self.enter_group(job, 0, false);
+            self.enter_first_group(job);
         }
     }
 }

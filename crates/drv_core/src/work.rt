@@ -20,10 +20,11 @@ ghost use Rattle.std.specs.Prelude.{◌≡◌, ◌<◌, ◌≤◌, [], IfOk, OnO
 ghost use Rattle.std.specs.Prelude.{ℕ};
 ghost use Rattle.std.specs.Vec.{vec_capacity};
 
+use crate::answered::remove_of;
 use crate::flight::Flight;
 use crate::leftovers::Leftovers;
 use crate::needed::events_needed;
-use crate::source::{SourceState, remove_of};
+use crate::source::SourceState;
 use drv_words::{
     Answer, ClaimAnswer, Note, Plan, RemoveAnswer, RunEvent, StartAnswer, Step, WaitAnswer,
 };
