@@ -24,7 +24,7 @@ use Rattle.drv_words.specs.Stepping.{can_make, fits}
 use Rattle.drv_words.specs.declared.answers.Answer.{Answer}
 use Rattle.drv_words.specs.declared.plan.Plan.{Plan}
 use Rattle.drv_words.specs.declared.steps.Step.{Step}
-use Rattle.std.proofs.Common.{◌≡◌, ◌<◌, ◌≤◌, ◌∙◌, Bool, [], ◌∷◌, ◌++◌, None, Option, Some, ap, get_or, length, refl, subst, sym, true, ℕ}
+use Rattle.std.proofs.Common.{◌≡◌, ◌<◌, ◌≤◌, ◌∙◌, [], ◌∷◌, ◌++◌, None, Option, Some, ap, get_or, length, refl, subst, sym, true, ℕ}
 use Rattle.std.specs.Vec.{vec_capacity}
 
 -- What is known of a run, from what its work stands on.

@@ -4,7 +4,7 @@ ghost use Rattle.drv_core.specs.Code.Fleet.{able, all_fly, asked_of, busy, close
 ghost use Rattle.drv_core.specs.Code.Fleet.{first_busy, flying, fresh, fresh_fleet, may_go, opened};
 ghost use Rattle.drv_core.specs.Code.Fleet.{selected, stage_in, taken, turned, worked, worker_in};
 ghost use Rattle.drv_core.specs.Filled.{AllFilled};
-ghost use Rattle.drv_core.specs.Code.FleetView.{fleet_of, worker_of};
+ghost use Rattle.drv_core.specs.Code.FleetView.{all_may, fleet_of, worker_of};
 ghost use Rattle.drv_core.specs.Code.Machine.{awaits, inside, left};
 ghost use Rattle.drv_core.specs.Code.Source.{HasRoom};
 ghost use Rattle.std.specs.Prelude.{◌≡◌, ◌+◌, ◌<◌, ◌≤◌, IfOk, OnOk, drop, get_or, length, map};
@@ -30,6 +30,15 @@ pub(crate) struct Flight {
     pub(crate) current: usize,
     /// How many may be under way at once.
     pub(crate) window: usize,
+}
+
+/// Which of the sources that have begun may go on.
+#[derive(Clone, Copy)]
+pub(crate) enum Allowed {
+    /// All of them.
+    All,
+    /// Those whose next block is no wait.
+    NotWaiting,
 }
 
 /// The first job from this number on that has something to do, or a number that no job has.
@@ -213,18 +222,25 @@ impl Flight {
         count
     }
 
-    /// Whether all sources that can have a child in flight have one.
-    fn all_fly(&self) -> bool
-        ensures { result ≡ all_fly (fleet_of self.now) }
+    /// Once all sources that can have a child in flight have one, a source may wait.
+    fn allowed(&self) -> Allowed
+        ensures { all_may result ≡ all_fly (fleet_of self.now) }
     {
-        self.flying() == self.window.min(self.unended)
+        if self.flying() == self.window.min(self.unended) {
+            Allowed::All
+        } else {
+            Allowed::NotWaiting
+        }
     }
 
-    /// Whether a source that has begun may go on; `all` says whether all fly.
-    fn may_go(&self, all: bool, number: usize) -> bool
-        ensures { result ≡ may_go all (fleet_of self.now) number }
+    /// Whether a source that has begun may go on.
+    fn may_go(&self, allowed: Allowed, number: usize) -> bool
+        ensures { result ≡ may_go (all_may allowed) (fleet_of self.now) number }
     {
-        all || !self.awaits(number)
+        match allowed {
+            Allowed::All => true,
+            Allowed::NotWaiting => !self.awaits(number),
+        }
     }
 
     /// The source of this number among those that have begun and may go on, or else the next that
@@ -234,10 +250,10 @@ impl Flight {
             (filter (may_go (all_fly (fleet_of self.now)) (fleet_of self.now)) self.now.begun.items)
             choice self.now.next }
     {
-        let all = self.all_fly();
+        let allowed = self.allowed();
         let mut left = choice;
         for number in self.begun.as_slice() {
-            if !self.may_go(all, *number) {
+            if !self.may_go(allowed, *number) {
                 continue;
             }
             if left == 0 {
@@ -254,10 +270,10 @@ impl Flight {
             (may_go (all_fly (fleet_of self.now)) (fleet_of self.now)) self.now.begun.items) }
         ensures few { result ≤ length self.now.begun.items }
     {
-        let all = self.all_fly();
+        let allowed = self.allowed();
         let mut count = 0;
         for number in self.begun.as_slice() {
-            if self.may_go(all, *number) {
+            if self.may_go(allowed, *number) {
                 count += 1;
             }
         }

@@ -1,8 +1,10 @@
 use Rattle.drv_core.specs.Code.Fleet.{Fleet, Worker}
 use Rattle.drv_core.specs.Code.Source.{stage_at}
+use Rattle.drv_core.specs.declared.flight.Allowed.{Allowed}
+use Rattle.drv_core.specs.declared.flight.Allowed.TheVariants.{All, NotWaiting}
 use Rattle.drv_core.specs.declared.flight.Flight.{Flight}
 use Rattle.drv_core.specs.declared.source.SourceState.{SourceState}
-use Rattle.std.specs.Prelude.{map}
+use Rattle.std.specs.Prelude.{Bool, false, map, true}
 use Rattle.std.specs.Vec.{vec_capacity}
 
 -- All sources, as the code has them. Private clauses alone cite it.
@@ -20,3 +22,7 @@ fleet_of f = record {
   current = f.current;
   window = f.window;
 }
+
+abbrev pub all_may : Allowed → Bool
+all_may All = true
+all_may NotWaiting = false
