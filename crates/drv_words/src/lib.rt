@@ -2,6 +2,7 @@
 #![tactic(auto)]
 
 mod answers;
+mod line_end;
 mod listing;
 mod plan;
 mod printing;

@@ -1,11 +1,13 @@
 //! The lines of a plan, and their text.
 
+ghost use Rattle.drv_words.specs.Code.LineEnd.{is_piped};
 ghost use Rattle.drv_words.specs.Lines.{group_lines, job_lines, lines_of};
 ghost use Rattle.drv_words.specs.Printed.{Shows, end_text, line_text, lines_text, quoted};
 ghost use Rattle.drv_words.specs.Printed.{words_text};
 ghost use Rattle.std.specs.List.{flat_map};
 ghost use Rattle.std.specs.Prelude.{◌≡◌, ◌∷◌, ◌++◌, IfOk, OnOk};
 
+use crate::line_end::LineEnd;
 use crate::plan::{Command, Job, Plan, PlanLine};
 use crate::quoting::push_quoted;
 use crate::{Listing, Word};
@@ -77,11 +79,13 @@ fn push_command(text: &mut Vec<u8>, command: &Command) -> Result<(), AllocError>
 }
 
 /// Adds the end of a line.
-fn push_end(text: &mut Vec<u8>, piped: bool) -> Result<(), AllocError>
-    ensures { OnOk result (text.new.items ≡ text.old.items ++ end_text piped) }
+fn push_end(text: &mut Vec<u8>, end: LineEnd) -> Result<(), AllocError>
+    ensures { OnOk result (text.new.items ≡ text.old.items ++ end_text (is_piped end)) }
 {
-    let end: &[u8] = if piped { b" |\n" } else { b"\n" };
-    text.extend_from_slice(end)
+    match end {
+        LineEnd::Piped => text.extend_from_slice(b" |\n"),
+        LineEnd::Last => text.extend_from_slice(b"\n"),
+    }
 }
 
 /// Adds the text of a line.
@@ -89,7 +93,7 @@ fn push_line(text: &mut Vec<u8>, line: &PlanLine) -> Result<(), AllocError>
     ensures { OnOk result (text.new.items ≡ text.old.items ++ line_text line.now) }
 {
     push_command(text, &line.command)?;
-    push_end(text, line.piped)
+    push_end(text, LineEnd::of(line))
 }
 
 /// The text of lines: of each a space before each word in its printed form, ` |` where it is piped,
@@ -112,7 +116,7 @@ fn push_group_text(text: &mut Vec<u8>, commands: &[Command]) -> Result<(), Alloc
 {
     for (index, command) in commands.iter().enumerate() {
         push_command(text, command)?;
-        push_end(text, index + 1 < commands.len())?;
+        push_end(text, LineEnd::within(index, commands.len()))?;
     }
     Ok(())
 }

@@ -1,12 +1,14 @@
 //! Reading printed lines back.
 
 ghost use Rattle.drv_words.specs.Printed.{Shows};
+ghost use Rattle.drv_words.specs.Code.LineEnd.{is_piped};
 ghost use Rattle.drv_words.specs.Code.LineReader.{at_word, bare, after_bar, between, escape};
 ghost use Rattle.drv_words.specs.Code.LineReader.{finished, inside, lines_read, start, step};
 ghost use Rattle.drv_words.specs.Code.LineReader.{with_line, with_word};
 ghost use Rattle.drv_words.specs.declared.plan.PlanLine.{PlanLine};
 ghost use Rattle.std.specs.Prelude.{◌≡◌, IfOk, IfSome, List, OnOk, Some, ℕ};
 
+use crate::line_end::LineEnd;
 use crate::quoting::{is_bare_word, is_plain_byte, is_special_byte};
 use crate::{Command, Listing, PlanLine, Word};
 use std::alloc::{AllocError, Global};
@@ -68,8 +70,8 @@ impl LineReader {
     }
 
     /// Ends the line, which has to have a program.
-    fn end_line(&mut self, alloc: Global, piped: bool) -> Result<(), AllocError>
-        ensures { OnOk result (self.new ≡ with_line self.old piped) }
+    fn end_line(&mut self, alloc: Global, end: LineEnd) -> Result<(), AllocError>
+        ensures { OnOk result (self.new ≡ with_line self.old (is_piped end)) }
     {
         let Some(program) = self.program.take() else {
             self.place = Place::Wrong;
@@ -78,7 +80,7 @@ impl LineReader {
         let words = mem::replace(&mut self.words, Listing::new(alloc));
         self.lines.push(PlanLine {
             command: Command { program, words },
-            piped,
+            piped: end.is_piped(),
         })?;
         self.place = Place::Between;
         Ok(())
@@ -89,7 +91,7 @@ impl LineReader {
     {
         match byte {
             b' ' => self.place = Place::AtWord,
-            b'\n' => return self.end_line(alloc, false),
+            b'\n' => return self.end_line(alloc, LineEnd::Last),
             _ => self.place = Place::Wrong,
         }
         Ok(())
@@ -153,7 +155,7 @@ impl LineReader {
         ensures { OnOk result (self.new ≡ after_bar self.old byte) }
     {
         if byte == b'\n' {
-            return self.end_line(alloc, true);
+            return self.end_line(alloc, LineEnd::Piped);
         }
         self.place = Place::Wrong;
         Ok(())

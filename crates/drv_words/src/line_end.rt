@@ -1,0 +1,47 @@
+//! How a printed line ends.
+
+ghost use Rattle.drv_words.specs.Code.LineEnd.{is_piped};
+ghost use Rattle.std.specs.Prelude.{◌≡◌, ◌+◌, ◌<◌, nat_lt};
+
+use crate::PlanLine;
+
+/// How a printed line ends.
+#[derive(Clone, Copy)]
+pub(crate) enum LineEnd {
+    /// Its command is piped into that of the next line.
+    Piped,
+    /// Its command is the last of its group.
+    Last,
+}
+
+impl LineEnd {
+    /// That of a line.
+    pub(crate) fn of(line: &PlanLine) -> LineEnd
+        ensures { is_piped result ≡ line.now.piped }
+    {
+        if line.piped {
+            LineEnd::Piped
+        } else {
+            LineEnd::Last
+        }
+    }
+
+    /// That of the command at this place of a group of so many.
+    pub(crate) fn within(index: usize, count: usize) -> LineEnd
+        requires { index < count }
+        ensures { is_piped result ≡ nat_lt (index + 1) count }
+    {
+        if index + 1 < count {
+            LineEnd::Piped
+        } else {
+            LineEnd::Last
+        }
+    }
+
+    /// Whether the command is piped.
+    pub(crate) fn is_piped(self) -> bool
+        ensures { result ≡ is_piped self }
+    {
+        matches!(self, LineEnd::Piped)
+    }
+}
