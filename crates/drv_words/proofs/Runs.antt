@@ -1,9 +1,13 @@
 use Rattle.drv_words.specs.Response.{is_marked, is_quote, is_space}
 use Rattle.drv_words.specs.Code.Splitter.{is_outside, open_word, plain_length, with_bytes, words_of}
 use Rattle.drv_words.specs.declared.response.Splitter.{Splitter}
-use Rattle.std.proofs.Common.{arith, ◌≡◌, ◌-◌, ◌<◌, ◌≤◌, get_or, is_some, length, ◌&&◌, ◌||◌, ◌==◌, Bool, false, true, List, [], ◌∷◌, ◌++◌, None, Option, Some, drop, is_none, not, refl, subst, sym, ap, ◌∙◌, if◌then◌else◌, suc, take, ℕ}
+use Rattle.std.proofs.Common.{arith, ◌≡◌, ◌+◌, ◌-◌, ◌<◌, ◌≤◌, cond, get_or, nat_lt, is_some, length, ◌&&◌, ◌||◌, ◌==◌, Bool, false, true, List, [], ◌∷◌, ◌++◌, None, Option, Some, drop, is_none, not, refl, subst, sym, ap, ◌∙◌, if◌then◌else◌, suc, take, ℕ}
 use Rattle.std.proofs.Math.Seq.{append_snoc, take-length}
+use Rattle.std.proofs.lemmas.Bool.Decides.{nat_tests}
 use Rattle.std.proofs.lemmas.List.{append-nil}
+use Rattle.std.proofs.lemmas.List.Recursion.{is_position_or_len}
+use Rattle.std.specs.List.{position, position_or_len}
+use Rattle.std.specs.Prelude.{unwrap_or}
 
 -- A run of plain bytes is taken as its bytes are.
 
@@ -34,6 +38,29 @@ one_taken b text words word e = let p : Plain b = plain_is b e in rw (p.space, p
 first_taken : (b : ℕ) (text : List ℕ) (words : List (List ℕ)) → is_marked b ≡ false
     → words_of (outside words None) (b ∷ text) ≡ words_of (outside words (Some (b ∷ []))) text
 first_taken b text words e = let p : Plain b = plain_is b e in rw (p.space, p.slash, p.quote) refl
+
+-- how long the run at the front is
+pub plain_within : (text : List ℕ) → plain_length text ≤ length text
+plain_within [] = omega arith
+plain_within (b ∷ text) = by (is_marked b) (plain_within text)
+  where
+    by : (marked : Bool) → plain_length text ≤ length text → (if marked then 0 else suc (plain_length text)) ≤ length (b ∷ text)
+    by true rest = omega arith
+    by false rest = omega (arith, rest)
+
+plain_first : (text : List ℕ) → position_or_len is_marked text ≡ plain_length text
+plain_first text = sym (is_position_or_len plain_length is_marked refl (λ b rest. next (is_marked b) (plain_length rest)) text)
+  where
+    next : (marked : Bool) (n : ℕ) → (if marked then 0 else suc n) ≡ cond marked 0 (1 + n)
+    next true n = refl
+    next false n = omega arith
+
+pub plain_place : (text : List ℕ) → unwrap_or (position is_marked text) (length text) ≡ plain_length text
+plain_place text = ap (λ n. unwrap_or (cond (nat_lt n (length text)) (Some n) None) (length text)) (plain_first text) ∙ by (nat_lt (plain_length text) (length text)) refl
+  where
+    by : (below : Bool) → nat_lt (plain_length text) (length text) ≡ below → unwrap_or (cond below (Some (plain_length text)) None) (length text) ≡ plain_length text
+    by true is = refl
+    by false is = let at_least : length text ≤ plain_length text = grind (arith, nat_tests, is) in omega (arith, at_least, plain_within text)
 
 -- a run after the word that is open
 run_taken : (text : List ℕ) (words : List (List ℕ)) (word : List ℕ)

@@ -5,6 +5,7 @@ ghost use Rattle.drv_words.specs.Response.{response_text};
 ghost use Rattle.drv_words.specs.Code.Splitter.{ended, is_outside, opened, plain_length};
 ghost use Rattle.drv_words.specs.Code.Splitter.{plain_step, quoted_step, start, step, with_byte};
 ghost use Rattle.drv_words.specs.Code.Splitter.{with_bytes, words_of};
+ghost use Rattle.std.specs.List.{position};
 ghost use Rattle.std.specs.Prelude.{◌≡◌, ◌<◌, ◌≤◌, ◌∷◌, ◌++◌, [], IfOk, List, OnOk, length, true};
 ghost use Rattle.std.specs.Prelude.{ℕ};
 
@@ -32,17 +33,21 @@ fn is_marked_byte(byte: u8) -> bool
     is_space_byte(byte) || is_quote_byte(byte) || byte == b'\\'
 }
 
+/// Where the first white space, quote or backslash of a text stands.
+fn first_marked(text: &[u8]) -> Option<usize>
+    ensures { result ≡ position is_marked text.now }
+{
+    text.iter().position(|byte| is_marked_byte(*byte))
+}
+
 /// How many bytes at the front of a text are plain: before the first white space, quote or
 /// backslash.
+#[tactic(auto, using(crate::proofs::Runs::plain_place, crate::proofs::Runs::plain_within))]
 fn plain_length(text: &[u8]) -> usize
     ensures value { result ≡ plain_length text.now }
     ensures within { result ≤ length text.now }
 {
-    let mut count = 0;
-    while count < text.len() && !is_marked_byte(text[count]) {
-        count += 1;
-    }
-    count
+    first_marked(text).unwrap_or(text.len())
 }
 
 /// A splitter of response text: the words that ended, the word that is open, the quote of its run,
