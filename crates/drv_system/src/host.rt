@@ -7,7 +7,7 @@ ghost use Rattle.std.specs.Prelude.{◌≡◌, ◌∷◌, ◌++◌, [], IfOk, On
 use crate::files::{make_file, remove_file};
 use crate::noting::{note_kind, note_read, note_variable};
 use crate::places::{command_at, name_at, temp_at};
-use crate::processes::{has_ended, reason_of, spawn, wait_for};
+use crate::processes::{Output, has_ended, reason_of, spawn, wait_for};
 use crate::reading::read_path;
 use crate::reports::report_line;
 use crate::{Event, PathKind, ReadAnswer, System, TellAnswer};
@@ -186,13 +186,14 @@ impl System for HostSystem {
             }));
             return answer;
         };
+        let output = if to_pipe { Output::Pipe } else { Output::Own };
         match spawn(
             &self.rt,
             self.rt.alloc(),
             command,
             self.variables.as_slice(),
             &self.pending,
-            to_pipe,
+            output,
         ) {
             Ok((child, next)) => {
                 let answer = StartAnswer::Started(self.children.len() as u64);

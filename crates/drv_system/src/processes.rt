@@ -1,5 +1,6 @@
 //! Children of this process, and the pipes between them.
 
+ghost use Rattle.drv_system.specs.Code.Output.{is_pipe};
 ghost use Rattle.std.specs.Option.{IfSome};
 ghost use Rattle.std.specs.Prelude.{◌≡◌, IfOk, is_some, true, vec_capacity, vec_len};
 
@@ -8,6 +9,15 @@ use drv_words::{Command, NotStarted, WaitAnswer, Word};
 use std::alloc::Global;
 use std::io::{self, Error, ErrorKind, PipeReader};
 use std::process::{self, Child};
+
+/// Where a command's standard output goes.
+#[derive(Clone, Copy)]
+pub enum Output {
+    /// Into a new pipe.
+    Pipe,
+    /// Where that of this process goes.
+    Own,
+}
 
 /// Adds the words of a command.
 fn add_words(made: &mut process::Command, words: &[Word]) -> io::Result<()> {
@@ -65,35 +75,34 @@ fn spawn_into_pipe(
     Ok((made.spawn(rt)?, Some(reader)))
 }
 
-/// Starts a command, which writes a new pipe or this process's standard output.
+/// Starts a command with this output.
 fn spawn_made(
     rt: &HostRuntime,
     made: &mut process::Command,
-    to_pipe: bool,
+    output: Output,
 ) -> io::Result<(Child, Option<PipeReader>)>
-    ensures { IfOk result (λ started. is_some started.1 ≡ to_pipe) }
+    ensures { IfOk result (λ started. is_some started.1 ≡ is_pipe output) }
 {
-    if to_pipe {
-        return spawn_into_pipe(rt, made);
+    match output {
+        Output::Pipe => spawn_into_pipe(rt, made),
+        Output::Own => Ok((made.spawn(rt)?, None)),
     }
-    Ok((made.spawn(rt)?, None))
 }
 
 /// Starts a command, with these variables beside those of this process. It reads the end that is
-/// given, or else this process's standard input, and writes a new pipe, whose other end is given
-/// back, or else this process's standard output.
+/// given, or else this process's standard input. The other end of a new pipe is given back.
 pub fn spawn(
     rt: &HostRuntime,
     alloc: Global,
     command: &Command,
     variables: &[(Word, Word)],
     pending: &Option<PipeReader>,
-    to_pipe: bool,
+    output: Output,
 ) -> io::Result<(Child, Option<PipeReader>)>
-    ensures { IfOk result (λ started. is_some started.1 ≡ to_pipe) }
+    ensures { IfOk result (λ started. is_some started.1 ≡ is_pipe output) }
 {
     let mut made = command_of(alloc, command, variables, pending)?;
-    spawn_made(rt, &mut made, to_pipe)
+    spawn_made(rt, &mut made, output)
 }
 
 /// Starts a command with the streams and variables of this process, and waits until it has ended.
@@ -101,7 +110,7 @@ pub fn spawn(
 /// # Errors
 /// Why it was not started.
 pub fn call(rt: &HostRuntime, command: &Command) -> Result<WaitAnswer, NotStarted> {
-    match spawn(rt, rt.alloc(), command, &[], &None, false) {
+    match spawn(rt, rt.alloc(), command, &[], &None, Output::Own) {
         Ok((child, _)) => Ok(ending_of(child)),
         Err(e) => Err(reason_of(&e)),
     }

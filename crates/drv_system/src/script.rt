@@ -8,7 +8,6 @@ ghost use Rattle.drv_system.specs.Script.{scripted_kind, scripted_read, scripted
 ghost use Rattle.drv_system.specs.Script.{scripted_start, scripted_telling, scripted_variable};
 ghost use Rattle.drv_system.specs.Script.{scripted_wait, start_in, start_numbered, wait_in};
 ghost use Rattle.drv_system.specs.declared.event.Event.TheVariants as event;
-ghost use Rattle.drv_system.specs.declared.event.TellAnswer.TheVariants as tell;
 ghost use Rattle.drv_words.specs.Stepping.{fits_start};
 ghost use Rattle.drv_words.specs.declared.answers.Answer.TheVariants as answer;
 ghost use Rattle.drv_words.specs.declared.steps.Step.TheVariants as step;
@@ -112,6 +111,17 @@ impl ScriptSystem {
         self.mute = true;
     }
 
+    /// How a text is answered.
+    fn telling(&self) -> TellAnswer
+        ensures { result ≡ scripted_telling self.now.script }
+    {
+        if self.mute {
+            TellAnswer::Failed
+        } else {
+            TellAnswer::Told
+        }
+    }
+
     /// What a path is listed as: the files count before the folders.
     fn listed_kind(&self, path: &Word) -> PathKind
         ensures { result ≡ scripted_kind self.now.script path.now }
@@ -197,7 +207,7 @@ impl System for ScriptSystem {
         ensures script { self.new.script ≡ self.old.script }
         ensures started { self.new.children ≡ self.old.children }
     {
-        let answer = telling(self.mute);
+        let answer = self.telling();
         note_said(&mut self.journal, text, answer)?;
         Ok(answer)
     }
@@ -212,7 +222,7 @@ impl System for ScriptSystem {
         ensures script { self.new.script ≡ self.old.script }
         ensures started { self.new.children ≡ self.old.children }
     {
-        let answer = telling(self.mute);
+        let answer = self.telling();
         note_put(&mut self.journal, text, answer)?;
         Ok(answer)
     }
@@ -240,9 +250,9 @@ impl System for ScriptSystem {
         ensures started { self.new.children ≡ self.old.children }
     {
         let _asked = plan;
-        let taken = claim_of(front_of(self.answers.as_slice(), self.taken));
-        take(self.answers.as_slice(), &mut self.taken, taken.is_some());
-        let answer = taken.unwrap_or(ClaimAnswer::Claimed);
+        let given = claim_of(front_of(self.answers.as_slice(), self.taken));
+        pass_over(self.answers.as_slice(), &mut self.taken, &given);
+        let answer = given.unwrap_or(ClaimAnswer::Claimed);
         self.journal.push_reserved(Event::Run(RunEvent {
             step: Step::Claim(place),
             answer: Answer::Claim(answer),
@@ -264,9 +274,9 @@ impl System for ScriptSystem {
         ensures started { self.new.children ≡ children_after self.old.children result }
     {
         let _asked = plan;
-        let taken = start_of(front_of(self.answers.as_slice(), self.taken));
-        take(self.answers.as_slice(), &mut self.taken, taken.is_some());
-        let answer = numbered(self.children, taken);
+        let given = start_of(front_of(self.answers.as_slice(), self.taken));
+        pass_over(self.answers.as_slice(), &mut self.taken, &given);
+        let answer = numbered(self.children, given);
         self.children = count_with(self.children, answer);
         self.journal.push_reserved(Event::Run(RunEvent {
             step: Step::Start {
@@ -305,9 +315,9 @@ impl System for ScriptSystem {
             ≡ behind (wait_in (front self.old.script)) self.old.script }
         ensures started { self.new.children ≡ self.old.children }
     {
-        let taken = wait_of(front_of(self.answers.as_slice(), self.taken));
-        take(self.answers.as_slice(), &mut self.taken, taken.is_some());
-        let answer = taken.unwrap_or(WaitAnswer::Exit(0));
+        let given = wait_of(front_of(self.answers.as_slice(), self.taken));
+        pass_over(self.answers.as_slice(), &mut self.taken, &given);
+        let answer = given.unwrap_or(WaitAnswer::Exit(0));
         self.journal.push_reserved(Event::Run(RunEvent {
             step: Step::Wait { place, id },
             answer: Answer::Wait(answer),
@@ -342,9 +352,9 @@ impl System for ScriptSystem {
         ensures started { self.new.children ≡ self.old.children }
     {
         let _asked = plan;
-        let taken = removal_of(front_of(self.answers.as_slice(), self.taken));
-        take(self.answers.as_slice(), &mut self.taken, taken.is_some());
-        let answer = taken.unwrap_or(RemoveAnswer::Removed);
+        let given = removal_of(front_of(self.answers.as_slice(), self.taken));
+        pass_over(self.answers.as_slice(), &mut self.taken, &given);
+        let answer = given.unwrap_or(RemoveAnswer::Removed);
         self.journal.push_reserved(Event::Run(RunEvent {
             step: Step::Remove(place),
             answer: Answer::Remove(answer),
@@ -364,7 +374,7 @@ impl System for ScriptSystem {
         ensures started { self.new.children ≡ self.old.children }
     {
         let _asked = plan;
-        let answer = telling(self.mute);
+        let answer = self.telling();
         self.journal.push_reserved(Event::Run(RunEvent {
             step: Step::Report(note),
             answer: Answer::Reported(answer.is_told()),
@@ -381,13 +391,14 @@ fn front_of(answers: &[Answer], taken: usize) -> Option<Answer>
     answers.get(taken).copied()
 }
 
-/// Takes the answer in front, if it is used.
+/// Passes over the answer in front, if it was one of the kind that is asked for.
 #[tactic(auto, using(crate::proofs::Scripted::one_less, crate::proofs::Scripted::none_less))]
-fn take(answers: &[Answer], taken: &mut usize, is_used: bool)
+fn pass_over<A>(answers: &[Answer], taken: &mut usize, answer: &Option<A>)
     ensures { drop taken.new answers.now
-        ≡ (if is_used then drop 1 (drop taken.old answers.now) else drop taken.old answers.now) }
+        ≡ (if is_some answer.now
+        then drop 1 (drop taken.old answers.now) else drop taken.old answers.now) }
 {
-    if !is_used {
+    if answer.is_none() {
         return;
     }
     if answers.len() <= *taken {
@@ -448,10 +459,10 @@ fn count_with(children: u64, answer: StartAnswer) -> u64
 }
 
 /// What a start is answered: a child takes the next number.
-fn numbered(id: u64, taken: Option<StartAnswer>) -> StartAnswer
-    ensures { result ≡ start_numbered id taken }
+fn numbered(id: u64, given: Option<StartAnswer>) -> StartAnswer
+    ensures { result ≡ start_numbered id given }
 {
-    match taken {
+    match given {
         Some(StartAnswer::NotStarted(why)) => StartAnswer::NotStarted(why),
         _ => StartAnswer::Started(id),
     }
@@ -489,16 +500,5 @@ fn copied(value: Option<&Word>) -> Result<Option<Word>, AllocError>
     match value {
         Some(word) => Ok(Some(word.clone()?)),
         None => Ok(None),
-    }
-}
-
-/// How a text is answered.
-fn telling(mute: bool) -> TellAnswer
-    ensures { result ≡ (if mute then tell.Failed else tell.Told) }
-{
-    if mute {
-        TellAnswer::Failed
-    } else {
-        TellAnswer::Told
     }
 }

@@ -1,13 +1,17 @@
 use Rattle.drv_system.proofs.Holding.{holds_is_new, holds_started, holds_step}
 use Rattle.drv_words.specs.declared.answers.StartAnswer.TheVariants as start
-use Rattle.std.proofs.Common.{ap, refl}
+use Rattle.std.proofs.Common.{◌≡◌, ◌∙◌, ap, refl, sym}
 use Rattle.drv_system.proofs.host.HostSystemSystem.start.Goals as goal
+use Rattle.drv_system.proofs.host.HostSystemSystem.start.Goals.{else-to_pipe, then-to_pipe}
+use Rattle.drv_system.specs.Code.Output.{is_pipe}
 
 pub invariant_of-self : goal.invariant_of-self
 invariant_of-self c = holds_step _ _ c.self.invariant c.push_reserved.ensures.items refl tt refl
 
 pub invariant_of-self-in-Ok : goal.invariant_of-self-in-Ok
-invariant_of-self-in-Ok c = holds_started _ c.self.invariant c.push_reserved-in-Ok-2.ensures.items c.push_reserved-in-Ok.ensures.len c.len.ensures c.in-Ok.ensures
+invariant_of-self-in-Ok c =
+    let out : is_pipe c.if-to_pipe.output ≡ c.args.to_pipe = elim c.if-to_pipe.branch [ then-to_pipe w ↦ ap is_pipe w.output-is ∙ sym w.if-to_pipe.true | else-to_pipe w ↦ ap is_pipe w.output-is ∙ sym w.if-to_pipe.false ] in
+    holds_started _ c.self.invariant c.push_reserved-in-Ok-2.ensures.items c.push_reserved-in-Ok.ensures.len c.len.ensures (c.in-Ok.ensures ∙ out)
 
 pub invariant_of-self-in-Err : goal.invariant_of-self-in-Err
 invariant_of-self-in-Err c = holds_step _ _ c.self.invariant c.push_reserved-in-Err.ensures.items refl tt refl
