@@ -9,7 +9,7 @@ ghost use Rattle.drv_args.specs.declared.fault.ArgsFault.TheVariants as fault;
 ghost use Rattle.drv_words.specs.Gives.{Gives};
 ghost use Rattle.std.specs.List.{starts_with};
 ghost use Rattle.std.specs.Option.{option_map};
-ghost use Rattle.std.specs.Prelude.{◌≡◌, ◌≤◌, IfOk, drop, find, length, map, nat_eq, true};
+ghost use Rattle.std.specs.Prelude.{◌≡◌, ◌≤◌, IfOk, find, map, nat_eq, true};
 
 use crate::building::LineBuilder;
 use crate::jobs::jobs_named;
@@ -92,17 +92,6 @@ enum Start<'a> {
     Bad,
 }
 
-/// The rest of a word after an option.
-fn rest_after<'a>(word: &'a [u8], option: &[u8]) -> &'a [u8]
-    ensures { result.now ≡ drop (length option.now) word.now }
-{
-    if option.len() <= word.len() {
-        &word[option.len()..]
-    } else {
-        &[]
-    }
-}
-
 /// Whether the argument of an option is refused: it has to be a number of jobs, and is none.
 fn is_bad(effect: Effect, argument: &[u8]) -> bool
     ensures { result ≡ is_bad effect argument.now }
@@ -122,7 +111,7 @@ fn start_by_row<'a>(row: Row, word: &'a [u8]) -> Start<'a>
         form,
         effect,
     } = row;
-    let argument = rest_after(word, option);
+    let argument = word.get(option.len()..).unwrap_or(&[]);
     if is_bad(effect, argument) {
         return Start::Bad;
     }

@@ -25,11 +25,7 @@ enum Start {
 pub(crate) fn rest_after<'a>(word: &'a [u8], option: &[u8]) -> &'a [u8]
     ensures { result.now ≡ drop (length option.now) word.now }
 {
-    if option.len() <= word.len() {
-        &word[option.len()..]
-    } else {
-        &[]
-    }
+    word.get(option.len()..).unwrap_or(&[])
 }
 
 /// An option with what stands after it in its word.
