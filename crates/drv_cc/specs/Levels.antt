@@ -26,8 +26,8 @@ with_level options level name d = if is_among (texts options) name then record d
 abbrev pub with_version : List ℕ → ℕ → List ℕ → Debugging → Debugging
 with_version option version name d = if same name option then raised (record d { version = version }) else d
 
-abbrev pub with_toggle : List ℕ → Bool → List ℕ → Debugging → Debugging
-with_toggle option toggled name d = if same name option then record d { toggled = toggled } else d
+abbrev pub with_toggle : List ℕ → Debugging → Debugging
+with_toggle name d = if same name (codes "-gtoggle") then record d { toggled = true } else if same name (codes "-gno-toggle") then record d { toggled = false } else d
 
 abbrev pub leveled : List ℕ → Debugging → Debugging
 leveled name d =
@@ -39,8 +39,7 @@ versioned name d =
 
 unfoldable pub debugged_by : Debugging → List ℕ → Debugging
 debugged_by d name =
-    with_toggle (codes "-gno-toggle") false name (with_toggle (codes "-gtoggle") true name (versioned name (leveled name
-    (with_raised (codes "-g -ggdb -gdwarf -gstabs -gstabs+ -gbtf -gctf -gvms -gxcoff -gxcoff+") name d))))
+    with_toggle name (versioned name (leveled name (with_raised (codes "-g -ggdb -gdwarf -gstabs -gstabs+ -gbtf -gctf -gvms -gxcoff -gxcoff+") name d)))
 
 abbrev pub debugged : Debugging → List Item → Debugging
 debugged d [] = d

@@ -5,7 +5,7 @@ ghost use Rattle.drv_cc.specs.Levels.{needs_leak_library, needs_undefined_librar
 ghost use Rattle.drv_cc.specs.Levels.{stands_for, ubsan_checks};
 ghost use Rattle.drv_cc.specs.Table.{texts};
 ghost use Rattle.std.specs.List.{list_any};
-ghost use Rattle.std.specs.Prelude.{◌≡◌, ◌++◌, OnOk};
+ghost use Rattle.std.specs.Prelude.{◌≡◌, ◌++◌, Bool, OnOk, unwrap_or};
 
 use crate::classes::{is, stands_in};
 use crate::item::Item;
@@ -48,18 +48,18 @@ fn speaks_of(check: &[u8], names: &[u8]) -> bool
         .any(|name| stands_for(check, name))
 }
 
-/// Whether a check is on after an item.
-fn checked_by(check: &[u8], item: &Item, before: bool) -> bool
-    ensures { result ≡ checked_by check.now item.now before }
+/// Whether an item turns a check on or off, if it does.
+fn turned_by(check: &[u8], item: &Item) -> Option<bool>
+    ensures { (before : Bool) → unwrap_or result before ≡ checked_by check.now item.now before }
 {
     let name = item.name.as_bytes();
     let argument = item.argument.as_bytes();
     if is(name, b"-fsanitize=") && speaks_of(check, argument) {
-        true
+        Some(true)
     } else if is(name, b"-fno-sanitize=") && speaks_of(check, argument) {
-        false
+        Some(false)
     } else {
-        before
+        None
     }
 }
 
@@ -69,7 +69,7 @@ fn is_checked(items: &[Item], check: &[u8]) -> bool
 {
     let mut checked = false;
     for item in items {
-        checked = checked_by(check, item, checked);
+        checked = turned_by(check, item).unwrap_or(checked);
     }
     checked
 }

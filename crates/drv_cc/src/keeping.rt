@@ -101,13 +101,12 @@ pub(crate) fn kept(alloc: Global, items: &[Item]) -> Result<Listing<Item>, Alloc
     ensures { IfOk result (λ stay. stay ≡ kept items.now) }
 {
     let mut stay = Listing::new(alloc);
-    let mut i = 0;
-    while i < items.len() {
-        let item = &items[i];
-        i += 1;
-        if !goes(item, &items[i..]) {
+    let mut left = items;
+    while let [item, behind @ ..] = left {
+        if !goes(item, behind) {
             stay.push(item.clone()?)?;
         }
+        left = behind;
     }
     Ok(stay)
 }

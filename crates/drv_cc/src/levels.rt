@@ -70,13 +70,15 @@ impl Debugging {
         }
     }
 
-    /// After an option that sets the toggle.
-    fn with_toggle(self, option: &[u8], toggled: bool, name: &[u8]) -> Debugging
-        ensures { result ≡ with_toggle option.now toggled name.now self }
+    /// After an option that may set the toggle.
+    fn with_toggle(self, name: &[u8]) -> Debugging
+        ensures { result ≡ with_toggle name.now self }
     {
         let mut set = self;
-        if is(name, option) {
-            set.toggled = toggled;
+        if is(name, b"-gtoggle") {
+            set.toggled = true;
+        } else if is(name, b"-gno-toggle") {
+            set.toggled = false;
         }
         set
     }
@@ -111,8 +113,7 @@ impl Debugging {
         )
         .leveled(name)
         .versioned(name)
-        .with_toggle(b"-gtoggle", true, name)
-        .with_toggle(b"-gno-toggle", false, name)
+        .with_toggle(name)
     }
 
     /// The level, with the toggle.

@@ -1,12 +1,9 @@
 use Rattle.drv_cc.specs.Kept.{kept}
-use Rattle.std.proofs.Common.{◌≡◌, ◌≤◌, ◌++◌, ◌-◌, drop, length}
+use Rattle.std.proofs.Common.{◌≡◌, ◌++◌, length}
 use Rattle.drv_cc.proofs.keeping.kept.Given as goal
 
-abbrev pub invariant-loop-i : goal.invariant-loop-i
-invariant-loop-i l = record {
-  within : l.i ≤ length l.items;
-  same : l.stay ++ kept (drop l.i l.items) ≡ kept l.items;
-}
+abbrev pub invariant-loop-left : goal.invariant-loop-left
+invariant-loop-left l = l.stay ++ kept l.left ≡ kept l.items
 
-abbrev pub decreases-loop-i : goal.decreases-loop-i
-decreases-loop-i l = length l.items - l.i
+abbrev pub decreases-loop-left : goal.decreases-loop-left
+decreases-loop-left l = length l.left
