@@ -8,7 +8,7 @@ use Rattle.std.proofs.Common.{◌≡◌, ◌<◌, ◌≤◌, ◌+◌, ◌-◌, �
 use Rattle.std.proofs.Math.Bool.{or-false, or-true}
 use Rattle.std.proofs.lemmas.Bool.{eqb-true, lt-ltb}
 use Rattle.std.proofs.lemmas.Cmp.{nat_eq_equiv}
-use Rattle.std.proofs.lemmas.List.{drop_all, drop_more, get_or-set_other, get_or-set_same, length-set}
+use Rattle.std.proofs.lemmas.List.{drop_all, drop_more, get_or_default, get_or-set_other, get_or-set_same, length-set}
 use Rattle.std.proofs.lemmas.List.Elements.{All-drop, All-get_or, All-take}
 use Rattle.std.proofs.lemmas.List.Folds.{list_any_at}
 use Rattle.std.proofs.lemmas.List.FromFn.{get_or-range_with_len, length-range_with_len}
@@ -209,6 +209,9 @@ block_within names order pattern start end o b k within = All-get_or (λ i. i < 
 
 pub named_within : (names : List (List ℕ)) (pattern : Pattern) (places : List ℕ) → AreNamed names pattern places → (k : ℕ) → k < length places → get_or places k 0 < length names
 named_within names pattern places n k within = rw n.part (block_within names n.order pattern n.start n.end n.in_order n.block k (rw (← n.part) within))
+
+pub named_place : (names : List (List ℕ)) (pattern : Pattern) (places : List ℕ) → AreNamed names pattern places → (k x : ℕ) → k < length places → x ≡ get_or places k x → x < length names
+named_place names pattern places n k x within is = let at : x ≡ get_or places k 0 = is ∙ get_or_default places k x 0 within in rw at (named_within names pattern places n k within)
 
 pub named_hits : (names : List (List ℕ)) (named found places : List ℕ) (hidden : List Bool) (pattern : Pattern) → AreNamed names pattern named → found ≡ filter (counts names hidden (is_broad pattern)) named → IsPermutation found places → IsNonDecreasing places → places ≡ hits names hidden pattern
 named_hits names named found places hidden pattern n is moved up = hits_sorted names n.order found places hidden pattern n.start n.end n.in_order n.block (is ∙ ap (filter (counts names hidden (is_broad pattern))) n.part) moved up

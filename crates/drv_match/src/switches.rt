@@ -166,12 +166,9 @@ impl<'a> Switches<'a> {
         ensures { result ≡ nat_lt 0 (length (hits self.now hidden.now pattern.now)) }
     {
         let named = self.named(pattern);
-        for place in named {
-            if self.counts(pattern, hidden, *place) {
-                return true;
-            }
-        }
-        false
+        named
+            .iter()
+            .any(|place| self.counts(pattern, hidden, *place))
     }
 
     /// Whether a pattern hits the switch at this place: it names the switch, which isn't hidden,

@@ -1,9 +1,18 @@
-use Rattle.drv_match.proofs.Parts.{named_any, named_within}
+use Rattle.drv_match.proofs.Parts.{counts, named_any, named_place}
 use Rattle.drv_match.proofs.switches.Switches.has_hit.Goals as goal
-use Rattle.std.proofs.Common.{arith}
+use Rattle.drv_match.specs.Matching.{is_broad}
+use Rattle.std.proofs.Common.{◌<◌, ◌∙◌, length, rules, tests}
+use Rattle.std.proofs.lemmas.Iterator.{YieldsList-from_slice}
+use Rattle.std.proofs.lemmas.Iterator.Adapters.{serves_from_places}
+use Rattle.std.proofs.lemmas.Iterator.Search.{any_from_yields_List}
 
-pub loop-place-init : goal.loop-place-init
-loop-place-init c = named_any c.args.self.now c.named-named.result.now c.args.hidden.now c.args.pattern.now c.named-named.ensures
+pub any-requires-clause-callable : goal.any-requires-clause-callable
+any-requires-clause-callable c =
+    serves_from_places (YieldsList-from_slice c.named-named.result.now c.iter.ensures.rest) (λ x q k. search (rules, tests))
+    (λ x k lt at. let within : x.now < length c.args.self.now = named_place c.args.self.now c.args.pattern.now c.named-named.result.now c.named-named.ensures k x.now lt at in search (rules, within))
 
-pub counts-requires-clause-in_range : goal.counts-requires-clause-in_range
-counts-requires-clause-in_range c = named_within c.args.self.now c.args.pattern.now c.named-named.result.now c.named-named.ensures c.loop-place.place-index (omega arith)
+pub returns : goal.returns
+returns c =
+    any_from_yields_List (counts c.args.self.now c.args.hidden.now (is_broad c.args.pattern.now)) _ _ _ c.any.ensures.ran
+    (YieldsList-from_slice c.named-named.result.now c.iter.ensures.rest) (λ x b q k. search (rules, tests))
+    ∙ named_any c.args.self.now c.named-named.result.now c.args.hidden.now c.args.pattern.now c.named-named.ensures
