@@ -27,7 +27,7 @@ pub fn read_path<R: Files>(rt: &R, alloc: Global, path: &str) -> Result<ReadAnsw
     ensures { IfOk result IsWithinLimit }
 {
     match File::open(rt, path) {
-        Ok(file) => Source::new(file).read_whole(alloc),
+        Ok(file) => OpenFile::new(file).read_whole(alloc),
         Err(e) if e.kind() == ErrorKind::OutOfMemory => Err(AllocError),
         Err(e) if is_absent(&e) => Ok(ReadAnswer::Missing),
         Err(_) => Ok(ReadAnswer::Failed),
@@ -40,7 +40,7 @@ pub fn read_to_end<F: Read + Drop>(alloc: Global, file: F) -> Result<ReadAnswer,
     ensures read { IfOk result (ReadsAs (F.remaining file)) }
     ensures within { IfOk result IsWithinLimit }
 {
-    Source::new(file).read_whole(alloc)
+    OpenFile::new(file).read_whole(alloc)
 }
 
 /// Whether an error says that nothing has the path, one that leads through a plain file included.
@@ -70,18 +70,18 @@ fn widen(room: &mut Vec<u8>) -> Result<(), AllocError>
 
 /// A file that is being read: how many reads were made of it, and whether the last one failed.
 #[derive(Drop)]
-struct Source<F> {
+struct OpenFile<F> {
     file: F,
     reads: u32,
     failed: bool,
 }
 
-impl<F: Read> Source<F> {
+impl<F: Read> OpenFile<F> {
     /// A file of which nothing was read yet.
-    fn new(file: F) -> Source<F>
+    fn new(file: F) -> OpenFile<F>
         ensures { result ≡ record { file = file; reads = 0; failed = false } }
     {
-        Source {
+        OpenFile {
             file,
             reads: 0,
             failed: false,

@@ -250,7 +250,7 @@ impl System for ScriptSystem {
         ensures started { self.new.children ≡ self.old.children }
     {
         let _asked = plan;
-        let given = claim_of(front_of(self.answers.as_slice(), self.taken));
+        let given = claim_in(front_of(self.answers.as_slice(), self.taken));
         pass_over(self.answers.as_slice(), &mut self.taken, &given);
         let answer = given.unwrap_or(ClaimAnswer::Claimed);
         self.journal.push_reserved(Event::Run(RunEvent {
@@ -274,7 +274,7 @@ impl System for ScriptSystem {
         ensures started { self.new.children ≡ children_after self.old.children result }
     {
         let _asked = plan;
-        let given = start_of(front_of(self.answers.as_slice(), self.taken));
+        let given = start_in(front_of(self.answers.as_slice(), self.taken));
         pass_over(self.answers.as_slice(), &mut self.taken, &given);
         let answer = numbered(self.children, given);
         self.children = count_with(self.children, answer);
@@ -315,7 +315,7 @@ impl System for ScriptSystem {
             ≡ behind (wait_in (front self.old.script)) self.old.script }
         ensures started { self.new.children ≡ self.old.children }
     {
-        let given = wait_of(front_of(self.answers.as_slice(), self.taken));
+        let given = wait_in(front_of(self.answers.as_slice(), self.taken));
         pass_over(self.answers.as_slice(), &mut self.taken, &given);
         let answer = given.unwrap_or(WaitAnswer::Exit(0));
         self.journal.push_reserved(Event::Run(RunEvent {
@@ -352,7 +352,7 @@ impl System for ScriptSystem {
         ensures started { self.new.children ≡ self.old.children }
     {
         let _asked = plan;
-        let given = removal_of(front_of(self.answers.as_slice(), self.taken));
+        let given = removal_in(front_of(self.answers.as_slice(), self.taken));
         pass_over(self.answers.as_slice(), &mut self.taken, &given);
         let answer = given.unwrap_or(RemoveAnswer::Removed);
         self.journal.push_reserved(Event::Run(RunEvent {
@@ -408,7 +408,7 @@ fn pass_over<A>(answers: &[Answer], taken: &mut usize, answer: &Option<A>)
 }
 
 /// The answer to a claim, if it is one.
-fn claim_of(front: Option<Answer>) -> Option<ClaimAnswer>
+fn claim_in(front: Option<Answer>) -> Option<ClaimAnswer>
     ensures { result ≡ claim_in front }
 {
     match front {
@@ -418,7 +418,7 @@ fn claim_of(front: Option<Answer>) -> Option<ClaimAnswer>
 }
 
 /// The answer to a start, if it is one.
-fn start_of(front: Option<Answer>) -> Option<StartAnswer>
+fn start_in(front: Option<Answer>) -> Option<StartAnswer>
     ensures { result ≡ start_in front }
 {
     match front {
@@ -428,7 +428,7 @@ fn start_of(front: Option<Answer>) -> Option<StartAnswer>
 }
 
 /// The answer to a wait, if it is one.
-fn wait_of(front: Option<Answer>) -> Option<WaitAnswer>
+fn wait_in(front: Option<Answer>) -> Option<WaitAnswer>
     ensures { result ≡ wait_in front }
 {
     match front {
@@ -438,7 +438,7 @@ fn wait_of(front: Option<Answer>) -> Option<WaitAnswer>
 }
 
 /// The answer to a removal, if it is one.
-fn removal_of(front: Option<Answer>) -> Option<RemoveAnswer>
+fn removal_in(front: Option<Answer>) -> Option<RemoveAnswer>
     ensures { result ≡ removal_in front }
 {
     match front {
