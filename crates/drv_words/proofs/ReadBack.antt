@@ -2,8 +2,8 @@ use Rattle.drv_words.specs.Printed.{Escapes, Shows, ShowsEnd, ShowsWord, ShowsWo
 use Rattle.drv_words.specs.Code.LineReader as r
 use Rattle.drv_words.specs.Code.LineReader.{escape, inside, lines_read, longer, read, step, with_word}
 use Rattle.drv_words.specs.declared.plan.PlanLine.{PlanLine}
-use Rattle.drv_words.specs.declared.reading_back.Place.{Place}
-use Rattle.drv_words.specs.declared.reading_back.Place.TheVariants.{AtWord, Bare, Between, Escaped, Quoted, Wrong}
+use Rattle.drv_words.specs.declared.reading_back.Standing.{Standing}
+use Rattle.drv_words.specs.declared.reading_back.Standing.TheVariants.{AtWord, Bare, Between, Escaped, Quoted, Wrong}
 use Rattle.drv_words.specs.declared.reading_back.LineReader.{LineReader}
 use Rattle.std.proofs.Common.{◌≡◌, ◌||◌, ◌&&◌, ◌==◌, Bool, false, true, List, [], ◌∷◌, ◌++◌, None, Option, Some, length, nat_lt, if◌then◌else◌, refl, sym, ap, ◌∙◌, append_assoc, ℕ}
 use Rattle.std.proofs.lemmas.List.{append-nil}
@@ -14,18 +14,18 @@ use Rattle.std.specs.List.{list_all}
 -- after it.
 
 -- a reader with these fields
-abbrev pub at : List PlanLine → Option (List ℕ) → List (List ℕ) → List ℕ → Place → LineReader
-at lines program words word place = record { lines = lines; program = program; words = words; word = word; place = place }
+abbrev pub at : List PlanLine → Option (List ℕ) → List (List ℕ) → List ℕ → Standing → LineReader
+at lines program words word place = record { lines = lines; program = program; words = words; word = word; standing = place }
 
 pub read-append : (reader : LineReader) (a b : List ℕ) → read reader (a ++ b) ≡ read (read reader a) b
 read-append reader [] b = refl
 read-append reader (x ∷ a) b = read-append (step reader x) a b
 
-inside_other : (reader : LineReader) (b : ℕ) → is_special b ≡ false → inside reader b ≡ longer reader b reader.place
+inside_other : (reader : LineReader) (b : ℕ) → is_special b ≡ false → inside reader b ≡ longer reader b reader.standing
 inside_other reader b e = by (b == 34) (b == 92) (b == 36) e
   where
     by : (quote backslash dollar : Bool) → (quote || backslash || dollar) ≡ false
-        → (if backslash then r.placed reader Escaped else if quote then r.closed reader else if dollar then r.placed reader Wrong else longer reader b reader.place) ≡ longer reader b reader.place
+        → (if backslash then r.placed reader Escaped else if quote then r.closed reader else if dollar then r.placed reader Wrong else longer reader b reader.standing) ≡ longer reader b reader.standing
     by false false false h = refl
     by false false true h = cc
     by false true d h = cc

@@ -4,8 +4,8 @@ use Rattle.drv_words.specs.Printed.{Shows, end_text, escaped, is_bare, is_plain,
 use Rattle.drv_words.specs.Code.LineReader as r
 use Rattle.drv_words.specs.Code.LineReader.{finished, lines_read, read, step}
 use Rattle.drv_words.specs.declared.plan.PlanLine.{PlanLine}
-use Rattle.drv_words.specs.declared.reading_back.Place.{Place}
-use Rattle.drv_words.specs.declared.reading_back.Place.TheVariants.{AtWord, Bar, Bare, Between, Escaped, Quoted, Wrong}
+use Rattle.drv_words.specs.declared.reading_back.Standing.{Standing}
+use Rattle.drv_words.specs.declared.reading_back.Standing.TheVariants.{AtWord, Bar, Bare, Between, Escaped, Quoted, Wrong}
 use Rattle.drv_words.specs.declared.reading_back.LineReader.{LineReader}
 use Rattle.std.proofs.Common.{◌≡◌, ◌&&◌, ◌==◌, Bool, false, true, List, [], ◌∷◌, ◌++◌, None, Option, Some, is_some, length, nat_lt, if◌then◌else◌, refl, sym, ap, subst, ◌∙◌, append_assoc, arith, ℕ}
 use Rattle.std.proofs.lemmas.Bool.{eqb-true}
@@ -25,7 +25,7 @@ open_text None words = words_text words
 open_text (Some program) words = words_text (program ∷ words)
 
 -- the text of the word that is open
-abbrev part : Place → List ℕ → List ℕ
+abbrev part : Standing → List ℕ → List ℕ
 part Between word = []
 part AtWord word = 32 ∷ []
 part Bare word = 32 ∷ word
@@ -35,7 +35,7 @@ part Bar word = 32 ∷ 124 ∷ []
 part Wrong word = []
 
 -- what else holds at a place
-abbrev Held : Place → List ℕ → Type 0
+abbrev Held : Standing → List ℕ → Type 0
 Held Between word = word ≡ []
 Held AtWord word = word ≡ []
 Held Bar word = word ≡ []
@@ -48,12 +48,12 @@ NoWords None words = words ≡ []
 NoWords (Some program) words = Unit {0}
 
 -- the reader has taken this text
-abbrev Took : Place → LineReader → List ℕ → Type 0
+abbrev Took : Standing → LineReader → List ℕ → Type 0
 Took Wrong reader text = Unit {0}
 Took place reader text = (text ≡ lines_text reader.lines ++ open_text reader.program reader.words ++ part place reader.word) × NoWords reader.program reader.words × Held place reader.word
 
 abbrev Takes : LineReader → List ℕ → Type 0
-Takes reader text = Took reader.place reader text
+Takes reader text = Took reader.standing reader text
 
 -- texts
 
@@ -92,7 +92,7 @@ bare_more (c ∷ word) b bare e =
     both_true (has_byte c (word ++ b ∷ [])) (all_more (c ∷ word) b both.1 e)
 
 -- the end of a line, after what stands before its newline
-line_takes : (lines : List PlanLine) (program : Option (List ℕ)) (words : List (List ℕ)) (place : Place) (piped : Bool) (front text : List ℕ)
+line_takes : (lines : List PlanLine) (program : Option (List ℕ)) (words : List (List ℕ)) (place : Standing) (piped : Bool) (front text : List ℕ)
     → end_text piped ≡ front ++ 10 ∷ [] → text ≡ lines_text lines ++ open_text program words ++ front
     → Takes (r.with_line (at lines program words [] place) piped) (text ++ 10 ∷ [])
 line_takes lines None words place piped front text ends is = tt
@@ -109,7 +109,7 @@ line_takes lines (Some program) words place piped front text ends is = (
 )
 
 -- a byte between words
-between_takes : (lines : List PlanLine) (program : Option (List ℕ)) (words : List (List ℕ)) (place : Place) (b : ℕ) (text : List ℕ)
+between_takes : (lines : List PlanLine) (program : Option (List ℕ)) (words : List (List ℕ)) (place : Standing) (b : ℕ) (text : List ℕ)
     → text ≡ lines_text lines ++ open_text program words → NoWords program words
     → Takes (r.between (at lines program words [] place) b) (text ++ b ∷ [])
 between_takes lines program words place b text is none = by (b == 32) refl (b == 10) refl
@@ -124,7 +124,7 @@ between_takes lines program words place b text is none = by (b == 32) refl (b ==
     by false e false f = tt
 
 -- a word that ended, in its printed form
-word_takes : (program : Option (List ℕ)) (lines : List PlanLine) (words : List (List ℕ)) (word text : List ℕ) (place : Place)
+word_takes : (program : Option (List ℕ)) (lines : List PlanLine) (words : List (List ℕ)) (word text : List ℕ) (place : Standing)
     → text ≡ lines_text lines ++ open_text program words ++ 32 ∷ quoted word → NoWords program words
     → let after = r.with_word (at lines program words word place) in
     (text ≡ lines_text lines ++ open_text after.program after.words) × NoWords after.program after.words
@@ -259,7 +259,7 @@ bar_takes lines program words b text is none = by (b == 10) refl
     by false e = tt
 
 -- a byte
-step_takes : (place : Place) (lines : List PlanLine) (program : Option (List ℕ)) (words : List (List ℕ)) (word : List ℕ) (b : ℕ) (text : List ℕ)
+step_takes : (place : Standing) (lines : List PlanLine) (program : Option (List ℕ)) (words : List (List ℕ)) (word : List ℕ) (b : ℕ) (text : List ℕ)
     → Takes (at lines program words word place) text → Takes (step (at lines program words word place) b) (text ++ b ∷ [])
 step_takes Between lines program words word b text (is, none, held) =
     let P : List ℕ → Type 0 = λ w. Takes (step (at lines program words w Between) b) (text ++ b ∷ []) in
@@ -281,9 +281,9 @@ read_takes reader front [] took = let P : List ℕ → Type 0 = λ t. Takes read
 read_takes reader front (b ∷ text) took =
     let P : List ℕ → Type 0 = λ t. Takes (read (step reader b) text) t in
     subst P (append_snoc front b text)
-    (read_takes (step reader b) (front ++ b ∷ []) text (step_takes reader.place reader.lines reader.program reader.words reader.word b front took))
+    (read_takes (step reader b) (front ++ b ∷ []) text (step_takes reader.standing reader.lines reader.program reader.words reader.word b front took))
 
-finished_is : (place : Place) (program : Option (List ℕ)) (lines found : List PlanLine) (words : List (List ℕ)) (word text : List ℕ)
+finished_is : (place : Standing) (program : Option (List ℕ)) (lines found : List PlanLine) (words : List (List ℕ)) (word text : List ℕ)
     → Takes (at lines program words word place) text → finished (at lines program words word place) ≡ Some found → text ≡ lines_text found
 finished_is Between None lines found words word text (is, none, held) e =
     let same : lines ≡ found = cc in
@@ -301,7 +301,7 @@ pub read_is_shown : (text : List ℕ) (lines : List PlanLine) → lines_read tex
 read_is_shown text lines e =
     let last : LineReader = read r.start text in
     let is : text ≡ lines_text lines =
-    finished_is last.place last.program last.lines lines last.words last.word text (read_takes r.start [] text (refl, refl, refl)) e in
+    finished_is last.standing last.program last.lines lines last.words last.word text (read_takes r.start [] text (refl, refl, refl)) e in
     let P : List ℕ → Type 0 = λ t. Shows t lines in
     subst P (sym is) (shows_lines lines)
 

@@ -16,7 +16,7 @@ use std::mem;
 
 /// Where a reader stands.
 #[derive(Clone, Copy)]
-enum Place {
+enum Standing {
     /// At the start of a line, or after a word.
     Between,
     /// After the space before a word.
@@ -40,7 +40,7 @@ struct LineReader {
     program: Option<Word>,
     words: Listing<Word>,
     word: Word,
-    place: Place,
+    standing: Standing,
 }
 
 impl LineReader {
@@ -52,7 +52,7 @@ impl LineReader {
             program: None,
             words: Listing::new(alloc),
             word: Word::empty(alloc),
-            place: Place::Between,
+            standing: Standing::Between,
         }
     }
 
@@ -74,7 +74,7 @@ impl LineReader {
         ensures { OnOk result (self.new ≡ with_line self.old (is_piped end)) }
     {
         let Some(program) = self.program.take() else {
-            self.place = Place::Wrong;
+            self.standing = Standing::Wrong;
             return Ok(());
         };
         let words = mem::replace(&mut self.words, Listing::new(alloc));
@@ -82,7 +82,7 @@ impl LineReader {
             command: Command { program, words },
             piped: end.is_piped(),
         })?;
-        self.place = Place::Between;
+        self.standing = Standing::Between;
         Ok(())
     }
 
@@ -90,9 +90,9 @@ impl LineReader {
         ensures { OnOk result (self.new ≡ between self.old byte) }
     {
         match byte {
-            b' ' => self.place = Place::AtWord,
+            b' ' => self.standing = Standing::AtWord,
             b'\n' => return self.end_line(alloc, LineEnd::Last),
-            _ => self.place = Place::Wrong,
+            _ => self.standing = Standing::Wrong,
         }
         Ok(())
     }
@@ -102,13 +102,13 @@ impl LineReader {
     {
         if is_plain_byte(byte) {
             self.word.push(byte)?;
-            self.place = Place::Bare;
+            self.standing = Standing::Bare;
         } else if byte == b'"' {
-            self.place = Place::Quoted;
+            self.standing = Standing::Quoted;
         } else if byte == b'|' && self.program.is_some() {
-            self.place = Place::Bar;
+            self.standing = Standing::Bar;
         } else {
-            self.place = Place::Wrong;
+            self.standing = Standing::Wrong;
         }
         Ok(())
     }
@@ -127,13 +127,13 @@ impl LineReader {
         ensures { OnOk result (self.new ≡ inside self.old byte) }
     {
         match byte {
-            b'\\' => self.place = Place::Escaped,
-            b'"' if is_bare_word(self.word.as_bytes()) => self.place = Place::Wrong,
+            b'\\' => self.standing = Standing::Escaped,
+            b'"' if is_bare_word(self.word.as_bytes()) => self.standing = Standing::Wrong,
             b'"' => {
                 self.end_word(alloc)?;
-                self.place = Place::Between;
+                self.standing = Standing::Between;
             }
-            b'$' => self.place = Place::Wrong,
+            b'$' => self.standing = Standing::Wrong,
             _ => self.word.push(byte)?,
         }
         Ok(())
@@ -144,9 +144,9 @@ impl LineReader {
     {
         if is_special_byte(byte) {
             self.word.push(byte)?;
-            self.place = Place::Quoted;
+            self.standing = Standing::Quoted;
         } else {
-            self.place = Place::Wrong;
+            self.standing = Standing::Wrong;
         }
         Ok(())
     }
@@ -157,7 +157,7 @@ impl LineReader {
         if byte == b'\n' {
             return self.end_line(alloc, LineEnd::Piped);
         }
-        self.place = Place::Wrong;
+        self.standing = Standing::Wrong;
         Ok(())
     }
 
@@ -165,14 +165,14 @@ impl LineReader {
     fn take(&mut self, alloc: Global, byte: u8) -> Result<(), AllocError>
         ensures { OnOk result (self.new ≡ step self.old byte) }
     {
-        match self.place {
-            Place::Between => self.take_between(alloc, byte),
-            Place::AtWord => self.take_at_word(byte),
-            Place::Bare => self.take_bare(alloc, byte),
-            Place::Quoted => self.take_quoted(alloc, byte),
-            Place::Escaped => self.take_escaped(byte),
-            Place::Bar => self.take_after_bar(alloc, byte),
-            Place::Wrong => Ok(()),
+        match self.standing {
+            Standing::Between => self.take_between(alloc, byte),
+            Standing::AtWord => self.take_at_word(byte),
+            Standing::Bare => self.take_bare(alloc, byte),
+            Standing::Quoted => self.take_quoted(alloc, byte),
+            Standing::Escaped => self.take_escaped(byte),
+            Standing::Bar => self.take_after_bar(alloc, byte),
+            Standing::Wrong => Ok(()),
         }
     }
 
@@ -180,7 +180,7 @@ impl LineReader {
     fn finish(self) -> Option<Listing<PlanLine>>
         ensures { result ≡ finished self }
     {
-        if matches!(self.place, Place::Between) && self.program.is_none() {
+        if matches!(self.standing, Standing::Between) && self.program.is_none() {
             Some(self.lines)
         } else {
             None

@@ -1,8 +1,8 @@
 use Rattle.drv_words.specs.Bytes as byte
 use Rattle.drv_words.specs.Printed.{is_bare, is_plain, is_special}
 use Rattle.drv_words.specs.declared.plan.PlanLine.{PlanLine}
-use Rattle.drv_words.specs.declared.reading_back.Place.{Place}
-use Rattle.drv_words.specs.declared.reading_back.Place.TheVariants.{AtWord, Bar, Bare, Between, Escaped, Quoted, Wrong}
+use Rattle.drv_words.specs.declared.reading_back.Standing.{Standing}
+use Rattle.drv_words.specs.declared.reading_back.Standing.TheVariants.{AtWord, Bar, Bare, Between, Escaped, Quoted, Wrong}
 use Rattle.drv_words.specs.declared.reading_back.LineReader.{LineReader}
 use Rattle.std.specs.Option.{is_none}
 use Rattle.std.specs.Prelude.{◌&&◌, ◌==◌, Bool, List, [], ◌∷◌, ◌++◌, None, Option, Some, false, if◌then◌else◌, is_some, true, ℕ}
@@ -12,14 +12,14 @@ use Rattle.std.specs.Prelude.{◌&&◌, ◌==◌, Bool, List, [], ◌∷◌, ◌
 
 -- no line yet
 abbrev pub start : LineReader
-start = record { lines = []; program = None; words = []; word = []; place = Between }
+start = record { lines = []; program = None; words = []; word = []; standing = Between }
 
-abbrev pub placed : LineReader → Place → LineReader
-placed reader place = record reader { place = place }
+abbrev pub placed : LineReader → Standing → LineReader
+placed reader standing = record reader { standing = standing }
 
 -- one more byte of the word
-abbrev pub longer : LineReader → ℕ → Place → LineReader
-longer reader b place = record reader { word = reader.word ++ b ∷ []; place = place }
+abbrev pub longer : LineReader → ℕ → Standing → LineReader
+longer reader b standing = record reader { word = reader.word ++ b ∷ []; standing = standing }
 
 -- the word has ended: it is the program, or one more word
 abbrev pub word_added : Option (List ℕ) → LineReader → LineReader
@@ -36,7 +36,7 @@ line_added (Some program) reader piped = record reader {
   lines = reader.lines ++ record { command = record { program = program; words = reader.words }; piped = piped } ∷ [];
   program = None;
   words = [];
-  place = Between;
+  standing = Between;
 }
 
 abbrev pub with_line : LineReader → Bool → LineReader
@@ -53,7 +53,7 @@ at_word reader b =
     else placed reader Wrong
 
 abbrev pub bare : LineReader → ℕ → LineReader
-bare reader b = if is_plain b then longer reader b reader.place else between (with_word reader) b
+bare reader b = if is_plain b then longer reader b reader.standing else between (with_word reader) b
 
 -- a closing quote, which a word has to need
 abbrev pub closed : LineReader → LineReader
@@ -64,7 +64,7 @@ inside reader b =
     if b == byte.backslash then placed reader Escaped
     else if b == byte.double_quote then closed reader
     else if b == byte.dollar then placed reader Wrong
-    else longer reader b reader.place
+    else longer reader b reader.standing
 
 abbrev pub escape : LineReader → ℕ → LineReader
 escape reader b = if is_special b then longer reader b Quoted else placed reader Wrong
@@ -73,7 +73,7 @@ abbrev pub after_bar : LineReader → ℕ → LineReader
 after_bar reader b = if b == byte.newline then with_line reader true else placed reader Wrong
 
 -- one byte
-abbrev pub step_at : Place → LineReader → ℕ → LineReader
+abbrev pub step_at : Standing → LineReader → ℕ → LineReader
 step_at Between reader b = between reader b
 step_at AtWord reader b = at_word reader b
 step_at Bare reader b = bare reader b
@@ -83,19 +83,19 @@ step_at Bar reader b = after_bar reader b
 step_at Wrong reader b = reader
 
 abbrev pub step : LineReader → ℕ → LineReader
-step reader b = step_at reader.place reader b
+step reader b = step_at reader.standing reader b
 
 -- a text
 abbrev pub read : LineReader → List ℕ → LineReader
 read reader [] = reader
 read reader (b ∷ text) = read (step reader b) text
 
-abbrev pub is_between : Place → Bool
+abbrev pub is_between : Standing → Bool
 is_between Between = true
 is_between _ = false
 
 abbrev pub finished : LineReader → Option (List PlanLine)
-finished reader = if is_between reader.place && is_none reader.program then Some reader.lines else None
+finished reader = if is_between reader.standing && is_none reader.program then Some reader.lines else None
 
 abbrev pub lines_read : List ℕ → Option (List PlanLine)
 lines_read text = finished (read start text)
