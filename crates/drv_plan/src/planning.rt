@@ -152,7 +152,7 @@ fn planned<'a, S: System>(
         (planned F set.now inputs.now context.entry) }
     ensures apart { IfErr result (λ fault. fault ≢ PlanFault.Machine machine.Memory) }
 {
-    let mut progress = Progress::new(alloc, context);
+    let mut progress = Progress::new(alloc, context, inputs.len())?;
     plan_inputs(alloc, set, inputs, &mut progress, sys, facts)
 }
 

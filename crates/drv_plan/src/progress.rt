@@ -6,7 +6,7 @@ ghost use Rattle.drv_plan.specs.Denoted.{for_link, of_source, output_list, with_
 ghost use Rattle.drv_system.specs.Asking.{Asks, Extends};
 ghost use Rattle.drv_system.specs.Facts.{Facts};
 ghost use Rattle.drv_system.specs.Gives.{GivesKnown};
-ghost use Rattle.std.specs.Prelude.{◌≡◌, ◌≢◌, ◌++◌, IfErr, OnOk};
+ghost use Rattle.std.specs.Prelude.{◌≡◌, ◌≢◌, ◌++◌, IfErr, IfOk, OnOk};
 
 use crate::PlanFault;
 use drv_machine::{Context, Outcome, Source, run};
@@ -69,17 +69,21 @@ fn into_job(done: Outcome) -> Job
 }
 
 impl<'a> Progress<'a> {
-    /// Nothing was worked yet.
-    pub(crate) fn new(alloc: Global, context: Context<'a>) -> Progress<'a>
-        ensures { result ≡ begun context.entry }
+    /// Nothing was worked yet. There is room for the words of the link that so many inputs give.
+    pub(crate) fn new(
+        alloc: Global,
+        context: Context<'a>,
+        inputs: usize,
+    ) -> Result<Progress<'a>, AllocError>
+        ensures { IfOk result (λ progress. progress ≡ begun context.entry) }
     {
-        Progress {
+        Ok(Progress {
             context,
             notes: Listing::new(alloc),
             jobs: Listing::new(alloc),
-            outputs: Listing::new(alloc),
+            outputs: Listing::from_vec(Vec::with_capacity(alloc, inputs)?),
             passed_on: Listing::new(alloc),
-        }
+        })
     }
 
     /// Adds the name of a file that is the linker's.

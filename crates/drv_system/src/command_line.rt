@@ -12,6 +12,10 @@ use std::str::from_utf8;
 /// How many bytes of an argument there is room for at first.
 const ROOM: usize = 4096;
 
+/// How many arguments there is room for at first, so that those of a long line aren't copied as
+/// they come. What no argument fills is never touched.
+const ARGUMENTS: usize = 4096;
+
 /// How many bytes the argument at a place has, which are then the first ones of the room; none if
 /// there is no such argument. The room is doubled until they fit.
 fn argument_length(rt: &HostRuntime, place: usize, room: &mut Vec<u8>) -> io::Result<Option<usize>>
@@ -61,7 +65,7 @@ fn add_arguments(
 /// `OutOfMemory`, or another kind where one of them is no UTF-8.
 pub fn arguments(rt: &HostRuntime) -> io::Result<Listing<Word>> {
     let alloc = rt.alloc();
-    let mut words = Listing::new(alloc);
+    let mut words = Listing::from_vec(Vec::with_capacity(alloc, ARGUMENTS)?);
     let mut room = vec![in alloc; 0u8; ROOM]?;
     add_arguments(rt, &mut room, &mut words)?;
     Ok(words)

@@ -15,13 +15,18 @@ use drv_words::{Listing, Word};
 use std::alloc::AllocError;
 use std::mem;
 
+/// How many words of a command there is room for after its switches: its input, its output and what
+/// the text names.
+const OTHER_WORDS: usize = 32;
+
 impl Machine {
-    /// Makes room for so many words more of the open command, so that it isn't copied as it grows.
+    /// Makes room for so many words more of the open command, and for some others after them, so
+    /// that it isn't copied as it grows.
     pub(crate) fn make_room(&mut self, count: usize) -> Result<(), AllocError>
         ensures { self.new ≡ self.old }
     {
         let mut words = mem::replace(&mut self.line, Listing::new(self.alloc)).into_vec();
-        let made = words.reserve(count);
+        let made = words.reserve(count.saturating_add(OTHER_WORDS));
         self.line = Listing::from_vec(words);
         made
     }
