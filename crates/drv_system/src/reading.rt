@@ -57,13 +57,16 @@ enum ReadFault {
     Failed,
 }
 
-/// Makes the room of the next read twice as large, unless it is large.
+/// Makes the room of the next read twice as large, unless it is large. What it holds was taken out
+/// of it, and isn't copied.
 fn widen(room: &mut Vec<u8>) -> Result<(), AllocError>
     requires { 0 < length room.old.items }
     ensures { OnOk result (0 < length room.new.items) }
 {
     if room.len() < MOST_ROOM {
-        room.resize(room.len() * 2, 0)?;
+        let mut wider = Vec::new(*room.allocator());
+        wider.resize(room.len() * 2, 0)?;
+        *room = wider;
     }
     Ok(())
 }

@@ -26,11 +26,15 @@ fn is_quote_byte(byte: u8) -> bool
     matches!(byte, b'\'' | b'"')
 }
 
-/// Whether a byte stands after a backslash in the text of a word.
+/// Whether a byte stands after a backslash in the text of a word. Most bytes come after the
+/// quotes, where it is the backslash alone.
 fn is_marked_byte(byte: u8) -> bool
     ensures { result ≡ is_marked byte }
 {
-    is_space_byte(byte) || is_quote_byte(byte) || byte == b'\\'
+    if byte > b'\'' {
+        return byte == b'\\';
+    }
+    is_space_byte(byte) || is_quote_byte(byte)
 }
 
 /// Where the first white space, quote or backslash of a text stands.
