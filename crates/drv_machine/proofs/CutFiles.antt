@@ -3,7 +3,7 @@ use Rattle.drv_machine.proofs.Laws.{all_taken-append, then_same, then_then}
 use Rattle.drv_machine.proofs.Runs.{Course, Opened, any_after, bare, bare_ends, breaks, breaks_bare, broken_is, course, ended_as, moved, moves, name_of, open_in, opened_by, over, pipes, pipes_bare, with_word, word_ends, words_moved}
 use Rattle.drv_machine.specs.Context.{Context}
 use Rattle.drv_machine.specs.Cuts.{Bare, Filed, Run, Stretch, begins_file, bounds_file, each, has_stray_pipe, is_broken, is_script, line_of, lines, open_command, opens_word, path, stretch_atoms, texts, without_file, words, words_after}
-use Rattle.drv_machine.specs.Cutting.{Cut, Line, all_taken, argument_words, broken, file_begun, file_done, file_words, found_file, found_script, inside_done, line_done, line_ended, no_marks, nothing_cut, pipe_done, pipe_ended, script_option, taken, word_done, words_in_file}
+use Rattle.drv_machine.specs.Cutting.{Cut, Line, NamedLine, all_taken, argument_words, broken, file_begun, file_done, file_words, found_file, found_script, inside_done, line_ended, no_marks, nothing_cut, pipe_done, pipe_ended, script_option, taken, word_done, words_in_file}
 use Rattle.drv_machine.specs.Working.{◌>>-◌, Answer, Atom, Break, End, FileFrom, FileTo, From, Marked, Open, Piped, Put, To, Without}
 use Rattle.drv_machine.specs.declared.machine.marking.Marking.{Marking}
 use Rattle.drv_system.specs.Facts.{Facts}
@@ -24,13 +24,8 @@ inside_plain [] c = refl
 inside_plain (None ∷ outer) c = refl
 inside_plain (Some last ∷ outer) c = refl
 
-line_plain : (c : Cut) (words : List (List ℕ)) (piped : Bool) → plain (line_done (record c { line = record { words = words; piped = piped } })) ≡ plain (line_done (record (plain c) { line = record { words = words; piped = piped } }))
-line_plain c [] false = refl
-line_plain c [] true = refl
-line_plain c (w ∷ ws) piped = refl
-
 end_plain : (c : Cut) (outer : Option Line) → plain (line_ended (record c { outer = outer })) ≡ plain (line_ended (record (plain c) { outer = outer }))
-end_plain c None = line_plain (record c { outer = None }) c.line.words c.line.piped
+end_plain c None = refl
 end_plain c (Some line) = refl
 
 pipe_words_plain : (c : Cut) (words : List (List ℕ)) → plain (pipe_done (record c { line = record { words = words; piped = c.line.piped } })) ≡ plain (pipe_done (record (plain c) { line = record { words = words; piped = c.line.piped } }))
@@ -244,7 +239,7 @@ closed_opens d e =
     ap (λ (w : Option (List ℕ)). open_of w d.marks d.barred) e.0 ∙ ap (λ (m : Marking). open_of None m d.barred) e.1 ∙ ap (λ (b : Bool). open_of None no_marks b) e.2
 
 -- one cut, but for what a file leaves
-abbrev cut_of : Option (List ℕ) → Marking → Bool → Line → List Line → Bool → Option Line → Cut
+abbrev cut_of : Option (List ℕ) → Marking → Bool → Line → List NamedLine → Bool → Option Line → Cut
 cut_of word marks barred line lines stray outer = record {
   word = word;
   marks = marks;
@@ -265,7 +260,7 @@ same_plain x y line outer a b lines stray out =
     ap (λ (w : Option (List ℕ)). cut_of w y.marks y.barred line y.lines y.stray None) (b.0 ∙ sym a.0)
     ∙ ap (λ (m : Marking). cut_of x.word m y.barred line y.lines y.stray None) (b.1 ∙ sym a.1)
     ∙ ap (λ (z : Bool). cut_of x.word x.marks z line y.lines y.stray None) (b.2 ∙ sym a.2)
-    ∙ ap (λ (ls : List Line). cut_of x.word x.marks x.barred line ls y.stray None) lines
+    ∙ ap (λ (ls : List NamedLine). cut_of x.word x.marks x.barred line ls y.stray None) lines
     ∙ ap (λ (z : Bool). cut_of x.word x.marks x.barred line x.lines z None) stray
     ∙ ap (λ (o : Option Line). cut_of x.word x.marks x.barred line x.lines x.stray o) (sym out)
 
@@ -273,13 +268,8 @@ file_back : (y : Cut) (outer : Option Line) (l : Line) → outer ≡ Some l → 
 file_back y None l e = absurd cc
 file_back y (Some line) l e = let same : line ≡ l = cc in ap (λ (x : Line). plain (record y { outer = None; line = x })) same
 
-line_outside : (c : Cut) (words : List (List ℕ)) (piped : Bool) → (line_done (record c { line = record { words = words; piped = piped } })).outer ≡ c.outer
-line_outside c [] false = refl
-line_outside c [] true = refl
-line_outside c (w ∷ ws) piped = refl
-
 end_outside : (c : Cut) (outer : Option Line) → (line_ended (record c { outer = outer })).outer ≡ outer
-end_outside c None = line_outside (record c { outer = None }) c.line.words c.line.piped
+end_outside c None = refl
 end_outside c (Some line) = refl
 
 words_outside : (c : Cut) (words : List (List ℕ)) → (pipe_done (record c { line = record { words = words; piped = c.line.piped } })).outer ≡ c.outer

@@ -1,14 +1,14 @@
 use Rattle.drv_machine.proofs.Runs.{Course, any_after, bare, breaks, breaks_bare, course, moves, opened_by, over, pipes, pipes_bare, with_word}
 use Rattle.drv_machine.specs.Context.{Context}
-use Rattle.drv_machine.specs.Cuts.{Part, Piece, Pipe, Run, Word, begins_file, commands, each, has_more, has_stray_pipe, is_end_of_word, is_kept, is_nil, is_pipe, is_script, is_stray, lacks_word, line_of, lines, open_command, opens_word, path, texts, word_of}
-use Rattle.drv_machine.specs.Cutting.{Cut, Line, all_taken, argument_words, file_done, inside_done, line_done, line_ended, no_line, nothing_cut, pipe_done, pipe_ended, script_option}
+use Rattle.drv_machine.specs.Cuts.{Part, Piece, Pipe, Run, Word, begins_file, commands, each, has_more, has_stray_pipe, is_end_of_word, is_pipe, is_script, is_stray, lacks_word, line_of, lines, open_command, opens_word, path, texts, word_of}
+use Rattle.drv_machine.specs.Cutting.{Cut, Line, NamedLine, all_taken, argument_words, file_done, inside_done, line_ended, named_line, no_line, nothing_cut, pipe_done, pipe_ended, script_option}
 use Rattle.drv_machine.specs.Working.{◌>>-◌, Answer, Atom, Break, End, FileFrom, FileTo, From, Marked, Open, Piped, Put, To, Without}
 use Rattle.drv_machine.specs.declared.fault.MachineFault.{MachineFault}
 use Rattle.drv_system.specs.Facts.{Facts}
 use Rattle.drv_system.specs.Known.{Is, Unasked}
 use Rattle.std.proofs.Common.{◌≡◌, ◌∙◌, ◌++◌, ◌||◌, Bool, List, [], ◌∷◌, None, Err, Ok, Option, Some, ap, append-nil, append_assoc, false, refl, subst, sym, true, ℕ}
-use Rattle.std.specs.List.{filter, list_any}
-use Rattle.std.specs.Prelude.{if◌then◌else◌, not}
+use Rattle.std.specs.List.{cons_option, filter_map, list_any}
+use Rattle.std.specs.Prelude.{if◌then◌else◌, not, option_to_list}
 
 -- Commands and stray pipes of a list of atoms without a file.
 
@@ -85,7 +85,7 @@ stray_for_want false false rest = refl
 pub record Lined : Type 0 where
   pub outer : Option Line
   pub line : Line
-  pub lines : List Line
+  pub lines : List NamedLine
   pub stray : Bool
 
 abbrev pub lined : Cut → Lined
@@ -100,19 +100,16 @@ file_lined : (c : Cut) (outer : Option Line) → outer ≡ None → lined (file_
 file_lined c None e = refl
 file_lined c (Some line) e = absurd cc
 
-abbrev one_if : Line → List Line
-one_if line = if is_kept line then line ∷ [] else []
-
-line_done_lined : (c : Cut) (words : List (List ℕ)) (piped : Bool) → lined (line_done (record c { outer = None; line = record { words = words; piped = piped } }))
-    ≡ record { outer = None; line = no_line; lines = c.lines ++ one_if (record { words = words; piped = piped }); stray = c.stray }
-line_done_lined c [] false = ap (λ (ls : List Line). record { outer = None; line = no_line; lines = ls; stray = c.stray }) (sym (append-nil c.lines))
-line_done_lined c [] true = refl
-line_done_lined c (w ∷ ws) true = refl
-line_done_lined c (w ∷ ws) false = refl
+abbrev one_if : Line → List NamedLine
+one_if line = option_to_list (named_line line)
 
 end_lined : (c : Cut) (outer : Option Line) → outer ≡ None → lined (line_ended (record c { outer = outer })) ≡ record { outer = None; line = no_line; lines = c.lines ++ one_if c.line; stray = c.stray }
-end_lined c None e = line_done_lined c c.line.words c.line.piped
+end_lined c None e = refl
 end_lined c (Some line) e = absurd cc
+
+abbrev pub is_nil : List (List ℕ) → Bool
+is_nil [] = true
+is_nil (word ∷ words) = false
 
 -- a pipe after these words
 pipe_done_lined : (c : Cut) (words : List (List ℕ)) → lined (pipe_done (record c { outer = None; line = record { words = words; piped = c.line.piped } }))
@@ -222,12 +219,12 @@ bare_pieces run atoms e = rw e refl
 word_pieces : (run atoms : List Atom) → list_any opens_word run ≡ true → word_of (record { atoms = run; behind = atoms }) ≡ Word (record { atoms = run; behind = atoms }) ∷ []
 word_pieces run atoms e = rw e refl
 
-one_more : (line : Line) (found : List Line) → one_if line ++ filter is_kept found ≡ filter is_kept (line ∷ found)
-one_more line found = by (is_kept line)
+one_more : (line : Line) (found : List Line) → one_if line ++ filter_map named_line found ≡ filter_map named_line (line ∷ found)
+one_more line found = by (named_line line)
   where
-    by : (b : Bool) → (if b then line ∷ [] else []) ++ filter is_kept found ≡ (if b then line ∷ filter is_kept found else filter is_kept found)
-    by true = refl
-    by false = refl
+    by : (named : Option NamedLine) → option_to_list named ++ filter_map named_line found ≡ cons_option named (filter_map named_line found)
+    by None = refl
+    by (Some kept) = refl
 
 module _ (F : Facts) (C : Context) where
   stands_part : (ps : List Piece) (s : Bool) (l : Lined) → Stands F C ps s l → Stands F C (ps ++ Part ∷ []) s (record l { stray = l.stray || l.line.piped })
@@ -274,16 +271,16 @@ module _ (F : Facts) (C : Context) where
       (stands_word ps s (lined c) (record { atoms = run; behind = atoms }) (if list_any is_script run then script_option ∷ name ∷ [] else name ∷ []) st
       (ap (λ (a : Answer (List ℕ)). a >>- λ n. Is (Ok (if list_any is_script run then script_option ∷ n ∷ [] else n ∷ []))) is) (script_or_not (list_any is_script run) name))
 
-  abbrev Commanded : List (List Piece) → List Piece → Bool → List Line → Cut → Type 0
+  abbrev Commanded : List (List Piece) → List Piece → Bool → List NamedLine → Cut → Type 0
   Commanded cs o s before d =
-      (found : List Line) × (each (line_of F C) cs ≡ Is (Ok found)) × (d.lines ≡ before ++ filter is_kept found) × (d.stray ≡ (s || (list_any is_stray cs || is_stray o))) × (line_of F C o ≡ Is (Ok d.line))
+      (found : List Line) × (each (line_of F C) cs ≡ Is (Ok found)) × (d.lines ≡ before ++ filter_map named_line found) × (d.stray ≡ (s || (list_any is_stray cs || is_stray o))) × (line_of F C o ≡ Is (Ok d.line))
 
-  end_more : (ps : List Piece) (s : Bool) (line : Line) (before : List Line) (cs : List (List Piece)) (o : List Piece) (d : Cut) → line_of F C ps ≡ Is (Ok line)
+  end_more : (ps : List Piece) (s : Bool) (line : Line) (before : List NamedLine) (cs : List (List Piece)) (o : List Piece) (d : Cut) → line_of F C ps ≡ Is (Ok line)
       → Commanded cs o (s || is_stray ps) (before ++ one_if line) d → Commanded (ps ∷ cs) o s before d
   end_more ps s line before cs o d is (found, all, kept, stray, last) = (
     line ∷ found,
     ap (λ (a : Answer Line). a >>- λ y. each (line_of F C) cs >>- λ ys. Is (Ok (y ∷ ys))) is ∙ ap (λ (a : Answer (List Line)). a >>- λ ys. Is (Ok (line ∷ ys))) all,
-    kept ∙ append_assoc before (one_if line) (filter is_kept found) ∙ ap (λ (ls : List Line). before ++ ls) (one_more line found),
+    kept ∙ append_assoc before (one_if line) (filter_map named_line found) ∙ ap (λ (ls : List NamedLine). before ++ ls) (one_more line found),
     stray ∙ or_assoc s (is_stray ps) (list_any is_stray cs || is_stray o) ∙ ap (λ b. s || b) (sym (or_assoc (is_stray ps) (list_any is_stray cs) (is_stray o))),
     last,
   )
@@ -341,7 +338,7 @@ module _ (F : Facts) (C : Context) where
     where
       by : Commanded (commands [] [] atoms) (open_command [] [] atoms) false [] c → (lines F C atoms ≡ Is (Ok c.lines)) × (has_stray_pipe atoms ≡ c.stray) × (line_of F C (open_command [] [] atoms) ≡ Is (Ok c.line))
       by (found, all, kept, stray, last) =
-          (ap (λ (a : Answer (List Line)). a >>- λ ls. Is (Ok (filter is_kept ls))) all ∙ ap (λ (ls : List Line). Is (Ok ls)) (sym kept), sym stray, last)
+          (ap (λ (a : Answer (List Line)). a >>- λ ls. Is (Ok (filter_map named_line ls))) all ∙ ap (λ (ls : List NamedLine). Is (Ok ls)) (sym kept), sym stray, last)
 
   pub lines_are : (atoms : List Atom) (c : Cut) → list_any begins_file atoms ≡ false → all_taken F C nothing_cut atoms ≡ Is (Ok c) → lines F C atoms ≡ Is (Ok c.lines)
   lines_are atoms c f e = (commands_are atoms c f e).0

@@ -1,6 +1,6 @@
 use Rattle.drv_machine.proofs.WorkedTexts.{linking}
 use Rattle.drv_machine.specs.Cuts.{Bare, Filed, each, failure_files, has_stray_pipe, if_any, lines, output, path, path_of, removed, without_file, words}
-use Rattle.drv_machine.specs.Cutting.{Line}
+use Rattle.drv_machine.specs.Cutting.{NamedLine}
 use Rattle.drv_machine.specs.Working.{Answer, Atom, Break, End, From, Marked, Open, Piped, Put, To, Without}
 use Rattle.drv_machine.specs.declared.machine.marking.Mark.TheVariants.{AsOutput, AsRemoved}
 use Rattle.drv_system.specs.Facts.{Facts}
@@ -32,7 +32,7 @@ nothing_after : has_stray_pipe (Put letter_a ∷ Piped ∷ Without ∷ Break ∷
 nothing_after = refl
 
 module _ (F : Facts) where
-  abbrev lines_are : List Atom → Answer (List Line)
+  abbrev lines_are : List Atom → Answer (List NamedLine)
   lines_are atoms = lines F (linking []) atoms
 
   abbrev words_are : List Atom → Answer (List (List ℕ))
@@ -99,13 +99,17 @@ module _ (F : Facts) where
 
   -- a | and b, with an empty line between them; and a, of which the command ends before the word does
   two_commands : lines_are (Put letter_a ∷ Piped ∷ Break ∷ End ∷ Break ∷ End ∷ Put letter_b ∷ Break ∷ End ∷ [])
-      ≡ Is (Ok (record { words = codes "a" ∷ []; piped = true } ∷ record { words = codes "b" ∷ []; piped = false } ∷ []))
+      ≡ Is (Ok (record { name = codes "a"; words = []; piped = true } ∷ record { name = codes "b"; words = []; piped = false } ∷ []))
   two_commands = refl
 
   -- a%@{b}a|, of which a file is made
   around_file : lines_are (flat_map without_file (Bare (Put letter_a) ∷ Filed (Put letter_b ∷ []) ∷ Bare (Put letter_a) ∷ Bare Piped ∷ Bare End ∷ []))
-      ≡ Is (Ok (record { words = codes "a" ∷ codes "a" ∷ []; piped = true } ∷ []))
+      ≡ Is (Ok (record { name = codes "a"; words = codes "a" ∷ []; piped = true } ∷ []))
   around_file = refl
 
-  ends_later : lines_are (Put letter_a ∷ End ∷ Put letter_b ∷ Break ∷ End ∷ []) ≡ Is (Ok (record { words = codes "ab" ∷ []; piped = false } ∷ []))
+  ends_later : lines_are (Put letter_a ∷ End ∷ Put letter_b ∷ Break ∷ End ∷ []) ≡ Is (Ok (record { name = codes "ab"; words = []; piped = false } ∷ []))
   ends_later = refl
+
+  -- a pipe without a word before it, of which no command is kept
+  bare_pipe : lines_are (Piped ∷ Break ∷ End ∷ Put letter_a ∷ Break ∷ End ∷ []) ≡ Is (Ok (record { name = codes "a"; words = []; piped = false } ∷ []))
+  bare_pipe = refl

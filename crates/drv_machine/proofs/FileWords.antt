@@ -1,6 +1,6 @@
 use Rattle.drv_machine.proofs.Laws.{then_same, then_then}
 use Rattle.drv_machine.specs.Context.{Context}
-use Rattle.drv_machine.specs.Cutting.{Cut, Line, all_taken, broken, file_begun, file_done, file_words, found_file, found_script, inside_done, line_done, line_ended, marked, no_line, no_marks, nothing_cut, pipe_done, pipe_ended, script_option, taken, word_done, words_in_file}
+use Rattle.drv_machine.specs.Cutting.{Cut, Line, all_taken, broken, file_begun, file_done, file_words, found_file, found_script, inside_done, line_ended, marked, no_line, no_marks, nothing_cut, pipe_done, pipe_ended, script_option, taken, word_done, words_in_file}
 use Rattle.drv_machine.specs.Working.{◌>>-◌, Answer, Atom, Break, End, FileFrom, FileTo, From, Marked, Open, Piped, Put, To, Without}
 use Rattle.drv_machine.specs.declared.machine.marking.Marking.{Marking}
 use Rattle.drv_system.specs.Facts.{Facts}
@@ -39,14 +39,8 @@ words_seen None line = refl
 words_seen (Some o) line = refl
 
 -- an end of a command, a pipe and the end of a %W are not seen
-dropped_or_not : (c : Cut) (words : List (List ℕ)) (piped : Bool) → seen (line_done (record c { line = record { words = words; piped = piped }; outer = None })) ≡ seen (record c { line = record { words = words; piped = piped }; outer = None })
-dropped_or_not c [] false = refl
-dropped_or_not c [] true = refl
-dropped_or_not c (w ∷ words) false = refl
-dropped_or_not c (w ∷ words) true = refl
-
 end_unseen : (c : Cut) (outer : Option Line) → seen (line_ended (record c { outer = outer })) ≡ seen (record c { outer = outer })
-end_unseen c None = dropped_or_not c c.line.words c.line.piped
+end_unseen c None = refl
 end_unseen c (Some line) = refl
 
 piped_or_not : (c : Cut) (words : List (List ℕ)) (piped : Bool) → seen (pipe_done (record c { line = record { words = words; piped = piped }; outer = None })) ≡ seen (record c { line = record { words = words; piped = piped }; outer = None })

@@ -1,6 +1,6 @@
 use Rattle.drv_machine.specs.Atoms.{added}
 use Rattle.drv_machine.specs.Context.{Context}
-use Rattle.drv_machine.specs.Cutting.{Cut, Line}
+use Rattle.drv_machine.specs.Cutting.{Cut, NamedLine}
 use Rattle.drv_machine.specs.Code.Grouping.{ahead, grouped}
 use Rattle.drv_machine.specs.Code.Held.{made}
 use Rattle.drv_machine.specs.Outcome.{add_command, command, ends_piped, finished, groups, job, most_piped, once}
@@ -20,14 +20,14 @@ use Rattle.std.specs.Prelude.{nat_eq, nat_lt, not}
 -- What stands after a whole text.
 
 -- the last command counts
-ends_piped_from : (lines : List Line) (n : ℕ) (last : Line) → length lines ≡ suc n → last ≡ get_or lines n last → last.piped ≡ ends_piped lines
+ends_piped_from : (lines : List NamedLine) (n : ℕ) (last : NamedLine) → length lines ≡ suc n → last ≡ get_or lines n last → last.piped ≡ ends_piped lines
 ends_piped_from [] n last long is = absurd (omega (arith, long))
 ends_piped_from (line ∷ []) zero last long is = ap (λ l. l.piped) is
 ends_piped_from (line ∷ []) (suc n) last long is = absurd (omega (arith, long))
 ends_piped_from (line ∷ other ∷ lines) zero last long is = absurd (omega (arith, long))
 ends_piped_from (line ∷ other ∷ lines) (suc n) last long is = ends_piped_from (other ∷ lines) n last (omega (arith, long)) is
 
-pub ends_piped_last : (lines : List Line) (last : Line) → 1 ≤ length lines → last ≡ get_or lines (length lines - 1) last → last.piped ≡ ends_piped lines
+pub ends_piped_last : (lines : List NamedLine) (last : NamedLine) → 1 ≤ length lines → last ≡ get_or lines (length lines - 1) last → last.piped ≡ ends_piped lines
 ends_piped_last lines last some is = ends_piped_from lines (length lines - 1) last (omega (arith, some)) is
 
 joined : (begun : List Command) (c : Command) (gs : List (List Command)) → ahead begun (add_command true c gs) ≡ ahead (begun ++ c ∷ []) gs
@@ -57,8 +57,8 @@ grouped_none done begun a e f = rw (e, f) (by a)
 
 module _ (F : Facts) (C : Context) where
   -- one line more, whose command is joined to the next one, or ends its group
-  pub one_joined : (done : List (List Command)) (begun after : List Command) (line : Line) (c : Command) (lines : List Line)
-      → (C.is_piping && line.piped) ≡ true → command F C line.words ≡ Is (Ok c) → after ≡ begun ++ c ∷ []
+  pub one_joined : (done : List (List Command)) (begun after : List Command) (line : NamedLine) (c : Command) (lines : List NamedLine)
+      → (C.is_piping && line.piped) ≡ true → command F C line ≡ Is (Ok c) → after ≡ begun ++ c ∷ []
       → grouped done begun (groups F C (line ∷ lines)) ≡ grouped done after (groups F C lines)
   one_joined done begun after line c lines piped is e = rw (is, piped, e) (by (groups F C lines))
     where
@@ -67,8 +67,8 @@ module _ (F : Facts) (C : Context) where
       by (Is (Err fault)) = refl
       by Unasked = refl
 
-  pub one_ended : (done new : List (List Command)) (begun all after : List Command) (line : Line) (c : Command) (lines : List Line)
-      → (C.is_piping && line.piped) ≡ false → command F C line.words ≡ Is (Ok c) → all ≡ begun ++ c ∷ [] → new ≡ done ++ made all → after ≡ []
+  pub one_ended : (done new : List (List Command)) (begun all after : List Command) (line : NamedLine) (c : Command) (lines : List NamedLine)
+      → (C.is_piping && line.piped) ≡ false → command F C line ≡ Is (Ok c) → all ≡ begun ++ c ∷ [] → new ≡ done ++ made all → after ≡ []
       → grouped done begun (groups F C (line ∷ lines)) ≡ grouped new after (groups F C lines)
   one_ended done new begun all after line c lines piped is e en ea = rw (is, piped, en, e, ea) (by (groups F C lines))
     where

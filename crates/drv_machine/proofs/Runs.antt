@@ -1,6 +1,6 @@
 use Rattle.drv_machine.specs.Context.{Context}
 use Rattle.drv_machine.specs.Cuts.{byte_of, ends_word, is_bar, is_barred, is_file, is_output, is_removed, is_script, opens_word, path, words_after}
-use Rattle.drv_machine.specs.Cutting.{Cut, Line, all_taken, broken, file_begun, file_done, found_file, found_script, in_word, inside_done, line_done, line_ended, marked, no_line, no_marks, pipe_done, pipe_ended, script_option, touched}
+use Rattle.drv_machine.specs.Cutting.{Cut, Line, all_taken, broken, file_begun, file_done, found_file, found_script, in_word, inside_done, line_ended, marked, no_line, no_marks, pipe_done, pipe_ended, script_option, touched}
 use Rattle.drv_machine.specs.Working.{◌>>-◌, Answer, Atom, Break, End, FileFrom, FileTo, From, Marked, Open, Piped, Put, To, Without}
 use Rattle.drv_machine.specs.declared.fault.MachineFault.{MachineFault}
 use Rattle.drv_machine.specs.declared.machine.marking.Mark.TheVariants.{AsFile, AsOutput, AsRemoved, AsScript}
@@ -132,13 +132,8 @@ moved c FileTo = file_done c
 abbrev pub unlined : Cut → Cut
 unlined c = record c { line = no_line; lines = []; stray = false; outer = None }
 
-line_done_unlined : (c : Cut) (words : List (List ℕ)) (piped : Bool) → unlined (line_done (record c { line = record { words = words; piped = piped } })) ≡ unlined c
-line_done_unlined c [] false = refl
-line_done_unlined c [] true = refl
-line_done_unlined c (w ∷ ws) piped = refl
-
 line_unlined : (c : Cut) (outer : Option Line) → unlined (line_ended (record c { outer = outer })) ≡ unlined c
-line_unlined c None = line_done_unlined (record c { outer = None }) c.line.words c.line.piped
+line_unlined c None = refl
 line_unlined c (Some line) = refl
 
 pipe_done_unlined : (c : Cut) (words : List (List ℕ)) → unlined (pipe_done (record c { line = record { words = words; piped = c.line.piped } })) ≡ unlined c

@@ -4,8 +4,8 @@ use Rattle.drv_machine.proofs.CutRuns.{output_is, removed_are}
 use Rattle.drv_machine.proofs.TextStretches.{are_stretched}
 use Rattle.drv_machine.specs.Atoms.{atoms}
 use Rattle.drv_machine.specs.Context.{Context}
-use Rattle.drv_machine.specs.Cuts.{Stretched, lines, stretch_atoms}
-use Rattle.drv_machine.specs.Cutting.{Cut, Line, all_taken, nothing_cut}
+use Rattle.drv_machine.specs.Cuts.{Stretched, stretch_atoms}
+use Rattle.drv_machine.specs.Cutting.{Cut, NamedLine, all_taken, nothing_cut}
 use Rattle.drv_machine.specs.Outcome.{cut, ends_piped, finished, groups, job, most_piped, outcome}
 use Rattle.drv_machine.specs.Told.{Told, lasting_of}
 use Rattle.drv_machine.specs.Working.{◌>>-◌, Answer, Atom, Goes, Refuses, Waits, Work, World}
@@ -69,7 +69,7 @@ module _ (F : Facts) (C : Context) where
         failures_are = ap (lasting_of w) (failures_are F C list c cut_is) ∙ ap (λ (j : Job). Is (Ok j.on_failure)) (sym ended.job_is);
         none_stray = stray_around F C made.stretches c made.whole again ∙ ended.none_stray;
         groups_are =
-            ap (λ (a : Answer (List Line)). a >>- groups F C) (lines_around F C made.stretches c made.whole again)
+            ap (λ (a : Answer (List NamedLine)). a >>- groups F C) (lines_around F C made.stretches c made.whole again)
             ∙ ended.groups_are ∙ ap (λ (j : Job). Is (Ok j.groups)) (sym ended.job_is);
       }
 

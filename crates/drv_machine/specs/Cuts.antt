@@ -1,10 +1,10 @@
 use Rattle.drv_machine.specs.Context.{Context}
-use Rattle.drv_machine.specs.Cutting.{Line, found_file, found_script, no_line, script_option}
+use Rattle.drv_machine.specs.Cutting.{Line, NamedLine, found_file, found_script, named_line, no_line, script_option}
 use Rattle.drv_machine.specs.Working.{◌>>-◌, Answer, Atom, Break, End, FileFrom, FileTo, From, Marked, Open, Piped, Put, To, Without}
 use Rattle.drv_machine.specs.declared.machine.marking.Mark.TheVariants.{AsFile, AsOutput, AsRemoved, AsScript}
 use Rattle.drv_system.specs.Facts.{Facts}
 use Rattle.drv_system.specs.Known.{Is}
-use Rattle.std.specs.List.{filter, flat_map, list_any}
+use Rattle.std.specs.List.{filter, filter_map, flat_map, list_any}
 use Rattle.std.specs.Prelude.{◌≡◌, ◌&&◌, ◌||◌, Bool, List, [], ◌∷◌, ◌++◌, Option, None, Some, Ok, false, if◌then◌else◌, not, suc, true, zero, ℕ}
 
 -- What a list of atoms is cut into, said of the list as it stands (this project's profile). `Cutting` says it atom by atom.
@@ -249,14 +249,6 @@ is_stray pieces = lacks_word pieces || has_more pieces
 abbrev pub has_stray_pipe : List Atom → Bool
 has_stray_pipe atoms = list_any is_stray (commands [] [] atoms) || is_stray (open_command [] [] atoms)
 
--- a command without a word and a pipe is dropped
-abbrev pub is_nil : List (List ℕ) → Bool
-is_nil [] = true
-is_nil (word ∷ words) = false
-
-abbrev pub is_kept : Line → Bool
-is_kept line = line.piped || not (is_nil line.words)
-
 -- the file of a %@ begins
 abbrev pub begins_file : Atom → Bool
 begins_file FileFrom = true
@@ -302,6 +294,6 @@ module _ (F : Facts) (C : Context) where
   line_of (Part ∷ pieces) = line_of pieces
   line_of (Pipe ∷ pieces) = line_of pieces >>- λ line. Is (Ok (record { words = line.words; piped = true }))
 
-  -- the commands that are kept
-  abbrev pub lines : List Atom → Answer (List Line)
-  lines atoms = each line_of (commands [] [] atoms) >>- λ found. Is (Ok (filter is_kept found))
+  -- the commands; one without a word is dropped
+  abbrev pub lines : List Atom → Answer (List NamedLine)
+  lines atoms = each line_of (commands [] [] atoms) >>- λ found. Is (Ok (filter_map named_line found))

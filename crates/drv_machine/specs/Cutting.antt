@@ -7,12 +7,18 @@ use Rattle.drv_search.specs.Search.{file_found, script_found}
 use Rattle.drv_system.specs.Facts.{Facts}
 use Rattle.drv_system.specs.Known.{Is}
 use Rattle.std.specs.Option.{unwrap_or}
-use Rattle.std.specs.Prelude.{◌&&◌, ◌||◌, Bool, List, [], ◌∷◌, ◌++◌, Option, None, Some, Ok, codes, false, if◌then◌else◌, is_some, map, not, option_map, true, ℕ}
+use Rattle.std.specs.Prelude.{◌&&◌, ◌||◌, Bool, List, [], ◌∷◌, ◌++◌, Option, None, Some, Ok, codes, false, if◌then◌else◌, is_some, map, not, option_map, option_to_list, true, ℕ}
 
 -- Atoms cut into words with their marks, and words into commands (this project's profile).
 
--- the words of a command, and whether it ends with a pipe
+-- the words of a command so far, and whether it ends with a pipe
 pub record Line : Type 0 where
+  pub words : List (List ℕ)
+  pub piped : Bool
+
+-- a command that has ended: the name of its program, which is its first word, the words after it, and whether it ends with a pipe
+pub record NamedLine : Type 0 where
+  pub name : List ℕ
   pub words : List (List ℕ)
   pub piped : Bool
 
@@ -22,7 +28,7 @@ pub record Cut : Type 0 where
   pub marks : Marking
   pub barred : Bool  -- the open word began before a %V
   pub line : Line  -- that is open
-  pub lines : List Line
+  pub lines : List NamedLine  -- that have ended
   pub stray : Bool  -- a pipe stood without a word before it, or something stood behind one
   pub removed : List (List ℕ)
   pub on_failure : List (List ℕ)
@@ -78,13 +84,17 @@ word_done c words last = record c {
   inside = map (λ before. Some last) c.inside;
 }
 
--- a command has ended; one without a word and a pipe is dropped
-abbrev pub line_done : Cut → Cut
-line_done c = by c.line.words c.line.piped
+-- the command of a line, if a word stands in it
+abbrev pub named_line : Line → Option NamedLine
+named_line line = by line.words
   where
-    by : List (List ℕ) → Bool → Cut
-    by [] false = c
-    by words piped = record c { line = no_line; lines = c.lines ++ record { words = words; piped = piped } ∷ [] }
+    by : List (List ℕ) → Option NamedLine
+    by [] = None
+    by (name ∷ words) = Some (record { name = name; words = words; piped = line.piped })
+
+-- a command has ended; one without a word is dropped
+abbrev pub line_done : Cut → Cut
+line_done c = record c { line = no_line; lines = c.lines ++ option_to_list (named_line c.line) }
 
 -- a pipe stands after the words so far: there has to be one, and no pipe yet
 abbrev pub pipe_done : Cut → Cut

@@ -1,6 +1,6 @@
 use Rattle.drv_machine.specs.Atoms.{atoms}
 use Rattle.drv_machine.specs.Context.{Context}
-use Rattle.drv_machine.specs.Cutting.{Cut, Line, all_taken, nothing_cut}
+use Rattle.drv_machine.specs.Cutting.{Cut, NamedLine, all_taken, nothing_cut}
 use Rattle.drv_machine.specs.Working.{◌>>-◌, Answer, Goes, Refuses, Waits, Work, World, is_among, known}
 use Rattle.drv_machine.specs.declared.fault.MachineFault.TheVariants.{PipeTooLong, StrayPipe}
 use Rattle.drv_machine.specs.declared.outcome.Outcome.{Outcome}
@@ -26,21 +26,20 @@ add_command true c (group ∷ groups) = (c ∷ group) ∷ groups
 add_command _ c groups = (c ∷ []) ∷ groups
 
 module _ (F : Facts) (C : Context) where
-  -- what the first word of a command becomes
+  -- what the name of a program becomes
   abbrev pub program : List ℕ → Answer (List ℕ)
   program name = known (program_found F C.prefixes name)
 
-  abbrev pub command : List (List ℕ) → Answer Command
-  command [] = Is (Ok (record { program = []; words = [] }))  -- there is none
-  command (name ∷ words) = program name >>- λ path. Is (Ok (record { program = path; words = words }))
+  abbrev pub command : NamedLine → Answer Command
+  command line = program line.name >>- λ path. Is (Ok (record { program = path; words = line.words }))
 
   -- with -pipe piped commands form one group; without it each command is a group
-  abbrev pub groups : List Line → Answer (List (List Command))
+  abbrev pub groups : List NamedLine → Answer (List (List Command))
   groups [] = Is (Ok [])
-  groups (line ∷ lines) = command line.words >>- λ c. groups lines >>- λ others. Is (Ok (add_command (C.is_piping && line.piped) c others))
+  groups (line ∷ lines) = command line >>- λ c. groups lines >>- λ others. Is (Ok (add_command (C.is_piping && line.piped) c others))
 
 -- no further command follows a pipe
-abbrev pub ends_piped : List Line → Bool
+abbrev pub ends_piped : List NamedLine → Bool
 ends_piped [] = false
 ends_piped (line ∷ []) = line.piped
 ends_piped (line ∷ other ∷ lines) = ends_piped (other ∷ lines)

@@ -38,10 +38,10 @@ pub fn cut_law()
 {}
 
 /// The law that a list of atoms in which no file begins is cut into the commands that the list as
-/// it stands says: the words of a command are those that end in it, a command without a word and a
-/// pipe is dropped, and a pipe is stray exactly where no word stands before it in its command, or
-/// part of a word or a pipe stands after it. The words of arguments are those of their last
-/// command. It takes and gives nothing.
+/// it stands says: the words of a command are those that end in it, a command without a word is
+/// dropped, and a pipe is stray exactly where no word stands before it in its command, or part of a
+/// word or a pipe stands after it. The words of arguments are those of their last command. It takes
+/// and gives nothing.
 pub fn command_law()
     ensures lines { (F : Facts) (C : specs.Context) (atoms : List Atom) (c : Cut)
         → list_any begins_file atoms ≡ false

@@ -4,7 +4,7 @@ ghost use Rattle.drv_machine.specs.Code.Asked.{Asked};
 ghost use Rattle.drv_machine.specs.Atoms.{switch_atoms};
 ghost use Rattle.drv_machine.specs.Context as specs;
 ghost use Rattle.drv_machine.specs.Context.{argument, names};
-ghost use Rattle.drv_machine.specs.Cutting.{pipe_ended};
+ghost use Rattle.drv_machine.specs.Cutting.{named_line, pipe_ended};
 ghost use Rattle.drv_machine.specs.Code.Running.{begun, run};
 ghost use Rattle.drv_machine.specs.Working as step;
 ghost use Rattle.drv_machine.specs.Working.{Break, End, Open, Piped, Put, counted, puts, word_of};
@@ -46,7 +46,7 @@ use std::mem;
 /// The most items of a text.
 const MOST_ITEMS: usize = 1_000_000;
 
-/// A command as it was cut: its words, and whether it ends with a pipe.
+/// A command as it was cut so far: its words, and whether it ends with a pipe.
 #[derive(Drop)]
 pub(crate) struct Line {
     pub(crate) words: Listing<Word>,
@@ -61,6 +61,42 @@ impl Model for Line {
     ghost view = { λ l. record { words = l.words; piped = l.piped } };
 }
 
+/// A command that has ended: its words, of which there is a first, and whether it ends with a pipe.
+#[derive(Drop)]
+pub(crate) struct NamedLine {
+    /// The name of its program.
+    pub(crate) name: Word,
+    /// The words after it.
+    pub(crate) words: Listing<Word>,
+    pub(crate) piped: bool,
+}
+
+impl Model for NamedLine {
+    ghost use Rattle.drv_machine.specs.Cutting as cutting;
+
+    ghost Value = { cutting.NamedLine };
+
+    ghost view = { λ l. record { name = l.name; words = l.words; piped = l.piped } };
+}
+
+impl NamedLine {
+    /// The command of these words, if there is one.
+    fn from_words(words: Listing<Word>, piped: bool) -> Option<NamedLine>
+        ensures { result ≡ named_line (record { words = words; piped = piped }) }
+    {
+        let mut words = words.into_vec();
+        if words.is_empty() {
+            return None;
+        }
+        let name = words.remove(0);
+        Some(NamedLine {
+            name,
+            words: Listing::from_vec(words),
+            piped,
+        })
+    }
+}
+
 /// What working a text holds: what is cut so far, and what working changes as it goes.
 #[derive(Drop)]
 pub(crate) struct Machine {
@@ -73,7 +109,8 @@ pub(crate) struct Machine {
     line: Listing<Word>,
     /// Whether a pipe stands after them.
     is_piped: bool,
-    lines: Listing<Line>,
+    /// The commands that have ended.
+    lines: Listing<NamedLine>,
     /// Whether a pipe stood where none may.
     is_stray: bool,
     /// The command, where words go to the file of a `%@`.
@@ -221,7 +258,7 @@ impl Machine {
         self.is_stray |= self.is_piped;
     }
 
-    /// The open command ends; one without a word and a pipe is dropped. In a file none ends.
+    /// The open command ends; one without a word is dropped. In a file none ends.
     fn close_line(&mut self) -> Result<(), MachineFault>
         ensures does { (F : Facts) (C : specs.Context)
             → GivesKnown MachineFault.Memory (λ u. (tt, self.new)) result
@@ -231,12 +268,11 @@ impl Machine {
         if self.outer.is_some() {
             return Ok(());
         }
-        if self.line.is_empty() && !self.is_piped {
-            return Ok(());
-        }
         let words = mem::replace(&mut self.line, Listing::new(self.alloc));
         let piped = mem::replace(&mut self.is_piped, false);
-        self.lines.push(Line { words, piped })?;
+        if let Some(line) = NamedLine::from_words(words, piped) {
+            self.lines.push(line)?;
+        }
         Ok(())
     }
 
@@ -252,7 +288,7 @@ impl Machine {
         self.is_piped = true;
     }
 
-    /// The open word and its command end; a command without a word and a pipe is dropped.
+    /// The open word and its command end; a command without a word is dropped.
     #[tactic(auto, using(crate::proofs::AskedCalls::asked_further))]
     pub(crate) fn end_line<S: System>(
         &mut self,

@@ -3,7 +3,7 @@
 ghost use Rattle.drv_machine.specs.Cutting.{nothing_cut};
 ghost use Rattle.std.specs.Prelude.{◌≡◌};
 
-use super::{Inside, Line, Machine, Marking};
+use super::{Inside, Line, Machine, Marking, NamedLine};
 use drv_words::{Listing, Word};
 use smallvec::SmallVec;
 use std::marker::Model;
@@ -16,7 +16,7 @@ pub(crate) struct Cutter {
     word: SmallVec<u8, 256>,
     line: Listing<Word>,
     is_piped: bool,
-    lines: Listing<Line>,
+    lines: Listing<NamedLine>,
     is_stray: bool,
     outer: Option<Line>,
     marks: Marking,

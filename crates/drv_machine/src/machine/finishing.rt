@@ -14,7 +14,7 @@ ghost use Rattle.std.specs.List.{list_any};
 ghost use Rattle.std.specs.Prelude.{◌≡◌, ◌&&◌, ◌||◌, ◌∷◌, ◌++◌, [], IfOk, List, Ok, OnOk, length};
 ghost use Rattle.std.specs.Prelude.{map, nat_lt};
 
-use super::{Drawn, IndexedWords, Line, Machine};
+use super::{Drawn, IndexedWords, Machine, NamedLine};
 use crate::outside::Outside;
 use crate::{Context, MachineFault, Outcome};
 use drv_search::find_program;
@@ -138,7 +138,7 @@ fn has_stray_pipe(machine: &Machine) -> bool
 }
 
 /// Whether the last command ends with a pipe.
-fn ends_piped(lines: &[Line]) -> bool
+fn ends_piped(lines: &[NamedLine]) -> bool
     ensures { result ≡ ends_piped lines.now }
 {
     match lines {
@@ -164,7 +164,7 @@ fn has_long_pipe(groups: &[Group]) -> bool
 #[tactic(auto, using(crate::proofs::AskedCalls::asked_none, crate::proofs::AskedCalls::asked_further))]
 fn groups_of<S: System>(
     alloc: Global,
-    lines: Listing<Line>,
+    lines: Listing<NamedLine>,
     context: &Context<'_>,
     outside: &mut Outside<'_, S>,
 ) -> Result<Listing<Group>, AllocError>
@@ -188,18 +188,18 @@ fn add_line<S: System>(
     alloc: Global,
     ended: &mut Listing<Group>,
     begun: &mut Vec<Command>,
-    line: Line,
+    line: NamedLine,
     context: &Context<'_>,
     outside: &mut Outside<'_, S>,
 ) -> Result<(), AllocError>
     ensures asks { Asked S.events outside.old outside.new }
     ensures added { (F : Facts) → Extends outside.new.facts.now F
-        → OnOk result ((lines : List cutting.Line)
+        → OnOk result ((lines : List cutting.NamedLine)
         → grouped ended.old begun.old.items (groups F context.now (line ∷ lines))
         ≡ grouped ended.new begun.new.items (groups F context.now lines)) }
 {
     let is_joined = is_joined(context, &line);
-    begun.push(command_of(alloc, line.words, context, outside)?)?;
+    begun.push(command_of(alloc, line, context, outside)?)?;
     if is_joined {
         return Ok(());
     }
@@ -208,7 +208,7 @@ fn add_line<S: System>(
 }
 
 /// Whether the command of a line goes into one group with the next one.
-fn is_joined(context: &Context<'_>, line: &Line) -> bool
+fn is_joined(context: &Context<'_>, line: &NamedLine) -> bool
     ensures { result ≡ (context.now.is_piping && line.now.piped) }
 {
     context.is_piping() && line.piped
@@ -224,31 +224,28 @@ fn push_group(groups: &mut Listing<Group>, commands: Vec<Command>) -> Result<(),
     Ok(())
 }
 
-/// The command of these words, of which the first names its program. Want of memory is the only
-/// error.
+/// The command of a line, whose program is looked for. Want of memory is the only error.
 #[tactic(auto, using(crate::proofs::AskedCalls::asked_none))]
 fn command_of<S: System>(
     alloc: Global,
-    words: Listing<Word>,
+    line: NamedLine,
     context: &Context<'_>,
     outside: &mut Outside<'_, S>,
 ) -> Result<Command, AllocError>
     ensures asks { Asked S.events outside.old outside.new }
     ensures made { (F : Facts) → Extends outside.new.facts.now F
-        → IfOk result (λ made. command F context.now words ≡ Is (Ok made)) }
+        → IfOk result (λ made. command F context.now line ≡ Is (Ok made)) }
 {
-    let mut words = words.into_vec();
-    if words.is_empty() {
-        return Ok(Command {
-            program: Word::empty(alloc),
-            words: Listing::new(alloc),
-        });
-    }
-    let name = words.remove(0);
-    let program = find_program(alloc, context.prefixes(), &name, outside.sys, outside.facts)?;
+    let program = find_program(
+        alloc,
+        context.prefixes(),
+        &line.name,
+        outside.sys,
+        outside.facts,
+    )?;
     Ok(Command {
         program,
-        words: Listing::from_vec(words),
+        words: line.words,
     })
 }
 

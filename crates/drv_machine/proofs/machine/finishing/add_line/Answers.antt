@@ -1,8 +1,6 @@
 use Rattle.drv_machine.proofs.Finished.{one_ended, one_joined}
 use Rattle.drv_machine.proofs.machine.finishing.add_line.Goals as goal
-use Rattle.drv_machine.specs.Cutting.{Line}
 use Rattle.drv_machine.specs.Code.Held.{made}
-use Rattle.drv_machine.specs.Outcome.{command}
 use Rattle.drv_words.specs.declared.plan.Command.{Command}
 use Rattle.std.proofs.Common.{◌++◌, ◌∙◌, ap, sym}
 use Rattle.std.specs.Global.{Vec}
@@ -10,10 +8,10 @@ use Rattle.std.specs.Global.{Vec}
 pub returns-then-is_joined-clause-added : goal.returns-then-is_joined-clause-added
 returns-then-is_joined-clause-added g c F e lines =
     one_joined F c.args.context.now c.args.ended.now c.args.begun.now.items c.push.new.self.items c.args.line c.in_ok-command_of.field-0 lines (sym c.is_joined-is_joined.ensures ∙ c.if-is_joined.true)
-    (ap (λ (l : Line). command F c.args.context.now l.words) (sym c.line.view_is) ∙ c.in_ok-command_of.ensures.made F e) c.in_ok-push.ensures.items
+    (c.in_ok-command_of.ensures.made F e) c.in_ok-push.ensures.items
 
 pub returns-clause-added : goal.returns-clause-added
 returns-clause-added g c F e lines =
     one_ended F c.args.context.now c.args.ended.now c.push_group.new.groups c.args.begun.now.items c.push.new.self.items c.replace.new.dest.items c.args.line c.in_ok-command_of.field-0 lines (sym c.is_joined-is_joined.ensures ∙ c.if-is_joined.false)
-    (ap (λ (l : Line). command F c.args.context.now l.words) (sym c.line.view_is) ∙ c.in_ok-command_of.ensures.made F e) c.in_ok-push.ensures.items
+    (c.in_ok-command_of.ensures.made F e) c.in_ok-push.ensures.items
     (c.in_ok-push_group.ensures ∙ ap (λ (begun : Vec Command). c.args.ended.now ++ made begun.items) c.replace.ensures.value) (ap (λ (begun : Vec Command). begun.items) c.replace.ensures.after ∙ c.new.ensures.items)

@@ -1,6 +1,6 @@
 use Rattle.drv_machine.proofs.machine.finishing.groups_of.Given as goal
 use Rattle.drv_machine.specs.Code.Asked.{Asked}
-use Rattle.drv_machine.specs.Cutting.{Line}
+use Rattle.drv_machine.specs.Cutting.{NamedLine}
 use Rattle.drv_machine.specs.Code.Grouping.{grouped}
 use Rattle.drv_machine.specs.Outcome.{groups}
 use Rattle.drv_system.specs.Asking.{Extends}
@@ -10,5 +10,5 @@ use Rattle.std.proofs.Common.{List, ◌≡◌, ◌++◌}
 abbrev pub invariant-loop-line : goal.invariant-loop-line
 invariant-loop-line g l = record {
   asks : Asked g.S.System.events l.fn.outside l.outside;
-  made : (F : Facts) → Extends l.outside.facts.now F → (rest : List Line) → groups F l.context (l.yielded ++ rest) ≡ grouped l.groups l.begun.items (groups F l.context rest);
+  made : (F : Facts) → Extends l.outside.facts.now F → (rest : List NamedLine) → groups F l.context (l.yielded ++ rest) ≡ grouped l.groups l.begun.items (groups F l.context rest);
 }
