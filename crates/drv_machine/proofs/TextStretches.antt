@@ -6,8 +6,8 @@ use Rattle.drv_machine.specs.Cutting.{all_taken, argument_words, file_words, not
 use Rattle.drv_machine.specs.Names.{base, is_word, language_of, stem, suffix_of}
 use Rattle.drv_machine.specs.Temps.{last_drawn, temp_name}
 use Rattle.drv_funcs.specs.Outcome as outcomes
-use Rattle.drv_machine.specs.Cuts.{Bare, Filed, Stretch, Stretched, bounds_file, is_broken, stretch_atoms}
-use Rattle.drv_machine.specs.Working.{◌>>-◌, ◌>>=◌, ◌>>◌, Answer, Atom, Break, End, FileFrom, FileTo, From, Goes, Levels, Marked, Piped, Put, Refuses, Step, To, Waits, Without, Work, World, behind, bytes, called, change, counted, known, follow, give, look, most_items, most_open, needs, opened, puts, refuse, whole_word, word_of, words}
+use Rattle.drv_machine.specs.Cuts.{Balanced, Bare, Enclosed, Failure, File, Filed, Stretch, Stretched, bounds_file, is_broken, open_after, open_behind, stretch_atoms}
+use Rattle.drv_machine.specs.Working.{◌>>-◌, ◌>>=◌, ◌>>◌, Answer, Atom, Break, End, FileFrom, FileTo, From, Goes, Levels, Marked, Open, Piped, Put, Refuses, Step, To, Waits, Without, Work, World, behind, bytes, called, change, counted, known, follow, give, look, most_items, most_open, needs, opened, puts, refuse, whole_word, word_of, words}
 use Rattle.drv_machine.specs.declared.fault.MachineFault.{MachineFault}
 use Rattle.drv_machine.specs.declared.fault.MachineFault.TheVariants as fault
 use Rattle.drv_machine.specs.declared.machine.marking.Mark.TheVariants.{AsFile, AsOutput, AsRemoved, AsScript}
@@ -29,16 +29,24 @@ use Rattle.std.proofs.lemmas.Grind.{flat_map-append}
 use Rattle.std.proofs.lemmas.List.Folds.{list_any-append}
 use Rattle.std.specs.List.{filter, flat_map, list_any}
 use Rattle.std.specs.Option.{unwrap_or}
-use Rattle.std.specs.Prelude.{◌&&◌, ◌+◌, ⊤, codes, drop, if◌then◌else◌, is_some, length, nat_lt, not}
+use Rattle.std.specs.Prelude.{◌&&◌, ◌+◌, ⊤, codes, drop, if◌then◌else◌, is_some, length, nat_lt, not, option_and_then}
 
--- The atoms of every text are atoms and files, and no file stands in another.
+-- The atoms of every text are atoms and files, and no file stands in another. No file and no %W ends that is not open, and
+-- none is left open.
 
--- no file begins or ends
+abbrev bounds_any : Atom → Bool
+bounds_any From = true
+bounds_any To = true
+bounds_any FileFrom = true
+bounds_any FileTo = true
+bounds_any atom = false
+
+-- no file and no %W begins or ends
 abbrev None-bounds : List Atom → Type 0
-None-bounds atoms = list_any bounds_file atoms ≡ false
+None-bounds atoms = list_any bounds_any atoms ≡ false
 
 no_bounds : (xs ys : List Atom) → None-bounds xs → None-bounds ys → None-bounds (xs ++ ys)
-no_bounds xs ys e f = list_any-append bounds_file xs ys ∙ ap (λ (b : Bool). b || list_any bounds_file ys) e ∙ f
+no_bounds xs ys e f = list_any-append bounds_any xs ys ∙ ap (λ (b : Bool). b || list_any bounds_any ys) e ∙ f
 
 bytes_bare : (word : List ℕ) → None-bounds (map Put word)
 bytes_bare [] = refl
@@ -58,27 +66,174 @@ word_bare : (word : Option (List ℕ)) → None-bounds (word_of word)
 word_bare None = refl
 word_bare (Some word) = words_bare (word ∷ [])
 
+first_bare : (a b : Bool) → (a || b) ≡ false → (a ≡ false) × (b ≡ false)
+first_bare true b e = absurd cc
+first_bare false b e = (refl, e)
+
+-- no file begins or ends
+abbrev Unfiled : List Atom → Type 0
+Unfiled atoms = list_any bounds_file atoms ≡ false
+
+unfiled_append : (xs ys : List Atom) → Unfiled xs → Unfiled ys → Unfiled (xs ++ ys)
+unfiled_append xs ys e f = list_any-append bounds_file xs ys ∙ ap (λ (b : Bool). b || list_any bounds_file ys) e ∙ f
+
+bounds_no_file : (atom : Atom) → bounds_any atom ≡ false → bounds_file atom ≡ false
+bounds_no_file (Put b) e = refl
+bounds_no_file Open e = refl
+bounds_no_file Break e = refl
+bounds_no_file End e = refl
+bounds_no_file Piped e = refl
+bounds_no_file (Marked mark) e = refl
+bounds_no_file Without e = refl
+bounds_no_file From e = refl
+bounds_no_file To e = refl
+bounds_no_file FileFrom e = absurd cc
+bounds_no_file FileTo e = absurd cc
+
+unfiled_bare : (atoms : List Atom) → None-bounds atoms → Unfiled atoms
+unfiled_bare [] e = refl
+unfiled_bare (atom ∷ atoms) e =
+    let each = first_bare (bounds_any atom) (list_any bounds_any atoms) e in
+    ap (λ (b : Bool). b || list_any bounds_file atoms) (bounds_no_file atom each.0) ∙ unfiled_bare atoms each.1
+
+-- as many %W are open after them as before
+abbrev Even : List Atom → Type 0
+Even atoms = (count : ℕ) → open_behind atoms Failure count ≡ Some count
+
+-- no %W ends that is not open
+abbrev Begun : List Atom → Type 0
+Begun atoms = (count : ℕ) → is_some (open_behind atoms Failure count) ≡ true
+
+abbrev then_open : List Atom → Enclosed → Option ℕ → Option ℕ
+then_open atoms enclosed count = option_and_then (λ left. open_behind atoms enclosed left) count
+
+open_append : (xs ys : List Atom) (enclosed : Enclosed) (count : ℕ) → open_behind (xs ++ ys) enclosed count ≡ then_open ys enclosed (open_behind xs enclosed count)
+open_append [] ys enclosed count = refl
+open_append (x ∷ xs) ys enclosed count = by (open_after x enclosed count) (λ left. open_append xs ys enclosed left)
+  where
+    by : (after : Option ℕ) → ((left : ℕ) → open_behind (xs ++ ys) enclosed left ≡ then_open ys enclosed (open_behind xs enclosed left))
+        → then_open (xs ++ ys) enclosed after ≡ then_open ys enclosed (then_open xs enclosed after)
+    by None goes = refl
+    by (Some left) goes = goes left
+
+even_append : (xs ys : List Atom) → Even xs → Even ys → Even (xs ++ ys)
+even_append xs ys e f count = open_append xs ys Failure count ∙ ap (then_open ys Failure) (e count) ∙ f count
+
+begun_append : (xs ys : List Atom) → Even xs → Begun ys → Begun (xs ++ ys)
+begun_append xs ys e f count = ap is_some (open_append xs ys Failure count ∙ ap (then_open ys Failure) (e count)) ∙ f count
+
+opens_no_failure : (atom : Atom) (count : ℕ) → bounds_any atom ≡ false → open_after atom Failure count ≡ Some count
+opens_no_failure (Put b) count e = refl
+opens_no_failure Open count e = refl
+opens_no_failure Break count e = refl
+opens_no_failure End count e = refl
+opens_no_failure Piped count e = refl
+opens_no_failure (Marked mark) count e = refl
+opens_no_failure Without count e = refl
+opens_no_failure From count e = absurd cc
+opens_no_failure To count e = absurd cc
+opens_no_failure FileFrom count e = absurd cc
+opens_no_failure FileTo count e = absurd cc
+
+even_bare : (atoms : List Atom) → None-bounds atoms → Even atoms
+even_bare [] e count = refl
+even_bare (atom ∷ atoms) e count =
+    let each = first_bare (bounds_any atom) (list_any bounds_any atoms) e in
+    ap (then_open atoms Failure) (opens_no_failure atom count each.0) ∙ even_bare atoms each.1 count
+
+-- what a %W and a file enclose
+even_failure : (atoms : List Atom) → Even atoms → Even (From ∷ atoms ++ Break ∷ To ∷ [])
+even_failure atoms e count = open_append atoms (Break ∷ To ∷ []) Failure (suc count) ∙ ap (then_open (Break ∷ To ∷ []) Failure) (e (suc count))
+
+even_file : (atoms : List Atom) → Even atoms → Even (Break ∷ FileFrom ∷ atoms ++ Break ∷ FileTo ∷ [])
+even_file atoms e count = open_append atoms (Break ∷ FileTo ∷ []) Failure count ∙ ap (then_open (Break ∷ FileTo ∷ []) Failure) (e count)
+
+-- files that are open
+opens_no_file : (atom : Atom) (count : ℕ) → bounds_file atom ≡ false → open_after atom File count ≡ Some count
+opens_no_file (Put b) count e = refl
+opens_no_file Open count e = refl
+opens_no_file Break count e = refl
+opens_no_file End count e = refl
+opens_no_file Piped count e = refl
+opens_no_file (Marked mark) count e = refl
+opens_no_file Without count e = refl
+opens_no_file From count e = refl
+opens_no_file To count e = refl
+opens_no_file FileFrom count e = absurd cc
+opens_no_file FileTo count e = absurd cc
+
+unfiled_open : (atoms : List Atom) (count : ℕ) → Unfiled atoms → open_behind atoms File count ≡ Some count
+unfiled_open [] count e = refl
+unfiled_open (atom ∷ atoms) count e =
+    let each = first_bare (bounds_file atom) (list_any bounds_file atoms) e in
+    ap (then_open atoms File) (opens_no_file atom count each.0) ∙ unfiled_open atoms count each.1
+
+file_open : (atoms : List Atom) → Unfiled atoms → open_behind (stretch_atoms (Filed atoms)) File 0 ≡ Some 0
+file_open atoms e = open_append atoms (Break ∷ FileTo ∷ []) File 1 ∙ ap (then_open (Break ∷ FileTo ∷ []) File) (unfiled_open atoms 1 e)
+
+stretches_open : (stretches : List Stretch) → list_any is_broken stretches ≡ false → open_behind (flat_map stretch_atoms stretches) File 0 ≡ Some 0
+stretches_open [] e = refl
+stretches_open (Bare atom ∷ stretches) e =
+    let each = first_bare (bounds_file atom) (list_any is_broken stretches) e in
+    ap (then_open (flat_map stretch_atoms stretches) File) (opens_no_file atom 0 each.0) ∙ stretches_open stretches each.1
+stretches_open (Filed atoms ∷ stretches) e =
+    let each = first_bare (list_any bounds_file atoms) (list_any is_broken stretches) e in
+    open_append (stretch_atoms (Filed atoms)) (flat_map stretch_atoms stretches) File 0
+    ∙ ap (then_open (flat_map stretch_atoms stretches) File) (file_open atoms each.0) ∙ stretches_open stretches each.1
+
 -- atoms, in a file or not
+abbrev Shaped : Bool → List Atom → Type 0
+Shaped true atoms = Unfiled atoms
+Shaped false atoms = Stretched atoms
+
 abbrev Fits : Bool → List Atom → Type 0
-Fits true atoms = None-bounds atoms
-Fits false atoms = Stretched atoms
+Fits b atoms = Shaped b atoms × Even atoms
+
+shaped_open : (b : Bool) (atoms : List Atom) → Shaped b atoms → open_behind atoms File 0 ≡ Some 0
+shaped_open true atoms e = unfiled_open atoms 0 e
+shaped_open false atoms e = ap (λ (zs : List Atom). open_behind zs File 0) (sym e.same) ∙ stretches_open e.stretches e.whole
+
+-- atoms up to where work stops
+abbrev Halted : Bool → List Atom → Type 0
+Halted true atoms = Unfiled atoms
+Halted false atoms = is_some (open_behind atoms File 0) ≡ true
+
+abbrev Stops : Bool → List Atom → Type 0
+Stops b atoms = Halted b atoms × Begun atoms
+
+halted_open : (b : Bool) (atoms : List Atom) → Halted b atoms → is_some (open_behind atoms File 0) ≡ true
+halted_open true atoms e = ap is_some (unfiled_open atoms 0 e)
+halted_open false atoms e = e
+
+halted_append : (b : Bool) (xs ys : List Atom) → Shaped b xs → Halted b ys → Halted b (xs ++ ys)
+halted_append true xs ys e f = unfiled_append xs ys e f
+halted_append false xs ys e f = ap is_some (open_append xs ys File 0 ∙ ap (then_open ys File) (shaped_open false xs e)) ∙ f
+
+stops_append : (b : Bool) (xs ys : List Atom) → Fits b xs → Stops b ys → Stops b (xs ++ ys)
+stops_append b xs ys e f = (halted_append b xs ys e.0 f.0, begun_append xs ys e.1 f.1)
+
+stops_here : (b : Bool) → Stops b []
+stops_here true = (refl, λ count. refl)
+stops_here false = (refl, λ count. refl)
+
+stops_file : (atoms : List Atom) → Stops true atoms → Stops false (Break ∷ FileFrom ∷ atoms)
+stops_file atoms e = (ap is_some (unfiled_open atoms 1 e.0), λ count. e.1 count)
 
 broken_append : (xs ys : List Stretch) → list_any is_broken xs ≡ false → list_any is_broken ys ≡ false → list_any is_broken (xs ++ ys) ≡ false
 broken_append xs ys e f = list_any-append is_broken xs ys ∙ ap (λ (b : Bool). b || list_any is_broken ys) e ∙ f
 
-fits_append : (b : Bool) (xs ys : List Atom) → Fits b xs → Fits b ys → Fits b (xs ++ ys)
-fits_append true xs ys e f = no_bounds xs ys e f
-fits_append false xs ys e f = record {
+shaped_append : (b : Bool) (xs ys : List Atom) → Shaped b xs → Shaped b ys → Shaped b (xs ++ ys)
+shaped_append true xs ys e f = unfiled_append xs ys e f
+shaped_append false xs ys e f = record {
   stretches = e.stretches ++ f.stretches;
   whole = broken_append e.stretches f.stretches e.whole f.whole;
   same = flat_map-append stretch_atoms e.stretches f.stretches ∙ ap (λ (zs : List Atom). zs ++ flat_map stretch_atoms f.stretches) e.same ∙ ap (λ (zs : List Atom). xs ++ zs) f.same;
 }
 
-first_bare : (a b : Bool) → (a || b) ≡ false → (a ≡ false) × (b ≡ false)
-first_bare true b e = absurd cc
-first_bare false b e = (refl, e)
+fits_append : (b : Bool) (xs ys : List Atom) → Fits b xs → Fits b ys → Fits b (xs ++ ys)
+fits_append b xs ys e f = (shaped_append b xs ys e.0 f.0, even_append xs ys e.1 f.1)
 
-stretched_bare : (atoms : List Atom) → None-bounds atoms → Stretched atoms
+stretched_bare : (atoms : List Atom) → Unfiled atoms → Stretched atoms
 stretched_bare [] e = record { stretches = []; whole = refl; same = refl }
 stretched_bare (atom ∷ atoms) e =
     let each = first_bare (bounds_file atom) (list_any bounds_file atoms) e in
@@ -88,28 +243,40 @@ stretched_bare (atom ∷ atoms) e =
       same = ap (λ (zs : List Atom). atom ∷ zs) rest.same;
     }
 
+shaped_bare : (b : Bool) (atoms : List Atom) → Unfiled atoms → Shaped b atoms
+shaped_bare true atoms e = e
+shaped_bare false atoms e = stretched_bare atoms e
+
 fits_bare : (b : Bool) (atoms : List Atom) → None-bounds atoms → Fits b atoms
-fits_bare true atoms e = e
-fits_bare false atoms e = stretched_bare atoms e
+fits_bare b atoms e = (shaped_bare b atoms (unfiled_bare atoms e), even_bare atoms e)
+
+fits_failure : (b : Bool) (atoms : List Atom) → Fits b atoms → Fits b (From ∷ atoms ++ Break ∷ To ∷ [])
+fits_failure b atoms e = (
+  shaped_append b (From ∷ []) (atoms ++ Break ∷ To ∷ []) (shaped_bare b (From ∷ []) refl) (shaped_append b atoms (Break ∷ To ∷ []) e.0 (shaped_bare b (Break ∷ To ∷ []) refl)),
+  even_failure atoms e.1,
+)
+
+stops_failure : (b : Bool) (atoms : List Atom) → Stops b atoms → Stops b (From ∷ atoms)
+stops_failure b atoms e = (halted_append b (From ∷ []) atoms (shaped_bare b (From ∷ []) refl) e.0, λ count. e.1 (suc count))
 
 -- work, in a file or not: it stays there
 abbrev WellDone : {X : Type 0} → Bool → Work X → Type 0
 WellDone b (Goes atoms x v) = Fits b atoms × (v.is_in_file ≡ b)
-WellDone b (Refuses atoms fault) = ⊤
-WellDone b (Waits atoms) = ⊤
+WellDone b (Refuses atoms fault) = Stops b atoms
+WellDone b (Waits atoms) = Stops b atoms
 
 pub record Well {X : Type 0} (step : Step X) : Type 0 where
   pub stays : (w : World) (b : Bool) → w.is_in_file ≡ b → WellDone b (step w)
 
 after_well : {X : Type 0} (b : Bool) (atoms : List Atom) (work : Work X) → Fits b atoms → WellDone b work → WellDone b (behind atoms work)
 after_well b atoms (Goes others x v) e f = (fits_append b atoms others e f.0, f.1)
-after_well b atoms (Refuses others fault) e f = tt
-after_well b atoms (Waits others) e f = tt
+after_well b atoms (Refuses others fault) e f = stops_append b atoms others e f
+after_well b atoms (Waits others) e f = stops_append b atoms others e f
 
 follow_well : {X Y : Type 0} (b : Bool) (work : Work X) (f : X → Step Y) → WellDone b work → ((x : X) → Well (f x)) → WellDone b (follow work f)
 follow_well b (Goes atoms x v) f e goes = after_well b atoms (f x v) e.0 ((goes x).stays v b e.1)
-follow_well b (Refuses atoms fault) f e goes = tt
-follow_well b (Waits atoms) f e goes = tt
+follow_well b (Refuses atoms fault) f e goes = e
+follow_well b (Waits atoms) f e goes = e
 
 then_well : {X Y : Type 0} {a : Step X} {f : X → Step Y} → Well a → ((x : X) → Well (f x)) → Well (a >>= f)
 then_well {a = a} {f = f} e goes = record { stays = λ w b i. follow_well b (a w) f (e.stays w b i) goes }
@@ -128,11 +295,11 @@ change_well f e = record { stays = λ w b i. (fits_bare b [] refl, e w ∙ i) }
 
 needs_well : {X : Type 0} (a : Answer X) → Well (needs a)
 needs_well (Is (Ok x)) = record { stays = λ w b i. (fits_bare b [] refl, i) }
-needs_well (Is (Err fault)) = record { stays = λ w b i. tt }
-needs_well Unasked = record { stays = λ w b i. tt }
+needs_well (Is (Err fault)) = record { stays = λ w b i. stops_here b }
+needs_well Unasked = record { stays = λ w b i. stops_here b }
 
 refuse_well : {X : Type 0} (fault : MachineFault) → Well (refuse {X = X} fault)
-refuse_well fault = record { stays = λ w b i. tt }
+refuse_well fault = record { stays = λ w b i. stops_here b }
 
 -- a look, and atoms of what is seen
 look_puts_well : (f : World → List Atom) → ((w : World) → None-bounds (f w)) → Well (look f >>= puts)
@@ -140,7 +307,7 @@ look_puts_well f e = record { stays = λ w b i. (fits_bare b (f w) (e w), i) }
 
 counted_as : (w : World) (b : Bool) (few : Bool) → w.is_in_file ≡ b → WellDone {X = Unit {0}} b (if few then Goes [] tt (record w { items = w.items + 1 }) else Refuses [] fault.TooManySteps)
 counted_as w b true i = (fits_bare b [] refl, i)
-counted_as w b false i = tt
+counted_as w b false i = stops_here b
 
 counted_well : Well counted
 counted_well = record { stays = λ w b i. counted_as w b (nat_lt w.items most_items) i }
@@ -158,6 +325,15 @@ opened_well : {X : Type 0} (levels : Levels) (part : (Items → Step (Unit {0}))
     → ((deeper : Items → Step (Unit {0})) (inside : Levels) → ((items : Items) → Well (deeper items)) → WellLevels inside → Well (part deeper inside)) → Well (opened levels part)
 opened_well [] part e goes = refuse_well fault.SpecTooDeep
 opened_well (deeper ∷ inside) part e goes = goes deeper inside e.0 e.1
+
+-- a %W
+failure_well : (step : Step (Unit {0})) → Well step → Well (puts (From ∷ []) >> step >> puts (Break ∷ To ∷ []))
+failure_well step e = record { stays = λ w b i. by b (step w) (e.stays w b i) }
+  where
+    by : (b : Bool) (work : Work (Unit {0})) → WellDone b work → WellDone b (follow (behind (From ∷ []) work) (λ u. puts (Break ∷ To ∷ [])))
+    by b (Goes atoms u v) done = (fits_failure b atoms done.0, done.1)
+    by b (Refuses atoms fault) done = stops_failure b atoms done
+    by b (Waits atoms) done = stops_failure b atoms done
 
 bytes_well : (word : List ℕ) → Well (bytes word)
 bytes_well word = puts_well (map Put word) (bytes_bare word)
@@ -227,15 +403,15 @@ module _ (F : Facts) (C : Context) where
   named_file_well (word ∷ list) = then_well (draw_well (response_text (word ∷ list)) false (codes ".args")) (λ path. puts_well (map Put (at_sign ∷ path) ++ Break ∷ []) (broken_bare (at_sign ∷ path)))
 
   -- a file
-  one_file : (atoms : List Atom) → None-bounds atoms → Stretched (Break ∷ FileFrom ∷ atoms ++ Break ∷ FileTo ∷ [])
+  one_file : (atoms : List Atom) → Unfiled atoms → Stretched (Break ∷ FileFrom ∷ atoms ++ Break ∷ FileTo ∷ [])
   one_file atoms e = record { stretches = Filed atoms ∷ []; whole = ap (λ (b : Bool). b || false) e; same = append-nil (Break ∷ FileFrom ∷ atoms ++ Break ∷ FileTo ∷ []) }
 
   filed_well : (work : Work (Unit {0})) → WellDone true work → WellDone false (filed F C work)
   filed_well (Goes atoms u v) e =
-      after_well false (Break ∷ FileFrom ∷ atoms ++ Break ∷ FileTo ∷ []) ((needs (file_words F C atoms) >>= named_file F C) (record v { is_in_file = false })) (one_file atoms e.0)
+      after_well false (Break ∷ FileFrom ∷ atoms ++ Break ∷ FileTo ∷ []) ((needs (file_words F C atoms) >>= named_file F C) (record v { is_in_file = false })) (one_file atoms e.0.0, even_file atoms e.0.1)
       ((then_well (needs_well (file_words F C atoms)) named_file_well).stays (record v { is_in_file = false }) false refl)
-  filed_well (Refuses atoms fault) e = tt
-  filed_well (Waits atoms) e = tt
+  filed_well (Refuses atoms fault) e = stops_file atoms e
+  filed_well (Waits atoms) e = stops_file atoms e
 
   file_well : (step : Step (Unit {0})) (w : World) → Well step → WellDone false (file_step F C step w)
   file_well step w e = filed_well (step (record w { is_in_file = true })) (e.stays (record w { is_in_file = true }) true refl)
@@ -310,7 +486,7 @@ module _ (F : Facts) (C : Context) where
     item_well Star levels star e = bytes_well star
     item_well (FailureFile brace) levels star e =
         opened_well levels (λ deeper inside. puts (From ∷ []) >> brace_step F C brace inside star >> puts (Break ∷ To ∷ [])) e
-        (λ deeper inside d behind. then_well (then_well (puts_well (From ∷ []) refl) (λ u. brace_well brace inside star behind)) (λ u. puts_well (Break ∷ To ∷ []) refl))
+        (λ deeper inside d behind. failure_well (brace_step F C brace inside star) (brace_well brace inside star behind))
     item_well (ArgumentsFile brace) levels star e =
         opened_well levels (λ deeper inside. look (starts_file F C) >>= λ starts. if starts then file_step F C (brace_step F C brace inside star) else brace_step F C brace inside star) e
         (λ deeper inside d behind. chosen_well (brace_step F C brace inside star) (brace_well brace inside star behind))
@@ -351,9 +527,29 @@ module _ (F : Facts) (C : Context) where
   text_well items n = then_well (items_well items (levels_left F C n) [] (levels_well n)) (λ u. puts_well (Break ∷ End ∷ []) refl)
 
   goes_stretched : (work : Work (Unit {0})) (xs : List Atom) (w : World) → WellDone false work → work ≡ Goes xs tt w → Stretched xs
-  goes_stretched (Goes ys u v) xs w e is = let same : ys ≡ xs = cc in subst Stretched same e.0
+  goes_stretched (Goes ys u v) xs w e is = let same : ys ≡ xs = cc in subst Stretched same e.0.0
   goes_stretched (Refuses ys fault) xs w e is = absurd cc
   goes_stretched (Waits ys) xs w e is = absurd cc
 
   pub are_stretched : (items : Items) (xs : List Atom) (w : World) → atoms F C items ≡ Goes xs tt w → Stretched xs
   are_stretched items xs w e = goes_stretched (atoms F C items) xs w ((text_well items most_open).stays (start F C) false refl) e
+
+  goes_as : (b : Bool) (atoms : List Atom) → Fits b atoms → (enclosed : Enclosed) → open_behind atoms enclosed 0 ≡ Some 0
+  goes_as b atoms e Failure = e.1 0
+  goes_as b atoms e File = shaped_open b atoms e.0
+
+  stops_as : (b : Bool) (atoms : List Atom) → Stops b atoms → (enclosed : Enclosed) → is_some (open_behind atoms enclosed 0) ≡ true
+  stops_as b atoms e Failure = e.1 0
+  stops_as b atoms e File = halted_open b atoms e.0
+
+  balanced_as : (b : Bool) (work : Work (Unit {0})) → WellDone b work → Balanced work
+  balanced_as b (Goes atoms u v) e = λ enclosed. goes_as b atoms e.0 enclosed
+  balanced_as b (Refuses atoms fault) e = λ enclosed. stops_as b atoms e enclosed
+  balanced_as b (Waits atoms) e = λ enclosed. stops_as b atoms e enclosed
+
+  pub text_balanced : (items : Items) → Balanced (atoms F C items)
+  text_balanced items = balanced_as false (atoms F C items) ((text_well items most_open).stays (start F C) false refl)
+
+  pub part_balanced : (items : Items) (n : ℕ) (star : List ℕ) (w : World) → Balanced (items_step F C items (levels_left F C n) star w)
+  part_balanced items n star w =
+      balanced_as w.is_in_file (items_step F C items (levels_left F C n) star w) ((items_well items (levels_left F C n) star (levels_well n)).stays w w.is_in_file refl)

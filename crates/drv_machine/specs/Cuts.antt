@@ -1,11 +1,11 @@
 use Rattle.drv_machine.specs.Context.{Context}
 use Rattle.drv_machine.specs.Cutting.{Line, NamedLine, found_file, found_script, named_line, no_line, script_option}
-use Rattle.drv_machine.specs.Working.{◌>>-◌, Answer, Atom, Break, End, FileFrom, FileTo, From, Marked, Open, Piped, Put, To, Without}
+use Rattle.drv_machine.specs.Working.{◌>>-◌, Answer, Atom, Break, End, FileFrom, FileTo, From, Goes, Marked, Open, Piped, Put, Refuses, To, Waits, Without, Work}
 use Rattle.drv_machine.specs.declared.machine.marking.Mark.TheVariants.{AsFile, AsOutput, AsRemoved, AsScript}
 use Rattle.drv_system.specs.Facts.{Facts}
 use Rattle.drv_system.specs.Known.{Is}
 use Rattle.std.specs.List.{filter, filter_map, flat_map, list_any}
-use Rattle.std.specs.Prelude.{◌≡◌, ◌&&◌, ◌||◌, Bool, List, [], ◌∷◌, ◌++◌, Option, None, Some, Ok, false, if◌then◌else◌, not, suc, true, zero, ℕ}
+use Rattle.std.specs.Prelude.{◌≡◌, ◌&&◌, ◌||◌, Bool, List, [], ◌∷◌, ◌++◌, Option, None, Some, Ok, false, if◌then◌else◌, is_some, not, option_and_then, suc, true, zero, ℕ}
 
 -- What a list of atoms is cut into, said of the list as it stands (this project's profile). `Cutting` says it atom by atom.
 
@@ -285,6 +285,33 @@ pub record Stretched (atoms : List Atom) : Type 0 where
   pub stretches : List Stretch
   pub whole : list_any is_broken stretches ≡ false
   pub same : flat_map stretch_atoms stretches ≡ atoms
+
+-- what has a beginning and an end among atoms: a %W, and the file of a %@
+pub data Enclosed : Type 0 where
+  Failure : Enclosed
+  File : Enclosed
+
+-- how many of them are open after an atom before which so many are, unless it ends one that isn't open, or begins a file in another
+abbrev pub open_after : Atom → Enclosed → ℕ → Option ℕ
+open_after From Failure count = Some (suc count)
+open_after To Failure zero = None
+open_after To Failure (suc count) = Some count
+open_after FileFrom File zero = Some 1
+open_after FileFrom File (suc count) = None
+open_after FileTo File zero = None
+open_after FileTo File (suc count) = Some count
+open_after atom enclosed count = Some count
+
+-- and after a list
+abbrev pub open_behind : List Atom → Enclosed → ℕ → Option ℕ
+open_behind [] enclosed count = Some count
+open_behind (atom ∷ atoms) enclosed count = option_and_then (λ left. open_behind atoms enclosed left) (open_after atom enclosed count)
+
+-- None ends that is not open, and no file begins in another. Where work goes to its end, none is left open.
+abbrev pub Balanced : {X : Type 0} → Work X → Type 0
+Balanced (Goes atoms x w) = (enclosed : Enclosed) → open_behind atoms enclosed 0 ≡ Some 0
+Balanced (Refuses atoms fault) = (enclosed : Enclosed) → is_some (open_behind atoms enclosed 0) ≡ true
+Balanced (Waits atoms) = (enclosed : Enclosed) → is_some (open_behind atoms enclosed 0) ≡ true
 
 module _ (F : Facts) (C : Context) where
   -- the words of a command, and whether a pipe stands in it

@@ -104,7 +104,7 @@ pipe_done c = by c.line.words
     by [] = record c { stray = true; line = record { words = []; piped = true } }
     by words = record (touched c) { line = record { words = words; piped = true } }
 
--- the innermost %W has ended
+-- the innermost %W has ended. Where none is open, none ends: the atoms of no text come to that (`text_law`).
 abbrev pub inside_done : List (Option (List ℕ)) → Cut → Cut
 inside_done [] c = c
 inside_done (None ∷ outer) c = record c { inside = outer }
@@ -126,10 +126,11 @@ pipe_ended c = by c.outer
     by None = pipe_done c
     by (Some line) = c
 
--- a file begins, and ends; the words of the file so far
+-- a file begins
 abbrev pub file_begun : Cut → Cut
 file_begun c = record c { outer = Some c.line; line = no_line }
 
+-- and ends, where one is open; nor do the atoms of a text come to the end of another
 abbrev pub file_done : Cut → Cut
 file_done c = by c.outer
   where
@@ -137,6 +138,7 @@ file_done c = by c.outer
     by None = c
     by (Some line) = record c { outer = None; line = line }
 
+-- the words of the file so far
 abbrev pub words_in_file : Cut → List (List ℕ)
 words_in_file c = unwrap_or (option_map (λ outer. c.line.words) c.outer) []
 

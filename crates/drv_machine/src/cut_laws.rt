@@ -1,11 +1,12 @@
 //! Laws of the cut of a text. The functions do nothing: each is its contract.
 
-ghost use Rattle.drv_machine.specs.Atoms.{atoms};
+ghost use Rattle.drv_machine.specs.Atoms.{atoms, items_step, levels_left};
 ghost use Rattle.drv_machine.specs.Context as specs;
-ghost use Rattle.drv_machine.specs.Cuts.{Stretch, Stretched, begins_file, bounds_file, each};
-ghost use Rattle.drv_machine.specs.Cuts.{failure_files, has_stray_pipe, if_any, is_broken, line_of};
-ghost use Rattle.drv_machine.specs.Cuts.{lines, open_command, output, path, path_of, removed};
-ghost use Rattle.drv_machine.specs.Cuts.{stretch_atoms, texts, whether, without_file, words};
+ghost use Rattle.drv_machine.specs.Cuts.{Balanced, Stretch, Stretched, begins_file, bounds_file};
+ghost use Rattle.drv_machine.specs.Cuts.{each, failure_files, has_stray_pipe, if_any, is_broken};
+ghost use Rattle.drv_machine.specs.Cuts.{line_of, lines, open_command, output, path, path_of};
+ghost use Rattle.drv_machine.specs.Cuts.{removed, stretch_atoms, texts, whether, without_file};
+ghost use Rattle.drv_machine.specs.Cuts.{words};
 ghost use Rattle.drv_machine.specs.Cutting.{Cut, all_taken, argument_words, file_words};
 ghost use Rattle.drv_machine.specs.Cutting.{nothing_cut};
 ghost use Rattle.drv_machine.specs.Outcome.{outcome};
@@ -80,10 +81,16 @@ pub fn file_law()
 
 /// The law that the atoms of every text are a list of which `file_law` speaks: no file stands in
 /// another, and none is left open. So the job of a text is told by its list of atoms as it stands:
-/// its groups, output, marked files and failure files. It takes and gives nothing.
+/// its groups, output, marked files and failure files. No `%W` and no file ends that is not open, in
+/// a text that is worked to its end or not, and in any items of one, as the arguments of a function.
+/// It takes and gives nothing.
 pub fn text_law()
     ensures stretched { (F : Facts) (C : specs.Context) (items : Items) (list : List Atom)
         (w : World) → atoms F C items ≡ Goes list tt w → Stretched list }
     ensures told { (F : Facts) (C : specs.Context) (items : Items) (o : Outcome)
         → outcome F C items ≡ Is (Ok o) → Told F C items o }
+    ensures balanced { (F : Facts) (C : specs.Context) (items : Items)
+        → Balanced (atoms F C items) }
+    ensures parts { (F : Facts) (C : specs.Context) (items : Items) (n : ℕ) (star : List ℕ)
+        (w : World) → Balanced (items_step F C items (levels_left F C n) star w) }
 {}
