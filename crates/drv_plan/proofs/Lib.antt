@@ -3,5 +3,6 @@ pub mod Ends
 mod LanguageRows
 mod LastTexts
 mod PlanRows
+mod Refusals
 mod Reloaded
 mod Steps

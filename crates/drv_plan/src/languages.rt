@@ -1,6 +1,5 @@
 //! The language of an input, and the text that it is worked with.
 
-ghost use Rattle.drv_machine.specs.declared.fault.MachineFault.TheVariants as machine;
 ghost use Rattle.drv_plan.specs.Languages.{by_language, by_suffix, is_of_language};
 ghost use Rattle.drv_plan.specs.Languages.{is_standard_input, is_suffix_of, chosen_for, last_pair};
 ghost use Rattle.drv_plan.specs.Languages.{last_text, pair_meaning};
@@ -10,7 +9,7 @@ ghost use Rattle.drv_specs.specs.Sets.{begins_with_at, is_no_text};
 ghost use Rattle.drv_words.specs.Gives.{Gives};
 ghost use Rattle.std.specs.List.{ends_with};
 ghost use Rattle.std.specs.Option.{option_map};
-ghost use Rattle.std.specs.Prelude.{◌≡◌, ◌≢◌, IfErr, None, Some, false, if◌then◌else◌, nat_eq};
+ghost use Rattle.std.specs.Prelude.{◌≡◌, None, Some, false, if◌then◌else◌, nat_eq};
 ghost use Rattle.std.specs.Prelude.{option_and_then, slice_get};
 
 use crate::PlanFault;
@@ -155,9 +154,8 @@ fn by_language<'a>(
     set: &'a SpecSet,
     language: &'a [u8],
 ) -> Result<Chosen<'a>, PlanFault>
-    ensures gives { Gives fault.Memory (λ chosen. chosen) result
+    ensures { Gives fault.Memory (λ chosen. chosen) result
         (by_language set.now language.now) }
-    ensures apart { IfErr result (λ refusal. refusal ≢ fault.Machine machine.Memory) }
 {
     match last_pair(set, Wanted::Language(language)) {
         Some(PairText::Worked(tree)) => Ok(Chosen {
@@ -179,8 +177,7 @@ fn by_suffix<'a>(
     set: &'a SpecSet,
     name: &[u8],
 ) -> Result<Option<Chosen<'a>>, PlanFault>
-    ensures gives { Gives fault.Memory (λ chosen. chosen) result (by_suffix set.now name.now) }
-    ensures apart { IfErr result (λ refusal. refusal ≢ fault.Machine machine.Memory) }
+    ensures { Gives fault.Memory (λ chosen. chosen) result (by_suffix set.now name.now) }
 {
     match last_pair(set, Wanted::Suffix(name)) {
         Some(PairText::Worked(tree)) => Ok(Some(Chosen { name: None, tree })),
@@ -211,8 +208,7 @@ pub fn language<'a>(
     input: &'a Input,
     set: &'a SpecSet,
 ) -> Result<Option<Chosen<'a>>, PlanFault>
-    ensures gives { Gives fault.Memory (λ chosen. chosen) result (chosen_for set.now input.now) }
-    ensures apart { IfErr result (λ refusal. refusal ≢ fault.Machine machine.Memory) }
+    ensures { Gives fault.Memory (λ chosen. chosen) result (chosen_for set.now input.now) }
 {
     match input {
         Input::File {

@@ -1,15 +1,21 @@
+use Rattle.drv_plan.proofs.Refusals.{no_want}
 use Rattle.drv_plan.proofs.Steps.{file_chosen, given_alike, language_refused, refusal_given}
 use Rattle.drv_plan.proofs.sources.add_input.Goals as goal
 use Rattle.drv_plan.specs.Denoted.{with_file, with_input}
-use Rattle.std.proofs.Common.{Ok}
+use Rattle.std.proofs.Common.{Ok, rules}
+
+pub returns-in_err-chosen-clause-apart : goal.returns-in_err-chosen-clause-apart
+returns-in_err-chosen-clause-apart g c =
+    let none = no_want c.args.set.now c.args.input.now c.in_err-chosen.field-0.0 c.in_err-chosen.ensures in
+    let handed = c.from_residual.ensures in search rules
 
 pub returns-in_err-chosen-clause-works : goal.returns-in_err-chosen-clause-works
 returns-in_err-chosen-clause-works g c F e =
     refusal_given c.in_err-chosen.field-0.0 c.from_residual.result _ (with_input F c.args.set.now c.args.place c.args.input.now c.args.progress.now) c.from_residual.ensures.1
-    (language_refused F c.args.set.now c.args.place c.args.input.now c.args.progress.now c.in_err-chosen.field-0.0 c.in_err-chosen.ensures.gives)
+    (language_refused F c.args.set.now c.args.place c.args.input.now c.args.progress.now c.in_err-chosen.field-0.0 c.in_err-chosen.ensures)
 
 pub returns-in-File-clause-works : goal.returns-in-File-clause-works
 returns-in-File-clause-works g c F e =
     given_alike _ c.add_file.result (with_file F c.args.place c.in-File.name (Ok c.in_ok-chosen.chosen) c.args.progress.now) (with_input F c.args.set.now c.args.place c.args.input.now c.args.progress.now)
-    (file_chosen F c.args.set.now c.args.place c.args.input.now _ _ c.in_ok-chosen.chosen c.args.progress.now c.in-File.is c.in_ok-chosen.ensures.gives)
+    (file_chosen F c.args.set.now c.args.place c.args.input.now _ _ c.in_ok-chosen.chosen c.args.progress.now c.in-File.is c.in_ok-chosen.ensures)
     (c.add_file.ensures.works F e)
