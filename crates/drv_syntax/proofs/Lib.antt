@@ -53,3 +53,4 @@ pub mod RunLengths
 pub mod Runs
 pub mod TestTurns
 pub mod Words
+pub mod BraceTurns

@@ -110,6 +110,31 @@ labels_none words marks all now e a =
     ∙ sym (map-append (λ m. marked_label words m) marks (record { start = 0; end = 0; starred = false; negated = false; asks = asking.Switch; holds_star = false } ∷ []))
     ∙ ap (λ ms. marked_labels words ms) (sym a)
 
+within_none : (n : ℕ) (marks all : List Mark) → Within n marks → all ≡ marks ++ record { start = 0; end = 0; starred = false; negated = false; asks = asking.Switch; holds_star = false } ∷ [] → Within n all
+within_none n marks all w f = subst (λ (ms : List Mark). Within n ms) (sym f) (within_push n marks (record { start = 0; end = 0; starred = false; negated = false; asks = asking.Switch; holds_star = false }) w (omega arith) (omega arith))
+
+-- a label more, after one or two that name nothing
+pub labels_filled : (words second word : List ℕ) (marks held first all : List Mark) (now : List Label) (start end : ℕ) (starred negated : Bool) (asks : TestKind)
+    → now ≡ marked_labels words marks → Within (length words) marks → held ≡ marks
+    → first ≡ held ++ record { start = 0; end = 0; starred = false; negated = false; asks = asking.Switch; holds_star = false } ∷ []
+    → second ≡ words ++ word → start ≡ length words → end ≡ length second
+    → all ≡ first ++ record { start = start; end = end; starred = starred; negated = negated; asks = asks; holds_star = false } ∷ []
+    → (now ++ no_label ∷ []) ++ part_label word starred negated asks ∷ [] ≡ marked_labels second all
+labels_filled words second word marks held first all now start end starred negated asks e w g f s h k a =
+    labels_added words second word first all (now ++ no_label ∷ []) start end starred negated asks (labels_none words held first now (e ∙ ap (λ ms. marked_labels words ms) (sym g)) f)
+    (within_none (length words) held first (subst (λ (ms : List Mark). Within (length words) ms) (sym g) w) f) s h k a
+
+pub labels_asked : (words second word : List ℕ) (marks held once first all : List Mark) (now : List Label) (start end : ℕ) (starred negated : Bool) (asks : TestKind)
+    → now ≡ marked_labels words marks → Within (length words) marks → held ≡ marks
+    → once ≡ held ++ record { start = 0; end = 0; starred = false; negated = false; asks = asking.Switch; holds_star = false } ∷ []
+    → first ≡ once ++ record { start = 0; end = 0; starred = false; negated = false; asks = asking.Switch; holds_star = false } ∷ []
+    → second ≡ words ++ word → start ≡ length words → end ≡ length second
+    → all ≡ first ++ record { start = start; end = end; starred = starred; negated = negated; asks = asks; holds_star = false } ∷ []
+    → ((now ++ no_label ∷ []) ++ no_label ∷ []) ++ part_label word starred negated asks ∷ [] ≡ marked_labels second all
+labels_asked words second word marks held once first all now start end starred negated asks e w g o f s h k a =
+    labels_filled words second word once once first all (now ++ no_label ∷ []) start end starred negated asks (labels_none words held once now (e ∙ ap (λ ms. marked_labels words ms) (sym g)) o)
+    (within_none (length words) held once (subst (λ (ms : List Mark). Within (length words) ms) (sym g) w) o) refl f s h k a
+
 pub labels_take : (words : List ℕ) (n : ℕ) (marks : List Mark) → marked_labels words (take n marks) ≡ take n (marked_labels words marks)
 labels_take words n marks = sym (take-map (λ m. marked_label words m) n marks)
 

@@ -68,6 +68,16 @@ fn push_marks(start: u32, run: &[u8], marks: &mut Vec<Mark>)
     }
 }
 
+/// The mark of a part that names nothing.
+const UNNAMED: Mark = Mark {
+    start: 0,
+    end: 0,
+    starred: false,
+    negated: false,
+    asks: TestKind::Switch,
+    holds_star: false,
+};
+
 impl Labels {
     /// None yet, which takes no memory.
     pub fn new(alloc: Global) -> Labels
@@ -186,6 +196,7 @@ impl Labels {
 
     /// One more, which names nothing.
     #[tactic(auto, using(crate::proofs::MarkedWords::within_push, crate::proofs::MarkedWords::labels_none))]
+    #[inline(always)]
     pub fn push_none(&mut self) -> Result<(), SyntaxFault>
         ensures { Gives SyntaxFault.Memory (λ _. self.new) result (Ok (self.old ++ no_label ∷ [])) }
     {
@@ -197,6 +208,60 @@ impl Labels {
             asks: TestKind::Switch,
             holds_star: false,
         })?;
+        Ok(())
+    }
+
+    /// One more that names nothing, and one that names this word.
+    #[tactic(auto, using(crate::proofs::MarkedWords::within_more, crate::proofs::MarkedWords::within_push, crate::proofs::MarkedWords::labels_filled))]
+    #[inline(always)]
+    pub fn push_filled(&mut self, word: &[u8], starred: bool) -> Result<(), SyntaxFault>
+        ensures { Gives SyntaxFault.Memory (λ _. self.new) result (Ok ((self.old
+            ++ no_label ∷ []) ++ part_label word.now starred false TestKind.Switch ∷ [])) }
+    {
+        self.marks.reserve(2)?;
+        self.marks.push_reserved(UNNAMED);
+        let start = self.words.len();
+        self.words.extend_from_slice(word)?;
+        let end = self.words.len();
+        if end > u32::MAX as usize {
+            return Err(SyntaxFault::Memory);
+        }
+        self.marks.push_reserved(Mark {
+            start: start as u32,
+            end: end as u32,
+            starred,
+            negated: false,
+            asks: TestKind::Switch,
+            holds_star: false,
+        });
+        Ok(())
+    }
+
+    /// Two more that name nothing, and one that names this word.
+    #[tactic(auto, using(crate::proofs::MarkedWords::within_more, crate::proofs::MarkedWords::within_push, crate::proofs::MarkedWords::labels_asked))]
+    #[inline(always)]
+    pub fn push_asked(&mut self, word: &[u8], negated: bool) -> Result<(), SyntaxFault>
+        ensures { Gives SyntaxFault.Memory (λ _. self.new) result (Ok (((self.old
+            ++ no_label ∷ []) ++ no_label ∷ [])
+            ++ part_label word.now false negated TestKind.Switch ∷ [])) }
+    {
+        self.marks.reserve(3)?;
+        self.marks.push_reserved(UNNAMED);
+        self.marks.push_reserved(UNNAMED);
+        let start = self.words.len();
+        self.words.extend_from_slice(word)?;
+        let end = self.words.len();
+        if end > u32::MAX as usize {
+            return Err(SyntaxFault::Memory);
+        }
+        self.marks.push_reserved(Mark {
+            start: start as u32,
+            end: end as u32,
+            starred: false,
+            negated,
+            asks: TestKind::Switch,
+            holds_star: false,
+        });
         Ok(())
     }
 

@@ -3,6 +3,7 @@
 
 mod actions;
 mod acts;
+mod brace_turns;
 mod bytes;
 mod edits;
 mod ending;

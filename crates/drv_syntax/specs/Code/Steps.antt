@@ -260,12 +260,30 @@ with_test form behind w =
 abbrev pub close_braces : Head → Bool → ℕ → Context → Walk → Walk
 close_braces head emitted end c w = after_item c end (close_token (brace_token head.kind emitted) head.part end w)
 
+-- braces in place with one pattern, this word with a star or without, which ends where they end after it
+abbrev pub with_emit : ℕ → ℕ → ℕ → Bool → List ℕ → Walk → Walk
+with_emit at start end starred word w =
+    after_item w.context (end + 1)
+    (with_label (after_pattern (behinds.Switch start end false starred) word)
+    (with_leaf kinds.Pattern start end
+    (with_label no_label
+    (record w { tokens = w.tokens ++ record { kind = kinds.Emit; start = at; end = end + 1; next = length w.tokens + 2 } ∷ [] }))))
+
 abbrev pub with_star : Bool → Walk → Walk
 with_star holds w = record w { holds_star = holds }
 
 abbrev pub ask : Head → Open → Bool → Bool → ℕ → Walk → Walk
 ask head part tested starred colon w =
     with_star false (enter (frames.X w.context head colon part tested w.holds_star) (x_context w.context (if starred then owners.Starred else owners.Mixed)) (colon + 1) w)
+
+-- the X of the first alternative opens, whose one test so far is the word that was read
+abbrev pub ask_word : Head → ℕ → ℕ → Bool → Walk → Walk
+ask_word head start end negated w = ask head (next_open w start) true false end (with_test forms.Fresh (behinds.Switch start end negated false) w)
+
+-- braces in place whose first test is this word, which a colon ends
+abbrev pub with_asked : ℕ → ℕ → ℕ → Bool → List ℕ → Walk → Walk
+with_asked at start end negated word w =
+    ask_word (record { kind = braces.InPlace; part = next_open w at }) start end negated (with_word word (open_braces at braces.InPlace w))
 
 abbrev pub act_ends : Head → Form → Behind → ℕ → Walk → Result Walk SyntaxFault
 act_ends head form behind n w =

@@ -2,7 +2,7 @@
 
 ghost use Rattle.drv_syntax.specs.Bytes as bytes;
 ghost use Rattle.drv_syntax.specs.Code.Steps.{ends_word};
-ghost use Rattle.std.specs.Prelude.{◌≡◌, ◌++◌, ◌∷◌, []};
+ghost use Rattle.std.specs.Prelude.{◌≡◌, ◌++◌, ◌∷◌, ◌&&◌, [], not};
 
 /// In a word of a test.
 #[inline(always)]
@@ -12,6 +12,14 @@ pub fn is_word(b: u8) -> bool
     b.is_ascii_lowercase()
         || b.is_ascii_alphanumeric()
         || matches!(b, b'_' | b'-' | b'+' | b'=' | b',' | b'.' | b'@')
+}
+
+/// A word of a test can begin with the byte.
+#[inline(always)]
+pub fn begins_word(b: u8) -> bool
+    ensures { result ≡ (bytes.is_word b && not (bytes.is_mark b)) }
+{
+    is_word(b) && !is_mark(b)
 }
 
 /// In the name of a named text.

@@ -98,6 +98,7 @@ pub fn next_open(w: &Walk, start: u32) -> Open
 }
 
 /// A part opens.
+#[inline(always)]
 pub fn with_token(kind: TokenKind, start: u32, w: &mut Walk) -> Result<(), SyntaxFault>
     ensures does { Gives SyntaxFault.Memory (λ _. state w.new) result
         (Ok (steps.with_token kind start (state w.old))) }
@@ -113,7 +114,7 @@ pub fn with_token(kind: TokenKind, start: u32, w: &mut Walk) -> Result<(), Synta
 }
 
 /// A part that is whole.
-#[inline]
+#[inline(always)]
 pub fn with_leaf(kind: TokenKind, start: u32, end: u32, w: &mut Walk) -> Result<(), SyntaxFault>
     requires { length w.old.tokens.items + 1 < 2 ^ 32 }
     ensures does { Gives SyntaxFault.Memory (λ _. state w.new) result
@@ -267,6 +268,46 @@ pub fn with_name(at: u32, end: u32, name: &[u8], w: &mut Walk) -> Result<(), Syn
     w.stage = Stage::List(ListStage::Start);
     w.word.clear();
     w.kept = end;
+    w.trailing = 0;
+    Ok(())
+}
+
+/// Braces in place with one pattern, this word, which ends at this place as they do after it.
+#[inline(always)]
+pub fn with_emit(
+    at: u32,
+    start: u32,
+    end: u32,
+    starred: bool,
+    word: &[u8],
+    w: &mut Walk,
+) -> Result<(), SyntaxFault>
+    requires room { length w.old.tokens.items + 2 < 2 ^ 32 }
+    requires place { end < 2 ^ 31 }
+    ensures does { Gives SyntaxFault.Memory (λ _. state w.new) result
+        (Ok (steps.with_emit at start end starred word.now (state w.old))) }
+    ensures size { OnOk result (length w.new.tokens.items ≤ length w.old.tokens.items + 2) }
+    ensures trail { OnOk result (w.new.trailing ≡ 0) }
+{
+    w.tokens.reserve(2)?;
+    w.labels.push_filled(word, starred)?;
+    let after = w.tokens.len() as u32 + 2;
+    w.tokens.push_reserved(Token {
+        kind: TokenKind::Emit,
+        start: at,
+        end: end + 1,
+        next: after,
+    });
+    let inner = w.tokens.len() as u32 + 1;
+    w.tokens.push_reserved(Token {
+        kind: TokenKind::Pattern,
+        start,
+        end,
+        next: inner,
+    });
+    w.stage = Stage::List(ListStage::Start);
+    w.word.clear();
+    w.kept = end + 1;
     w.trailing = 0;
     Ok(())
 }

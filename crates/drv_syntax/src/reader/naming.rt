@@ -42,6 +42,7 @@ pub fn taken_word(taken: Taken, word: &[u8]) -> &[u8]
 }
 
 /// A part that names a word alone.
+#[inline(always)]
 pub fn name_word(word: &[u8], labels: &mut Labels) -> Result<(), SyntaxFault>
     ensures { Gives SyntaxFault.Memory (λ _. labels.new) result
         (Ok (labels.old ++ word_label word.now ∷ [])) }

@@ -91,12 +91,14 @@ fn brace_token(kind: BraceKind, emitted: bool) -> TokenKind
     }
 }
 
+#[inline(always)]
 fn enter(frame: Frame, c: Context, kept: u32, w: &mut Walk) -> Result<(), SyntaxFault>
     ensures does { Gives SyntaxFault.Memory (λ _. state w.new) result
         (Ok (steps.enter frame c kept (state w.old))) }
     ensures size { OnOk result (length w.new.tokens.items ≤ length w.old.tokens.items) }
 {
-    w.waiting.push(frame)?;
+    w.waiting.reserve(1)?;
+    w.waiting.push_reserved(frame);
     w.stage = Stage::List(ListStage::Start);
     w.context = c;
     w.word.clear();
@@ -359,6 +361,7 @@ pub fn close_braces(head: Head, emitted: bool, end: u32, c: Context, w: &mut Wal
 }
 
 /// The X of an alternative opens.
+#[inline(always)]
 pub fn ask(
     head: Head,
     part: Open,

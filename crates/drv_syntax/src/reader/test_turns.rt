@@ -3,12 +3,12 @@
 ghost use Rattle.drv_syntax.specs.Bytes as bytes;
 ghost use Rattle.drv_syntax.specs.Code.States.{Reads, state};
 ghost use Rattle.drv_syntax.specs.Code.Steps as steps;
-ghost use Rattle.std.specs.Prelude.{◌≡◌, ◌<◌, ◌≤◌, ◌^◌, ◌+◌, ◌*◌, ◌∷◌, ◌&&◌, [], IfOk, Ok, get_or};
-ghost use Rattle.std.specs.Prelude.{length, not, true};
+ghost use Rattle.std.specs.Prelude.{◌≡◌, ◌<◌, ◌≤◌, ◌^◌, ◌+◌, ◌*◌, ◌∷◌, [], IfOk, Ok, get_or};
+ghost use Rattle.std.specs.Prelude.{length, true};
 
 use crate::fault::SyntaxFault;
 use crate::reader::acts::act_lent;
-use crate::reader::bytes::{ends_word, is_mark, is_word};
+use crate::reader::bytes::{begins_word, ends_word};
 use crate::reader::head_steps::{after_test, at, test_word};
 use crate::reader::runs::{extend, front, word_length};
 use crate::reader::stages::{Behind, Form, Head, HeadStage, Stage};
@@ -194,14 +194,6 @@ fn begun_turn(
         w,
     )?;
     Ok(size + more)
-}
-
-/// A word of a test can begin with the byte.
-#[inline(always)]
-fn begins_word(b: u8) -> bool
-    ensures { result ≡ (bytes.is_word b && not (bytes.is_mark b)) }
-{
-    is_word(b) && !is_mark(b)
 }
 
 /// The `!` of a test, and its word, if one begins after it, and what ends that.

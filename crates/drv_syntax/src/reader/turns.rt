@@ -2,13 +2,13 @@
 
 ghost use Rattle.drv_words.specs.Bytes as ascii;
 ghost use Rattle.drv_syntax.specs.Code.States.{Reads, Turns, state};
-ghost use Rattle.drv_syntax.specs.Bytes.{is_name};
-ghost use Rattle.std.specs.List.{prefix_len};
-ghost use Rattle.std.specs.Prelude.{◌≡◌, ◌<◌, ◌≤◌, ◌^◌, ◌+◌, ◌*◌, ◌∷◌, [], IfOk, OnOk, get_or};
+ghost use Rattle.drv_syntax.specs.Code.Steps as steps;
+ghost use Rattle.std.specs.Prelude.{◌≡◌, ◌<◌, ◌≤◌, ◌^◌, ◌+◌, ◌*◌, ◌∷◌, [], IfOk, OnOk};
 ghost use Rattle.std.specs.Prelude.{length};
 
 use crate::directives::SayKind;
 use crate::fault::SyntaxFault;
+use crate::reader::brace_turns::braces_turn;
 use crate::reader::bytes::is_blank;
 use crate::reader::edits::{with_blank, with_name, with_plains};
 use crate::reader::list_steps::{hide_word, name_text, percent, saying_text, start, suffix_run};
@@ -48,28 +48,6 @@ fn suffix_turn(
     Ok(size + 1)
 }
 
-/// The name of a text, of so many bytes, which was not yet put, and the parenthesis after it.
-#[inline(always)]
-fn named_turn(at: u32, size: usize, n: u32, text: &[u8], w: &mut Walk) -> Result<usize, SyntaxFault>
-    requires here { w.old.stage ≡ Stage.List (ListStage.NameText at) }
-    requires word { w.old.word.items ≡ [] }
-    requires name { size ≡ prefix_len is_name text.now }
-    requires some { 0 < size }
-    requires short { size ≤ 255 }
-    requires within { size < length text.now }
-    requires end { get_or text.now size 0 ≡ ascii.closing_parenthesis }
-    requires room { length w.old.tokens.items < 2 ^ 29 }
-    requires place { n + length text.now < 2 ^ 30 }
-    requires trail { w.old.trailing < 2 ^ 29 }
-    ensures does { Reads n text.now (state w.old) (state w.new) result }
-    ensures size { IfOk result (λ taken. length w.new.tokens.items
-        ≤ length w.old.tokens.items + 4 * taken) }
-    ensures trail { IfOk result (λ taken. w.new.trailing ≤ w.old.trailing + 4 * taken) }
-{
-    with_name(at, n + size as u32 + 1, front(text, size), w)?;
-    Ok(size + 1)
-}
-
 /// In the name of a text: the rest of it, and the byte after it.
 #[inline(never)]
 fn name_turn(at: u32, n: u32, text: &[u8], w: &mut Walk) -> Result<usize, SyntaxFault>
@@ -86,15 +64,35 @@ fn name_turn(at: u32, n: u32, text: &[u8], w: &mut Walk) -> Result<usize, Syntax
     if w.word.len() > 255 || size > 255 - w.word.len() {
         return Ok(0);
     }
-    if size != 0 && size < text.len() && text[size] == b')' && w.word.is_empty() {
-        return named_turn(at, size, n, text, w);
-    }
     extend(size, text, w)?;
     if size == text.len() {
         return Ok(size);
     }
     name_text(at, n + size as u32, text[size], w)?;
     Ok(size + 1)
+}
+
+/// After `%(`: the name of a text, and the parenthesis after it.
+#[inline(never)]
+fn named_turn(at: u32, n: u32, inside: &[u8], w: &mut Walk) -> Result<usize, SyntaxFault>
+    requires room { length w.old.tokens.items < 2 ^ 28 }
+    requires place { n + length inside.now < 2 ^ 30 }
+    requires trail { w.old.trailing < 2 ^ 28 }
+    ensures does { Reads n inside.now (steps.at_stage (Stage.List (ListStage.NameText at))
+        (steps.with_word [] (state w.old))) (state w.new) result }
+    ensures size { IfOk result (λ taken. length w.new.tokens.items
+        ≤ length w.old.tokens.items + 4 * (taken + 1)) }
+    ensures trail { IfOk result (λ taken. w.new.trailing ≤ w.old.trailing + 4 * (taken + 1)) }
+{
+    let size = name_length(inside);
+    if size != 0 && size <= 255 && size < inside.len() && inside[size] == b')' {
+        with_name(at, n + size as u32 + 1, front(inside, size), w)?;
+        return Ok(size + 1);
+    }
+    w.stage = Stage::List(ListStage::NameText { at });
+    w.word.clear();
+    let taken = name_turn(at, n, inside, w)?;
+    Ok(taken)
 }
 
 /// In the word of `%<`: the rest of it, and the byte after it.
@@ -173,7 +171,7 @@ fn plain_turn(n: u32, text: &[u8], w: &mut Walk) -> Result<usize, SyntaxFault>
 /// What the first bytes of a text make of the state, where they go on as the byte before them did,
 /// with the byte after them: how many.
 #[inline(always)]
-fn run(n: u32, text: &[u8], w: &mut Walk) -> Result<usize, SyntaxFault>
+pub fn run(n: u32, text: &[u8], w: &mut Walk) -> Result<usize, SyntaxFault>
     requires room { length w.old.tokens.items < 2 ^ 29 }
     requires place { n + length text.now < 2 ^ 30 }
     requires trail { w.old.trailing < 2 ^ 29 }
@@ -219,7 +217,7 @@ fn byte_turn(n: u32, b: u8, behind: &[u8], w: &mut Walk) -> Result<usize, Syntax
 
 /// The `%` of an item at this place, and what goes on after it: how many bytes of that.
 #[inline(always)]
-fn directive_turn(n: u32, behind: &[u8], w: &mut Walk) -> Result<usize, SyntaxFault>
+fn percent_turn(n: u32, behind: &[u8], w: &mut Walk) -> Result<usize, SyntaxFault>
     requires here { w.old.stage ≡ Stage.List ListStage.Start }
     requires room { length w.old.tokens.items < 2 ^ 28 }
     requires place { n + 1 + length behind.now < 2 ^ 30 }
@@ -238,6 +236,33 @@ fn directive_turn(n: u32, behind: &[u8], w: &mut Walk) -> Result<usize, SyntaxFa
             Ok(taken + 1)
         }
         [] => Ok(0),
+    }
+}
+
+/// The same, with the name of a text or the first word of braces in the same turn.
+#[inline(always)]
+fn directive_turn(n: u32, behind: &[u8], w: &mut Walk) -> Result<usize, SyntaxFault>
+    requires here { w.old.stage ≡ Stage.List ListStage.Start }
+    requires room { length w.old.tokens.items < 2 ^ 28 }
+    requires place { n + 1 + length behind.now < 2 ^ 30 }
+    requires trail { w.old.trailing < 2 ^ 28 }
+    ensures does { Turns n ascii.percent behind.now (state w.old) (state w.new) result }
+    ensures size { IfOk result (λ taken. length w.new.tokens.items
+        ≤ length w.old.tokens.items + 4 * (taken + 1)) }
+    ensures trail { IfOk result (λ taken. w.new.trailing ≤ w.old.trailing + 4 * (taken + 1)) }
+{
+    match behind {
+        [b'{', inside @ ..] if w.context.levels != 0 => {
+            let place = n + 1;
+            let taken = braces_turn(n, place + 1, inside, w)?;
+            Ok(taken + 1)
+        }
+        [b'(', inside @ ..] if !w.context.in_arguments => {
+            let place = n + 1;
+            let taken = named_turn(n, place + 1, inside, w)?;
+            Ok(taken + 1)
+        }
+        _ => percent_turn(n, behind, w),
     }
 }
 

@@ -5,8 +5,8 @@ use Rattle.drv_syntax.specs.declared.reader.stages.ListStage.TheVariants as stag
 use Rattle.drv_syntax.specs.declared.reader.stages.Stage.TheVariants as at
 use Rattle.std.proofs.Common.{arith, get_or, ◌+◌, refl}
 
-pub returns-then-size-text-2-clause-does : goal.returns-then-size-text-2-clause-does
-returns-then-size-text-2-clause-does c = (
+pub returns-then-size-text-clause-does : goal.returns-then-size-text-clause-does
+returns-then-size-text-clause-does c = (
   c.name_length-size.ensures.within,
   name_takes (state c.args.w.now) (state c.extend.new.w) c.args.at c.name_length-size.result c.args.n c.args.text.now c.requires.here c.name_length-size.ensures.run
       (omega (arith, c.if-len-gt255.false, c.if-size-len.false, c.len.ensures, c.len-else-len-gt255.ensures)) c.in_ok-extend.ensures.does,
@@ -15,7 +15,7 @@ returns-then-size-text-2-clause-does c = (
 pub returns-in_err-name_text-clause-does : goal.returns-in_err-name_text-clause-does
 returns-in_err-name_text-clause-does c =
     run_fails (state c.args.w.now) (state c.extend.new.w) c.args.n c.name_length-size.result (get_or c.args.text.now c.name_length-size.result 0) c.args.text.now
-    (omega (arith, c.name_length-size.ensures.within, c.if-size-text-2.false)) refl
+    (omega (arith, c.name_length-size.ensures.within, c.if-size-text.false)) refl
     (name_takes (state c.args.w.now) (state c.extend.new.w) c.args.at c.name_length-size.result c.args.n c.args.text.now c.requires.here c.name_length-size.ensures.run
     (omega (arith, c.if-len-gt255.false, c.if-size-len.false, c.len.ensures, c.len-else-len-gt255.ensures)) c.in_ok-extend.ensures.does)
     (state c.name_text.new.w) c.from_residual-in_err-name_text.result c.in_err-name_text.field-0.0 c.from_residual-in_err-name_text.ensures.1
@@ -26,7 +26,7 @@ returns-in_err-name_text-clause-does c =
 pub returns-clause-does : goal.returns-clause-does
 returns-clause-does c =
     run_steps (state c.args.w.now) (state c.extend.new.w) c.args.n c.name_length-size.result (get_or c.args.text.now c.name_length-size.result 0) c.args.text.now
-    (omega (arith, c.name_length-size.ensures.within, c.if-size-text-2.false)) refl
+    (omega (arith, c.name_length-size.ensures.within, c.if-size-text.false)) refl
     (name_takes (state c.args.w.now) (state c.extend.new.w) c.args.at c.name_length-size.result c.args.n c.args.text.now c.requires.here c.name_length-size.ensures.run
     (omega (arith, c.if-len-gt255.false, c.if-size-len.false, c.len.ensures, c.len-else-len-gt255.ensures)) c.in_ok-extend.ensures.does)
     (state c.name_text.new.w)

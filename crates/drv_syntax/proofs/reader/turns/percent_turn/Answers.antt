@@ -1,5 +1,5 @@
 use Rattle.drv_syntax.proofs.Runs.{percent_takes, turn_takes}
-use Rattle.drv_syntax.proofs.reader.turns.directive_turn.Goals as goal
+use Rattle.drv_syntax.proofs.reader.turns.percent_turn.Goals as goal
 use Rattle.drv_syntax.specs.Code.States.{state}
 use Rattle.drv_syntax.specs.Code.Steps.{at_stage}
 use Rattle.drv_syntax.specs.declared.reader.stages.ListStage.TheVariants as stages

@@ -1,0 +1,155 @@
+//! Braces whose first part is the word of a pattern or a test, which is read in one turn.
+
+ghost use Rattle.drv_syntax.specs.Code.States.{Reads, state};
+ghost use Rattle.drv_syntax.specs.Code.Steps as steps;
+ghost use Rattle.drv_words.specs.Bytes as ascii;
+ghost use Rattle.drv_words.specs.Gives.{Gives};
+ghost use Rattle.std.specs.Prelude.{◌≡◌, ◌<◌, ◌≤◌, ◌^◌, ◌+◌, ◌*◌, IfOk, Ok, OnOk, get_or};
+ghost use Rattle.std.specs.Prelude.{length};
+
+use crate::directives::BraceKind;
+use crate::fault::SyntaxFault;
+use crate::reader::bytes::begins_word;
+use crate::reader::edits::{next_open, with_emit};
+use crate::reader::nesting::{ask, open_braces};
+use crate::reader::runs::{front, word_length};
+use crate::reader::stages::Head;
+use crate::reader::turns::run;
+use crate::reader::walk::Walk;
+use crate::token::{Token, TokenKind};
+
+/// After `%{`, where the braces do not begin with a word that fills them.
+#[inline(never)]
+fn opened_turn(at: u32, n: u32, inside: &[u8], w: &mut Walk) -> Result<usize, SyntaxFault>
+    requires room { length w.old.tokens.items < 2 ^ 28 }
+    requires place { n + length inside.now < 2 ^ 30 }
+    requires trail { w.old.trailing < 2 ^ 28 }
+    ensures does { Reads n inside.now (steps.open_braces at BraceKind.InPlace (state w.old))
+        (state w.new) result }
+    ensures size { IfOk result (λ taken. length w.new.tokens.items
+        ≤ length w.old.tokens.items + 4 * (taken + 1)) }
+    ensures trail { IfOk result (λ taken. w.new.trailing ≤ w.old.trailing + 4 * (taken + 1)) }
+{
+    open_braces(at, BraceKind::InPlace, w)?;
+    let taken = run(n, inside, w)?;
+    Ok(taken)
+}
+
+/// A part that opens here.
+#[inline(always)]
+fn opened(kind: TokenKind, start: u32) -> Token
+    ensures { result ≡ steps.open_token kind start }
+{
+    Token {
+        kind,
+        start,
+        end: start,
+        next: 0,
+    }
+}
+
+/// Braces in place whose first test is this word, which a colon ends.
+#[inline(always)]
+fn with_asked(
+    at: u32,
+    start: u32,
+    end: u32,
+    negated: bool,
+    word: &[u8],
+    w: &mut Walk,
+) -> Result<(), SyntaxFault>
+    requires room { length w.old.tokens.items < 2 ^ 28 }
+    requires place { end < 2 ^ 31 }
+    ensures does { Gives SyntaxFault.Memory (λ _. state w.new) result
+        (Ok (steps.with_asked at start end negated word.now (state w.old))) }
+    ensures size { OnOk result (length w.new.tokens.items ≤ length w.old.tokens.items + 3) }
+    ensures trail { OnOk result (w.new.trailing ≡ 0) }
+{
+    w.tokens.reserve(3)?;
+    w.labels.push_asked(word, negated)?;
+    let head = Head {
+        kind: BraceKind::InPlace,
+        part: next_open(w, at),
+    };
+    w.tokens.push_reserved(opened(TokenKind::Choose, at));
+    let alternative = next_open(w, start);
+    w.tokens
+        .push_reserved(opened(TokenKind::Alternative, start));
+    let next = w.tokens.len() as u32 + 1;
+    w.tokens.push_reserved(Token {
+        kind: TokenKind::Test,
+        start,
+        end,
+        next,
+    });
+    ask(head, alternative, true, false, end, w)
+}
+
+/// After `%{`, where a `!` stands: the word of a test and a colon, or what the braces begin with.
+#[inline(never)]
+fn negation_turn(at: u32, n: u32, inside: &[u8], w: &mut Walk) -> Result<usize, SyntaxFault>
+    requires mark { get_or inside.now 0 0 ≡ ascii.exclamation_mark }
+    requires some { 0 < length inside.now }
+    requires room { length w.old.tokens.items < 2 ^ 28 }
+    requires place { n + length inside.now < 2 ^ 30 }
+    requires trail { w.old.trailing < 2 ^ 28 }
+    ensures does { Reads n inside.now (steps.open_braces at BraceKind.InPlace (state w.old))
+        (state w.new) result }
+    ensures size { IfOk result (λ taken. length w.new.tokens.items
+        ≤ length w.old.tokens.items + 4 * (taken + 1)) }
+    ensures trail { IfOk result (λ taken. w.new.trailing ≤ w.old.trailing + 4 * (taken + 1)) }
+{
+    let behind = &inside[1..];
+    if behind.is_empty() || !begins_word(behind[0]) {
+        return opened_turn(at, n, inside, w);
+    }
+    let size = word_length(behind);
+    if size == behind.len() || behind[size] != b':' {
+        return opened_turn(at, n, inside, w);
+    }
+    let end = n + 1 + size as u32;
+    with_asked(at, n, end, true, front(behind, size), w)?;
+    Ok(size + 2)
+}
+
+/// After `%{`: a word that fills the braces or is their first test, or what they begin with.
+#[inline(never)]
+pub fn braces_turn(at: u32, n: u32, inside: &[u8], w: &mut Walk) -> Result<usize, SyntaxFault>
+    requires room { length w.old.tokens.items < 2 ^ 28 }
+    requires place { n + length inside.now < 2 ^ 30 }
+    requires trail { w.old.trailing < 2 ^ 28 }
+    ensures does { Reads n inside.now (steps.open_braces at BraceKind.InPlace (state w.old))
+        (state w.new) result }
+    ensures size { IfOk result (λ taken. length w.new.tokens.items
+        ≤ length w.old.tokens.items + 4 * (taken + 1)) }
+    ensures trail { IfOk result (λ taken. w.new.trailing ≤ w.old.trailing + 4 * (taken + 1)) }
+{
+    if inside.is_empty() {
+        return opened_turn(at, n, inside, w);
+    }
+    if inside[0] == b'!' {
+        return negation_turn(at, n, inside, w);
+    }
+    if !begins_word(inside[0]) {
+        return opened_turn(at, n, inside, w);
+    }
+    let size = word_length(inside);
+    if size == inside.len() {
+        return opened_turn(at, n, inside, w);
+    }
+    let end = n + size as u32;
+    let word = front(inside, size);
+    if inside[size] == b'}' {
+        with_emit(at, n, end, false, word, w)?;
+        return Ok(size + 1);
+    }
+    if inside[size] == b':' {
+        with_asked(at, n, end, false, word, w)?;
+        return Ok(size + 1);
+    }
+    if inside[size] == b'*' && size + 1 < inside.len() && inside[size + 1] == b'}' {
+        with_emit(at, n, end + 1, true, word, w)?;
+        return Ok(size + 2);
+    }
+    opened_turn(at, n, inside, w)
+}
