@@ -3,13 +3,14 @@ use Rattle.drv_machine.specs.Context.{Context}
 use Rattle.drv_machine.specs.Code.Running.{Machine, run}
 use Rattle.drv_machine.specs.Temps.{folder, hex, is_drawn, last_drawn, temp_name}
 use Rattle.drv_machine.specs.Working.{bytes}
+use Rattle.drv_machine.specs.declared.machine.naming.Drawing.{Drawing}
 use Rattle.drv_machine.specs.declared.machine.naming.Drawn.{Drawn}
 use Rattle.drv_syntax.specs.declared.token.TempKind.TheVariants.{PipedOut}
 use Rattle.drv_syntax.specs.declared.token.TempKind.{TempKind}
 use Rattle.drv_system.specs.Facts.{Facts, variable_of}
 use Rattle.drv_system.specs.Known.{◌>>=◌, Is, asked}
 use Rattle.drv_words.specs.Bytes.{hyphen}
-use Rattle.std.proofs.Common.{◌≡◌, ◌∙◌, ◌++◌, ◌<◌, ◌+◌, Bool, List, [], ◌∷◌, None, Option, Some, ap, append_assoc, codes, drop, get_or, length, refl, sym, take, true, ℕ}
+use Rattle.std.proofs.Common.{◌≡◌, ◌∙◌, ◌++◌, ◌<◌, ◌+◌, List, [], ◌∷◌, None, Option, Some, ap, append_assoc, codes, drop, get_or, length, refl, sym, take, true, ℕ}
 use Rattle.std.proofs.lemmas.List.{drop_more, take-append-drop}
 use Rattle.std.specs.Fmt.{decimal}
 
@@ -27,22 +28,22 @@ temp_named F dir seed number suffix p0 p1 p2 p3 p4 p5 p6 known e0 e1 e2 e3 e4 e5
     ∙ ap Is (sym (e6 ∙ ap (λ p. p ++ suffix) (e5 ∙ ap (λ p. p ++ decimal number) (e4 ∙ ap (λ p. p ++ codes "_") (e3 ∙ ap (λ p. p ++ hex 8 seed) (e2 ∙ ap (λ p. p ++ codes "cc") (e1 ∙ ap (λ p. p ++ folder dir) e0)))))
     ∙ regroup (folder dir) (codes "cc") (hex 8 seed) (codes "_") (decimal number) suffix))
 
-module _ (shared : Bool) (suffix : List ℕ) where
-  drawn_here : (name : Drawn) (later : List Drawn) → last_drawn shared suffix later ≡ None → is_drawn shared suffix name ≡ true → last_drawn shared suffix (name ∷ later) ≡ Some name.path
+module _ (drawing : Drawing) (suffix : List ℕ) where
+  drawn_here : (name : Drawn) (later : List Drawn) → last_drawn drawing suffix later ≡ None → is_drawn drawing suffix name ≡ true → last_drawn drawing suffix (name ∷ later) ≡ Some name.path
   drawn_here name later none is = rw (none, is) refl
 
   -- whatever was drawn before
-  drawn_after : (front later : List Drawn) (path : List ℕ) → last_drawn shared suffix later ≡ Some path → last_drawn shared suffix (front ++ later) ≡ Some path
+  drawn_after : (front later : List Drawn) (path : List ℕ) → last_drawn drawing suffix later ≡ Some path → last_drawn drawing suffix (front ++ later) ≡ Some path
   drawn_after [] later path is = is
   drawn_after (name ∷ front) later path is = rw (drawn_after front later path is) refl
 
   -- the last one stands at this place
-  pub drawn_at : (drawn : List Drawn) (i next : ℕ) (name : Drawn) (path : List ℕ) → i < length drawn → next ≡ i + 1 → name ≡ get_or drawn i name → last_drawn shared suffix (drop next drawn) ≡ None → is_drawn shared suffix name ≡ true → path ≡ name.path
-      → Some path ≡ last_drawn shared suffix drawn
+  pub drawn_at : (drawn : List Drawn) (i next : ℕ) (name : Drawn) (path : List ℕ) → i < length drawn → next ≡ i + 1 → name ≡ get_or drawn i name → last_drawn drawing suffix (drop next drawn) ≡ None → is_drawn drawing suffix name ≡ true → path ≡ name.path
+      → Some path ≡ last_drawn drawing suffix drawn
   drawn_at drawn i next name path within follows at none is same =
-      let later = ap (λ k. last_drawn shared suffix (drop k drawn)) (sym follows) ∙ none in
-      let here = ap (last_drawn shared suffix) (drop_more drawn i name within ∙ ap (λ n. n ∷ drop (i + 1) drawn) (sym at)) ∙ drawn_here name (drop (i + 1) drawn) later is in
-      ap Some same ∙ sym (drawn_after (take i drawn) (drop i drawn) name.path here) ∙ ap (last_drawn shared suffix) (take-append-drop i drawn)
+      let later = ap (λ k. last_drawn drawing suffix (drop k drawn)) (sym follows) ∙ none in
+      let here = ap (last_drawn drawing suffix) (drop_more drawn i name within ∙ ap (λ n. n ∷ drop (i + 1) drawn) (sym at)) ∙ drawn_here name (drop (i + 1) drawn) later is in
+      ap Some same ∙ sym (drawn_after (take i drawn) (drop i drawn) name.path here) ∙ ap (last_drawn drawing suffix) (take-append-drop i drawn)
 
 -- where commands are piped, %| is a hyphen
 pub piped_out : (F : Facts) (C : Context) (s : Machine) (kind : TempKind) (suffix : List ℕ) → kind ≡ PipedOut → C.is_piping ≡ true → run F C s (bytes (hyphen ∷ [])) ≡ run F C s (temp_step F C kind suffix)

@@ -9,6 +9,7 @@ use Rattle.drv_machine.specs.Code.Walking.{file_end, file_from, into_file, out_o
 use Rattle.drv_machine.specs.Working.{◌>>-◌, ◌>>=◌, Answer, Atom, Break, FileFrom, FileTo, Goes, Put, Refuses, Step, Waits, Work, World, needs, puts}
 use Rattle.drv_machine.specs.declared.fault.MachineFault.TheVariants.{Memory}
 use Rattle.drv_machine.specs.declared.fault.MachineFault.{MachineFault}
+use Rattle.drv_machine.specs.declared.machine.naming.Drawing.TheVariants.{Anew}
 use Rattle.drv_system.specs.Facts.{Facts}
 use Rattle.drv_system.specs.Known.{Is, Unasked}
 use Rattle.drv_words.specs.Bytes.{at_sign}
@@ -54,18 +55,18 @@ module _ (F : Facts) (C : Context) (s : Machine) (words : List (List ℕ)) where
       by (w ∷ ws) e = absurd (let never : true ≡ false = e ∙ some_there (length ws) in cc)
 
   module _ (some : false ≡ (length words == 0)) (contents : List ℕ) (same : contents ≡ response_text words) where
-    drawn_then : run F C s (named_file F C words) ≡ run F C s (draw_with F C contents false (codes ".args") >>= named_path)
+    drawn_then : run F C s (named_file F C words) ≡ run F C s (draw_with F C contents Anew (codes ".args") >>= named_path)
     drawn_then = by words some same
       where
-        by : (ws : List (List ℕ)) → false ≡ (length ws == 0) → contents ≡ response_text ws → run F C s (named_file F C ws) ≡ run F C s (draw_with F C contents false (codes ".args") >>= named_path)
+        by : (ws : List (List ℕ)) → false ≡ (length ws == 0) → contents ≡ response_text ws → run F C s (named_file F C ws) ≡ run F C s (draw_with F C contents Anew (codes ".args") >>= named_path)
         by [] e is = absurd (let never : false ≡ true = e in cc)
-        by (w ∷ ws) e is = ap (λ text. run F C s (draw_with F C text false (codes ".args") >>= named_path)) (sym is)
+        by (w ∷ ws) e is = ap (λ text. run F C s (draw_with F C text Anew (codes ".args") >>= named_path)) (sym is)
 
-    pub file_drawn : (path bytes : List ℕ) (t : Machine) → bytes ≡ path → run F C s (draw_with F C contents false (codes ".args")) ≡ Is (Ok (path, t)) → run F C t (puts (Put at_sign ∷ map Put bytes ++ Break ∷ [])) ≡ run F C s (named_file F C words)
-    file_drawn path bytes t same_bytes e = ap (λ p. run F C t (named_path p)) same_bytes ∙ sym (drawn_then ∙ then_ok F C s (draw_with F C contents false (codes ".args")) named_path path t e)
+    pub file_drawn : (path bytes : List ℕ) (t : Machine) → bytes ≡ path → run F C s (draw_with F C contents Anew (codes ".args")) ≡ Is (Ok (path, t)) → run F C t (puts (Put at_sign ∷ map Put bytes ++ Break ∷ [])) ≡ run F C s (named_file F C words)
+    file_drawn path bytes t same_bytes e = ap (λ p. run F C t (named_path p)) same_bytes ∙ sym (drawn_then ∙ then_ok F C s (draw_with F C contents Anew (codes ".args")) named_path path t e)
 
-    pub not_drawn : (fault : MachineFault) → (fault ≡ Memory) ⊎ (run F C s (draw_with F C contents false (codes ".args")) ≡ Is (Err fault)) → (fault ≡ Memory) ⊎ (run F C s (named_file F C words) ≡ Is (Err fault))
-    not_drawn fault e = fails_as (run F C s (draw_with F C contents false (codes ".args") >>= named_path)) (run F C s (named_file F C words)) (then_fails F C s (draw_with F C contents false (codes ".args")) named_path fault e) (λ stopped. drawn_then ∙ stopped)
+    pub not_drawn : (fault : MachineFault) → (fault ≡ Memory) ⊎ (run F C s (draw_with F C contents Anew (codes ".args")) ≡ Is (Err fault)) → (fault ≡ Memory) ⊎ (run F C s (named_file F C words) ≡ Is (Err fault))
+    not_drawn fault e = fails_as (run F C s (draw_with F C contents Anew (codes ".args") >>= named_path)) (run F C s (named_file F C words)) (then_fails F C s (draw_with F C contents Anew (codes ".args")) named_path fault e) (λ stopped. drawn_then ∙ stopped)
 
 -- what stands between them
 module _ (F : Facts) (C : Context) where

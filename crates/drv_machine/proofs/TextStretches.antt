@@ -11,6 +11,8 @@ use Rattle.drv_machine.specs.Working.{◌>>-◌, ◌>>=◌, ◌>>◌, Answer, At
 use Rattle.drv_machine.specs.declared.fault.MachineFault.{MachineFault}
 use Rattle.drv_machine.specs.declared.fault.MachineFault.TheVariants as fault
 use Rattle.drv_machine.specs.declared.machine.marking.Mark.TheVariants.{AsFile, AsOutput, AsRemoved, AsScript}
+use Rattle.drv_machine.specs.declared.machine.naming.Drawing.TheVariants.{Anew, Once}
+use Rattle.drv_machine.specs.declared.machine.naming.Drawing.{Drawing}
 use Rattle.drv_match.specs.Matching.{hidden_by, hits, is_hit, name_at}
 use Rattle.drv_search.specs.Search.{folder_options}
 use Rattle.drv_syntax.specs.Stars.{has_star}
@@ -348,27 +350,27 @@ module _ (F : Facts) where
   outputs_well C (Some source) = refuse_well fault.NotInLink
 
 module _ (F : Facts) (C : Context) where
-  draw_well : (contents : List ℕ) (shared : Bool) (suffix : List ℕ) → Well (draw_with F C contents shared suffix)
-  draw_well contents shared suffix =
+  draw_well : (contents : List ℕ) (drawing : Drawing) (suffix : List ℕ) → Well (draw_with F C contents drawing suffix)
+  draw_well contents drawing suffix =
       then_well (look_well (λ w. w.number)) (λ number. then_well (needs_well (known (temp_name F C.seed number suffix))) (λ path. then_well
-      (change_well (λ w. record w { number = w.number + 1; drawn = w.drawn ++ record { shared = shared; suffix = suffix; path = path; contents = contents } ∷ [] }) (λ w. refl)) (λ u. give_well path)))
+      (change_well (λ w. record w { number = w.number + 1; drawn = w.drawn ++ record { drawing = drawing; suffix = suffix; path = path; contents = contents } ∷ [] }) (λ w. refl)) (λ u. give_well path)))
 
-  drawn_as : (shared : Bool) (suffix : List ℕ) (w : World) (b : Bool) (path : Option (List ℕ)) → last_drawn shared suffix w.drawn ≡ path → w.is_in_file ≡ b → WellDone b (drawn_or_new F C shared suffix w)
-  drawn_as shared suffix w b None e i = rw e (after_well b [] (draw F C shared suffix w) (fits_bare b [] refl) ((draw_well [] shared suffix).stays w b i))
-  drawn_as shared suffix w b (Some path) e i = rw e (fits_bare b [] refl, i)
+  drawn_as : (drawing : Drawing) (suffix : List ℕ) (w : World) (b : Bool) (path : Option (List ℕ)) → last_drawn drawing suffix w.drawn ≡ path → w.is_in_file ≡ b → WellDone b (drawn_or_new F C drawing suffix w)
+  drawn_as drawing suffix w b None e i = rw e (after_well b [] (draw F C drawing suffix w) (fits_bare b [] refl) ((draw_well [] drawing suffix).stays w b i))
+  drawn_as drawing suffix w b (Some path) e i = rw e (fits_bare b [] refl, i)
 
-  drawn_well : (shared : Bool) (suffix : List ℕ) → Well (drawn_or_new F C shared suffix)
-  drawn_well shared suffix = record { stays = λ w b i. drawn_as shared suffix w b (last_drawn shared suffix w.drawn) refl i }
+  drawn_well : (drawing : Drawing) (suffix : List ℕ) → Well (drawn_or_new F C drawing suffix)
+  drawn_well drawing suffix = record { stays = λ w b i. drawn_as drawing suffix w b (last_drawn drawing suffix w.drawn) refl i }
 
-  name_well : (shared : Bool) (suffix : List ℕ) → Well (name_step F C shared suffix)
-  name_well shared suffix = then_well (drawn_well shared suffix) (λ path. bytes_well path)
+  name_well : (drawing : Drawing) (suffix : List ℕ) → Well (name_step F C drawing suffix)
+  name_well drawing suffix = then_well (drawn_well drawing suffix) (λ path. bytes_well path)
 
   temp_well : (kind : TempKind) (suffix : List ℕ) → Well (temp_step F C kind suffix)
-  temp_well Shared suffix = name_well true suffix
-  temp_well New suffix = then_well (draw_well [] false suffix) (λ path. bytes_well path)
-  temp_well Last suffix = name_well false suffix
-  temp_well PipedOut suffix = if_well C.is_piping (bytes_well (hyphen ∷ [])) (name_well true suffix)
-  temp_well PipedIn suffix = if_well C.is_piping (puts_well [] refl) (name_well true suffix)
+  temp_well Shared suffix = name_well Once suffix
+  temp_well New suffix = then_well (draw_well [] Anew suffix) (λ path. bytes_well path)
+  temp_well Last suffix = name_well Anew suffix
+  temp_well PipedOut suffix = if_well C.is_piping (bytes_well (hyphen ∷ [])) (name_well Once suffix)
+  temp_well PipedIn suffix = if_well C.is_piping (puts_well [] refl) (name_well Once suffix)
 
   switch_bare : (i : ℕ) → None-bounds (switch_atoms F C i)
   switch_bare i = no_bounds (map Put (hyphen ∷ name_at (names C) i)) (Break ∷ word_of (argument C i)) (bytes_bare (hyphen ∷ name_at (names C) i)) (word_bare (argument C i))
@@ -400,7 +402,7 @@ module _ (F : Facts) (C : Context) where
 
   named_file_well : (list : List (List ℕ)) → Well (named_file F C list)
   named_file_well [] = puts_well [] refl
-  named_file_well (word ∷ list) = then_well (draw_well (response_text (word ∷ list)) false (codes ".args")) (λ path. puts_well (map Put (at_sign ∷ path) ++ Break ∷ []) (broken_bare (at_sign ∷ path)))
+  named_file_well (word ∷ list) = then_well (draw_well (response_text (word ∷ list)) Anew (codes ".args")) (λ path. puts_well (map Put (at_sign ∷ path) ++ Break ∷ []) (broken_bare (at_sign ∷ path)))
 
   -- a file
   one_file : (atoms : List Atom) → Unfiled atoms → Stretched (Break ∷ FileFrom ∷ atoms ++ Break ∷ FileTo ∷ [])

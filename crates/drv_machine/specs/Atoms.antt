@@ -9,6 +9,8 @@ use Rattle.drv_machine.specs.Working.{◌>>-◌, ◌>>=◌, ◌>>◌, Atom, Brea
 use Rattle.drv_machine.specs.declared.fault.MachineFault.TheVariants as fault
 use Rattle.drv_machine.specs.declared.fault.MachineFault.TheVariants.{NoInput, NotInLink}
 use Rattle.drv_machine.specs.declared.machine.marking.Mark.TheVariants.{AsFile, AsOutput, AsRemoved, AsScript}
+use Rattle.drv_machine.specs.declared.machine.naming.Drawing.TheVariants.{Anew, Once}
+use Rattle.drv_machine.specs.declared.machine.naming.Drawing.{Drawing}
 use Rattle.drv_match.specs.Matching.{hidden_by, hits, is_hit, name_at}
 use Rattle.drv_match.specs.Pattern as switches
 use Rattle.drv_search.specs.Search.{folder_options}
@@ -64,36 +66,36 @@ module _ (F : Facts) (C : Context) where
       by None = refuse NoInput
       by (Some source) = give source.name
 
-  -- a name that is drawn, by %g or not, for a file with these contents
-  abbrev pub draw_with : List ℕ → Bool → List ℕ → Step (List ℕ)
-  draw_with contents shared suffix =
+  -- a name that is drawn so, for a file with these contents
+  abbrev pub draw_with : List ℕ → Drawing → List ℕ → Step (List ℕ)
+  draw_with contents drawing suffix =
       look (λ w. w.number) >>= λ number. needs (known (temp_name F C.seed number suffix)) >>= λ path.
-      change (λ w. record w { number = w.number + 1; drawn = w.drawn ++ record { shared = shared; suffix = suffix; path = path; contents = contents } ∷ [] }) >> give path
+      change (λ w. record w { number = w.number + 1; drawn = w.drawn ++ record { drawing = drawing; suffix = suffix; path = path; contents = contents } ∷ [] }) >> give path
 
-  abbrev pub draw : Bool → List ℕ → Step (List ℕ)
-  draw shared suffix = draw_with [] shared suffix
+  abbrev pub draw : Drawing → List ℕ → Step (List ℕ)
+  draw drawing suffix = draw_with [] drawing suffix
 
   -- the last name that was drawn so with this suffix, or else a new one
-  abbrev pub drawn_or_new : Bool → List ℕ → Step (List ℕ)
-  drawn_or_new shared suffix = look (λ w. last_drawn shared suffix w.drawn) >>= by
+  abbrev pub drawn_or_new : Drawing → List ℕ → Step (List ℕ)
+  drawn_or_new drawing suffix = look (λ w. last_drawn drawing suffix w.drawn) >>= by
     where
       by : Option (List ℕ) → Step (List ℕ)
       by (Some path) = give path
-      by None = draw shared suffix
+      by None = draw drawing suffix
 
   -- the name of %u is put, or that of %g or %U
   abbrev pub new_name_step : List ℕ → Step (Unit {0})
-  new_name_step suffix = draw false suffix >>= bytes
+  new_name_step suffix = draw Anew suffix >>= bytes
 
-  abbrev pub name_step : Bool → List ℕ → Step (Unit {0})
-  name_step shared suffix = drawn_or_new shared suffix >>= bytes
+  abbrev pub name_step : Drawing → List ℕ → Step (Unit {0})
+  name_step drawing suffix = drawn_or_new drawing suffix >>= bytes
 
   abbrev pub temp_step : TempKind → List ℕ → Step (Unit {0})
-  temp_step Shared suffix = name_step true suffix
+  temp_step Shared suffix = name_step Once suffix
   temp_step New suffix = new_name_step suffix
-  temp_step Last suffix = name_step false suffix
-  temp_step PipedOut suffix = if C.is_piping then bytes (hyphen ∷ []) else name_step true suffix
-  temp_step PipedIn suffix = if C.is_piping then nothing else name_step true suffix
+  temp_step Last suffix = name_step Anew suffix
+  temp_step PipedOut suffix = if C.is_piping then bytes (hyphen ∷ []) else name_step Once suffix
+  temp_step PipedIn suffix = if C.is_piping then nothing else name_step Once suffix
 
   -- the options for the folders of libraries
   abbrev pub folders_step : Step (Unit {0})
@@ -154,7 +156,7 @@ module _ (F : Facts) (C : Context) where
   abbrev pub named_file : List (List ℕ) → Step (Unit {0})
   named_file [] = nothing
   named_file (word ∷ words) =
-      draw_with (response_text (word ∷ words)) false (codes ".args") >>= λ path. puts (map Put (at_sign ∷ path) ++ Break ∷ [])
+      draw_with (response_text (word ∷ words)) Anew (codes ".args") >>= λ path. puts (map Put (at_sign ∷ path) ++ Break ∷ [])
 
   -- what stands in a %@ that makes a file: its words are those of the file, and then the file is named
   abbrev pub filed : Work (Unit {0}) → Work (Unit {0})

@@ -1,3 +1,5 @@
+use Rattle.drv_machine.specs.declared.machine.naming.Drawing.TheVariants.{Anew, Once}
+use Rattle.drv_machine.specs.declared.machine.naming.Drawing.{Drawing}
 use Rattle.drv_machine.specs.declared.machine.naming.Drawn.{Drawn}
 use Rattle.drv_search.specs.Search.{ends_with_slash}
 use Rattle.drv_system.specs.Facts.{Facts, variable_of}
@@ -6,7 +8,7 @@ use Rattle.drv_words.specs.Bytes.{slash}
 use Rattle.std.specs.Cmp.Lexicographic.{pointwise}
 use Rattle.std.specs.Fmt.{decimal}
 use Rattle.std.specs.Str.{byte}
-use Rattle.std.specs.Prelude.{◌&&◌, ◌+◌, ◌-◌, ◌++◌, ◌/◌, ◌%◌, Bool, List, [], ◌∷◌, None, Option, Some, codes, if◌then◌else◌, nat_eq, nat_lt, not, suc, true, false, zero, ℕ}
+use Rattle.std.specs.Prelude.{◌&&◌, ◌+◌, ◌-◌, ◌++◌, ◌/◌, ◌%◌, Bool, List, [], ◌∷◌, None, Option, Some, codes, if◌then◌else◌, nat_eq, nat_lt, suc, true, false, zero, ℕ}
 
 -- The names of temporaries (GCC manual, "Environment Variables", TMPDIR; how a name goes on from there is this project's
 -- profile).
@@ -31,20 +33,21 @@ abbrev pub temp_name : Facts → ℕ → ℕ → List ℕ → Known (List ℕ)
 temp_name F seed number suffix =
     asked (variable_of F (codes "TMPDIR")) >>= λ path. Is (folder path ++ codes "cc" ++ hex 8 seed ++ codes "_" ++ decimal number ++ suffix)
 
--- two flags are the same
-abbrev pub is_same : Bool → Bool → Bool
-is_same true other = other
-is_same false other = not other
+-- two ways to draw a name are the same
+abbrev pub is_same : Drawing → Drawing → Bool
+is_same Once Once = true
+is_same Anew Anew = true
+is_same drawing other = false
 
--- a name was drawn with this suffix, by %g or not
-abbrev pub is_drawn : Bool → List ℕ → Drawn → Bool
-is_drawn shared suffix name = is_same name.shared shared && pointwise nat_eq name.suffix suffix
+-- a name was drawn so with this suffix
+abbrev pub is_drawn : Drawing → List ℕ → Drawn → Bool
+is_drawn drawing suffix name = is_same name.drawing drawing && pointwise nat_eq name.suffix suffix
 
 -- the last of these names that was drawn so
-abbrev pub last_drawn : Bool → List ℕ → List Drawn → Option (List ℕ)
-last_drawn shared suffix [] = None
-last_drawn shared suffix (name ∷ later) = by (last_drawn shared suffix later)
+abbrev pub last_drawn : Drawing → List ℕ → List Drawn → Option (List ℕ)
+last_drawn drawing suffix [] = None
+last_drawn drawing suffix (name ∷ later) = by (last_drawn drawing suffix later)
   where
     by : Option (List ℕ) → Option (List ℕ)
     by (Some path) = Some path
-    by None = if is_drawn shared suffix name then Some name.path else None
+    by None = if is_drawn drawing suffix name then Some name.path else None

@@ -37,7 +37,7 @@ use indexed::IndexedWords;
 use inside::Inside;
 use lists::copied_words;
 pub(crate) use marking::{Mark, Marking};
-pub(crate) use naming::Drawn;
+pub(crate) use naming::{Drawing, Drawn};
 use smallvec::SmallVec;
 use std::alloc::{AllocError, Global};
 use std::marker::Model;

@@ -10,7 +10,7 @@ ghost use Rattle.drv_system.specs.Facts.{Facts};
 ghost use Rattle.drv_system.specs.Gives.{GivesKnown};
 ghost use Rattle.std.specs.Prelude.{◌≡◌, OnOk, length};
 
-use super::{Line, Machine};
+use super::{Drawing, Line, Machine};
 use crate::outside::Outside;
 use crate::{Context, MachineFault};
 use drv_system::System;
@@ -87,7 +87,7 @@ impl Machine {
             return Ok(());
         }
         let contents = respond_text(self.alloc, words)?;
-        let path = self.draw_with(contents, false, b".args", context, outside)?;
+        let path = self.draw_with(contents, Drawing::Anew, b".args", context, outside)?;
         self.put(b"@")?;
         self.put_broken(path.as_bytes(), context, outside)
     }

@@ -4,13 +4,14 @@ ghost use Rattle.drv_machine.specs.Code.Asked.{Asked};
 ghost use Rattle.drv_machine.specs.Atoms.{draw, draw_with, drawn_or_new, name_step, new_name_step};
 ghost use Rattle.drv_machine.specs.Atoms.{temp_step};
 ghost use Rattle.drv_machine.specs.Code.Running.{run};
-ghost use Rattle.drv_machine.specs.Temps.{folder, hex, hex_digit, is_drawn, last_drawn, temp_name};
+ghost use Rattle.drv_machine.specs.Temps.{folder, hex, hex_digit, is_drawn, is_same, last_drawn};
+ghost use Rattle.drv_machine.specs.Temps.{temp_name};
 ghost use Rattle.drv_system.specs.Asking.{Extends};
 ghost use Rattle.drv_system.specs.Facts.{Facts};
 ghost use Rattle.drv_system.specs.Gives.{GivesKnown};
 ghost use Rattle.drv_system.specs.Known.{Is};
 ghost use Rattle.std.specs.Option.{option_copied, option_map};
-ghost use Rattle.std.specs.Prelude.{◌≡◌, ◌<◌, ◌++◌, IfOk, OnOk, false, length};
+ghost use Rattle.std.specs.Prelude.{◌≡◌, ◌<◌, ◌++◌, IfOk, OnOk, length};
 
 use super::Machine;
 use crate::outside::Outside;
@@ -21,11 +22,32 @@ use drv_words::Word;
 use itoa::Buffer;
 use std::alloc::{AllocError, Global};
 
+/// How a name is drawn for a temporary.
+#[derive(Clone, Copy, Debug)]
+pub(crate) enum Drawing {
+    /// Once for each suffix: the name of `%g`, and of `%|` and `%m`.
+    Once,
+    /// Anew: the name of `%u`, of which `%U` is the last, and of the file of a `%@`.
+    Anew,
+}
+
+impl Drawing {
+    /// Whether two names are drawn alike.
+    fn is_same(self, other: Drawing) -> bool
+        ensures { result ≡ is_same self other }
+    {
+        matches!(
+            (self, other),
+            (Drawing::Once, Drawing::Once) | (Drawing::Anew, Drawing::Anew)
+        )
+    }
+}
+
 /// A name that was drawn for a temporary.
 #[derive(Debug, Drop)]
 pub(crate) struct Drawn {
-    /// By `%g`; otherwise by `%u` or `%U`.
-    pub(crate) shared: bool,
+    /// How it was drawn.
+    pub(crate) drawing: Drawing,
     pub(crate) suffix: Word,
     pub(crate) path: Word,
     /// What its file holds.
@@ -98,22 +120,22 @@ fn temp_name<S: System>(
     Ok(path)
 }
 
-/// Whether a name was drawn with this suffix, by `%g` or not.
-fn is_drawn(name: &Drawn, shared: bool, suffix: &[u8]) -> bool
-    ensures { result ≡ is_drawn shared suffix.now name.now }
+/// Whether a name was drawn so with this suffix.
+fn is_drawn(name: &Drawn, drawing: Drawing, suffix: &[u8]) -> bool
+    ensures { result ≡ is_drawn drawing suffix.now name.now }
 {
-    name.shared == shared && name.suffix.as_bytes() == suffix
+    name.drawing.is_same(drawing) && name.suffix.as_bytes() == suffix
 }
 
-/// The last of these names that was drawn with this suffix, by `%g` or not.
-fn last_drawn<'a>(drawn: &'a [Drawn], shared: bool, suffix: &[u8]) -> Option<&'a [u8]>
-    ensures { option_map (λ path. path.now) result ≡ last_drawn shared suffix.now drawn.now }
+/// The last of these names that was drawn so with this suffix.
+fn last_drawn<'a>(drawn: &'a [Drawn], drawing: Drawing, suffix: &[u8]) -> Option<&'a [u8]>
+    ensures { option_map (λ path. path.now) result ≡ last_drawn drawing suffix.now drawn.now }
 {
     let mut i = drawn.len();
     while i > 0 {
         i -= 1;
         let name = &drawn[i];
-        if is_drawn(name, shared, suffix) {
+        if is_drawn(name, drawing, suffix) {
             return Some(name.path.as_bytes());
         }
     }
@@ -121,12 +143,11 @@ fn last_drawn<'a>(drawn: &'a [Drawn], shared: bool, suffix: &[u8]) -> Option<&'a
 }
 
 impl Machine {
-    /// A name is drawn, by `%g` or not, for a file with these contents, and it is a temporary of
-    /// the job.
+    /// A name is drawn so for a file with these contents, and it is a temporary of the job.
     pub(crate) fn draw_with<S: System>(
         &mut self,
         contents: Word,
-        shared: bool,
+        drawing: Drawing,
         suffix: &[u8],
         context: &Context<'_>,
         outside: &mut Outside<'_, S>,
@@ -134,7 +155,7 @@ impl Machine {
         ensures asks { Asked S.events outside.old outside.new }
         ensures does { (F : Facts) → Extends outside.new.facts.now F
             → GivesKnown MachineFault.Memory (λ path. (path, self.new)) result
-            (run F context.now self.old (draw_with F context.now contents shared suffix.now)) }
+            (run F context.now self.old (draw_with F context.now contents drawing suffix.now)) }
         ensures sized { length self.new.world.hidden ≡ length self.old.world.hidden }
         ensures uncounted { OnOk result (self.new.world.items ≡ self.old.world.items) }
     {
@@ -143,7 +164,7 @@ impl Machine {
             return Err(MachineFault::Memory);
         };
         self.drawn.push(Drawn {
-            shared,
+            drawing,
             suffix: Word::from_bytes(self.alloc, suffix)?,
             path: path.clone()?,
             contents,
@@ -152,10 +173,10 @@ impl Machine {
         Ok(path)
     }
 
-    /// A name is drawn, by `%g` or not, for a file that is empty.
+    /// A name is drawn so for a file that is empty.
     fn draw<S: System>(
         &mut self,
-        shared: bool,
+        drawing: Drawing,
         suffix: &[u8],
         context: &Context<'_>,
         outside: &mut Outside<'_, S>,
@@ -163,18 +184,18 @@ impl Machine {
         ensures asks { Asked S.events outside.old outside.new }
         ensures does { (F : Facts) → Extends outside.new.facts.now F
             → GivesKnown MachineFault.Memory (λ path. (path, self.new)) result
-            (run F context.now self.old (draw F context.now shared suffix.now)) }
+            (run F context.now self.old (draw F context.now drawing suffix.now)) }
         ensures sized { length self.new.world.hidden ≡ length self.old.world.hidden }
         ensures uncounted { OnOk result (self.new.world.items ≡ self.old.world.items) }
     {
-        self.draw_with(Word::empty(self.alloc), shared, suffix, context, outside)
+        self.draw_with(Word::empty(self.alloc), drawing, suffix, context, outside)
     }
 
     /// The last name that was drawn so with this suffix, or else a new one.
     #[tactic(auto, using(crate::proofs::AskedCalls::asked_none))]
     fn drawn_or_new<S: System>(
         &mut self,
-        shared: bool,
+        drawing: Drawing,
         suffix: &[u8],
         context: &Context<'_>,
         outside: &mut Outside<'_, S>,
@@ -182,20 +203,20 @@ impl Machine {
         ensures asks { Asked S.events outside.old outside.new }
         ensures does { (F : Facts) → Extends outside.new.facts.now F
             → GivesKnown MachineFault.Memory (λ path. (path, self.new)) result
-            (run F context.now self.old (drawn_or_new F context.now shared suffix.now)) }
+            (run F context.now self.old (drawn_or_new F context.now drawing suffix.now)) }
         ensures sized { length self.new.world.hidden ≡ length self.old.world.hidden }
         ensures uncounted { OnOk result (self.new.world.items ≡ self.old.world.items) }
     {
-        if let Some(path) = last_drawn(self.drawn.as_slice(), shared, suffix) {
+        if let Some(path) = last_drawn(self.drawn.as_slice(), drawing, suffix) {
             return Ok(Word::from_bytes(self.alloc, path)?);
         }
-        self.draw(shared, suffix, context, outside)
+        self.draw(drawing, suffix, context, outside)
     }
 
     /// The name of `%g`, `%u` or `%U` is put.
     fn put_name<S: System>(
         &mut self,
-        shared: bool,
+        drawing: Drawing,
         suffix: &[u8],
         context: &Context<'_>,
         outside: &mut Outside<'_, S>,
@@ -203,11 +224,11 @@ impl Machine {
         ensures asks { Asked S.events outside.old outside.new }
         ensures does { (F : Facts) → Extends outside.new.facts.now F
             → GivesKnown MachineFault.Memory (λ u. (tt, self.new)) result
-            (run F context.now self.old (name_step F context.now shared suffix.now)) }
+            (run F context.now self.old (name_step F context.now drawing suffix.now)) }
         ensures sized { length self.new.world.hidden ≡ length self.old.world.hidden }
         ensures uncounted { OnOk result (self.new.world.items ≡ self.old.world.items) }
     {
-        let path = self.drawn_or_new(shared, suffix, context, outside)?;
+        let path = self.drawn_or_new(drawing, suffix, context, outside)?;
         self.put(path.as_bytes())
     }
 
@@ -225,7 +246,7 @@ impl Machine {
         ensures sized { length self.new.world.hidden ≡ length self.old.world.hidden }
         ensures uncounted { OnOk result (self.new.world.items ≡ self.old.world.items) }
     {
-        let path = self.draw(false, suffix, context, outside)?;
+        let path = self.draw(Drawing::Anew, suffix, context, outside)?;
         self.put(path.as_bytes())
     }
 
@@ -247,12 +268,14 @@ impl Machine {
         ensures uncounted { OnOk result (self.new.world.items ≡ self.old.world.items) }
     {
         match kind {
-            TempKind::Shared => self.put_name(true, suffix, context, outside),
+            TempKind::Shared => self.put_name(Drawing::Once, suffix, context, outside),
             TempKind::New => self.put_new_name(suffix, context, outside),
-            TempKind::Last => self.put_name(false, suffix, context, outside),
+            TempKind::Last => self.put_name(Drawing::Anew, suffix, context, outside),
             TempKind::PipedOut if context.is_piping() => self.put(b"-"),
             TempKind::PipedIn if context.is_piping() => Ok(()),
-            TempKind::PipedOut | TempKind::PipedIn => self.put_name(true, suffix, context, outside),
+            TempKind::PipedOut | TempKind::PipedIn => {
+                self.put_name(Drawing::Once, suffix, context, outside)
+            }
         }
     }
 }

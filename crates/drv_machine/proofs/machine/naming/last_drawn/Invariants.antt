@@ -6,7 +6,7 @@ use Rattle.std.specs.Prelude.{None}
 abbrev pub invariant-loop-i : goal.invariant-loop-i
 invariant-loop-i l = record {
   within : l.i ≤ length l.drawn;
-  none : last_drawn l.shared l.suffix (drop l.i l.drawn) ≡ None;
+  none : last_drawn l.drawing l.suffix (drop l.i l.drawn) ≡ None;
 }
 
 abbrev pub decreases-loop-i : goal.decreases-loop-i
