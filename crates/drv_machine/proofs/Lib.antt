@@ -5,6 +5,7 @@ pub mod ChoiceTurns
 pub mod CutFailures
 pub mod CutFiles
 pub mod CutLines
+pub mod CutOpen
 pub mod CutRows
 pub mod CutRuns
 pub mod Cutter

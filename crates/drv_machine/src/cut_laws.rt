@@ -2,11 +2,11 @@
 
 ghost use Rattle.drv_machine.specs.Atoms.{atoms, items_step, levels_left};
 ghost use Rattle.drv_machine.specs.Context as specs;
-ghost use Rattle.drv_machine.specs.Cuts.{Balanced, Stretch, Stretched, begins_file, bounds_file};
-ghost use Rattle.drv_machine.specs.Cuts.{each, failure_files, has_stray_pipe, if_any, is_broken};
-ghost use Rattle.drv_machine.specs.Cuts.{line_of, lines, open_command, output, path, path_of};
-ghost use Rattle.drv_machine.specs.Cuts.{removed, stretch_atoms, texts, whether, without_file};
-ghost use Rattle.drv_machine.specs.Cuts.{words};
+ghost use Rattle.drv_machine.specs.Cuts.{Balanced, Enclosed, Stretch, Stretched, begins_file};
+ghost use Rattle.drv_machine.specs.Cuts.{bounds_file, each, failure_files, has_stray_pipe, if_any};
+ghost use Rattle.drv_machine.specs.Cuts.{is_broken, line_of, lines, open_behind, open_command};
+ghost use Rattle.drv_machine.specs.Cuts.{open_parts, output, path, path_of, removed, stretch_atoms};
+ghost use Rattle.drv_machine.specs.Cuts.{texts, whether, without_file, words};
 ghost use Rattle.drv_machine.specs.Cutting.{Cut, all_taken, argument_words, file_words};
 ghost use Rattle.drv_machine.specs.Cutting.{nothing_cut};
 ghost use Rattle.drv_machine.specs.Outcome.{outcome};
@@ -17,13 +17,14 @@ ghost use Rattle.drv_syntax.specs.Tree.{Items};
 ghost use Rattle.drv_system.specs.Facts.{Facts};
 ghost use Rattle.drv_system.specs.Known.{Is};
 ghost use Rattle.std.specs.List.{flat_map, list_any};
-ghost use Rattle.std.specs.Prelude.{◌≡◌, ◌∷◌, ◌++◌, [], List, Ok, false, ℕ};
+ghost use Rattle.std.specs.Prelude.{◌≡◌, ◌∷◌, ◌++◌, [], List, Ok, Some, false, ℕ};
 
 /// The law that a list of atoms is cut as the list as it stands says: the output is the last word
 /// that is marked as one and begins after the last `%V`, the removed files are the words that are
 /// marked so, the failure files are the words that are marked as outputs and of each `%W` the last
 /// word that ends in it, and the cut stops exactly where, of the words in their order, the first is
-/// not found. It takes and gives nothing.
+/// not found. Where none ends that is not open, it has as many `%W` and files open as the list. It
+/// takes and gives nothing.
 pub fn cut_law()
     ensures output { (F : Facts) (C : specs.Context) (atoms : List Atom) (c : Cut)
         → all_taken F C nothing_cut atoms ≡ Is (Ok c)
@@ -36,6 +37,9 @@ pub fn cut_law()
         → each (path_of F C) (failure_files atoms) ≡ Is (Ok c.on_failure) }
     ensures found { (F : Facts) (C : specs.Context) (atoms : List Atom)
         → whether (all_taken F C nothing_cut atoms) ≡ whether (each (path F C) (words atoms)) }
+    ensures opened { (F : Facts) (C : specs.Context) (atoms : List Atom) (c : Cut)
+        (enclosed : Enclosed) (n : ℕ) → all_taken F C nothing_cut atoms ≡ Is (Ok c)
+        → open_behind atoms enclosed 0 ≡ Some n → open_parts enclosed c ≡ n }
 {}
 
 /// The law that a list of atoms in which no file begins is cut into the commands that the list as

@@ -1,4 +1,5 @@
 use Rattle.drv_machine.proofs.CutFailures.{failures_are}
+use Rattle.drv_machine.proofs.CutOpen.{open_are}
 use Rattle.drv_machine.proofs.CutRuns.{each_found, output_is, removed_are}
 use Rattle.drv_machine.proofs.cut_laws.cut_law.Goals as goal
 
@@ -13,3 +14,6 @@ returns-clause-failures c = failures_are
 
 pub returns-clause-found : goal.returns-clause-found
 returns-clause-found c = each_found
+
+pub returns-clause-opened : goal.returns-clause-opened
+returns-clause-opened c F C atoms cut enclosed n = open_are F C atoms cut enclosed n
