@@ -86,7 +86,7 @@ fn with_asked(
 }
 
 /// After `%{`, where a `!` stands: the word of a test and a colon, or what the braces begin with.
-#[inline(never)]
+#[inline(always)]
 fn negation_turn(at: u32, n: u32, inside: &[u8], w: &mut Walk) -> Result<usize, SyntaxFault>
     requires mark { get_or inside.now 0 0 ≡ ascii.exclamation_mark }
     requires some { 0 < length inside.now }
@@ -113,7 +113,7 @@ fn negation_turn(at: u32, n: u32, inside: &[u8], w: &mut Walk) -> Result<usize, 
 }
 
 /// After `%{`: a word that fills the braces or is their first test, or what they begin with.
-#[inline(never)]
+#[inline(always)]
 pub fn braces_turn(at: u32, n: u32, inside: &[u8], w: &mut Walk) -> Result<usize, SyntaxFault>
     requires room { length w.old.tokens.items < 2 ^ 28 }
     requires place { n + length inside.now < 2 ^ 30 }

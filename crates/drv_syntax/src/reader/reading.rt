@@ -4,7 +4,8 @@ ghost use Rattle.drv_syntax.specs.Code.Steps as steps;
 ghost use Rattle.drv_syntax.specs.Code.Resuming.{Follows};
 ghost use Rattle.drv_syntax.specs.Code.States.{state};
 ghost use Rattle.drv_words.specs.Gives.{Gives};
-ghost use Rattle.std.specs.Prelude.{◌≡◌, ◌<◌, ◌≤◌, ◌^◌, ◌+◌, ◌*◌, IfOk, length, OnOk, Ok, reverse};
+ghost use Rattle.std.specs.Prelude.{◌≡◌, ◌<◌, ◌≤◌, ◌^◌, ◌+◌, ◌*◌, [], IfOk, length, OnOk, Ok};
+ghost use Rattle.std.specs.Prelude.{reverse};
 
 use crate::fault::SyntaxFault;
 use crate::labels::Labels;
@@ -14,6 +15,7 @@ use crate::reader::ending::{Ended, Ending};
 use crate::reader::stages::{Context, Frame, ListKind, ListStage, Stage, StarOwner};
 use crate::reader::turns::turn;
 use crate::reader::walk::Walk;
+use crate::token::Token;
 use std::alloc::Global;
 
 fn end_part(
@@ -118,8 +120,11 @@ fn finish(n: u32, w: &mut Walk) -> Result<(), SyntaxFault>
     }
 }
 
-/// Where a text begins, which takes no memory.
-fn begun(alloc: Global) -> Walk
+/// Where a text begins, with this room for its parts.
+#[inline(always)]
+fn begun(alloc: Global, tokens: Vec<Token>, labels: Labels) -> Walk
+    requires tokens { tokens.items ≡ [] }
+    requires labels { labels ≡ [] }
     ensures { state result ≡ steps.started }
 {
     Walk {
@@ -131,8 +136,8 @@ fn begun(alloc: Global) -> Walk
             levels: 64,
         },
         waiting: Vec::new(alloc),
-        tokens: Vec::new(alloc),
-        labels: Labels::new(alloc),
+        tokens,
+        labels,
         word: Vec::new(alloc),
         kept: 0,
         trailing: 0,
@@ -140,16 +145,15 @@ fn begun(alloc: Global) -> Walk
     }
 }
 
-/// Room for the parts of a text of this size, if it is a short one.
-#[inline(always)]
-fn make_room(alloc: Global, size: usize, w: &mut Walk) -> Result<(), SyntaxFault>
-    requires { state w.old ≡ steps.started }
-    ensures { Gives SyntaxFault.Memory (λ _. state w.new) result (Ok steps.started) }
-{
-    let count = if size < 4096 { size } else { 4096 };
-    w.tokens = Vec::with_capacity(alloc, count)?;
-    w.labels = Labels::with_capacity(alloc, count)?;
-    Ok(())
+/// For how many parts there is room at first in a text of this size. Most short texts have few
+/// parts, and 64 tokens are what an allocator has at hand.
+fn first_room(size: usize) -> usize {
+    match size {
+        0..=64 => size,
+        65..=192 => 64,
+        193..=4096 => size,
+        _ => 4096,
+    }
 }
 
 /// What the bytes of a text make of a state, the first of which has this place.
@@ -222,8 +226,10 @@ pub fn read_text(alloc: Global, text: &[u8]) -> Result<Ended, SyntaxFault>
     ensures size { IfOk result (λ e. length e.walk.tokens.items ≤ 4 * length text.now + 1) }
     ensures trail { IfOk result (λ e. e.walk.trailing ≤ 4 * length text.now + 1) }
 {
-    let mut walk = begun(alloc);
-    make_room(alloc, text.len(), &mut walk)?;
+    let count = first_room(text.len());
+    let tokens = Vec::with_capacity(alloc, count)?;
+    let labels = Labels::with_capacity(alloc, count)?;
+    let mut walk = begun(alloc, tokens, labels);
     let ending = read_to_end(0, text, &mut walk)?;
     Ok(Ended { walk, ending })
 }
@@ -234,7 +240,7 @@ pub fn read_nothing(alloc: Global) -> Ended
     ensures ending { result.ending ≡ Ending.Item }
 {
     Ended {
-        walk: begun(alloc),
+        walk: begun(alloc, Vec::new(alloc), Labels::new(alloc)),
         ending: Ending::Item,
     }
 }

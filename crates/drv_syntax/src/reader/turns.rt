@@ -73,7 +73,7 @@ fn name_turn(at: u32, n: u32, text: &[u8], w: &mut Walk) -> Result<usize, Syntax
 }
 
 /// After `%(`: the name of a text, and the parenthesis after it.
-#[inline(never)]
+#[inline(always)]
 fn named_turn(at: u32, n: u32, inside: &[u8], w: &mut Walk) -> Result<usize, SyntaxFault>
     requires room { length w.old.tokens.items < 2 ^ 28 }
     requires place { n + length inside.now < 2 ^ 30 }
