@@ -280,6 +280,9 @@ fn first_turn(n: u32, b: u8, behind: &[u8], w: &mut Walk) -> Result<usize, Synta
     ensures trail { IfOk result (λ taken. w.new.trailing ≤ w.old.trailing + 4 * (taken + 1)) }
 {
     start(n, b, w)?;
+    if b != b';' {
+        return Ok(0);
+    }
     let taken = run(n + 1, behind, w)?;
     Ok(taken)
 }
