@@ -1,7 +1,7 @@
 use Rattle.drv_cc.specs.Table.{OptionRow, ignored, renames, rings, table, texts, unpaired}
 use Rattle.drv_cc.specs.declared.item.Item.{Item}
-use Rattle.drv_cc.specs.declared.table.Form.TheVariants.{Alone, Joined, Nowhere, Separate}
-use Rattle.drv_cc.specs.declared.table.Form.{Form}
+use Rattle.drv_cc.specs.declared.table.Spelling.TheVariants.{Alone, Joined, Nowhere, Separate}
+use Rattle.drv_cc.specs.declared.table.Spelling.{Spelling}
 use Rattle.drv_cc.specs.declared.table.Part.TheVariants.{Input, Lacking, Switch, Unknown}
 use Rattle.drv_cc.specs.declared.table.Part.{Part}
 use Rattle.drv_cc.specs.declared.table.Takes.TheVariants.{Behind, Either, Next, Nothing, Rest}
@@ -40,7 +40,7 @@ class_alone name =
     else if list_any (nat_eq equals) name then []
     else if is_among (texts unpaired) name then [] else paired name
 
-abbrev pub class_by : Form → List ℕ → List ℕ
+abbrev pub class_by : Spelling → List ℕ → List ℕ
 class_by Alone name = class_alone name
 class_by Joined name = []
 class_by Separate name = []
@@ -50,20 +50,20 @@ abbrev pub ring_or : List ℕ → Option (List ℕ) → List ℕ
 ring_or class None = class
 ring_or class (Some ring) = ring
 
-abbrev pub class_of : Form → List ℕ → List ℕ
-class_of form name = ring_or (class_by form name) (find (λ ring. is_among (texts ring) name) rings)
+abbrev pub class_of : Spelling → List ℕ → List ℕ
+class_of spelling name = ring_or (class_by spelling name) (find (λ ring. is_among (texts ring) name) rings)
 
 -- Items.
 
-abbrev pub item : List ℕ → List ℕ → Form → Part → Item
-item name argument form part = record { name = name; argument = argument; form = form; part = part; class = class_of form name }
+abbrev pub item : List ℕ → List ℕ → Spelling → Part → Item
+item name argument spelling part = record { name = name; argument = argument; spelling = spelling; part = part; class = class_of spelling name }
 
 -- a word that is no option
 abbrev pub plain : Part → List ℕ → Item
-plain part word = record { name = word; argument = []; form = Alone; part = part; class = [] }
+plain part word = record { name = word; argument = []; spelling = Alone; part = part; class = [] }
 
 abbrev pub by_row : OptionRow → List ℕ → Item
-by_row r argument = item r.name argument r.form r.part
+by_row r argument = item r.name argument r.spelling r.part
 
 -- how a word begins: an item, or an option that wants the next word
 pub data Start : Type 0 where
@@ -147,11 +147,11 @@ items_of known None (word ∷ words) = with_start (start_of known word) (λ want
 items_of known (Some r) (word ∷ words) = by_row r word ∷ items_of known None words
 
 -- what an item is spelled as
-abbrev pub spelled_by : Form → List ℕ → List ℕ → List (List ℕ)
+abbrev pub spelled_by : Spelling → List ℕ → List ℕ → List (List ℕ)
 spelled_by Alone name argument = name ∷ []
 spelled_by Joined name argument = (name ++ argument) ∷ []
 spelled_by Separate name argument = name ∷ argument ∷ []
 spelled_by Nowhere name argument = []
 
 abbrev pub words_of : Item → List (List ℕ)
-words_of i = spelled_by i.form i.name i.argument
+words_of i = spelled_by i.spelling i.name i.argument

@@ -1,5 +1,5 @@
-use Rattle.drv_cc.specs.declared.table.Form.TheVariants.{Alone, Joined, Nowhere, Separate}
-use Rattle.drv_cc.specs.declared.table.Form.{Form}
+use Rattle.drv_cc.specs.declared.table.Spelling.TheVariants.{Alone, Joined, Nowhere, Separate}
+use Rattle.drv_cc.specs.declared.table.Spelling.{Spelling}
 use Rattle.drv_cc.specs.declared.table.Part.TheVariants.{Library, Piece, Question, Refused, Switch, Tells}
 use Rattle.drv_cc.specs.declared.table.Part.{Part}
 use Rattle.drv_cc.specs.declared.table.Takes.TheVariants.{Behind, Either, Next, Nothing, Rest}
@@ -16,18 +16,18 @@ pub record OptionRow : Type 0 where
   pub option : List ℕ
   pub takes : Takes
   pub name : List ℕ
-  pub form : Form
+  pub spelling : Spelling
   pub part : Part
 
 -- options that are alike, in one text: between blanks an option, or an option, a > and the name that it is called by
 pub record Section : Type 0 where
   pub takes : Takes
-  pub form : Form
+  pub spelling : Spelling
   pub part : Part
   pub entries : List ℕ
 
-abbrev pub section : Takes → Form → Part → List ℕ → Section
-section takes form part entries = record { takes = takes; form = form; part = part; entries = entries }
+abbrev pub section : Takes → Spelling → Part → List ℕ → Section
+section takes spelling part entries = record { takes = takes; spelling = spelling; part = part; entries = entries }
 
 -- in a text of names each blank stands between two
 abbrev pub texts : List ℕ → List (List ℕ)
@@ -46,7 +46,7 @@ or_itself [] entry = entry
 or_itself (b ∷ name) entry = b ∷ name
 
 abbrev pub row_of : Section → List ℕ → OptionRow
-row_of s entry = record { option = option_of entry; takes = s.takes; name = or_itself (name_after entry) entry; form = s.form; part = s.part }
+row_of s entry = record { option = option_of entry; takes = s.takes; name = or_itself (name_after entry) entry; spelling = s.spelling; part = s.part }
 
 abbrev pub section_rows : Section → List OptionRow
 section_rows s = map (row_of s) (texts s.entries)

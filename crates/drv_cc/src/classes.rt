@@ -6,7 +6,7 @@ ghost use Rattle.drv_cc.specs.Table.{ignored, rings, texts, unpaired};
 ghost use Rattle.std.specs.Option.{option_map};
 ghost use Rattle.std.specs.Prelude.{◌≡◌, IfOk, find, map};
 
-use crate::table::Form;
+use crate::table::Spelling;
 use drv_words::Word;
 use std::alloc::{AllocError, Global};
 
@@ -140,21 +140,21 @@ fn class_alone(alloc: Global, name: &[u8]) -> Result<Word, AllocError>
 }
 
 /// The class of an option that stands in no ring.
-fn class_by(alloc: Global, form: Form, name: &[u8]) -> Result<Word, AllocError>
-    ensures { IfOk result (λ word. word ≡ class_by form name.now) }
+fn class_by(alloc: Global, spelling: Spelling, name: &[u8]) -> Result<Word, AllocError>
+    ensures { IfOk result (λ word. word ≡ class_by spelling name.now) }
 {
-    match form {
-        Form::Alone => class_alone(alloc, name),
-        Form::Joined | Form::Separate | Form::Nowhere => Ok(Word::empty(alloc)),
+    match spelling {
+        Spelling::Alone => class_alone(alloc, name),
+        Spelling::Joined | Spelling::Separate | Spelling::Nowhere => Ok(Word::empty(alloc)),
     }
 }
 
 /// The class of an option, by its name and how it is spelled; empty where it has none.
-pub(crate) fn class_of(alloc: Global, form: Form, name: &[u8]) -> Result<Word, AllocError>
-    ensures { IfOk result (λ word. word ≡ class_of form name.now) }
+pub(crate) fn class_of(alloc: Global, spelling: Spelling, name: &[u8]) -> Result<Word, AllocError>
+    ensures { IfOk result (λ word. word ≡ class_of spelling name.now) }
 {
     match ring_of(name) {
         Some(ring) => Word::from_bytes(alloc, ring),
-        None => class_by(alloc, form, name),
+        None => class_by(alloc, spelling, name),
     }
 }

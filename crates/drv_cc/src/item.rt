@@ -5,7 +5,7 @@ ghost use Rattle.drv_cc.specs.Items.{by_row, item, plain, words_of};
 ghost use Rattle.std.specs.Prelude.{◌≡◌, ◌++◌, IfOk, OnOk};
 
 use crate::classes::class_of;
-use crate::table::{Form, Part, Row};
+use crate::table::{Part, Row, Spelling};
 use drv_words::{Listing, Word};
 use std::alloc::{AllocError, Global};
 
@@ -17,7 +17,7 @@ pub(crate) struct Item {
     /// The option's argument.
     pub(crate) argument: Word,
     /// How it is spelled.
-    pub(crate) form: Form,
+    pub(crate) spelling: Spelling,
     /// What it is on the line.
     pub(crate) part: Part,
     /// The class of which the last item stays; empty where it has none.
@@ -31,7 +31,7 @@ impl Clone for Item {
         Ok(Item {
             name: self.name.clone()?,
             argument: self.argument.clone()?,
-            form: self.form,
+            spelling: self.spelling,
             part: self.part,
             class: self.class.clone()?,
         })
@@ -44,17 +44,17 @@ impl Item {
         alloc: Global,
         name: &[u8],
         argument: &[u8],
-        form: Form,
+        spelling: Spelling,
         part: Part,
     ) -> Result<Item, AllocError>
-        ensures { IfOk result (λ made. made ≡ item name.now argument.now form part) }
+        ensures { IfOk result (λ made. made ≡ item name.now argument.now spelling part) }
     {
         Ok(Item {
             name: Word::from_bytes(alloc, name)?,
             argument: Word::from_bytes(alloc, argument)?,
-            form,
+            spelling,
             part,
-            class: class_of(alloc, form, name)?,
+            class: class_of(alloc, spelling, name)?,
         })
     }
 
@@ -65,7 +65,7 @@ impl Item {
         Ok(Item {
             name: Word::from_bytes(alloc, word)?,
             argument: Word::empty(alloc),
-            form: Form::Alone,
+            spelling: Spelling::Alone,
             part,
             class: Word::empty(alloc),
         })
@@ -75,25 +75,25 @@ impl Item {
     pub(crate) fn by_row(alloc: Global, row: Row, argument: &[u8]) -> Result<Item, AllocError>
         ensures { IfOk result (λ made. made ≡ by_row (shown row) argument.now) }
     {
-        Item::new(alloc, row.name, argument, row.form, row.part)
+        Item::new(alloc, row.name, argument, row.spelling, row.part)
     }
 
     /// Adds the words that it is spelled as.
     pub(crate) fn add_words(&self, words: &mut Listing<Word>) -> Result<(), AllocError>
         ensures { OnOk result (words.new ≡ words.old ++ words_of self.now) }
     {
-        match self.form {
-            Form::Alone => words.push(self.name.clone()?)?,
-            Form::Joined => {
+        match self.spelling {
+            Spelling::Alone => words.push(self.name.clone()?)?,
+            Spelling::Joined => {
                 let mut word = self.name.clone()?;
                 word.extend_from_slice(self.argument.as_bytes())?;
                 words.push(word)?;
             }
-            Form::Separate => {
+            Spelling::Separate => {
                 words.push(self.name.clone()?)?;
                 words.push(self.argument.clone()?)?;
             }
-            Form::Nowhere => {}
+            Spelling::Nowhere => {}
         }
         Ok(())
     }

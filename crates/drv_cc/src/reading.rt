@@ -8,7 +8,7 @@ ghost use Rattle.std.specs.Prelude.{◌≡◌, IfOk, None, drop, length};
 use crate::classes::{ignored, paired, stands_in};
 use crate::item::Item;
 use crate::renaming::renamed;
-use crate::table::{Form, Part, Row, Takes, first_row};
+use crate::table::{Part, Row, Spelling, Takes, first_row};
 use drv_words::{Listing, Word};
 use std::alloc::{AllocError, Global};
 
@@ -72,10 +72,10 @@ fn beyond(alloc: Global, known: &[Word], word: &[u8], name: &[u8]) -> Result<Ite
 {
     let positive = paired(alloc, name)?;
     if stands_in(ignored(), positive.as_bytes()) {
-        return Item::new(alloc, name, b"", Form::Nowhere, Part::Switch);
+        return Item::new(alloc, name, b"", Spelling::Nowhere, Part::Switch);
     }
     if name.starts_with(b"-Wno-") || knows(known, name) || knows(known, head_of(name)) {
-        return Item::new(alloc, name, b"", Form::Alone, Part::Switch);
+        return Item::new(alloc, name, b"", Spelling::Alone, Part::Switch);
     }
     Item::plain(alloc, Part::Unknown, word)
 }

@@ -4,14 +4,14 @@ ghost use Rattle.drv_cc.specs.Code.Building.{section_shown};
 ghost use Rattle.drv_cc.specs.Table.{sections};
 ghost use Rattle.std.specs.Prelude.{◌≡◌, map};
 
-use crate::table::{Form, Part, Section, Takes};
+use crate::table::{Part, Section, Spelling, Takes};
 
 /// A section of the option table.
 macro_rules! section {
-    ($takes:ident, $form:ident, $part:ident, $entries:literal) => {
+    ($takes:ident, $spelling:ident, $part:ident, $entries:literal) => {
         Section {
             takes: Takes::$takes,
-            form: Form::$form,
+            spelling: Spelling::$spelling,
             part: Part::$part,
             entries: $entries,
         }

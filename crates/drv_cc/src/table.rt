@@ -25,7 +25,7 @@ pub(crate) enum Takes {
 
 /// How an item is spelled.
 #[derive(Clone, Copy)]
-pub(crate) enum Form {
+pub(crate) enum Spelling {
     /// Its name.
     Alone,
     /// Its name and its argument in one word.
@@ -66,7 +66,7 @@ pub(crate) struct Section {
     /// How they take their argument.
     pub(crate) takes: Takes,
     /// How they are spelled.
-    pub(crate) form: Form,
+    pub(crate) spelling: Spelling,
     /// What they are on the line.
     pub(crate) part: Part,
     /// Their entries.
@@ -83,7 +83,7 @@ pub(crate) struct Row {
     /// The name that it is called by.
     pub(crate) name: &'static [u8],
     /// How that is spelled.
-    pub(crate) form: Form,
+    pub(crate) spelling: Spelling,
     /// What it is on the line.
     pub(crate) part: Part,
 }
@@ -156,7 +156,7 @@ impl Section {
             option: option_of(entry),
             takes: self.takes,
             name: name_of(entry),
-            form: self.form,
+            spelling: self.spelling,
             part: self.part,
         }
     }

@@ -18,10 +18,10 @@ use Rattle.std.specs.Prelude.{◌≡◌, Bool, List, [], ◌∷◌, ◌++◌, No
 -- The code's values without their references, and how the code goes over a line. Private clauses alone cite them.
 
 abbrev pub shown : Row → OptionRow
-shown r = record { option = r.option.now; takes = r.takes; name = r.name.now; form = r.form; part = r.part }
+shown r = record { option = r.option.now; takes = r.takes; name = r.name.now; spelling = r.spelling; part = r.part }
 
 abbrev pub section_shown : CodeSection → Section
-section_shown s = section s.takes s.form s.part s.entries.now
+section_shown s = section s.takes s.spelling s.part s.entries.now
 
 abbrev pub row_shown : Option Row → Option OptionRow
 row_shown found = option_map shown found
