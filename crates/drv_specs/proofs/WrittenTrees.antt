@@ -1,7 +1,7 @@
 use Rattle.drv_specs.specs.Code.Tables.{IsWritten, are_within}
 use Rattle.drv_syntax.specs.Marks.{Within}
 use Rattle.drv_syntax.specs.Written.{IsTree}
-use Rattle.drv_syntax.specs.declared.labels.Mark.{Mark}
+use Rattle.drv_syntax.specs.declared.labels.LabelMark.{LabelMark}
 use Rattle.drv_syntax.specs.declared.written.WrittenTree.{WrittenTree}
 use Rattle.std.proofs.Common.{◌≡◌, ◌≤◌, ℕ, Bool, true, false, List, [], ◌∷◌, arith, length, refl}
 use Rattle.std.proofs.lemmas.Bool.Decides.{nat_tests}
@@ -14,7 +14,7 @@ both true true e = (refl, refl)
 both true false e = absurd cc
 both false t e = absurd cc
 
-within_tested : (n : ℕ) (marks : List Mark) → are_within n marks ≡ true → Within n marks
+within_tested : (n : ℕ) (marks : List LabelMark) → are_within n marks ≡ true → Within n marks
 within_tested n [] e = tt
 within_tested n (m ∷ marks) e =
     let here : (nat_le m.start m.end && nat_le m.end n) ≡ true = (both _ _ e).0

@@ -1,7 +1,7 @@
 //! The built-in texts with their trees. Written by tools/builtin_trees out of specs/Builtin.antt.
 
 use crate::builtin_specs::{Named, Pair, PairText};
-use drv_syntax::{Leaf, Mark, TempKind, TestKind, Token, TokenKind, WrittenTree};
+use drv_syntax::{LabelMark, Leaf, TempKind, TestKind, Token, TokenKind, WrittenTree};
 
 /// The tokens of a tree: each what it is, where it begins and ends, and the place of the first one
 /// that isn't inside it.
@@ -20,7 +20,7 @@ macro_rules! tokens {
 /// `!` before it.
 macro_rules! marks {
     ($($start:literal $end:literal $starred:literal $negated:literal),*) => {
-        &[$(Mark {
+        &[$(LabelMark {
             start: $start,
             end: $end,
             starred: $starred,

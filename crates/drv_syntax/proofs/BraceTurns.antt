@@ -1,12 +1,12 @@
 use Rattle.drv_syntax.proofs.Runs.{run_steps, walked}
 use Rattle.drv_syntax.proofs.TestTurns.{after_star, begins_word, begun_takes, choice_begins, negated_begins, reads_on, step_takes}
 use Rattle.drv_syntax.specs.Bytes.{is_mark, is_word}
-use Rattle.drv_syntax.specs.Code.Steps.{Walk, after_item, at_stage, in_word, next_open, open_braces, pass, step, with_asked, with_emit}
+use Rattle.drv_syntax.specs.Code.Steps.{ReaderState, after_item, at_stage, in_word, next_open, open_braces, pass, step, with_asked, with_emit}
 use Rattle.drv_syntax.specs.Code.Turns.{after_pattern}
 use Rattle.drv_syntax.specs.Labels.{no_label}
 use Rattle.drv_syntax.specs.declared.directives.BraceKind.TheVariants as braces
 use Rattle.drv_syntax.specs.declared.reader.stages.Behind.TheVariants as behinds
-use Rattle.drv_syntax.specs.declared.reader.stages.Form.TheVariants as forms
+use Rattle.drv_syntax.specs.declared.reader.stages.HeadForm.TheVariants as forms
 use Rattle.drv_syntax.specs.declared.reader.stages.HeadStage.TheVariants as places
 use Rattle.drv_syntax.specs.declared.reader.stages.Stage.TheVariants.{Braces}
 use Rattle.drv_syntax.specs.declared.token.Token.{Token}
@@ -44,19 +44,19 @@ closed_tokens ts at n end =
     size = omega (arith, length-append (ts ++ opened at ∷ []) (leaf ∷ []), length-append ts (opened at ∷ []))
 
 -- the braces end after the pattern
-module _ (v : Walk) (at n end : ℕ) (starred : Bool) (word : List ℕ) where
-  abbrev filled : List Token → Walk
+module _ (v : ReaderState) (at n end : ℕ) (starred : Bool) (word : List ℕ) where
+  abbrev filled : List Token → ReaderState
   filled ts = after_item v.context (end + 1) (record v { tokens = ts; labels = (v.labels ++ no_label ∷ []) ++ after_pattern (behinds.Switch n end false starred) word ∷ [] })
 
   filled_is : walked (filled (slice_set ((v.tokens ++ opened at ∷ []) ++ pattern n end (length (v.tokens ++ opened at ∷ []) + 1) ∷ []) (length v.tokens) (emitted at (end + 1) (length ((v.tokens ++ opened at ∷ []) ++ pattern n end (length (v.tokens ++ opened at ∷ []) + 1) ∷ [])))))
       ≡ walked (with_emit at n end starred word v)
   filled_is = ap (λ (ts : List Token). walked (filled ts)) (closed_tokens v.tokens at n end)
 
-module _ (v u : Walk) (at k n : ℕ) (text word : List ℕ) (begins : (is_word (get_or text 0 0) && not (is_mark (get_or text 0 0))) ≡ true) (size : k ≡ prefix_len is_word text) (is : word ≡ take k text) where
-  abbrev braced : Walk
+module _ (v u : ReaderState) (at k n : ℕ) (text word : List ℕ) (begins : (is_word (get_or text 0 0) && not (is_mark (get_or text 0 0))) ≡ true) (size : k ≡ prefix_len is_word text) (is : word ≡ take k text) where
+  abbrev braced : ReaderState
   braced = open_braces at braces.InPlace v
 
-  abbrev worded : Walk
+  abbrev worded : ReaderState
   worded = in_word (record { kind = braces.InPlace; part = next_open v at }) forms.Fresh n false word (open_braces at braces.InPlace v)
 
   word_taken : pass braced n text ≡ pass worded (n + k) (drop k text)
@@ -86,7 +86,7 @@ module _ (v u : Walk) (at k n : ℕ) (text word : List ℕ) (begins : (is_word (
       further : k + 1 + 1 ≡ k + 2
       further = omega arith
 
-      starred : Walk
+      starred : ReaderState
       starred = after_star (record { kind = braces.InPlace; part = next_open v at }) forms.Fresh n false (n + k) worded
 
       place : n + (k + 1) ≡ n + k + 1
@@ -102,12 +102,12 @@ module _ (v u : Walk) (at k n : ℕ) (text word : List ℕ) (begins : (is_word (
       last = run_steps (open_braces at braces.InPlace v) starred n (k + 1) 125 text inside (sym end) first.1 u (ended ∙ d)
 
 -- a ! before the word, and a colon behind it
-module _ (v u : Walk) (at k n : ℕ) (text rest word : List ℕ) (some : 0 < length text) (mark : get_or text 0 0 ≡ 33) (is_rest : rest ≡ drop 1 text)
+module _ (v u : ReaderState) (at k n : ℕ) (text rest word : List ℕ) (some : 0 < length text) (mark : get_or text 0 0 ≡ 33) (is_rest : rest ≡ drop 1 text)
     (begins : (is_word (get_or rest 0 0) && not (is_mark (get_or rest 0 0))) ≡ true) (size : k ≡ prefix_len is_word rest) (is : word ≡ take k rest) where
-  abbrev marked : Walk
+  abbrev marked : ReaderState
   marked = at_stage (Braces (record { kind = braces.InPlace; part = next_open v at }) forms.Fresh (places.TestNegated n)) (open_braces at braces.InPlace v)
 
-  abbrev negated_word : List ℕ → Walk
+  abbrev negated_word : List ℕ → ReaderState
   negated_word p = in_word (record { kind = braces.InPlace; part = next_open v at }) forms.Fresh n true p marked
 
   pub negated_asks : k < length rest → get_or rest k 0 ≡ 58 → walked (with_asked at n (n + 1 + k) true word v) ≡ walked u

@@ -7,8 +7,8 @@ use Rattle.drv_syntax.proofs.Rows.{one_byte, pattern_from, when}
 use Rattle.drv_syntax.proofs.RowsBraces.{emitted_only, on_same, tested_only, tests_of, tests_space, unsigned}
 use Rattle.drv_syntax.proofs.RowsDue.{start_row, test_function_row}
 use Rattle.drv_syntax.proofs.Wanted.{After, Inside, Of, Outside, Wanted, WantsList}
-use Rattle.drv_syntax.specs.Bytes.{is_function, is_function_front, is_mark, is_space, is_word}
-use Rattle.drv_syntax.specs.Contexts.{Context, in_arguments, in_braces, in_x}
+use Rattle.drv_syntax.specs.Bytes.{is_function, is_function_front, is_mark, is_white, is_word}
+use Rattle.drv_syntax.specs.Contexts.{ListContext, in_arguments, in_braces, in_x}
 use Rattle.drv_syntax.specs.Fronts as cuts
 use Rattle.drv_syntax.specs.Fronts.{AreFrontItems, CutsChoices, CutsLater, CutsPatterns, CutsTests, RunsOut}
 use Rattle.drv_syntax.specs.Outcome as o
@@ -27,26 +27,26 @@ is_word_mark b e = each (λ (x : ℕ). is_word x ≡ true) (46 ∷ 44 ∷ []) b 
 
 -- white space in front
 
-tests_cut_space : {size b : ℕ} {c : Context} {text : List ℕ} → is_space b ≡ true → CutsTests size c text → CutsTests size c (b ∷ text)
+tests_cut_space : {size b : ℕ} {c : ListContext} {text : List ℕ} → is_white b ≡ true → CutsTests size c text → CutsTests size c (b ∷ text)
 tests_cut_space e (cuts.in_asked d g q) = cuts.in_asked (s.space e d) g q
 tests_cut_space e (cuts.after_asked d g q f) = cuts.after_asked (s.space e d) g q f
 tests_cut_space e (cuts.after_bar d g q f t) = cuts.after_bar (s.space e d) g q f t
 
-patterns_cut_space : {b : ℕ} {text : List ℕ} → is_space b ≡ true → CutsPatterns text → CutsPatterns (b ∷ text)
+patterns_cut_space : {b : ℕ} {text : List ℕ} → is_white b ≡ true → CutsPatterns text → CutsPatterns (b ∷ text)
 patterns_cut_space e (cuts.in_pattern d q) = cuts.in_pattern (s.space e d) q
 patterns_cut_space e (cuts.after_pattern d q f) = cuts.after_pattern (s.space e d) q f
 patterns_cut_space e (cuts.after_and d q f t) = cuts.after_and (s.space e d) q f t
 
-choices_cut_space : {size b : ℕ} {c : Context} {text : List ℕ} → is_space b ≡ true → CutsChoices size c text → CutsChoices size c (b ∷ text)
+choices_cut_space : {size b : ℕ} {c : ListContext} {text : List ℕ} → is_white b ≡ true → CutsChoices size c text → CutsChoices size c (b ∷ text)
 choices_cut_space e (cuts.in_tests d) = cuts.in_tests (tests_cut_space e d)
 choices_cut_space e (cuts.in_choice t d) = cuts.in_choice (tests_space e t) d
 choices_cut_space e (cuts.in_others t d l) = cuts.in_others (tests_space e t) d l
 
-later_cut_space : {size b : ℕ} {c : Context} {text : List ℕ} → is_space b ≡ true → CutsLater size c text → CutsLater size c (b ∷ text)
+later_cut_space : {size b : ℕ} {c : ListContext} {text : List ℕ} → is_white b ≡ true → CutsLater size c text → CutsLater size c (b ∷ text)
 later_cut_space e (cuts.in_next d) = cuts.in_next (choices_cut_space e d)
 later_cut_space e (cuts.in_default d t) = cuts.in_default (s.space e d) t
 
-due_cut_space : (size : ℕ) (h : Head) (b : ℕ) (text : List ℕ) → is_space b ≡ true → due_cut size h text → due_cut size h (b ∷ text)
+due_cut_space : (size : ℕ) (h : Head) (b : ℕ) (text : List ℕ) → is_white b ≡ true → due_cut size h text → due_cut size h (b ∷ text)
 due_cut_space size h b text e (inl (inl (others, end, t, r))) = inl (inl (others, end, tests_space e t, r))
 due_cut_space size h b text e (inl (inr t)) = inl (inr (tests_cut_space e t))
 due_cut_space size h b text e (inr (x, y, p)) = inr (x, y, patterns_cut_space e p)
@@ -56,7 +56,7 @@ patterns_cut : (size : ℕ) {t u v : List ℕ} {p : Pattern} → AreSpaces t u �
 patterns_cut size d q (inl f) = cuts.after_pattern d q f
 patterns_cut size d q (inr (rest, f, t)) = cuts.after_and d q f t
 
-module _ (size : ℕ) (K : Outside) (ending : (c : Context) (all : Items) (rest : List ℕ) → AreFrontItems size c rest → K c all rest) where
+module _ (size : ℕ) (K : Outside) (ending : (c : ListContext) (all : Items) (rest : List ℕ) → AreFrontItems size c rest → K c all rest) where
   -- functions
 
   pub test_function_cut_row : (h : Head) (begun : ℕ) (negated : Bool) (at : ℕ) (name : List ℕ) (n b : ℕ) (text : List ℕ) → CutAfter size K b text (turn (o.TestFunction h begun negated at name) n b)
@@ -178,9 +178,9 @@ module _ (size : ℕ) (K : Outside) (ending : (c : Context) (all : Items) (rest 
 
   -- after white space or not
   due_cut_row : (h : Head) (same_place : Place) (n b : ℕ) (text : List ℕ) → At size n (b ∷ text) → h.patterns ≡ [] → CutAfter size K b text (o.turn_due h same_place n b)
-      → due_cut size h (b ∷ text) ⊎ ((is_space b ≡ true) × Cut size same_place text)
+      → due_cut size h (b ∷ text) ⊎ ((is_white b ≡ true) × Cut size same_place text)
   due_cut_row h same_place n b text a z g =
-      when (CutAfter size K b text) (is_space b) _ _ g (λ e g. inr (e, g)) (λ e1 g.
+      when (CutAfter size K b text) (is_white b) _ _ g (λ e g. inr (e, g)) (λ e1 g.
       when (CutAfter size K b text) (b == 33) _ _ g
       (λ e g. let r = g z in inl (rw (same b 33 e) (due_cut_of h n true (33 ∷ text) (33 ∷ text) r.0 s.no_space a (s.not_sign r.1) r.2)))
       (λ e2 g. inl (due_cut_of h n false (b ∷ text) (b ∷ text) (b ∷ text) s.no_space a (s.plain_sign (s.at_byte e2)) (asked_cut_row h n false n b text a z g))))
@@ -188,7 +188,7 @@ module _ (size : ℕ) (K : Outside) (ending : (c : Context) (all : Items) (rest 
   pub test_due_cut_row : (h : Head) (n b : ℕ) (text : List ℕ) → At size n (b ∷ text) → CutAfter size K b text (o.turn_due h (o.TestDue h) n b) → Cut size (o.TestDue h) (b ∷ text)
   test_due_cut_row h n b text a g z = by (due_cut_row h (o.TestDue h) n b text a z g)
     where
-      by : due_cut size h (b ∷ text) ⊎ ((is_space b ≡ true) × (h.patterns ≡ [] → due_cut size h text)) → due_cut size h (b ∷ text)
+      by : due_cut size h (b ∷ text) ⊎ ((is_white b ≡ true) × (h.patterns ≡ [] → due_cut size h text)) → due_cut size h (b ∷ text)
       by (inl x) = x
       by (inr (e, x)) = due_cut_space size h b text e (x z)
 
@@ -196,7 +196,7 @@ module _ (size : ℕ) (K : Outside) (ending : (c : Context) (all : Items) (rest 
       → Wanted size K (o.ChoiceStart h) (b ∷ text) ⊎ Cut size (o.ChoiceStart h) (b ∷ text)
   start_cut_row h n b text a g = at_choices h.choices refl g
     where
-      by : due_cut size h (b ∷ text) ⊎ ((is_space b ≡ true) × (h.patterns ≡ [] → start_cut size h text)) → h.patterns ≡ [] → start_cut size h (b ∷ text)
+      by : due_cut size h (b ∷ text) ⊎ ((is_white b ≡ true) × (h.patterns ≡ [] → start_cut size h text)) → h.patterns ≡ [] → start_cut size h (b ∷ text)
       by (inl x) z = inl x
       by (inr (e, x)) z = spaced (x z)
         where
@@ -230,7 +230,7 @@ module _ (size : ℕ) (K : Outside) (ending : (c : Context) (all : Items) (rest 
 
   pub negated_cut_row : (h : Head) (begun n b : ℕ) (text : List ℕ) → At size n (b ∷ text) → CutAfter size K b text (turn (o.TestNegated h begun) n b) → Cut size (o.TestNegated h begun) (b ∷ text)
   negated_cut_row h begun n b text a g z =
-      when (CutAfter size K b text) (is_space b) _ _ g (λ e g. let r = g z in (r.0, s.space e r.1, r.2)) (λ e g. (b ∷ text, s.no_space, asked_cut_row h begun true n b text a z g))
+      when (CutAfter size K b text) (is_white b) _ _ g (λ e g. let r = g z in (r.0, s.space e r.1, r.2)) (λ e g. (b ∷ text, s.no_space, asked_cut_row h begun true n b text a z g))
 
   -- a pattern that is due
 
@@ -250,7 +250,7 @@ module _ (size : ℕ) (K : Outside) (ending : (c : Context) (all : Items) (rest 
 
   pub pattern_cut_row : (h : Head) (n b : ℕ) (text : List ℕ) → At size n (b ∷ text) → CutAfter size K b text (o.turn_pattern h n b) → Cut size (o.PatternDue h) (b ∷ text)
   pattern_cut_row h n b text a g y =
-      when (CutAfter size K b text) (is_space b) _ _ g (λ e g. patterns_cut_space e (g y)) (λ e1 g.
+      when (CutAfter size K b text) (is_white b) _ _ g (λ e g. patterns_cut_space e (g y)) (λ e1 g.
       when (CutAfter size K b text) (b == 92) _ _ g (λ e g. rw (same b 92 e) (due_escape h n text y.1 (g (inr (y.0.0, y.0.1, refl))))) (λ e2 g.
       when (CutAfter size K b text) (is_word b) _ _ g
       (λ e g. due_word h n b text (b ∷ text) y.1 (λ r. cuts.out_byte e2 e r) (λ run end q. s.quoted_byte e2 e q) (g (inr (y.0.0, y.0.1, refl)))) (λ e3 g.

@@ -4,14 +4,14 @@ use Rattle.drv_syntax.proofs.Rows.{ends_at, when}
 use Rattle.drv_syntax.proofs.RowsBraces.{on_same}
 use Rattle.drv_syntax.proofs.RowsDue.{function_row}
 use Rattle.drv_syntax.proofs.Wanted.{After, Inside, Outside, Wanted, WantsList, rest_unstarred}
-use Rattle.drv_syntax.specs.Bytes.{is_blank, is_function, is_function_front, is_name, is_option, is_suffix, is_word}
+use Rattle.drv_syntax.specs.Bytes.{is_blank, is_function, is_function_front, is_name_byte, is_option, is_suffix, is_word}
 use Rattle.drv_syntax.specs.Directives.{directive_of, is_allowed, said}
 use Rattle.drv_syntax.specs.declared.directives.BraceKind.{BraceKind}
 use Rattle.drv_syntax.specs.declared.directives.BraceKind.TheVariants.{InPlace}
 use Rattle.drv_syntax.specs.declared.directives.Directive.{Directive}
 use Rattle.drv_syntax.specs.declared.directives.Directive.TheVariants.{Named, Nowhere, OfStar, Whole, WithBraces, WithCall, WithMarkedBraces, WithName, WithOption, WithPattern, WithSaying, WithSuffix}
 use Rattle.drv_syntax.specs.declared.directives.SayKind.{SayKind}
-use Rattle.drv_syntax.specs.Contexts.{Context, Mixed, Nobody, Owner, Starred, in_arguments, is_end, is_said}
+use Rattle.drv_syntax.specs.Contexts.{ListContext, Mixed, Nobody, Owner, Starred, in_arguments, is_end, is_said}
 use Rattle.drv_syntax.specs.Fronts as cuts
 use Rattle.drv_syntax.specs.Fronts.{AreFrontItems, CutsBrace, CutsCall, CutsChoices, CutsDirective, CutsItem, RunsOut}
 use Rattle.drv_syntax.specs.Outcome as o
@@ -36,7 +36,7 @@ escape_out f text (inr (b, rest, e, r)) = rw e (cuts.out_escape r)
 
 -- functions
 
-pub call_longer : (size : ℕ) (c : Context) (name : List ℕ) (b : ℕ) (text : List ℕ) (P : List ℕ → Items → List ℕ → Type 0) → call_cut size c (name ++ b ∷ []) text P → call_cut size c name (b ∷ text) P
+pub call_longer : (size : ℕ) (c : ListContext) (name : List ℕ) (b : ℕ) (text : List ℕ) (P : List ℕ → Items → List ℕ → Type 0) → call_cut size c (name ++ b ∷ []) text P → call_cut size c name (b ∷ text) P
 call_longer size c name b text P (inl f) = inl (sym (ap is_function_front (append_assoc name (b ∷ []) text)) ∙ f)
 call_longer size c name b text P (inr (others, mid, x, fn, inl f)) = inr (b ∷ others, mid, ap (λ (z : List ℕ). b ∷ z) x, sym (ap is_function (append_assoc name (b ∷ []) others)) ∙ fn, inl f)
 call_longer size c name b text P (inr (others, mid, x, fn, inr (arguments, rest, d, p))) =
@@ -48,14 +48,14 @@ call_longer size c name b text P (inr (others, mid, x, fn, inr (arguments, rest,
       inr (arguments, rest, d, subst (λ (z : List ℕ). P z arguments rest) (append_assoc name (b ∷ []) others) p),
     )
 
-pub call_of : (size : ℕ) (c : Context) (text : List ℕ) → (c.levels == 0) ≡ false → call_cut size c [] text (λ n arguments rest. ⊥) → CutsCall size c text
+pub call_of : (size : ℕ) (c : ListContext) (text : List ℕ) → (c.levels == 0) ≡ false → call_cut size c [] text (λ n arguments rest. ⊥) → CutsCall size c text
 call_of size c text e (inl f) = cuts.in_function e f
 call_of size c text e (inr (others, mid, x, fn, inl f)) = rw x (cuts.in_function_arguments others e fn f)
 call_of size c text e (inr (others, mid, x, fn, inr (arguments, rest, d, p))) = absurd p
 
 -- braces
 
-pub choices_cut : (size : ℕ) (c : Context) (text : List ℕ) → tests_cut size c no_test text → CutsChoices size c text
+pub choices_cut : (size : ℕ) (c : ListContext) (text : List ℕ) → tests_cut size c no_test text → CutsChoices size c text
 choices_cut size c text (inl (others, end, t, (mid, x, inl f))) = cuts.in_choice (subst (AreTests size c text others) x t) f
 choices_cut size c text (inl (others, end, t, (mid, x, inr (items, next, d, l)))) = cuts.in_others (subst (AreTests size c text others) x t) d l
 choices_cut size c text (inr t) = cuts.in_tests t
@@ -65,7 +65,7 @@ brace_cut size here at kind text e (inl (inl t)) = cuts.cut_chooses e (choices_c
 brace_cut size here at kind text e (inl (inr (x, y, p))) = cuts.cut_emits e p
 brace_cut size here at kind text e (inr (x, l)) = absurd x
 
-module _ (size : ℕ) (K : Outside) (ending : (c : Context) (all : Items) (rest : List ℕ) → AreFrontItems size c rest → K c all rest) where
+module _ (size : ℕ) (K : Outside) (ending : (c : ListContext) (all : Items) (rest : List ℕ) → AreFrontItems size c rest → K c all rest) where
   -- a list that ends with the text, or in an item here
   pub list_cut : (here : Here) (text : List ℕ) → AreFrontItems size here.context text → WantsList size K here text
   list_cut here text f = record { items = none; rest = text; spelled = λ e. s.no_item e; front = λ g. g; reached = λ due last g. g; outside = ending here.context (join here.done none) text f }
@@ -80,7 +80,7 @@ module _ (size : ℕ) (K : Outside) (ending : (c : Context) (all : Items) (rest 
       when (CutAfter size K b text) (b == 124) _ _ h (λ e g. absurd g) (λ e6 g. absurd g))))))
 
   -- after a list in a directive, the directive goes on, or the text ends in it
-  pub opened_list : (w : Waiting) (c : Context) (text : List ℕ) → WantsList size (Beyond size K w) (record { context = c; done = none }) text ⊎ ⊥
+  pub opened_list : (w : Waiting) (c : ListContext) (text : List ℕ) → WantsList size (Beyond size K w) (record { context = c; done = none }) text ⊎ ⊥
       → WantsList size (Inside size K w) (record { context = c; done = none }) text ⊎ InsideCut size w c text
   opened_list w c text (inr x) = absurd x
   opened_list w c text (inl l) = by l.outside
@@ -199,9 +199,9 @@ module _ (size : ℕ) (K : Outside) (ending : (c : Context) (all : Items) (rest 
 
   pub name_cut_row : (here : Here) (at : ℕ) (name : List ℕ) (n b : ℕ) (text : List ℕ) → CutAfter size K b text (o.turn_name here at name n b) → Cut size (o.NameText here at name) (b ∷ text)
   name_cut_row here at [] n b text h l =
-      when (CutAfter size K b text) (is_name b) _ _ h (λ e g. let r = g (omega arith) in (b ∷ r.0, s.run_goes e r.1, r.2)) (λ e g. absurd g)
+      when (CutAfter size K b text) (is_name_byte b) _ _ h (λ e g. let r = g (omega arith) in (b ∷ r.0, s.run_goes e r.1, r.2)) (λ e g. absurd g)
   name_cut_row here at (x ∷ xs) n b text h l =
-      when (CutAfter size K b text) (is_name b) _ _ h
+      when (CutAfter size K b text) (is_name_byte b) _ _ h
       (λ e h. when (CutAfter size K b text) (nat_le (length (x ∷ xs ++ b ∷ [])) 255) _ _ h
       (λ f g. let r = g (le_true f) in (b ∷ r.0, s.run_goes e r.1, subst (λ (y : List ℕ). length y ≤ 255) (append_assoc (x ∷ xs) (b ∷ []) r.0) r.2)) (λ f g. absurd g)) (λ e1 h.
       when (CutAfter size K b text) (b == 41) _ _ h (λ e g. absurd g) (λ e g. absurd g))

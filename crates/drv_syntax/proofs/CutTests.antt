@@ -6,8 +6,8 @@ use Rattle.drv_syntax.proofs.Rows.{one_byte, pattern_longer, when}
 use Rattle.drv_syntax.proofs.RowsBraces.{on_same, rest_space}
 use Rattle.drv_syntax.proofs.RowsTests.{after_marked, after_row, after_word}
 use Rattle.drv_syntax.proofs.Wanted.{Inside, Of, Outside, Wanted, WantsList, rest_starred, rest_unstarred, tests_bar, tests_colon}
-use Rattle.drv_syntax.specs.Bytes.{is_space, is_word}
-use Rattle.drv_syntax.specs.Contexts.{Context, in_braces, in_x}
+use Rattle.drv_syntax.specs.Bytes.{is_white, is_word}
+use Rattle.drv_syntax.specs.Contexts.{ListContext, in_braces, in_x}
 use Rattle.drv_syntax.specs.Fronts as cuts
 use Rattle.drv_syntax.specs.Fronts.{AreFrontItems, CutsLater, RunsOut}
 use Rattle.drv_syntax.specs.Outcome as o
@@ -74,16 +74,16 @@ as_possible h begun m k negated p q t = by h.choices h.tests negated h.patterns 
 
 -- white space in front
 
-pub patterns_after_space : (size b : ℕ) (text : List ℕ) → is_space b ≡ true → after_patterns size text → after_patterns size (b ∷ text)
+pub patterns_after_space : (size b : ℕ) (text : List ℕ) → is_white b ≡ true → after_patterns size text → after_patterns size (b ∷ text)
 patterns_after_space size b text e (inl d) = inl (s.space e d)
 patterns_after_space size b text e (inr (rest, d, p)) = inr (rest, s.space e d, p)
 
-tests_after_space : (size b : ℕ) (c : Context) (tests : Tests) (text : List ℕ) → is_space b ≡ true → after_tests size c tests text → after_tests size c tests (b ∷ text)
+tests_after_space : (size b : ℕ) (c : ListContext) (tests : Tests) (text : List ℕ) → is_white b ≡ true → after_tests size c tests text → after_tests size c tests (b ∷ text)
 tests_after_space size b c tests text e (inl (others, end, t, r)) = inl (others, end, rest_space e t, r)
 tests_after_space size b c tests text e (inr (inl d)) = inr (inl (s.space e d))
 tests_after_space size b c tests text e (inr (inr (rest, d, t))) = inr (inr (rest, s.space e d, t))
 
-space_cut : (size : ℕ) (h : Head) (b : ℕ) (text : List ℕ) (ps : Option (List (Span × Pattern))) (ts : Option Tests) → is_space b ≡ true → some_after size h ps ts text → some_after size h ps ts (b ∷ text)
+space_cut : (size : ℕ) (h : Head) (b : ℕ) (text : List ℕ) (ps : Option (List (Span × Pattern))) (ts : Option Tests) → is_white b ≡ true → some_after size h ps ts text → some_after size h ps ts (b ∷ text)
 space_cut size h b text (Some ps) ts e (inl g) = inl (patterns_after_space size b text e g)
 space_cut size h b text None ts e (inl g) = absurd g
 space_cut size h b text ps (Some tests) e (inr g) = inr (tests_after_space size b (in_braces h.here.context) tests text e g)
@@ -114,7 +114,7 @@ x_cut size h n text (inr (items, b, rest, q, k, d, f, a, r, g)) = by (each (λ (
         = on_same _ _ (sym (brace_resumes h n h.tests items k) ∙ subst (λ (x : ℕ). o.resume_x h n h.tests items k x ≡ On q) e r) in
         absurd (subst (λ (x : Place). Cut size x rest) (sym p) g)
 
-module _ (size : ℕ) (K : Outside) (ending : (c : Context) (all : Items) (rest : List ℕ) → AreFrontItems size c rest → K c all rest) where
+module _ (size : ℕ) (K : Outside) (ending : (c : ListContext) (all : Items) (rest : List ℕ) → AreFrontItems size c rest → K c all rest) where
   -- after a test
 
   colon_cut : (h : Head) (ps : Option (List (Span × Pattern))) (ts : Option Tests) (bare : Bool) (n : ℕ) (text : List ℕ) → At size n (58 ∷ text) → CutAfter size K 58 text (o.turn_colon h ts bare n)
@@ -154,7 +154,7 @@ module _ (size : ℕ) (K : Outside) (ending : (c : Context) (all : Items) (rest 
   pub after_cut_row : (h : Head) (ps : Option (List (Span × Pattern))) (ts : Option Tests) (bare : Bool) (n b : ℕ) (text : List ℕ) → At size n (b ∷ text)
       → CutAfter size K b text (o.turn_after h ps ts bare n b) → Wanted size K (o.BehindTest h ps ts bare) (b ∷ text) ⊎ Cut size (o.BehindTest h ps ts bare) (b ∷ text)
   after_cut_row h ps ts bare n b text a g =
-      when (CutAfter size K b text) (is_space b) _ _ g (λ e g. inr (λ f. space_cut size h b text ps ts e (g f))) (λ e1 g.
+      when (CutAfter size K b text) (is_white b) _ _ g (λ e g. inr (λ f. space_cut size h b text ps ts e (g f))) (λ e1 g.
       when (CutAfter size K b text) (b == 125) _ _ g (λ e g. brace_none h ps n b text g) (λ e2 g.
       when (CutAfter size K b text) (b == 38) _ _ g (λ e g. inr (and_cut h ps ts bare b text (same b 38 e) g)) (λ e3 g.
       when (CutAfter size K b text) (b == 58) _ _ g
@@ -284,7 +284,7 @@ module _ (size : ℕ) (K : Outside) (ending : (c : Context) (all : Items) (rest 
       when (CutAfter size K b text) (b == 42) _ _ g (λ e g. inr (same b 42 e, left (g (z, tt, inl (t tt))))) (λ e1 g.
       when (CutAfter size K b text) (b == 125) _ _ g (λ e g. absurd g) (λ e2 g.
       when (CutAfter size K b text) (b == 38) _ _ g (λ e g. inl (e1, rw (same b 38 e) (inr (text, s.no_space, g y)))) (λ e3 g.
-      when (CutAfter size K b text) (is_space b) _ _ g (λ e g. inl (e1, patterns_after_space size b text e (left (g (y, tt, inl tt))))) (λ e4 g. absurd g))))
+      when (CutAfter size K b text) (is_white b) _ _ g (λ e g. inl (e1, patterns_after_space size b text e (left (g (y, tt, inl tt))))) (λ e4 g. absurd g))))
 
   pub mark_cut_row : (h : Head) (begun : ℕ) (negated : Bool) (mark n b : ℕ) (text : List ℕ) → At size n (b ∷ text) → CutAfter size K b text (o.turn_mark h begun negated mark n b)
       → Cut size (o.TestMark h begun negated mark) (b ∷ text)

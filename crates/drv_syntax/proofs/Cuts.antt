@@ -1,8 +1,8 @@
 use Rattle.drv_syntax.proofs.Parts.{HasChoice}
 use Rattle.drv_syntax.proofs.Wanted.{IsPatternRest, IsTestsRest, Of, Outside, Wanted}
-use Rattle.drv_syntax.specs.Bytes.{is_function, is_function_front, is_name, is_option, is_word}
+use Rattle.drv_syntax.specs.Bytes.{is_function, is_function_front, is_name_byte, is_option, is_word}
 use Rattle.drv_syntax.specs.declared.directives.Directive.TheVariants.{WithOption}
-use Rattle.drv_syntax.specs.Contexts.{Context, Top, in_arguments, in_braces, in_x, is_end, is_said}
+use Rattle.drv_syntax.specs.Contexts.{ListContext, Top, in_arguments, in_braces, in_x, is_end, is_said}
 use Rattle.drv_syntax.specs.Fronts.{AreFrontItems, CutsAsked, CutsDirective, CutsItem, CutsLater, CutsPatterns, CutsTests, RunsOut}
 use Rattle.drv_syntax.specs.Outcome as o
 use Rattle.drv_syntax.specs.Outcome.{Head, On, Place, Turn, Waiting, emitted, fresh, join_tests, resume, tested}
@@ -50,17 +50,17 @@ module _ (size : ℕ) where
   after_patterns text = AreSpaces text [] ⊎ ((rest : List ℕ) × AreSpaces text (38 ∷ rest) × CutsPatterns rest)
 
   -- from the colon of an alternative with these tests
-  abbrev pub choice_cut : Context → Tests → List ℕ → Type 0
+  abbrev pub choice_cut : ListContext → Tests → List ℕ → Type 0
   choice_cut c tests end =
       (mid : List ℕ) × (end ≡ 58 ∷ mid)
       × (AreFrontItems size (in_x c tests) mid ⊎ ((items : Items) × (next : List ℕ) × AreItems size (in_x c tests) mid items (59 ∷ next) × CutsLater size c next))
 
   -- where a test is due, after these tests
-  abbrev pub tests_cut : Context → Tests → List ℕ → Type 0
+  abbrev pub tests_cut : ListContext → Tests → List ℕ → Type 0
   tests_cut c tests text = ((others : Tests) × (end : List ℕ) × AreTests size c text others end × choice_cut c (join_tests tests others) end) ⊎ CutsTests size c text
 
   -- after the last of these tests
-  abbrev pub after_tests : Context → Tests → List ℕ → Type 0
+  abbrev pub after_tests : ListContext → Tests → List ℕ → Type 0
   after_tests c tests text =
       ((others : Tests) × (end : List ℕ) × IsTestsRest size c text others end × choice_cut c (join_tests tests others) end)
       ⊎ (AreSpaces text [] ⊎ ((rest : List ℕ) × AreSpaces text (124 ∷ rest) × CutsTests size c rest))
@@ -106,7 +106,7 @@ module _ (size : ℕ) where
       ⊎ (((m : ℕ) × At size m text × IsQuoted is_word text [] text × Stops (λ b. b == 42) text × Of (λ _. after_patterns text) (emitted h begun m negated (pattern (mark ∷ []) false)))
       ⊎ starred_cut h begun negated mark [] text))
 
-  abbrev pub call_cut : Context → List ℕ → List ℕ → (List ℕ → Items → List ℕ → Type 0) → Type 0
+  abbrev pub call_cut : ListContext → List ℕ → List ℕ → (List ℕ → Items → List ℕ → Type 0) → Type 0
   call_cut c name text behind =
       (is_function_front (name ++ text) ≡ true)
       ⊎ ((others : List ℕ) × (mid : List ℕ) × (text ≡ others ++ 40 ∷ mid) × (is_function (name ++ others) ≡ true)
@@ -132,7 +132,7 @@ module _ (size : ℕ) where
   Cut (o.OptionEscape here at option) text = Escaped is_option text
   Cut (o.SayingText here at kind words) text = RunsOut (is_said here.context.kind) text
   Cut (o.SayingEscape here at kind words back) text = Escaped (is_said here.context.kind) text
-  Cut (o.NameText here at name) text = length name ≤ 255 → (run : List ℕ) × IsRun is_name text run [] × (length (name ++ run) ≤ 255)
+  Cut (o.NameText here at name) text = length name ≤ 255 → (run : List ℕ) × IsRun is_name_byte text run [] × (length (name ++ run) ≤ 255)
   Cut (o.HideStart here at) text = RunsOut is_word text
   Cut (o.HideWord here at word) text = RunsOut is_word text
   Cut (o.HideEscape here at word) text = Escaped is_word text
@@ -163,7 +163,7 @@ FrontAround size [] c all rest = c.kind ≡ Top → AreFrontItems size c rest
 FrontAround size (w ∷ ws) c all rest = Beyond size (FrontAround size ws) w c all rest
 
 -- what is left of a list in a directive, where the directive ends inside the list or after it
-abbrev pub InsideCut : ℕ → Waiting → Context → List ℕ → Type 0
+abbrev pub InsideCut : ℕ → Waiting → ListContext → List ℕ → Type 0
 InsideCut size w c text =
     AreFrontItems size c text
     ⊎ ((items : Items) × (b : ℕ) × (rest : List ℕ) × (q : Place) × (k : ℕ) × AreItems size c text items (b ∷ rest) × (is_end c.kind b ≡ true) × At size k (b ∷ rest) × (resume w items k b ≡ On q)

@@ -2,7 +2,7 @@ use Rattle.drv_syntax.proofs.Patterns.{Closing, asks_mark, asks_words, after_clo
 use Rattle.drv_syntax.proofs.FrontLeads.{IsFrontFrom, IsTreeOrCut, ended, on}
 use Rattle.drv_syntax.proofs.Leads.{Leads, and_then, differs, each, further, goes, one, same_place, same_run, to}
 use Rattle.drv_syntax.proofs.Words.{alike, at_front, marked_word, no_word, quoted_from, stops, stops_at}
-use Rattle.drv_syntax.specs.Bytes.{is_mark, is_space, is_word}
+use Rattle.drv_syntax.specs.Bytes.{is_mark, is_white, is_word}
 use Rattle.drv_syntax.specs.declared.directives.BraceKind.{BraceKind}
 use Rattle.drv_syntax.specs.Outcome as o
 use Rattle.drv_syntax.specs.Outcome.{Goes, Here, Place, Waiting, after_pattern, emitted_item, fresh, run, turn}
@@ -38,13 +38,13 @@ marked_or_not (b ∷ rest) = by (is_mark b) refl
     by false e = inl (s.at_byte e)
 
 -- white space or none, and then a byte
-spaced : {ws : List Waiting} {p behind : Place} {q : ℕ → Place} {m c : ℕ} {text end rest : List ℕ} → ((b : ℕ) → is_space b ≡ true → turn p m b ≡ Goes behind) → turn p m c ≡ Goes (q (m + 1))
+spaced : {ws : List Waiting} {p behind : Place} {q : ℕ → Place} {m c : ℕ} {text end rest : List ℕ} → ((b : ℕ) → is_white b ≡ true → turn p m b ≡ Goes behind) → turn p m c ≡ Goes (q (m + 1))
     → ((others : List ℕ) → AreSpaces others (c ∷ rest) → Leads ws behind (m + 1) others ws q rest) → AreSpaces text end → end ≡ c ∷ rest → Leads ws p m text ws q rest
 spaced blank byte k s.no_space e = rw e (one byte)
 spaced blank byte k (s.space {b} {text = others} f q) e = goes (blank b f) (k others (rw e at q))
 
 -- white space up to the end
-spaced_end : {place : ℕ} {ws : List Waiting} {p behind : Place} {m : ℕ} {text end : List ℕ} → IsTreeOrCut place (o.finish p m) → ((b : ℕ) → is_space b ≡ true → turn p m b ≡ Goes behind)
+spaced_end : {place : ℕ} {ws : List Waiting} {p behind : Place} {m : ℕ} {text end : List ℕ} → IsTreeOrCut place (o.finish p m) → ((b : ℕ) → is_white b ≡ true → turn p m b ≡ Goes behind)
     → ((others : List ℕ) → AreSpaces others [] → IsFrontFrom place ws behind (m + 1) others) → AreSpaces text end → end ≡ [] → IsFrontFrom place ws p m text
 spaced_end {ws = ws} {p} {m = m} g blank k s.no_space e = rw e (ended ws p m g)
 spaced_end g blank k (s.space {b} {text = others} f q) e = on (blank b f) (k others (rw e at q))
@@ -63,7 +63,7 @@ module _ (ws : List Waiting) (here : Here) (at : ℕ) (kind : BraceKind) where
   abbrev pub at_mark : ℕ → ℕ → Place
   at_mark start mark = o.TestMark head start false mark
 
-  pub mark_blank : (start mark m b : ℕ) → is_space b ≡ true → turn (at_mark start mark) m b ≡ Goes (o.BehindTest head (Some (alone start mark m)) None true)
+  pub mark_blank : (start mark m b : ℕ) → is_white b ≡ true → turn (at_mark start mark) m b ≡ Goes (o.BehindTest head (Some (alone start mark m)) None true)
   mark_blank start mark m b e =
       each (λ (x : ℕ). turn (at_mark start mark) m x ≡ Goes (o.BehindTest head (Some (alone start mark m)) None true)) (32 ∷ 9 ∷ 10 ∷ []) b e (refl, (refl, (refl, tt)))
 
@@ -137,7 +137,7 @@ module _ (ws : List Waiting) (here : Here) (at : ℕ) (kind : BraceKind) where
   }
 
   -- patterns from a place that reads its first one so, after white space
-  pub patterns_from : {size : ℕ} {text rest : List ℕ} {ps : List (Span × Pattern)} (p : Place) (before : List (Span × Pattern)) → ((n b : ℕ) → is_space b ≡ true → turn p n b ≡ Goes p)
+  pub patterns_from : {size : ℕ} {text rest : List ℕ} {ps : List (Span × Pattern)} (p : Place) (before : List (Span × Pattern)) → ((n b : ℕ) → is_white b ≡ true → turn p n b ≡ Goes p)
       → ((n : ℕ) (u end : List ℕ) (pat : Pattern) → IsPattern u pat end → First ws p n u here at kind before pat end) → (n : ℕ) → At size n text → ArePatterns size text ps rest
       → Leads ws p n text ws (λ m. o.AtItem (emitted_item (emitting here at kind []) m (before ++ ps))) rest
   patterns_from {size} {text} p before blank first n a (s.last_pattern {n = i} {m = j} {u = u} {v} {p = pat} sp ai q aj sp') =

@@ -7,13 +7,13 @@ use Rattle.drv_syntax.proofs.Parts.{HasChoice, after_asked, default_turn, has_ch
 use Rattle.drv_syntax.proofs.Patterns.{Asks, asks_escape, asks_mark, asks_word, after_space, choosing, due_asks, due_space, emitting, negated_asks, negated_space, pattern_space, spaces_read, start_asks, start_space}
 use Rattle.drv_syntax.proofs.Shortest.{IsFront, not_bad, shortest}
 use Rattle.drv_syntax.proofs.Words.{hide_word, marked_word, option_text, saying_text, test_word}
-use Rattle.drv_syntax.specs.Bytes.{is_function_front, is_mark, is_space, is_word}
+use Rattle.drv_syntax.specs.Bytes.{is_function_front, is_mark, is_white, is_word}
 use Rattle.drv_syntax.specs.Directives.{directive_of, is_allowed}
 use Rattle.drv_syntax.specs.declared.directives.BraceKind.{BraceKind}
 use Rattle.drv_syntax.specs.declared.directives.BraceKind.TheVariants.{InPlace}
 use Rattle.drv_syntax.specs.declared.directives.Directive.{Directive}
 use Rattle.drv_syntax.specs.declared.directives.SayKind.{SayKind}
-use Rattle.drv_syntax.specs.Contexts.{Context, in_arguments, in_braces, in_x, top}
+use Rattle.drv_syntax.specs.Contexts.{ListContext, in_arguments, in_braces, in_x, top}
 use Rattle.drv_syntax.specs.Faults.{is_closed_by_end}
 use Rattle.drv_syntax.specs.Fronts as cuts
 use Rattle.drv_syntax.specs.Fronts.{AreFrontItems, CutsAsked, CutsBrace, CutsChoices, CutsDirective, CutsItem, CutsLater, CutsPatterns, CutsTests, Front, RunsOut}
@@ -66,7 +66,7 @@ due_out ws h n q =
 
 -- patterns
 
-patterns_out : {text : List ℕ} (ws : List Waiting) (here : Here) (at : ℕ) (kind : BraceKind) (p : Place) (before : List (Span × Pattern)) → ((n b : ℕ) → is_space b ≡ true → turn p n b ≡ Goes p)
+patterns_out : {text : List ℕ} (ws : List Waiting) (here : Here) (at : ℕ) (kind : BraceKind) (p : Place) (before : List (Span × Pattern)) → ((n b : ℕ) → is_white b ≡ true → turn p n b ≡ Goes p)
     → ((n : ℕ) (u end : List ℕ) (pat : Pattern) → IsPattern u pat end → First ws p n u here at kind before pat end) → ((n : ℕ) (u : List ℕ) → RunsOut is_word u → IsFrontFrom at ws p n u)
     → (n : ℕ) → CutsPatterns text → IsFrontFrom at ws p n text
 patterns_out ws here at kind p before blank first out n (cuts.in_pattern {u = u} sp q) = onto (spaces_read ws p blank n sp) (λ m f. out m u q)
@@ -88,11 +88,11 @@ sign_out {ws = ws} h (s.not_sign sp) k p asks bang n a =
 -- no star stands before white space at the end
 no_star_end : {text end : List ℕ} → AreSpaces text end → end ≡ [] → Stops (λ b. b == 42) text
 no_star_end s.no_space f = rw f s.at_end
-no_star_end (s.space {b} g q) f = s.at_byte (other is_space b 42 g refl)
+no_star_end (s.space {b} g q) f = s.at_byte (other is_white b 42 g refl)
 
 -- tests, and what is after them
-tests_to : {size : ℕ} {c c' : Context} {text end : List ℕ} {tests : Tests} → AreTests size c' text tests end → in_braces c ≡ c' → (ws : List Waiting) (past : Items) (at : ℕ) (kind : BraceKind) (cs : Choices)
-    (before : Tests) (p : Place) → ((n b : ℕ) → is_space b ≡ true → turn p n b ≡ Goes p) → ((n : ℕ) → Asks p n (head c past at kind cs before) n false)
+tests_to : {size : ℕ} {c c' : ListContext} {text end : List ℕ} {tests : Tests} → AreTests size c' text tests end → in_braces c ≡ c' → (ws : List Waiting) (past : Items) (at : ℕ) (kind : BraceKind) (cs : Choices)
+    (before : Tests) (p : Place) → ((n b : ℕ) → is_white b ≡ true → turn p n b ≡ Goes p) → ((n : ℕ) → Asks p n (head c past at kind cs before) n false)
     → ((n : ℕ) → turn p n 33 ≡ Goes (o.TestNegated (head c past at kind cs before) n)) → (n : ℕ) → At size n text
     → ((m : ℕ) (middle : Tests) (patterns : Option (List (Span × Pattern))) → At size m end
     → IsFrontFrom at ws (o.BehindTest (choosing (list c past) at kind cs middle) patterns (Some (join_tests before tests)) false) m end) → IsFrontFrom at ws p n text
@@ -121,7 +121,7 @@ tests_to {size} {c} {text = text} {end} (s.next_test {n = i} {m = j} {u = u} {w 
     (λ m middle patterns r. subst (λ (y : Tests). IsFrontFrom at ws (o.BehindTest (choosing (list c past) at kind cs middle) patterns (Some y) false) m end)
     (sym (join_tests_assoc before (test (span i j) negated asked no_test) tests)) (k m middle patterns r))))))
 
-cut_level : {size : ℕ} {c : Context} {text : List ℕ} → CutsBrace size c text → (c.levels == 0) ≡ false
+cut_level : {size : ℕ} {c : ListContext} {text : List ℕ} → CutsBrace size c text → (c.levels == 0) ≡ false
 cut_level (cuts.cut_emits e d) = e
 cut_level (cuts.cut_chooses e d) = e
 
@@ -149,19 +149,19 @@ item_cut_place size n (b ∷ []) = n
 item_cut_place size n (b ∷ c ∷ text) = cut_place size n (directive_of c)
 
 mutual
-  items_front : {size : ℕ} {c : Context} {text : List ℕ} → AreFrontItems size c text → (w : Waiting) (ws : List Waiting) (past : Items) (n : ℕ) → At size n text → IsFrontFrom 0 (w ∷ ws) (at_item c past) n text
+  items_front : {size : ℕ} {c : ListContext} {text : List ℕ} → AreFrontItems size c text → (w : Waiting) (ws : List Waiting) (past : Items) (n : ℕ) → At size n text → IsFrontFrom 0 (w ∷ ws) (at_item c past) n text
   items_front {c = c} cuts.items_end w ws past n a = ended (w ∷ ws) (at_item c past) n (inr (past, refl))
   items_front {size} {c} {text} (cuts.whole_item {rest = rest} {item} d f) w ws past n a =
       onto (item_read d (w ∷ ws) past n a) (λ m g. items_front f w ws (join past (more (span n m) item none)) m (further size n m text rest a g))
   items_front (cuts.cut_item d) w ws past n a = inside (item_front d (w ∷ ws) past n a)
 
-  pub item_front : {size : ℕ} {c : Context} {text : List ℕ} → CutsItem size c text → (ws : List Waiting) (past : Items) (n : ℕ) → At size n text
+  pub item_front : {size : ℕ} {c : ListContext} {text : List ℕ} → CutsItem size c text → (ws : List Waiting) (past : Items) (n : ℕ) → At size n text
       → IsFrontFrom (item_cut_place size n text) ws (at_item c past) n text
   item_front {c = c} cuts.cut_escape ws past n a = on refl (ended ws (o.BehindBackslash (list c past) n) (n + 1) (inl refl))
   item_front {c = c} cuts.cut_percent ws past n a = on refl (ended ws (o.BehindPercent (list c past) n) (n + 1) (inl refl))
   item_front {c = c} (cuts.cut_directive {b} e d) ws past n a = on refl (directive_front b e refl d ws past n (n + 1) (omega (arith, a)))
 
-  directive_front : {size : ℕ} {c : Context} {f : Directive} {text : List ℕ} (b : ℕ) → is_allowed c.in_arguments b ≡ true → directive_of b ≡ f → CutsDirective size c f text → (ws : List Waiting) (past : Items) (at n : ℕ)
+  directive_front : {size : ℕ} {c : ListContext} {f : Directive} {text : List ℕ} (b : ℕ) → is_allowed c.in_arguments b ≡ true → directive_of b ≡ f → CutsDirective size c f text → (ws : List Waiting) (past : Items) (at n : ℕ)
       → At size n (b ∷ text) → IsFrontFrom (cut_place size at f) ws (o.BehindPercent (list c past) at) n (b ∷ text)
   directive_front {size} {c} b e f (cuts.cut_suffix {kind = kind}) ws past at n a =
       on {q = o.SuffixStart (list c past) at kind} (rw (e, f) refl) (on refl (ended ws (o.SuffixPercent (list c past) at kind (n + 1)) (n + 1 + 1) (inl (ap Cut (last_place size (n + 1) (omega (arith, a)))))))
@@ -186,14 +186,14 @@ mutual
   directive_front {c = c} b e f (cuts.cut_marked_braces {kind = kind} d) ws past at n a =
       on {q = o.BraceOpen (list c past) at kind} (rw (e, f, cut_level d) refl) (on refl (brace_front d ws past at kind (n + 1 + 1) (omega (arith, a))))
 
-  brace_front : {size : ℕ} {c : Context} {text : List ℕ} → CutsBrace size c text → (ws : List Waiting) (past : Items) (at : ℕ) (kind : BraceKind) (n : ℕ) → At size n text
+  brace_front : {size : ℕ} {c : ListContext} {text : List ℕ} → CutsBrace size c text → (ws : List Waiting) (past : Items) (at : ℕ) (kind : BraceKind) (n : ℕ) → At size n text
       → IsFrontFrom at ws (o.ChoiceStart (fresh (list c past) at kind)) n text
   brace_front {c = c} (cuts.cut_emits e d) ws past at kind n a =
       patterns_out ws (list c past) at kind (o.ChoiceStart (fresh (list c past) at kind)) [] (start_space (fresh (list c past) at kind)) (first_pattern ws (list c past) at kind)
       (λ m u q. word_out ws (start_asks (fresh (list c past) at kind) m) q) n d
   brace_front (cuts.cut_chooses e d) ws past at kind n a = choices_front d refl ws past at kind no_choice n a
 
-  choices_front : {size : ℕ} {c c' : Context} {text : List ℕ} → CutsChoices size c' text → in_braces c ≡ c' → (ws : List Waiting) (past : Items) (at : ℕ) (kind : BraceKind) (before : Choices) (n : ℕ)
+  choices_front : {size : ℕ} {c c' : ListContext} {text : List ℕ} → CutsChoices size c' text → in_braces c ≡ c' → (ws : List Waiting) (past : Items) (at : ℕ) (kind : BraceKind) (before : Choices) (n : ℕ)
       → At size n text → IsFrontFrom at ws (o.ChoiceStart (head c past at kind before no_test)) n text
   choices_front {c = c} (cuts.in_tests d) e ws past at kind before n a =
       tests_front d e ws past at kind before no_test (o.ChoiceStart (head c past at kind before no_test)) (start_space (head c past at kind before no_test))
@@ -201,27 +201,27 @@ mutual
   choices_front {size} {c} (cuts.in_choice {tests = tests} dt di) e ws past at kind before n a =
       tests_to dt e ws past at kind before no_test (o.ChoiceStart (head c past at kind before no_test)) (start_space (head c past at kind before no_test))
       (start_asks (head c past at kind before no_test)) (start_sign (head c past at kind before no_test)) n a
-      (λ m middle patterns b. opening (ap (λ (x : Context). Opens (list_in (in_x x tests)) (WaitsX (head c past at kind before tests) m)) e)
+      (λ m middle patterns b. opening (ap (λ (x : ListContext). Opens (list_in (in_x x tests)) (WaitsX (head c past at kind before tests) m)) e)
       (items_front di (WaitsX (head c past at kind before tests) m) ws none (m + 1) (omega (arith, b))))
   choices_front {size} {c} (cuts.in_others {tests = tests} {items = items} dt di dl) e ws past at kind before n a =
       tests_to dt e ws past at kind before no_test (o.ChoiceStart (head c past at kind before no_test)) (start_space (head c past at kind before no_test))
       (start_asks (head c past at kind before no_test)) (start_sign (head c past at kind before no_test)) n a
-      (λ m middle patterns b. onto (opens (ap (λ (x : Context). Opens (list_in (in_x x tests)) (WaitsX (head c past at kind before tests) m)) e)
+      (λ m middle patterns b. onto (opens (ap (λ (x : ListContext). Opens (list_in (in_x x tests)) (WaitsX (head c past at kind before tests) m)) e)
       (and_then (items_read di (WaitsX (head c past at kind before tests) m ∷ ws) none (m + 1) (omega (arith, b)))
       (λ k g. closes {q = λ _. o.ChoiceStart (head c past at kind (join_choices before (alternative m tests items no_choice)) no_test)} refl
       (next_resumes (head c past at kind before tests) m items k dt))))
       (λ l h. later_front dl e ws past at kind (join_choices before (alternative m tests items no_choice)) (has_choice before _ _ _ _) l (omega (arith, b, h))))
 
-  later_front : {size : ℕ} {c c' : Context} {text : List ℕ} → CutsLater size c' text → in_braces c ≡ c' → (ws : List Waiting) (past : Items) (at : ℕ) (kind : BraceKind) (before : Choices) → HasChoice before
+  later_front : {size : ℕ} {c c' : ListContext} {text : List ℕ} → CutsLater size c' text → in_braces c ≡ c' → (ws : List Waiting) (past : Items) (at : ℕ) (kind : BraceKind) (before : Choices) → HasChoice before
       → (n : ℕ) → At size n text → IsFrontFrom at ws (o.ChoiceStart (head c past at kind before no_test)) n text
   later_front (cuts.in_next d) e ws past at kind before y n a = choices_front d e ws past at kind before n a
   later_front {c = c} (cuts.in_default sp di) e ws past at kind before y n a =
       onto (spaces_read ws (o.ChoiceStart (head c past at kind before no_test)) (start_space (head c past at kind before no_test)) n sp)
-      (λ m f. opening (default_turn (head c past at kind before no_test) m y ∙ ap (λ (x : Context). Opens (list_in (in_x x no_test)) (WaitsX (head c past at kind before no_test) m)) e)
+      (λ m f. opening (default_turn (head c past at kind before no_test) m y ∙ ap (λ (x : ListContext). Opens (list_in (in_x x no_test)) (WaitsX (head c past at kind before no_test) m)) e)
       (items_front di (WaitsX (head c past at kind before no_test) m) ws none (m + 1) (omega (arith, a, f))))
 
-  tests_front : {size : ℕ} {c c' : Context} {text : List ℕ} → CutsTests size c' text → in_braces c ≡ c' → (ws : List Waiting) (past : Items) (at : ℕ) (kind : BraceKind) (cs : Choices) (before : Tests)
-      (p : Place) → ((n b : ℕ) → is_space b ≡ true → turn p n b ≡ Goes p) → ((n : ℕ) → Asks p n (head c past at kind cs before) n false)
+  tests_front : {size : ℕ} {c c' : ListContext} {text : List ℕ} → CutsTests size c' text → in_braces c ≡ c' → (ws : List Waiting) (past : Items) (at : ℕ) (kind : BraceKind) (cs : Choices) (before : Tests)
+      (p : Place) → ((n b : ℕ) → is_white b ≡ true → turn p n b ≡ Goes p) → ((n : ℕ) → Asks p n (head c past at kind cs before) n false)
       → ((n : ℕ) → turn p n 33 ≡ Goes (o.TestNegated (head c past at kind cs before) n)) → (n : ℕ) → At size n text → IsFrontFrom at ws p n text
   tests_front {size} {c} {text = text} (cuts.in_asked {u = u} sp sign d) e ws past at kind cs before p blank asks bang n a =
       onto (spaces_read ws p blank n sp) (λ x f. sign_out (head c past at kind cs before) sign (λ r y start g h. asked_front d e ws past at kind cs before g h) p asks bang x (further size n x text u a f))
@@ -242,26 +242,26 @@ mutual
       (due_space (head c past at kind cs (join_tests before (test (span x y) negated asked no_test))))
       (due_asks (head c past at kind cs (join_tests before (test (span x y) negated asked no_test)))) (λ _. refl) (z + 1) (omega (arith, b, g, h))))))
 
-  asked_front : {size : ℕ} {c c' : Context} {v : List ℕ} {p : Place} {n start : ℕ} {negated : Bool} → CutsAsked size c' v → in_braces c ≡ c' → (ws : List Waiting) (past : Items) (at : ℕ) (kind : BraceKind)
+  asked_front : {size : ℕ} {c c' : ListContext} {v : List ℕ} {p : Place} {n start : ℕ} {negated : Bool} → CutsAsked size c' v → in_braces c ≡ c' → (ws : List Waiting) (past : Items) (at : ℕ) (kind : BraceKind)
       (cs : Choices) (before : Tests) → Asks p n (head c past at kind cs before) start negated → At size n v → IsFrontFrom at ws p n v
   asked_front (cuts.cut_switch st q) e ws past at kind cs before asks a = word_out ws asks q
   asked_front {c = c} {n = n} {start} {negated} (cuts.cut_marked {b = b} m q) e ws past at kind cs before asks a = on (asks_mark asks b m) (mark_out ws (head c past at kind cs before) start negated b (n + 1) q)
   asked_front {c = c} {p = p} {n} {start} {negated} (cuts.cut_call lv) e ws past at kind cs before asks a =
-      let h : turn p n 37 ≡ Goes (o.TestPercent (head c past at kind cs before) start negated n) = asks.byte 37 refl refl refl ∙ rw (ap (λ (x : Context). x.levels == 0) e ∙ lv) refl in
+      let h : turn p n 37 ≡ Goes (o.TestPercent (head c past at kind cs before) start negated n) = asks.byte 37 refl refl refl ∙ rw (ap (λ (x : ListContext). x.levels == 0) e ∙ lv) refl in
       on h (ended ws (o.TestPercent (head c past at kind cs before) start negated n) (n + 1) (inl refl))
   asked_front {c = c} {p = p} {n} {start} {negated} (cuts.cut_result (cuts.in_function {text = text} lv g)) e ws past at kind cs before asks a =
-      let h : turn p n 37 ≡ Goes (o.TestPercent (head c past at kind cs before) start negated n) = asks.byte 37 refl refl refl ∙ rw (ap (λ (x : Context). x.levels == 0) e ∙ lv) refl in
+      let h : turn p n 37 ≡ Goes (o.TestPercent (head c past at kind cs before) start negated n) = asks.byte 37 refl refl refl ∙ rw (ap (λ (x : ListContext). x.levels == 0) e ∙ lv) refl in
       on h (on refl
       (function_out n (o.TestFunction (head c past at kind cs before) start negated n) (λ x. Opens (list_in (in_arguments (in_braces c))) (WaitsTest (head c past at kind cs before) start negated x))
       (λ x k y. refl) (λ x k. refl) ws [] text (n + 1 + 1) g))
   asked_front {size} {c} {p = p} {n} {start} {negated} (cuts.cut_result (cuts.in_function_arguments {text = text} name lv fn d)) e ws past at kind cs before asks a =
-      let h : turn p n 37 ≡ Goes (o.TestPercent (head c past at kind cs before) start negated n) = asks.byte 37 refl refl refl ∙ rw (ap (λ (x : Context). x.levels == 0) e ∙ lv) refl in
+      let h : turn p n 37 ≡ Goes (o.TestPercent (head c past at kind cs before) start negated n) = asks.byte 37 refl refl refl ∙ rw (ap (λ (x : ListContext). x.levels == 0) e ∙ lv) refl in
       on h (on refl (onto
       (name_read n (o.TestFunction (head c past at kind cs before) start negated n) (λ x. Opens (list_in (in_arguments (in_braces c))) (WaitsTest (head c past at kind cs before) start negated x)) (λ x k y. refl)
       ws [] name (n + 1 + 1) text fn)
       (λ m g. opening
       (name_end n (o.TestFunction (head c past at kind cs before) start negated n) (λ x. Opens (list_in (in_arguments (in_braces c))) (WaitsTest (head c past at kind cs before) start negated x)) (λ x k y. refl)
-      name m fn ∙ ap (λ (x : Context). Opens (list_in (in_arguments x)) (WaitsTest (head c past at kind cs before) start negated name)) e)
+      name m fn ∙ ap (λ (x : ListContext). Opens (list_in (in_arguments x)) (WaitsTest (head c past at kind cs before) start negated name)) e)
       (items_front d (WaitsTest (head c past at kind cs before) start negated name) ws none (m + 1) (omega (arith, a, g))))))
 
 pub front_is_read : (text : List ℕ) → Front text → IsFront (read text)

@@ -1,10 +1,10 @@
 use Rattle.drv_syntax.proofs.Patterns.{Asks, asks_mark}
 use Rattle.drv_syntax.proofs.Leads.{Leads, and_then, goes, none_of, one, other, same_run, to}
 use Rattle.drv_syntax.proofs.Words.{alike, at_front, marked_word, quoted, quoted_from, saying_text, stops, stops_at}
-use Rattle.drv_syntax.specs.Bytes.{is_blank, is_mark, is_name, is_plain, is_space, is_word}
+use Rattle.drv_syntax.specs.Bytes.{is_blank, is_mark, is_name_byte, is_plain, is_white, is_word}
 use Rattle.drv_syntax.specs.Directives.{said}
 use Rattle.drv_syntax.specs.declared.directives.SayKind.{SayKind}
-use Rattle.drv_syntax.specs.Contexts.{Context, InArguments, InX, Kind, Top, bar_in, is_end, is_said, newline_in}
+use Rattle.drv_syntax.specs.Contexts.{ListContext, InArguments, InX, Kind, Top, bar_in, is_end, is_said, newline_in}
 use Rattle.drv_syntax.specs.Outcome as o
 use Rattle.drv_syntax.specs.Outcome.{Goes, Head, Here, On, Place, Waiting, emitted, join, join_choices, join_tests, placed, resume_x, run, tested, then_item, turn, turn_item}
 use Rattle.drv_syntax.specs.Spelling as s
@@ -85,13 +85,13 @@ saying_read {words = words} {rest = rest} ws here at kind n q (s.by_other e) =
     and_then (quoted (saying_text here at kind) ws [] n q) (λ m f. same_run (alike ws (o.SayingText here at kind words) (o.AtItem (placed here at m (said kind words))) m rest refl
     (λ c r g. rw (at_front c r (stops_at q) g, at_front c r (stops q) g, at_front c r e g) refl)))
 
-name_byte : (here : Here) (at : ℕ) (w : List ℕ) (n b : ℕ) → is_name b ≡ true → length (w ++ b ∷ []) ≤ 255 → turn (o.NameText here at w) n b ≡ Goes (o.NameText here at (w ++ b ∷ []))
+name_byte : (here : Here) (at : ℕ) (w : List ℕ) (n b : ℕ) → is_name_byte b ≡ true → length (w ++ b ∷ []) ≤ 255 → turn (o.NameText here at w) n b ≡ Goes (o.NameText here at (w ++ b ∷ []))
 name_byte here at [] n b e f = rw e refl
 name_byte here at (x ∷ xs) n b e f =
     let g : nat_le (length (x ∷ xs ++ b ∷ [])) 255 ≡ true = grind (arith, nat_tests) in
     rw (e, g) refl
 
-pub name_text : {text run rest : List ℕ} (ws : List Waiting) (here : Here) (at : ℕ) (w : List ℕ) (n : ℕ) → IsRun is_name text run rest → length (w ++ run) ≤ 255
+pub name_text : {text run rest : List ℕ} (ws : List Waiting) (here : Here) (at : ℕ) (w : List ℕ) (n : ℕ) → IsRun is_name_byte text run rest → length (w ++ run) ≤ 255
     → Leads ws (o.NameText here at w) n text ws (λ _. o.NameText here at (w ++ run)) rest
 name_text {text = text} ws here at w n (s.run_ends e) h = same_run (ap (λ (x : List ℕ). run ws (o.NameText here at x) n text) (sym (append-nil w)))
 name_text ws here at w n (s.run_goes {b} {run = others} e q) h =
@@ -123,7 +123,7 @@ marked_read {start = start} {x} {h} {negated} {word = word} {rest} ws mark e a q
 -- no star stands before white space and a byte that is none
 pub no_star : {text end rest : List ℕ} (c : ℕ) → (c == 42) ≡ false → AreSpaces text end → end ≡ c ∷ rest → Stops (λ b. b == 42) text
 no_star c e s.no_space f = rw f (s.at_byte e)
-no_star c e (s.space {b} g q) f = s.at_byte (other is_space b 42 g refl)
+no_star c e (s.space {b} g q) f = s.at_byte (other is_white b 42 g refl)
 
 -- alternatives
 
@@ -153,7 +153,7 @@ pub brace_resumes : (h : Head) (colon : ℕ) (tests : Tests) (items : Items) (n 
 brace_resumes h colon no_test items n = refl
 brace_resumes h colon (test x negated asked tests) items n = refl
 
-pub next_resumes : {size : ℕ} {c : Context} {text end : List ℕ} {tests : Tests} (h : Head) (colon : ℕ) (items : Items) (n : ℕ) → AreTests size c text tests end
+pub next_resumes : {size : ℕ} {c : ListContext} {text end : List ℕ} {tests : Tests} (h : Head) (colon : ℕ) (items : Items) (n : ℕ) → AreTests size c text tests end
     → resume_x h colon tests items n 59 ≡ On (o.ChoiceStart (o.next_head h colon items))
 next_resumes h colon items n (s.last_test a b c d e f) = refl
 next_resumes h colon items n (s.next_test a b c d e f g) = refl

@@ -1,7 +1,7 @@
 use Rattle.drv_syntax.proofs.FrontLeads.{IsFrontFrom, ended, onto}
 use Rattle.drv_syntax.proofs.Leads.{Leads, and_then, goes, none_of, one, other, same_run, stays}
 use Rattle.drv_syntax.proofs.Words.{alike, at_front, no_word, quoted, stops, stops_at, test_word}
-use Rattle.drv_syntax.specs.Bytes.{is_mark, is_space, is_word}
+use Rattle.drv_syntax.specs.Bytes.{is_mark, is_white, is_word}
 use Rattle.drv_syntax.specs.declared.directives.BraceKind.{BraceKind}
 use Rattle.drv_syntax.specs.Outcome as o
 use Rattle.drv_syntax.specs.Outcome.{Goes, Head, Here, Place, Waiting, after_pattern, emitted, emitted_item, fresh, run, tested, turn, turn_asked, turn_due, with_patterns}
@@ -14,39 +14,39 @@ use Rattle.std.specs.Prelude.{◌==◌, Option, Some}
 -- White space and patterns in braces, as their places read them.
 
 -- white space
-pub spaces_read : {text rest : List ℕ} (ws : List Waiting) (p : Place) → ((n b : ℕ) → is_space b ≡ true → turn p n b ≡ Goes p) → (n : ℕ) → AreSpaces text rest
+pub spaces_read : {text rest : List ℕ} (ws : List Waiting) (p : Place) → ((n b : ℕ) → is_white b ≡ true → turn p n b ≡ Goes p) → (n : ℕ) → AreSpaces text rest
     → Leads ws p n text ws (λ _. p) rest
 spaces_read ws p e n (s.no_space {rest}) = stays ws (λ _. p) n rest
 spaces_read ws p e n (s.space {b} f q) = goes (e n b f) (spaces_read ws p e (n + 1) q)
 
-pub after_space : (h : Head) (ps : Option (List (Span × Pattern))) (ts : Option Tests) (bare : Bool) (n b : ℕ) → is_space b ≡ true → turn (o.BehindTest h ps ts bare) n b ≡ Goes (o.BehindTest h ps ts bare)
+pub after_space : (h : Head) (ps : Option (List (Span × Pattern))) (ts : Option Tests) (bare : Bool) (n b : ℕ) → is_white b ≡ true → turn (o.BehindTest h ps ts bare) n b ≡ Goes (o.BehindTest h ps ts bare)
 after_space h ps ts bare n b e = rw e refl
 
-pub due_space : (h : Head) (n b : ℕ) → is_space b ≡ true → turn (o.TestDue h) n b ≡ Goes (o.TestDue h)
+pub due_space : (h : Head) (n b : ℕ) → is_white b ≡ true → turn (o.TestDue h) n b ≡ Goes (o.TestDue h)
 due_space h n b e = rw e refl
 
-pub start_space : (h : Head) (n b : ℕ) → is_space b ≡ true → turn (o.ChoiceStart h) n b ≡ Goes (o.ChoiceStart h)
+pub start_space : (h : Head) (n b : ℕ) → is_white b ≡ true → turn (o.ChoiceStart h) n b ≡ Goes (o.ChoiceStart h)
 start_space h n b e = by h.choices
   where
     by : (cs : Choices) → o.turn_start h cs n b ≡ Goes (o.ChoiceStart h)
     by no_choice = rw e refl
-    by (choice x y z c) = rw (other is_space b 58 e refl, e) refl
+    by (choice x y z c) = rw (other is_white b 58 e refl, e) refl
 
-pub pattern_space : (h : Head) (n b : ℕ) → is_space b ≡ true → turn (o.PatternDue h) n b ≡ Goes (o.PatternDue h)
+pub pattern_space : (h : Head) (n b : ℕ) → is_white b ≡ true → turn (o.PatternDue h) n b ≡ Goes (o.PatternDue h)
 pattern_space h n b e = rw e refl
 
-pub negated_space : (h : Head) (start n b : ℕ) → is_space b ≡ true → turn (o.TestNegated h start) n b ≡ Goes (o.TestNegated h start)
+pub negated_space : (h : Head) (start n b : ℕ) → is_white b ≡ true → turn (o.TestNegated h start) n b ≡ Goes (o.TestNegated h start)
 negated_space h start n b e = rw e refl
 
 -- a place where a test is due, at this place of the text, that began at `start`
 pub record Asks (p : Place) (n : ℕ) (h : Head) (start : ℕ) (negated : Bool) : Type 0 where
-  pub byte : (b : ℕ) → is_space b ≡ false → (b == 33) ≡ false → (b == 58) ≡ false → turn p n b ≡ turn_asked h start negated n b
+  pub byte : (b : ℕ) → is_white b ≡ false → (b == 33) ≡ false → (b == 58) ≡ false → turn p n b ≡ turn_asked h start negated n b
   pub cut : (m : ℕ) → o.finish p m ≡ o.Cut h.at
 
 pub start_asks : (h : Head) (n : ℕ) → Asks (o.ChoiceStart h) n h n false
 start_asks h n = record { byte = λ b e f g. by h.choices b e f g; cut = λ m. refl }
   where
-    by : (cs : Choices) (b : ℕ) → is_space b ≡ false → (b == 33) ≡ false → (b == 58) ≡ false → o.turn_start h cs n b ≡ turn_asked h n false n b
+    by : (cs : Choices) (b : ℕ) → is_white b ≡ false → (b == 33) ≡ false → (b == 58) ≡ false → o.turn_start h cs n b ≡ turn_asked h n false n b
     by no_choice b e f g = rw (e, f) refl
     by (choice x y z c) b e f g = rw (g, e, f) refl
 

@@ -3,7 +3,7 @@ use Rattle.drv_syntax.proofs.Leads.{differs, each}
 use Rattle.drv_syntax.proofs.Parts.{HasChoice}
 use Rattle.drv_syntax.proofs.Rows.{not_of}
 use Rattle.drv_syntax.proofs.Words.{at_front, stops, stops_at}
-use Rattle.drv_syntax.specs.Bytes.{is_mark, is_of, is_space, is_word}
+use Rattle.drv_syntax.specs.Bytes.{is_mark, is_of, is_white, is_word}
 use Rattle.drv_syntax.specs.declared.directives.BraceKind.{BraceKind}
 use Rattle.drv_syntax.specs.Outcome as o
 use Rattle.drv_syntax.specs.Outcome.{Head, Here, Place, Refused, emitted, emitted_by, fresh, turn}
@@ -26,7 +26,7 @@ Answers size due q m rest = (b : ℕ) (fault : SyntaxFault) → rest ≡ b ∷ [
 -- a byte in place of what a test asks is refused in this place
 abbrev pub NoTest : Order → Bool → ℕ → Place → ℕ → List ℕ → Type 0
 NoTest order negated at q m rest =
-    (b : ℕ) → rest ≡ b ∷ [] → Empty b → is_space b ≡ false → (b == 37) ≡ false → is_default order negated b ≡ false → turn q m b ≡ Refused (EmptyTest at)
+    (b : ℕ) → rest ≡ b ∷ [] → Empty b → is_white b ≡ false → (b == 37) ≡ false → is_default order negated b ≡ false → turn q m b ≡ Refused (EmptyTest at)
 
 pub not_mark : (b : ℕ) → is_word b ≡ false → is_mark b ≡ false
 not_mark b e = by (is_mark b) refl
@@ -55,7 +55,7 @@ no_emit AtBar (choice y t i c) ts negated p x e = refl
 -- at a place where a test may begin
 abbrev pub NoneThere : Order → ℕ → Place → Type 0
 NoneThere order at p =
-    (n b : ℕ) → Empty b → is_space b ≡ false → (b == 33) ≡ false → (b == 37) ≡ false → is_default order false b ≡ false → turn p n b ≡ Refused (EmptyTest at)
+    (n b : ℕ) → Empty b → is_white b ≡ false → (b == 33) ≡ false → (b == 37) ≡ false → is_default order false b ≡ false → turn p n b ≡ Refused (EmptyTest at)
 
 pub start_none : (order : Order) (h : Head) → Stands order h.choices no_test → NoneThere order h.at (o.ChoiceStart h)
 start_none order h x n b (b1, b2, b3) sp nb np d = by order h.choices x d
@@ -70,11 +70,11 @@ start_none order h x n b (b1, b2, b3) sp nb np d = by order h.choices x d
 pub due_none : (order : Order) (h : Head) → NoneThere order h.at (o.TestDue h)
 due_none order h n b (b1, b2, b3) sp nb np d = rw (sp, nb, b1, not_mark b b2, b2, b3, np) refl
 
-pub negated_none : (h : Head) (start n b : ℕ) → Empty b → is_space b ≡ false → (b == 37) ≡ false → turn (o.TestNegated h start) n b ≡ Refused (EmptyTest h.at)
+pub negated_none : (h : Head) (start n b : ℕ) → Empty b → is_white b ≡ false → (b == 37) ≡ false → turn (o.TestNegated h start) n b ≡ Refused (EmptyTest h.at)
 negated_none h start n b (b1, b2, b3) sp np = rw (sp, b1, not_mark b b2, b2, b3, np) refl
 
 -- after what can be no pattern, no test, and what can be either
-pub tests_only : (h : Head) (ts : Option Tests) (n b : ℕ) → is_space b ≡ false → (b == 58) ≡ false → (b == 124) ≡ false → o.turn_after h None ts false n b ≡ Refused (BadDirective h.at)
+pub tests_only : (h : Head) (ts : Option Tests) (n b : ℕ) → is_white b ≡ false → (b == 58) ≡ false → (b == 124) ≡ false → o.turn_after h None ts false n b ≡ Refused (BadDirective h.at)
 tests_only h ts n b sp x y = by (b == 125) refl (b == 38) refl
   where
     by : (z : Bool) → (b == 125) ≡ z → (w : Bool) → (b == 38) ≡ w → o.turn_after h None ts false n b ≡ Refused (BadDirective h.at)
@@ -82,7 +82,7 @@ tests_only h ts n b sp x y = by (b == 125) refl (b == 38) refl
     by false e true f = rw (sp, e, f) refl
     by false e false f = rw (sp, e, f, x, y) refl
 
-pub patterns_only : (h : Head) (ps : Option (List (Span × Pattern))) (n b : ℕ) → is_space b ≡ false → (b == 125) ≡ false → (b == 38) ≡ false → o.turn_after h ps None false n b ≡ Refused (BadDirective h.at)
+pub patterns_only : (h : Head) (ps : Option (List (Span × Pattern))) (n b : ℕ) → is_white b ≡ false → (b == 125) ≡ false → (b == 38) ≡ false → o.turn_after h ps None false n b ≡ Refused (BadDirective h.at)
 patterns_only h ps n b sp x y = by (b == 58) refl (b == 124) refl
   where
     by : (z : Bool) → (b == 58) ≡ z → (w : Bool) → (b == 124) ≡ w → o.turn_after h ps None false n b ≡ Refused (BadDirective h.at)
@@ -90,7 +90,7 @@ patterns_only h ps n b sp x y = by (b == 58) refl (b == 124) refl
     by false e true f = rw (sp, x, y, e, f) refl
     by false e false f = rw (sp, x, y, e, f) refl
 
-pub neither : (h : Head) (ps : Option (List (Span × Pattern))) (ts : Option Tests) (bare : Bool) (n b : ℕ) → is_space b ≡ false → is_of (58 ∷ 124 ∷ 125 ∷ 38 ∷ []) b ≡ false
+pub neither : (h : Head) (ps : Option (List (Span × Pattern))) (ts : Option Tests) (bare : Bool) (n b : ℕ) → is_white b ≡ false → is_of (58 ∷ 124 ∷ 125 ∷ 38 ∷ []) b ≡ false
     → o.turn_after h ps ts bare n b ≡ Refused (BadDirective h.at)
 neither h ps ts bare n b sp f =
     let x = not_of 58 (124 ∷ 125 ∷ 38 ∷ []) b f in

@@ -6,11 +6,11 @@ use Rattle.drv_syntax.proofs.Patterns.{Asks}
 use Rattle.drv_syntax.proofs.RefusalsRead.{Comes, ReachedByte, list_reached}
 use Rattle.drv_syntax.proofs.RefusalBytes.{NoTest}
 use Rattle.drv_syntax.proofs.Words.{at_front, run_stops}
-use Rattle.drv_syntax.specs.Bytes.{is_function_front, is_name}
+use Rattle.drv_syntax.specs.Bytes.{is_function_front, is_name_byte}
 use Rattle.drv_syntax.specs.Directives.{directive_of, is_allowed}
 use Rattle.drv_syntax.specs.declared.directives.Directive.{Directive}
 use Rattle.drv_syntax.specs.declared.directives.Directive.TheVariants.{Named, Nowhere, OfStar, Whole, WithBraces, WithCall, WithMarkedBraces, WithName, WithOption, WithPattern, WithSaying, WithSuffix}
-use Rattle.drv_syntax.specs.Contexts.{Context, Mixed, Nobody, Owner, in_arguments, in_braces}
+use Rattle.drv_syntax.specs.Contexts.{ListContext, Mixed, Nobody, Owner, in_arguments, in_braces}
 use Rattle.drv_syntax.specs.Outcome as o
 use Rattle.drv_syntax.specs.Outcome.{Bad, Goes, Head, Here, Opens, Place, Refused, Turn, WaitsCall, WaitsTest, Waiting, list_in, read, run, turn}
 use Rattle.drv_syntax.specs.Refusals as r
@@ -66,7 +66,7 @@ unknown ws p m c P opened e name rest b n x f first last =
     first ∙ l.is ∙ ap (λ (i : ℕ). run ws (P name) i (b ∷ rest)) y ∙ end ∙ ap (λ (i : ℕ). Bad i (UnknownFunction m)) (sym k) ∙ ap (λ (i : ℕ). Bad (n + 2 + length name) (UnknownFunction i)) (sym x)
 
 -- what ends a name
-name_stops : (here : Here) (at : ℕ) (name : List ℕ) (n b : ℕ) → is_name b ≡ false → (b == 41) ≡ false → turn (o.NameText here at name) n b ≡ Refused (BadDirective at)
+name_stops : (here : Here) (at : ℕ) (name : List ℕ) (n b : ℕ) → is_name_byte b ≡ false → (b == 41) ≡ false → turn (o.NameText here at name) n b ≡ Refused (BadDirective at)
 name_stops here at [] n b e f = rw e refl
 name_stops here at (x ∷ xs) n b e f = rw (e, f) refl
 
@@ -81,7 +81,7 @@ onto_given : {size : ℕ} {ws vs : List Waiting} {p : Place} {q : ℕ → Place}
     → ((m : ℕ) → n + length text ≡ m + length rest → Given size vs (q m) m rest fault) → Given size ws p n text fault
 onto_given l k = let x = k l.at l.fits in (x.0, l.is ∙ x.1, x.2)
 
-no_others : {text run : List ℕ} → IsRun is_name text run [] → run ≡ [] → text ≡ []
+no_others : {text run : List ℕ} → IsRun is_name_byte text run [] → run ≡ [] → text ≡ []
 no_others (s.run_ends e) f = refl
 no_others (s.run_goes e q) f = absurd cc
 
@@ -89,13 +89,13 @@ no_length : (xs : List ℕ) → length xs ≡ 0 → xs ≡ []
 no_length [] e = refl
 no_length (x ∷ xs) e = absurd (omega (arith, e))
 
-name_grows : (here : Here) (at : ℕ) (name : List ℕ) (n b : ℕ) → is_name b ≡ true → length (name ++ b ∷ []) ≤ 255 → turn (o.NameText here at name) n b ≡ Goes (o.NameText here at (name ++ b ∷ []))
+name_grows : (here : Here) (at : ℕ) (name : List ℕ) (n b : ℕ) → is_name_byte b ≡ true → length (name ++ b ∷ []) ≤ 255 → turn (o.NameText here at name) n b ≡ Goes (o.NameText here at (name ++ b ∷ []))
 name_grows here at [] n b e f = rw e refl
 name_grows here at (x ∷ xs) n b e f =
     let g : nat_le (length (x ∷ xs ++ b ∷ [])) 255 ≡ true = grind (arith, nat_tests) in
     rw (e, g) refl
 
-name_full : (here : Here) (at : ℕ) (name : List ℕ) (n b : ℕ) → is_name b ≡ true → length name ≡ 255 → turn (o.NameText here at name) n b ≡ Refused (BadDirective at)
+name_full : (here : Here) (at : ℕ) (name : List ℕ) (n b : ℕ) → is_name_byte b ≡ true → length name ≡ 255 → turn (o.NameText here at name) n b ≡ Refused (BadDirective at)
 name_full here at [] n b e f = absurd (omega (arith, f))
 name_full here at (x ∷ xs) n b e f =
     let h : length (x ∷ xs ++ b ∷ []) ≡ 256 = omega (arith, f, length-append (x ∷ xs) (b ∷ [])) in
@@ -103,7 +103,7 @@ name_full here at (x ∷ xs) n b e f =
     rw (e, g) refl
 
 -- a name that grows too long
-too_long : (size : ℕ) (ws : List Waiting) (here : Here) (at : ℕ) (name : List ℕ) (n : ℕ) {text run : List ℕ} → IsRun is_name text run [] → At size n text → length (name ++ run) ≡ 256 → length name ≤ 255
+too_long : (size : ℕ) (ws : List Waiting) (here : Here) (at : ℕ) (name : List ℕ) (n : ℕ) {text run : List ℕ} → IsRun is_name_byte text run [] → At size n text → length (name ++ run) ≡ 256 → length name ≤ 255
     → Given size ws (o.NameText here at name) n text (BadDirective at)
 too_long size ws here at name n (s.run_ends e) a f l = absurd (omega (arith, f, l, length-append name []))
 too_long size ws here at name n (s.run_goes {b} {text} {run} e q) a f l =
@@ -124,7 +124,7 @@ too_long size ws here at name n (s.run_goes {b} {text} {run} e q) a f l =
         (r.0, rw (name_grows here at name n b e grown) r.1, r.2)
 
 -- an item's refusal
-module _ (size : ℕ) (c : Context) (ws : List Waiting) (past : Items) (m : ℕ) where
+module _ (size : ℕ) (c : ListContext) (ws : List Waiting) (past : Items) (m : ℕ) where
   abbrev ItemGiven : List ℕ → SyntaxFault → Type 0
   ItemGiven text fault = Given size ws (at_item c past) m text fault
 
@@ -177,9 +177,9 @@ module _ (size : ℕ) (c : Context) (ws : List Waiting) (past : Items) (m : ℕ)
       subst (λ (j : ℕ). ItemGiven (37 ∷ b ∷ last) (UnknownFunction j)) (same_place size m i (37 ∷ b ∷ last) a ai) (item_no_function b f a al d lv)
 
 -- a test's refusal
-module _ (size : ℕ) (c : Context) (ws : List Waiting) (q : Place) (m : ℕ) (h : Head) (start : ℕ) (negated : Bool) (e : in_braces h.here.context ≡ c) (asks : Asks q m h start negated) where
+module _ (size : ℕ) (c : ListContext) (ws : List Waiting) (q : Place) (m : ℕ) (h : Head) (start : ℕ) (negated : Bool) (e : in_braces h.here.context ≡ c) (asks : Asks q m h start negated) where
   percent_goes : (c.levels == 0) ≡ false → turn q m 37 ≡ Goes (o.TestPercent h start negated m)
-  percent_goes lv = asks.byte 37 refl refl refl ∙ rw (ap (λ (v : Context). v.levels == 0) e ∙ lv) refl
+  percent_goes lv = asks.byte 37 refl refl refl ∙ rw (ap (λ (v : ListContext). v.levels == 0) e ∙ lv) refl
 
   test_unknown : (name : List ℕ) (b : ℕ) → At size m (37 ∷ 58 ∷ name ++ b ∷ []) → (c.levels == 0) ≡ false → is_function_front name ≡ true
       → turn (o.TestFunction h start negated m name) (m + 1 + 1 + length name) b ≡ Refused (UnknownFunction m) → Given size ws q m (37 ∷ 58 ∷ name ++ b ∷ []) (UnknownFunction m)
@@ -197,7 +197,7 @@ module _ (size : ℕ) (c : Context) (ws : List Waiting) (q : Place) (m : ℕ) (h
   test_refused : {at : ℕ} {order : Order} {text : List ℕ} {fault : SyntaxFault} → Refuses size (ATest c at order negated) text fault → At size m text → NoTest order negated at q m text
       → Given size ws q m text fault
   test_refused (r.test_within_all {n = i} ai lv) a nothing =
-      let w : turn q m 37 ≡ Refused (TooNested m) = asks.byte 37 refl refl refl ∙ rw (ap (λ (v : Context). v.levels == 0) e ∙ lv) refl in
+      let w : turn q m 37 ≡ Refused (TooNested m) = asks.byte 37 refl refl refl ∙ rw (ap (λ (v : ListContext). v.levels == 0) e ∙ lv) refl in
       subst (λ (j : ℕ). Given size ws q m (37 ∷ []) (TooNested j)) (same_place size m i (37 ∷ []) a ai) (given size ws q m 37 (TooNested m) a w)
   test_refused (r.no_test_there {at = at} {b} x sp np d) a nothing = given size ws q m b (EmptyTest at) a (nothing b refl x sp np d)
   test_refused (r.no_call {n = i} {b} ai lv nb) a nothing =

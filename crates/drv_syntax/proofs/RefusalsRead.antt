@@ -7,12 +7,12 @@ use Rattle.drv_syntax.proofs.Parts.{HasChoice, after_asked, default_turn, has_ch
 use Rattle.drv_syntax.proofs.Patterns.{Asks, asks_mark, asks_words, after_space, choosing, due_asks, due_space, due_words, emitting, negated_asks, negated_space, pattern_read, pattern_space, spaces_read, start_asks, start_space}
 use Rattle.drv_syntax.proofs.RefusalBytes.{Answers, NoTest, NoneThere, Stands, due_answers, due_none, either_answers, mark_answers, negated_none, no_emit, past_answers, pattern_answers, start_none, starred_answers, test_answers, word_answers}
 use Rattle.drv_syntax.proofs.Words.{at_front, marked_word, quoted_from}
-use Rattle.drv_syntax.specs.Bytes.{is_mark, is_space, is_word}
+use Rattle.drv_syntax.specs.Bytes.{is_mark, is_white, is_word}
 use Rattle.drv_syntax.specs.Directives.{directive_of, is_allowed}
 use Rattle.drv_syntax.specs.declared.directives.BraceKind.{BraceKind}
 use Rattle.drv_syntax.specs.declared.directives.BraceKind.TheVariants.{InPlace}
 use Rattle.drv_syntax.specs.declared.directives.Directive.{Directive}
-use Rattle.drv_syntax.specs.Contexts.{Context, in_arguments, in_braces, in_x}
+use Rattle.drv_syntax.specs.Contexts.{ListContext, in_arguments, in_braces, in_x}
 use Rattle.drv_syntax.specs.Outcome as o
 use Rattle.drv_syntax.specs.Outcome.{Bad, Goes, Head, Here, Opens, Place, WaitsCall, WaitsTest, WaitsX, Waiting, emitted, fresh, join, join_choices, join_tests, list_in, read, run, tested, tested_by, turn}
 use Rattle.drv_syntax.specs.Refusals as r
@@ -81,8 +81,8 @@ module _ (size : ℕ) (rest : List ℕ) where
       (λ m f. k (o.TestNegated h n) m n (negated_asks h n m) (λ b e x sp np d. negated_none h n m b x sp np) (omega (arith, a, f))))
 
   -- tests, and what is after them
-  tests_to : (due : Due) {c c' : Context} {text end : List ℕ} {tests : Tests} → AreTests size c' text tests end → in_braces c ≡ c' → (ws : List Waiting) (past : Items) (at : ℕ) (kind : BraceKind) (cs : Choices)
-      (before : Tests) (p : Place) → ((n b : ℕ) → is_space b ≡ true → turn p n b ≡ Goes p) → ((n : ℕ) → Asks p n (head c past at kind cs before) n false)
+  tests_to : (due : Due) {c c' : ListContext} {text end : List ℕ} {tests : Tests} → AreTests size c' text tests end → in_braces c ≡ c' → (ws : List Waiting) (past : Items) (at : ℕ) (kind : BraceKind) (cs : Choices)
+      (before : Tests) (p : Place) → ((n b : ℕ) → is_white b ≡ true → turn p n b ≡ Goes p) → ((n : ℕ) → Asks p n (head c past at kind cs before) n false)
       → ((n : ℕ) → turn p n 33 ≡ Goes (o.TestNegated (head c past at kind cs before) n)) → (n : ℕ) → At size n text
       → ((m : ℕ) (middle : Tests) (patterns : Option (List (Span × Pattern))) → At size m end
       → Comes size ws (o.BehindTest (choosing (list c past) at kind cs middle) patterns (Some (join_tests before tests)) false) m end due rest) → Comes size ws p n text due rest
@@ -203,16 +203,16 @@ star_or_not (b ∷ rest) = by (b == 42) refl
 
 star_stays : {text rest others : List ℕ} → AreSpaces text rest → text ≡ 42 ∷ others → rest ≡ 42 ∷ others
 star_stays s.no_space e = e
-star_stays (s.space {b} f q) e = let x : b ≡ 42 = cc in differs (sym f ∙ ap is_space x)
+star_stays (s.space {b} f q) e = let x : b ≡ 42 = cc in differs (sym f ∙ ap is_white x)
 
-no_patterns : (order : Order) (c : Context) (past : Items) (at : ℕ) (kind : BraceKind) (cs : Choices) (before : Tests) → Stands order cs before → (negated : Bool) → may_emit order negated ≡ false → (start m : ℕ)
+no_patterns : (order : Order) (c : ListContext) (past : Items) (at : ℕ) (kind : BraceKind) (cs : Choices) (before : Tests) → Stands order cs before → (negated : Bool) → may_emit order negated ≡ false → (start m : ℕ)
     (asked : Asked) → patterns_of (head c past at kind cs before) start m negated asked ≡ None
 no_patterns order c past at kind cs before x negated e start m (HasSwitch p) = no_emit order cs before negated (span start m, p) x e
 no_patterns order c past at kind cs before x negated e start m (HasSuffix word) = no_emit order cs before negated (span start m, pattern (46 ∷ word) false) x e
 no_patterns order c past at kind cs before x negated e start m (HasLanguage word) = no_emit order cs before negated (span start m, pattern (44 ∷ word) false) x e
 no_patterns order c past at kind cs before x negated e start m (HasResult name arguments) = refl
 
-module _ (size : ℕ) (c : Context) (ws : List Waiting) (past : Items) (at : ℕ) (kind : BraceKind) (cs : Choices) (before : Tests) (rest : List ℕ) where
+module _ (size : ℕ) (c : ListContext) (ws : List Waiting) (past : Items) (at : ℕ) (kind : BraceKind) (cs : Choices) (before : Tests) (rest : List ℕ) where
   abbrev h : Head
   h = head c past at kind cs before
 
@@ -264,7 +264,7 @@ module _ (size : ℕ) (c : Context) (ws : List Waiting) (past : Items) (at : ℕ
             );
           })
 
-  ends_reached : {c' : Context} {v mid : List ℕ} {asked : Asked} {p : Place} {n start : ℕ} {negated : Bool} (order : Order) → s.IsAsked size c' v asked mid → in_braces c ≡ c' → Stands order cs before
+  ends_reached : {c' : ListContext} {v mid : List ℕ} {asked : Asked} {p : Place} {n start : ℕ} {negated : Bool} (order : Order) → s.IsAsked size c' v asked mid → in_braces c ≡ c' → Stands order cs before
       → may_emit order negated ≡ false → Asks p n h start negated → At size n v → AreSpaces mid rest → Comes size ws p n v (AnEnd at ends_test) rest
   ends_reached {asked = asked} {start = start} {negated} order (s.switch g q) e st only asks a sp =
       test_ended start negated asked (λ m. no_patterns order c past at kind cs before st negated only start m asked) a (asked_leads (s.switch g q) e ws past at kind cs before asks a tt) sp
@@ -280,7 +280,7 @@ tested_more no_test x negated asked = tt
 tested_more (test y n a ts) x negated asked = tt
 
 mutual
-  pub list_reached : {size : ℕ} {c : Context} {text rest : List ℕ} {due : Due} → Reaches size c text due rest → (ws : List Waiting) (past : Items) (n : ℕ) → At size n text → Comes size ws (at_item c past) n text due rest
+  pub list_reached : {size : ℕ} {c : ListContext} {text rest : List ℕ} {due : Due} → Reaches size c text due rest → (ws : List Waiting) (past : Items) (n : ℕ) → At size n text → Comes size ws (at_item c past) n text due rest
   list_reached r.item_due ws past n a = record { is = (ws, past, n, a, refl) }
   list_reached {size} {c} {text} {rest} {due} (r.after_item {mid = mid} {item = item} d f) ws past n a =
       onto size rest due (item_read d ws past n a) (λ m g. list_reached f ws (join past (more (span n m) item none)) m (further size n m text mid a g))
@@ -289,7 +289,7 @@ mutual
       (subst (λ (k : ℕ). Comes size ws (o.BehindPercent (list c past) k) (n + 1) (b ∷ text) due rest) (same_place size i n (37 ∷ b ∷ text) ai a)
       (directive_reached b e refl d ws past (n + 1) (omega (arith, a))))
 
-  directive_reached : {size : ℕ} {c : Context} {f : Directive} {at : ℕ} {text rest : List ℕ} {due : Due} (b : ℕ) → is_allowed c.in_arguments b ≡ true → directive_of b ≡ f → ReachesIn size c at f text due rest
+  directive_reached : {size : ℕ} {c : ListContext} {f : Directive} {at : ℕ} {text rest : List ℕ} {due : Due} (b : ℕ) → is_allowed c.in_arguments b ≡ true → directive_of b ≡ f → ReachesIn size c at f text due rest
       → (ws : List Waiting) (past : Items) (n : ℕ) → At size n (b ∷ text) → Comes size ws (o.BehindPercent (list c past) at) n (b ∷ text) due rest
   directive_reached {size} {c} {at = at} {rest = rest} {due} b e f (r.in_call {text = text} name lv fn d) ws past n a =
       on size rest due (rw (e, f, lv) refl)
@@ -300,12 +300,12 @@ mutual
   directive_reached {size} {c} {at = at} {rest = rest} {due} b e f (r.in_marked {kind = kind} lv d) ws past n a =
       on size rest due {q = o.BraceOpen (list c past) at kind} (rw (e, f, lv) refl) (on size rest due refl (brace_reached d refl ws past kind (n + 1 + 1) (omega (arith, a))))
 
-  brace_reached : {size : ℕ} {c c' : Context} {at : ℕ} {text rest : List ℕ} {due : Due} → ReachesBrace size c' at text due rest → in_braces c ≡ c' → (ws : List Waiting) (past : Items) (kind : BraceKind)
+  brace_reached : {size : ℕ} {c c' : ListContext} {at : ℕ} {text rest : List ℕ} {due : Due} → ReachesBrace size c' at text due rest → in_braces c ≡ c' → (ws : List Waiting) (past : Items) (kind : BraceKind)
       (n : ℕ) → At size n text → Comes size ws (o.ChoiceStart (fresh (list c past) at kind)) n text due rest
   brace_reached {c = c} (r.in_emits d) e ws past kind n a = emits_reached d ws (list c past) kind n a
   brace_reached (r.in_choices d) e ws past kind n a = choices_reached d e ws past kind no_choice refl n a
 
-  choices_reached : {size : ℕ} {c c' : Context} {at : ℕ} {order : Order} {text rest : List ℕ} {due : Due} → ReachesChoices size c' at order text due rest → in_braces c ≡ c' → (ws : List Waiting)
+  choices_reached : {size : ℕ} {c c' : ListContext} {at : ℕ} {order : Order} {text rest : List ℕ} {due : Due} → ReachesChoices size c' at order text due rest → in_braces c ≡ c' → (ws : List Waiting)
       (past : Items) (kind : BraceKind) (before : Choices) → Stands order before no_test → (n : ℕ) → At size n text → Comes size ws (o.ChoiceStart (head c past at kind before no_test)) n text due rest
   choices_reached {c = c} {at = at} {order} (r.to_tests d) e ws past kind before y n a =
       tests_reached d e ws past kind before no_test y (o.ChoiceStart (head c past at kind before no_test)) (start_space (head c past at kind before no_test))
@@ -313,32 +313,32 @@ mutual
   choices_reached {size} {c} {at = at} {rest = rest} {due} (r.to_x {tests = tests} dt di) e ws past kind before y n a =
       tests_to size rest due dt e ws past at kind before no_test (o.ChoiceStart (head c past at kind before no_test)) (start_space (head c past at kind before no_test))
       (start_asks (head c past at kind before no_test)) (start_sign (head c past at kind before no_test)) n a
-      (λ m middle patterns b. opening size rest due (ap (λ (x : Context). Opens (list_in (in_x x tests)) (WaitsX (head c past at kind before tests) m)) e)
+      (λ m middle patterns b. opening size rest due (ap (λ (x : ListContext). Opens (list_in (in_x x tests)) (WaitsX (head c past at kind before tests) m)) e)
       (list_reached di (WaitsX (head c past at kind before tests) m ∷ ws) none (m + 1) (omega (arith, b))))
   choices_reached {size} {c} {at = at} {rest = rest} {due} (r.after_x {tests = tests} {items = items} dt di dl) e ws past kind before y n a =
       tests_to size rest due dt e ws past at kind before no_test (o.ChoiceStart (head c past at kind before no_test)) (start_space (head c past at kind before no_test))
       (start_asks (head c past at kind before no_test)) (start_sign (head c past at kind before no_test)) n a
-      (λ m middle patterns b. opening size rest due (ap (λ (x : Context). Opens (list_in (in_x x tests)) (WaitsX (head c past at kind before tests) m)) e)
+      (λ m middle patterns b. opening size rest due (ap (λ (x : ListContext). Opens (list_in (in_x x tests)) (WaitsX (head c past at kind before tests) m)) e)
       (onto size rest due (items_read di (WaitsX (head c past at kind before tests) m ∷ ws) none (m + 1) (omega (arith, b)))
       (λ k g. onto size rest due (closes {q = λ _. o.ChoiceStart (head c past at kind (join_choices before (alternative m tests items no_choice)) no_test)} refl
       (next_resumes (head c past at kind before tests) m items k dt))
       (λ l h. later_reached dl e ws past kind (join_choices before (alternative m tests items no_choice)) (has_choice before _ _ _ _) l (omega (arith, b, g, h))))))
 
-  later_reached : {size : ℕ} {c c' : Context} {at : ℕ} {text rest : List ℕ} {due : Due} → ReachesLater size c' at text due rest → in_braces c ≡ c' → (ws : List Waiting) (past : Items) (kind : BraceKind)
+  later_reached : {size : ℕ} {c c' : ListContext} {at : ℕ} {text rest : List ℕ} {due : Due} → ReachesLater size c' at text due rest → in_braces c ≡ c' → (ws : List Waiting) (past : Items) (kind : BraceKind)
       (before : Choices) → HasChoice before → (n : ℕ) → At size n text → Comes size ws (o.ChoiceStart (head c past at kind before no_test)) n text due rest
   later_reached (r.to_next d) e ws past kind before y n a = choices_reached d e ws past kind before y n a
   later_reached {size} {c} {at = at} {rest = rest} {due} (r.to_default sp di) e ws past kind before y n a =
       onto size rest due (spaces_read ws (o.ChoiceStart (head c past at kind before no_test)) (start_space (head c past at kind before no_test)) n sp)
-      (λ m f. opening size rest due (default_turn (head c past at kind before no_test) m y ∙ ap (λ (x : Context). Opens (list_in (in_x x no_test)) (WaitsX (head c past at kind before no_test) m)) e)
+      (λ m f. opening size rest due (default_turn (head c past at kind before no_test) m y ∙ ap (λ (x : ListContext). Opens (list_in (in_x x no_test)) (WaitsX (head c past at kind before no_test) m)) e)
       (list_reached di (WaitsX (head c past at kind before no_test) m ∷ ws) none (m + 1) (omega (arith, a, f))))
   later_reached {size} {c} {at = at} (r.after_default {rest = rest} {items = items} sp di) e ws past kind before y n a =
       onto size (59 ∷ rest) (NoMore at) (spaces_read ws (o.ChoiceStart (head c past at kind before no_test)) (start_space (head c past at kind before no_test)) n sp)
-      (λ m f. opening size (59 ∷ rest) (NoMore at) (default_turn (head c past at kind before no_test) m y ∙ ap (λ (x : Context). Opens (list_in (in_x x no_test)) (WaitsX (head c past at kind before no_test) m)) e)
+      (λ m f. opening size (59 ∷ rest) (NoMore at) (default_turn (head c past at kind before no_test) m y ∙ ap (λ (x : ListContext). Opens (list_in (in_x x no_test)) (WaitsX (head c past at kind before no_test) m)) e)
       (onto size (59 ∷ rest) (NoMore at) (items_read di (WaitsX (head c past at kind before no_test) m ∷ ws) none (m + 1) (omega (arith, a, f)))
       (λ k g. record { is = (k, omega (arith, a, f, g), refl) })))
 
-  tests_reached : {size : ℕ} {c c' : Context} {at : ℕ} {order : Order} {text rest : List ℕ} {due : Due} → ReachesTests size c' at order text due rest → in_braces c ≡ c' → (ws : List Waiting)
-      (past : Items) (kind : BraceKind) (cs : Choices) (before : Tests) → Stands order cs before → (p : Place) → ((n b : ℕ) → is_space b ≡ true → turn p n b ≡ Goes p)
+  tests_reached : {size : ℕ} {c c' : ListContext} {at : ℕ} {order : Order} {text rest : List ℕ} {due : Due} → ReachesTests size c' at order text due rest → in_braces c ≡ c' → (ws : List Waiting)
+      (past : Items) (kind : BraceKind) (cs : Choices) (before : Tests) → Stands order cs before → (p : Place) → ((n b : ℕ) → is_white b ≡ true → turn p n b ≡ Goes p)
       → ((n : ℕ) → Asks p n (head c past at kind cs before) n false) → ((n : ℕ) → turn p n 33 ≡ Goes (o.TestNegated (head c past at kind cs before) n)) → NoneThere order at p → (n : ℕ) → At size n text
       → Comes size ws p n text due rest
   tests_reached {size} {c} {c'} {at} {order} {text} {rest} {due} (r.in_test {u = u} sp sign d) e ws past kind cs before st p blank asks bang nothing n a =
@@ -357,7 +357,7 @@ mutual
       (due_asks (head c past at kind cs (join_tests before (test (span x y) negated asked no_test)))) (λ _. refl)
       (due_none AtBar (head c past at kind cs (join_tests before (test (span x y) negated asked no_test)))) (z + 1) (omega (arith, b, g, h))))))
 
-  asked_reached : {size : ℕ} {c c' : Context} {at : ℕ} {order : Order} {negated : Bool} {v rest : List ℕ} {due : Due} → ReachesAsked size c' at order negated v due rest → in_braces c ≡ c'
+  asked_reached : {size : ℕ} {c c' : ListContext} {at : ℕ} {order : Order} {negated : Bool} {v rest : List ℕ} {due : Due} → ReachesAsked size c' at order negated v due rest → in_braces c ≡ c'
       → (ws : List Waiting) (past : Items) (kind : BraceKind) (cs : Choices) (before : Tests) → Stands order cs before → (p : Place) (n start : ℕ) → Asks p n (head c past at kind cs before) start negated
       → NoTest order negated at p n v → At size n v → Comes size ws p n v due rest
   asked_reached {c = c} {at = at} r.asked_due e ws past kind cs before st p n start asks nothing a = record { is = (ws, p, n, head c past at kind cs before, start, a, e, asks, nothing, refl) }
@@ -374,13 +374,13 @@ mutual
         );
       })
   asked_reached {size} {c} {at = at} {negated = negated} {rest = rest} {due} (r.in_function {text = inner} name lv fn d) e ws past kind cs before st p n start asks nothing a =
-      let w : turn p n 37 ≡ Goes (o.TestPercent (head c past at kind cs before) start negated n) = asks.byte 37 refl refl refl ∙ rw (ap (λ (v : Context). v.levels == 0) e ∙ lv) refl in
+      let w : turn p n 37 ≡ Goes (o.TestPercent (head c past at kind cs before) start negated n) = asks.byte 37 refl refl refl ∙ rw (ap (λ (v : ListContext). v.levels == 0) e ∙ lv) refl in
       on size rest due w (on size rest due refl (onto size rest due
       (name_read n (o.TestFunction (head c past at kind cs before) start negated n) (λ v. Opens (list_in (in_arguments (in_braces c))) (WaitsTest (head c past at kind cs before) start negated v)) (λ v k z. refl)
       ws [] name (n + 1 + 1) inner fn)
       (λ m j. opening size rest due
       (name_end n (o.TestFunction (head c past at kind cs before) start negated n) (λ v. Opens (list_in (in_arguments (in_braces c))) (WaitsTest (head c past at kind cs before) start negated v)) (λ v k z. refl)
-      name m fn ∙ ap (λ (v : Context). Opens (list_in (in_arguments v)) (WaitsTest (head c past at kind cs before) start negated name)) e)
+      name m fn ∙ ap (λ (v : ListContext). Opens (list_in (in_arguments v)) (WaitsTest (head c past at kind cs before) start negated name)) e)
       (list_reached d (WaitsTest (head c past at kind cs before) start negated name ∷ ws) none (m + 1) (omega (arith, a, j))))))
   asked_reached {size} {c} {at = at} {order} {rest = rest} (r.test_ends only d sp) e ws past kind cs before st p n start asks nothing a =
       ends_reached size c ws past at kind cs before rest order d e st only asks a sp

@@ -6,7 +6,7 @@ use Rattle.drv_syntax.specs.Parsed.{listed, tree_of}
 use Rattle.drv_syntax.specs.Code.Parts.{IsKept}
 use Rattle.drv_syntax.specs.Code.Resuming.{Follows, IsEnded, ending_at, goes_on}
 use Rattle.drv_syntax.specs.Code.States.{parts_in, state}
-use Rattle.drv_syntax.specs.Code.Steps.{Walk, finish, finish_at, finish_in, finish_list, pass, started, step, step_at, then_walk, walk}
+use Rattle.drv_syntax.specs.Code.Steps.{ReaderState, finish, finish_at, finish_in, finish_list, pass, started, step, step_at, then_walk, walk}
 use Rattle.drv_syntax.specs.Tree.{Items}
 use Rattle.drv_syntax.specs.declared.fault.SyntaxFault.TheVariants.{Memory, TextTooLong}
 use Rattle.drv_syntax.specs.declared.fault.SyntaxFault.{SyntaxFault}
@@ -14,7 +14,7 @@ use Rattle.drv_words.specs.Gives.{Gives}
 use Rattle.drv_syntax.specs.declared.reader.ending.Ended.{Ended}
 use Rattle.drv_syntax.specs.declared.reader.ending.Ending.TheVariants as endings
 use Rattle.drv_syntax.specs.declared.reader.ending.Ending.{Ending}
-use Rattle.drv_syntax.specs.declared.reader.stages.Frame.{Frame}
+use Rattle.drv_syntax.specs.declared.reader.stages.Suspended.{Suspended}
 use Rattle.drv_syntax.specs.declared.reader.stages.ListStage.TheVariants as stages
 use Rattle.drv_syntax.specs.declared.reader.stages.ListStage.{ListStage}
 use Rattle.drv_syntax.specs.declared.reader.stages.Stage.TheVariants as at
@@ -31,45 +31,45 @@ use Rattle.std.specs.Prelude.{◌==◌, if◌then◌else◌, IsErrAnd, nat_le, R
 -- A text's walk, gone on over more bytes, is the walk of both.
 
 -- a text is its bytes, and then its end
-pub walk_passes : (text : List ℕ) (v : Walk) (n : ℕ) → walk v n text ≡ then_walk (pass v n text) (λ u. finish (n + length text) u)
+pub walk_passes : (text : List ℕ) (v : ReaderState) (n : ℕ) → walk v n text ≡ then_walk (pass v n text) (λ u. finish (n + length text) u)
 walk_passes [] v n = ap (λ i. finish i v) (omega arith)
 walk_passes (b ∷ text) v n = by (step v n b) (λ u. walk_passes text u (n + 1))
   where
-    by : (r : Result Walk SyntaxFault) → ((u : Walk) → walk u (n + 1) text ≡ then_walk (pass u (n + 1) text) (λ x. finish (n + 1 + length text) x))
+    by : (r : Result ReaderState SyntaxFault) → ((u : ReaderState) → walk u (n + 1) text ≡ then_walk (pass u (n + 1) text) (λ x. finish (n + 1 + length text) x))
         → then_walk r (λ u. walk u (n + 1) text) ≡ then_walk (then_walk r (λ u. pass u (n + 1) text)) (λ x. finish (n + suc (length text)) x)
     by (Ok u) ih = ih u ∙ ap (λ (i : ℕ). then_walk (pass u (n + 1) text) (λ x. finish i x)) (omega arith)
     by (Err fault) ih = refl
 
-pub walked_to : (v m : Walk) (n : ℕ) (text : List ℕ) (r : Result Walk SyntaxFault) → pass v n text ≡ Ok m → finish (n + length text) m ≡ r → walk v n text ≡ r
-walked_to v m n text r h e = walk_passes text v n ∙ ap (λ (p : Result Walk SyntaxFault). then_walk p (λ u. finish (n + length text) u)) h ∙ e
+pub walked_to : (v m : ReaderState) (n : ℕ) (text : List ℕ) (r : Result ReaderState SyntaxFault) → pass v n text ≡ Ok m → finish (n + length text) m ≡ r → walk v n text ≡ r
+walked_to v m n text r h e = walk_passes text v n ∙ ap (λ (p : Result ReaderState SyntaxFault). then_walk p (λ u. finish (n + length text) u)) h ∙ e
 
-pub walk_fails : (v : Walk) (n : ℕ) (text : List ℕ) (fault : SyntaxFault) → pass v n text ≡ Err fault → walk v n text ≡ Err fault
-walk_fails v n text fault h = walk_passes text v n ∙ ap (λ (p : Result Walk SyntaxFault). then_walk p (λ u. finish (n + length text) u)) h
+pub walk_fails : (v : ReaderState) (n : ℕ) (text : List ℕ) (fault : SyntaxFault) → pass v n text ≡ Err fault → walk v n text ≡ Err fault
+walk_fails v n text fault h = walk_passes text v n ∙ ap (λ (p : Result ReaderState SyntaxFault). then_walk p (λ u. finish (n + length text) u)) h
 
-pub pass_more : (text more : List ℕ) (v : Walk) (n : ℕ) → pass v n (text ++ more) ≡ then_walk (pass v n text) (λ u. pass u (n + length text) more)
+pub pass_more : (text more : List ℕ) (v : ReaderState) (n : ℕ) → pass v n (text ++ more) ≡ then_walk (pass v n text) (λ u. pass u (n + length text) more)
 pass_more [] more v n = ap (λ i. pass v i more) (omega arith)
 pass_more (b ∷ text) more v n = by (step v n b) (λ u. pass_more text more u (n + 1))
   where
-    by : (r : Result Walk SyntaxFault) → ((u : Walk) → pass u (n + 1) (text ++ more) ≡ then_walk (pass u (n + 1) text) (λ x. pass x (n + 1 + length text) more))
+    by : (r : Result ReaderState SyntaxFault) → ((u : ReaderState) → pass u (n + 1) (text ++ more) ≡ then_walk (pass u (n + 1) text) (λ x. pass x (n + 1 + length text) more))
         → then_walk r (λ u. pass u (n + 1) (text ++ more)) ≡ then_walk (then_walk r (λ u. pass u (n + 1) text)) (λ x. pass x (n + suc (length text)) more)
     by (Ok u) ih = ih u ∙ ap (λ (i : ℕ). then_walk (pass u (n + 1) text) (λ x. pass x i more)) (omega arith)
     by (Err fault) ih = refl
 
 -- After the end of a text that closes an item, a blank does what it does after the item.
 
-abbrev walk_in : Walk → Result Walk SyntaxFault → Walk
+abbrev walk_in : ReaderState → Result ReaderState SyntaxFault → ReaderState
 walk_in v (Ok u) = u
 walk_in v (Err fault) = v
 
-module _ (v u : Walk) (n : ℕ) where
+module _ (v u : ReaderState) (n : ℕ) where
   -- the end of the text leaves such a stage in such a state
   closes : (stage : ListStage) (more : List ℕ) → (b : ℕ) → v.stage ≡ at.List stage → finish_list stage n v ≡ Ok u
       → step_at (at.List stage) n b v ≡ step (walk_in v (finish_list stage n v)) n b
       → pass v n (b ∷ more) ≡ pass u n (b ∷ more)
   closes stage more b here e alike =
       ap (λ (s : Stage). then_walk (step_at s n b v) (λ x. pass x (n + 1) more)) here
-      ∙ ap (λ (r : Result Walk SyntaxFault). then_walk r (λ x. pass x (n + 1) more)) alike
-      ∙ ap (λ (r : Result Walk SyntaxFault). pass (walk_in v r) n (b ∷ more)) e
+      ∙ ap (λ (r : Result ReaderState SyntaxFault). then_walk r (λ x. pass x (n + 1) more)) alike
+      ∙ ap (λ (r : Result ReaderState SyntaxFault). pass (walk_in v r) n (b ∷ more)) e
 
   at_blank : (P : ℕ → Type 0) (b : ℕ) → is_blank b ≡ true → P 32 → P 9 → P b
   at_blank P b is space tab = by (b == 32) refl is
@@ -83,7 +83,7 @@ module _ (v u : Walk) (n : ℕ) where
       by false e g = tabbed (b == 9) refl g
 
   resumes_at : (s : Stage) (more : List ℕ) → v.stage ≡ s → finish_at s n v ≡ Ok u → goes_on (ending_at s) more ≡ true → pass v n more ≡ pass u n more
-  resumes_at (at.List stages.Start) more here e goes = ap (λ (r : Result Walk SyntaxFault). then_walk r (λ x. pass x n more)) e
+  resumes_at (at.List stages.Start) more here e goes = ap (λ (r : Result ReaderState SyntaxFault). then_walk r (λ x. pass x n more)) e
   resumes_at (at.List (stages.SuffixStart start kind)) [] here e goes = absurd cc
   resumes_at (at.List (stages.SuffixStart start kind)) (b ∷ more) here e goes =
       at_blank (λ x. pass v n (x ∷ more) ≡ pass u n (x ∷ more)) b goes
@@ -116,15 +116,15 @@ module _ (v u : Walk) (n : ℕ) where
   resumes_at (at.Braces head form stage) more here e goes = absurd cc
   resumes_at (at.Result head part chosen) more here e goes = absurd cc
 
-  resumes_in : (fs : List Frame) (more : List ℕ) → finish_in fs n v ≡ Ok u → goes_on (ending_at v.stage) more ≡ true → pass v n more ≡ pass u n more
+  resumes_in : (fs : List Suspended) (more : List ℕ) → finish_in fs n v ≡ Ok u → goes_on (ending_at v.stage) more ≡ true → pass v n more ≡ pass u n more
   resumes_in [] more e goes = resumes_at v.stage more refl e goes
   resumes_in (f ∷ fs) more e goes = absurd cc
 
 -- bytes after a text whose end came to this state
-pub followed : (v m u : Walk) (n : ℕ) (text : List ℕ) → pass v n text ≡ Ok m → finish (n + length text) m ≡ Ok u → Follows (ending_at m.stage) v n text u
+pub followed : (v m u : ReaderState) (n : ℕ) (text : List ℕ) → pass v n text ≡ Ok m → finish (n + length text) m ≡ Ok u → Follows (ending_at m.stage) v n text u
 followed v m u n text h e more goes =
     pass_more text more v n
-    ∙ ap (λ (r : Result Walk SyntaxFault). then_walk r (λ x. pass x (n + length text) more)) h
+    ∙ ap (λ (r : Result ReaderState SyntaxFault). then_walk r (λ x. pass x (n + length text) more)) h
     ∙ resumes_in m u (n + length text) m.waiting more e goes
 
 goes_further : (ending : Ending) (more rest : List ℕ) → goes_on ending more ≡ true → goes_on ending (more ++ rest) ≡ true
@@ -157,11 +157,11 @@ ended_first text e h is follows size trail =
 pub ended_nothing : (text : List ℕ) (e : Ended) → text ≡ [] → state e.walk ≡ started → e.ending ≡ endings.Item → IsEnded text e
 ended_nothing text e none begun item =
     subst (λ (t : List ℕ). IsEnded t e) (sym none)
-    (ended_first [] e (omega arith) (ap (λ (v : Walk). passed v) (sym begun))
-    (λ rest on. ap (λ (v : Walk). pass v 0 rest) (sym begun))
-    (omega (arith, ap (λ (v : Walk). length v.tokens) begun)) (omega (arith, ap (λ (v : Walk). v.trailing) begun)))
+    (ended_first [] e (omega arith) (ap (λ (v : ReaderState). passed v) (sym begun))
+    (λ rest on. ap (λ (v : ReaderState). pass v 0 rest) (sym begun))
+    (omega (arith, ap (λ (v : ReaderState). length v.tokens) begun)) (omega (arith, ap (λ (v : ReaderState). v.trailing) begun)))
   where
-    passed : Walk → Result Walk SyntaxFault
+    passed : ReaderState → Result ReaderState SyntaxFault
     passed v = Ok v
 
 -- and of more after it
@@ -175,7 +175,7 @@ module _ (text more : List ℕ) (old : Ended) (is : IsEnded text old) (short : l
   walk_both : walk started 0 (text ++ more) ≡ walk (state old.walk) (length text) more
   walk_both =
       walk_passes (text ++ more) started 0
-      ∙ ap (λ (r : Result Walk SyntaxFault). then_walk r (λ u. finish (0 + length (text ++ more)) u)) (behind more goes)
+      ∙ ap (λ (r : Result ReaderState SyntaxFault). then_walk r (λ u. finish (0 + length (text ++ more)) u)) (behind more goes)
       ∙ ap (λ (i : ℕ). then_walk (pass (state old.walk) (length text) more) (λ u. finish i u)) (omega (arith, length-append text more))
       ∙ sym (walk_passes more (state old.walk) (length text))
 

@@ -1,10 +1,10 @@
 use Rattle.drv_syntax.proofs.Parts.{join_assoc, join_none}
 use Rattle.drv_syntax.proofs.Leads.{differs, same}
 use Rattle.drv_syntax.proofs.Wanted.{After, Ended, IsChoiceRest, IsPatternRest, Outside, Wanted, WantsList, choice_last, choice_next, hide_rest, name_rest, option_rest, percent_rest, rest_starred, rest_unstarred, saying_rest, suffix_rest}
-use Rattle.drv_syntax.specs.Bytes.{is_blank, is_name, is_of, is_option, is_plain, is_suffix, is_word}
+use Rattle.drv_syntax.specs.Bytes.{is_blank, is_name_byte, is_of, is_option, is_plain, is_suffix, is_word}
 use Rattle.drv_syntax.specs.Directives.{said}
 use Rattle.drv_syntax.specs.declared.directives.SayKind.{SayKind}
-use Rattle.drv_syntax.specs.Contexts.{Context, bar_in, is_end, is_said, newline_in}
+use Rattle.drv_syntax.specs.Contexts.{ListContext, bar_in, is_end, is_said, newline_in}
 use Rattle.drv_syntax.specs.Fronts.{whole_item}
 use Rattle.drv_syntax.specs.Outcome as o
 use Rattle.drv_syntax.specs.Outcome.{Here, Place, Turn, join, placed, turn, turn_item}
@@ -52,7 +52,7 @@ pattern_from c text longer k (rest_unstarred {run = run} {rest} q e) = s.unstarr
 pattern_from c text longer k (rest_starred {run = run} {rest} q) = s.starred (k run (42 ∷ rest) q)
 
 -- after the tests of an alternative
-pub choices_of : {size : ℕ} {c : Context} {text end rest : List ℕ} {tests : Tests} {choices : Choices} → AreTests size c text tests end → IsChoiceRest size c tests end choices rest
+pub choices_of : {size : ℕ} {c : ListContext} {text end rest : List ℕ} {tests : Tests} {choices : Choices} → AreTests size c text tests end → IsChoiceRest size c tests end choices rest
     → AreChoices size c text choices rest
 choices_of t (choice_last colon a d) = s.last_choice colon t a d
 choices_of t (choice_next colon a d l) = s.next_choice colon t a d l
@@ -176,9 +176,9 @@ module _ (size : ℕ) (K : Outside) where
   pub name_row : (here : Here) (at : ℕ) (name : List ℕ) (n b : ℕ) (text : List ℕ) → At size n (b ∷ text) → After size K b text (o.turn_name here at name n b) → length name ≤ 255
       → name_rest size K here at name (b ∷ text)
   name_row here at [] n b text a h l =
-      when (After size K b text) (is_name b) _ _ h (λ e g. let r = g (omega arith) in (b ∷ r.0, r.1, r.2, r.3, s.run_goes e r.4, r.5, r.6, r.7)) (λ e g. absurd g)
+      when (After size K b text) (is_name_byte b) _ _ h (λ e g. let r = g (omega arith) in (b ∷ r.0, r.1, r.2, r.3, s.run_goes e r.4, r.5, r.6, r.7)) (λ e g. absurd g)
   name_row here at (x ∷ xs) n b text a h l =
-      when (After size K b text) (is_name b) _ _ h
+      when (After size K b text) (is_name_byte b) _ _ h
       (λ e h. when (After size K b text) (nat_le (length (x ∷ xs ++ b ∷ [])) 255) _ _ h
       (λ f g.
       let r = g (le_true f) in (

@@ -2,9 +2,9 @@ use Rattle.drv_syntax.proofs.Parts.{HasChoice, brace_resumes, has_choice, join_c
 use Rattle.drv_syntax.proofs.Rows.{choices_of}
 use Rattle.drv_syntax.proofs.Leads.{differs, each, same}
 use Rattle.drv_syntax.proofs.Wanted.{After, Ended, Inside, IsChoiceRest, IsEmitsRest, IsTestsRest, Of, Outside, Wanted, WantsList, choice_last, choice_next, chooses, emits_and, emits_end, start, tests_bar, tests_colon}
-use Rattle.drv_syntax.specs.Bytes.{is_space}
+use Rattle.drv_syntax.specs.Bytes.{is_white}
 use Rattle.drv_syntax.specs.Directives.{braced}
-use Rattle.drv_syntax.specs.Contexts.{Context, in_arguments, in_braces, in_x}
+use Rattle.drv_syntax.specs.Contexts.{ListContext, in_arguments, in_braces, in_x}
 use Rattle.drv_syntax.specs.Outcome as o
 use Rattle.drv_syntax.specs.Outcome.{Head, Here, On, Opens, Place, Resumed, Turn, Waiting, WaitsX, emitted, emitted_by, join_choices, join_tests, list_in, resume, tested, tested_by, turn, turn_colon, with_patterns, with_tests}
 use Rattle.drv_syntax.specs.Spelling as s
@@ -21,33 +21,33 @@ on_same p q h = cc
 
 -- white space in front
 
-pub emits_space : {size b : ℕ} {text rest : List ℕ} {ps : List (Span × Pattern)} → is_space b ≡ true → IsEmitsRest size text ps rest → IsEmitsRest size (b ∷ text) ps rest
+pub emits_space : {size b : ℕ} {text rest : List ℕ} {ps : List (Span × Pattern)} → is_white b ≡ true → IsEmitsRest size text ps rest → IsEmitsRest size (b ∷ text) ps rest
 emits_space e (emits_end d) = emits_end (s.space e d)
 emits_space e (emits_and d p) = emits_and (s.space e d) p
 
-pub rest_space : {size b : ℕ} {c : Context} {text end : List ℕ} {tests : Tests} → is_space b ≡ true → IsTestsRest size c text tests end → IsTestsRest size c (b ∷ text) tests end
+pub rest_space : {size b : ℕ} {c : ListContext} {text end : List ℕ} {tests : Tests} → is_white b ≡ true → IsTestsRest size c text tests end → IsTestsRest size c (b ∷ text) tests end
 rest_space e (tests_colon d) = tests_colon (s.space e d)
 rest_space e (tests_bar d t) = tests_bar (s.space e d) t
 
-pub tests_space : {size b : ℕ} {c : Context} {text end : List ℕ} {tests : Tests} → is_space b ≡ true → AreTests size c text tests end → AreTests size c (b ∷ text) tests end
+pub tests_space : {size b : ℕ} {c : ListContext} {text end : List ℕ} {tests : Tests} → is_white b ≡ true → AreTests size c text tests end → AreTests size c (b ∷ text) tests end
 tests_space e (s.last_test d a g q f k) = s.last_test (s.space e d) a g q f k
 tests_space e (s.next_test d a g q f k t) = s.next_test (s.space e d) a g q f k t
 
-pub patterns_space : {size b : ℕ} {text rest : List ℕ} {ps : List (Span × Pattern)} → is_space b ≡ true → ArePatterns size text ps rest → ArePatterns size (b ∷ text) ps rest
+pub patterns_space : {size b : ℕ} {text rest : List ℕ} {ps : List (Span × Pattern)} → is_white b ≡ true → ArePatterns size text ps rest → ArePatterns size (b ∷ text) ps rest
 patterns_space e (s.last_pattern d a q f k) = s.last_pattern (s.space e d) a q f k
 patterns_space e (s.next_pattern d a q f k t) = s.next_pattern (s.space e d) a q f k t
 
-pub choices_space : {size b : ℕ} {c : Context} {text rest : List ℕ} {choices : Choices} → is_space b ≡ true → AreChoices size c text choices rest → AreChoices size c (b ∷ text) choices rest
+pub choices_space : {size b : ℕ} {c : ListContext} {text rest : List ℕ} {choices : Choices} → is_white b ≡ true → AreChoices size c text choices rest → AreChoices size c (b ∷ text) choices rest
 choices_space e (s.last_choice colon t a d) = s.last_choice colon (tests_space e t) a d
 choices_space e (s.next_choice colon t a d l) = s.next_choice colon (tests_space e t) a d l
 
-pub later_space : {size b : ℕ} {c : Context} {text rest : List ℕ} {choices : Choices} → is_space b ≡ true → AreLater size c text choices rest → AreLater size c (b ∷ text) choices rest
+pub later_space : {size b : ℕ} {c : ListContext} {text rest : List ℕ} {choices : Choices} → is_white b ≡ true → AreLater size c text choices rest → AreLater size c (b ∷ text) choices rest
 later_space e (s.with_tests d) = s.with_tests (choices_space e d)
 later_space e (s.default colon d a t) = s.default colon (s.space e d) a t
 
 -- parts put together
 
-pub tests_of : {size n m : ℕ} {c : Context} {t u v w end : List ℕ} {negated : Bool} {asked : Asked} {others : Tests} → AreSpaces t u → At size n u → IsSign u negated v → IsAsked size c v asked w → At size m w
+pub tests_of : {size n m : ℕ} {c : ListContext} {t u v w end : List ℕ} {negated : Bool} {asked : Asked} {others : Tests} → AreSpaces t u → At size n u → IsSign u negated v → IsAsked size c v asked w → At size m w
     → IsTestsRest size c w others end → AreTests size c t (test (span n m) negated asked others) end
 tests_of d a g q b (tests_colon e) = s.last_test d a g q b e
 tests_of d a g q b (tests_bar e t) = s.next_test d a g q b e t
@@ -83,7 +83,7 @@ some_pattern (q ∷ before) p h = absurd cc
 module _ (size : ℕ) (K : Outside) where
   -- a list in a directive, and the byte that ends it
 
-  pub arguments_closed : (w : Waiting) (c : Context) (text : List ℕ) → WantsList size (Inside size K w) (record { context = in_arguments c; done = none }) text
+  pub arguments_closed : (w : Waiting) (c : ListContext) (text : List ℕ) → WantsList size (Inside size K w) (record { context = in_arguments c; done = none }) text
       → (arguments : Items) × (rest : List ℕ) × (k : ℕ) × (q : Place) × AreItems size (in_arguments c) text arguments (41 ∷ rest) × At size (k + 1) rest × (resume w arguments k 41 ≡ On q) × Wanted size K q rest
   arguments_closed w c text l =
       let r = l.outside in
@@ -99,7 +99,7 @@ module _ (size : ℕ) (K : Outside) where
         r.8,
       )
 
-  x_closed : (w : Waiting) (c : Context) (tests : Tests) (text : List ℕ) → WantsList size (Inside size K w) (record { context = in_x c tests; done = none }) text
+  x_closed : (w : Waiting) (c : ListContext) (tests : Tests) (text : List ℕ) → WantsList size (Inside size K w) (record { context = in_x c tests; done = none }) text
       → (b : ℕ) × (items : Items) × (rest : List ℕ) × (k : ℕ) × (q : Place) × ((b ≡ 59) ⊎ (b ≡ 125)) × AreItems size (in_x c tests) text items (b ∷ rest) × At size (k + 1) rest × (resume w items k b ≡ On q)
       × Wanted size K q rest
   x_closed w c tests text l =

@@ -3,9 +3,9 @@ use Rattle.drv_syntax.proofs.Rows.{one_byte, pattern_from, when}
 use Rattle.drv_syntax.proofs.RowsBraces.{arguments_closed, default_row, emitted_only, later_space, on_same, patterns_of, patterns_space, some_pattern, some_test, tested_only, tests_of, tests_space, unsigned}
 use Rattle.drv_syntax.proofs.Leads.{each, other, same}
 use Rattle.drv_syntax.proofs.Wanted.{After, Ended, IsChoiceRest, Of, Outside, Wanted, asked_rest, after_test, call_rest, due, form_1, form_2, mark_rest, patterns_due, start, test_call}
-use Rattle.drv_syntax.specs.Bytes.{is_function, is_function_front, is_mark, is_space, is_word}
+use Rattle.drv_syntax.specs.Bytes.{is_function, is_function_front, is_mark, is_white, is_word}
 use Rattle.drv_syntax.specs.Directives.{braced}
-use Rattle.drv_syntax.specs.Contexts.{Context, in_arguments, in_braces}
+use Rattle.drv_syntax.specs.Contexts.{ListContext, in_arguments, in_braces}
 use Rattle.drv_syntax.specs.Outcome as o
 use Rattle.drv_syntax.specs.Outcome.{Head, Here, On, Opens, Place, Turn, Waiting, WaitsCall, WaitsTest, emitted, join_tests, list_in, tested, turn}
 use Rattle.drv_syntax.specs.Spelling as s
@@ -22,7 +22,7 @@ is_word_mark b e = each (λ (x : ℕ). is_word x ≡ true) (46 ∷ 44 ∷ []) b 
 module _ (size : ℕ) (K : Outside) where
   -- functions
 
-  pub call_row : (c : Context) (at : ℕ) (name : List ℕ) (b : ℕ) (text : List ℕ) (opened : Turn) (further : Place) (P : List ℕ → Items → List ℕ → Type 0)
+  pub call_row : (c : ListContext) (at : ℕ) (name : List ℕ) (b : ℕ) (text : List ℕ) (opened : Turn) (further : Place) (P : List ℕ → Items → List ℕ → Type 0)
       → (Wanted size K further text → call_rest size K c (name ++ b ∷ []) text P)
       → (After size K b text opened → (arguments : Items) × (rest : List ℕ) × AreItems size (in_arguments c) text arguments (41 ∷ rest) × P name arguments rest)
       → After size K b text (o.turn_function at name b opened further) → call_rest size K c name (b ∷ text) P
@@ -139,15 +139,15 @@ module _ (size : ℕ) (K : Outside) where
       )
       by (x, y, e, inr i) = some_pattern h.patterns (span begun m, p) i
 
-  due_space : (h : Head) (b : ℕ) (text : List ℕ) → is_space b ≡ true → due size K h text → due size K h (b ∷ text)
+  due_space : (h : Head) (b : ℕ) (text : List ℕ) → is_white b ≡ true → due size K h text → due size K h (b ∷ text)
   due_space h b text e (inl (tests, end, choices, rest, t, c, w)) = inl (tests, end, choices, rest, tests_space e t, c, w)
   due_space h b text e (inr (x, y, (ps, rest, d, w))) = inr (x, y, (ps, rest, patterns_space e d, w))
 
   -- after white space or not
   pub due_row : (h : Head) (same_place : Place) (n b : ℕ) (text : List ℕ) → At size n (b ∷ text) → After size K b text (o.turn_due h same_place n b)
-      → due size K h (b ∷ text) ⊎ ((is_space b ≡ true) × Wanted size K same_place text)
+      → due size K h (b ∷ text) ⊎ ((is_white b ≡ true) × Wanted size K same_place text)
   due_row h same_place n b text a g =
-      when (After size K b text) (is_space b) _ _ g (λ e g. inr (e, g)) (λ e1 g.
+      when (After size K b text) (is_white b) _ _ g (λ e g. inr (e, g)) (λ e1 g.
       when (After size K b text) (b == 33) _ _ g
       (λ e g. inl (rw (same b 33 e) (due_of h n true (33 ∷ text) (33 ∷ text) g.0 s.no_space a (s.not_sign g.1) refl g.2)))
       (λ e2 g. inl (due_of h n false (b ∷ text) (b ∷ text) (b ∷ text) s.no_space a (s.plain_sign (s.at_byte e2)) refl (asked_row h n false n b text a g))))
@@ -155,18 +155,18 @@ module _ (size : ℕ) (K : Outside) where
   pub test_due_row : (h : Head) (n b : ℕ) (text : List ℕ) → At size n (b ∷ text) → After size K b text (o.turn_due h (o.TestDue h) n b) → due size K h (b ∷ text)
   test_due_row h n b text a g = by (due_row h (o.TestDue h) n b text a g)
     where
-      by : due size K h (b ∷ text) ⊎ ((is_space b ≡ true) × due size K h text) → due size K h (b ∷ text)
+      by : due size K h (b ∷ text) ⊎ ((is_white b ≡ true) × due size K h text) → due size K h (b ∷ text)
       by (inl x) = x
       by (inr (e, x)) = due_space h b text e x
 
   pub start_row : (h : Head) (n b : ℕ) (text : List ℕ) → At size n (b ∷ text) → After size K b text (o.turn_start h h.choices n b) → start size K h (b ∷ text)
   start_row h n b text a g = at_choices h.choices refl g
     where
-      space : is_space b ≡ true → start size K h text → start size K h (b ∷ text)
+      space : is_white b ≡ true → start size K h text → start size K h (b ∷ text)
       space e (inl x) = inl (due_space h b text e x)
       space e (inr (i, (choices, rest, d, w))) = inr (i, (choices, rest, later_space e d, w))
 
-      by : due size K h (b ∷ text) ⊎ ((is_space b ≡ true) × start size K h text) → start size K h (b ∷ text)
+      by : due size K h (b ∷ text) ⊎ ((is_white b ≡ true) × start size K h text) → start size K h (b ∷ text)
       by (inl x) = inl x
       by (inr (e, x)) = space e x
 
@@ -181,7 +181,7 @@ module _ (size : ℕ) (K : Outside) where
 
   pub negated_row : (h : Head) (begun n b : ℕ) (text : List ℕ) → At size n (b ∷ text) → After size K b text (turn (o.TestNegated h begun) n b) → Wanted size K (o.TestNegated h begun) (b ∷ text)
   negated_row h begun n b text a g =
-      when (After size K b text) (is_space b) _ _ g (λ e g. (g.0, s.space e g.1, g.2)) (λ e g. (b ∷ text, s.no_space, asked_row h begun true n b text a g))
+      when (After size K b text) (is_white b) _ _ g (λ e g. (g.0, s.space e g.1, g.2)) (λ e g. (b ∷ text, s.no_space, asked_row h begun true n b text a g))
 
   due_pattern : (h : Head) (n : ℕ) (text mid : List ℕ) (p : Pattern) (m : ℕ) → At size n text → IsPattern text p mid → At size m mid
       → after_test size K h (emitted h n m false p) (tested h n m false (HasSwitch p)) mid → patterns_due size K h text ⊎ (h.patterns ≡ [])
@@ -199,7 +199,7 @@ module _ (size : ℕ) (K : Outside) where
 
   pub pattern_row : (h : Head) (n b : ℕ) (text : List ℕ) → At size n (b ∷ text) → After size K b text (o.turn_pattern h n b) → Wanted size K (o.PatternDue h) (b ∷ text)
   pattern_row h n b text a g =
-      when (After size K b text) (is_space b) _ _ g (λ e g. space e g) (λ e1 g.
+      when (After size K b text) (is_white b) _ _ g (λ e g. space e g) (λ e1 g.
       when (After size K b text) (b == 92) _ _ g
       (λ e g. rw (same b 92 e, g.2) (due_pattern h n (92 ∷ g.0 ∷ g.1) g.3.1 g.3.0 g.3.2 (omega (arith, a, ap length g.2))
       (pattern_from g.0 g.1 (92 ∷ g.0 ∷ g.1) (λ run end q. s.quoted_escape q) g.3.3) g.3.4 g.3.5)) (λ e2 g.
@@ -208,6 +208,6 @@ module _ (size : ℕ) (K : Outside) where
       when (After size K b text) (b == 42) _ _ g
       (λ e g. rw (same b 42 e) (due_pattern h n (42 ∷ text) text (pattern [] true) (n + 1) a (s.starred (s.quoted_stop refl refl)) (one_byte size n b text a) g)) (λ e4 g. absurd g))))
     where
-      space : is_space b ≡ true → patterns_due size K h text ⊎ (h.patterns ≡ []) → patterns_due size K h (b ∷ text) ⊎ (h.patterns ≡ [])
+      space : is_white b ≡ true → patterns_due size K h text ⊎ (h.patterns ≡ []) → patterns_due size K h (b ∷ text) ⊎ (h.patterns ≡ [])
       space e (inl (ps, rest, d, w)) = inl (ps, rest, patterns_space e d, w)
       space e (inr i) = inr i

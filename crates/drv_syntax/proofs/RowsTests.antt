@@ -3,7 +3,7 @@ use Rattle.drv_syntax.proofs.Rows.{ends_at, one_byte, pattern_longer, when}
 use Rattle.drv_syntax.proofs.RowsBraces.{colon_row, emits_space, rest_space}
 use Rattle.drv_syntax.proofs.Leads.{each, same}
 use Rattle.drv_syntax.proofs.Wanted.{After, IsChoiceRest, Of, Outside, WantsList, after_test, emits_and, emits_end, form_1, form_2, mark_rest, marked_plain, marked_rest, marked_starred, rest_starred, rest_unstarred, tests_bar, tests_colon, word_rest}
-use Rattle.drv_syntax.specs.Bytes.{is_mark, is_space, is_word}
+use Rattle.drv_syntax.specs.Bytes.{is_mark, is_white, is_word}
 use Rattle.drv_syntax.specs.Directives.{braced}
 use Rattle.drv_syntax.specs.Contexts.{in_braces}
 use Rattle.drv_syntax.specs.Outcome as o
@@ -48,24 +48,24 @@ module _ (size : ℕ) (K : Outside) where
   bar_part h text (Some tests) bare (inr g) = inr g.1
   bar_part h text None bare g = absurd g
 
-  space_1 : (h : Head) (b : ℕ) (text : List ℕ) (ps : Option (List (Span × Pattern))) → is_space b ≡ true → Of (form_1 size K h text) ps → Of (form_1 size K h (b ∷ text)) ps
+  space_1 : (h : Head) (b : ℕ) (text : List ℕ) (ps : Option (List (Span × Pattern))) → is_white b ≡ true → Of (form_1 size K h text) ps → Of (form_1 size K h (b ∷ text)) ps
   space_1 h b text (Some ps) e (inl g) = inl (g.0, g.1, emits_space e g.2, g.3)
   space_1 h b text (Some ps) e (inr g) = inr g
   space_1 h b text None e g = absurd g
 
-  space_2 : (h : Head) (b : ℕ) (text : List ℕ) (ts : Option Tests) → is_space b ≡ true → Of (form_2 size K h text) ts → Of (form_2 size K h (b ∷ text)) ts
+  space_2 : (h : Head) (b : ℕ) (text : List ℕ) (ts : Option Tests) → is_white b ≡ true → Of (form_2 size K h text) ts → Of (form_2 size K h (b ∷ text)) ts
   space_2 h b text (Some ts) e (inl g) = inl (g.0, g.1, g.2, g.3, rest_space e g.4, g.5, g.6)
   space_2 h b text (Some ts) e (inr g) = inr g
   space_2 h b text None e g = absurd g
 
-  space_part : (h : Head) (b : ℕ) (text : List ℕ) (ps : Option (List (Span × Pattern))) (ts : Option Tests) → is_space b ≡ true → after_test size K h ps ts text → after_test size K h ps ts (b ∷ text)
+  space_part : (h : Head) (b : ℕ) (text : List ℕ) (ps : Option (List (Span × Pattern))) (ts : Option Tests) → is_white b ≡ true → after_test size K h ps ts text → after_test size K h ps ts (b ∷ text)
   space_part h b text ps ts e (inl g) = inl (space_1 h b text ps e g)
   space_part h b text ps ts e (inr g) = inr (space_2 h b text ts e g)
 
   pub after_row : (h : Head) (ps : Option (List (Span × Pattern))) (ts : Option Tests) (bare : Bool) (n b : ℕ) (text : List ℕ) → At size n (b ∷ text)
       → After size K b text (o.turn_after h ps ts bare n b) → after_test size K h ps ts (b ∷ text)
   after_row h ps ts bare n b text a g =
-      when (After size K b text) (is_space b) _ _ g (λ e g. space_part h b text ps ts e g) (λ e1 g.
+      when (After size K b text) (is_white b) _ _ g (λ e g. space_part h b text ps ts e g) (λ e1 g.
       when (After size K b text) (b == 125) _ _ g
       (λ e g. let x : After size K 125 text (o.turn_brace h ps n) = subst (λ (y : ℕ). After size K y text (o.turn_brace h ps n)) (same b 125 e) g in
       rw (same b 125 e) (inl (brace_part h n text ps (one_byte size n b text a) x))) (λ e2 g.
@@ -166,7 +166,7 @@ module _ (size : ℕ) (K : Outside) where
       (λ e g. inl (e1, rw (same b 125 e) (brace_part h n text (Some ps) (one_byte size n b text a) (subst (λ (y : ℕ). After size K y text (o.turn_brace h (Some ps) n)) (same b 125 e) g)))) (λ e2 g.
       when (After size K b text) (b == 38) _ _ g
       (λ e g. inl (e1, rw (same b 38 e) (and_part h text (Some ps) (subst (λ (y : ℕ). After size K y text (o.turn_and h (Some ps))) (same b 38 e) g)))) (λ e3 g.
-      when (After size K b text) (is_space b) _ _ g (λ e g. inl (e1, space_1 h b text (Some ps) e (left g))) (λ e4 g. absurd g))))
+      when (After size K b text) (is_white b) _ _ g (λ e g. inl (e1, space_1 h b text (Some ps) e (left g))) (λ e4 g. absurd g))))
     where
       left : {A : Type 0} → A ⊎ ⊥ → A
       left (inl x) = x

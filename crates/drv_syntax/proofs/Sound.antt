@@ -4,7 +4,7 @@ use Rattle.drv_syntax.proofs.RowsDue.{function_row, negated_row, pattern_row, st
 use Rattle.drv_syntax.proofs.RowsTests.{after_row, mark_row, marked_row, word_row}
 use Rattle.drv_syntax.proofs.Leads.{same}
 use Rattle.drv_syntax.proofs.Wanted.{After, Around, Ended, Outside, Wanted, WantsList, percent_rest, rest_unstarred, start, suffix_rest}
-use Rattle.drv_syntax.specs.Bytes.{is_name, is_option}
+use Rattle.drv_syntax.specs.Bytes.{is_name_byte, is_option}
 use Rattle.drv_syntax.specs.Directives.{braced, directive_of, is_allowed, said, text_of}
 use Rattle.drv_syntax.specs.declared.directives.BraceKind.{BraceKind}
 use Rattle.drv_syntax.specs.declared.directives.BraceKind.TheVariants.{InPlace}
@@ -58,7 +58,7 @@ module _ (size : ℕ) (K : Outside) where
         NamedText r.0,
         r.1,
         subst (λ (v : List ℕ). IsDirective size here.context WithName text (NamedText v) r.1) (sym r.6)
-            (s.named_text (subst (λ (v : List ℕ). IsRun is_name text v (41 ∷ r.1)) r.6 r.4) (subst (λ (v : List ℕ). length v ≤ 255) r.6 r.5)),
+            (s.named_text (subst (λ (v : List ℕ). IsRun is_name_byte text v (41 ∷ r.1)) r.6 r.4) (subst (λ (v : List ℕ). length v ≤ 255) r.6 r.5)),
         r.7,
       )
   directive_row here at m b text a WithPattern (p, rest, q, w) = (Hide p, rest, s.hide q, w)

@@ -1,11 +1,11 @@
 use Rattle.drv_syntax.proofs.Cuts.{Bare, Filled, Fine, Possible, Tested, There}
 use Rattle.drv_syntax.proofs.Parts.{HasChoice}
 use Rattle.drv_syntax.proofs.Wanted.{IsPatternRest, IsTestsRest, Of, Outside, Wanted}
-use Rattle.drv_syntax.specs.Bytes.{is_function, is_function_front, is_name, is_space, is_word}
+use Rattle.drv_syntax.specs.Bytes.{is_function, is_function_front, is_name_byte, is_white, is_word}
 use Rattle.drv_syntax.specs.declared.directives.Directive.TheVariants.{WithOption}
 use Rattle.drv_syntax.specs.declared.fault.SyntaxFault.{SyntaxFault}
 use Rattle.drv_syntax.specs.declared.fault.SyntaxFault.TheVariants.{BadDirective, EmptyTest, UnknownFunction}
-use Rattle.drv_syntax.specs.Contexts.{Context, Top, in_arguments, in_braces, in_x, is_end}
+use Rattle.drv_syntax.specs.Contexts.{ListContext, Top, in_arguments, in_braces, in_x, is_end}
 use Rattle.drv_syntax.specs.Outcome as o
 use Rattle.drv_syntax.specs.Outcome.{Head, Not, On, Place, Turn, Waiting, emitted, fresh, join_tests, resume, tested}
 use Rattle.drv_syntax.specs.Refusals.{AWord, AnEnd, AtBar, AtFront, AtNext, BehindMark, Breaks, Due, Empty, IsNoFunction, Order, PastMark, Reaches, ReachesAsked, ReachesEmits, ReachesLater, ReachesPatterns, ReachesTests, Refuses, ends_either, ends_pattern, ends_test}
@@ -47,13 +47,13 @@ module _ (size : ℕ) (F : SyntaxFault) where
   abbrev pub Ends : (Due → List ℕ → Type 0) → Type 0
   Ends R = (due : Due) × (last : List ℕ) × R due last × Refuses size due last F
 
-  abbrev pub list_stuck : Context → List ℕ → Type 0
+  abbrev pub list_stuck : ListContext → List ℕ → Type 0
   list_stuck c text = Ends (Reaches size c text)
 
-  abbrev pub later_stuck : Context → ℕ → List ℕ → Type 0
+  abbrev pub later_stuck : ListContext → ℕ → List ℕ → Type 0
   later_stuck c n text = Ends (ReachesLater size c n text)
 
-  abbrev pub tests_stuck : Context → ℕ → Order → List ℕ → Type 0
+  abbrev pub tests_stuck : ListContext → ℕ → Order → List ℕ → Type 0
   tests_stuck c n order text = Ends (ReachesTests size c n order text)
 
   abbrev pub emits_stuck : ℕ → List ℕ → Type 0
@@ -63,7 +63,7 @@ module _ (size : ℕ) (F : SyntaxFault) where
   patterns_stuck n text = Ends (ReachesPatterns n text)
 
   -- from the colon of an alternative with these tests
-  abbrev pub choice_stuck : Context → ℕ → Tests → List ℕ → Type 0
+  abbrev pub choice_stuck : ListContext → ℕ → Tests → List ℕ → Type 0
   choice_stuck c n tests end =
       (mid : List ℕ) × (end ≡ 58 ∷ mid)
       × (list_stuck (in_x c tests) mid ⊎ ((items : Items) × (next : List ℕ) × AreItems size (in_x c tests) mid items (59 ∷ next) × later_stuck c n next))
@@ -72,7 +72,7 @@ module _ (size : ℕ) (F : SyntaxFault) where
   abbrev pub after_patterns : ℕ → List ℕ → Type 0
   after_patterns n text = (rest : List ℕ) × AreSpaces text (38 ∷ rest) × patterns_stuck n rest
 
-  abbrev pub after_tests : Context → ℕ → Tests → List ℕ → Type 0
+  abbrev pub after_tests : ListContext → ℕ → Tests → List ℕ → Type 0
   after_tests c n tests text =
       ((others : Tests) × (end : List ℕ) × IsTestsRest size c text others end × choice_stuck c n (join_tests tests others) end)
       ⊎ ((rest : List ℕ) × AreSpaces text (124 ∷ rest) × tests_stuck c n AtBar rest)
@@ -85,7 +85,7 @@ module _ (size : ℕ) (F : SyntaxFault) where
       Of (λ _. after_patterns h.at text) ps ⊎ (Of (λ tests. after_tests (in_braces h.here.context) h.at tests text) ts ⊎ end_stuck (end_due bare h.at ps ts) text)
 
   -- where a test is due
-  abbrev pub tests_left : Context → ℕ → Order → Tests → List ℕ → Type 0
+  abbrev pub tests_left : ListContext → ℕ → Order → Tests → List ℕ → Type 0
   tests_left c n order tests text = ((others : Tests) × (end : List ℕ) × AreTests size c text others end × choice_stuck c n (join_tests tests others) end) ⊎ tests_stuck c n order text
 
   abbrev pub due_stuck : Head → List ℕ → Type 0
@@ -124,7 +124,7 @@ module _ (size : ℕ) (F : SyntaxFault) where
   marked_stuck h begun negated mark word text = (run : List ℕ) × (mid : List ℕ) × IsQuoted is_word text run mid × marked_after h begun negated mark (word ++ run) mid
 
   abbrev pub alone_stuck : ℕ → List ℕ → Type 0
-  alone_stuck n text = Refuses size (BehindMark n) text F ⊎ ((b : ℕ) × (rest : List ℕ) × (text ≡ b ∷ rest) × (is_space b ≡ true) × end_stuck (PastMark n) rest)
+  alone_stuck n text = Refuses size (BehindMark n) text F ⊎ ((b : ℕ) × (rest : List ℕ) × (text ≡ b ∷ rest) × (is_white b ≡ true) × end_stuck (PastMark n) rest)
 
   abbrev pub mark_stuck : Head → ℕ → Bool → ℕ → List ℕ → Type 0
   mark_stuck h begun negated mark text =
@@ -135,7 +135,7 @@ module _ (size : ℕ) (F : SyntaxFault) where
       ⊎ ((m : ℕ) × Absent (emitted h begun m negated (pattern (mark ∷ []) false)) × Refuses size (AWord h.at) text F)))
 
   -- after a front of a function's name, whose % has this place
-  abbrev pub call_stuck : ℕ → Context → List ℕ → List ℕ → (List ℕ → Items → List ℕ → Type 0) → Type 0
+  abbrev pub call_stuck : ℕ → ListContext → List ℕ → List ℕ → (List ℕ → Items → List ℕ → Type 0) → Type 0
   call_stuck at c name text behind =
       (IsNoFunction (name ++ text) × (UnknownFunction at ≡ F))
       ⊎ ((others : List ℕ) × (mid : List ℕ) × (text ≡ others ++ 40 ∷ mid) × (is_function (name ++ others) ≡ true)
@@ -152,9 +152,9 @@ module _ (size : ℕ) (F : SyntaxFault) where
   abbrev pub name_stuck : ℕ → List ℕ → List ℕ → Type 0
   name_stuck at name text =
       (BadDirective at ≡ F)
-      × (((name ≡ []) × (b : ℕ) × (text ≡ b ∷ []) × (is_name b ≡ false))
-      ⊎ (((run : List ℕ) × (b : ℕ) × IsRun is_name text run (b ∷ []) × (length (name ++ run) ≤ 255) × ((b == 41) ≡ false))
-      ⊎ ((run : List ℕ) × IsRun is_name text run [] × (length (name ++ run) ≡ 256))))
+      × (((name ≡ []) × (b : ℕ) × (text ≡ b ∷ []) × (is_name_byte b ≡ false))
+      ⊎ (((run : List ℕ) × (b : ℕ) × IsRun is_name_byte text run (b ∷ []) × (length (name ++ run) ≤ 255) × ((b == 41) ≡ false))
+      ⊎ ((run : List ℕ) × IsRun is_name_byte text run [] × (length (name ++ run) ≡ 256))))
 
   abbrev pub Stuck : Place → List ℕ → Type 0
   Stuck (o.AtItem here) text = ⊥
@@ -202,7 +202,7 @@ module _ (size : ℕ) (F : SyntaxFault) where
   StuckAround (w ∷ ws) c all rest = Beyond (StuckAround ws) w c all rest
 
   -- what is left of a list in a directive, where the text ends inside the list, at its end or after it
-  abbrev pub InsideStuck : Waiting → Context → List ℕ → Type 0
+  abbrev pub InsideStuck : Waiting → ListContext → List ℕ → Type 0
   InsideStuck w c text =
       list_stuck c text
       ⊎ ((items : Items) × (b : ℕ) × (rest : List ℕ) × (k : ℕ) × AreItems size c text items (b ∷ rest) × (is_end c.kind b ≡ true) × At size k (b ∷ rest)

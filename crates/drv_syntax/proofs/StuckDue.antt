@@ -9,10 +9,10 @@ use Rattle.drv_syntax.proofs.Stuck.{Absent, Ends, InsideStuck, Stuck, StuckAfter
 use Rattle.drv_syntax.proofs.StuckRows.{call_longer, no_front, no_name_there, opened_list}
 use Rattle.drv_syntax.proofs.StuckTests.{tested_order, unmarked}
 use Rattle.drv_syntax.proofs.Wanted.{After, Inside, Of, Outside, Wanted, WantsList}
-use Rattle.drv_syntax.specs.Bytes.{is_function, is_function_front, is_mark, is_space, is_word}
+use Rattle.drv_syntax.specs.Bytes.{is_function, is_function_front, is_mark, is_white, is_word}
 use Rattle.drv_syntax.specs.declared.fault.SyntaxFault.{SyntaxFault}
 use Rattle.drv_syntax.specs.declared.fault.SyntaxFault.TheVariants.{BadDirective, EmptyTest, TooNested, UnknownFunction}
-use Rattle.drv_syntax.specs.Contexts.{Context, in_arguments, in_braces, in_x}
+use Rattle.drv_syntax.specs.Contexts.{ListContext, in_arguments, in_braces, in_x}
 use Rattle.drv_syntax.specs.Outcome as o
 use Rattle.drv_syntax.specs.Outcome.{Head, Not, On, Opens, Place, WaitsTest, WaitsX, emitted, emitted_by, join_tests, list_in, tested, tested_by, turn, with_tests}
 use Rattle.drv_syntax.specs.Refusals as r
@@ -48,38 +48,38 @@ bar_default order negated b e = ap (λ (x : Order). is_default x negated b) e
 
 -- white space in front
 
-emits_space : {n b : ℕ} {text rest : List ℕ} {due : Due} → is_space b ≡ true → ReachesEmits n text due rest → ReachesEmits n (b ∷ text) due rest
+emits_space : {n b : ℕ} {text rest : List ℕ} {due : Due} → is_white b ≡ true → ReachesEmits n text due rest → ReachesEmits n (b ∷ text) due rest
 emits_space e (r.starred_ends sp m q f) = r.starred_ends (s.space e sp) m q f
 emits_space e (r.after_mark sp m q) = r.after_mark (s.space e sp) m q
 emits_space e (r.past_mark sp m x f) = r.past_mark (s.space e sp) m x f
 emits_space e (r.after_first sp q f d) = r.after_first (s.space e sp) q f d
 
-patterns_space : {n b : ℕ} {text rest : List ℕ} {due : Due} → is_space b ≡ true → ReachesPatterns n text due rest → ReachesPatterns n (b ∷ text) due rest
+patterns_space : {n b : ℕ} {text rest : List ℕ} {due : Due} → is_white b ≡ true → ReachesPatterns n text due rest → ReachesPatterns n (b ∷ text) due rest
 patterns_space e (r.pattern_due sp) = r.pattern_due (s.space e sp)
 patterns_space e (r.pattern_ends sp q f) = r.pattern_ends (s.space e sp) q f
 patterns_space e (r.after_and sp q f d) = r.after_and (s.space e sp) q f d
 
-reached_space : {size n b : ℕ} {c : Context} {order : Order} {text rest : List ℕ} {due : Due} → is_space b ≡ true → ReachesTests size c n order text due rest → ReachesTests size c n order (b ∷ text) due rest
+reached_space : {size n b : ℕ} {c : ListContext} {order : Order} {text rest : List ℕ} {due : Due} → is_white b ≡ true → ReachesTests size c n order text due rest → ReachesTests size c n order (b ∷ text) due rest
 reached_space e (r.in_test sp f d) = r.in_test (s.space e sp) f d
 reached_space e (r.after_bar sp f q g d) = r.after_bar (s.space e sp) f q g d
 
-choices_space : {size n b : ℕ} {c : Context} {order : Order} {text rest : List ℕ} {due : Due} → is_space b ≡ true → ReachesChoices size c n order text due rest → ReachesChoices size c n order (b ∷ text) due rest
+choices_space : {size n b : ℕ} {c : ListContext} {order : Order} {text rest : List ℕ} {due : Due} → is_white b ≡ true → ReachesChoices size c n order text due rest → ReachesChoices size c n order (b ∷ text) due rest
 choices_space e (r.to_tests d) = r.to_tests (reached_space e d)
 choices_space e (r.to_x t d) = r.to_x (tests_space e t) d
 choices_space e (r.after_x t i d) = r.after_x (tests_space e t) i d
 
-later_space : {size n b : ℕ} {c : Context} {text rest : List ℕ} {due : Due} → is_space b ≡ true → ReachesLater size c n text due rest → ReachesLater size c n (b ∷ text) due rest
+later_space : {size n b : ℕ} {c : ListContext} {text rest : List ℕ} {due : Due} → is_white b ≡ true → ReachesLater size c n text due rest → ReachesLater size c n (b ∷ text) due rest
 later_space e (r.to_next d) = r.to_next (choices_space e d)
 later_space e (r.to_default sp d) = r.to_default (s.space e sp) d
 later_space e (r.after_default sp d) = r.after_default (s.space e sp) d
 
-due_space : (size : ℕ) (F : SyntaxFault) (h : Head) (b : ℕ) (text : List ℕ) → is_space b ≡ true → due_stuck size F h text → due_stuck size F h (b ∷ text)
+due_space : (size : ℕ) (F : SyntaxFault) (h : Head) (b : ℕ) (text : List ℕ) → is_white b ≡ true → due_stuck size F h text → due_stuck size F h (b ∷ text)
 due_space size F h b text e (inl (inl (others, end, t, x))) = inl (inl (others, end, tests_space e t, x))
 due_space size F h b text e (inl (inr (due, last, t, x))) = inl (inr (due, last, reached_space e t, x))
 due_space size F h b text e (inr (x, (due, last, d, y))) = inr (x, (due, last, emits_space e d, y))
 
 module _ (size : ℕ) (F : SyntaxFault) (h : Head) where
-  abbrev inner : Context
+  abbrev inner : ListContext
   inner = in_braces h.here.context
 
   abbrev Asked' : Bool → List ℕ → Type 0
@@ -174,13 +174,13 @@ module _ (size : ℕ) (F : SyntaxFault) (h : Head) where
         )
     from_mark (inr (inl (m, q, f, g))) =
         by (emitted_there begun m negated (pattern (b ∷ []) false) (after_patterns size F h.at text ⊎ (Refuses size (BehindMark h.at) text F
-        ⊎ ((x : ℕ) × (rest : List ℕ) × (text ≡ x ∷ rest) × (is_space x ≡ true) × end_stuck size F (PastMark h.at) rest))) g)
+        ⊎ ((x : ℕ) × (rest : List ℕ) × (text ≡ x ∷ rest) × (is_white x ≡ true) × end_stuck size F (PastMark h.at) rest))) g)
       where
         alone : IsPattern (b ∷ text) (pattern (b ∷ []) false) text
         alone = s.unstarred (marked_quoted q) f
 
         by : Bare h × (negated ≡ false) × (after_patterns size F h.at text ⊎ (Refuses size (BehindMark h.at) text F
-            ⊎ ((x : ℕ) × (rest : List ℕ) × (text ≡ x ∷ rest) × (is_space x ≡ true) × end_stuck size F (PastMark h.at) rest)))
+            ⊎ ((x : ℕ) × (rest : List ℕ) × (text ≡ x ∷ rest) × (is_white x ≡ true) × end_stuck size F (PastMark h.at) rest)))
             → asked_stuck size F h begun negated (b ∷ text)
         by (x, y, inl v) = inr (inr (x, y, emits_from (b ∷ text) text (pattern (b ∷ []) false) alone v))
         by (x, y, inr (inl v)) = inr (inr (x, y, (BehindMark h.at, text, r.after_mark s.no_space e alone, v)))
@@ -217,7 +217,7 @@ module _ (size : ℕ) (F : SyntaxFault) (h : Head) where
   from_call begun negated n text a lv (inr (rest, f, inr (others, mid, y, fn, inr (arguments, end, d, (m, k, inr (last, i, x)))))) =
       rw (f, y) (inl (AnEnd h.at ends_test, last, r.call_ends (s.result (s.call lv fn d)) i, x))
 
-module _ (size : ℕ) (F : SyntaxFault) (K : Outside) (ending : (c : Context) (all : Items) (rest : List ℕ) → list_stuck size F c rest → K c all rest) where
+module _ (size : ℕ) (F : SyntaxFault) (K : Outside) (ending : (c : ListContext) (all : Items) (rest : List ℕ) → list_stuck size F c rest → K c all rest) where
   -- functions
 
   pub test_function_stuck_row : (h : Head) (begun : ℕ) (negated : Bool) (at : ℕ) (name : List ℕ) (n b : ℕ) (text : List ℕ) → StuckAfter size F K b text (turn (o.TestFunction h begun negated at name) n b)
@@ -262,7 +262,7 @@ module _ (size : ℕ) (F : SyntaxFault) (K : Outside) (ending : (c : Context) (a
 
   -- what a test asks
 
-  asked_stuck_row : (h : Head) (begun : ℕ) (negated : Bool) (n b : ℕ) (text : List ℕ) → At size n (b ∷ text) → h.patterns ≡ [] → is_space b ≡ false → is_default (order_of h) negated b ≡ false
+  asked_stuck_row : (h : Head) (begun : ℕ) (negated : Bool) (n b : ℕ) (text : List ℕ) → At size n (b ∷ text) → h.patterns ≡ [] → is_white b ≡ false → is_default (order_of h) negated b ≡ false
       → StuckAfter size F K b text (o.turn_asked h begun negated n b) → asked_stuck size F h begun negated (b ∷ text)
   asked_stuck_row h begun negated n b text a z sp df g =
       when (StuckAfter size F K b text) (b == 92) _ _ g (λ e g. rw (same b 92 e) (from_escape size F h begun negated text z (g (inl z)))) (λ e1 g.
@@ -304,9 +304,9 @@ module _ (size : ℕ) (F : SyntaxFault) (K : Outside) (ending : (c : Context) (a
 
   -- after white space or not
   due_stuck_row : (h : Head) (same_place : Place) (n b : ℕ) (text : List ℕ) → At size n (b ∷ text) → h.patterns ≡ [] → is_default (order_of h) false b ≡ false
-      → StuckAfter size F K b text (o.turn_due h same_place n b) → due_stuck size F h (b ∷ text) ⊎ ((is_space b ≡ true) × Stuck size F same_place text)
+      → StuckAfter size F K b text (o.turn_due h same_place n b) → due_stuck size F h (b ∷ text) ⊎ ((is_white b ≡ true) × Stuck size F same_place text)
   due_stuck_row h same_place n b text a z df g =
-      when (StuckAfter size F K b text) (is_space b) _ _ g (λ e g. inr (e, g)) (λ e1 g.
+      when (StuckAfter size F K b text) (is_white b) _ _ g (λ e g. inr (e, g)) (λ e1 g.
       when (StuckAfter size F K b text) (b == 33) _ _ g
       (λ e g. let y = g z in
       inl (rw (same b 33 e) (due_stuck_of h n true (33 ∷ text) y.0 (subst (λ (x : ℕ). At size n (x ∷ text)) (same b 33 e) a) (s.not_sign y.1) y.2)))
@@ -315,7 +315,7 @@ module _ (size : ℕ) (F : SyntaxFault) (K : Outside) (ending : (c : Context) (a
   pub test_due_stuck_row : (h : Head) (n b : ℕ) (text : List ℕ) → At size n (b ∷ text) → StuckAfter size F K b text (o.turn_due h (o.TestDue h) n b) → Stuck size F (o.TestDue h) (b ∷ text)
   test_due_stuck_row h n b text a g z = by (due_stuck_row h (o.TestDue h) n b text a z.0 (bar_default (order_of h) false b (tested_order h.tests h.choices z.1)) g)
     where
-      by : due_stuck size F h (b ∷ text) ⊎ ((is_space b ≡ true) × ((h.patterns ≡ []) × Tested h.tests → due_stuck size F h text)) → due_stuck size F h (b ∷ text)
+      by : due_stuck size F h (b ∷ text) ⊎ ((is_white b ≡ true) × ((h.patterns ≡ []) × Tested h.tests → due_stuck size F h text)) → due_stuck size F h (b ∷ text)
       by (inl x) = x
       by (inr (e, x)) = due_space size F h b text e (x z)
 
@@ -329,7 +329,7 @@ module _ (size : ℕ) (F : SyntaxFault) (K : Outside) (ending : (c : Context) (a
       → Wanted size K (o.ChoiceStart h) (b ∷ text) ⊎ Stuck size F (o.ChoiceStart h) (b ∷ text)
   start_stuck_row h n b text a g = at_choices h.choices refl g
     where
-      by : due_stuck size F h (b ∷ text) ⊎ ((is_space b ≡ true) × ((h.patterns ≡ []) × (h.tests ≡ no_test) → start_stuck size F h text)) → (h.patterns ≡ []) × (h.tests ≡ no_test) → start_stuck size F h (b ∷ text)
+      by : due_stuck size F h (b ∷ text) ⊎ ((is_white b ≡ true) × ((h.patterns ≡ []) × (h.tests ≡ no_test) → start_stuck size F h text)) → (h.patterns ≡ []) × (h.tests ≡ no_test) → start_stuck size F h (b ∷ text)
       by (inl x) z = inl x
       by (inr (e, x)) z = spaced (x z)
         where
@@ -379,7 +379,7 @@ module _ (size : ℕ) (F : SyntaxFault) (K : Outside) (ending : (c : Context) (a
 
   pub negated_stuck_row : (h : Head) (begun n b : ℕ) (text : List ℕ) → At size n (b ∷ text) → StuckAfter size F K b text (turn (o.TestNegated h begun) n b) → Stuck size F (o.TestNegated h begun) (b ∷ text)
   negated_stuck_row h begun n b text a g z =
-      when (StuckAfter size F K b text) (is_space b) _ _ g (λ e g. let y = g z in (y.0, s.space e y.1, y.2))
+      when (StuckAfter size F K b text) (is_white b) _ _ g (λ e g. let y = g z in (y.0, s.space e y.1, y.2))
       (λ e g. (b ∷ text, s.no_space, asked_stuck_row h begun true n b text a z e (signed_default (order_of h) b) g))
 
   -- a pattern that is due
@@ -410,7 +410,7 @@ module _ (size : ℕ) (F : SyntaxFault) (K : Outside) (ending : (c : Context) (a
 
   pub pattern_stuck_row : (h : Head) (n b : ℕ) (text : List ℕ) → At size n (b ∷ text) → StuckAfter size F K b text (o.turn_pattern h n b) → Stuck size F (o.PatternDue h) (b ∷ text)
   pattern_stuck_row h n b text a g y =
-      when (StuckAfter size F K b text) (is_space b) _ _ g (λ e g. let x = g y in (x.0, x.1, patterns_space e x.2, x.3)) (λ e1 g.
+      when (StuckAfter size F K b text) (is_white b) _ _ g (λ e g. let x = g y in (x.0, x.1, patterns_space e x.2, x.3)) (λ e1 g.
       when (StuckAfter size F K b text) (b == 92) _ _ g (λ e g. rw (same b 92 e) (due_escape h n text y.0 y.1 (g (inr (y.0.0, y.0.1, refl))))) (λ e2 g.
       when (StuckAfter size F K b text) (is_word b) _ _ g
       (λ e g. due_word h n b text (b ∷ text) y.0 y.1 (λ run end q. s.quoted_byte e2 e q) (g (inr (y.0.0, y.0.1, refl)))) (λ e3 g.

@@ -4,7 +4,7 @@ use Rattle.drv_syntax.proofs.RowsBraces.{on_same}
 use Rattle.drv_syntax.proofs.RowsDue.{function_row}
 use Rattle.drv_syntax.proofs.Stuck.{Beyond, Ends, InsideStuck, Stuck, StuckAfter, call_stuck, list_stuck, name_stuck, start_stuck, tests_left}
 use Rattle.drv_syntax.proofs.Wanted.{After, Inside, Outside, Wanted, WantsList, rest_unstarred}
-use Rattle.drv_syntax.specs.Bytes.{is_blank, is_function, is_function_front, is_name, is_suffix, is_word}
+use Rattle.drv_syntax.specs.Bytes.{is_blank, is_function, is_function_front, is_name_byte, is_suffix, is_word}
 use Rattle.drv_syntax.specs.Directives.{directive_of, is_allowed, said}
 use Rattle.drv_syntax.specs.declared.directives.BraceKind.{BraceKind}
 use Rattle.drv_syntax.specs.declared.directives.BraceKind.TheVariants.{InPlace}
@@ -13,7 +13,7 @@ use Rattle.drv_syntax.specs.declared.directives.Directive.TheVariants.{Named, No
 use Rattle.drv_syntax.specs.declared.directives.SayKind.{SayKind}
 use Rattle.drv_syntax.specs.declared.fault.SyntaxFault.{SyntaxFault}
 use Rattle.drv_syntax.specs.declared.fault.SyntaxFault.TheVariants.{BadDirective, EmptyTest, MixedStar, StarOutside, TooNested}
-use Rattle.drv_syntax.specs.Contexts.{Context, Mixed, Nobody, Owner, Starred, in_arguments, in_braces, is_end, is_said}
+use Rattle.drv_syntax.specs.Contexts.{ListContext, Mixed, Nobody, Owner, Starred, in_arguments, in_braces, is_end, is_said}
 use Rattle.drv_syntax.specs.Outcome as o
 use Rattle.drv_syntax.specs.Outcome.{Here, On, Opens, Place, Waiting, WaitsCall, fresh, join, list_in, placed, resume, turn, turn_item}
 use Rattle.drv_syntax.specs.Refusals as r
@@ -42,7 +42,7 @@ grown (y ∷ xs) x e = absurd cc
 module _ (size : ℕ) (F : SyntaxFault) where
   -- functions
 
-  pub call_longer : (at : ℕ) (c : Context) (name : List ℕ) (b : ℕ) (text : List ℕ) (P : List ℕ → Items → List ℕ → Type 0) → call_stuck size F at c (name ++ b ∷ []) text P → call_stuck size F at c name (b ∷ text) P
+  pub call_longer : (at : ℕ) (c : ListContext) (name : List ℕ) (b : ℕ) (text : List ℕ) (P : List ℕ → Items → List ℕ → Type 0) → call_stuck size F at c (name ++ b ∷ []) text P → call_stuck size F at c name (b ∷ text) P
   call_longer at c name b text P (inl (f, e)) = inl (subst IsNoFunction (append_assoc name (b ∷ []) text) f, e)
   call_longer at c name b text P (inr (others, mid, x, fn, inl f)) = inr (b ∷ others, mid, ap (λ (z : List ℕ). b ∷ z) x, sym (ap is_function (append_assoc name (b ∷ []) others)) ∙ fn, inl f)
   call_longer at c name b text P (inr (others, mid, x, fn, inr (arguments, rest, d, p))) =
@@ -64,7 +64,7 @@ module _ (size : ℕ) (F : SyntaxFault) where
 
   -- braces
 
-  pub choices_stuck : (c : Context) (n : ℕ) (order : Order) (text : List ℕ) → tests_left size F c n order no_test text → Ends size F (ReachesChoices size c n order text)
+  pub choices_stuck : (c : ListContext) (n : ℕ) (order : Order) (text : List ℕ) → tests_left size F c n order no_test text → Ends size F (ReachesChoices size c n order text)
   choices_stuck c n order text (inl (others, end, t, (mid, x, inl (due, last, d, y)))) = (due, last, r.to_x (subst (AreTests size c text others) x t) d, y)
   choices_stuck c n order text (inl (others, end, t, (mid, x, inr (items, next, d, (due, last, l, y))))) = (due, last, r.after_x (subst (AreTests size c text others) x t) d l, y)
   choices_stuck c n order text (inr (due, last, t, y)) = (due, last, r.to_tests t, y)
@@ -76,7 +76,7 @@ module _ (size : ℕ) (F : SyntaxFault) where
 
   -- an item that is refused, and one in which something is due
 
-  module _ (c : Context) (at b : ℕ) (text : List ℕ) (al : is_allowed c.in_arguments b ≡ true) where
+  module _ (c : ListContext) (at b : ℕ) (text : List ℕ) (al : is_allowed c.in_arguments b ≡ true) where
     refused_here : {fault : SyntaxFault} → fault ≡ F → Refuses size (AnItem c) (37 ∷ b ∷ text) fault → list_stuck size F c (37 ∷ b ∷ text)
     refused_here e x = (AnItem c, 37 ∷ b ∷ text, r.item_due, subst (Refuses size (AnItem c) (37 ∷ b ∷ text)) e x)
 
@@ -91,7 +91,7 @@ module _ (size : ℕ) (F : SyntaxFault) where
     inside : (f : Directive) → directive_of b ≡ f → At size at (37 ∷ b ∷ text) → Ends size F (ReachesIn size c at f text) → list_stuck size F c (37 ∷ b ∷ text)
     inside f e a (due, last, d, y) = (due, last, r.in_directive a al (subst (λ (z : Directive). ReachesIn size c at z text due last) (sym e) d), y)
 
-module _ (size : ℕ) (F : SyntaxFault) (K : Outside) (ending : (c : Context) (all : Items) (rest : List ℕ) → list_stuck size F c rest → K c all rest) where
+module _ (size : ℕ) (F : SyntaxFault) (K : Outside) (ending : (c : ListContext) (all : Items) (rest : List ℕ) → list_stuck size F c rest → K c all rest) where
   -- a list in an item of which the text ends
   pub list_ends : (here : Here) (text : List ℕ) → list_stuck size F here.context text → WantsList size K here text
   list_ends here text f = record {
@@ -113,7 +113,7 @@ module _ (size : ℕ) (F : SyntaxFault) (K : Outside) (ending : (c : Context) (a
       when (StuckAfter size F K b text) (b == 124) _ _ h (λ e g. absurd g) (λ e6 g. absurd g))))))
 
   -- after a list in a directive, the directive goes on, or the text ends in it
-  pub opened_list : (w : Waiting) (c : Context) (text : List ℕ) → WantsList size (Beyond size F K w) (record { context = c; done = none }) text ⊎ ⊥
+  pub opened_list : (w : Waiting) (c : ListContext) (text : List ℕ) → WantsList size (Beyond size F K w) (record { context = c; done = none }) text ⊎ ⊥
       → WantsList size (Inside size K w) (record { context = c; done = none }) text ⊎ InsideStuck size F w c text
   opened_list w c text (inr x) = absurd x
   opened_list w c text (inl l) = by l.outside
@@ -148,13 +148,13 @@ module _ (size : ℕ) (F : SyntaxFault) (K : Outside) (ending : (c : Context) (a
 
   -- directives
 
-  star_stuck_row : (c : Context) (here : Here) (at m b : ℕ) (text : List ℕ) (owner : Owner) → is_allowed c.in_arguments b ≡ true → directive_of b ≡ OfStar → c.owner ≡ owner → At size at (37 ∷ b ∷ text)
+  star_stuck_row : (c : ListContext) (here : Here) (at m b : ℕ) (text : List ℕ) (owner : Owner) → is_allowed c.in_arguments b ≡ true → directive_of b ≡ OfStar → c.owner ≡ owner → At size at (37 ∷ b ∷ text)
       → StuckAfter size F K b text (o.turn_star here at m owner) → list_stuck size F c (37 ∷ b ∷ text)
   star_stuck_row c here at m b text Nobody al e f a g = refused_byte size F c at b text al (StarOutside at) g a (λ x. r.star_outside x al e f)
   star_stuck_row c here at m b text Mixed al e f a g = refused_byte size F c at b text al (MixedStar at) g a (λ x. r.mixed_star x al e f)
   star_stuck_row c here at m b text Starred al e f a g = absurd g
 
-  name_breaks : (c : Context) (at : ℕ) (text : List ℕ) → name_stuck size F at [] text → Breaks c WithName text
+  name_breaks : (c : ListContext) (at : ℕ) (text : List ℕ) → name_stuck size F at [] text → Breaks c WithName text
   name_breaks c at text (g, inl (x, b, e, f)) = rw e (r.no_name f)
   name_breaks c at text (g, inr (inl (run, b, q, l, f))) = r.open_name q l f
   name_breaks c at text (g, inr (inr (run, q, l))) = r.long_name q l
@@ -267,16 +267,16 @@ module _ (size : ℕ) (F : SyntaxFault) (K : Outside) (ending : (c : Context) (a
       ))))
 
   -- a name with one byte more
-  name_longer : (at : ℕ) (name : List ℕ) (b : ℕ) (text : List ℕ) → is_name b ≡ true → name_stuck size F at (name ++ b ∷ []) text → name_stuck size F at name (b ∷ text)
+  name_longer : (at : ℕ) (name : List ℕ) (b : ℕ) (text : List ℕ) → is_name_byte b ≡ true → name_stuck size F at (name ++ b ∷ []) text → name_stuck size F at name (b ∷ text)
   name_longer at name b text e (g, inl (x, c, y, z)) = grown name b x
   name_longer at name b text e (g, inr (inl (run, x, q, l, y))) = (g, inr (inl (b ∷ run, x, s.run_goes e q, subst (λ (z : List ℕ). length z ≤ 255) (append_assoc name (b ∷ []) run) l, y)))
   name_longer at name b text e (g, inr (inr (run, q, l))) = (g, inr (inr (b ∷ run, s.run_goes e q, sym (ap length (append_assoc name (b ∷ []) run)) ∙ l)))
 
   pub name_stuck_row : (here : Here) (at : ℕ) (name : List ℕ) (n b : ℕ) (text : List ℕ) → StuckAfter size F K b text (o.turn_name here at name n b) → Stuck size F (o.NameText here at name) (b ∷ text)
   name_stuck_row here at [] n b text h l =
-      when (StuckAfter size F K b text) (is_name b) _ _ h (λ e g. name_longer at [] b text e (g (omega arith))) (λ e g. (g.0, inl (refl, b, rw g.1 refl, e)))
+      when (StuckAfter size F K b text) (is_name_byte b) _ _ h (λ e g. name_longer at [] b text e (g (omega arith))) (λ e g. (g.0, inl (refl, b, rw g.1 refl, e)))
   name_stuck_row here at (x ∷ xs) n b text h l =
-      when (StuckAfter size F K b text) (is_name b) _ _ h
+      when (StuckAfter size F K b text) (is_name_byte b) _ _ h
       (λ e h. when (StuckAfter size F K b text) (nat_le (length (x ∷ xs ++ b ∷ [])) 255) _ _ h (λ f g. name_longer at (x ∷ xs) b text e (g (le_true f)))
       (λ f g.
       let k : 255 + 1 ≤ length (x ∷ xs ++ b ∷ []) = le_false (length (x ∷ xs ++ b ∷ [])) 255 f in

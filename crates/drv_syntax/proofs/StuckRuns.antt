@@ -7,7 +7,7 @@ use Rattle.drv_syntax.proofs.StuckDue.{negated_stuck_row, pattern_stuck_row, sta
 use Rattle.drv_syntax.proofs.StuckRows.{function_stuck_row, grown, hide_stuck_row, hide_word_stuck_row, item_stuck_row, name_stuck_row, option_stuck_row, percent_stuck_row, saying_stuck_row, suffix_percent_stuck_row, suffix_run_stuck_row, suffix_stuck_row}
 use Rattle.drv_syntax.proofs.StuckTests.{after_stuck_row, mark_stuck_row, marked_stuck_row, word_stuck_row}
 use Rattle.drv_syntax.proofs.Wanted.{Outside, Wanted}
-use Rattle.drv_syntax.specs.Contexts.{Context, top}
+use Rattle.drv_syntax.specs.Contexts.{ListContext, top}
 use Rattle.drv_syntax.specs.Outcome as o
 use Rattle.drv_syntax.specs.Outcome.{Bad, Closes, Goes, Not, On, Opens, Out, Place, Refused, Resumed, Turn, Waiting, end_of, read, resume, run, turn}
 use Rattle.drv_syntax.specs.Refusals as r
@@ -21,7 +21,7 @@ use Rattle.std.specs.Prelude.{◌==◌}
 
 -- A text that is refused at its last byte is refused there by the grammar.
 
-module _ (size : ℕ) (F : SyntaxFault) (K : Outside) (ending : (c : Context) (all : Items) (rest : List ℕ) → list_stuck size F c rest → K c all rest) where
+module _ (size : ℕ) (F : SyntaxFault) (K : Outside) (ending : (c : ListContext) (all : Items) (rest : List ℕ) → list_stuck size F c rest → K c all rest) where
   -- each place
   stuck_row : (p : Place) (n b : ℕ) (text : List ℕ) → At size n (b ∷ text) → StuckAfter size F K b text (turn p n b) → Wanted size K p (b ∷ text) ⊎ Stuck size F p (b ∷ text)
   stuck_row (o.AtItem here) n b text a g = inl (item_stuck_row size F K ending here n b text a g)
@@ -60,7 +60,7 @@ module _ (size : ℕ) (F : SyntaxFault) (K : Outside) (ending : (c : Context) (a
   stuck_row (o.BehindTest h ps ts bare) n b text a g = after_stuck_row size F K ending h ps ts bare n b text a g
 
 -- a list in an item of which the text ends
-around_ends : (size : ℕ) (F : SyntaxFault) (ws : List Waiting) (c : Context) (all : Items) (rest : List ℕ) → list_stuck size F c rest → StuckAround size F ws c all rest
+around_ends : (size : ℕ) (F : SyntaxFault) (ws : List Waiting) (c : ListContext) (all : Items) (rest : List ℕ) → list_stuck size F c rest → StuckAround size F ws c all rest
 around_ends size F [] c all rest f = λ top. f
 around_ends size F (w ∷ ws) c all rest f = inl f
 

@@ -8,10 +8,10 @@ use Rattle.drv_syntax.proofs.RowsTests.{after_marked, after_row, after_word}
 use Rattle.drv_syntax.proofs.Stuck.{Absent, InsideStuck, Stuck, StuckAfter, alone_stuck, after_patterns, after_tests, choice_stuck, due_stuck, end_due, end_stuck, later_stuck, list_stuck, mark_stuck, marked_after, marked_stuck, next_byte, order_by, some_stuck, start_stuck, tests_left, tests_stuck, word_stuck}
 use Rattle.drv_syntax.proofs.StuckRows.{choices_stuck, opened_list}
 use Rattle.drv_syntax.proofs.Wanted.{Inside, Of, Outside, Wanted, WantsList, rest_starred, rest_unstarred, tests_bar, tests_colon}
-use Rattle.drv_syntax.specs.Bytes.{is_of, is_space, is_word}
+use Rattle.drv_syntax.specs.Bytes.{is_of, is_white, is_word}
 use Rattle.drv_syntax.specs.declared.fault.SyntaxFault.{SyntaxFault}
 use Rattle.drv_syntax.specs.declared.fault.SyntaxFault.TheVariants.{BadDirective, EmptyTest}
-use Rattle.drv_syntax.specs.Contexts.{Context, in_braces, in_x}
+use Rattle.drv_syntax.specs.Contexts.{ListContext, in_braces, in_x}
 use Rattle.drv_syntax.specs.Outcome as o
 use Rattle.drv_syntax.specs.Outcome.{Head, Not, On, Place, WaitsX, emitted, join_choices, join_tests, tested, with_tests}
 use Rattle.drv_syntax.specs.Refusals as r
@@ -40,14 +40,14 @@ unmarked e = differs (sym e)
 module _ (size : ℕ) (F : SyntaxFault) where
   -- white space in front
 
-  patterns_after_space : (n b : ℕ) (text : List ℕ) → is_space b ≡ true → after_patterns size F n text → after_patterns size F n (b ∷ text)
+  patterns_after_space : (n b : ℕ) (text : List ℕ) → is_white b ≡ true → after_patterns size F n text → after_patterns size F n (b ∷ text)
   patterns_after_space n b text e (rest, d, p) = (rest, s.space e d, p)
 
-  tests_after_space : (c : Context) (n b : ℕ) (tests : Tests) (text : List ℕ) → is_space b ≡ true → after_tests size F c n tests text → after_tests size F c n tests (b ∷ text)
+  tests_after_space : (c : ListContext) (n b : ℕ) (tests : Tests) (text : List ℕ) → is_white b ≡ true → after_tests size F c n tests text → after_tests size F c n tests (b ∷ text)
   tests_after_space c n b tests text e (inl (others, end, t, x)) = inl (others, end, rest_space e t, x)
   tests_after_space c n b tests text e (inr (rest, d, t)) = inr (rest, s.space e d, t)
 
-  space_stuck : (h : Head) (b : ℕ) (text : List ℕ) (ps : Option (List (Span × Pattern))) (ts : Option Tests) (bare : Bool) → is_space b ≡ true → some_stuck size F h ps ts bare text
+  space_stuck : (h : Head) (b : ℕ) (text : List ℕ) (ps : Option (List (Span × Pattern))) (ts : Option Tests) (bare : Bool) → is_white b ≡ true → some_stuck size F h ps ts bare text
       → some_stuck size F h ps ts bare (b ∷ text)
   space_stuck h b text (Some ps) ts bare e (inl g) = inl (patterns_after_space h.at b text e g)
   space_stuck h b text None ts bare e (inl g) = absurd g
@@ -64,19 +64,19 @@ module _ (size : ℕ) (F : SyntaxFault) where
   end_here due b text fault g x = (b ∷ text, s.no_space, refused_there due b text fault g x)
 
   -- where the end of a test doesn't fit, and that of a pattern
-  no_test_end : (h : Head) (ps : Option (List (Span × Pattern))) (bare : Bool) (b : ℕ) (text : List ℕ) → is_of ends_test b ≡ true → is_space b ≡ false → is_of ends_pattern b ≡ false
+  no_test_end : (h : Head) (ps : Option (List (Span × Pattern))) (bare : Bool) (b : ℕ) (text : List ℕ) → is_of ends_test b ≡ true → is_white b ≡ false → is_of ends_pattern b ≡ false
       → ((if bare then EmptyTest h.at else BadDirective h.at) ≡ F) × (text ≡ []) → Possible h ps None → end_stuck size F (end_due bare h.at ps None) (b ∷ text)
   no_test_end h ps true b text e sp f g x = end_here (PastMark h.at) b text (EmptyTest h.at) g (r.mark_is_no_test e)
   no_test_end h (Some xs) false b text e sp f g x = end_here (AnEnd h.at ends_pattern) b text (BadDirective h.at) g (r.no_end sp f)
   no_test_end h None false b text e sp f g (x, y, inl z) = absurd z
   no_test_end h None false b text e sp f g (x, y, inr z) = absurd z
 
-  no_pattern_end : (h : Head) (ts : Option Tests) (bare : Bool) (b : ℕ) (text : List ℕ) → is_space b ≡ false → is_of ends_test b ≡ false → (BadDirective h.at ≡ F) × (text ≡ []) → (bare ≡ true → ⊥)
+  no_pattern_end : (h : Head) (ts : Option Tests) (bare : Bool) (b : ℕ) (text : List ℕ) → is_white b ≡ false → is_of ends_test b ≡ false → (BadDirective h.at ≡ F) × (text ≡ []) → (bare ≡ true → ⊥)
       → end_stuck size F (end_due bare h.at None ts) (b ∷ text)
   no_pattern_end h ts true b text sp f g x = absurd (x refl)
   no_pattern_end h ts false b text sp f g x = end_here (AnEnd h.at ends_test) b text (BadDirective h.at) g (r.no_end sp f)
 
-  no_end : (h : Head) (ps : Option (List (Span × Pattern))) (ts : Option Tests) (bare : Bool) (b : ℕ) (text : List ℕ) → is_space b ≡ false → (b == 125) ≡ false → (b == 38) ≡ false → (b == 58) ≡ false
+  no_end : (h : Head) (ps : Option (List (Span × Pattern))) (ts : Option Tests) (bare : Bool) (b : ℕ) (text : List ℕ) → is_white b ≡ false → (b == 125) ≡ false → (b == 38) ≡ false → (b == 58) ≡ false
       → (b == 124) ≡ false → (BadDirective h.at ≡ F) × (text ≡ []) → end_stuck size F (end_due bare h.at ps ts) (b ∷ text)
   no_end h ps ts true b text sp x y z w g = end_here (PastMark h.at) b text (BadDirective h.at) g (r.no_end_past_mark sp (rw (z, w, x, y) refl))
   no_end h (Some ps) (Some ts) false b text sp x y z w g = end_here (AnEnd h.at ends_either) b text (BadDirective h.at) g (r.no_end sp (rw (z, w, x, y) refl))
@@ -113,7 +113,7 @@ module _ (size : ℕ) (F : SyntaxFault) where
           = on_same _ _ (sym (brace_resumes h n h.tests items k) ∙ subst (λ (y : ℕ). o.resume_x h n h.tests items k y ≡ On q) e x) in
           absurd (subst (λ (y : Place). Stuck size F y rest) (sym p) g)
 
-module _ (size : ℕ) (F : SyntaxFault) (K : Outside) (ending : (c : Context) (all : Items) (rest : List ℕ) → list_stuck size F c rest → K c all rest) where
+module _ (size : ℕ) (F : SyntaxFault) (K : Outside) (ending : (c : ListContext) (all : Items) (rest : List ℕ) → list_stuck size F c rest → K c all rest) where
   -- after a test
 
   abbrev Behind : Head → Option (List (Span × Pattern)) → Option Tests → Bool → List ℕ → Type 0
@@ -161,7 +161,7 @@ module _ (size : ℕ) (F : SyntaxFault) (K : Outside) (ending : (c : Context) (a
   pub after_stuck_row : (h : Head) (ps : Option (List (Span × Pattern))) (ts : Option Tests) (bare : Bool) (n b : ℕ) (text : List ℕ) → At size n (b ∷ text)
       → StuckAfter size F K b text (o.turn_after h ps ts bare n b) → Behind h ps ts bare (b ∷ text)
   after_stuck_row h ps ts bare n b text a g =
-      when (StuckAfter size F K b text) (is_space b) _ _ g (λ e g. inr (λ f. space_stuck size F h b text ps ts bare e (g f))) (λ e1 g.
+      when (StuckAfter size F K b text) (is_white b) _ _ g (λ e g. inr (λ f. space_stuck size F h b text ps ts bare e (g f))) (λ e1 g.
       when (StuckAfter size F K b text) (b == 125) _ _ g
       (λ e g. inr (at_byte b 125 text (o.turn_brace h ps n) (λ (y : ℕ). Stuck size F (o.BehindTest h ps ts bare) (y ∷ text)) e g (λ x. brace_part h ps ts bare n text x))) (λ e2 g.
       when (StuckAfter size F K b text) (b == 38) _ _ g
@@ -293,13 +293,13 @@ module _ (size : ℕ) (F : SyntaxFault) (K : Outside) (ending : (c : Context) (a
       (((b == 42) ≡ false) × Of (λ _. after_patterns size F h.at (b ∷ text) ⊎ alone_stuck size F h.at (b ∷ text)) ps)
       ⊎ (((b ≡ 42) × Of (λ _. after_patterns size F h.at text ⊎ end_stuck size F (AnEnd h.at ends_pattern) text) starred) ⊎ (Absent ps × (EmptyTest h.at ≡ F) × (text ≡ [])))
 
-  past_space : (h : Head) (ps : List (Span × Pattern)) (b : ℕ) (text : List ℕ) → is_space b ≡ true → some_stuck size F h (Some ps) None true text
+  past_space : (h : Head) (ps : List (Span × Pattern)) (b : ℕ) (text : List ℕ) → is_white b ≡ true → some_stuck size F h (Some ps) None true text
       → after_patterns size F h.at (b ∷ text) ⊎ alone_stuck size F h.at (b ∷ text)
   past_space h ps b text e (inl g) = inl (patterns_after_space size F h.at b text e g)
   past_space h ps b text e (inr (inl g)) = absurd g
   past_space h ps b text e (inr (inr g)) = inr (inr (b, text, refl, e, g))
 
-  alone_here : (h : Head) (b : ℕ) (text : List ℕ) → is_space b ≡ false → (b == 125) ≡ false → (b == 38) ≡ false → (EmptyTest h.at ≡ F) × (text ≡ []) → Refuses size (r.BehindMark h.at) (b ∷ text) F
+  alone_here : (h : Head) (b : ℕ) (text : List ℕ) → is_white b ≡ false → (b == 125) ≡ false → (b == 38) ≡ false → (EmptyTest h.at ≡ F) × (text ≡ []) → Refuses size (r.BehindMark h.at) (b ∷ text) F
   alone_here h b text sp x y g = refused_there size F (r.BehindMark h.at) b text (EmptyTest h.at) g (r.mark_alone sp (rw (x, y) refl))
 
   bare_stuck : (h : Head) (ps starred : Option (List (Span × Pattern))) (n b : ℕ) (text : List ℕ) → Any (λ xs. Bare h × Filled xs) ps → Any (λ xs. Bare h × Filled xs) starred → (There ps → There starred)
@@ -310,7 +310,7 @@ module _ (size : ℕ) (F : SyntaxFault) (K : Outside) (ending : (c : Context) (a
       when (StuckAfter size F K b text) (b == 42) _ _ g (λ e g. inr (inl (same b 42 e, starred_part h qs text (g ((z, tt, inl tt), λ v. unmarked v))))) (λ e1 g.
       when (StuckAfter size F K b text) (b == 125) _ _ g (λ e g. absurd g) (λ e2 g.
       when (StuckAfter size F K b text) (b == 38) _ _ g (λ e g. inl (e1, inl (rw (same b 38 e) (text, s.no_space, g y)))) (λ e3 g.
-      when (StuckAfter size F K b text) (is_space b) _ _ g (λ e g. inl (e1, past_space h ps b text e (g ((y, tt, inl tt), λ v. tt))))
+      when (StuckAfter size F K b text) (is_white b) _ _ g (λ e g. inl (e1, past_space h ps b text e (g ((y, tt, inl tt), λ v. tt))))
       (λ e4 g. inl (e1, inr (inl (alone_here h b text e4 e2 e3 g)))))))
 
   pub mark_stuck_row : (h : Head) (begun : ℕ) (negated : Bool) (mark n b : ℕ) (text : List ℕ) → At size n (b ∷ text) → StuckAfter size F K b text (o.turn_mark h begun negated mark n b)

@@ -8,7 +8,7 @@ use Rattle.drv_syntax.proofs.Shortest.{IsFront, not_bad}
 use Rattle.drv_syntax.proofs.Sound.{row}
 use Rattle.drv_syntax.proofs.Wanted.{Outside, Wanted}
 use Rattle.drv_syntax.specs.Bytes.{is_function_front}
-use Rattle.drv_syntax.specs.Contexts.{Context, Kind, is_end, top}
+use Rattle.drv_syntax.specs.Contexts.{ListContext, Kind, is_end, top}
 use Rattle.drv_syntax.specs.Fronts as cuts
 use Rattle.drv_syntax.specs.Fronts.{AreFrontItems, Front}
 use Rattle.drv_syntax.specs.Outcome as o
@@ -22,7 +22,7 @@ use Rattle.std.specs.Prelude.{◌==◌, None, Option, Some}
 
 -- A text that isn't refused is a front.
 
-module _ (size : ℕ) (K : Outside) (ending : (c : Context) (all : Items) (rest : List ℕ) → AreFrontItems size c rest → K c all rest) where
+module _ (size : ℕ) (K : Outside) (ending : (c : ListContext) (all : Items) (rest : List ℕ) → AreFrontItems size c rest → K c all rest) where
   -- each place
   cut_row : (p : Place) (n b : ℕ) (text : List ℕ) → At size n (b ∷ text) → CutAfter size K b text (turn p n b) → Wanted size K p (b ∷ text) ⊎ Cut size p (b ∷ text)
   cut_row (o.AtItem here) n b text a g = inl (item_cut_row size K ending here n b text g)
@@ -103,7 +103,7 @@ module _ (size : ℕ) (K : Outside) (ending : (c : Context) (all : Items) (rest 
   ended (o.BehindTest h ps ts bare) n a = inr (λ f. any_after h ps ts f)
 
 -- a list that ends with the text
-around_ends : (size : ℕ) (ws : List Waiting) (c : Context) (all : Items) (rest : List ℕ) → AreFrontItems size c rest → FrontAround size ws c all rest
+around_ends : (size : ℕ) (ws : List Waiting) (c : ListContext) (all : Items) (rest : List ℕ) → AreFrontItems size c rest → FrontAround size ws c all rest
 around_ends size [] c all rest f = λ top. f
 around_ends size (w ∷ ws) c all rest f = inl f
 

@@ -8,8 +8,8 @@ use Rattle.drv_syntax.specs.Code.Turns.{single_kind, single_label, list_turn, st
 use Rattle.drv_syntax.specs.Code.Steps.{form_at}
 use Rattle.drv_syntax.specs.declared.reader.stages.Behind.TheVariants as behinds
 use Rattle.drv_syntax.specs.declared.reader.stages.Behind.{Behind}
-use Rattle.drv_syntax.specs.declared.reader.stages.Context.{Context}
-use Rattle.drv_syntax.specs.declared.reader.stages.Form.{Form}
+use Rattle.drv_syntax.specs.declared.reader.stages.ListContext.{ListContext}
+use Rattle.drv_syntax.specs.declared.reader.stages.HeadForm.{HeadForm}
 use Rattle.drv_syntax.specs.declared.reader.stages.Head.{Head}
 use Rattle.drv_syntax.specs.Code.HeadActions as heads
 use Rattle.drv_syntax.specs.Code.HeadActions.{ChoiceAction, HeadAction}
@@ -24,7 +24,7 @@ use Rattle.drv_syntax.proofs.WalkMeaning.{either, headed, Fits, fits_fresh, fits
 pub after_row : (h : o.Head) (word : List ℕ) (n b : ℕ) (behind : Behind)
     → meant_head h word n b (w.after_action h.at behind b) ≡ o.turn_after h (patterns_of behind word h) (tests_of behind word h) (is_bare behind) n b
 after_row h word n b behind =
-    either F (bytes.is_space b) refl (either F (b == 125) refl (either F (b == 38) refl (either F (b == 58) refl (either F (b == 124) refl refl))))
+    either F (bytes.is_white b) refl (either F (b == 125) refl (either F (b == 38) refl (either F (b == 58) refl (either F (b == 124) refl refl))))
   where
     F : HeadAction → Turn
     F a = meant_head h word n b a
@@ -50,7 +50,7 @@ pub due_row : (h : o.Head) (word : List ℕ) (n b : ℕ)
 due_row h word n b = either (λ a. meant_head h word n b a) (b == 33) refl (asked_row h n false word n b)
 
 pub pattern_row : (h : o.Head) (word : List ℕ) (n b : ℕ) → meant_head h word n b (w.pattern_action h.at n b) ≡ o.turn_pattern h n b
-pattern_row h word n b = either F (bytes.is_space b) refl (either F (b == 92) refl (either F (bytes.is_word b) refl (either F (b == 42) refl refl)))
+pattern_row h word n b = either F (bytes.is_white b) refl (either F (b == 92) refl (either F (bytes.is_word b) refl (either F (b == 42) refl refl)))
   where
     F : HeadAction → Turn
     F a = meant_head h word n b a
@@ -63,20 +63,20 @@ test_call_row h start negated at name n b =
     F : HeadAction → Turn
     F a = meant_head h name n b a
 
-pub bare_row : (k : Context) (before : Items) (head : Head) (form : Form) (choices : Choices) (tests : Tests) (patterns : List (Span × Pattern)) → Fits form choices tests patterns
+pub bare_row : (k : ListContext) (before : Items) (head : Head) (form : HeadForm) (choices : Choices) (tests : Tests) (patterns : List (Span × Pattern)) → Fits form choices tests patterns
     → (start : ℕ) (negated : Bool) (mark : ℕ) (word : List ℕ) (n b : ℕ)
     → meant_head (headed k before head choices tests patterns) word n b (if w.emits form negated then w.bare_action head.part.start start negated mark n b else w.empty head.part.start)
     ≡ o.turn_bare (headed k before head choices tests patterns) (o.emitted (headed k before head choices tests patterns) start n negated (tree.pattern (mark ∷ []) false))
     (o.emitted (headed k before head choices tests patterns) start (n + 1) negated (tree.pattern (mark ∷ []) true)) n b
 bare_row k before head form choices tests patterns fits_fresh start true mark word n b = refl
 bare_row k before head form choices tests patterns fits_fresh start false mark word n b =
-    either F (b == 42) refl (either F (b == 125) refl (either F (b == 38) refl (either F (bytes.is_space b) refl refl)))
+    either F (b == 42) refl (either F (b == 125) refl (either F (b == 38) refl (either F (bytes.is_white b) refl refl)))
   where
     F : HeadAction → Turn
     F a = meant_head (headed k before head tree.no_choice tree.no_test []) word n b a
 bare_row k before head form choices tests patterns fits_patterns start true mark word n b = refl
 bare_row k before head form choices tests patterns (fits_patterns {p = p} {patterns = ps}) start false mark word n b =
-    either F (b == 42) refl (either F (b == 125) refl (either F (b == 38) refl (either F (bytes.is_space b) refl refl)))
+    either F (b == 42) refl (either F (b == 125) refl (either F (b == 38) refl (either F (bytes.is_white b) refl refl)))
   where
     F : HeadAction → Turn
     F a = meant_head (headed k before head tree.no_choice tree.no_test (p ∷ ps)) word n b a
@@ -84,7 +84,7 @@ bare_row k before head form choices tests patterns fits_later start negated mark
 bare_row k before head form choices tests patterns (fits_tests {choices = tree.no_choice} e) start negated mark word n b = refl
 bare_row k before head form choices tests patterns (fits_tests {choices = tree.choice r ts items others} e) start negated mark word n b = refl
 
-pub mark_row : (k : Context) (before : Items) (head : Head) (form : Form) (choices : Choices) (tests : Tests) (patterns : List (Span × Pattern)) → Fits form choices tests patterns
+pub mark_row : (k : ListContext) (before : Items) (head : Head) (form : HeadForm) (choices : Choices) (tests : Tests) (patterns : List (Span × Pattern)) → Fits form choices tests patterns
     → (start : ℕ) (negated : Bool) (mark : ℕ) (word : List ℕ) (n b : ℕ)
     → meant_head (headed k before head choices tests patterns) word n b (w.mark_action head.part.start form start negated mark n b)
     ≡ o.turn_mark (headed k before head choices tests patterns) start negated mark n b
@@ -94,7 +94,7 @@ mark_row k before head form choices tests patterns fits start negated mark word 
     F : HeadAction → Turn
     F a = meant_head (headed k before head choices tests patterns) word n b a
 
-pub star_mark_row : (k : Context) (before : Items) (head : Head) (form : Form) (choices : Choices) (tests : Tests) (patterns : List (Span × Pattern)) → Fits form choices tests patterns
+pub star_mark_row : (k : ListContext) (before : Items) (head : Head) (form : HeadForm) (choices : Choices) (tests : Tests) (patterns : List (Span × Pattern)) → Fits form choices tests patterns
     → (start : ℕ) (negated : Bool) (mark : ℕ) (word : List ℕ) (n b : ℕ)
     → meant_head (headed k before head choices tests patterns) word n b
     (if w.emits form negated then heads.Keeps (places.BehindTest (behinds.StarredMark start (n + 1) negated mark)) else w.bad head.part.start)
@@ -107,7 +107,7 @@ star_mark_row k before head form choices tests patterns fits_later start negated
 star_mark_row k before head form choices tests patterns (fits_tests {choices = tree.no_choice} e) start negated mark word n b = refl
 star_mark_row k before head form choices tests patterns (fits_tests {choices = tree.choice r ts items others} e) start negated mark word n b = refl
 
-pub marked_row : (k : Context) (before : Items) (head : Head) (form : Form) (choices : Choices) (tests : Tests) (patterns : List (Span × Pattern)) → Fits form choices tests patterns
+pub marked_row : (k : ListContext) (before : Items) (head : Head) (form : HeadForm) (choices : Choices) (tests : Tests) (patterns : List (Span × Pattern)) → Fits form choices tests patterns
     → (start : ℕ) (negated : Bool) (mark : ℕ) (word : List ℕ) (n b : ℕ)
     → meant_head (headed k before head choices tests patterns) word n b (w.marked_action head.part.start form start negated mark n b)
     ≡ o.turn_marked_word (headed k before head choices tests patterns) start negated mark word n b
@@ -121,14 +121,14 @@ marked_row k before head form choices tests patterns fits start negated mark wor
     F a = meant_head (headed k before head choices tests patterns) word n b a
 
 -- the table of the code in braces is that of the places
-pub head_row : (stage : HeadStage) (k : Context) (before : Items) (head : Head) (form : Form) (choices : Choices) (tests : Tests) (patterns : List (Span × Pattern))
+pub head_row : (stage : HeadStage) (k : ListContext) (before : Items) (head : Head) (form : HeadForm) (choices : Choices) (tests : Tests) (patterns : List (Span × Pattern))
     → Fits form choices tests patterns → (word : List ℕ) (n b : ℕ)
     → meant_head (headed k before head choices tests patterns) word n b (head_action stage k.levels head.part.start form word n b)
     ≡ turn (head_place stage word (headed k before head choices tests patterns)) n b
 head_row places.TestDue k before head form choices tests patterns fits word n b =
-    either (λ a. meant_head (headed k before head choices tests patterns) word n b a) (bytes.is_space b) refl (due_row (headed k before head choices tests patterns) word n b)
+    either (λ a. meant_head (headed k before head choices tests patterns) word n b a) (bytes.is_white b) refl (due_row (headed k before head choices tests patterns) word n b)
 head_row (places.TestNegated start) k before head form choices tests patterns fits word n b =
-    either (λ a. meant_head (headed k before head choices tests patterns) word n b a) (bytes.is_space b) refl (asked_row (headed k before head choices tests patterns) start true word n b)
+    either (λ a. meant_head (headed k before head choices tests patterns) word n b a) (bytes.is_white b) refl (asked_row (headed k before head choices tests patterns) start true word n b)
 head_row places.PatternDue k before head form choices tests patterns fits word n b = pattern_row (headed k before head choices tests patterns) word n b
 head_row (places.TestWord start negated) k before head form choices tests patterns fits word n b = word_row (headed k before head choices tests patterns) start negated word n b
 head_row (places.TestWordEscape start negated) k before head form choices tests patterns fits word n b = refl
@@ -141,11 +141,11 @@ head_row (places.TestFunction start negated at) k before head form choices tests
     test_call_row (headed k before head choices tests patterns) start negated at word n b
 head_row (places.BehindTest behind) k before head form choices tests patterns fits word n b = after_row (headed k before head choices tests patterns) word n b behind
 
-pub choice_row : (later : Bool) (k : Context) (before : Items) (head : Head) (choices : Choices) (tests : Tests) (patterns : List (Span × Pattern))
+pub choice_row : (later : Bool) (k : ListContext) (before : Items) (head : Head) (choices : Choices) (tests : Tests) (patterns : List (Span × Pattern))
     → Fits (form_at later) choices tests patterns → (word : List ℕ) (n b : ℕ)
     → meant_choice (headed k before head choices tests patterns) word n b (choice_action later k.levels head.part.start n b)
     ≡ turn (o.ChoiceStart (headed k before head choices tests patterns)) n b
-choice_row false k before head choices tests patterns fits_fresh word n b = either F (bytes.is_space b) refl (due_row h word n b)
+choice_row false k before head choices tests patterns fits_fresh word n b = either F (bytes.is_white b) refl (due_row h word n b)
   where
     h : o.Head
     h = headed k before head tree.no_choice tree.no_test []
@@ -153,7 +153,7 @@ choice_row false k before head choices tests patterns fits_fresh word n b = eith
     F : ChoiceAction → Turn
     F a = meant_choice (headed k before head tree.no_choice tree.no_test []) word n b a
 choice_row true k before head choices tests patterns (fits_later {s = s} {tests = ts} {items = items} {choices = cs}) word n b =
-    either F (b == 58) refl (either F (bytes.is_space b) refl (due_row (headed k before head (tree.choice s ts items cs) tree.no_test []) word n b))
+    either F (b == 58) refl (either F (bytes.is_white b) refl (due_row (headed k before head (tree.choice s ts items cs) tree.no_test []) word n b))
   where
     F : ChoiceAction → Turn
     F a = meant_choice (headed k before head (tree.choice s ts items cs) tree.no_test []) word n b a

@@ -7,13 +7,13 @@ use Rattle.drv_syntax.specs.Tree as tree
 use Rattle.drv_syntax.specs.Tree.{Asked, Brace, Choices, Item, Items, Pattern, Span, Tests, first_place, last_place, trimmed}
 use Rattle.drv_syntax.specs.Code.Turns as w
 use Rattle.drv_syntax.specs.Code.Steps as s
-use Rattle.drv_syntax.specs.Code.Steps.{Walk, open_token}
+use Rattle.drv_syntax.specs.Code.Steps.{ReaderState, open_token}
 use Rattle.drv_syntax.specs.declared.fault.SyntaxFault.{SyntaxFault}
 use Rattle.drv_syntax.specs.declared.directives.BraceKind.{BraceKind}
-use Rattle.drv_syntax.specs.declared.reader.stages.Context.{Context}
-use Rattle.drv_syntax.specs.declared.reader.stages.Form.{Form}
-use Rattle.drv_syntax.specs.declared.reader.stages.Frame.TheVariants as frames
-use Rattle.drv_syntax.specs.declared.reader.stages.Frame.{Frame}
+use Rattle.drv_syntax.specs.declared.reader.stages.ListContext.{ListContext}
+use Rattle.drv_syntax.specs.declared.reader.stages.HeadForm.{HeadForm}
+use Rattle.drv_syntax.specs.declared.reader.stages.Suspended.TheVariants as frames
+use Rattle.drv_syntax.specs.declared.reader.stages.Suspended.{Suspended}
 use Rattle.drv_syntax.specs.Code.HeadActions as heads
 use Rattle.drv_syntax.specs.Code.HeadActions.{ChoiceAction, HeadAction}
 use Rattle.drv_syntax.specs.declared.reader.stages.HeadStage.{HeadStage}
@@ -33,7 +33,7 @@ use Rattle.drv_syntax.proofs.WalkTests.{patterns_are, hw, ends_leads, joins_lead
 -- Bytes in braces, to the left of a colon.
 
 -- a function in a test
-pub opens_on : (k : Context) {fs : List Frame} {ws : List o.Waiting} (before : Items) (kind : BraceKind) (at : ℕ) (choices : Choices) (tests : Tests) (patterns : List (Span × Pattern))
+pub opens_on : (k : ListContext) {fs : List Suspended} {ws : List o.Waiting} (before : Items) (kind : BraceKind) (at : ℕ) (choices : Choices) (tests : Tests) (patterns : List (Span × Pattern))
     (word : List ℕ) (start : ℕ) (negated : Bool) (parts : Parts)
     → parts ≡ all (head_star ws (hd ws k before kind at choices tests patterns)) (choice_level (hd ws k before kind at choices tests patterns) start ∷ brace_level ws (hd ws k before kind at choices tests patterns) ∷ levels_of ws) (test_nodes tests) → Waits fs ws
     → Shows (made (staged.List stages.Start) (s.arguments_context (s.deeper_context k))
@@ -55,7 +55,7 @@ opens_on k {fs} {ws} before kind at choices tests patterns word start negated pa
     hh : o.Head
     hh = hd ws k before kind at choices tests patterns
 
-pub opens_leads : (stage : Stage) (k : Context) {fs : List Frame} {ws : List o.Waiting} (before : Items) (kind : BraceKind) (at : ℕ) (choices : Choices) (tests : Tests) (patterns : List (Span × Pattern))
+pub opens_leads : (stage : Stage) (k : ListContext) {fs : List Suspended} {ws : List o.Waiting} (before : Items) (kind : BraceKind) (at : ℕ) (choices : Choices) (tests : Tests) (patterns : List (Span × Pattern))
     (word : List ℕ) (kept trail : ℕ) (start : ℕ) (negated : Bool) (n : ℕ) → Held choices tests patterns → Waits fs ws
     → Leads (Ok (s.open_test (the_head ws before kind at) (form_for ws (hd ws k before kind at choices tests patterns)) start negated (hw stage k fs ws before kind at choices tests patterns word kept trail)))
     (λ again. after (o.Opens (o.list_in (c.in_arguments (c.in_braces (shown k)))) (o.WaitsTest (hd ws k before kind at choices tests patterns) start negated word)) ws again n)
@@ -96,7 +96,7 @@ opens_leads stage k {fs} {ws} before kind at choices tests patterns word kept tr
     (_, (_, (opens_on k before kind at cs (tree.test q sign a ts) [] word start negated _ refl h, λ again. refl)))
 
 -- a byte in braces
-pub head_action_leads : (action : HeadAction) (stage : Stage) (k : Context) {fs : List Frame} {ws : List o.Waiting} (before : Items) (kind : BraceKind) (at : ℕ) (choices : Choices) (tests : Tests) (patterns : List (Span × Pattern))
+pub head_action_leads : (action : HeadAction) (stage : Stage) (k : ListContext) {fs : List Suspended} {ws : List o.Waiting} (before : Items) (kind : BraceKind) (at : ℕ) (choices : Choices) (tests : Tests) (patterns : List (Span × Pattern))
     (word : List ℕ) (kept trail : ℕ) (n b : ℕ) → Held choices tests patterns → Waits fs ws
     → Leads (s.act_head (the_head ws before kind at) (form_for ws (hd ws k before kind at choices tests patterns)) action n b (hw stage k fs ws before kind at choices tests patterns word kept trail))
     (λ again. after (meant_head (hd ws k before kind at choices tests patterns) word n b action) ws again n)
@@ -123,14 +123,14 @@ head_action_leads (heads.Bars behind) stage k {fs} {ws} before kind at choices t
     (sym (tests_are (hd ws k before kind at choices tests patterns) behind word)) (bars_leads stage k before kind at choices tests patterns word kept trail behind n held h)
 head_action_leads (heads.Refused fault) stage k before kind at choices tests patterns word kept trail n b held h = λ again. refl
 
-pub fits_for : (ws : List o.Waiting) (k : Context) (before : Items) (kind : BraceKind) (at : ℕ) (choices : Choices) (tests : Tests) (patterns : List (Span × Pattern)) → Held choices tests patterns
+pub fits_for : (ws : List o.Waiting) (k : ListContext) (before : Items) (kind : BraceKind) (at : ℕ) (choices : Choices) (tests : Tests) (patterns : List (Span × Pattern)) → Held choices tests patterns
     → Fits (form_for ws (hd ws k before kind at choices tests patterns)) choices tests patterns
 fits_for ws k before kind at choices tests patterns held_fresh = fits_fresh
 fits_for ws k before kind at choices tests patterns held_patterns = fits_patterns
 fits_for ws k before kind at choices tests patterns held_later = fits_later
 fits_for ws k before kind at choices tests patterns held_tests = fits_tests refl
 
-pub head_leads : (stage : HeadStage) (k : Context) {fs : List Frame} {ws : List o.Waiting} (before : Items) (kind : BraceKind) (at : ℕ) (choices : Choices) (tests : Tests) (patterns : List (Span × Pattern))
+pub head_leads : (stage : HeadStage) (k : ListContext) {fs : List Suspended} {ws : List o.Waiting} (before : Items) (kind : BraceKind) (at : ℕ) (choices : Choices) (tests : Tests) (patterns : List (Span × Pattern))
     (word : List ℕ) (kept trail : ℕ) (n b : ℕ) → Held choices tests patterns → Waits fs ws
     → Leads (s.step (hw (staged.Braces (the_head ws before kind at) (form_for ws (hd ws k before kind at choices tests patterns)) stage) k fs ws before kind at choices tests patterns word kept trail) n b)
     (λ again. after (turn (head_place stage word (hd ws k before kind at choices tests patterns)) n b) ws again n)
@@ -139,11 +139,11 @@ head_leads stage k {fs} {ws} before kind at choices tests patterns word kept tra
     (head_row stage k before (the_head ws before kind at) form choices tests patterns (fits_for ws k before kind at choices tests patterns held) word n b)
     (head_action_leads (w.head_action stage k.levels at form word n b) (staged.Braces (the_head ws before kind at) form stage) k before kind at choices tests patterns word kept trail n b held h)
   where
-    form : Form
+    form : HeadForm
     form = form_for ws (hd ws k before kind at choices tests patterns)
 
 -- a byte where an alternative begins
-pub choice_action_leads : (later : Bool) (action : ChoiceAction) (k : Context) {fs : List Frame} {ws : List o.Waiting} (before : Items) (kind : BraceKind) (at : ℕ) (choices : Choices)
+pub choice_action_leads : (later : Bool) (action : ChoiceAction) (k : ListContext) {fs : List Suspended} {ws : List o.Waiting} (before : Items) (kind : BraceKind) (at : ℕ) (choices : Choices)
     (word : List ℕ) (kept trail : ℕ) (n b : ℕ) → Fits (s.form_at later) choices tree.no_test [] → Waits fs ws
     → Leads (s.act_choice (the_head ws before kind at) later action n b (hw (staged.Choice (the_head ws before kind at) later) k fs ws before kind at choices tree.no_test [] word kept trail))
     (λ again. after (meant_choice (hd ws k before kind at choices tree.no_test []) word n b action) ws again n)
@@ -169,7 +169,7 @@ choice_action_leads false (heads.Tests action) k {fs} {ws} before kind at choice
 choice_action_leads true (heads.Tests action) k {fs} {ws} before kind at choices word kept trail n b (fits_later {s = q} {tests = ts} {items = xs} {choices = cs}) h =
     head_action_leads action (staged.Choice (the_head ws before kind at) true) k before kind at (tree.choice q ts xs cs) tree.no_test [] word kept trail n b held_later h
 
-pub choice_leads : (later : Bool) (k : Context) {fs : List Frame} {ws : List o.Waiting} (before : Items) (kind : BraceKind) (at : ℕ) (choices : Choices)
+pub choice_leads : (later : Bool) (k : ListContext) {fs : List Suspended} {ws : List o.Waiting} (before : Items) (kind : BraceKind) (at : ℕ) (choices : Choices)
     (word : List ℕ) (kept trail : ℕ) (n b : ℕ) → Fits (s.form_at later) choices tree.no_test [] → Waits fs ws
     → Leads (s.step (hw (staged.Choice (the_head ws before kind at) later) k fs ws before kind at choices tree.no_test [] word kept trail) n b)
     (λ again. after (turn (o.ChoiceStart (hd ws k before kind at choices tree.no_test [])) n b) ws again n)
@@ -179,17 +179,17 @@ choice_leads later k {fs} {ws} before kind at choices word kept trail n b fits h
     (choice_action_leads later (w.choice_action later k.levels at n b) k before kind at choices word kept trail n b fits h)
 
 -- a byte after a test of a function
-pub either_leads : (t : Bool) (a b : Result Walk SyntaxFault) (x y : Turn) (ws : List o.Waiting) (n : ℕ) → Leads a (λ again. after x ws again n) → Leads b (λ again. after y ws again n)
+pub either_leads : (t : Bool) (a b : Result ReaderState SyntaxFault) (x y : Turn) (ws : List o.Waiting) (n : ℕ) → Leads a (λ again. after x ws again n) → Leads b (λ again. after y ws again n)
     → Leads (if t then a else b) (λ again. after (if t then x else y) ws again n)
 either_leads true a b x y ws n p q = p
 either_leads false a b x y ws n p q = q
 
-pub result_leads : (k : Context) {fs : List Frame} {ws : List o.Waiting} (before : Items) (kind : BraceKind) (at : ℕ) (choices : Choices) (tests : Tests) (patterns : List (Span × Pattern))
+pub result_leads : (k : ListContext) {fs : List Suspended} {ws : List o.Waiting} (before : Items) (kind : BraceKind) (at : ℕ) (choices : Choices) (tests : Tests) (patterns : List (Span × Pattern))
     (r : Span) (negated : Bool) (asked : Asked) (others : Tests) (word : List ℕ) (kept trail : ℕ) (n b : ℕ) → c.all_starred (tree.test r negated asked others) ≡ false → Waits fs ws
     → Leads (s.step (hw (staged.Result (the_head ws before kind at) (the_part ws (hd ws k before kind at choices (tree.test r negated asked others) patterns) 0) (unpatterned patterns)) k fs ws before kind at choices (tree.test r negated asked others) patterns word kept trail) n b)
     (λ again. after (turn (o.BehindTest (hd ws k before kind at choices tests patterns) None (o.tested_by patterns (tree.test r negated asked others)) false) n b) ws again n)
 result_leads k {fs} {ws} before kind at choices tests [] r negated asked others word kept trail n b e h =
-    either_leads (bytes.is_space b) _ _ _ _ ws n (ws, (_, (shows_result k before kind at choices tests [] r negated asked others word kept trail e h, λ again. refl)))
+    either_leads (bytes.is_white b) _ _ _ _ ws n (ws, (_, (shows_result k before kind at choices tests [] r negated asked others word kept trail e h, λ again. refl)))
     (either_leads (b == 125) _ _ _ _ ws n (λ again. refl)
     (either_leads (b == 38) _ _ _ _ ws n (λ again. refl)
     (either_leads (b == 58) _ _ _ _ ws n (asks_good stage k before kind at choices tests r negated asked others word kept trail n false false _ refl e h)
@@ -198,6 +198,6 @@ result_leads k {fs} {ws} before kind at choices tests [] r negated asked others 
     stage : Stage
     stage = staged.Result (the_head ws before kind at) (the_part ws (hd ws k before kind at choices (tree.test r negated asked others) []) 0) true
 result_leads k {fs} {ws} before kind at choices tests (q ∷ qs) r negated asked others word kept trail n b e h =
-    either_leads (bytes.is_space b) _ _ _ _ ws n (ws, (_, (shows_result k before kind at choices tests (q ∷ qs) r negated asked others word kept trail e h, λ again. refl)))
+    either_leads (bytes.is_white b) _ _ _ _ ws n (ws, (_, (shows_result k before kind at choices tests (q ∷ qs) r negated asked others word kept trail e h, λ again. refl)))
     (either_leads (b == 125) _ _ _ _ ws n (λ again. refl)
     (either_leads (b == 38) _ _ _ _ ws n (λ again. refl) (either_leads (b == 58) _ _ _ _ ws n (λ again. refl) (either_leads (b == 124) _ _ _ _ ws n (λ again. refl) (λ again. refl)))))

@@ -8,7 +8,7 @@ use Rattle.drv_syntax.specs.Tree.{Asked, Choices, Item, Items, Pattern, Span, Te
 use Rattle.drv_syntax.specs.Code.Turns as w
 use Rattle.drv_syntax.specs.Code.Turns.{single_kind, single_label, list_turn, start_action, percent_action, directive_action, head_action, choice_action}
 use Rattle.drv_syntax.specs.declared.fault.SyntaxFault.TheVariants.{BadDirective}
-use Rattle.drv_syntax.specs.declared.reader.stages.Context.{Context}
+use Rattle.drv_syntax.specs.declared.reader.stages.ListContext.{ListContext}
 use Rattle.drv_syntax.specs.declared.directives.Directive.TheVariants as directives
 use Rattle.drv_syntax.specs.declared.directives.Directive.{Directive}
 use Rattle.drv_syntax.specs.declared.reader.actions.Single.TheVariants as singles
@@ -55,7 +55,7 @@ pub bar_same : (x : Bool) (b : ℕ) → b ≡ 124 → item_of (w.bar_single b x)
 bar_same true b e = ap (λ z. tree.Plain z) e
 bar_same false b e = refl
 
-pub start_row : (k : Context) (before : Items) (word : List ℕ) (n b : ℕ) → meant k before word b (start_action k n b) ≡ turn_item (here k before) n b
+pub start_row : (k : ListContext) (before : Items) (word : List ℕ) (n b : ℕ) → meant k before word b (start_action k n b) ≡ turn_item (here k before) n b
 start_row k before word n b =
     either F (b == 92) refl
     (either F (b == 37) refl
@@ -68,12 +68,12 @@ start_row k before word n b =
     F : ListAction → Turn
     F a = meant k before word b a
 
-pub star_row : (k : Context) (before : Items) (word : List ℕ) (at end b : ℕ) (owner : StarOwner) → meant k before word b (w.star_action at end owner) ≡ o.turn_star (here k before) at end (shown_owner owner)
+pub star_row : (k : ListContext) (before : Items) (word : List ℕ) (at end b : ℕ) (owner : StarOwner) → meant k before word b (w.star_action at end owner) ≡ o.turn_star (here k before) at end (shown_owner owner)
 star_row k before word at end b owners.Nobody = refl
 star_row k before word at end b owners.Mixed = refl
 star_row k before word at end b owners.Starred = refl
 
-pub directive_row : (k : Context) (before : Items) (word : List ℕ) (at end b : ℕ) (d : Directive) → meant k before word b (directive_action k at end d) ≡ o.turn_directive (here k before) at end d
+pub directive_row : (k : ListContext) (before : Items) (word : List ℕ) (at end b : ℕ) (d : Directive) → meant k before word b (directive_action k at end d) ≡ o.turn_directive (here k before) at end d
 directive_row k before word at end b directives.Nowhere = refl
 directive_row k before word at end b (directives.Whole leaf) = refl
 directive_row k before word at end b (directives.Named name) = refl
@@ -87,21 +87,21 @@ directive_row k before word at end b directives.WithCall = either (λ a. meant k
 directive_row k before word at end b directives.WithBraces = either (λ a. meant k before word b a) (k.levels == 0) refl refl
 directive_row k before word at end b (directives.WithMarkedBraces kind) = either (λ a. meant k before word b a) (k.levels == 0) refl refl
 
-pub percent_row : (k : Context) (before : Items) (word : List ℕ) (at n b : ℕ) → meant k before word b (percent_action k at n b) ≡ turn_percent (here k before) at n b
+pub percent_row : (k : ListContext) (before : Items) (word : List ℕ) (at n b : ℕ) → meant k before word b (percent_action k at n b) ≡ turn_percent (here k before) at n b
 percent_row k before word at n b =
     either (λ a. meant k before word b a) (is_allowed k.in_arguments b) (directive_row k before word at (n + 1) b (directive_of b)) refl
 
 pub not_empty : (x : ℕ) (xs : List ℕ) → (length (x ∷ xs) == 0) ≡ false
 not_empty x xs = grind (arith, nat_tests)
 
-pub option_row : (k : Context) (before : Items) (at : ℕ) (word : List ℕ) (n b : ℕ) → meant k before word b (w.option_action at word n b) ≡ o.turn_option (here k before) at word n b
+pub option_row : (k : ListContext) (before : Items) (at : ℕ) (word : List ℕ) (n b : ℕ) → meant k before word b (w.option_action at word n b) ≡ o.turn_option (here k before) at word n b
 option_row k before at [] n b = either (λ a. meant k before [] b a) (b == 92) refl (either (λ a. meant k before [] b a) (b == 125) refl refl)
 option_row k before at (x ∷ xs) n b = either (λ a. meant k before (x ∷ xs) b a) (b == 92) refl (either (λ a. meant k before (x ∷ xs) b a) (b == 125) (nonempty x xs) refl)
   where
     nonempty : (x : ℕ) (xs : List ℕ) → meant k before (x ∷ xs) b (if length (x ∷ xs) == 0 then w.refused at else w.item singles.AddOption takes.Word at (n + 1)) ≡ o.then_item (here k before) at (n + 1) (tree.AddOption (x ∷ xs))
     nonempty x xs = ap (λ t. meant k before (x ∷ xs) b (if t then w.refused at else w.item singles.AddOption takes.Word at (n + 1))) (not_empty x xs)
 
-pub saying_row : (k : Context) (before : Items) (at : ℕ) (kind : SayKind) (word : List ℕ) (n b : ℕ) → meant_turn k before word b (w.saying_turn k at kind n b) ≡ o.turn_saying (here k before) at kind word n b
+pub saying_row : (k : ListContext) (before : Items) (at : ℕ) (kind : SayKind) (word : List ℕ) (n b : ℕ) → meant_turn k before word b (w.saying_turn k at kind n b) ≡ o.turn_saying (here k before) at kind word n b
 saying_row k before at sayings.AsError word n b =
     either F (b == 92) refl
     (either F (w.says k.kind b) refl (either F (b == 10) refl (start_row k (with_item before at n (tree.UserError word)) [] n b)) ∙ switch _ _ (says_same k.kind b))
@@ -115,20 +115,20 @@ saying_row k before at sayings.AsNotice word n b =
     F : ListTurn → Turn
     F a = meant_turn k before word b a
 
-pub hide_row : (k : Context) (before : Items) (at : ℕ) (word : List ℕ) (n b : ℕ) → meant k before word b (w.hide_action at n b) ≡ o.turn_hide (here k before) at n b
+pub hide_row : (k : ListContext) (before : Items) (at : ℕ) (word : List ℕ) (n b : ℕ) → meant k before word b (w.hide_action at n b) ≡ o.turn_hide (here k before) at n b
 hide_row k before at word n b = either F (b == 92) refl (either F (bytes.is_word b) refl (either F (b == 42) refl refl))
   where
     F : ListAction → Turn
     F a = meant k before word b a
 
-pub hide_word_row : (k : Context) (before : Items) (at : ℕ) (word : List ℕ) (n b : ℕ) → meant_turn k before word b (w.hide_word k at n b) ≡ o.turn_hide_word (here k before) at word n b
+pub hide_word_row : (k : ListContext) (before : Items) (at : ℕ) (word : List ℕ) (n b : ℕ) → meant_turn k before word b (w.hide_word k at n b) ≡ o.turn_hide_word (here k before) at word n b
 hide_word_row k before at word n b =
     either F (b == 92) refl (either F (bytes.is_word b) refl (either F (b == 42) refl (start_row k (with_item before at n (tree.Hide (tree.pattern word false))) [] n b)))
   where
     F : ListTurn → Turn
     F a = meant_turn k before word b a
 
-pub call_row : (k : Context) (before : Items) (at : ℕ) (name : List ℕ) (n b : ℕ)
+pub call_row : (k : ListContext) (before : Items) (at : ℕ) (name : List ℕ) (n b : ℕ)
     → meant k before name b (w.call_action at name b) ≡ turn (o.FunctionName (here k before) at name) n b
 call_row k before at name n b =
     either F (bytes.is_function_front (name ++ b ∷ [])) refl (either F (b == 40) (either F (bytes.is_function name) refl refl) refl)
@@ -136,8 +136,8 @@ call_row k before at name n b =
     F : ListAction → Turn
     F a = meant k before name b a
 
-pub name_row : (k : Context) (before : Items) (at : ℕ) (word : List ℕ) (n b : ℕ) → meant k before word b (w.name_action at word n b) ≡ o.turn_name (here k before) at word n b
-name_row k before at [] n b = either F (bytes.is_name b) refl (always (b == 41))
+pub name_row : (k : ListContext) (before : Items) (at : ℕ) (word : List ℕ) (n b : ℕ) → meant k before word b (w.name_action at word n b) ≡ o.turn_name (here k before) at word n b
+name_row k before at [] n b = either F (bytes.is_name_byte b) refl (always (b == 41))
   where
     F : ListAction → Turn
     F a = meant k before [] b a
@@ -145,7 +145,7 @@ name_row k before at [] n b = either F (bytes.is_name b) refl (always (b == 41))
     always : (t : Bool) → F (if t then w.refused at else w.refused at) ≡ o.Refused (BadDirective at)
     always true = refl
     always false = refl
-name_row k before at (x ∷ xs) n b = either F (bytes.is_name b) (either F (nat_le (length (x ∷ xs) + 1) 255) refl refl ∙ switch _ _ (longer x xs)) (either F (b == 41) (nonempty x xs) refl)
+name_row k before at (x ∷ xs) n b = either F (bytes.is_name_byte b) (either F (nat_le (length (x ∷ xs) + 1) 255) refl refl ∙ switch _ _ (longer x xs)) (either F (b == 41) (nonempty x xs) refl)
   where
     F : ListAction → Turn
     F a = meant k before (x ∷ xs) b a
@@ -156,22 +156,22 @@ name_row k before at (x ∷ xs) n b = either F (bytes.is_name b) (either F (nat_
     nonempty : (x : ℕ) (xs : List ℕ) → meant k before (x ∷ xs) b (if length (x ∷ xs) == 0 then w.refused at else w.item singles.NamedText takes.Word at (n + 1)) ≡ o.then_item (here k before) at (n + 1) (tree.NamedText (x ∷ xs))
     nonempty x xs = ap (λ t. meant k before (x ∷ xs) b (if t then w.refused at else w.item singles.NamedText takes.Word at (n + 1))) (not_empty x xs)
 
-pub suffix_row : (k : Context) (before : Items) (at : ℕ) (kind : TempKind) (word : List ℕ) (n b : ℕ) → meant_turn k before word b (w.suffix_start k at kind n b) ≡ o.turn_suffix (here k before) at kind n b
+pub suffix_row : (k : ListContext) (before : Items) (at : ℕ) (kind : TempKind) (word : List ℕ) (n b : ℕ) → meant_turn k before word b (w.suffix_start k at kind n b) ≡ o.turn_suffix (here k before) at kind n b
 suffix_row k before at kind word n b = either F (bytes.is_suffix b) refl (either F (b == 37) refl (start_row k (with_item before at n (tree.TempName kind [])) [] n b))
   where
     F : ListTurn → Turn
     F a = meant_turn k before word b a
 
-pub suffix_run_row : (k : Context) (before : Items) (at : ℕ) (kind : TempKind) (word : List ℕ) (n b : ℕ) → meant_turn k before word b (w.suffix_run k at kind n b) ≡ o.turn_suffix_run (here k before) at kind word n b
+pub suffix_run_row : (k : ListContext) (before : Items) (at : ℕ) (kind : TempKind) (word : List ℕ) (n b : ℕ) → meant_turn k before word b (w.suffix_run k at kind n b) ≡ o.turn_suffix_run (here k before) at kind word n b
 suffix_run_row k before at kind word n b = either (λ a. meant_turn k before word b a) (bytes.is_suffix b) refl (start_row k (with_item before at n (tree.TempName kind word)) [] n b)
 
-pub suffix_percent_row : (k : Context) (before : Items) (at : ℕ) (kind : TempKind) (percent : ℕ) (word : List ℕ) (n b : ℕ)
+pub suffix_percent_row : (k : ListContext) (before : Items) (at : ℕ) (kind : TempKind) (percent : ℕ) (word : List ℕ) (n b : ℕ)
     → meant_turn k before word b (w.suffix_percent k at kind percent n b) ≡ o.turn_suffix_percent (here k before) at kind percent n b
 suffix_percent_row k before at kind percent word n b =
     either (λ a. meant_turn k before word b a) (b == 79) refl (percent_row k (with_item before at percent (tree.TempName kind [])) [] percent n b)
 
 -- the table of the code in a list of items is that of the places
-pub list_row : (stage : ListStage) (k : Context) (before : Items) (word : List ℕ) (n b : ℕ) → meant_turn k before word b (list_turn stage k word n b) ≡ turn (list_place stage word (here k before)) n b
+pub list_row : (stage : ListStage) (k : ListContext) (before : Items) (word : List ℕ) (n b : ℕ) → meant_turn k before word b (list_turn stage k word n b) ≡ turn (list_place stage word (here k before)) n b
 list_row stages.Start k before word n b = start_row k before word n b
 list_row (stages.Backslash back) k before word n b = refl
 list_row (stages.Percent at) k before word n b = percent_row k before word at n b

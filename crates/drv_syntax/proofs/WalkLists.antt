@@ -9,14 +9,14 @@ use Rattle.drv_syntax.specs.Tree as tree
 use Rattle.drv_syntax.specs.Tree.{Asked, Brace, Choices, Item, Items, Pattern, Span, Tests, first_place, last_place, trimmed}
 use Rattle.drv_syntax.specs.Code.Turns as w
 use Rattle.drv_syntax.specs.Code.Steps as s
-use Rattle.drv_syntax.specs.Code.Steps.{Walk, open_token}
+use Rattle.drv_syntax.specs.Code.Steps.{ReaderState, open_token}
 use Rattle.drv_syntax.specs.declared.fault.SyntaxFault.TheVariants.{EmptyTest}
 use Rattle.drv_syntax.specs.declared.directives.BraceKind.TheVariants as braces
 use Rattle.drv_syntax.specs.declared.directives.BraceKind.{BraceKind}
-use Rattle.drv_syntax.specs.declared.reader.stages.Context.{Context}
-use Rattle.drv_syntax.specs.declared.reader.stages.Form.TheVariants as forms
-use Rattle.drv_syntax.specs.declared.reader.stages.Frame.TheVariants as frames
-use Rattle.drv_syntax.specs.declared.reader.stages.Frame.{Frame}
+use Rattle.drv_syntax.specs.declared.reader.stages.ListContext.{ListContext}
+use Rattle.drv_syntax.specs.declared.reader.stages.HeadForm.TheVariants as forms
+use Rattle.drv_syntax.specs.declared.reader.stages.Suspended.TheVariants as frames
+use Rattle.drv_syntax.specs.declared.reader.stages.Suspended.{Suspended}
 use Rattle.drv_syntax.specs.Code.ListActions as acts
 use Rattle.drv_syntax.specs.Code.ListActions.{ListAction, ListTurn}
 use Rattle.drv_syntax.specs.declared.reader.stages.ListStage.TheVariants as stages
@@ -38,7 +38,7 @@ use Rattle.drv_syntax.proofs.WalkShows.{opened_kind, held, prefix_of, begin_of, 
 -- Bytes in a list of items.
 
 -- an item that isn't white space, in its list
-abbrev pub placed_walk : Context → List Frame → Parts → ℕ → Walk
+abbrev pub placed_walk : ListContext → List Suspended → Parts → ℕ → ReaderState
 placed_walk k fs parts end = made (staged.List stages.Start) k fs parts [] end 0
 
 pub item_parts_are : (ws : List o.Waiting) (before : Items) (start end : ℕ) (item : Item) (kind : TokenKind) (label : Label) (inner : Nodes) (own : Bool) → kind_of item ≡ kind → label_of item ≡ label
@@ -53,7 +53,7 @@ item_parts_are ws before start end item kind label inner own e d f g =
     ∙ sym (items_join before (tree.more (span start end) item tree.none))))
     ∙ ap (λ z. all z (levels_of ws) (both (prefix_of ws) (nodes_of (with_item before start end item)))) (g ∙ sym (item_star ws before start end item))
 
-pub plain_walk : (k : Context) (fs : List Frame) (ws : List o.Waiting) (before : Items) (start end : ℕ) (item : Item) → white item ≡ false
+pub plain_walk : (k : ListContext) (fs : List Suspended) (ws : List o.Waiting) (before : Items) (start end : ℕ) (item : Item) → white item ≡ false
     → placed_walk k fs (list_parts ws (with_item before start end item)) end ≡ list_walk stages.Start k fs ws (with_item before start end item) []
 plain_walk k fs ws before start end item e =
     ap (λ z. made (staged.List stages.Start) k fs parts [] z 0) (sym (ap (λ x. last_place x (begin_of ws)) (trimmed_plain before (span start end) item e) ∙ last_join before (span start end) item (begin_of ws)))
@@ -63,11 +63,11 @@ plain_walk k fs ws before start end item e =
     parts = list_parts ws (with_item before start end item)
 
 -- after an item that isn't white space
-pub shows_item : (k : Context) {fs : List Frame} {ws : List o.Waiting} (before : Items) (start end : ℕ) (item : Item) (kind : TokenKind) (label : Label) (inner : Nodes) (own : Bool) → Waits fs ws
+pub shows_item : (k : ListContext) {fs : List Suspended} {ws : List o.Waiting} (before : Items) (start end : ℕ) (item : Item) (kind : TokenKind) (label : Label) (inner : Nodes) (own : Bool) → Waits fs ws
     → kind_of item ≡ kind → label_of item ≡ label → inner_nodes item ≡ inner → own ≡ (item_has_star item || list_star ws before) → white item ≡ false
     → Shows (placed_walk k fs (all own (levels_of ws) (both (both (prefix_of ws) (nodes_of before)) (node kind label (span start end) inner no_node))) end) ws (o.AtItem (o.placed (here k before) start end item))
 shows_item k {fs} {ws} before start end item kind label inner own h e d f i g =
-    subst (λ (v : Walk). Shows v ws (o.AtItem (o.placed (here k before) start end item)))
+    subst (λ (v : ReaderState). Shows v ws (o.AtItem (o.placed (here k before) start end item)))
     (sym (ap (λ z. placed_walk k fs z end) (item_parts_are ws before start end item kind label inner own e d f i) ∙ plain_walk k fs ws before start end item g))
     (shows_list stages.Start k (with_item before start end item) [] h)
 
@@ -116,14 +116,14 @@ pub part_trail : (before : Items) (start end : ℕ) (item : Item) (t : Bool) →
 part_trail before start end item true e = sym (trailing_white before (span start end) item e)
 part_trail before start end item false e = sym (trailing_plain before (span start end) item e)
 
-pub part_walk : (stage : ListStage) (k : Context) (fs : List Frame) (ws : List o.Waiting) (before : Items) (word : List ℕ) (p : Part)
+pub part_walk : (stage : ListStage) (k : ListContext) (fs : List Suspended) (ws : List o.Waiting) (before : Items) (word : List ℕ) (p : Part)
     → s.with_part p (list_walk stage k fs ws before word) ≡ list_walk stages.Start k fs ws (with_item before p.start p.end (part_item p word)) []
 part_walk stage k fs ws before word p =
     ap (λ z. made (staged.List stages.Start) k fs z [] kept trail)
     (all_leaf own (levels_of ws) (both (prefix_of ws) (nodes_of before)) (w.single_kind p.single) label p.start p.end
     ∙ item_parts_are ws before p.start p.end item (w.single_kind p.single) label no_node own (single_kind_is p.single v) (single_label_is p.single v) (single_inner p.single v) (ap (λ z. z || list_star ws before) (sym (single_star p.single v))))
-    ∙ ap (λ z. made (staged.List stages.Start) k fs parts [] z trail) (part_kept before p.start p.end item (begin_of ws) (s.is_white p.single) (single_white p.single v))
-    ∙ ap (λ z. made (staged.List stages.Start) k fs parts [] (last_place (trimmed (with_item before p.start p.end item)) (begin_of ws)) z) (part_trail before p.start p.end item (s.is_white p.single) (single_white p.single v))
+    ∙ ap (λ z. made (staged.List stages.Start) k fs parts [] z trail) (part_kept before p.start p.end item (begin_of ws) (s.is_white_single p.single) (single_white p.single v))
+    ∙ ap (λ z. made (staged.List stages.Start) k fs parts [] (last_place (trimmed (with_item before p.start p.end item)) (begin_of ws)) z) (part_trail before p.start p.end item (s.is_white_single p.single) (single_white p.single v))
   where
     v : List ℕ
     v = w.taken_word p.taken word
@@ -141,10 +141,10 @@ part_walk stage k fs ws before word p =
     parts = list_parts ws (with_item before p.start p.end (part_item p word))
 
     kept : ℕ
-    kept = if s.is_white p.single then last_place (trimmed before) (begin_of ws) else p.end
+    kept = if s.is_white_single p.single then last_place (trimmed before) (begin_of ws) else p.end
 
     trail : ℕ
-    trail = if s.is_white p.single then trailing before + 1 else 0
+    trail = if s.is_white_single p.single then trailing before + 1 else 0
 
 pub starred_join : (ts xs : Tests) → c.all_starred (join_tests ts xs) ≡ (c.all_starred ts && c.all_starred xs)
 starred_join tree.no_test xs = refl
@@ -164,7 +164,7 @@ result_unstarred r true name items = refl
 result_unstarred r false name items = refl
 
 -- the end of a test of a function
-pub shows_test : (k : Context) {fs : List Frame} {ws : List o.Waiting} (before : Items) (kind : BraceKind) (at : ℕ) (choices : Choices) (tests : Tests) (patterns : List (Span × Pattern))
+pub shows_test : (k : ListContext) {fs : List Suspended} {ws : List o.Waiting} (before : Items) (kind : BraceKind) (at : ℕ) (choices : Choices) (tests : Tests) (patterns : List (Span × Pattern))
     (start end : ℕ) (negated : Bool) (name : List ℕ) (items : Items) → Waits fs ws
     → Shows (made (staged.Result (the_head ws before kind at) (the_part ws (hd ws k before kind at choices tests patterns) start) (unpatterned patterns)) k fs
     (all (has_star items || head_star ws (hd ws k before kind at choices tests patterns)) (choice_level (hd ws k before kind at choices tests patterns) start ∷ brace_level ws (hd ws k before kind at choices tests patterns) ∷ levels_of ws)
@@ -202,7 +202,7 @@ fits_joined tree.no_choice r tests items = fits_later
 fits_joined (tree.choice q ts xs choices) r tests items = fits_later
 
 -- the end of an X: its alternative, and then the braces or a new alternative
-pub x_parts : (ws : List o.Waiting) (k : Context) (before : Items) (kind : BraceKind) (at : ℕ) (choices : Choices) (tests : Tests) (colon : ℕ) (items : Items) (around : Bool)
+pub x_parts : (ws : List o.Waiting) (k : ListContext) (before : Items) (kind : BraceKind) (at : ℕ) (choices : Choices) (tests : Tests) (colon : ℕ) (items : Items) (around : Bool)
     → starred (length (brace_parts ws (hd ws k before kind at choices tests [])).tokens) around
     (ended (length (brace_parts ws (hd ws k before kind at choices tests [])).tokens) kinds.Alternative (first_place tests colon) (last_place (trimmed items) (colon + 1))
     (shortened (trailing items) (list_parts (o.WaitsX (hd ws k before kind at choices tests []) colon ∷ ws) items)))
@@ -220,7 +220,7 @@ x_parts ws k before kind at choices tests colon items around =
     last : Nodes
     last = choice_nodes (tree.alternative colon tests items tree.no_choice)
 
-pub shows_braces : (k : Context) {fs : List Frame} {ws : List o.Waiting} (before : Items) (kind : BraceKind) (at end : ℕ) (choices : Choices) (own : Bool) → own ≡ (choices_have_star choices || list_star ws before) → Waits fs ws
+pub shows_braces : (k : ListContext) {fs : List Suspended} {ws : List o.Waiting} (before : Items) (kind : BraceKind) (at end : ℕ) (choices : Choices) (own : Bool) → own ≡ (choices_have_star choices || list_star ws before) → Waits fs ws
     → Shows (placed_walk k fs
     (ended (length (list_parts ws before).tokens) (s.brace_token kind false) at end (all own (brace_level ws (hd ws k before kind at tree.no_choice tree.no_test []) ∷ levels_of ws) (choice_nodes choices))) end) ws
     (o.AtItem (o.placed (here k before) at end (braced kind (tree.Choose choices))))
@@ -229,7 +229,7 @@ shows_braces k {fs} {ws} before kind at end choices own e h =
     (sym (all_close own (levels_of ws) (both (prefix_of ws) (nodes_of before)) (choice_nodes choices) (opened_kind kind) (s.brace_token kind false) no_label at end))
     (shows_item k before at end (braced kind (tree.Choose choices)) (s.brace_token kind false) no_label (choice_nodes choices) own h (kind_choose kind choices) (label_braced kind (tree.Choose choices)) (inner_choose kind choices) (e ∙ ap (λ z. z || list_star ws before) (sym (choose_star kind choices))) (white_braced kind (tree.Choose choices)))
 
-pub shows_emit : (k : Context) {fs : List Frame} {ws : List o.Waiting} (before : Items) (kind : BraceKind) (at end : ℕ) (patterns : List (Span × Pattern)) → Waits fs ws
+pub shows_emit : (k : ListContext) {fs : List Suspended} {ws : List o.Waiting} (before : Items) (kind : BraceKind) (at end : ℕ) (patterns : List (Span × Pattern)) → Waits fs ws
     → Shows (placed_walk k fs
     (ended (length (list_parts ws before).tokens) (s.brace_token kind true) at end (all (list_star ws before) (brace_level ws (hd ws k before kind at tree.no_choice tree.no_test []) ∷ levels_of ws) (pattern_nodes patterns))) end) ws
     (o.AtItem (o.placed (here k before) at end (braced kind (tree.Emit patterns))))
@@ -238,7 +238,7 @@ shows_emit k {fs} {ws} before kind at end patterns h =
     (sym (all_close (list_star ws before) (levels_of ws) (both (prefix_of ws) (nodes_of before)) (pattern_nodes patterns) (opened_kind kind) (s.brace_token kind true) no_label at end))
     (shows_item k before at end (braced kind (tree.Emit patterns)) (s.brace_token kind true) no_label (pattern_nodes patterns) (list_star ws before) h (kind_emit kind patterns) (label_braced kind (tree.Emit patterns)) (inner_emit kind patterns) (ap (λ z. z || list_star ws before) (sym (emit_star kind patterns))) (white_braced kind (tree.Emit patterns)))
 
-pub shows_next : (k : Context) {fs : List Frame} {ws : List o.Waiting} (before : Items) (kind : BraceKind) (at : ℕ) (choices : Choices) (tests : Tests) (colon : ℕ) (items : Items) → Waits fs ws
+pub shows_next : (k : ListContext) {fs : List Suspended} {ws : List o.Waiting} (before : Items) (kind : BraceKind) (at : ℕ) (choices : Choices) (tests : Tests) (colon : ℕ) (items : Items) → Waits fs ws
     → Shows (made (staged.Choice (the_head ws before kind at) true) k fs (all (head_star ws (hd ws k before kind at choices tests [])) (brace_level ws (hd ws k before kind at choices tests []) ∷ levels_of ws) (choice_nodes (o.with_choice (hd ws k before kind at choices tests []) colon items))) [] 0 0) ws
     (o.ChoiceStart (o.next_head (hd ws k before kind at choices tests []) colon items))
 shows_next k {fs} {ws} before kind at choices tests colon items h =
@@ -250,7 +250,7 @@ shows_next k {fs} {ws} before kind at choices tests colon items h =
     (choice_star choices tests colon items (list_star ws before)))
     (shows_choice true k before kind at (o.with_choice (hd ws k before kind at choices tests []) colon items) [] 0 0 (fits_joined choices _ tests (trimmed items)) h)
 
-pub x_leads : (k : Context) {fs : List Frame} {ws : List o.Waiting} (before : Items) (kind : BraceKind) (at : ℕ) (choices : Choices) (tests : Tests) (colon : ℕ) (items : Items) (n b : ℕ) (word : List ℕ) (k' : Context) (stage : Stage) → Waits fs ws
+pub x_leads : (k : ListContext) {fs : List Suspended} {ws : List o.Waiting} (before : Items) (kind : BraceKind) (at : ℕ) (choices : Choices) (tests : Tests) (colon : ℕ) (items : Items) (n b : ℕ) (word : List ℕ) (k' : ListContext) (stage : Stage) → Waits fs ws
     → Leads (s.close_x k (the_head ws before kind at) (tested tests) n b
     (made stage k' fs (all (head_star ws (hd ws k before kind at choices tests [])) (brace_level ws (hd ws k before kind at choices tests []) ∷ levels_of ws) (choice_nodes (o.with_choice (hd ws k before kind at choices tests []) colon items))) word (last_place (trimmed items) (colon + 1)) (trailing items)))
     (λ again. resumed (o.resume_x (hd ws k before kind at choices tests []) colon tests items n b) (again ws) n)
@@ -265,7 +265,7 @@ x_leads k {fs} {ws} before kind at choices (tree.test r signed asked ts) colon i
     hh : o.Head
     hh = hd ws k before kind at choices (tree.test r signed asked ts) []
 
-    v : Walk
+    v : ReaderState
     v = made stage k' fs (all (head_star ws (hd ws k before kind at choices (tree.test r signed asked ts) [])) (brace_level ws (hd ws k before kind at choices (tree.test r signed asked ts) []) ∷ levels_of ws) (choice_nodes (o.with_choice (hd ws k before kind at choices (tree.test r signed asked ts) []) colon items))) word (last_place (trimmed items) (colon + 1)) (trailing items)
 
     by : (t : Bool) → Leads (if t then Ok (s.close_braces (the_head ws before kind at) false (n + 1) k v) else Ok (s.at_stage (staged.Choice (the_head ws before kind at) true) (s.after_item k 0 v)))
@@ -283,7 +283,7 @@ x_leads k {fs} {ws} before kind at choices (tree.test r signed asked ts) colon i
     )
     by false = (ws, (_, (shows_next k before kind at choices (tree.test r signed asked ts) colon items h, λ again. refl)))
 
-pub close_leads : (stage : ListStage) (k : Context) {fs : List Frame} {ws : List o.Waiting} (items : Items) (word : List ℕ) (n b : ℕ) → Waits fs ws
+pub close_leads : (stage : ListStage) (k : ListContext) {fs : List Suspended} {ws : List o.Waiting} (items : Items) (word : List ℕ) (n b : ℕ) → Waits fs ws
     → Leads (s.close fs n b (list_walk stage k fs ws items word)) (λ again. closed ws items b again n)
 close_leads stage k items word n b waits_none = λ again. refl
 close_leads stage k' items word n b (waits_call {fs = fs} {ws = ws} k before at name h) = (
@@ -321,7 +321,7 @@ close_leads stage k' items word n b (waits_x {fs = fs} {ws = ws} k before kind a
     (x_leads k before kind at choices tests colon items n b word k' (staged.List stage) h)
 
 -- a byte in a list of items
-pub action_leads : (action : ListAction) (stage : ListStage) (k : Context) {fs : List Frame} {ws : List o.Waiting} (before : Items) (word : List ℕ) (n b : ℕ) → Waits fs ws
+pub action_leads : (action : ListAction) (stage : ListStage) (k : ListContext) {fs : List Suspended} {ws : List o.Waiting} (before : Items) (word : List ℕ) (n b : ℕ) → Waits fs ws
     → Leads (s.act_list action n b (list_walk stage k fs ws before word)) (λ again. after (meant k before word b action) ws again n)
 action_leads (acts.Keeps next) stage k {fs} {ws} before word n b h = (ws, (_, (shows_list next k before word h, λ again. refl)))
 action_leads (acts.Clears next) stage k {fs} {ws} before word n b h = (ws, (_, (shows_list next k before [] h, λ again. refl)))
@@ -332,7 +332,7 @@ action_leads (acts.Item p) stage k {fs} {ws} before word n b h = (
   (
     _,
     (
-      subst (λ (v : Walk). Shows v ws (o.AtItem (o.placed (here k before) p.start p.end (part_item p word)))) (sym (part_walk stage k fs ws before word p))
+      subst (λ (v : ReaderState). Shows v ws (o.AtItem (o.placed (here k before) p.start p.end (part_item p word)))) (sym (part_walk stage k fs ws before word p))
           (shows_list stages.Start k (with_item before p.start p.end (part_item p word)) [] h),
       λ again. refl,
     ),
@@ -370,18 +370,18 @@ action_leads (acts.OpensCall start) stage k {fs} {ws} before word n b h = (
     ws' = o.WaitsCall (here k before) start word ∷ ws
 action_leads (acts.Refused fault) stage k before word n b h = λ again. refl
 
-pub turn_leads : (t : ListTurn) (stage : ListStage) (k : Context) {fs : List Frame} {ws : List o.Waiting} (before : Items) (word : List ℕ) (n b : ℕ) → Waits fs ws
+pub turn_leads : (t : ListTurn) (stage : ListStage) (k : ListContext) {fs : List Suspended} {ws : List o.Waiting} (before : Items) (word : List ℕ) (n b : ℕ) → Waits fs ws
     → Leads (s.act_turn t n b (list_walk stage k fs ws before word)) (λ again. after (meant_turn k before word b t) ws again n)
 turn_leads t stage k {fs} {ws} before word n b h = by t.first
   where
     by : (first : Option Part) → Leads (s.act_list t.then n b (s.with_first first (list_walk stage k fs ws before word))) (λ again. after (meant_first k before word b first t.then) ws again n)
     by None = action_leads t.then stage k before word n b h
     by (Some p) =
-        subst (λ (v : Walk). Leads (s.act_list t.then n b v) (λ again. after (meant k (with_item before p.start p.end (part_item p word)) [] b t.then) ws again n))
+        subst (λ (v : ReaderState). Leads (s.act_list t.then n b v) (λ again. after (meant k (with_item before p.start p.end (part_item p word)) [] b t.then) ws again n))
         (sym (part_walk stage k fs ws before word p))
         (action_leads t.then stages.Start k (with_item before p.start p.end (part_item p word)) [] n b h)
 
-pub list_leads : (stage : ListStage) (k : Context) {fs : List Frame} {ws : List o.Waiting} (before : Items) (word : List ℕ) (n b : ℕ) → Waits fs ws
+pub list_leads : (stage : ListStage) (k : ListContext) {fs : List Suspended} {ws : List o.Waiting} (before : Items) (word : List ℕ) (n b : ℕ) → Waits fs ws
     → Leads (s.step (list_walk stage k fs ws before word) n b) (λ again. after (turn (list_place stage word (here k before)) n b) ws again n)
 list_leads stage k {fs} {ws} before word n b h =
     subst (λ (t : Turn). Leads (s.step (list_walk stage k fs ws before word) n b) (λ again. after t ws again n)) (list_row stage k before word n b)

@@ -9,12 +9,12 @@ use Rattle.drv_syntax.specs.Tree as tree
 use Rattle.drv_syntax.specs.Tree.{Asked, Choices, Item, Items, Pattern, Span, Tests}
 use Rattle.drv_syntax.specs.Code.Turns as w
 use Rattle.drv_syntax.specs.Code.Turns.{single_kind, single_label, list_turn, start_action, percent_action, head_action, choice_action}
-use Rattle.drv_syntax.specs.Code.Steps.{is_white}
+use Rattle.drv_syntax.specs.Code.Steps.{is_white_single}
 use Rattle.drv_syntax.specs.declared.reader.stages.Behind.TheVariants as behinds
 use Rattle.drv_syntax.specs.declared.reader.stages.Behind.{Behind}
-use Rattle.drv_syntax.specs.declared.reader.stages.Context.{Context}
-use Rattle.drv_syntax.specs.declared.reader.stages.Form.TheVariants as forms
-use Rattle.drv_syntax.specs.declared.reader.stages.Form.{Form}
+use Rattle.drv_syntax.specs.declared.reader.stages.ListContext.{ListContext}
+use Rattle.drv_syntax.specs.declared.reader.stages.HeadForm.TheVariants as forms
+use Rattle.drv_syntax.specs.declared.reader.stages.HeadForm.{HeadForm}
 use Rattle.drv_syntax.specs.declared.reader.stages.Head.{Head}
 use Rattle.drv_syntax.specs.Code.HeadActions as heads
 use Rattle.drv_syntax.specs.Code.HeadActions.{ChoiceAction, HeadAction}
@@ -49,10 +49,10 @@ shown_owner owners.Nobody = c.Nobody
 shown_owner owners.Mixed = c.Mixed
 shown_owner owners.Starred = c.Starred
 
-abbrev pub shown : Context → c.Context
+abbrev pub shown : ListContext → c.ListContext
 shown k = record { kind = shown_kind k.kind; in_arguments = k.in_arguments; owner = shown_owner k.owner; levels = k.levels }
 
-abbrev pub here : Context → Items → Here
+abbrev pub here : ListContext → Items → Here
 here k before = record { context = shown k; done = before }
 
 abbrev pub item_of : Single → List ℕ → Item
@@ -119,7 +119,7 @@ single_label_is (singles.BuiltinText name) w = refl
 single_label_is (singles.Hide starred) w = refl
 single_label_is singles.Star w = refl
 
-pub single_white : (single : Single) (w : List ℕ) → white (item_of single w) ≡ is_white single
+pub single_white : (single : Single) (w : List ℕ) → white (item_of single w) ≡ is_white_single single
 single_white (singles.Plain b) w = refl
 single_white (singles.Escape b) w = refl
 single_white singles.Blank w = refl
@@ -157,7 +157,7 @@ list_place (stages.BraceOpen at kind) word h = o.BraceOpen h at kind
 abbrev pub part_item : Part → List ℕ → Item
 part_item p word = item_of p.single (w.taken_word p.taken word)
 
-abbrev pub meant : Context → Items → List ℕ → ℕ → ListAction → Turn
+abbrev pub meant : ListContext → Items → List ℕ → ℕ → ListAction → Turn
 meant k before word b (acts.Keeps stage) = o.Goes (list_place stage word (here k before))
 meant k before word b (acts.Clears stage) = o.Goes (list_place stage [] (here k before))
 meant k before word b (acts.Begins stage) = o.Goes (list_place stage (b ∷ []) (here k before))
@@ -171,11 +171,11 @@ meant k before word b (acts.Refused fault) = o.Refused fault
 abbrev pub with_item : Items → ℕ → ℕ → Item → Items
 with_item before start end item = join before (tree.more (span start end) item tree.none)
 
-abbrev pub meant_first : Context → Items → List ℕ → ℕ → Option Part → ListAction → Turn
+abbrev pub meant_first : ListContext → Items → List ℕ → ℕ → Option Part → ListAction → Turn
 meant_first k before word b None action = meant k before word b action
 meant_first k before word b (Some p) action = meant k (with_item before p.start p.end (part_item p word)) [] b action
 
-abbrev pub meant_turn : Context → Items → List ℕ → ℕ → ListTurn → Turn
+abbrev pub meant_turn : ListContext → Items → List ℕ → ℕ → ListTurn → Turn
 meant_turn k before word b t = meant_first k before word b t.first t.then
 
 pub either : {A B : Type 0} (f : A → B) (t : Bool) {a a' : A} {x x' : B} → f a ≡ x → f a' ≡ x' → f (if t then a else a') ≡ (if t then x else x')
@@ -186,12 +186,12 @@ pub switch : {B : Type 0} {t u : Bool} (x y : B) → t ≡ u → (if t then x el
 switch x y e = ap (λ t. if t then x else y) e
 
 -- braces to the left of a colon, with the trees read so far
-abbrev pub headed : Context → Items → Head → Choices → Tests → List (Span × Pattern) → o.Head
+abbrev pub headed : ListContext → Items → Head → Choices → Tests → List (Span × Pattern) → o.Head
 headed k before head choices tests patterns =
     record { here = here k before; at = head.part.start; kind = head.kind; choices = choices; tests = tests; patterns = patterns }
 
 -- which trees braces of this form hold
-pub data Fits : Form → Choices → Tests → List (Span × Pattern) → Type 0 where
+pub data Fits : HeadForm → Choices → Tests → List (Span × Pattern) → Type 0 where
   fits_fresh : Fits forms.Fresh tree.no_choice tree.no_test []
   fits_patterns : {p : Span × Pattern} {patterns : List (Span × Pattern)} → Fits forms.Patterns tree.no_choice tree.no_test (p ∷ patterns)
   fits_later : {s : Span} {tests : Tests} {items : Items} {choices : Choices} → Fits forms.Later (tree.choice s tests items choices) tree.no_test []

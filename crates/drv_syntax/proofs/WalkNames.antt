@@ -6,10 +6,10 @@ use Rattle.drv_syntax.specs.Parsed.{listed, tree_in, tree_of}
 use Rattle.drv_syntax.specs.Tokens.{tokens_of}
 use Rattle.drv_syntax.specs.Tree.{Items}
 use Rattle.drv_syntax.specs.declared.token.Token.{Token}
-use Rattle.drv_syntax.specs.Code.Steps.{Walk, finish_in, outermost, place_of}
+use Rattle.drv_syntax.specs.Code.Steps.{ReaderState, finish_in, outermost, place_of}
 use Rattle.drv_syntax.specs.declared.fault.SyntaxFault.TheVariants.{Unclosed}
 use Rattle.drv_syntax.specs.declared.fault.SyntaxFault.{SyntaxFault}
-use Rattle.drv_syntax.specs.declared.reader.stages.Frame.{Frame}
+use Rattle.drv_syntax.specs.declared.reader.stages.Suspended.{Suspended}
 use Rattle.std.proofs.Common.{◌≡◌, ℕ, ◌<◌, ◌≤◌, Bool, true, false, List, [], ◌∷◌, ◌++◌, length, get_or, take, refl, subst, sym, ap, ◌∙◌, arith, reverse}
 use Rattle.std.specs.Cmp.Lexicographic.{pointwise}
 use Rattle.std.proofs.lemmas.List.{reverse-append}
@@ -51,21 +51,21 @@ front_long (a ∷ p) (c ∷ q) b h = by (a == c) _ _ _ (front_long p q b (omega 
     by true x y z e = e
     by false x y z e = refl
 
-outer_last : (f : Frame) (fs : List Frame) (x : Frame) → outermost f (fs ++ x ∷ []) ≡ place_of x
+outer_last : (f : Suspended) (fs : List Suspended) (x : Suspended) → outermost f (fs ++ x ∷ []) ≡ place_of x
 outer_last f [] x = refl
 outer_last f (g ∷ fs) x = outer_last g fs x
 
-abbrev failed : ℕ → Result Walk SyntaxFault
+abbrev failed : ℕ → Result ReaderState SyntaxFault
 failed z = Err (Unclosed z)
 
-outer_in : (fs : List Frame) (x : Frame) (n : ℕ) (w : Walk) → finish_in (fs ++ x ∷ []) n w ≡ Err (Unclosed (place_of x))
+outer_in : (fs : List Suspended) (x : Suspended) (n : ℕ) (w : ReaderState) → finish_in (fs ++ x ∷ []) n w ≡ Err (Unclosed (place_of x))
 outer_in [] x n w = refl
 outer_in (f ∷ fs) x n w = ap (λ z. failed z) (outer_last f fs x)
 
-outer_at : (x : Frame) (xs : List Frame) (n : ℕ) (w : Walk) → finish_in (reverse (x ∷ xs)) n w ≡ Err (Unclosed (place_of x))
+outer_at : (x : Suspended) (xs : List Suspended) (n : ℕ) (w : ReaderState) → finish_in (reverse (x ∷ xs)) n w ≡ Err (Unclosed (place_of x))
 outer_at x xs n w = ap (λ fs. finish_in fs n w) (reverse-append (x ∷ []) xs) ∙ outer_in (reverse xs) x n w
 
-pub outer_first : (xs : List Frame) (d : Frame) (n : ℕ) (w : Walk) → 0 < length xs → finish_in (reverse xs) n w ≡ Err (Unclosed (place_of (get_or xs 0 d)))
+pub outer_first : (xs : List Suspended) (d : Suspended) (n : ℕ) (w : ReaderState) → 0 < length xs → finish_in (reverse xs) n w ≡ Err (Unclosed (place_of (get_or xs 0 d)))
 outer_first [] d n w h = absurd (omega arith)
 outer_first (x ∷ xs) d n w h = outer_at x xs n w
 

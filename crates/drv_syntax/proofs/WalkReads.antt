@@ -8,11 +8,11 @@ use Rattle.drv_syntax.specs.Tree.{Asked, Brace, Choices, Item, Items, Pattern, S
 use Rattle.drv_syntax.specs.Code.Turns as w
 use Rattle.drv_syntax.specs.Code.States.{parts_in}
 use Rattle.drv_syntax.specs.Code.Steps as s
-use Rattle.drv_syntax.specs.Code.Steps.{Walk, open_token}
+use Rattle.drv_syntax.specs.Code.Steps.{ReaderState, open_token}
 use Rattle.drv_syntax.specs.declared.fault.SyntaxFault.TheVariants.{TextTooLong, Unclosed}
 use Rattle.drv_syntax.specs.declared.fault.SyntaxFault.{SyntaxFault}
-use Rattle.drv_syntax.specs.declared.reader.stages.Context.{Context}
-use Rattle.drv_syntax.specs.declared.reader.stages.Frame.{Frame}
+use Rattle.drv_syntax.specs.declared.reader.stages.ListContext.{ListContext}
+use Rattle.drv_syntax.specs.declared.reader.stages.Suspended.{Suspended}
 use Rattle.drv_syntax.specs.declared.reader.stages.HeadStage.TheVariants as places
 use Rattle.drv_syntax.specs.declared.reader.stages.HeadStage.{HeadStage}
 use Rattle.drv_syntax.specs.declared.reader.actions.Single.TheVariants as singles
@@ -37,39 +37,39 @@ use Rattle.drv_syntax.proofs.WalkHeads.{head_leads, choice_leads, result_leads}
 -- A pass over a whole text gives what the text gives.
 
 -- a byte
-pub step_leads : (v : Walk) (ws : List o.Waiting) (place : Place) (n b : ℕ) → Shows v ws place → Leads (s.step v n b) (λ again. after (turn place n b) ws again n)
+pub step_leads : (v : ReaderState) (ws : List o.Waiting) (place : Place) (n b : ℕ) → Shows v ws place → Leads (s.step v n b) (λ again. after (turn place n b) ws again n)
 step_leads v ws place n b (shows_list stage k before word h) = list_leads stage k before word n b h
 step_leads v ws place n b (shows_choice later k before kind at choices word kept trail fits h) = choice_leads later k before kind at choices word kept trail n b fits h
 step_leads v ws place n b (shows_head stage k before kind at choices tests patterns word kept trail held h) = head_leads stage k before kind at choices tests patterns word kept trail n b held h
 step_leads v ws place n b (shows_result k before kind at choices tests patterns r negated asked others word kept trail e h) = result_leads k before kind at choices tests patterns r negated asked others word kept trail n b e h
 
 -- the end of the text
-abbrev pub Outer : List Frame → List o.Waiting → Type 0
+abbrev pub Outer : List Suspended → List o.Waiting → Type 0
 Outer [] [] = Unit {0}
 Outer [] (x ∷ ws) = ⊥
 Outer (f ∷ fs) [] = ⊥
 Outer (f ∷ fs) (x ∷ ws) = s.outermost f fs ≡ o.outermost x ws
 
-pub outer_more : (f : Frame) (x : o.Waiting) → s.place_of f ≡ o.place_of x → (fs : List Frame) (ws : List o.Waiting) → Outer fs ws → s.outermost f fs ≡ o.outermost x ws
+pub outer_more : (f : Suspended) (x : o.Waiting) → s.place_of f ≡ o.place_of x → (fs : List Suspended) (ws : List o.Waiting) → Outer fs ws → s.outermost f fs ≡ o.outermost x ws
 outer_more f x e [] [] h = e
 outer_more f x e [] (y ∷ ws) h = absurd h
 outer_more f x e (g ∷ fs) [] h = absurd h
 outer_more f x e (g ∷ fs) (y ∷ ws) h = h
 
-pub outer_is : (fs : List Frame) (ws : List o.Waiting) → Waits fs ws → Outer fs ws
+pub outer_is : (fs : List Suspended) (ws : List o.Waiting) → Waits fs ws → Outer fs ws
 outer_is fs ws waits_none = tt
 outer_is fs ws (waits_x {fs = gs} {ws = xs} k before kind at choices tests colon h) = outer_more _ _ refl gs xs (outer_is gs xs h)
 outer_is fs ws (waits_call {fs = gs} {ws = xs} k before at name h) = outer_more _ _ refl gs xs (outer_is gs xs h)
 outer_is fs ws (waits_test {fs = gs} {ws = xs} k before kind at choices tests patterns start negated name h) = outer_more _ _ refl gs xs (outer_is gs xs h)
 
-abbrev pub Same : Result Walk SyntaxFault → Out → Type 0
+abbrev pub Same : Result ReaderState SyntaxFault → Out → Type 0
 Same r out = parts_in r ≡ listed (judged out)
 
 abbrev pub Top : List o.Waiting → Type 0
 Top [] = Unit {0}
 Top (x ∷ ws) = ⊥
 
-pub ended_by : (n : ℕ) (v : Walk) (place : Place) (fs : List Frame) (ws : List o.Waiting) → Outer fs ws → (Top ws → Same (s.finish_at v.stage n v) (o.finish place n)) → Same (s.finish_in fs n v) (o.end_of ws place n)
+pub ended_by : (n : ℕ) (v : ReaderState) (place : Place) (fs : List Suspended) (ws : List o.Waiting) → Outer fs ws → (Top ws → Same (s.finish_at v.stage n v) (o.finish place n)) → Same (s.finish_in fs n v) (o.end_of ws place n)
 ended_by n v place [] [] outer e = e tt
 ended_by n v place [] (x ∷ ws) outer e = absurd outer
 ended_by n v place (f ∷ fs) [] outer e = absurd outer
@@ -81,7 +81,7 @@ ended_by n v place (f ∷ fs) (x ∷ ws) outer e = ap (λ z. failed z) outer
 abbrev pub given : Items → List Token → Result (List Token × List Label) SyntaxFault
 given items tokens = Ok (tokens, labels_of items)
 
-pub part_end : (stage : ListStage) (k : Context) (fs : List Frame) (before : Items) (word : List ℕ) (single : Single) (taken : Taken) (start n : ℕ)
+pub part_end : (stage : ListStage) (k : ListContext) (fs : List Suspended) (before : Items) (word : List ℕ) (single : Single) (taken : Taken) (start n : ℕ)
     → Same (s.end_part single taken start n (list_walk stage k fs [] before word)) (o.Got (with_item before start n (item_of single (w.taken_word taken word))))
 part_end stage k fs before word single taken start n =
     ap (λ z. walked z) (part_walk stage k fs [] before word (record { single = single; taken = taken; start = start; end = n }))
@@ -90,10 +90,10 @@ part_end stage k fs before word single taken start n =
     items : Items
     items = with_item before start n (item_of single (w.taken_word taken word))
 
-    walked : Walk → Result (List Token × List Label) SyntaxFault
+    walked : ReaderState → Result (List Token × List Label) SyntaxFault
     walked z = Ok (z.tokens, z.labels)
 
-pub list_end : (stage : ListStage) (k : Context) (fs : List Frame) (ws : List o.Waiting) (before : Items) (word : List ℕ) (n : ℕ) → Top ws
+pub list_end : (stage : ListStage) (k : ListContext) (fs : List Suspended) (ws : List o.Waiting) (before : Items) (word : List ℕ) (n : ℕ) → Top ws
     → Same (s.finish_list stage n (list_walk stage k fs ws before word)) (o.finish (list_place stage word (here k before)) n)
 list_end stage k fs (x ∷ ws) before word n h = absurd h
 list_end stages.Start k fs [] before word n h = ap (λ z. given before z) (sym (items_flat 0 before))
@@ -128,19 +128,19 @@ head_end (places.TestPercent start negated at) word h n = refl
 head_end (places.TestFunction start negated at) word h n = refl
 head_end (places.BehindTest behind) word h n = refl
 
-pub finish_is : (v : Walk) (ws : List o.Waiting) (place : Place) (n : ℕ) → Shows v ws place → Same (s.finish n v) (o.end_of ws place n)
+pub finish_is : (v : ReaderState) (ws : List o.Waiting) (place : Place) (n : ℕ) → Shows v ws place → Same (s.finish n v) (o.end_of ws place n)
 finish_is v ws place n (shows_list stage k {fs = fs} before word h) = ended_by n v place fs ws (outer_is fs ws h) (λ top. list_end stage k fs ws before word n top)
 finish_is v ws place n (shows_choice later k {fs = fs} before kind at choices word kept trail fits h) = ended_by n v place fs ws (outer_is fs ws h) (λ top. refl)
 finish_is v ws place n (shows_head stage k {fs = fs} before kind at choices tests patterns word kept trail held h) =
     ended_by n v place fs ws (outer_is fs ws h) (λ top. ap (λ z. listed (judged z)) (sym (head_end stage word (hd ws k before kind at choices tests patterns) n)))
 finish_is v ws place n (shows_result k {fs = fs} before kind at choices tests patterns r negated asked others word kept trail e h) = ended_by n v place fs ws (outer_is fs ws h) (λ top. refl)
 
-pub leads_on : (r : Result Walk SyntaxFault) (f : (List o.Waiting → Place → Out) → Out) (again : List o.Waiting → Place → Out) (rest : Walk → Result Walk SyntaxFault) → Leads r f
-    → ((v : Walk) (ws : List o.Waiting) (place : Place) → Shows v ws place → Same (rest v) (again ws place)) → Same (s.then_walk r rest) (f again)
+pub leads_on : (r : Result ReaderState SyntaxFault) (f : (List o.Waiting → Place → Out) → Out) (again : List o.Waiting → Place → Out) (rest : ReaderState → Result ReaderState SyntaxFault) → Leads r f
+    → ((v : ReaderState) (ws : List o.Waiting) (place : Place) → Shows v ws place → Same (rest v) (again ws place)) → Same (s.then_walk r rest) (f again)
 leads_on (Ok v) f again rest (ws, (place, (shown, e))) ih = ih v ws place shown ∙ ap (λ z. listed (judged z)) (sym (e again))
 leads_on (Err fault) f again rest e ih = ap (λ z. listed z) (sym (e again))
 
-pub walk_is : (text : List ℕ) (v : Walk) (ws : List o.Waiting) (place : Place) (n : ℕ) → Shows v ws place → Same (s.walk v n text) (run ws place n text)
+pub walk_is : (text : List ℕ) (v : ReaderState) (ws : List o.Waiting) (place : Place) (n : ℕ) → Shows v ws place → Same (s.walk v n text) (run ws place n text)
 walk_is [] v ws place n h = finish_is v ws place n h
 walk_is (b ∷ text) v ws place n h =
     leads_on (s.step v n b) (λ again. after (turn place n b) ws again n) (λ xs p. run xs p (n + 1) text) (λ x. s.walk x (n + 1) text) (step_leads v ws place n b h) (λ x xs p g. walk_is text x xs p (n + 1) g)

@@ -7,15 +7,15 @@ use Rattle.drv_syntax.specs.Tree as tree
 use Rattle.drv_syntax.specs.Tree.{Asked, Brace, Choices, Item, Items, Pattern, Span, Tests, first_place, last_place, trimmed}
 use Rattle.drv_syntax.specs.Code.Turns as w
 use Rattle.drv_syntax.specs.Code.Steps as s
-use Rattle.drv_syntax.specs.Code.Steps.{Walk, open_token}
+use Rattle.drv_syntax.specs.Code.Steps.{ReaderState, open_token}
 use Rattle.drv_syntax.specs.declared.fault.SyntaxFault.{SyntaxFault}
 use Rattle.drv_syntax.specs.declared.directives.BraceKind.TheVariants as braces
 use Rattle.drv_syntax.specs.declared.directives.BraceKind.{BraceKind}
-use Rattle.drv_syntax.specs.declared.reader.stages.Context.{Context}
-use Rattle.drv_syntax.specs.declared.reader.stages.Form.TheVariants as forms
-use Rattle.drv_syntax.specs.declared.reader.stages.Form.{Form}
-use Rattle.drv_syntax.specs.declared.reader.stages.Frame.TheVariants as frames
-use Rattle.drv_syntax.specs.declared.reader.stages.Frame.{Frame}
+use Rattle.drv_syntax.specs.declared.reader.stages.ListContext.{ListContext}
+use Rattle.drv_syntax.specs.declared.reader.stages.HeadForm.TheVariants as forms
+use Rattle.drv_syntax.specs.declared.reader.stages.HeadForm.{HeadForm}
+use Rattle.drv_syntax.specs.declared.reader.stages.Suspended.TheVariants as frames
+use Rattle.drv_syntax.specs.declared.reader.stages.Suspended.{Suspended}
 use Rattle.drv_syntax.specs.declared.reader.stages.Head.{Head}
 use Rattle.drv_syntax.specs.declared.reader.stages.HeadStage.{HeadStage}
 use Rattle.drv_syntax.specs.declared.reader.stages.ListStage.{ListStage}
@@ -98,7 +98,7 @@ the_head ws before kind at = record { kind = kind; part = record { token = lengt
 abbrev pub the_part : List o.Waiting → o.Head → ℕ → Open
 the_part ws h start = record { token = length (brace_parts ws h).tokens; start = first_place h.tests start }
 
-abbrev pub hd : List o.Waiting → Context → Items → BraceKind → ℕ → Choices → Tests → List (Span × Pattern) → o.Head
+abbrev pub hd : List o.Waiting → ListContext → Items → BraceKind → ℕ → Choices → Tests → List (Span × Pattern) → o.Head
 hd ws k before kind at choices tests patterns = headed k before (the_head ws before kind at) choices tests patterns
 
 abbrev pub tested : Tests → Bool
@@ -115,54 +115,54 @@ pub data Held : Choices → Tests → List (Span × Pattern) → Type 0 where
   held_later : {r : Span} {tests : Tests} {items : Items} {choices : Choices} → Held (tree.choice r tests items choices) tree.no_test []
   held_tests : {choices : Choices} {r : Span} {negated : Bool} {asked : Asked} {tests : Tests} → Held choices (tree.test r negated asked tests) []
 
-abbrev pub form_by : Choices → List (Span × Pattern) → Form
+abbrev pub form_by : Choices → List (Span × Pattern) → HeadForm
 form_by tree.no_choice [] = forms.Fresh
 form_by tree.no_choice (p ∷ patterns) = forms.Patterns
 form_by (tree.choice r tests items choices) patterns = forms.Later
 
-abbrev pub form_in : List o.Waiting → o.Head → Tests → Form
+abbrev pub form_in : List o.Waiting → o.Head → Tests → HeadForm
 form_in ws h tree.no_test = form_by h.choices h.patterns
 form_in ws h (tree.test r negated asked tests) = forms.Tests (the_part ws h 0) (c.all_starred (tree.test r negated asked tests))
 
-abbrev pub form_for : List o.Waiting → o.Head → Form
+abbrev pub form_for : List o.Waiting → o.Head → HeadForm
 form_for ws h = form_in ws h h.tests
 
-pub data Waits : List Frame → List o.Waiting → Type 0 where
+pub data Waits : List Suspended → List o.Waiting → Type 0 where
   waits_none : Waits [] []
-  waits_x : {fs : List Frame} {ws : List o.Waiting} (k : Context) (before : Items) (kind : BraceKind) (at : ℕ) (choices : Choices) (tests : Tests) (colon : ℕ) → Waits fs ws
+  waits_x : {fs : List Suspended} {ws : List o.Waiting} (k : ListContext) (before : Items) (kind : BraceKind) (at : ℕ) (choices : Choices) (tests : Tests) (colon : ℕ) → Waits fs ws
       → Waits (frames.X k (the_head ws before kind at) colon (the_part ws (hd ws k before kind at choices tests []) colon) (tested tests) (head_star ws (hd ws k before kind at choices tests [])) ∷ fs) (o.WaitsX (hd ws k before kind at choices tests []) colon ∷ ws)
-  waits_call : {fs : List Frame} {ws : List o.Waiting} (k : Context) (before : Items) (at : ℕ) (name : List ℕ) → Waits fs ws
+  waits_call : {fs : List Suspended} {ws : List o.Waiting} (k : ListContext) (before : Items) (at : ℕ) (name : List ℕ) → Waits fs ws
       → Waits (frames.Call k (record { token = length (list_parts ws before).tokens; start = at }) ∷ fs) (o.WaitsCall (here k before) at name ∷ ws)
-  waits_test : {fs : List Frame} {ws : List o.Waiting} (k : Context) (before : Items) (kind : BraceKind) (at : ℕ) (choices : Choices) (tests : Tests) (patterns : List (Span × Pattern))
+  waits_test : {fs : List Suspended} {ws : List o.Waiting} (k : ListContext) (before : Items) (kind : BraceKind) (at : ℕ) (choices : Choices) (tests : Tests) (patterns : List (Span × Pattern))
       (start : ℕ) (negated : Bool) (name : List ℕ) → Waits fs ws
       → Waits (frames.Test k (the_head ws before kind at) (the_part ws (hd ws k before kind at choices tests patterns) start)
       (record { token = length (all (head_star ws (hd ws k before kind at choices tests patterns)) (choice_level (hd ws k before kind at choices tests patterns) start ∷ brace_level ws (hd ws k before kind at choices tests patterns) ∷ levels_of ws) (test_nodes tests)).tokens; start = start }) (unpatterned patterns) ∷ fs)
       (o.WaitsTest (hd ws k before kind at choices tests patterns) start negated name ∷ ws)
 
-abbrev pub made : Stage → Context → List Frame → Parts → List ℕ → ℕ → ℕ → Walk
+abbrev pub made : Stage → ListContext → List Suspended → Parts → List ℕ → ℕ → ℕ → ReaderState
 made stage k fs parts word kept trail = record { stage = stage; context = k; waiting = fs; tokens = parts.tokens; labels = parts.labels; word = word; kept = kept; trailing = trail; holds_star = parts.holds }
 
-abbrev pub list_walk : ListStage → Context → List Frame → List o.Waiting → Items → List ℕ → Walk
+abbrev pub list_walk : ListStage → ListContext → List Suspended → List o.Waiting → Items → List ℕ → ReaderState
 list_walk stage k fs ws before word = made (staged.List stage) k fs (list_parts ws before) word (last_place (trimmed before) (begin_of ws)) (trailing before)
 
-pub data Shows : Walk → List o.Waiting → Place → Type 0 where
-  shows_list : (stage : ListStage) (k : Context) {fs : List Frame} {ws : List o.Waiting} (before : Items) (word : List ℕ) → Waits fs ws
+pub data Shows : ReaderState → List o.Waiting → Place → Type 0 where
+  shows_list : (stage : ListStage) (k : ListContext) {fs : List Suspended} {ws : List o.Waiting} (before : Items) (word : List ℕ) → Waits fs ws
       → Shows (list_walk stage k fs ws before word) ws (list_place stage word (here k before))
-  shows_choice : (later : Bool) (k : Context) {fs : List Frame} {ws : List o.Waiting} (before : Items) (kind : BraceKind) (at : ℕ) (choices : Choices) (word : List ℕ) (kept trail : ℕ)
+  shows_choice : (later : Bool) (k : ListContext) {fs : List Suspended} {ws : List o.Waiting} (before : Items) (kind : BraceKind) (at : ℕ) (choices : Choices) (word : List ℕ) (kept trail : ℕ)
       → Fits (s.form_at later) choices tree.no_test [] → Waits fs ws
       → Shows (made (staged.Choice (the_head ws before kind at) later) k fs (brace_parts ws (hd ws k before kind at choices tree.no_test [])) word kept trail) ws
       (o.ChoiceStart (hd ws k before kind at choices tree.no_test []))
-  shows_head : (stage : HeadStage) (k : Context) {fs : List Frame} {ws : List o.Waiting} (before : Items) (kind : BraceKind) (at : ℕ) (choices : Choices) (tests : Tests) (patterns : List (Span × Pattern))
+  shows_head : (stage : HeadStage) (k : ListContext) {fs : List Suspended} {ws : List o.Waiting} (before : Items) (kind : BraceKind) (at : ℕ) (choices : Choices) (tests : Tests) (patterns : List (Span × Pattern))
       (word : List ℕ) (kept trail : ℕ) → Held choices tests patterns → Waits fs ws
       → Shows (made (staged.Braces (the_head ws before kind at) (form_for ws (hd ws k before kind at choices tests patterns)) stage) k fs (head_parts ws (hd ws k before kind at choices tests patterns)) word kept trail) ws
       (head_place stage word (hd ws k before kind at choices tests patterns))
-  shows_result : (k : Context) {fs : List Frame} {ws : List o.Waiting} (before : Items) (kind : BraceKind) (at : ℕ) (choices : Choices) (tests : Tests) (patterns : List (Span × Pattern))
+  shows_result : (k : ListContext) {fs : List Suspended} {ws : List o.Waiting} (before : Items) (kind : BraceKind) (at : ℕ) (choices : Choices) (tests : Tests) (patterns : List (Span × Pattern))
       (r : Span) (negated : Bool) (asked : Asked) (others : Tests) (word : List ℕ) (kept trail : ℕ) → c.all_starred (tree.test r negated asked others) ≡ false → Waits fs ws
       → Shows (made (staged.Result (the_head ws before kind at) (the_part ws (hd ws k before kind at choices (tree.test r negated asked others) patterns) 0) (unpatterned patterns)) k fs
       (head_parts ws (hd ws k before kind at choices (tree.test r negated asked others) patterns)) word kept trail) ws
       (o.BehindTest (hd ws k before kind at choices tests patterns) None (o.tested_by patterns (tree.test r negated asked others)) false)
 
 -- what a step of the code comes to, against what the byte leads to
-abbrev pub Leads : Result Walk SyntaxFault → ((List o.Waiting → Place → Out) → Out) → Type 0
+abbrev pub Leads : Result ReaderState SyntaxFault → ((List o.Waiting → Place → Out) → Out) → Type 0
 Leads (Ok v) f = (ws : List o.Waiting) × ((p : Place) × (Shows v ws p × ((again : List o.Waiting → Place → Out) → f again ≡ again ws p)))
 Leads (Err fault) f = (again : List o.Waiting → Place → Out) → judged (f again) ≡ Err fault

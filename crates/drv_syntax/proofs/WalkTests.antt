@@ -7,17 +7,17 @@ use Rattle.drv_syntax.specs.Tree as tree
 use Rattle.drv_syntax.specs.Tree.{Asked, Brace, Choices, Item, Items, Pattern, Span, Tests, first_place, last_place, trimmed}
 use Rattle.drv_syntax.specs.Code.Turns as w
 use Rattle.drv_syntax.specs.Code.Steps as s
-use Rattle.drv_syntax.specs.Code.Steps.{Walk, open_token}
+use Rattle.drv_syntax.specs.Code.Steps.{ReaderState, open_token}
 use Rattle.drv_syntax.specs.declared.fault.SyntaxFault.TheVariants.{BadDirective, EmptyTest}
 use Rattle.drv_syntax.specs.declared.fault.SyntaxFault.{SyntaxFault}
 use Rattle.drv_syntax.specs.declared.reader.stages.Behind.TheVariants as behinds
 use Rattle.drv_syntax.specs.declared.reader.stages.Behind.{Behind}
 use Rattle.drv_syntax.specs.declared.directives.BraceKind.{BraceKind}
-use Rattle.drv_syntax.specs.declared.reader.stages.Context.{Context}
-use Rattle.drv_syntax.specs.declared.reader.stages.Form.TheVariants as forms
-use Rattle.drv_syntax.specs.declared.reader.stages.Form.{Form}
-use Rattle.drv_syntax.specs.declared.reader.stages.Frame.TheVariants as frames
-use Rattle.drv_syntax.specs.declared.reader.stages.Frame.{Frame}
+use Rattle.drv_syntax.specs.declared.reader.stages.ListContext.{ListContext}
+use Rattle.drv_syntax.specs.declared.reader.stages.HeadForm.TheVariants as forms
+use Rattle.drv_syntax.specs.declared.reader.stages.HeadForm.{HeadForm}
+use Rattle.drv_syntax.specs.declared.reader.stages.Suspended.TheVariants as frames
+use Rattle.drv_syntax.specs.declared.reader.stages.Suspended.{Suspended}
 use Rattle.drv_syntax.specs.declared.reader.stages.HeadStage.TheVariants as places
 use Rattle.drv_syntax.specs.declared.reader.stages.ListStage.TheVariants as stages
 use Rattle.drv_syntax.specs.declared.reader.stages.Stage.TheVariants as staged
@@ -37,7 +37,7 @@ use Rattle.drv_syntax.specs.Stars.{asked_has_star, choices_have_star, tests_have
 -- Patterns and tests of braces, each with the byte after it.
 
 -- braces, to the left of a colon
-pub emitted_is : (ws : List o.Waiting) (k : Context) (before : Items) (kind : BraceKind) (at : ℕ) (choices : Choices) (tests : Tests) (patterns : List (Span × Pattern)) → Held choices tests patterns
+pub emitted_is : (ws : List o.Waiting) (k : ListContext) (before : Items) (kind : BraceKind) (at : ℕ) (choices : Choices) (tests : Tests) (patterns : List (Span × Pattern)) → Held choices tests patterns
     → (start end : ℕ) (negated : Bool) (p : Pattern)
     → o.emitted (hd ws k before kind at choices tests patterns) start end negated p
     ≡ (if w.emits (form_for ws (hd ws k before kind at choices tests patterns)) negated then Some (patterns ++ (span start end, p) ∷ []) else None)
@@ -61,7 +61,7 @@ by_pattern (behinds.Marked start end negated mark) word = refl
 by_pattern (behinds.StarredMark start end negated mark) word = refl
 by_pattern (behinds.Bare start end negated mark) word = refl
 
-pub patterns_are : (ws : List o.Waiting) (k : Context) (before : Items) (kind : BraceKind) (at : ℕ) (choices : Choices) (tests : Tests) (patterns : List (Span × Pattern)) → Held choices tests patterns
+pub patterns_are : (ws : List o.Waiting) (k : ListContext) (before : Items) (kind : BraceKind) (at : ℕ) (choices : Choices) (tests : Tests) (patterns : List (Span × Pattern)) → Held choices tests patterns
     → (behind : Behind) (word : List ℕ)
     → patterns_of behind word (hd ws k before kind at choices tests patterns)
     ≡ (if w.emits (form_for ws (hd ws k before kind at choices tests patterns)) (s.negates behind) then Some (patterns ++ (span (s.first_of behind) (s.last_of behind), pattern_by behind word) ∷ []) else None)
@@ -71,7 +71,7 @@ patterns_are ws k before kind at choices tests patterns h (behinds.StarredMark s
 patterns_are ws k before kind at choices tests patterns h (behinds.Bare start end negated mark) word = emitted_is ws k before kind at choices tests patterns h start end negated _
 
 -- one pattern more
-pub pattern_parts : (ws : List o.Waiting) (k : Context) (before : Items) (kind : BraceKind) (at : ℕ) (patterns : List (Span × Pattern)) (start end : ℕ) (p : Pattern) (label : Label) → label ≡ pattern_label p
+pub pattern_parts : (ws : List o.Waiting) (k : ListContext) (before : Items) (kind : BraceKind) (at : ℕ) (patterns : List (Span × Pattern)) (start end : ℕ) (p : Pattern) (label : Label) → label ≡ pattern_label p
     → leafed kinds.Pattern label start end (brace_parts ws (hd ws k before kind at tree.no_choice tree.no_test patterns))
     ≡ brace_parts ws (hd ws k before kind at tree.no_choice tree.no_test (patterns ++ (span start end, p) ∷ []))
 pattern_parts ws k before kind at patterns start end p label e =
@@ -82,19 +82,19 @@ pattern_parts ws k before kind at patterns start end p label e =
     h : o.Head
     h = hd ws k before kind at tree.no_choice tree.no_test patterns
 
-abbrev pub hw : Stage → Context → List Frame → List o.Waiting → Items → BraceKind → ℕ → Choices → Tests → List (Span × Pattern) → List ℕ → ℕ → ℕ → Walk
+abbrev pub hw : Stage → ListContext → List Suspended → List o.Waiting → Items → BraceKind → ℕ → Choices → Tests → List (Span × Pattern) → List ℕ → ℕ → ℕ → ReaderState
 hw stage k fs ws before kind at choices tests patterns word kept trail = made stage k fs (head_parts ws (hd ws k before kind at choices tests patterns)) word kept trail
 
 pub held_more : (patterns : List (Span × Pattern)) (p : Span × Pattern) → Held tree.no_choice tree.no_test (patterns ++ p ∷ [])
 held_more [] p = held_patterns
 held_more (q ∷ patterns) p = held_patterns
 
-pub form_more : (ws : List o.Waiting) (k : Context) (before : Items) (kind : BraceKind) (at : ℕ) (patterns : List (Span × Pattern)) (p : Span × Pattern)
+pub form_more : (ws : List o.Waiting) (k : ListContext) (before : Items) (kind : BraceKind) (at : ℕ) (patterns : List (Span × Pattern)) (p : Span × Pattern)
     → form_for ws (hd ws k before kind at tree.no_choice tree.no_test (patterns ++ p ∷ [])) ≡ forms.Patterns
 form_more ws k before kind at [] p = refl
 form_more ws k before kind at (q ∷ patterns) p = refl
 
-pub ends_on : (stage : Stage) (k : Context) {fs : List Frame} {ws : List o.Waiting} (before : Items) (kind : BraceKind) (at : ℕ) (patterns : List (Span × Pattern))
+pub ends_on : (stage : Stage) (k : ListContext) {fs : List Suspended} {ws : List o.Waiting} (before : Items) (kind : BraceKind) (at : ℕ) (patterns : List (Span × Pattern))
     (word : List ℕ) (kept trail : ℕ) (behind : Behind) (n : ℕ) (p : Pattern) → w.after_pattern behind word ≡ pattern_label p → Waits fs ws
     → Shows (s.close_braces (the_head ws before kind at) true (n + 1) k (s.with_pattern behind (hw stage k fs ws before kind at tree.no_choice tree.no_test patterns word kept trail))) ws
     (o.AtItem (o.emitted_item (hd ws k before kind at tree.no_choice tree.no_test patterns) (n + 1) (patterns ++ (span (s.first_of behind) (s.last_of behind), p) ∷ [])))
@@ -104,14 +104,14 @@ ends_on stage k {fs} {ws} before kind at patterns word kept trail behind n p e h
     (sym (pattern_parts ws k before kind at patterns (s.first_of behind) (s.last_of behind) p (w.after_pattern behind word) e))
     (shows_emit k before kind at (n + 1) (patterns ++ (span (s.first_of behind) (s.last_of behind), p) ∷ []) h)
 
-pub joins_on : (stage : Stage) (k : Context) {fs : List Frame} {ws : List o.Waiting} (before : Items) (kind : BraceKind) (at : ℕ) (patterns : List (Span × Pattern))
+pub joins_on : (stage : Stage) (k : ListContext) {fs : List Suspended} {ws : List o.Waiting} (before : Items) (kind : BraceKind) (at : ℕ) (patterns : List (Span × Pattern))
     (word : List ℕ) (kept trail : ℕ) (behind : Behind) (p : Pattern) → w.after_pattern behind word ≡ pattern_label p → Waits fs ws
     → Shows (s.at_stage (staged.Braces (the_head ws before kind at) forms.Patterns places.PatternDue) (s.with_pattern behind (hw stage k fs ws before kind at tree.no_choice tree.no_test patterns word kept trail))) ws
     (o.PatternDue (hd ws k before kind at tree.no_choice tree.no_test (patterns ++ (span (s.first_of behind) (s.last_of behind), p) ∷ [])))
 joins_on stage k {fs} {ws} before kind at patterns word kept trail behind p e h =
     subst (λ (z : Parts). Shows (made (staged.Braces (the_head ws before kind at) forms.Patterns places.PatternDue) k fs z word kept trail) ws (o.PatternDue (hd ws k before kind at tree.no_choice tree.no_test ps)))
     (sym (pattern_parts ws k before kind at patterns (s.first_of behind) (s.last_of behind) p (w.after_pattern behind word) e))
-    (subst (λ (f : Form). Shows (made (staged.Braces (the_head ws before kind at) f places.PatternDue) k fs (brace_parts ws (hd ws k before kind at tree.no_choice tree.no_test ps)) word kept trail) ws
+    (subst (λ (f : HeadForm). Shows (made (staged.Braces (the_head ws before kind at) f places.PatternDue) k fs (brace_parts ws (hd ws k before kind at tree.no_choice tree.no_test ps)) word kept trail) ws
     (o.PatternDue (hd ws k before kind at tree.no_choice tree.no_test ps)))
     (form_more ws k before kind at patterns (span (s.first_of behind) (s.last_of behind), p))
     (shows_head places.PatternDue k before kind at tree.no_choice tree.no_test ps word kept trail (held_more patterns _) h))
@@ -119,7 +119,7 @@ joins_on stage k {fs} {ws} before kind at patterns word kept trail behind p e h 
     ps : List (Span × Pattern)
     ps = patterns ++ (span (s.first_of behind) (s.last_of behind), p) ∷ []
 
-pub ends_leads : (stage : Stage) (k : Context) {fs : List Frame} {ws : List o.Waiting} (before : Items) (kind : BraceKind) (at : ℕ) (choices : Choices) (tests : Tests) (patterns : List (Span × Pattern))
+pub ends_leads : (stage : Stage) (k : ListContext) {fs : List Suspended} {ws : List o.Waiting} (before : Items) (kind : BraceKind) (at : ℕ) (choices : Choices) (tests : Tests) (patterns : List (Span × Pattern))
     (word : List ℕ) (kept trail : ℕ) (behind : Behind) (n : ℕ) → Held choices tests patterns → Waits fs ws
     → Leads (s.act_ends (the_head ws before kind at) (form_for ws (hd ws k before kind at choices tests patterns)) behind n (hw stage k fs ws before kind at choices tests patterns word kept trail))
     (λ again. after (o.turn_brace (hd ws k before kind at choices tests patterns)
@@ -139,7 +139,7 @@ ends_leads stage k {fs} {ws} before kind at choices tests patterns word kept tra
 ends_leads stage k before kind at choices tests patterns word kept trail behind n held_later h = λ again. refl
 ends_leads stage k before kind at choices tests patterns word kept trail behind n held_tests h = λ again. refl
 
-pub joins_leads : (stage : Stage) (k : Context) {fs : List Frame} {ws : List o.Waiting} (before : Items) (kind : BraceKind) (at : ℕ) (choices : Choices) (tests : Tests) (patterns : List (Span × Pattern))
+pub joins_leads : (stage : Stage) (k : ListContext) {fs : List Suspended} {ws : List o.Waiting} (before : Items) (kind : BraceKind) (at : ℕ) (choices : Choices) (tests : Tests) (patterns : List (Span × Pattern))
     (word : List ℕ) (kept trail : ℕ) (behind : Behind) (n : ℕ) → Held choices tests patterns → Waits fs ws
     → Leads (s.act_joins (the_head ws before kind at) (form_for ws (hd ws k before kind at choices tests patterns)) behind (hw stage k fs ws before kind at choices tests patterns word kept trail))
     (λ again. after (o.turn_and (hd ws k before kind at choices tests patterns)
@@ -216,7 +216,7 @@ by_star : (tests : Tests) (behind : Behind) (word : List ℕ) (others : Bool) �
 by_star tests behind word others =
     test_star tests (span (s.first_of behind) (s.last_of behind)) (s.negates behind) (asked_by behind word) others ∙ ap (λ z. z || (tests_have_star tests || others)) (asked_star behind word)
 
-pub with_test_is : (stage : Stage) (k : Context) (fs : List Frame) (ws : List o.Waiting) (before : Items) (kind : BraceKind) (at : ℕ) (choices : Choices) (word : List ℕ) (kept trail : ℕ) (behind : Behind)
+pub with_test_is : (stage : Stage) (k : ListContext) (fs : List Suspended) (ws : List o.Waiting) (before : Items) (kind : BraceKind) (at : ℕ) (choices : Choices) (word : List ℕ) (kept trail : ℕ) (behind : Behind)
     → s.with_label (w.after_test behind word) (s.with_leaf kinds.Test (s.first_of behind) (s.last_of behind) (s.open_alternative (s.first_of behind) (hw stage k fs ws before kind at choices tree.no_test [] word kept trail)))
     ≡ hw stage k fs ws before kind at choices (test_by behind word) [] word kept trail
 with_test_is stage k fs ws before kind at choices word kept trail behind =
@@ -233,7 +233,7 @@ with_test_is stage k fs ws before kind at choices word kept trail behind =
     t : o.Head
     t = hd ws k before kind at choices (test_by behind word) []
 
-pub more_test_is : (stage : Stage) (k : Context) (fs : List Frame) (ws : List o.Waiting) (before : Items) (kind : BraceKind) (at : ℕ) (choices : Choices)
+pub more_test_is : (stage : Stage) (k : ListContext) (fs : List Suspended) (ws : List o.Waiting) (before : Items) (kind : BraceKind) (at : ℕ) (choices : Choices)
     (r : Span) (negated : Bool) (asked : Asked) (others : Tests) (word : List ℕ) (kept trail : ℕ) (behind : Behind)
     → s.with_label (w.after_test behind word) (s.with_leaf kinds.Test (s.first_of behind) (s.last_of behind) (hw stage k fs ws before kind at choices (tree.test r negated asked others) [] word kept trail))
     ≡ hw stage k fs ws before kind at choices (tree.test r negated asked (join_tests others (test_by behind word))) [] word kept trail
@@ -253,7 +253,7 @@ shown_if true = refl
 shown_if false = refl
 
 -- a colon after tests
-pub asks_on : (stage : Stage) (k : Context) {fs : List Frame} {ws : List o.Waiting} (before : Items) (kind : BraceKind) (at : ℕ) (choices : Choices) (r : Span) (negated : Bool) (asked : Asked) (others : Tests)
+pub asks_on : (stage : Stage) (k : ListContext) {fs : List Suspended} {ws : List o.Waiting} (before : Items) (kind : BraceKind) (at : ℕ) (choices : Choices) (r : Span) (negated : Bool) (asked : Asked) (others : Tests)
     (word : List ℕ) (kept trail : ℕ) (n : ℕ) (st : Bool) → c.all_starred (tree.test r negated asked others) ≡ st → Waits fs ws
     → Shows (s.ask (the_head ws before kind at) (the_part ws (hd ws k before kind at choices (tree.test r negated asked others) []) 0) true st n (hw stage k fs ws before kind at choices (tree.test r negated asked others) [] word kept trail))
     (o.WaitsX (hd ws k before kind at choices (tree.test r negated asked others) []) n ∷ ws) (o.list_in (c.in_x (c.in_braces (shown k)) (tree.test r negated asked others)))
@@ -272,8 +272,8 @@ asks_on stage k {fs} {ws} before kind at choices r negated asked others word kep
     stars : Bool
     stars = c.all_starred (tree.test r negated asked others)
 
-pub asks_good : (stage : Stage) (k : Context) {fs : List Frame} {ws : List o.Waiting} (before : Items) (kind : BraceKind) (at : ℕ) (choices : Choices) (tests : Tests) (r : Span) (negated : Bool) (asked : Asked) (others : Tests)
-    (word : List ℕ) (kept trail : ℕ) (n : ℕ) (st bare : Bool) (v : Walk) → v ≡ hw stage k fs ws before kind at choices (tree.test r negated asked others) [] word kept trail
+pub asks_good : (stage : Stage) (k : ListContext) {fs : List Suspended} {ws : List o.Waiting} (before : Items) (kind : BraceKind) (at : ℕ) (choices : Choices) (tests : Tests) (r : Span) (negated : Bool) (asked : Asked) (others : Tests)
+    (word : List ℕ) (kept trail : ℕ) (n : ℕ) (st bare : Bool) (v : ReaderState) → v ≡ hw stage k fs ws before kind at choices (tree.test r negated asked others) [] word kept trail
     → c.all_starred (tree.test r negated asked others) ≡ st → Waits fs ws
     → Leads (Ok (s.ask (the_head ws before kind at) (the_part ws (hd ws k before kind at choices (tree.test r negated asked others) []) 0) true st n v))
     (λ again. after (o.turn_colon (hd ws k before kind at choices tests []) (Some (tree.test r negated asked others)) bare n) ws again n)
@@ -282,7 +282,7 @@ asks_good stage k {fs} {ws} before kind at choices tests r negated asked others 
   (
     _,
     (
-      subst (λ (z : Walk). Shows (s.ask (the_head ws before kind at) (the_part ws hh 0) true st n z) (o.WaitsX hh n ∷ ws) (o.list_in (c.in_x (c.in_braces (shown k)) (tree.test r negated asked others)))) (sym d)
+      subst (λ (z : ReaderState). Shows (s.ask (the_head ws before kind at) (the_part ws hh 0) true st n z) (o.WaitsX hh n ∷ ws) (o.list_in (c.in_x (c.in_braces (shown k)) (tree.test r negated asked others)))) (sym d)
           (asks_on stage k before kind at choices r negated asked others word kept trail n st e h),
       λ again. refl,
     ),
@@ -292,8 +292,8 @@ asks_good stage k {fs} {ws} before kind at choices tests r negated asked others 
     hh : o.Head
     hh = hd ws k before kind at choices (tree.test r negated asked others) []
 
-pub bars_good : (stage : Stage) (k : Context) {fs : List Frame} {ws : List o.Waiting} (before : Items) (kind : BraceKind) (at : ℕ) (choices : Choices) (tests : Tests) (r : Span) (negated : Bool) (asked : Asked) (others : Tests)
-    (word : List ℕ) (kept trail : ℕ) (n : ℕ) (st bare : Bool) (v : Walk) → v ≡ hw stage k fs ws before kind at choices (tree.test r negated asked others) [] word kept trail
+pub bars_good : (stage : Stage) (k : ListContext) {fs : List Suspended} {ws : List o.Waiting} (before : Items) (kind : BraceKind) (at : ℕ) (choices : Choices) (tests : Tests) (r : Span) (negated : Bool) (asked : Asked) (others : Tests)
+    (word : List ℕ) (kept trail : ℕ) (n : ℕ) (st bare : Bool) (v : ReaderState) → v ≡ hw stage k fs ws before kind at choices (tree.test r negated asked others) [] word kept trail
     → c.all_starred (tree.test r negated asked others) ≡ st → Waits fs ws
     → Leads (Ok (s.at_stage (staged.Braces (the_head ws before kind at) (forms.Tests (the_part ws (hd ws k before kind at choices (tree.test r negated asked others) []) 0) st) places.TestDue) v))
     (λ again. after (o.turn_bar (hd ws k before kind at choices tests []) (Some (tree.test r negated asked others)) bare) ws again n)
@@ -302,7 +302,7 @@ bars_good stage k {fs} {ws} before kind at choices tests r negated asked others 
   (
     _,
     (
-      subst (λ (z : Walk). Shows (s.at_stage (staged.Braces (the_head ws before kind at) (forms.Tests (the_part ws hh 0) st) places.TestDue) z) ws (o.TestDue hh)) (sym d)
+      subst (λ (z : ReaderState). Shows (s.at_stage (staged.Braces (the_head ws before kind at) (forms.Tests (the_part ws hh 0) st) places.TestDue) z) ws (o.TestDue hh)) (sym d)
           (subst (λ (u : Bool). Shows (made (staged.Braces (the_head ws before kind at) (forms.Tests (the_part ws hh 0) u) places.TestDue) k fs (head_parts ws hh) word kept trail) ws (o.TestDue hh)) e
           (shows_head places.TestDue k before kind at choices (tree.test r negated asked others) [] word kept trail held_tests h)),
       λ again. refl,
@@ -325,13 +325,13 @@ refused_leads ws n fault other e = λ again. ap (λ z. fails z) (sym e)
     fails : SyntaxFault → Result Items SyntaxFault
     fails z = Err z
 
-pub asks_leads : (stage : Stage) (k : Context) {fs : List Frame} {ws : List o.Waiting} (before : Items) (kind : BraceKind) (at : ℕ) (choices : Choices) (tests : Tests) (patterns : List (Span × Pattern))
+pub asks_leads : (stage : Stage) (k : ListContext) {fs : List Suspended} {ws : List o.Waiting} (before : Items) (kind : BraceKind) (at : ℕ) (choices : Choices) (tests : Tests) (patterns : List (Span × Pattern))
     (word : List ℕ) (kept trail : ℕ) (behind : Behind) (n : ℕ) → Held choices tests patterns → Waits fs ws
     → Leads (s.act_asks (the_head ws before kind at) (form_for ws (hd ws k before kind at choices tests patterns)) behind n (hw stage k fs ws before kind at choices tests patterns word kept trail))
     (λ again. after (o.turn_colon (hd ws k before kind at choices tests patterns) (if s.tests behind then o.tested_by patterns (join_tests tests (test_by behind word)) else None) (is_bare behind) n) ws again n)
 asks_leads stage k {fs} {ws} before kind at choices tests patterns word kept trail behind n held_fresh h = by (s.tests behind)
   where
-    v : Walk
+    v : ReaderState
     v = s.with_label (w.after_test behind word) (s.with_leaf kinds.Test (s.first_of behind) (s.last_of behind) (s.open_alternative (s.first_of behind) (hw stage k fs ws before kind at tree.no_choice tree.no_test [] word kept trail)))
 
     by : (t : Bool) → Leads (if t && true then Ok (s.ask (the_head ws before kind at) (the_part ws (hd ws k before kind at tree.no_choice (test_by behind word) []) 0) true (s.starred_of behind) n v) else Err (s.untested at behind))
@@ -340,7 +340,7 @@ asks_leads stage k {fs} {ws} before kind at choices tests patterns word kept tra
     by false = refused_leads ws n _ _ (untested_is at behind)
 asks_leads stage k {fs} {ws} before kind at choices tests patterns word kept trail behind n (held_later {r = q} {tests = ts} {items = xs} {choices = cs}) h = by (s.tests behind)
   where
-    v : Walk
+    v : ReaderState
     v = s.with_label (w.after_test behind word) (s.with_leaf kinds.Test (s.first_of behind) (s.last_of behind) (s.open_alternative (s.first_of behind) (hw stage k fs ws before kind at (tree.choice q ts xs cs) tree.no_test [] word kept trail)))
 
     by : (t : Bool) → Leads (if t && true then Ok (s.ask (the_head ws before kind at) (the_part ws (hd ws k before kind at (tree.choice q ts xs cs) (test_by behind word) []) 0) true (s.starred_of behind) n v) else Err (s.untested at behind))
@@ -349,7 +349,7 @@ asks_leads stage k {fs} {ws} before kind at choices tests patterns word kept tra
     by false = refused_leads ws n _ _ (untested_is at behind)
 asks_leads stage k {fs} {ws} before kind at choices tests patterns word kept trail behind n (held_tests {choices = cs} {r = q} {negated = sign} {asked = a} {tests = ts}) h = by (s.tests behind)
   where
-    v : Walk
+    v : ReaderState
     v = s.with_label (w.after_test behind word) (s.with_leaf kinds.Test (s.first_of behind) (s.last_of behind) (hw stage k fs ws before kind at cs (tree.test q sign a ts) [] word kept trail))
 
     by : (t : Bool) → Leads (if t && true then Ok (s.ask (the_head ws before kind at) (the_part ws (hd ws k before kind at cs (tree.test q sign a ts) []) 0) true (c.all_starred (tree.test q sign a ts) && s.starred_of behind) n v) else Err (s.untested at behind))
@@ -361,18 +361,18 @@ asks_leads stage k {fs} {ws} before kind at choices tests patterns word kept tra
     by false = refused_leads ws n _ _ (untested_is at behind)
 asks_leads stage k {fs} {ws} before kind at choices tests patterns word kept trail behind n (held_patterns {p = q} {patterns = qs}) h = by (s.tests behind) _
   where
-    by : (t : Bool) (v : Walk) → Leads (if t && false then Ok v else Err (s.untested at behind))
+    by : (t : Bool) (v : ReaderState) → Leads (if t && false then Ok v else Err (s.untested at behind))
         (λ again. after (o.turn_colon (hd ws k before kind at tree.no_choice tree.no_test (q ∷ qs)) (if t then None else None) (is_bare behind) n) ws again n)
     by true v = refused_leads ws n _ _ (untested_is at behind)
     by false v = refused_leads ws n _ _ (untested_is at behind)
 
-pub bars_leads : (stage : Stage) (k : Context) {fs : List Frame} {ws : List o.Waiting} (before : Items) (kind : BraceKind) (at : ℕ) (choices : Choices) (tests : Tests) (patterns : List (Span × Pattern))
+pub bars_leads : (stage : Stage) (k : ListContext) {fs : List Suspended} {ws : List o.Waiting} (before : Items) (kind : BraceKind) (at : ℕ) (choices : Choices) (tests : Tests) (patterns : List (Span × Pattern))
     (word : List ℕ) (kept trail : ℕ) (behind : Behind) (n : ℕ) → Held choices tests patterns → Waits fs ws
     → Leads (s.act_bars (the_head ws before kind at) (form_for ws (hd ws k before kind at choices tests patterns)) behind (hw stage k fs ws before kind at choices tests patterns word kept trail))
     (λ again. after (o.turn_bar (hd ws k before kind at choices tests patterns) (if s.tests behind then o.tested_by patterns (join_tests tests (test_by behind word)) else None) (is_bare behind)) ws again n)
 bars_leads stage k {fs} {ws} before kind at choices tests patterns word kept trail behind n held_fresh h = by (s.tests behind)
   where
-    v : Walk
+    v : ReaderState
     v = s.with_label (w.after_test behind word) (s.with_leaf kinds.Test (s.first_of behind) (s.last_of behind) (s.open_alternative (s.first_of behind) (hw stage k fs ws before kind at tree.no_choice tree.no_test [] word kept trail)))
 
     by : (t : Bool) → Leads (if t && true then Ok (s.at_stage (staged.Braces (the_head ws before kind at) (forms.Tests (the_part ws (hd ws k before kind at tree.no_choice (test_by behind word) []) 0) (s.starred_of behind)) places.TestDue) v) else Err (s.untested at behind))
@@ -381,7 +381,7 @@ bars_leads stage k {fs} {ws} before kind at choices tests patterns word kept tra
     by false = refused_leads ws n _ _ (untested_is at behind)
 bars_leads stage k {fs} {ws} before kind at choices tests patterns word kept trail behind n (held_later {r = q} {tests = ts} {items = xs} {choices = cs}) h = by (s.tests behind)
   where
-    v : Walk
+    v : ReaderState
     v = s.with_label (w.after_test behind word) (s.with_leaf kinds.Test (s.first_of behind) (s.last_of behind) (s.open_alternative (s.first_of behind) (hw stage k fs ws before kind at (tree.choice q ts xs cs) tree.no_test [] word kept trail)))
 
     by : (t : Bool) → Leads (if t && true then Ok (s.at_stage (staged.Braces (the_head ws before kind at) (forms.Tests (the_part ws (hd ws k before kind at (tree.choice q ts xs cs) (test_by behind word) []) 0) (s.starred_of behind)) places.TestDue) v) else Err (s.untested at behind))
@@ -390,7 +390,7 @@ bars_leads stage k {fs} {ws} before kind at choices tests patterns word kept tra
     by false = refused_leads ws n _ _ (untested_is at behind)
 bars_leads stage k {fs} {ws} before kind at choices tests patterns word kept trail behind n (held_tests {choices = cs} {r = q} {negated = sign} {asked = a} {tests = ts}) h = by (s.tests behind)
   where
-    v : Walk
+    v : ReaderState
     v = s.with_label (w.after_test behind word) (s.with_leaf kinds.Test (s.first_of behind) (s.last_of behind) (hw stage k fs ws before kind at cs (tree.test q sign a ts) [] word kept trail))
 
     by : (t : Bool) → Leads (if t && true then Ok (s.at_stage (staged.Braces (the_head ws before kind at) (forms.Tests (the_part ws (hd ws k before kind at cs (tree.test q sign a ts) []) 0) (c.all_starred (tree.test q sign a ts) && s.starred_of behind)) places.TestDue) v) else Err (s.untested at behind))
@@ -402,7 +402,7 @@ bars_leads stage k {fs} {ws} before kind at choices tests patterns word kept tra
     by false = refused_leads ws n _ _ (untested_is at behind)
 bars_leads stage k {fs} {ws} before kind at choices tests patterns word kept trail behind n (held_patterns {p = q} {patterns = qs}) h = by (s.tests behind) _
   where
-    by : (t : Bool) (v : Walk) → Leads (if t && false then Ok v else Err (s.untested at behind))
+    by : (t : Bool) (v : ReaderState) → Leads (if t && false then Ok v else Err (s.untested at behind))
         (λ again. after (o.turn_bar (hd ws k before kind at tree.no_choice tree.no_test (q ∷ qs)) (if t then None else None) (is_bare behind)) ws again n)
     by true v = refused_leads ws n _ _ (untested_is at behind)
     by false v = refused_leads ws n _ _ (untested_is at behind)

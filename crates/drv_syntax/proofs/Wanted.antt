@@ -1,8 +1,8 @@
 use Rattle.drv_syntax.proofs.Parts.{HasChoice}
-use Rattle.drv_syntax.specs.Bytes.{is_function, is_name, is_option, is_suffix, is_word}
+use Rattle.drv_syntax.specs.Bytes.{is_function, is_name_byte, is_option, is_suffix, is_word}
 use Rattle.drv_syntax.specs.Directives.{braced, directive_of, is_allowed, said}
 use Rattle.drv_syntax.specs.declared.directives.SayKind.{SayKind}
-use Rattle.drv_syntax.specs.Contexts.{Context, in_arguments, in_braces, in_x, is_end, is_said}
+use Rattle.drv_syntax.specs.Contexts.{ListContext, in_arguments, in_braces, in_x, is_end, is_said}
 use Rattle.drv_syntax.specs.Fronts.{AreFrontItems}
 use Rattle.drv_syntax.specs.Outcome as o
 use Rattle.drv_syntax.specs.Outcome.{Head, Here, On, Place, Turn, Waiting, emitted, join, join_choices, join_tests, placed, resume, tested}
@@ -17,7 +17,7 @@ use Rattle.std.specs.Prelude.{◌==◌, None, Option, Some}
 
 -- what a list with these items so far, and with so much of the text left, means to what stands around it
 abbrev pub Outside : Type 1
-Outside = Context → Items → List ℕ → Type 0
+Outside = ListContext → Items → List ℕ → Type 0
 
 -- after a front of a word
 pub data IsPatternRest (word : List ℕ) : List ℕ → Pattern → List ℕ → Type 0 where
@@ -30,12 +30,12 @@ pub data IsEmitsRest (size : ℕ) : List ℕ → List (Span × Pattern) → List
   emits_and : {text mid rest : List ℕ} {ps : List (Span × Pattern)} → AreSpaces text (38 ∷ mid) → ArePatterns size mid ps rest → IsEmitsRest size text ps rest
 
 -- after a test
-pub data IsTestsRest (size : ℕ) (c : Context) : List ℕ → Tests → List ℕ → Type 0 where
+pub data IsTestsRest (size : ℕ) (c : ListContext) : List ℕ → Tests → List ℕ → Type 0 where
   tests_colon : {text rest : List ℕ} → AreSpaces text (58 ∷ rest) → IsTestsRest size c text no_test (58 ∷ rest)
   tests_bar : {text mid end : List ℕ} {tests : Tests} → AreSpaces text (124 ∷ mid) → AreTests size c mid tests end → IsTestsRest size c text tests end
 
 -- from the colon of an alternative
-pub data IsChoiceRest (size : ℕ) (c : Context) (tests : Tests) : List ℕ → Choices → List ℕ → Type 0 where
+pub data IsChoiceRest (size : ℕ) (c : ListContext) (tests : Tests) : List ℕ → Choices → List ℕ → Type 0 where
   choice_last : (colon : ℕ) {mid rest : List ℕ} {items : Items} → At size colon (58 ∷ mid) → AreItems size (in_x c tests) mid items (125 ∷ rest)
       → IsChoiceRest size c tests (58 ∷ mid) (alternative colon tests items no_choice) rest
   choice_next : (colon : ℕ) {mid next rest : List ℕ} {items : Items} {choices : Choices} → At size colon (58 ∷ mid) → AreItems size (in_x c tests) mid items (59 ∷ next)
@@ -126,7 +126,7 @@ module _ (size : ℕ) (K : Outside) where
       ⊎ marked_starred h begun negated mark [] text
 
   -- after a front of a function's name
-  abbrev pub call_rest : Context → List ℕ → List ℕ → (List ℕ → Items → List ℕ → Type 0) → Type 0
+  abbrev pub call_rest : ListContext → List ℕ → List ℕ → (List ℕ → Items → List ℕ → Type 0) → Type 0
   call_rest c name text behind = (others : List ℕ) × (mid : List ℕ) × (arguments : Items) × (rest : List ℕ) × (text ≡ others ++ 40 ∷ mid) × (is_function (name ++ others) ≡ true)
       × AreItems size (in_arguments c) mid arguments (41 ∷ rest) × behind (name ++ others) arguments rest
 
@@ -153,7 +153,7 @@ module _ (size : ℕ) (K : Outside) where
       × Ended size K here at (said kind (words ++ run)) rest
 
   abbrev pub name_rest : Here → ℕ → List ℕ → List ℕ → Type 0
-  name_rest here at name text = (run : List ℕ) × (rest : List ℕ) × (b : ℕ) × (others : List ℕ) × IsRun is_name text run (41 ∷ rest) × (length (name ++ run) ≤ 255) × (name ++ run ≡ b ∷ others)
+  name_rest here at name text = (run : List ℕ) × (rest : List ℕ) × (b : ℕ) × (others : List ℕ) × IsRun is_name_byte text run (41 ∷ rest) × (length (name ++ run) ≤ 255) × (name ++ run ≡ b ∷ others)
       × Ended size K here at (NamedText (name ++ run)) rest
 
   abbrev pub hide_rest : Here → ℕ → List ℕ → List ℕ → Type 0
@@ -203,5 +203,5 @@ Around size (w ∷ ws) out c all rest = Inside size (Around size ws out) w c all
 abbrev pub After : ℕ → Outside → ℕ → List ℕ → Turn → Type 0
 After size K b text (o.Goes q) = Wanted size K q text
 After size K b text (o.Opens q w) = Wanted size (Inside size K w) q text
-After size K b text (o.Closes items c) = c ≡ b → (around : Context) → is_end around.kind b ≡ true → K around items (b ∷ text)
+After size K b text (o.Closes items c) = c ≡ b → (around : ListContext) → is_end around.kind b ≡ true → K around items (b ∷ text)
 After size K b text (o.Refused fault) = ⊥

@@ -15,8 +15,8 @@ abbrev pub is_word : ℕ → Bool
 is_word b = if is_ascii_alphanumeric b then true else is_of (codes "_-+=,.@") b
 
 -- in the name of a named text: letters, digits and _.+-
-abbrev pub is_name : ℕ → Bool
-is_name b = if is_ascii_alphanumeric b then true else is_of (codes "_.+-") b
+abbrev pub is_name_byte : ℕ → Bool
+is_name_byte b = if is_ascii_alphanumeric b then true else is_of (codes "_.+-") b
 
 -- in a suffix: letters and the period
 abbrev pub is_suffix : ℕ → Bool
@@ -27,8 +27,8 @@ abbrev pub is_blank : ℕ → Bool
 is_blank b = is_of (ascii.space ∷ ascii.tab ∷ []) b
 
 -- a space, a tab or a newline
-abbrev pub is_space : ℕ → Bool
-is_space b = is_of (ascii.space ∷ ascii.tab ∷ ascii.newline ∷ []) b
+abbrev pub is_white : ℕ → Bool
+is_white b = is_of (ascii.space ∷ ascii.tab ∷ ascii.newline ∷ []) b
 
 -- what begins a test of a suffix or of a language: a period or a comma
 abbrev pub is_mark : ℕ → Bool

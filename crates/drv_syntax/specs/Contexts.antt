@@ -16,21 +16,21 @@ pub data Owner : Type 0 where
   Mixed : Owner  -- an X without tests, or with one that is no starred pattern
   Starred : Owner  -- an X whose tests are starred patterns without !
 
-pub record Context : Type 0 where
+pub record ListContext : Type 0 where
   pub kind : Kind
   pub in_arguments : Bool  -- in arguments at any depth
   pub owner : Owner
   pub levels : ℕ  -- so many more braces and arguments may stand in one another
 
-abbrev pub top : Context
+abbrev pub top : ListContext
 top = record { kind = Top; in_arguments = false; owner = Nobody; levels = 64 }
 
 -- in braces, to the left of a colon
-abbrev pub in_braces : Context → Context
+abbrev pub in_braces : ListContext → ListContext
 in_braces c = record { kind = c.kind; in_arguments = c.in_arguments; owner = c.owner; levels = c.levels - 1 }
 
 -- in the arguments of a function that stands in such a place
-abbrev pub in_arguments : Context → Context
+abbrev pub in_arguments : ListContext → ListContext
 in_arguments c = record { kind = InArguments; in_arguments = true; owner = c.owner; levels = c.levels - 1 }
 
 abbrev pub all_starred : Tests → Bool
@@ -47,7 +47,7 @@ owner_of no_test = Mixed
 owner_of (test span negated asked tests) = if all_starred (test span negated asked tests) then Starred else Mixed
 
 -- in the X of an alternative with these tests
-abbrev pub in_x : Context → Tests → Context
+abbrev pub in_x : ListContext → Tests → ListContext
 in_x c tests = record { kind = InX; in_arguments = c.in_arguments; owner = owner_of tests; levels = c.levels }
 
 -- the byte ends a list: in an X a semicolon or a brace, in arguments a bracket

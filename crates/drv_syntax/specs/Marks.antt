@@ -1,16 +1,16 @@
 use Rattle.drv_syntax.specs.Labels.{Label}
-use Rattle.drv_syntax.specs.declared.labels.Mark.{Mark}
+use Rattle.drv_syntax.specs.declared.labels.LabelMark.{LabelMark}
 use Rattle.std.specs.Prelude.{◌-◌, ◌≤◌, List, [], ◌∷◌, drop, map, take, ℕ}
 
 -- Labels whose words stand one after another (this project's profile).
 
-abbrev pub marked_label : List ℕ → Mark → Label
+abbrev pub marked_label : List ℕ → LabelMark → Label
 marked_label words m = record { word = take (m.end - m.start) (drop m.start words); starred = m.starred; negated = m.negated; asks = m.asks; holds_star = m.holds_star }
 
-abbrev pub marked_labels : List ℕ → List Mark → List Label
+abbrev pub marked_labels : List ℕ → List LabelMark → List Label
 marked_labels words marks = map (λ m. marked_label words m) marks
 
 -- each mark's word lies within so many bytes
-abbrev pub Within : ℕ → List Mark → Type 0
+abbrev pub Within : ℕ → List LabelMark → Type 0
 Within n [] = Unit {0}
 Within n (m ∷ marks) = ((m.start ≤ m.end) × (m.end ≤ n)) × Within n marks

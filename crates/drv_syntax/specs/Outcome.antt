@@ -1,12 +1,12 @@
 use Rattle.drv_words.specs.Bytes as ascii
-use Rattle.drv_syntax.specs.Bytes.{is_blank, is_function, is_function_front, is_mark, is_name, is_space, is_suffix, is_word}
+use Rattle.drv_syntax.specs.Bytes.{is_blank, is_function, is_function_front, is_mark, is_name_byte, is_white, is_suffix, is_word}
 use Rattle.drv_syntax.specs.Directives.{braced, directive_of, is_allowed, said, text_of}
 use Rattle.drv_syntax.specs.declared.directives.BraceKind.{BraceKind}
 use Rattle.drv_syntax.specs.declared.directives.BraceKind.TheVariants.{InPlace}
 use Rattle.drv_syntax.specs.declared.directives.Directive.{Directive}
 use Rattle.drv_syntax.specs.declared.directives.Directive.TheVariants.{Named, Nowhere, OfStar, Whole, WithBraces, WithCall, WithMarkedBraces, WithName, WithOption, WithPattern, WithSaying, WithSuffix}
 use Rattle.drv_syntax.specs.declared.directives.SayKind.{SayKind}
-use Rattle.drv_syntax.specs.Contexts.{Context, Mixed, Nobody, Owner, Starred, bar_in, in_arguments, in_braces, in_x, is_end, is_said, newline_in, top}
+use Rattle.drv_syntax.specs.Contexts.{ListContext, Mixed, Nobody, Owner, Starred, bar_in, in_arguments, in_braces, in_x, is_end, is_said, newline_in, top}
 use Rattle.drv_syntax.specs.Tree.{AddOption, Asked, Blank, BuiltinText, Choices, Choose, Emit, Escape, Function, Hide, Item, Items, HasLanguage, Leaf, NamedText, Pattern, Plain, HasResult, Span, Star, HasSuffix, HasSwitch, TempName, Tests, alternative, choice, more, no_choice, no_test, none, pattern, test}
 use Rattle.drv_syntax.specs.Spelling.{span}
 use Rattle.drv_syntax.specs.declared.fault.SyntaxFault.{SyntaxFault}
@@ -32,7 +32,7 @@ join_choices (choice s tests items choices) others = choice s tests items (join_
 
 -- a list of items, and what has been read of it
 pub record Here : Type 0 where
-  pub context : Context
+  pub context : ListContext
   pub done : Items
 
 -- one item more, with the places where it begins and ends
@@ -188,9 +188,9 @@ turn_saying here at kind words n b =
     else turn_item (placed here at n (said kind words)) n b
 
 abbrev pub turn_name : Here → ℕ → List ℕ → ℕ → ℕ → Turn
-turn_name here at [] n b = if is_name b then Goes (NameText here at (b ∷ [])) else Refused (BadDirective at)
+turn_name here at [] n b = if is_name_byte b then Goes (NameText here at (b ∷ [])) else Refused (BadDirective at)
 turn_name here at (x ∷ xs) n b =
-    if is_name b then (if nat_le (length (x ∷ xs ++ b ∷ [])) 255 then Goes (NameText here at (x ∷ xs ++ b ∷ [])) else Refused (BadDirective at))
+    if is_name_byte b then (if nat_le (length (x ∷ xs ++ b ∷ [])) 255 then Goes (NameText here at (x ∷ xs ++ b ∷ [])) else Refused (BadDirective at))
     else if b == ascii.closing_parenthesis then then_item here at (n + 1) (NamedText (x ∷ xs))
     else Refused (BadDirective at)
 
@@ -215,7 +215,7 @@ turn_function at name b opened further =
     else if b == ascii.opening_parenthesis then (if is_function name then opened else Refused (UnknownFunction at))
     else Refused (UnknownFunction at)
 
-abbrev pub list_in : Context → Place
+abbrev pub list_in : ListContext → Place
 list_in c = AtItem (record { context = c; done = none })
 
 -- after a test, where white space may stand: at the colon, | , } and &
@@ -237,7 +237,7 @@ turn_and h None = Refused (BadDirective h.at)
 
 abbrev pub turn_after : Head → Option (List (Span × Pattern)) → Option Tests → Bool → ℕ → ℕ → Turn
 turn_after h patterns tests bare n b =
-    if is_space b then Goes (BehindTest h patterns tests bare)
+    if is_white b then Goes (BehindTest h patterns tests bare)
     else if b == ascii.closing_brace then turn_brace h patterns n
     else if b == ascii.ampersand then turn_and h patterns
     else if b == ascii.colon then turn_colon h tests bare n
@@ -283,7 +283,7 @@ turn_bare h (Some patterns) starred n b =
     if b == ascii.asterisk then Goes (BehindTest h starred None false)
     else if b == ascii.closing_brace then turn_brace h (Some patterns) n
     else if b == ascii.ampersand then turn_and h (Some patterns)
-    else if is_space b then Goes (BehindTest h (Some patterns) None true)
+    else if is_white b then Goes (BehindTest h (Some patterns) None true)
     else Refused (EmptyTest h.at)
 
 abbrev pub turn_mark : Head → ℕ → Bool → ℕ → ℕ → ℕ → Turn
@@ -314,11 +314,11 @@ turn_asked h start negated n b =
     else Refused (EmptyTest h.at)
 
 abbrev pub turn_due : Head → Place → ℕ → ℕ → Turn
-turn_due h same n b = if is_space b then Goes same else if b == ascii.exclamation_mark then Goes (TestNegated h n) else turn_asked h n false n b
+turn_due h same n b = if is_white b then Goes same else if b == ascii.exclamation_mark then Goes (TestNegated h n) else turn_asked h n false n b
 
 abbrev pub turn_pattern : Head → ℕ → ℕ → Turn
 turn_pattern h n b =
-    if is_space b then Goes (PatternDue h)
+    if is_white b then Goes (PatternDue h)
     else if b == ascii.backslash then Goes (TestWordEscape h n false [])
     else if is_word b then Goes (TestWord h n false (b ∷ []))
     else if b == ascii.asterisk then Goes (after_pattern h n (n + 1) false (pattern [] true))
@@ -349,7 +349,7 @@ turn (FunctionName here at name) n b = turn_function at name b (Opens (list_in (
 turn (BraceOpen here at kind) n b = if b == ascii.opening_brace then Goes (ChoiceStart (fresh here at kind)) else Refused (BadDirective at)
 turn (ChoiceStart h) n b = turn_start h h.choices n b
 turn (TestDue h) n b = turn_due h (TestDue h) n b
-turn (TestNegated h start) n b = if is_space b then Goes (TestNegated h start) else turn_asked h start true n b
+turn (TestNegated h start) n b = if is_white b then Goes (TestNegated h start) else turn_asked h start true n b
 turn (PatternDue h) n b = turn_pattern h n b
 turn (TestWord h start negated word) n b = turn_word h start negated word n b
 turn (TestWordEscape h start negated word) n b = Goes (TestWord h start negated (word ++ b ∷ []))

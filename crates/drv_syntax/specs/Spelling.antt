@@ -1,12 +1,12 @@
 use Rattle.drv_words.specs.Bytes as ascii
-use Rattle.drv_syntax.specs.Bytes.{is_blank, is_function, is_mark, is_name, is_option, is_plain, is_space, is_suffix, is_word}
+use Rattle.drv_syntax.specs.Bytes.{is_blank, is_function, is_mark, is_name_byte, is_option, is_plain, is_white, is_suffix, is_word}
 use Rattle.drv_syntax.specs.Directives.{braced, directive_of, is_allowed, said, text_of}
 use Rattle.drv_syntax.specs.declared.directives.BraceKind.{BraceKind}
 use Rattle.drv_syntax.specs.declared.directives.BraceKind.TheVariants.{InPlace}
 use Rattle.drv_syntax.specs.declared.directives.Directive.{Directive}
 use Rattle.drv_syntax.specs.declared.directives.Directive.TheVariants.{Named, OfStar, Whole, WithBraces, WithCall, WithMarkedBraces, WithName, WithOption, WithPattern, WithSaying, WithSuffix}
 use Rattle.drv_syntax.specs.declared.directives.SayKind.{SayKind}
-use Rattle.drv_syntax.specs.Contexts.{Context, Kind, Starred, Top, bar_in, in_arguments, in_braces, in_x, is_end, is_said, newline_in, top}
+use Rattle.drv_syntax.specs.Contexts.{ListContext, Kind, Starred, Top, bar_in, in_arguments, in_braces, in_x, is_end, is_said, newline_in, top}
 use Rattle.drv_syntax.specs.Tree.{AddOption, Asked, Blank, Brace, BuiltinText, Choices, Choose, Emit, Escape, Function, HasLanguage, HasResult, HasSuffix, HasSwitch, Hide, Item, Items, Leaf, NamedText, Pattern, Plain, Span, Star, TempName, Tests, alternative, more, no_choice, no_test, none, pattern, test}
 use Rattle.drv_syntax.specs.declared.directives.BuiltinName.{BuiltinName}
 use Rattle.drv_syntax.specs.declared.token.Leaf as leaf
@@ -41,7 +41,7 @@ pub data IsPattern : List ℕ → Pattern → List ℕ → Type 0 where
 -- white space, or none
 pub data AreSpaces : List ℕ → List ℕ → Type 0 where
   no_space : {rest : List ℕ} → AreSpaces rest rest
-  space : {b : ℕ} {text rest : List ℕ} → is_space b ≡ true → AreSpaces text rest → AreSpaces (b ∷ text) rest
+  space : {b : ℕ} {text rest : List ℕ} → is_white b ≡ true → AreSpaces text rest → AreSpaces (b ∷ text) rest
 
 -- a suffix: the longest run of letters and periods, or %O for .o, or none
 pub data IsSuffix : List ℕ → List ℕ → List ℕ → Type 0 where
@@ -81,76 +81,76 @@ pub data ArePatterns (size : ℕ) : List ℕ → List (Span × Pattern) → List
       → ArePatterns size w ps rest → ArePatterns size t ((span n m, p) ∷ ps) rest
 
 mutual
-  pub data AreItems (size : ℕ) : Context → List ℕ → Items → List ℕ → Type 0 where
-    no_item : {c : Context} {rest : List ℕ} → EndsList c.kind rest → AreItems size c rest none rest
-    next_item : {c : Context} {n m : ℕ} {text mid rest : List ℕ} {item : Item} {items : Items} → At size n text → IsItem size c text item mid → At size m mid
+  pub data AreItems (size : ℕ) : ListContext → List ℕ → Items → List ℕ → Type 0 where
+    no_item : {c : ListContext} {rest : List ℕ} → EndsList c.kind rest → AreItems size c rest none rest
+    next_item : {c : ListContext} {n m : ℕ} {text mid rest : List ℕ} {item : Item} {items : Items} → At size n text → IsItem size c text item mid → At size m mid
         → AreItems size c mid items rest → AreItems size c text (more (span n m) item items) rest
 
-  pub data IsItem (size : ℕ) : Context → List ℕ → Item → List ℕ → Type 0 where
-    plain : {c : Context} {b : ℕ} {rest : List ℕ} → is_plain b ≡ true → is_end c.kind b ≡ false → IsItem size c (b ∷ rest) (Plain b) rest
-    escape : {c : Context} {b : ℕ} {rest : List ℕ} → IsItem size c (ascii.backslash ∷ b ∷ rest) (Escape b) rest
-    blank : {c : Context} {b : ℕ} {rest : List ℕ} → is_blank b ≡ true → IsItem size c (b ∷ rest) Blank rest
-    newline : {c : Context} {rest : List ℕ} → IsItem size c (ascii.newline ∷ rest) (newline_in c.in_arguments) rest
-    pipe : {c : Context} {rest : List ℕ} → IsItem size c (ascii.bar ∷ rest) (bar_in c.in_arguments) rest
-    directive : {c : Context} {b : ℕ} {text rest : List ℕ} {item : Item} → is_allowed c.in_arguments b ≡ true → IsDirective size c (directive_of b) text item rest
+  pub data IsItem (size : ℕ) : ListContext → List ℕ → Item → List ℕ → Type 0 where
+    plain : {c : ListContext} {b : ℕ} {rest : List ℕ} → is_plain b ≡ true → is_end c.kind b ≡ false → IsItem size c (b ∷ rest) (Plain b) rest
+    escape : {c : ListContext} {b : ℕ} {rest : List ℕ} → IsItem size c (ascii.backslash ∷ b ∷ rest) (Escape b) rest
+    blank : {c : ListContext} {b : ℕ} {rest : List ℕ} → is_blank b ≡ true → IsItem size c (b ∷ rest) Blank rest
+    newline : {c : ListContext} {rest : List ℕ} → IsItem size c (ascii.newline ∷ rest) (newline_in c.in_arguments) rest
+    pipe : {c : ListContext} {rest : List ℕ} → IsItem size c (ascii.bar ∷ rest) (bar_in c.in_arguments) rest
+    directive : {c : ListContext} {b : ℕ} {text rest : List ℕ} {item : Item} → is_allowed c.in_arguments b ≡ true → IsDirective size c (directive_of b) text item rest
         → IsItem size c (ascii.percent ∷ b ∷ text) item rest
 
   -- what stands after the byte of a directive
-  pub data IsDirective (size : ℕ) : Context → Directive → List ℕ → Item → List ℕ → Type 0 where
-    whole : {c : Context} {rest : List ℕ} {leaf : leaf.Leaf} → IsDirective size c (Whole leaf) rest (Leaf leaf) rest
-    named : {c : Context} {rest : List ℕ} {name : BuiltinName} → IsDirective size c (Named name) rest (BuiltinText (text_of name)) rest
-    temp_name : {c : Context} {kind : TempKind} {text suffix rest : List ℕ} → IsSuffix text suffix rest → IsDirective size c (WithSuffix kind) text (TempName kind suffix) rest
-    add_option : {c : Context} {b : ℕ} {text option rest : List ℕ} → IsQuoted is_option text (b ∷ option) (ascii.closing_brace ∷ rest)
+  pub data IsDirective (size : ℕ) : ListContext → Directive → List ℕ → Item → List ℕ → Type 0 where
+    whole : {c : ListContext} {rest : List ℕ} {leaf : leaf.Leaf} → IsDirective size c (Whole leaf) rest (Leaf leaf) rest
+    named : {c : ListContext} {rest : List ℕ} {name : BuiltinName} → IsDirective size c (Named name) rest (BuiltinText (text_of name)) rest
+    temp_name : {c : ListContext} {kind : TempKind} {text suffix rest : List ℕ} → IsSuffix text suffix rest → IsDirective size c (WithSuffix kind) text (TempName kind suffix) rest
+    add_option : {c : ListContext} {b : ℕ} {text option rest : List ℕ} → IsQuoted is_option text (b ∷ option) (ascii.closing_brace ∷ rest)
         → IsDirective size c WithOption (ascii.opening_brace ∷ text) (AddOption (b ∷ option)) rest
-    saying : {c : Context} {kind : SayKind} {text words mid rest : List ℕ} → IsQuoted (is_said c.kind) text words mid → EndsSaying mid rest
+    saying : {c : ListContext} {kind : SayKind} {text words mid rest : List ℕ} → IsQuoted (is_said c.kind) text words mid → EndsSaying mid rest
         → IsDirective size c (WithSaying kind) text (said kind words) rest
-    named_text : {c : Context} {b : ℕ} {text name rest : List ℕ} → IsRun is_name text (b ∷ name) (ascii.closing_parenthesis ∷ rest) → length (b ∷ name) ≤ 255
+    named_text : {c : ListContext} {b : ℕ} {text name rest : List ℕ} → IsRun is_name_byte text (b ∷ name) (ascii.closing_parenthesis ∷ rest) → length (b ∷ name) ≤ 255
         → IsDirective size c WithName text (NamedText (b ∷ name)) rest
-    hide : {c : Context} {text rest : List ℕ} {p : Pattern} → IsPattern text p rest → IsDirective size c WithPattern text (Hide p) rest
-    star : {c : Context} {rest : List ℕ} → c.owner ≡ Starred → IsDirective size c OfStar rest Star rest
-    function : {c : Context} {text name rest : List ℕ} {arguments : Items} → IsCall size c text name arguments rest → IsDirective size c WithCall text (Function name arguments) rest
-    braces : {c : Context} {text rest : List ℕ} {brace : Brace} → IsBrace size c text brace rest → IsDirective size c WithBraces text (braced InPlace brace) rest
-    marked_braces : {c : Context} {kind : BraceKind} {text rest : List ℕ} {brace : Brace} → IsBrace size c text brace rest
+    hide : {c : ListContext} {text rest : List ℕ} {p : Pattern} → IsPattern text p rest → IsDirective size c WithPattern text (Hide p) rest
+    star : {c : ListContext} {rest : List ℕ} → c.owner ≡ Starred → IsDirective size c OfStar rest Star rest
+    function : {c : ListContext} {text name rest : List ℕ} {arguments : Items} → IsCall size c text name arguments rest → IsDirective size c WithCall text (Function name arguments) rest
+    braces : {c : ListContext} {text rest : List ℕ} {brace : Brace} → IsBrace size c text brace rest → IsDirective size c WithBraces text (braced InPlace brace) rest
+    marked_braces : {c : ListContext} {kind : BraceKind} {text rest : List ℕ} {brace : Brace} → IsBrace size c text brace rest
         → IsDirective size c (WithMarkedBraces kind) (ascii.opening_brace ∷ text) (braced kind brace) rest
 
   -- a function's name and its arguments
-  pub data IsCall (size : ℕ) : Context → List ℕ → List ℕ → Items → List ℕ → Type 0 where
-    call : {c : Context} {text name rest : List ℕ} {arguments : Items} → (c.levels == 0) ≡ false → is_function name ≡ true → AreItems size (in_arguments c) text arguments (ascii.closing_parenthesis ∷ rest)
+  pub data IsCall (size : ℕ) : ListContext → List ℕ → List ℕ → Items → List ℕ → Type 0 where
+    call : {c : ListContext} {text name rest : List ℕ} {arguments : Items} → (c.levels == 0) ≡ false → is_function name ≡ true → AreItems size (in_arguments c) text arguments (ascii.closing_parenthesis ∷ rest)
         → IsCall size c (name ++ ascii.opening_parenthesis ∷ text) name arguments rest
 
   -- the inside of braces, and the brace that closes them
-  pub data IsBrace (size : ℕ) : Context → List ℕ → Brace → List ℕ → Type 0 where
-    emits : {c : Context} {text rest : List ℕ} {ps : List (Span × Pattern)} → (c.levels == 0) ≡ false → ArePatterns size text ps rest → IsBrace size c text (Emit ps) rest
-    chooses : {c : Context} {text rest : List ℕ} {choices : Choices} → (c.levels == 0) ≡ false → AreChoices size (in_braces c) text choices rest
+  pub data IsBrace (size : ℕ) : ListContext → List ℕ → Brace → List ℕ → Type 0 where
+    emits : {c : ListContext} {text rest : List ℕ} {ps : List (Span × Pattern)} → (c.levels == 0) ≡ false → ArePatterns size text ps rest → IsBrace size c text (Emit ps) rest
+    chooses : {c : ListContext} {text rest : List ℕ} {choices : Choices} → (c.levels == 0) ≡ false → AreChoices size (in_braces c) text choices rest
         → IsBrace size c text (Choose choices) rest
 
   -- alternatives
-  pub data AreChoices (size : ℕ) : Context → List ℕ → Choices → List ℕ → Type 0 where
-    last_choice : {c : Context} (colon : ℕ) {text mid rest : List ℕ} {tests : Tests} {items : Items} → AreTests size c text tests (ascii.colon ∷ mid) → At size colon (ascii.colon ∷ mid)
+  pub data AreChoices (size : ℕ) : ListContext → List ℕ → Choices → List ℕ → Type 0 where
+    last_choice : {c : ListContext} (colon : ℕ) {text mid rest : List ℕ} {tests : Tests} {items : Items} → AreTests size c text tests (ascii.colon ∷ mid) → At size colon (ascii.colon ∷ mid)
         → AreItems size (in_x c tests) mid items (ascii.closing_brace ∷ rest) → AreChoices size c text (alternative colon tests items no_choice) rest
-    next_choice : {c : Context} (colon : ℕ) {text mid next rest : List ℕ} {tests : Tests} {items : Items} {choices : Choices} → AreTests size c text tests (ascii.colon ∷ mid)
+    next_choice : {c : ListContext} (colon : ℕ) {text mid next rest : List ℕ} {tests : Tests} {items : Items} {choices : Choices} → AreTests size c text tests (ascii.colon ∷ mid)
         → At size colon (ascii.colon ∷ mid) → AreItems size (in_x c tests) mid items (ascii.semicolon ∷ next) → AreLater size c next choices rest
         → AreChoices size c text (alternative colon tests items choices) rest
 
   -- alternatives after the first, of which the last may be the default
-  pub data AreLater (size : ℕ) : Context → List ℕ → Choices → List ℕ → Type 0 where
-    with_tests : {c : Context} {text rest : List ℕ} {choices : Choices} → AreChoices size c text choices rest → AreLater size c text choices rest
-    default : {c : Context} (colon : ℕ) {text mid rest : List ℕ} {items : Items} → AreSpaces text (ascii.colon ∷ mid) → At size colon (ascii.colon ∷ mid)
+  pub data AreLater (size : ℕ) : ListContext → List ℕ → Choices → List ℕ → Type 0 where
+    with_tests : {c : ListContext} {text rest : List ℕ} {choices : Choices} → AreChoices size c text choices rest → AreLater size c text choices rest
+    default : {c : ListContext} (colon : ℕ) {text mid rest : List ℕ} {items : Items} → AreSpaces text (ascii.colon ∷ mid) → At size colon (ascii.colon ∷ mid)
         → AreItems size (in_x c no_test) mid items (ascii.closing_brace ∷ rest) → AreLater size c text (alternative colon no_test items no_choice) rest
 
   -- tests, up to their colon
-  pub data AreTests (size : ℕ) : Context → List ℕ → Tests → List ℕ → Type 0 where
-    last_test : {c : Context} {n m : ℕ} {t u v w rest : List ℕ} {negated : Bool} {asked : Asked} → AreSpaces t u → At size n u → IsSign u negated v → IsAsked size c v asked w
+  pub data AreTests (size : ℕ) : ListContext → List ℕ → Tests → List ℕ → Type 0 where
+    last_test : {c : ListContext} {n m : ℕ} {t u v w rest : List ℕ} {negated : Bool} {asked : Asked} → AreSpaces t u → At size n u → IsSign u negated v → IsAsked size c v asked w
         → At size m w → AreSpaces w (ascii.colon ∷ rest) → AreTests size c t (test (span n m) negated asked no_test) (ascii.colon ∷ rest)
-    next_test : {c : Context} {n m : ℕ} {t u v w x rest : List ℕ} {negated : Bool} {asked : Asked} {tests : Tests} → AreSpaces t u → At size n u → IsSign u negated v
+    next_test : {c : ListContext} {n m : ℕ} {t u v w x rest : List ℕ} {negated : Bool} {asked : Asked} {tests : Tests} → AreSpaces t u → At size n u → IsSign u negated v
         → IsAsked size c v asked w → At size m w → AreSpaces w (ascii.bar ∷ x) → AreTests size c x tests rest → AreTests size c t (test (span n m) negated asked tests) rest
 
   -- what a test asks: of a switch, a suffix, a language or a function's result
-  pub data IsAsked (size : ℕ) : Context → List ℕ → Asked → List ℕ → Type 0 where
-    switch : {c : Context} {text rest : List ℕ} {p : Pattern} → Stops is_mark text → IsPattern text p rest → IsAsked size c text (HasSwitch p) rest
-    suffix : {c : Context} {b : ℕ} {text word rest : List ℕ} → IsQuoted is_word text (b ∷ word) rest → IsAsked size c (ascii.period ∷ text) (HasSuffix (b ∷ word)) rest
-    language : {c : Context} {b : ℕ} {text word rest : List ℕ} → IsQuoted is_word text (b ∷ word) rest → IsAsked size c (ascii.comma ∷ text) (HasLanguage (b ∷ word)) rest
-    result : {c : Context} {text name rest : List ℕ} {arguments : Items} → IsCall size c text name arguments rest → IsAsked size c (ascii.percent ∷ ascii.colon ∷ text) (HasResult name arguments) rest
+  pub data IsAsked (size : ℕ) : ListContext → List ℕ → Asked → List ℕ → Type 0 where
+    switch : {c : ListContext} {text rest : List ℕ} {p : Pattern} → Stops is_mark text → IsPattern text p rest → IsAsked size c text (HasSwitch p) rest
+    suffix : {c : ListContext} {b : ℕ} {text word rest : List ℕ} → IsQuoted is_word text (b ∷ word) rest → IsAsked size c (ascii.period ∷ text) (HasSuffix (b ∷ word)) rest
+    language : {c : ListContext} {b : ℕ} {text word rest : List ℕ} → IsQuoted is_word text (b ∷ word) rest → IsAsked size c (ascii.comma ∷ text) (HasLanguage (b ∷ word)) rest
+    result : {c : ListContext} {text name rest : List ℕ} {arguments : Items} → IsCall size c text name arguments rest → IsAsked size c (ascii.percent ∷ ascii.colon ∷ text) (HasResult name arguments) rest
 
 -- a text has this tree
 abbrev pub Spells : List ℕ → Items → Type 0

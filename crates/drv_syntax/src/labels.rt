@@ -14,7 +14,7 @@ use std::marker::Model;
 
 /// Where a word stands among the words, and what is said of it.
 #[derive(Clone, Copy)]
-pub struct Mark {
+pub struct LabelMark {
     /// Where it begins.
     pub start: u32,
     /// Where it ends.
@@ -33,7 +33,7 @@ pub struct Mark {
 #[derive(Drop)]
 pub struct Labels {
     words: Vec<u8>,
-    marks: Vec<Mark>,
+    marks: Vec<LabelMark>,
 }
 
 impl Model for Labels {
@@ -49,14 +49,14 @@ impl Model for Labels {
 }
 
 /// The marks of bytes that stand one after another from this place on.
-fn push_marks(start: u32, run: &[u8], marks: &mut Vec<Mark>)
+fn push_marks(start: u32, run: &[u8], marks: &mut Vec<LabelMark>)
     requires place { start + length run.now < 2 ^ 32 }
     requires reserved { vec_len marks.old + length run.now ≤ vec_capacity marks.old }
     ensures { marks.new.items ≡ marks.old.items ++ byte_marks start run.now }
 {
     let mut place = start;
     for _byte in run {
-        marks.push_reserved(Mark {
+        marks.push_reserved(LabelMark {
             start: place,
             end: place + 1,
             starred: false,
@@ -69,7 +69,7 @@ fn push_marks(start: u32, run: &[u8], marks: &mut Vec<Mark>)
 }
 
 /// The mark of a part that names nothing.
-const UNNAMED: Mark = Mark {
+const UNNAMED: LabelMark = LabelMark {
     start: 0,
     end: 0,
     starred: false,
@@ -118,7 +118,7 @@ impl Labels {
             // No text comes here: it has at most 1,048,576 bytes, and each adds at most nine.
             return Err(SyntaxFault::Memory);
         }
-        self.marks.push(Mark {
+        self.marks.push(LabelMark {
             start: start as u32,
             end: end as u32,
             starred,
@@ -142,7 +142,7 @@ impl Labels {
         if end > u32::MAX as usize {
             return Err(SyntaxFault::Memory);
         }
-        self.marks.push(Mark {
+        self.marks.push(LabelMark {
             start: start as u32,
             end: end as u32,
             starred,
@@ -165,7 +165,7 @@ impl Labels {
         if end > u32::MAX as usize {
             return Err(SyntaxFault::Memory);
         }
-        self.marks.push(Mark {
+        self.marks.push(LabelMark {
             start: start as u32,
             end: end as u32,
             starred: false,
@@ -200,7 +200,7 @@ impl Labels {
     pub fn push_none(&mut self) -> Result<(), SyntaxFault>
         ensures { Gives SyntaxFault.Memory (λ _. self.new) result (Ok (self.old ++ no_label ∷ [])) }
     {
-        self.marks.push(Mark {
+        self.marks.push(LabelMark {
             start: 0,
             end: 0,
             starred: false,
@@ -226,7 +226,7 @@ impl Labels {
         if end > u32::MAX as usize {
             return Err(SyntaxFault::Memory);
         }
-        self.marks.push_reserved(Mark {
+        self.marks.push_reserved(LabelMark {
             start: start as u32,
             end: end as u32,
             starred,
@@ -254,7 +254,7 @@ impl Labels {
         if end > u32::MAX as usize {
             return Err(SyntaxFault::Memory);
         }
-        self.marks.push_reserved(Mark {
+        self.marks.push_reserved(LabelMark {
             start: start as u32,
             end: end as u32,
             starred: false,
@@ -272,7 +272,7 @@ impl Labels {
         ensures { self.new ≡ slice_set self.old place (star_label holds_star) }
     {
         if place < self.marks.len() {
-            self.marks[place] = Mark {
+            self.marks[place] = LabelMark {
                 start: 0,
                 end: 0,
                 starred: false,

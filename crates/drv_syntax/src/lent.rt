@@ -4,7 +4,7 @@ ghost use Rattle.drv_syntax.specs.Labels.{no_label};
 ghost use Rattle.drv_syntax.specs.Marks.{Within, marked_labels};
 ghost use Rattle.std.specs.Prelude.{◌≡◌, ◌<◌, get_or, length};
 
-use crate::labels::Mark;
+use crate::labels::LabelMark;
 use crate::token::TestKind;
 use std::marker::Model;
 
@@ -13,7 +13,7 @@ use std::marker::Model;
 #[derive(Drop)]
 pub struct LentLabels<'a> {
     words: &'a [u8],
-    marks: &'a [Mark],
+    marks: &'a [LabelMark],
 }
 
 impl<'a> Model for LentLabels<'a> {
@@ -30,7 +30,7 @@ impl<'a> Model for LentLabels<'a> {
 
 impl<'a> LentLabels<'a> {
     /// The labels of these marks, whose words stand among these.
-    pub fn new(words: &'a [u8], marks: &'a [Mark]) -> LentLabels<'a>
+    pub fn new(words: &'a [u8], marks: &'a [LabelMark]) -> LentLabels<'a>
         requires { Within (length words.now) marks.now }
         ensures { result ≡ marked_labels words.now marks.now }
     {

@@ -12,7 +12,7 @@ mod tree;
 mod written;
 
 pub use fault::SyntaxFault;
-pub use labels::Mark;
+pub use labels::LabelMark;
 pub use laws::{
     cut_at_open, cut_front, front_is_unrefused, front_prefix, one_tree, parsed_by_grammar,
     read_is_spelled, refusal_kinds, refused_after_front, refused_at_misfit, refused_by_grammar,

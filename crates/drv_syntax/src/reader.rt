@@ -14,10 +14,10 @@ mod nesting;
 mod reading;
 mod runs;
 mod stages;
+mod state;
 mod steps;
 mod test_turns;
 mod turns;
-mod walk;
 
 pub use ending::Ended;
 pub use reading::{read_after, read_nothing, read_text};

@@ -1,6 +1,6 @@
 //! Trees that stand in the code.
 
-use crate::labels::Mark;
+use crate::labels::LabelMark;
 use crate::token::Token;
 
 /// A spec text and its tree, as constants.
@@ -13,5 +13,5 @@ pub struct WrittenTree {
     /// The words that the parts name.
     pub words: &'static [u8],
     /// Where the word of each part stands among these, and what is said of it.
-    pub marks: &'static [Mark],
+    pub marks: &'static [LabelMark],
 }

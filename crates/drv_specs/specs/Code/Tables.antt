@@ -6,7 +6,7 @@ use Rattle.drv_specs.specs.declared.builtin_specs.PairText.{PairText}
 use Rattle.drv_syntax.specs.Marks.{marked_labels}
 use Rattle.drv_syntax.specs.Outcome.{parsed}
 use Rattle.drv_syntax.specs.Parsed.{listed}
-use Rattle.drv_syntax.specs.declared.labels.Mark.{Mark}
+use Rattle.drv_syntax.specs.declared.labels.LabelMark.{LabelMark}
 use Rattle.drv_syntax.specs.declared.written.WrittenTree.{WrittenTree}
 use Rattle.std.specs.Prelude.{◌≡◌, ◌&&◌, Bool, List, [], ◌∷◌, Ok, false, length, nat_le, true, ℕ}
 
@@ -23,7 +23,7 @@ abbrev pub pair_shown : Pair → List ℕ × List ℕ
 pair_shown row = (row.key.now, text_shown row.text)
 
 -- each mark's word lies within so many bytes
-abbrev pub are_within : ℕ → List Mark → Bool
+abbrev pub are_within : ℕ → List LabelMark → Bool
 are_within n [] = true
 are_within n (m ∷ marks) = (nat_le m.start m.end && nat_le m.end n) && are_within n marks
 

@@ -1,5 +1,5 @@
 use Rattle.drv_syntax.specs.Labels.{Label, word_label}
-use Rattle.drv_syntax.specs.declared.labels.Mark.{Mark}
+use Rattle.drv_syntax.specs.declared.labels.LabelMark.{LabelMark}
 use Rattle.drv_syntax.specs.declared.token.TestKind.TheVariants as asking
 use Rattle.std.specs.Prelude.{◌+◌, List, [], ◌∷◌, false, ℕ}
 
@@ -9,6 +9,6 @@ abbrev pub byte_labels : List ℕ → List Label
 byte_labels [] = []
 byte_labels (b ∷ run) = word_label (b ∷ []) ∷ byte_labels run
 
-abbrev pub byte_marks : ℕ → List ℕ → List Mark
+abbrev pub byte_marks : ℕ → List ℕ → List LabelMark
 byte_marks start [] = []
 byte_marks start (b ∷ run) = record { start = start; end = start + 1; starred = false; negated = false; asks = asking.Switch; holds_star = false } ∷ byte_marks (start + 1) run

@@ -2,7 +2,7 @@ use Rattle.drv_syntax.specs.Bytes.{is_blank}
 use Rattle.drv_syntax.specs.Outcome.{parsed}
 use Rattle.drv_syntax.specs.Parsed.{listed}
 use Rattle.drv_syntax.specs.Code.States.{state}
-use Rattle.drv_syntax.specs.Code.Steps.{Walk, pass, started}
+use Rattle.drv_syntax.specs.Code.Steps.{ReaderState, pass, started}
 use Rattle.drv_syntax.specs.declared.reader.ending.Ended.{Ended}
 use Rattle.drv_syntax.specs.declared.reader.ending.Ending.TheVariants as endings
 use Rattle.drv_syntax.specs.declared.reader.ending.Ending.{Ending}
@@ -36,7 +36,7 @@ goes_on endings.Word more = begins_blank more
 goes_on endings.Message more = false
 
 -- what is read after a text, the first byte of which has the place n, goes on from the second state as from the first before it
-abbrev pub Follows : Ending → Walk → ℕ → List ℕ → Walk → Type 0
+abbrev pub Follows : Ending → ReaderState → ℕ → List ℕ → ReaderState → Type 0
 Follows ending v n text w = (more : List ℕ) → goes_on ending more ≡ true → pass v n (text ++ more) ≡ pass w (n + length text) more
 
 -- a state holds few tokens for so many bytes

@@ -1,31 +1,31 @@
 use Rattle.drv_syntax.specs.Labels.{Label}
-use Rattle.drv_syntax.specs.Code.Steps.{Walk, pass}
+use Rattle.drv_syntax.specs.Code.Steps.{ReaderState, pass}
 use Rattle.drv_syntax.specs.declared.fault.SyntaxFault.TheVariants.{Memory}
 use Rattle.drv_syntax.specs.declared.fault.SyntaxFault.{SyntaxFault}
 use Rattle.drv_syntax.specs.declared.token.Token.{Token}
-use Rattle.drv_syntax.specs.declared.reader.walk.Walk as code
+use Rattle.drv_syntax.specs.declared.reader.state.ReaderState as code
 use Rattle.std.specs.Prelude.{◌≡◌, ◌⊎◌, ◌+◌, ◌≤◌, drop, length, reverse, List, ◌∷◌, Result, Err, Ok, ℕ}
 
 -- The state of the code, as its clauses see it.
 
-abbrev pub state : code.Walk → Walk
+abbrev pub state : code.ReaderState → ReaderState
 state w = record { stage = w.stage; context = w.context; waiting = reverse w.waiting.items; tokens = w.tokens.items; labels = w.labels; word = w.word.items; kept = w.kept; trailing = w.trailing; holds_star = w.holds_star }
 
 -- a step adds few tokens
-abbrev pub Fits : code.Walk → code.Walk → Type 0
+abbrev pub Fits : code.ReaderState → code.ReaderState → Type 0
 Fits old new = (length new.tokens.items ≤ length old.tokens.items + 3) × (new.trailing ≤ old.trailing + 1)
 
 -- the tokens that a state holds, and their labels
-abbrev pub parts_in : Result Walk SyntaxFault → Result (List Token × List Label) SyntaxFault
+abbrev pub parts_in : Result ReaderState SyntaxFault → Result (List Token × List Label) SyntaxFault
 parts_in (Ok w) = Ok (w.tokens, w.labels)
 parts_in (Err fault) = Err fault
 
 -- a turn takes the byte b at the place n and so many of those after it: what is left comes to the same, or to this fault
-abbrev pub Turns : ℕ → ℕ → List ℕ → Walk → Walk → Result ℕ SyntaxFault → Type 0
+abbrev pub Turns : ℕ → ℕ → List ℕ → ReaderState → ReaderState → Result ℕ SyntaxFault → Type 0
 Turns n b behind old new (Ok taken) = (taken ≤ length behind) × (pass old n (b ∷ behind) ≡ pass new (n + 1 + taken) (drop taken behind))
 Turns n b behind old new (Err fault) = (fault ≡ Memory) ⊎ (pass old n (b ∷ behind) ≡ Err fault)
 
 -- a text is read on from the place n: so many of its first bytes are taken, and what is left comes to the same, or to this fault
-abbrev pub Reads : ℕ → List ℕ → Walk → Walk → Result ℕ SyntaxFault → Type 0
+abbrev pub Reads : ℕ → List ℕ → ReaderState → ReaderState → Result ℕ SyntaxFault → Type 0
 Reads n text old new (Ok taken) = (taken ≤ length text) × (pass old n text ≡ pass new (n + taken) (drop taken text))
 Reads n text old new (Err fault) = (fault ≡ Memory) ⊎ (pass old n text ≡ Err fault)

@@ -1,5 +1,5 @@
 use Rattle.drv_words.specs.Bytes as ascii
-use Rattle.drv_syntax.specs.Bytes.{is_of, is_space}
+use Rattle.drv_syntax.specs.Bytes.{is_of, is_white}
 use Rattle.drv_syntax.specs.Labels.{Label, no_label, star_label, word_label}
 use Rattle.drv_syntax.specs.Code.Marks.{byte_labels}
 use Rattle.drv_syntax.specs.Code.Turns.{after_pattern, after_test, called_label, chooses, choice_action, emits, head_action, single_kind, single_label, list_turn, percent_action, start_action, taken_word}
@@ -9,11 +9,11 @@ use Rattle.drv_syntax.specs.declared.reader.stages.Behind.TheVariants as behinds
 use Rattle.drv_syntax.specs.declared.reader.stages.Behind.{Behind}
 use Rattle.drv_syntax.specs.declared.directives.BraceKind.TheVariants as braces
 use Rattle.drv_syntax.specs.declared.directives.BraceKind.{BraceKind}
-use Rattle.drv_syntax.specs.declared.reader.stages.Context.{Context}
-use Rattle.drv_syntax.specs.declared.reader.stages.Form.TheVariants as forms
-use Rattle.drv_syntax.specs.declared.reader.stages.Form.{Form}
-use Rattle.drv_syntax.specs.declared.reader.stages.Frame.TheVariants as frames
-use Rattle.drv_syntax.specs.declared.reader.stages.Frame.{Frame}
+use Rattle.drv_syntax.specs.declared.reader.stages.ListContext.{ListContext}
+use Rattle.drv_syntax.specs.declared.reader.stages.HeadForm.TheVariants as forms
+use Rattle.drv_syntax.specs.declared.reader.stages.HeadForm.{HeadForm}
+use Rattle.drv_syntax.specs.declared.reader.stages.Suspended.TheVariants as frames
+use Rattle.drv_syntax.specs.declared.reader.stages.Suspended.{Suspended}
 use Rattle.drv_syntax.specs.declared.reader.stages.Head.{Head}
 use Rattle.drv_syntax.specs.Code.HeadActions as heads
 use Rattle.drv_syntax.specs.Code.HeadActions.{ChoiceAction, HeadAction}
@@ -42,10 +42,10 @@ use Rattle.std.specs.Prelude.{◌+◌, ◌-◌, ◌==◌, Bool, false, true, if�
 -- The state of the code that reads a text, and what each byte makes of it (this project's profile). For the clauses of
 -- the code alone.
 
-pub record Walk : Type 0 where
+pub record ReaderState : Type 0 where
   pub stage : Stage
-  pub context : Context  -- of the innermost list
-  pub waiting : List Frame  -- the directives that wait for the end of a list in them, innermost first
+  pub context : ListContext  -- of the innermost list
+  pub waiting : List Suspended  -- the directives that wait for the end of a list in them, innermost first
   pub tokens : List Token  -- those still open among them, with places to be filled in
   pub labels : List Label  -- theirs
   pub word : List ℕ  -- what has been read of a word
@@ -57,33 +57,33 @@ abbrev pub open_token : TokenKind → ℕ → Token
 open_token kind start = record { kind = kind; start = start; end = start; next = 0 }
 
 -- where the next token goes
-abbrev pub next_open : Walk → ℕ → Open
+abbrev pub next_open : ReaderState → ℕ → Open
 next_open w start = record { token = length w.tokens; start = start }
 
-abbrev pub with_token : TokenKind → ℕ → Walk → Walk
+abbrev pub with_token : TokenKind → ℕ → ReaderState → ReaderState
 with_token kind start w = record w { tokens = w.tokens ++ open_token kind start ∷ [] }
 
-abbrev pub with_label : Label → Walk → Walk
+abbrev pub with_label : Label → ReaderState → ReaderState
 with_label label w = record w { labels = w.labels ++ label ∷ [] }
 
 -- a token without tokens inside it
-abbrev pub with_leaf : TokenKind → ℕ → ℕ → Walk → Walk
+abbrev pub with_leaf : TokenKind → ℕ → ℕ → ReaderState → ReaderState
 with_leaf kind start end w = record w { tokens = w.tokens ++ record { kind = kind; start = start; end = end; next = length w.tokens + 1 } ∷ [] }
 
-abbrev pub close_token : TokenKind → Open → ℕ → Walk → Walk
+abbrev pub close_token : TokenKind → Open → ℕ → ReaderState → ReaderState
 close_token kind part end w = record w { tokens = slice_set w.tokens part.token (record { kind = kind; start = part.start; end = end; next = length w.tokens }) }
 
-abbrev pub is_white : Single → Bool
-is_white singles.Blank = true
-is_white singles.Newline = true
-is_white _ = false
+abbrev pub is_white_single : Single → Bool
+is_white_single singles.Blank = true
+is_white_single singles.Newline = true
+is_white_single _ = false
 
 abbrev pub is_star : Single → Bool
 is_star singles.Star = true
 is_star _ = false
 
 -- an item without parts inside it
-abbrev pub with_part : Part → Walk → Walk
+abbrev pub with_part : Part → ReaderState → ReaderState
 with_part p w =
     record {
       stage = at.List stages.Start;
@@ -92,8 +92,8 @@ with_part p w =
       tokens = w.tokens ++ record { kind = single_kind p.single; start = p.start; end = p.end; next = length w.tokens + 1 } ∷ [];
       labels = w.labels ++ single_label p.single (taken_word p.taken w.word) ∷ [];
       word = [];
-      kept = if is_white p.single then w.kept else p.end;
-      trailing = if is_white p.single then w.trailing + 1 else 0;
+      kept = if is_white_single p.single then w.kept else p.end;
+      trailing = if is_white_single p.single then w.trailing + 1 else 0;
       holds_star = is_star p.single || w.holds_star;
     }
 
@@ -120,7 +120,7 @@ abbrev pub plain_tokens : ℕ → ℕ → List ℕ → List Token
 plain_tokens n next [] = []
 plain_tokens n next (b ∷ run) = record { kind = kinds.Plain; start = n; end = n + 1; next = next } ∷ plain_tokens (n + 1) (next + 1) run
 
-abbrev pub with_plains : ℕ → List ℕ → Walk → Walk
+abbrev pub with_plains : ℕ → List ℕ → ReaderState → ReaderState
 with_plains n run w =
     record {
       stage = at.List stages.Start;
@@ -134,10 +134,10 @@ with_plains n run w =
       holds_star = w.holds_star;
     }
 
-abbrev pub at_stage : Stage → Walk → Walk
+abbrev pub at_stage : Stage → ReaderState → ReaderState
 at_stage stage w = record w { stage = stage }
 
-abbrev pub with_word : List ℕ → Walk → Walk
+abbrev pub with_word : List ℕ → ReaderState → ReaderState
 with_word word w = record w { word = word }
 
 -- what most words of tests end with
@@ -145,20 +145,20 @@ abbrev pub ends_word : ℕ → Bool
 ends_word b = b == ascii.closing_brace || b == ascii.colon
 
 -- in this word of a test
-abbrev pub in_word : Head → Form → ℕ → Bool → List ℕ → Walk → Walk
+abbrev pub in_word : Head → HeadForm → ℕ → Bool → List ℕ → ReaderState → ReaderState
 in_word head form start negated word w = at_stage (at.Braces head form (places.TestWord start negated)) (with_word word w)
 
 -- after an item that ends at this place, in a list with this context
-abbrev pub after_item : Context → ℕ → Walk → Walk
+abbrev pub after_item : ListContext → ℕ → ReaderState → ReaderState
 after_item c end w = record { stage = at.List stages.Start; context = c; waiting = w.waiting; tokens = w.tokens; labels = w.labels; word = []; kept = end; trailing = 0; holds_star = w.holds_star }
 
-abbrev pub deeper_context : Context → Context
+abbrev pub deeper_context : ListContext → ListContext
 deeper_context c = record { kind = c.kind; in_arguments = c.in_arguments; owner = c.owner; levels = c.levels - 1 }
 
-abbrev pub arguments_context : Context → Context
+abbrev pub arguments_context : ListContext → ListContext
 arguments_context c = record { kind = lists.InArguments; in_arguments = true; owner = c.owner; levels = c.levels - 1 }
 
-abbrev pub x_context : Context → StarOwner → Context
+abbrev pub x_context : ListContext → StarOwner → ListContext
 x_context c owner = record { kind = lists.InX; in_arguments = c.in_arguments; owner = owner; levels = c.levels - 1 }
 
 abbrev pub brace_token : BraceKind → Bool → TokenKind
@@ -168,46 +168,46 @@ brace_token braces.IntoFailureFile emitted = kinds.FailureFile
 brace_token braces.IntoArgumentsFile emitted = kinds.ArgumentsFile
 
 -- a list opens, in which a directive waits
-abbrev pub enter : Frame → Context → ℕ → Walk → Walk
+abbrev pub enter : Suspended → ListContext → ℕ → ReaderState → ReaderState
 enter frame c kept w =
     record { stage = at.List stages.Start; context = c; waiting = frame ∷ w.waiting; tokens = w.tokens; labels = w.labels; word = []; kept = kept; trailing = 0; holds_star = w.holds_star }
 
-abbrev pub open_braces : ℕ → BraceKind → Walk → Walk
+abbrev pub open_braces : ℕ → BraceKind → ReaderState → ReaderState
 open_braces start kind w =
     with_label no_label (with_token (brace_token kind false) start (record w { stage = at.Choice (record { kind = kind; part = next_open w start }) false; word = [] }))
 
-abbrev pub open_call : ℕ → Walk → Walk
+abbrev pub open_call : ℕ → ReaderState → ReaderState
 open_call start w =
     with_label (word_label w.word) (with_token kinds.Function start (enter (frames.Call w.context (next_open w start)) (arguments_context w.context) 0 w))
 
 -- the alternative of the tests so far, which begins here if there are none
-abbrev pub alternative_of : Form → ℕ → Walk → Open
+abbrev pub alternative_of : HeadForm → ℕ → ReaderState → Open
 alternative_of forms.Fresh start w = next_open w start
 alternative_of forms.Patterns start w = next_open w start
 alternative_of forms.Later start w = next_open w start
 alternative_of (forms.Tests part starred) start w = part
 
-abbrev pub open_alternative : ℕ → Walk → Walk
+abbrev pub open_alternative : ℕ → ReaderState → ReaderState
 open_alternative start w = with_label no_label (with_token kinds.Alternative start w)
 
-abbrev pub with_alternative : Form → ℕ → Walk → Walk
+abbrev pub with_alternative : HeadForm → ℕ → ReaderState → ReaderState
 with_alternative forms.Fresh start w = open_alternative start w
 with_alternative forms.Patterns start w = open_alternative start w
 with_alternative forms.Later start w = open_alternative start w
 with_alternative (forms.Tests part starred) start w = w
 
-abbrev pub stars : Form → Bool
+abbrev pub stars : HeadForm → Bool
 stars forms.Fresh = true
 stars forms.Patterns = true
 stars forms.Later = true
 stars (forms.Tests part starred) = starred
 
-abbrev pub enter_test : Head → Open → Bool → ℕ → Bool → Walk → Walk
+abbrev pub enter_test : Head → Open → Bool → ℕ → Bool → ReaderState → ReaderState
 enter_test head part chosen start negated w =
     with_label (called_label negated w.word)
     (with_token kinds.Test start (enter (frames.Test w.context head part (next_open w start) chosen) (arguments_context (deeper_context w.context)) 0 w))
 
-abbrev pub open_test : Head → Form → ℕ → Bool → Walk → Walk
+abbrev pub open_test : Head → HeadForm → ℕ → Bool → ReaderState → ReaderState
 open_test head form start negated w = enter_test head (alternative_of form start w) (chooses form) start negated (with_alternative form start w)
 
 -- what stands after a test
@@ -249,19 +249,19 @@ untested at (behinds.Marked start end negated mark) = BadDirective at
 untested at (behinds.StarredMark start end negated mark) = BadDirective at
 untested at (behinds.Bare start end negated mark) = EmptyTest at
 
-abbrev pub with_pattern : Behind → Walk → Walk
+abbrev pub with_pattern : Behind → ReaderState → ReaderState
 with_pattern behind w = with_label (after_pattern behind w.word) (with_leaf kinds.Pattern (first_of behind) (last_of behind) w)
 
-abbrev pub with_test : Form → Behind → Walk → Walk
+abbrev pub with_test : HeadForm → Behind → ReaderState → ReaderState
 with_test form behind w =
     with_label (after_test behind w.word) (with_leaf kinds.Test (first_of behind) (last_of behind) (with_alternative form (first_of behind) w))
 
 -- at the braces' end
-abbrev pub close_braces : Head → Bool → ℕ → Context → Walk → Walk
+abbrev pub close_braces : Head → Bool → ℕ → ListContext → ReaderState → ReaderState
 close_braces head emitted end c w = after_item c end (close_token (brace_token head.kind emitted) head.part end w)
 
 -- braces in place with one pattern, this word with a star or without, which ends where they end after it
-abbrev pub with_emit : ℕ → ℕ → ℕ → Bool → List ℕ → Walk → Walk
+abbrev pub with_emit : ℕ → ℕ → ℕ → Bool → List ℕ → ReaderState → ReaderState
 with_emit at start end starred word w =
     after_item w.context (end + 1)
     (with_label (after_pattern (behinds.Switch start end false starred) word)
@@ -269,44 +269,44 @@ with_emit at start end starred word w =
     (with_label no_label
     (record w { tokens = w.tokens ++ record { kind = kinds.Emit; start = at; end = end + 1; next = length w.tokens + 2 } ∷ [] }))))
 
-abbrev pub with_star : Bool → Walk → Walk
+abbrev pub with_star : Bool → ReaderState → ReaderState
 with_star holds w = record w { holds_star = holds }
 
-abbrev pub ask : Head → Open → Bool → Bool → ℕ → Walk → Walk
+abbrev pub ask : Head → Open → Bool → Bool → ℕ → ReaderState → ReaderState
 ask head part tested starred colon w =
     with_star false (enter (frames.X w.context head colon part tested w.holds_star) (x_context w.context (if starred then owners.Starred else owners.Mixed)) (colon + 1) w)
 
 -- the X of the first alternative opens, whose one test so far is the word that was read
-abbrev pub ask_word : Head → ℕ → ℕ → Bool → Walk → Walk
+abbrev pub ask_word : Head → ℕ → ℕ → Bool → ReaderState → ReaderState
 ask_word head start end negated w = ask head (next_open w start) true false end (with_test forms.Fresh (behinds.Switch start end negated false) w)
 
 -- braces in place whose first test is this word, which a colon ends
-abbrev pub with_asked : ℕ → ℕ → ℕ → Bool → List ℕ → Walk → Walk
+abbrev pub with_asked : ℕ → ℕ → ℕ → Bool → List ℕ → ReaderState → ReaderState
 with_asked at start end negated word w =
     ask_word (record { kind = braces.InPlace; part = next_open w at }) start end negated (with_word word (open_braces at braces.InPlace w))
 
-abbrev pub act_ends : Head → Form → Behind → ℕ → Walk → Result Walk SyntaxFault
+abbrev pub act_ends : Head → HeadForm → Behind → ℕ → ReaderState → Result ReaderState SyntaxFault
 act_ends head form behind n w =
     if emits form (negates behind) then Ok (close_braces head true (n + 1) w.context (with_pattern behind w)) else Err (BadDirective head.part.start)
 
-abbrev pub act_joins : Head → Form → Behind → Walk → Result Walk SyntaxFault
+abbrev pub act_joins : Head → HeadForm → Behind → ReaderState → Result ReaderState SyntaxFault
 act_joins head form behind w =
     if emits form (negates behind) then Ok (at_stage (at.Braces head forms.Patterns places.PatternDue) (with_pattern behind w)) else Err (BadDirective head.part.start)
 
-abbrev pub act_asks : Head → Form → Behind → ℕ → Walk → Result Walk SyntaxFault
+abbrev pub act_asks : Head → HeadForm → Behind → ℕ → ReaderState → Result ReaderState SyntaxFault
 act_asks head form behind n w =
     if tests behind && chooses form
     then Ok (ask head (alternative_of form (first_of behind) w) true (stars form && starred_of behind) n (with_test form behind w))
     else Err (untested head.part.start behind)
 
-abbrev pub act_bars : Head → Form → Behind → Walk → Result Walk SyntaxFault
+abbrev pub act_bars : Head → HeadForm → Behind → ReaderState → Result ReaderState SyntaxFault
 act_bars head form behind w =
     if tests behind && chooses form
     then Ok (at_stage (at.Braces head (forms.Tests (alternative_of form (first_of behind) w) (stars form && starred_of behind)) places.TestDue) (with_test form behind w))
     else Err (untested head.part.start behind)
 
 -- in braces: n is the place of the byte b
-abbrev pub act_head : Head → Form → HeadAction → ℕ → ℕ → Walk → Result Walk SyntaxFault
+abbrev pub act_head : Head → HeadForm → HeadAction → ℕ → ℕ → ReaderState → Result ReaderState SyntaxFault
 act_head head form (heads.Keeps stage) n b w = Ok (at_stage (at.Braces head form stage) w)
 act_head head form (heads.Clears stage) n b w = Ok (at_stage (at.Braces head form stage) (with_word [] w))
 act_head head form (heads.Begins stage) n b w = Ok (at_stage (at.Braces head form stage) (with_word (b ∷ []) w))
@@ -319,43 +319,43 @@ act_head head form (heads.Bars behind) n b w = act_bars head form behind w
 act_head head form (heads.Refused fault) n b w = Err fault
 
 -- the innermost list ends with the byte b at the place n
-abbrev pub trim : Walk → Walk
+abbrev pub trim : ReaderState → ReaderState
 trim w = record w { tokens = take (length w.tokens - w.trailing) w.tokens; labels = take (length w.labels - w.trailing) w.labels }
 
 -- an alternative whose X ends without the white space at its end; whether the X around it has a %* of its own so far
-abbrev pub close_alternative : Open → Bool → Walk → Walk
+abbrev pub close_alternative : Open → Bool → ReaderState → ReaderState
 close_alternative part around w =
     record (close_token kinds.Alternative part w.kept (trim w)) { labels = slice_set (trim w).labels part.token (star_label w.holds_star); holds_star = around }
 
-abbrev pub close_x : Context → Head → Bool → ℕ → ℕ → Walk → Result Walk SyntaxFault
+abbrev pub close_x : ListContext → Head → Bool → ℕ → ℕ → ReaderState → Result ReaderState SyntaxFault
 close_x c head tested n b w =
     if b == ascii.closing_brace then Ok (close_braces head false (n + 1) c w)
     else if tested then Ok (at_stage (at.Choice head true) (after_item c 0 w))
     else Err (EmptyTest head.part.start)
 
-abbrev pub with_waiting : List Frame → Walk → Walk
+abbrev pub with_waiting : List Suspended → ReaderState → ReaderState
 with_waiting waiting w = record w { waiting = waiting }
 
-abbrev pub close_frame : Frame → ℕ → ℕ → Walk → Result Walk SyntaxFault
+abbrev pub close_frame : Suspended → ℕ → ℕ → ReaderState → Result ReaderState SyntaxFault
 close_frame (frames.X c head colon part tested around) n b w = close_x c head tested n b (close_alternative part around w)
 close_frame (frames.Call c part) n b w = Ok (after_item c (n + 1) (close_token kinds.Function part (n + 1) w))
 close_frame (frames.Test c head alternative part chosen) n b w =
     Ok (at_stage (at.Result head alternative chosen) (after_item c 0 (close_token kinds.Test part (n + 1) w)))
 
-abbrev pub close : List Frame → ℕ → ℕ → Walk → Result Walk SyntaxFault
+abbrev pub close : List Suspended → ℕ → ℕ → ReaderState → Result ReaderState SyntaxFault
 close [] n b w = Err (Unclosed n)
 close (f ∷ waiting) n b w = close_frame f n b (with_waiting waiting w)
 
-abbrev pub form_at : Bool → Form
+abbrev pub form_at : Bool → HeadForm
 form_at false = forms.Fresh
 form_at true = forms.Later
 
-abbrev pub act_choice : Head → Bool → ChoiceAction → ℕ → ℕ → Walk → Result Walk SyntaxFault
+abbrev pub act_choice : Head → Bool → ChoiceAction → ℕ → ℕ → ReaderState → Result ReaderState SyntaxFault
 act_choice head later heads.Stays n b w = Ok w
 act_choice head later heads.Defaults n b w = Ok (ask head (next_open w n) false false n (open_alternative n w))
 act_choice head later (heads.Tests action) n b w = act_head head (form_at later) action n b w
 
-abbrev pub act_list : ListAction → ℕ → ℕ → Walk → Result Walk SyntaxFault
+abbrev pub act_list : ListAction → ℕ → ℕ → ReaderState → Result ReaderState SyntaxFault
 act_list (acts.Keeps stage) n b w = Ok (at_stage (at.List stage) w)
 act_list (acts.Clears stage) n b w = Ok (at_stage (at.List stage) (with_word [] w))
 act_list (acts.Begins stage) n b w = Ok (at_stage (at.List stage) (with_word (b ∷ []) w))
@@ -367,24 +367,24 @@ act_list (acts.OpensCall start) n b w = Ok (open_call start w)
 act_list (acts.Refused fault) n b w = Err fault
 
 -- where an item begins
-abbrev pub start : ℕ → ℕ → Walk → Result Walk SyntaxFault
+abbrev pub start : ℕ → ℕ → ReaderState → Result ReaderState SyntaxFault
 start n b w = act_list (start_action w.context n b) n b w
 
 -- after the % of an item
-abbrev pub percent : ℕ → ℕ → ℕ → Walk → Result Walk SyntaxFault
+abbrev pub percent : ℕ → ℕ → ℕ → ReaderState → Result ReaderState SyntaxFault
 percent at n b w = act_list (percent_action w.context at n b) n b w
 
-abbrev pub with_first : Option Part → Walk → Walk
+abbrev pub with_first : Option Part → ReaderState → ReaderState
 with_first None w = w
 with_first (Some p) w = with_part p w
 
-abbrev pub act_turn : ListTurn → ℕ → ℕ → Walk → Result Walk SyntaxFault
+abbrev pub act_turn : ListTurn → ℕ → ℕ → ReaderState → Result ReaderState SyntaxFault
 act_turn t n b w = act_list t.then n b (with_first t.first w)
 
 -- after a test of a function's result
-abbrev pub act_result : Head → Open → Bool → ℕ → ℕ → Walk → Result Walk SyntaxFault
+abbrev pub act_result : Head → Open → Bool → ℕ → ℕ → ReaderState → Result ReaderState SyntaxFault
 act_result head part chosen n b w =
-    if is_space b then Ok w
+    if is_white b then Ok w
     else if b == ascii.closing_brace then Err (BadDirective head.part.start)
     else if b == ascii.ampersand then Err (BadDirective head.part.start)
     else if b == ascii.colon then (if chosen then Ok (ask head part true false n w) else Err (BadDirective head.part.start))
@@ -392,29 +392,29 @@ act_result head part chosen n b w =
     else Err (BadDirective head.part.start)
 
 -- what the byte b at the place n does
-abbrev pub step_at : Stage → ℕ → ℕ → Walk → Result Walk SyntaxFault
+abbrev pub step_at : Stage → ℕ → ℕ → ReaderState → Result ReaderState SyntaxFault
 step_at (at.List stage) n b w = act_turn (list_turn stage w.context w.word n b) n b w
 step_at (at.Choice head later) n b w = act_choice head later (choice_action later w.context.levels head.part.start n b) n b w
 step_at (at.Braces head form stage) n b w = act_head head form (head_action stage w.context.levels head.part.start form w.word n b) n b w
 step_at (at.Result head part chosen) n b w = act_result head part chosen n b w
 
-abbrev pub step : Walk → ℕ → ℕ → Result Walk SyntaxFault
+abbrev pub step : ReaderState → ℕ → ℕ → Result ReaderState SyntaxFault
 step w n b = step_at w.stage n b w
 
-abbrev pub place_of : Frame → ℕ
+abbrev pub place_of : Suspended → ℕ
 place_of (frames.X c head colon part tested around) = head.part.start
 place_of (frames.Call c part) = part.start
 place_of (frames.Test c head alternative part chosen) = head.part.start
 
-abbrev pub outermost : Frame → List Frame → ℕ
+abbrev pub outermost : Suspended → List Suspended → ℕ
 outermost f [] = place_of f
 outermost f (g ∷ fs) = outermost g fs
 
-abbrev pub end_part : Single → Taken → ℕ → ℕ → Walk → Result Walk SyntaxFault
+abbrev pub end_part : Single → Taken → ℕ → ℕ → ReaderState → Result ReaderState SyntaxFault
 end_part single taken start end w = Ok (with_part (record { single = single; taken = taken; start = start; end = end }) w)
 
 -- where the text ends, of this size, and no directive waits
-abbrev pub finish_list : ListStage → ℕ → Walk → Result Walk SyntaxFault
+abbrev pub finish_list : ListStage → ℕ → ReaderState → Result ReaderState SyntaxFault
 finish_list stages.Start n w = Ok w
 finish_list (stages.Backslash back) n w = Err (Unclosed back)
 finish_list (stages.Percent start) n w = Err (Unclosed start)
@@ -433,20 +433,20 @@ finish_list (stages.HideEscape start) n w = Err (Unclosed start)
 finish_list (stages.FunctionName start) n w = Err (Unclosed start)
 finish_list (stages.BraceOpen start kind) n w = Err (Unclosed start)
 
-abbrev pub finish_at : Stage → ℕ → Walk → Result Walk SyntaxFault
+abbrev pub finish_at : Stage → ℕ → ReaderState → Result ReaderState SyntaxFault
 finish_at (at.List stage) n w = finish_list stage n w
 finish_at (at.Choice head later) n w = Err (Unclosed head.part.start)
 finish_at (at.Braces head form stage) n w = Err (Unclosed head.part.start)
 finish_at (at.Result head part chosen) n w = Err (Unclosed head.part.start)
 
-abbrev pub finish_in : List Frame → ℕ → Walk → Result Walk SyntaxFault
+abbrev pub finish_in : List Suspended → ℕ → ReaderState → Result ReaderState SyntaxFault
 finish_in [] n w = finish_at w.stage n w
 finish_in (f ∷ fs) n w = Err (Unclosed (outermost f fs))
 
-abbrev pub finish : ℕ → Walk → Result Walk SyntaxFault
+abbrev pub finish : ℕ → ReaderState → Result ReaderState SyntaxFault
 finish n w = finish_in w.waiting n w
 
-abbrev pub started : Walk
+abbrev pub started : ReaderState
 started =
     record {
       stage = at.List stages.Start;
@@ -460,16 +460,16 @@ started =
       holds_star = false;
     }
 
-abbrev pub then_walk : Result Walk SyntaxFault → (Walk → Result Walk SyntaxFault) → Result Walk SyntaxFault
+abbrev pub then_walk : Result ReaderState SyntaxFault → (ReaderState → Result ReaderState SyntaxFault) → Result ReaderState SyntaxFault
 then_walk (Ok w) again = again w
 then_walk (Err fault) again = Err fault
 
 -- what bytes make of a state, the first of which has the place n
-abbrev pub pass : Walk → ℕ → List ℕ → Result Walk SyntaxFault
+abbrev pub pass : ReaderState → ℕ → List ℕ → Result ReaderState SyntaxFault
 pass w n [] = Ok w
 pass w n (b ∷ text) = then_walk (step w n b) (λ v. pass v (n + 1) text)
 
 -- what the rest of a text comes to, of which the next byte has the place n
-abbrev pub walk : Walk → ℕ → List ℕ → Result Walk SyntaxFault
+abbrev pub walk : ReaderState → ℕ → List ℕ → Result ReaderState SyntaxFault
 walk w n [] = finish n w
 walk w n (b ∷ text) = then_walk (step w n b) (λ v. walk v (n + 1) text)

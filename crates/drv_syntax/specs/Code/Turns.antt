@@ -1,5 +1,5 @@
 use Rattle.drv_words.specs.Bytes as ascii
-use Rattle.drv_syntax.specs.Bytes.{is_blank, is_function, is_function_front, is_mark, is_name, is_of, is_space, is_suffix, is_word}
+use Rattle.drv_syntax.specs.Bytes.{is_blank, is_function, is_function_front, is_mark, is_name_byte, is_of, is_white, is_suffix, is_word}
 use Rattle.drv_syntax.specs.Directives.{directive_of, is_allowed, text_of}
 use Rattle.drv_syntax.specs.Labels.{Label, no_label, part_label, pattern_label, word_label}
 use Rattle.drv_syntax.specs.Tree.{pattern}
@@ -7,9 +7,9 @@ use Rattle.drv_syntax.specs.declared.fault.SyntaxFault.TheVariants.{BadDirective
 use Rattle.drv_syntax.specs.declared.reader.stages.Behind.TheVariants as behinds
 use Rattle.drv_syntax.specs.declared.reader.stages.Behind.{Behind}
 use Rattle.drv_syntax.specs.declared.directives.BraceKind.TheVariants as braces
-use Rattle.drv_syntax.specs.declared.reader.stages.Context.{Context}
-use Rattle.drv_syntax.specs.declared.reader.stages.Form.TheVariants as forms
-use Rattle.drv_syntax.specs.declared.reader.stages.Form.{Form}
+use Rattle.drv_syntax.specs.declared.reader.stages.ListContext.{ListContext}
+use Rattle.drv_syntax.specs.declared.reader.stages.HeadForm.TheVariants as forms
+use Rattle.drv_syntax.specs.declared.reader.stages.HeadForm.{HeadForm}
 use Rattle.drv_syntax.specs.declared.directives.Directive.TheVariants as directives
 use Rattle.drv_syntax.specs.declared.directives.Directive.{Directive}
 use Rattle.drv_syntax.specs.Code.HeadActions as heads
@@ -127,7 +127,7 @@ newline_single in_arguments = if in_arguments then singles.Blank else singles.Ne
 abbrev pub bar_single : ℕ → Bool → Single
 bar_single b in_arguments = if in_arguments then singles.Plain b else singles.Pipe
 
-abbrev pub start_action : Context → ℕ → ℕ → ListAction
+abbrev pub start_action : ListContext → ℕ → ℕ → ListAction
 start_action c n b =
     if b == ascii.backslash then acts.Keeps (stages.Backslash n)
     else if b == ascii.percent then acts.Keeps (stages.Percent n)
@@ -145,7 +145,7 @@ star_action at end owners.Starred = item singles.Star takes.Nothing at end
 abbrev pub deeper : ℕ → ℕ → ListAction → ListAction
 deeper levels at action = if levels == 0 then acts.Refused (TooNested at) else action
 
-abbrev pub directive_action : Context → ℕ → ℕ → Directive → ListAction
+abbrev pub directive_action : ListContext → ℕ → ℕ → Directive → ListAction
 directive_action c at end directives.Nowhere = refused at
 directive_action c at end (directives.Whole leaf) = item (singles.Directive leaf) takes.Nothing at end
 directive_action c at end (directives.Named name) = item (singles.BuiltinText name) takes.Nothing at end
@@ -159,19 +159,19 @@ directive_action c at end directives.WithCall = deeper c.levels at (acts.Clears 
 directive_action c at end directives.WithBraces = deeper c.levels at (acts.OpensBraces at braces.InPlace)
 directive_action c at end (directives.WithMarkedBraces kind) = deeper c.levels at (acts.Keeps (stages.BraceOpen at kind))
 
-abbrev pub percent_action : Context → ℕ → ℕ → ℕ → ListAction
+abbrev pub percent_action : ListContext → ℕ → ℕ → ℕ → ListAction
 percent_action c at n b = if is_allowed c.in_arguments b then directive_action c at (n + 1) (directive_of b) else refused at
 
-abbrev pub suffix_start : Context → ℕ → TempKind → ℕ → ℕ → ListTurn
+abbrev pub suffix_start : ListContext → ℕ → TempKind → ℕ → ℕ → ListTurn
 suffix_start c at kind n b =
     if is_suffix b then does (acts.Begins (stages.SuffixRun at kind))
     else if b == ascii.percent then does (acts.Keeps (stages.SuffixPercent at kind n))
     else behind (singles.TempName kind) takes.Nothing at n (start_action c n b)
 
-abbrev pub suffix_run : Context → ℕ → TempKind → ℕ → ℕ → ListTurn
+abbrev pub suffix_run : ListContext → ℕ → TempKind → ℕ → ℕ → ListTurn
 suffix_run c at kind n b = if is_suffix b then does (acts.Adds (stages.SuffixRun at kind)) else behind (singles.TempName kind) takes.Word at n (start_action c n b)
 
-abbrev pub suffix_percent : Context → ℕ → TempKind → ℕ → ℕ → ℕ → ListTurn
+abbrev pub suffix_percent : ListContext → ℕ → TempKind → ℕ → ℕ → ℕ → ListTurn
 suffix_percent c at kind percent n b =
     if b == ascii.capital_o then does (item (singles.TempName kind) takes.Object at (n + 1))
     else behind (singles.TempName kind) takes.Nothing at percent (percent_action c percent n b)
@@ -182,7 +182,7 @@ option_action at word n b =
     else if b == ascii.closing_brace then (if length word == 0 then refused at else item singles.AddOption takes.Word at (n + 1))
     else acts.Adds (stages.OptionText at)
 
-abbrev pub saying_turn : Context → ℕ → SayKind → ℕ → ℕ → ListTurn
+abbrev pub saying_turn : ListContext → ℕ → SayKind → ℕ → ℕ → ListTurn
 saying_turn c at kind n b =
     if b == ascii.backslash then does (acts.Keeps (stages.SayingEscape at kind n))
     else if says c.kind b then does (acts.Adds (stages.SayingText at kind))
@@ -191,7 +191,7 @@ saying_turn c at kind n b =
 
 abbrev pub name_action : ℕ → List ℕ → ℕ → ℕ → ListAction
 name_action at word n b =
-    if is_name b then (if nat_le (length word + 1) 255 then acts.Adds (stages.NameText at) else refused at)
+    if is_name_byte b then (if nat_le (length word + 1) 255 then acts.Adds (stages.NameText at) else refused at)
     else if b == ascii.closing_parenthesis then (if length word == 0 then refused at else item singles.NamedText takes.Word at (n + 1))
     else refused at
 
@@ -202,7 +202,7 @@ hide_action at n b =
     else if b == ascii.asterisk then item (singles.Hide true) takes.Nothing at (n + 1)
     else acts.Refused (EmptyTest at)
 
-abbrev pub hide_word : Context → ℕ → ℕ → ℕ → ListTurn
+abbrev pub hide_word : ListContext → ℕ → ℕ → ℕ → ListTurn
 hide_word c at n b =
     if b == ascii.backslash then does (acts.Keeps (stages.HideEscape at))
     else if is_word b then does (acts.Adds (stages.HideWord at))
@@ -216,7 +216,7 @@ call_action at name b =
     else acts.Refused (UnknownFunction at)
 
 -- in a list of items, where this word is being read: n is the place of the byte b
-abbrev pub list_turn : ListStage → Context → List ℕ → ℕ → ℕ → ListTurn
+abbrev pub list_turn : ListStage → ListContext → List ℕ → ℕ → ℕ → ListTurn
 list_turn stages.Start c word n b = does (start_action c n b)
 list_turn (stages.Backslash back) c word n b = does (item (singles.Escape b) takes.Nothing back (n + 1))
 list_turn (stages.Percent at) c word n b = does (percent_action c at n b)
@@ -242,13 +242,13 @@ abbrev pub empty : ℕ → HeadAction
 empty at = heads.Refused (EmptyTest at)
 
 -- whether braces can still hold patterns alone, or alternatives
-abbrev pub emits : Form → Bool → Bool
+abbrev pub emits : HeadForm → Bool → Bool
 emits forms.Fresh negated = not negated
 emits forms.Patterns negated = not negated
 emits forms.Later negated = false
 emits (forms.Tests part starred) negated = false
 
-abbrev pub chooses : Form → Bool
+abbrev pub chooses : HeadForm → Bool
 chooses forms.Fresh = true
 chooses forms.Patterns = false
 chooses forms.Later = true
@@ -256,7 +256,7 @@ chooses (forms.Tests part starred) = true
 
 abbrev pub after_action : ℕ → Behind → ℕ → HeadAction
 after_action at behind b =
-    if is_space b then heads.Keeps (places.BehindTest behind)
+    if is_white b then heads.Keeps (places.BehindTest behind)
     else if b == ascii.closing_brace then heads.Ends behind
     else if b == ascii.ampersand then heads.Joins behind
     else if b == ascii.colon then heads.Asks behind
@@ -275,17 +275,17 @@ bare_action at start negated mark n b =
     if b == ascii.asterisk then heads.Clears (places.BehindTest (behinds.StarredMark start (n + 1) negated mark))
     else if b == ascii.closing_brace then heads.Ends (behinds.Bare start n negated mark)
     else if b == ascii.ampersand then heads.Joins (behinds.Bare start n negated mark)
-    else if is_space b then heads.Keeps (places.BehindTest (behinds.Bare start n negated mark))
+    else if is_white b then heads.Keeps (places.BehindTest (behinds.Bare start n negated mark))
     else empty at
 
-abbrev pub mark_action : ℕ → Form → ℕ → Bool → ℕ → ℕ → ℕ → HeadAction
+abbrev pub mark_action : ℕ → HeadForm → ℕ → Bool → ℕ → ℕ → ℕ → HeadAction
 mark_action at form start negated mark n b =
     if b == ascii.backslash then heads.Clears (places.MarkedEscape start negated mark)
     else if is_word b then heads.Begins (places.MarkedWord start negated mark)
     else if emits form negated then bare_action at start negated mark n b
     else empty at
 
-abbrev pub marked_action : ℕ → Form → ℕ → Bool → ℕ → ℕ → ℕ → HeadAction
+abbrev pub marked_action : ℕ → HeadForm → ℕ → Bool → ℕ → ℕ → ℕ → HeadAction
 marked_action at form start negated mark n b =
     if b == ascii.backslash then heads.Keeps (places.MarkedEscape start negated mark)
     else if is_word b then heads.Adds (places.MarkedWord start negated mark)
@@ -306,7 +306,7 @@ due_action levels at n b = if b == ascii.exclamation_mark then heads.Keeps (plac
 
 abbrev pub pattern_action : ℕ → ℕ → ℕ → HeadAction
 pattern_action at n b =
-    if is_space b then heads.Keeps places.PatternDue
+    if is_white b then heads.Keeps places.PatternDue
     else if b == ascii.backslash then heads.Clears (places.TestWordEscape n false)
     else if is_word b then heads.Begins (places.TestWord n false)
     else if b == ascii.asterisk then heads.Clears (places.BehindTest (behinds.Switch n (n + 1) false true))
@@ -319,10 +319,10 @@ test_call_action start negated at name b =
     else heads.Refused (UnknownFunction at)
 
 -- in braces, where this word is being read
-abbrev pub head_action : HeadStage → ℕ → ℕ → Form → List ℕ → ℕ → ℕ → HeadAction
-head_action places.TestDue levels at form word n b = if is_space b then heads.Keeps places.TestDue else due_action levels at n b
+abbrev pub head_action : HeadStage → ℕ → ℕ → HeadForm → List ℕ → ℕ → ℕ → HeadAction
+head_action places.TestDue levels at form word n b = if is_white b then heads.Keeps places.TestDue else due_action levels at n b
 head_action (places.TestNegated start) levels at form word n b =
-    if is_space b then heads.Keeps (places.TestNegated start) else asked_action levels at start true n b
+    if is_white b then heads.Keeps (places.TestNegated start) else asked_action levels at start true n b
 head_action places.PatternDue levels at form word n b = pattern_action at n b
 head_action (places.TestWord start negated) levels at form word n b = word_action at start negated n b
 head_action (places.TestWordEscape start negated) levels at form word n b = heads.Adds (places.TestWord start negated)
@@ -336,5 +336,5 @@ head_action (places.BehindTest behind) levels at form word n b = after_action at
 
 -- where an alternative begins
 abbrev pub choice_action : Bool → ℕ → ℕ → ℕ → ℕ → ChoiceAction
-choice_action false levels at n b = if is_space b then heads.Stays else heads.Tests (due_action levels at n b)
-choice_action true levels at n b = if b == ascii.colon then heads.Defaults else if is_space b then heads.Stays else heads.Tests (due_action levels at n b)
+choice_action false levels at n b = if is_white b then heads.Stays else heads.Tests (due_action levels at n b)
+choice_action true levels at n b = if b == ascii.colon then heads.Defaults else if is_white b then heads.Stays else heads.Tests (due_action levels at n b)

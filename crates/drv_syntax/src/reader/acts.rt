@@ -7,24 +7,26 @@ ghost use Rattle.drv_words.specs.Gives.{Gives};
 ghost use Rattle.std.specs.Prelude.{◌≡◌, ◌<◌, ◌≤◌, ◌^◌, ◌+◌, length, OnOk, Ok, true};
 
 use crate::fault::SyntaxFault;
-use crate::reader::bytes::is_space;
+use crate::reader::bytes::is_white;
 use crate::reader::edits::close_token;
 use crate::reader::nesting::{
     after_item, alternative_of, ask, chooses, close_braces, emits, first_of, lent_pattern,
     lent_test, negates, starred_of, stars, tests, untested, with_pattern, with_test,
 };
-use crate::reader::stages::{Behind, Context, Form, Frame, Head, HeadStage, Open, Stage};
-use crate::reader::walk::Walk;
+use crate::reader::stages::{
+    Behind, Head, HeadForm, HeadStage, ListContext, Open, Stage, Suspended,
+};
+use crate::reader::state::ReaderState;
 use crate::token::TokenKind;
 
 /// `}` after a pattern.
 #[inline(always)]
 pub fn act_ends(
     head: Head,
-    form: Form,
+    form: HeadForm,
     behind: Behind,
     n: u32,
-    w: &mut Walk,
+    w: &mut ReaderState,
 ) -> Result<(), SyntaxFault>
     requires room { length w.old.tokens.items < 2 ^ 31 }
     requires place { n < 2 ^ 31 }
@@ -41,7 +43,12 @@ pub fn act_ends(
 }
 
 /// `&` after a pattern.
-pub fn act_joins(head: Head, form: Form, behind: Behind, w: &mut Walk) -> Result<(), SyntaxFault>
+pub fn act_joins(
+    head: Head,
+    form: HeadForm,
+    behind: Behind,
+    w: &mut ReaderState,
+) -> Result<(), SyntaxFault>
     requires room { length w.old.tokens.items < 2 ^ 31 }
     ensures does { Gives SyntaxFault.Memory (λ _. state w.new) result
         (steps.act_joins head form behind (state w.old)) }
@@ -53,7 +60,7 @@ pub fn act_joins(head: Head, form: Form, behind: Behind, w: &mut Walk) -> Result
     with_pattern(behind, w)?;
     w.stage = Stage::Braces {
         head,
-        form: Form::Patterns,
+        form: HeadForm::Patterns,
         stage: HeadStage::PatternDue,
     };
     Ok(())
@@ -63,10 +70,10 @@ pub fn act_joins(head: Head, form: Form, behind: Behind, w: &mut Walk) -> Result
 #[inline(always)]
 pub fn act_asks(
     head: Head,
-    form: Form,
+    form: HeadForm,
     behind: Behind,
     n: u32,
-    w: &mut Walk,
+    w: &mut ReaderState,
 ) -> Result<(), SyntaxFault>
     requires room { length w.old.tokens.items < 2 ^ 31 }
     requires place { n < 2 ^ 31 }
@@ -90,7 +97,12 @@ pub fn act_asks(
 }
 
 /// `|` after a test.
-pub fn act_bars(head: Head, form: Form, behind: Behind, w: &mut Walk) -> Result<(), SyntaxFault>
+pub fn act_bars(
+    head: Head,
+    form: HeadForm,
+    behind: Behind,
+    w: &mut ReaderState,
+) -> Result<(), SyntaxFault>
     requires room { length w.old.tokens.items < 2 ^ 31 }
     ensures does { Gives SyntaxFault.Memory (λ _. state w.new) result
         (steps.act_bars head form behind (state w.old)) }
@@ -103,7 +115,7 @@ pub fn act_bars(head: Head, form: Form, behind: Behind, w: &mut Walk) -> Result<
     with_test(form, behind, w)?;
     w.stage = Stage::Braces {
         head,
-        form: Form::Tests {
+        form: HeadForm::Tests {
             alternative,
             starred: stars(form) && starred_of(behind),
         },
@@ -116,11 +128,11 @@ pub fn act_bars(head: Head, form: Form, behind: Behind, w: &mut Walk) -> Result<
 #[inline(always)]
 fn ends_with(
     head: Head,
-    form: Form,
+    form: HeadForm,
     behind: Behind,
     word: &[u8],
     n: u32,
-    w: &mut Walk,
+    w: &mut ReaderState,
 ) -> Result<(), SyntaxFault>
     requires room { length w.old.tokens.items < 2 ^ 31 }
     requires place { n < 2 ^ 31 }
@@ -140,11 +152,11 @@ fn ends_with(
 #[inline(always)]
 fn asks_with(
     head: Head,
-    form: Form,
+    form: HeadForm,
     behind: Behind,
     word: &[u8],
     n: u32,
-    w: &mut Walk,
+    w: &mut ReaderState,
 ) -> Result<(), SyntaxFault>
     requires room { length w.old.tokens.items < 2 ^ 31 }
     requires place { n < 2 ^ 31 }
@@ -171,12 +183,12 @@ fn asks_with(
 #[inline(never)]
 pub fn act_lent(
     head: Head,
-    form: Form,
+    form: HeadForm,
     behind: Behind,
     word: &[u8],
     n: u32,
     b: u8,
-    w: &mut Walk,
+    w: &mut ReaderState,
 ) -> Result<(), SyntaxFault>
     requires end { steps.ends_word b ≡ true }
     requires room { length w.old.tokens.items < 2 ^ 31 }
@@ -193,7 +205,7 @@ pub fn act_lent(
     }
 }
 
-fn trim(w: &mut Walk)
+fn trim(w: &mut ReaderState)
     ensures does { state w.new ≡ steps.trim (state w.old) }
     ensures size { length w.new.tokens.items ≤ length w.old.tokens.items }
     ensures trail { w.new.trailing ≡ w.old.trailing }
@@ -205,7 +217,7 @@ fn trim(w: &mut Walk)
 }
 
 /// An alternative ends, where the X around it has a `%*` of its own so far or has none.
-fn close_alternative(part: Open, around: bool, w: &mut Walk)
+fn close_alternative(part: Open, around: bool, w: &mut ReaderState)
     requires { length w.old.tokens.items < 2 ^ 32 }
     ensures does { state w.new ≡ steps.close_alternative part around (state w.old) }
     ensures size { length w.new.tokens.items ≤ length w.old.tokens.items }
@@ -218,12 +230,12 @@ fn close_alternative(part: Open, around: bool, w: &mut Walk)
 }
 
 fn close_x(
-    c: Context,
+    c: ListContext,
     head: Head,
     tested: bool,
     n: u32,
     b: u8,
-    w: &mut Walk,
+    w: &mut ReaderState,
 ) -> Result<(), SyntaxFault>
     requires room { length w.old.tokens.items < 2 ^ 31 }
     requires place { n < 2 ^ 31 }
@@ -243,7 +255,7 @@ fn close_x(
     }
 }
 
-fn close_frame(frame: Frame, n: u32, b: u8, w: &mut Walk) -> Result<(), SyntaxFault>
+fn close_frame(frame: Suspended, n: u32, b: u8, w: &mut ReaderState) -> Result<(), SyntaxFault>
     requires room { length w.old.tokens.items < 2 ^ 31 }
     requires place { n < 2 ^ 31 }
     ensures does { Gives SyntaxFault.Memory (λ _. state w.new) result
@@ -251,7 +263,7 @@ fn close_frame(frame: Frame, n: u32, b: u8, w: &mut Walk) -> Result<(), SyntaxFa
     ensures fits { OnOk result (Fits w.old w.new) }
 {
     match frame {
-        Frame::X {
+        Suspended::X {
             context: c,
             head,
             alternative: part,
@@ -262,12 +274,12 @@ fn close_frame(frame: Frame, n: u32, b: u8, w: &mut Walk) -> Result<(), SyntaxFa
             close_alternative(part, around, w);
             close_x(c, head, tested, n, b, w)
         }
-        Frame::Call { context: c, part } => {
+        Suspended::Call { context: c, part } => {
             close_token(TokenKind::Function, part, n + 1, w);
             after_item(c, n + 1, w);
             Ok(())
         }
-        Frame::Test {
+        Suspended::Test {
             context: c,
             head,
             alternative,
@@ -287,7 +299,7 @@ fn close_frame(frame: Frame, n: u32, b: u8, w: &mut Walk) -> Result<(), SyntaxFa
 }
 
 /// The innermost list ends with this byte.
-pub fn close(n: u32, b: u8, w: &mut Walk) -> Result<(), SyntaxFault>
+pub fn close(n: u32, b: u8, w: &mut ReaderState) -> Result<(), SyntaxFault>
     requires room { length w.old.tokens.items < 2 ^ 31 }
     requires place { n < 2 ^ 31 }
     ensures does { Gives SyntaxFault.Memory (λ _. state w.new) result
@@ -307,7 +319,7 @@ pub fn act_result(
     chosen: bool,
     n: u32,
     b: u8,
-    w: &mut Walk,
+    w: &mut ReaderState,
 ) -> Result<(), SyntaxFault>
     requires room { length w.old.tokens.items < 2 ^ 30 }
     requires place { n < 2 ^ 31 }
@@ -317,7 +329,7 @@ pub fn act_result(
     ensures size { OnOk result (length w.new.tokens.items ≤ length w.old.tokens.items + 4) }
     ensures trail { OnOk result (w.new.trailing ≤ w.old.trailing + 4) }
 {
-    if is_space(b) {
+    if is_white(b) {
         Ok(())
     } else if b == b'}' || b == b'&' {
         Err(SyntaxFault::BadDirective(head.part.start as usize))
@@ -326,7 +338,7 @@ pub fn act_result(
     } else if b == b'|' && chosen {
         w.stage = Stage::Braces {
             head,
-            form: Form::Tests {
+            form: HeadForm::Tests {
                 alternative: part,
                 starred: false,
             },

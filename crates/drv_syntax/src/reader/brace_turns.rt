@@ -14,13 +14,13 @@ use crate::reader::edits::{next_open, with_emit};
 use crate::reader::nesting::{ask, open_braces};
 use crate::reader::runs::{front, word_length};
 use crate::reader::stages::Head;
+use crate::reader::state::ReaderState;
 use crate::reader::turns::run;
-use crate::reader::walk::Walk;
 use crate::token::{Token, TokenKind};
 
 /// After `%{`, where the braces do not begin with a word that fills them.
 #[inline(never)]
-fn opened_turn(at: u32, n: u32, inside: &[u8], w: &mut Walk) -> Result<usize, SyntaxFault>
+fn opened_turn(at: u32, n: u32, inside: &[u8], w: &mut ReaderState) -> Result<usize, SyntaxFault>
     requires room { length w.old.tokens.items < 2 ^ 28 }
     requires place { n + length inside.now < 2 ^ 30 }
     requires trail { w.old.trailing < 2 ^ 28 }
@@ -56,7 +56,7 @@ fn with_asked(
     end: u32,
     negated: bool,
     word: &[u8],
-    w: &mut Walk,
+    w: &mut ReaderState,
 ) -> Result<(), SyntaxFault>
     requires room { length w.old.tokens.items < 2 ^ 28 }
     requires place { end < 2 ^ 31 }
@@ -87,7 +87,7 @@ fn with_asked(
 
 /// After `%{`, where a `!` stands: the word of a test and a colon, or what the braces begin with.
 #[inline(always)]
-fn negation_turn(at: u32, n: u32, inside: &[u8], w: &mut Walk) -> Result<usize, SyntaxFault>
+fn negation_turn(at: u32, n: u32, inside: &[u8], w: &mut ReaderState) -> Result<usize, SyntaxFault>
     requires mark { get_or inside.now 0 0 ≡ ascii.exclamation_mark }
     requires some { 0 < length inside.now }
     requires room { length w.old.tokens.items < 2 ^ 28 }
@@ -114,7 +114,12 @@ fn negation_turn(at: u32, n: u32, inside: &[u8], w: &mut Walk) -> Result<usize, 
 
 /// After `%{`: a word that fills the braces or is their first test, or what they begin with.
 #[inline(always)]
-pub fn braces_turn(at: u32, n: u32, inside: &[u8], w: &mut Walk) -> Result<usize, SyntaxFault>
+pub fn braces_turn(
+    at: u32,
+    n: u32,
+    inside: &[u8],
+    w: &mut ReaderState,
+) -> Result<usize, SyntaxFault>
     requires room { length w.old.tokens.items < 2 ^ 28 }
     requires place { n + length inside.now < 2 ^ 30 }
     requires trail { w.old.trailing < 2 ^ 28 }

@@ -23,8 +23,8 @@ pub fn begins_word(b: u8) -> bool
 }
 
 /// In the name of a named text.
-pub fn is_name(b: u8) -> bool
-    ensures { result ≡ bytes.is_name b }
+pub fn is_name_byte(b: u8) -> bool
+    ensures { result ≡ bytes.is_name_byte b }
 {
     b.is_ascii_lowercase() || b.is_ascii_alphanumeric() || matches!(b, b'_' | b'.' | b'+' | b'-')
 }
@@ -44,8 +44,8 @@ pub fn is_blank(b: u8) -> bool
 }
 
 /// A space, a tab or a newline.
-pub fn is_space(b: u8) -> bool
-    ensures { result ≡ bytes.is_space b }
+pub fn is_white(b: u8) -> bool
+    ensures { result ≡ bytes.is_white b }
 {
     b == b' ' || b == b'\t' || b == b'\n'
 }

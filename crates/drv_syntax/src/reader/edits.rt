@@ -13,7 +13,7 @@ use crate::fault::SyntaxFault;
 use crate::reader::actions::{Part, Single, Taken};
 use crate::reader::naming::{name_single, name_word, taken_word};
 use crate::reader::stages::{ListStage, Open, Stage};
-use crate::reader::walk::Walk;
+use crate::reader::state::ReaderState;
 use crate::token::{Token, TokenKind};
 
 /// The kind of the token of an item.
@@ -40,7 +40,7 @@ pub fn single_kind(single: Single) -> TokenKind
 
 /// The next byte stands here, and the word stays.
 #[inline]
-pub fn keep(stage: Stage, w: &mut Walk) -> Result<(), SyntaxFault>
+pub fn keep(stage: Stage, w: &mut ReaderState) -> Result<(), SyntaxFault>
     ensures does { Gives SyntaxFault.Memory (λ _. state w.new) result
         (Ok (steps.at_stage stage (state w.old))) }
     ensures fits { OnOk result (Fits w.old w.new) }
@@ -51,7 +51,7 @@ pub fn keep(stage: Stage, w: &mut Walk) -> Result<(), SyntaxFault>
 
 /// The next byte stands here, and a word begins without a byte.
 #[inline]
-pub fn clear(stage: Stage, w: &mut Walk) -> Result<(), SyntaxFault>
+pub fn clear(stage: Stage, w: &mut ReaderState) -> Result<(), SyntaxFault>
     ensures does { Gives SyntaxFault.Memory (λ _. state w.new) result
         (Ok (steps.at_stage stage (steps.with_word [] (state w.old)))) }
     ensures fits { OnOk result (Fits w.old w.new) }
@@ -63,7 +63,7 @@ pub fn clear(stage: Stage, w: &mut Walk) -> Result<(), SyntaxFault>
 
 /// The next byte stands here, and a word begins with this one.
 #[inline]
-pub fn begin(stage: Stage, b: u8, w: &mut Walk) -> Result<(), SyntaxFault>
+pub fn begin(stage: Stage, b: u8, w: &mut ReaderState) -> Result<(), SyntaxFault>
     ensures does { Gives SyntaxFault.Memory (λ _. state w.new) result
         (Ok (steps.at_stage stage (steps.with_word (b ∷ []) (state w.old)))) }
     ensures fits { OnOk result (Fits w.old w.new) }
@@ -76,7 +76,7 @@ pub fn begin(stage: Stage, b: u8, w: &mut Walk) -> Result<(), SyntaxFault>
 
 /// The next byte stands here, and this one goes to the word's end.
 #[inline]
-pub fn add(stage: Stage, b: u8, w: &mut Walk) -> Result<(), SyntaxFault>
+pub fn add(stage: Stage, b: u8, w: &mut ReaderState) -> Result<(), SyntaxFault>
     ensures does { Gives SyntaxFault.Memory (λ _. state w.new) result
         (Ok (steps.at_stage stage (steps.with_word (w.old.word.items ++ b ∷ []) (state w.old)))) }
     ensures fits { OnOk result (Fits w.old w.new) }
@@ -87,7 +87,7 @@ pub fn add(stage: Stage, b: u8, w: &mut Walk) -> Result<(), SyntaxFault>
 }
 
 /// Where the next token goes.
-pub fn next_open(w: &Walk, start: u32) -> Open
+pub fn next_open(w: &ReaderState, start: u32) -> Open
     requires { length w.now.tokens.items < 2 ^ 32 }
     ensures { result ≡ steps.next_open (state w.now) start }
 {
@@ -99,7 +99,7 @@ pub fn next_open(w: &Walk, start: u32) -> Open
 
 /// A part opens.
 #[inline(always)]
-pub fn with_token(kind: TokenKind, start: u32, w: &mut Walk) -> Result<(), SyntaxFault>
+pub fn with_token(kind: TokenKind, start: u32, w: &mut ReaderState) -> Result<(), SyntaxFault>
     ensures does { Gives SyntaxFault.Memory (λ _. state w.new) result
         (Ok (steps.with_token kind start (state w.old))) }
     ensures size { OnOk result (length w.new.tokens.items ≤ length w.old.tokens.items + 1) }
@@ -115,7 +115,12 @@ pub fn with_token(kind: TokenKind, start: u32, w: &mut Walk) -> Result<(), Synta
 
 /// A part that is whole.
 #[inline(always)]
-pub fn with_leaf(kind: TokenKind, start: u32, end: u32, w: &mut Walk) -> Result<(), SyntaxFault>
+pub fn with_leaf(
+    kind: TokenKind,
+    start: u32,
+    end: u32,
+    w: &mut ReaderState,
+) -> Result<(), SyntaxFault>
     requires { length w.old.tokens.items + 1 < 2 ^ 32 }
     ensures does { Gives SyntaxFault.Memory (λ _. state w.new) result
         (Ok (steps.with_leaf kind start end (state w.old))) }
@@ -132,7 +137,7 @@ pub fn with_leaf(kind: TokenKind, start: u32, end: u32, w: &mut Walk) -> Result<
 }
 
 /// A part ends here.
-pub fn close_token(kind: TokenKind, part: Open, end: u32, w: &mut Walk)
+pub fn close_token(kind: TokenKind, part: Open, end: u32, w: &mut ReaderState)
     requires { length w.old.tokens.items < 2 ^ 32 }
     ensures does { state w.new ≡ steps.close_token kind part end (state w.old) }
     ensures size { length w.new.tokens.items ≡ length w.old.tokens.items }
@@ -149,8 +154,8 @@ pub fn close_token(kind: TokenKind, part: Open, end: u32, w: &mut Walk)
     }
 }
 
-fn is_white(single: Single) -> bool
-    ensures { result ≡ steps.is_white single }
+fn is_white_single(single: Single) -> bool
+    ensures { result ≡ steps.is_white_single single }
 {
     match single {
         Single::Blank | Single::Newline => true,
@@ -169,7 +174,7 @@ fn is_star(single: Single) -> bool
 
 /// An item without parts inside it.
 #[inline(always)]
-pub fn with_part(p: Part, w: &mut Walk) -> Result<(), SyntaxFault>
+pub fn with_part(p: Part, w: &mut ReaderState) -> Result<(), SyntaxFault>
     requires room { length w.old.tokens.items + 1 < 2 ^ 32 }
     requires trail { w.old.trailing + 1 < 2 ^ 32 }
     ensures does { Gives SyntaxFault.Memory (λ _. state w.new) result
@@ -182,7 +187,7 @@ pub fn with_part(p: Part, w: &mut Walk) -> Result<(), SyntaxFault>
     w.stage = Stage::List(ListStage::Start);
     w.word.clear();
     w.holds_star = is_star(p.single) || w.holds_star;
-    if is_white(p.single) {
+    if is_white_single(p.single) {
         w.trailing += 1;
     } else {
         w.kept = p.end;
@@ -193,7 +198,7 @@ pub fn with_part(p: Part, w: &mut Walk) -> Result<(), SyntaxFault>
 
 /// A byte that stands for itself.
 #[inline]
-pub fn with_plain(n: u32, b: u8, w: &mut Walk) -> Result<(), SyntaxFault>
+pub fn with_plain(n: u32, b: u8, w: &mut ReaderState) -> Result<(), SyntaxFault>
     requires room { length w.old.tokens.items + 1 < 2 ^ 32 }
     requires place { n < 2 ^ 31 }
     ensures does { Gives SyntaxFault.Memory (λ _. state w.new) result
@@ -234,7 +239,7 @@ fn push_plains(n: u32, run: &[u8], tokens: &mut Vec<Token>)
 
 /// Bytes that stand for themselves, the first of them at this place.
 #[inline(always)]
-pub fn with_plains(n: u32, run: &[u8], w: &mut Walk) -> Result<(), SyntaxFault>
+pub fn with_plains(n: u32, run: &[u8], w: &mut ReaderState) -> Result<(), SyntaxFault>
     requires room { length w.old.tokens.items + length run.now < 2 ^ 31 }
     requires place { n + length run.now < 2 ^ 31 }
     ensures does { Gives SyntaxFault.Memory (λ _. state w.new) result
@@ -255,7 +260,7 @@ pub fn with_plains(n: u32, run: &[u8], w: &mut Walk) -> Result<(), SyntaxFault>
 
 /// A named text of this name.
 #[inline(always)]
-pub fn with_name(at: u32, end: u32, name: &[u8], w: &mut Walk) -> Result<(), SyntaxFault>
+pub fn with_name(at: u32, end: u32, name: &[u8], w: &mut ReaderState) -> Result<(), SyntaxFault>
     requires room { length w.old.tokens.items + 1 < 2 ^ 32 }
     ensures does { Gives SyntaxFault.Memory (λ _. state w.new) result
         (Ok (steps.with_part (turns.part Single.NamedText Taken.Word at end)
@@ -280,7 +285,7 @@ pub fn with_emit(
     end: u32,
     starred: bool,
     word: &[u8],
-    w: &mut Walk,
+    w: &mut ReaderState,
 ) -> Result<(), SyntaxFault>
     requires room { length w.old.tokens.items + 2 < 2 ^ 32 }
     requires place { end < 2 ^ 31 }
@@ -314,7 +319,7 @@ pub fn with_emit(
 
 /// A space or a tab.
 #[inline]
-pub fn with_blank(n: u32, w: &mut Walk) -> Result<(), SyntaxFault>
+pub fn with_blank(n: u32, w: &mut ReaderState) -> Result<(), SyntaxFault>
     requires room { length w.old.tokens.items + 1 < 2 ^ 32 }
     requires place { n < 2 ^ 31 }
     requires trail { w.old.trailing + 1 < 2 ^ 32 }

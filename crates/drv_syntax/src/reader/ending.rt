@@ -5,7 +5,7 @@ ghost use Rattle.std.specs.Prelude.{◌≡◌};
 
 use crate::reader::bytes::is_blank;
 use crate::reader::stages::{ListStage, Stage};
-use crate::reader::walk::Walk;
+use crate::reader::state::ReaderState;
 
 /// How a text ends.
 #[derive(Clone, Copy)]
@@ -22,7 +22,7 @@ pub enum Ending {
 #[derive(Drop)]
 pub struct Ended {
     /// Its state after its last item.
-    pub walk: Walk,
+    pub walk: ReaderState,
     /// How it ends.
     pub ending: Ending,
 }

@@ -8,11 +8,11 @@ ghost use Rattle.std.specs.Prelude.{◌≡◌, ◌<◌, ◌^◌, ◌+◌, length
 
 use crate::fault::SyntaxFault;
 use crate::reader::acts::{act_asks, act_bars, act_ends, act_joins};
-use crate::reader::bytes::{is_function, is_function_front, is_mark, is_space, is_word};
+use crate::reader::bytes::{is_function, is_function_front, is_mark, is_white, is_word};
 use crate::reader::edits::{add, begin, clear, keep, next_open};
 use crate::reader::nesting::{ask, emits, open_alternative, open_test};
-use crate::reader::stages::{Behind, Form, Head, HeadStage, Stage};
-use crate::reader::walk::Walk;
+use crate::reader::stages::{Behind, Head, HeadForm, HeadStage, Stage};
+use crate::reader::state::ReaderState;
 
 fn bad(at: u32) -> Result<(), SyntaxFault>
     ensures { result ≡ Err (SyntaxFault.BadDirective at) }
@@ -27,7 +27,7 @@ fn empty(at: u32) -> Result<(), SyntaxFault>
 }
 
 /// A place in braces.
-pub fn at(head: Head, form: Form, stage: HeadStage) -> Stage
+pub fn at(head: Head, form: HeadForm, stage: HeadStage) -> Stage
     ensures { result ≡ Stage.Braces head form stage }
 {
     Stage::Braces { head, form, stage }
@@ -37,11 +37,11 @@ pub fn at(head: Head, form: Form, stage: HeadStage) -> Stage
 #[inline(never)]
 pub fn after_test(
     head: Head,
-    form: Form,
+    form: HeadForm,
     behind: Behind,
     n: u32,
     b: u8,
-    w: &mut Walk,
+    w: &mut ReaderState,
 ) -> Result<(), SyntaxFault>
     requires room { length w.old.tokens.items < 2 ^ 31 }
     requires place { n < 2 ^ 31 }
@@ -49,7 +49,7 @@ pub fn after_test(
         (steps.act_head head form (turns.after_action head.part.start behind b) n b (state w.old)) }
     ensures fits { OnOk result (Fits w.old w.new) }
 {
-    if is_space(b) {
+    if is_white(b) {
         keep(at(head, form, HeadStage::BehindTest(behind)), w)
     } else if b == b'}' {
         act_ends(head, form, behind, n, w)
@@ -68,12 +68,12 @@ pub fn after_test(
 #[inline(always)]
 pub fn test_word(
     head: Head,
-    form: Form,
+    form: HeadForm,
     start: u32,
     negated: bool,
     n: u32,
     b: u8,
-    w: &mut Walk,
+    w: &mut ReaderState,
 ) -> Result<(), SyntaxFault>
     requires room { length w.old.tokens.items < 2 ^ 31 }
     requires place { n < 2 ^ 31 }
@@ -111,13 +111,13 @@ pub fn test_word(
 /// After a `.` or `,` that no word follows.
 fn bare_mark(
     head: Head,
-    form: Form,
+    form: HeadForm,
     start: u32,
     negated: bool,
     mark: u8,
     n: u32,
     b: u8,
-    w: &mut Walk,
+    w: &mut ReaderState,
 ) -> Result<(), SyntaxFault>
     requires room { length w.old.tokens.items < 2 ^ 31 }
     requires place { n < 2 ^ 31 }
@@ -144,7 +144,7 @@ fn bare_mark(
         act_ends(head, form, bare, n, w)
     } else if b == b'&' {
         act_joins(head, form, bare, w)
-    } else if is_space(b) {
+    } else if is_white(b) {
         keep(at(head, form, HeadStage::BehindTest(bare)), w)
     } else {
         empty(head.part.start)
@@ -154,13 +154,13 @@ fn bare_mark(
 /// After the `.` or `,` that begins a test.
 fn test_mark(
     head: Head,
-    form: Form,
+    form: HeadForm,
     start: u32,
     negated: bool,
     mark: u8,
     n: u32,
     b: u8,
-    w: &mut Walk,
+    w: &mut ReaderState,
 ) -> Result<(), SyntaxFault>
     requires room { length w.old.tokens.items < 2 ^ 31 }
     requires place { n < 2 ^ 31 }
@@ -193,13 +193,13 @@ fn test_mark(
 /// In the word after it.
 fn marked_word(
     head: Head,
-    form: Form,
+    form: HeadForm,
     start: u32,
     negated: bool,
     mark: u8,
     n: u32,
     b: u8,
-    w: &mut Walk,
+    w: &mut ReaderState,
 ) -> Result<(), SyntaxFault>
     requires room { length w.old.tokens.items < 2 ^ 31 }
     requires place { n < 2 ^ 31 }
@@ -246,12 +246,12 @@ fn marked_word(
 /// Where what a test asks begins, after a `!` or not.
 fn asked(
     head: Head,
-    form: Form,
+    form: HeadForm,
     start: u32,
     negated: bool,
     n: u32,
     b: u8,
-    w: &mut Walk,
+    w: &mut ReaderState,
 ) -> Result<(), SyntaxFault>
     requires room { length w.old.tokens.items < 2 ^ 31 }
     requires place { n < 2 ^ 31 }
@@ -297,7 +297,7 @@ fn asked(
 }
 
 /// Where a test begins.
-fn due(head: Head, form: Form, n: u32, b: u8, w: &mut Walk) -> Result<(), SyntaxFault>
+fn due(head: Head, form: HeadForm, n: u32, b: u8, w: &mut ReaderState) -> Result<(), SyntaxFault>
     requires room { length w.old.tokens.items < 2 ^ 31 }
     requires place { n < 2 ^ 31 }
     ensures does { Gives SyntaxFault.Memory (λ _. state w.new) result
@@ -313,7 +313,13 @@ fn due(head: Head, form: Form, n: u32, b: u8, w: &mut Walk) -> Result<(), Syntax
 }
 
 /// Where a pattern begins.
-fn pattern_due(head: Head, form: Form, n: u32, b: u8, w: &mut Walk) -> Result<(), SyntaxFault>
+fn pattern_due(
+    head: Head,
+    form: HeadForm,
+    n: u32,
+    b: u8,
+    w: &mut ReaderState,
+) -> Result<(), SyntaxFault>
     requires room { length w.old.tokens.items < 2 ^ 31 }
     requires place { n < 2 ^ 31 }
     ensures does { Gives SyntaxFault.Memory (λ _. state w.new) result
@@ -322,7 +328,7 @@ fn pattern_due(head: Head, form: Form, n: u32, b: u8, w: &mut Walk) -> Result<()
 {
     let start = n;
     let negated = false;
-    if is_space(b) {
+    if is_white(b) {
         keep(at(head, form, HeadStage::PatternDue), w)
     } else if b == b'\\' {
         clear(
@@ -347,13 +353,13 @@ fn pattern_due(head: Head, form: Form, n: u32, b: u8, w: &mut Walk) -> Result<()
 /// In the name of a function in a test, whose `%` has this place.
 fn test_function(
     head: Head,
-    form: Form,
+    form: HeadForm,
     start: u32,
     negated: bool,
     percent: u32,
     n: u32,
     b: u8,
-    w: &mut Walk,
+    w: &mut ReaderState,
 ) -> Result<(), SyntaxFault>
     requires room { length w.old.tokens.items < 2 ^ 31 }
     requires place { n < 2 ^ 31 }
@@ -379,11 +385,11 @@ fn test_function(
 /// What this byte at this place makes of the state.
 pub fn head_step(
     head: Head,
-    form: Form,
+    form: HeadForm,
     stage: HeadStage,
     n: u32,
     b: u8,
-    w: &mut Walk,
+    w: &mut ReaderState,
 ) -> Result<(), SyntaxFault>
     requires room { length w.old.tokens.items < 2 ^ 31 }
     requires place { n < 2 ^ 31 }
@@ -393,9 +399,9 @@ pub fn head_step(
     ensures fits { OnOk result (Fits w.old w.new) }
 {
     match stage {
-        HeadStage::TestDue if is_space(b) => keep(at(head, form, stage), w),
+        HeadStage::TestDue if is_white(b) => keep(at(head, form, stage), w),
         HeadStage::TestDue => due(head, form, n, b, w),
-        HeadStage::TestNegated { .. } if is_space(b) => keep(at(head, form, stage), w),
+        HeadStage::TestNegated { .. } if is_white(b) => keep(at(head, form, stage), w),
         HeadStage::TestNegated { start } => asked(head, form, start, true, n, b, w),
         HeadStage::PatternDue => pattern_due(head, form, n, b, w),
         HeadStage::TestWord { start, negated } => test_word(head, form, start, negated, n, b, w),
@@ -458,7 +464,13 @@ pub fn head_step(
 }
 
 /// What this byte does where an alternative begins, with others before it or none.
-pub fn choice_step(head: Head, later: bool, n: u32, b: u8, w: &mut Walk) -> Result<(), SyntaxFault>
+pub fn choice_step(
+    head: Head,
+    later: bool,
+    n: u32,
+    b: u8,
+    w: &mut ReaderState,
+) -> Result<(), SyntaxFault>
     requires room { length w.old.tokens.items < 2 ^ 31 }
     requires place { n < 2 ^ 31 }
     ensures does { Gives SyntaxFault.Memory (λ _. state w.new) result
@@ -470,11 +482,11 @@ pub fn choice_step(head: Head, later: bool, n: u32, b: u8, w: &mut Walk) -> Resu
         let part = next_open(w, n);
         open_alternative(n, w)?;
         ask(head, part, false, false, n, w)
-    } else if is_space(b) {
+    } else if is_white(b) {
         Ok(())
     } else if later {
-        due(head, Form::Later, n, b, w)
+        due(head, HeadForm::Later, n, b, w)
     } else {
-        due(head, Form::Fresh, n, b, w)
+        due(head, HeadForm::Fresh, n, b, w)
     }
 }

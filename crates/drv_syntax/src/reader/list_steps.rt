@@ -10,11 +10,13 @@ use crate::directives::{BraceKind, Directive, SayKind, allows, directive_of};
 use crate::fault::SyntaxFault;
 use crate::reader::actions::{Part, Single, Taken};
 use crate::reader::acts::close;
-use crate::reader::bytes::{is_blank, is_function, is_function_front, is_name, is_suffix, is_word};
+use crate::reader::bytes::{
+    is_blank, is_function, is_function_front, is_name_byte, is_suffix, is_word,
+};
 use crate::reader::edits::{add, begin, clear, keep, with_blank, with_part, with_plain};
 use crate::reader::nesting::{open_braces, open_call};
 use crate::reader::stages::{ListKind, ListStage, Stage, StarOwner};
-use crate::reader::walk::Walk;
+use crate::reader::state::ReaderState;
 use crate::token::TempKind;
 
 /// The byte ends a list.
@@ -46,7 +48,13 @@ fn refused(at: u32) -> Result<(), SyntaxFault>
 
 /// An item ends.
 #[inline(always)]
-fn item(single: Single, taken: Taken, start: u32, end: u32, w: &mut Walk) -> Result<(), SyntaxFault>
+fn item(
+    single: Single,
+    taken: Taken,
+    start: u32,
+    end: u32,
+    w: &mut ReaderState,
+) -> Result<(), SyntaxFault>
     requires room { length w.old.tokens.items < 2 ^ 31 }
     requires trail { w.old.trailing < 2 ^ 31 }
     ensures does { Gives SyntaxFault.Memory (λ _. state w.new) result
@@ -66,7 +74,7 @@ fn item(single: Single, taken: Taken, start: u32, end: u32, w: &mut Walk) -> Res
 }
 
 /// Where an item begins.
-pub fn start(n: u32, b: u8, w: &mut Walk) -> Result<(), SyntaxFault>
+pub fn start(n: u32, b: u8, w: &mut ReaderState) -> Result<(), SyntaxFault>
     requires room { length w.old.tokens.items < 2 ^ 31 }
     requires place { n < 2 ^ 31 }
     requires trail { w.old.trailing < 2 ^ 31 }
@@ -95,7 +103,7 @@ pub fn start(n: u32, b: u8, w: &mut Walk) -> Result<(), SyntaxFault>
 
 /// After the `%` at a place.
 #[inline(always)]
-pub fn percent(at: u32, n: u32, b: u8, w: &mut Walk) -> Result<(), SyntaxFault>
+pub fn percent(at: u32, n: u32, b: u8, w: &mut ReaderState) -> Result<(), SyntaxFault>
     requires room { length w.old.tokens.items < 2 ^ 31 }
     requires place { n < 2 ^ 31 }
     requires trail { w.old.trailing < 2 ^ 31 }
@@ -132,7 +140,13 @@ pub fn percent(at: u32, n: u32, b: u8, w: &mut Walk) -> Result<(), SyntaxFault>
 }
 
 /// After `%g`.
-fn suffix_start(at: u32, kind: TempKind, n: u32, b: u8, w: &mut Walk) -> Result<(), SyntaxFault>
+fn suffix_start(
+    at: u32,
+    kind: TempKind,
+    n: u32,
+    b: u8,
+    w: &mut ReaderState,
+) -> Result<(), SyntaxFault>
     requires room { length w.old.tokens.items < 2 ^ 30 }
     requires place { n < 2 ^ 31 }
     requires trail { w.old.trailing < 2 ^ 30 }
@@ -156,7 +170,13 @@ fn suffix_start(at: u32, kind: TempKind, n: u32, b: u8, w: &mut Walk) -> Result<
 }
 
 /// In its suffix.
-pub fn suffix_run(at: u32, kind: TempKind, n: u32, b: u8, w: &mut Walk) -> Result<(), SyntaxFault>
+pub fn suffix_run(
+    at: u32,
+    kind: TempKind,
+    n: u32,
+    b: u8,
+    w: &mut ReaderState,
+) -> Result<(), SyntaxFault>
     requires room { length w.old.tokens.items < 2 ^ 30 }
     requires place { n < 2 ^ 31 }
     requires trail { w.old.trailing < 2 ^ 30 }
@@ -179,7 +199,7 @@ fn suffix_percent(
     second: u32,
     n: u32,
     b: u8,
-    w: &mut Walk,
+    w: &mut ReaderState,
 ) -> Result<(), SyntaxFault>
     requires room { length w.old.tokens.items < 2 ^ 30 }
     requires place { n < 2 ^ 31 }
@@ -197,7 +217,7 @@ fn suffix_percent(
 }
 
 /// In the text of `%x{..}`.
-fn option_text(at: u32, n: u32, b: u8, w: &mut Walk) -> Result<(), SyntaxFault>
+fn option_text(at: u32, n: u32, b: u8, w: &mut ReaderState) -> Result<(), SyntaxFault>
     requires room { length w.old.tokens.items < 2 ^ 31 }
     requires place { n < 2 ^ 31 }
     requires trail { w.old.trailing < 2 ^ 31 }
@@ -217,7 +237,13 @@ fn option_text(at: u32, n: u32, b: u8, w: &mut Walk) -> Result<(), SyntaxFault>
 }
 
 /// In the text of `%e`.
-pub fn saying_text(at: u32, kind: SayKind, n: u32, b: u8, w: &mut Walk) -> Result<(), SyntaxFault>
+pub fn saying_text(
+    at: u32,
+    kind: SayKind,
+    n: u32,
+    b: u8,
+    w: &mut ReaderState,
+) -> Result<(), SyntaxFault>
     requires room { length w.old.tokens.items < 2 ^ 30 }
     requires place { n < 2 ^ 31 }
     requires trail { w.old.trailing < 2 ^ 30 }
@@ -248,7 +274,7 @@ pub fn saying_text(at: u32, kind: SayKind, n: u32, b: u8, w: &mut Walk) -> Resul
 }
 
 /// In the name of a text.
-pub fn name_text(at: u32, n: u32, b: u8, w: &mut Walk) -> Result<(), SyntaxFault>
+pub fn name_text(at: u32, n: u32, b: u8, w: &mut ReaderState) -> Result<(), SyntaxFault>
     requires room { length w.old.tokens.items < 2 ^ 31 }
     requires place { n < 2 ^ 31 }
     requires trail { w.old.trailing < 2 ^ 31 }
@@ -256,7 +282,7 @@ pub fn name_text(at: u32, n: u32, b: u8, w: &mut Walk) -> Result<(), SyntaxFault
         (steps.act_list (turns.name_action at w.old.word.items n b) n b (state w.old)) }
     ensures fits { OnOk result (Fits w.old w.new) }
 {
-    if is_name(b) {
+    if is_name_byte(b) {
         if w.word.len() < 255 {
             add(Stage::List(ListStage::NameText { at }), b, w)
         } else {
@@ -270,7 +296,7 @@ pub fn name_text(at: u32, n: u32, b: u8, w: &mut Walk) -> Result<(), SyntaxFault
 }
 
 /// After `%<`.
-fn hide_start(at: u32, n: u32, b: u8, w: &mut Walk) -> Result<(), SyntaxFault>
+fn hide_start(at: u32, n: u32, b: u8, w: &mut ReaderState) -> Result<(), SyntaxFault>
     requires room { length w.old.tokens.items < 2 ^ 31 }
     requires place { n < 2 ^ 31 }
     requires trail { w.old.trailing < 2 ^ 31 }
@@ -290,7 +316,7 @@ fn hide_start(at: u32, n: u32, b: u8, w: &mut Walk) -> Result<(), SyntaxFault>
 }
 
 /// In its word.
-pub fn hide_word(at: u32, n: u32, b: u8, w: &mut Walk) -> Result<(), SyntaxFault>
+pub fn hide_word(at: u32, n: u32, b: u8, w: &mut ReaderState) -> Result<(), SyntaxFault>
     requires room { length w.old.tokens.items < 2 ^ 30 }
     requires place { n < 2 ^ 31 }
     requires trail { w.old.trailing < 2 ^ 30 }
@@ -313,7 +339,7 @@ pub fn hide_word(at: u32, n: u32, b: u8, w: &mut Walk) -> Result<(), SyntaxFault
 }
 
 /// In the name of a function.
-fn function_name(at: u32, n: u32, b: u8, w: &mut Walk) -> Result<(), SyntaxFault>
+fn function_name(at: u32, n: u32, b: u8, w: &mut ReaderState) -> Result<(), SyntaxFault>
     requires room { length w.old.tokens.items < 2 ^ 31 }
     requires place { n < 2 ^ 31 }
     requires trail { w.old.trailing < 2 ^ 31 }
@@ -331,7 +357,7 @@ fn function_name(at: u32, n: u32, b: u8, w: &mut Walk) -> Result<(), SyntaxFault
 }
 
 /// What this byte at this place makes of the state.
-pub fn list_step(stage: ListStage, n: u32, b: u8, w: &mut Walk) -> Result<(), SyntaxFault>
+pub fn list_step(stage: ListStage, n: u32, b: u8, w: &mut ReaderState) -> Result<(), SyntaxFault>
     requires room { length w.old.tokens.items < 2 ^ 30 }
     requires place { n < 2 ^ 31 }
     requires trail { w.old.trailing < 2 ^ 30 }

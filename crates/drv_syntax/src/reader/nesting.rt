@@ -11,33 +11,33 @@ use crate::fault::SyntaxFault;
 use crate::reader::edits::{close_token, next_open, with_leaf, with_token};
 use crate::reader::naming::{name_call, name_pattern, name_test, name_word};
 use crate::reader::stages::{
-    Behind, Context, Form, Frame, Head, ListKind, ListStage, Open, Stage, StarOwner,
+    Behind, Head, HeadForm, ListContext, ListKind, ListStage, Open, Stage, StarOwner, Suspended,
 };
-use crate::reader::walk::Walk;
+use crate::reader::state::ReaderState;
 use crate::token::TokenKind;
 
 /// The braces can still hold patterns alone.
-pub fn emits(form: Form, negated: bool) -> bool
+pub fn emits(form: HeadForm, negated: bool) -> bool
     ensures { result ≡ turns.emits form negated }
 {
     match form {
-        Form::Fresh | Form::Patterns => !negated,
-        Form::Later | Form::Tests { .. } => false,
+        HeadForm::Fresh | HeadForm::Patterns => !negated,
+        HeadForm::Later | HeadForm::Tests { .. } => false,
     }
 }
 
 /// The braces can still hold alternatives.
-pub fn chooses(form: Form) -> bool
+pub fn chooses(form: HeadForm) -> bool
     ensures { result ≡ turns.chooses form }
 {
     match form {
-        Form::Patterns => false,
-        Form::Fresh | Form::Later | Form::Tests { .. } => true,
+        HeadForm::Patterns => false,
+        HeadForm::Fresh | HeadForm::Later | HeadForm::Tests { .. } => true,
     }
 }
 
 /// After an item that ends at this place, in a list with this context.
-pub fn after_item(c: Context, end: u32, w: &mut Walk)
+pub fn after_item(c: ListContext, end: u32, w: &mut ReaderState)
     ensures { state w.new ≡ steps.after_item c end (state w.old) }
 {
     w.stage = Stage::List(ListStage::Start);
@@ -47,10 +47,10 @@ pub fn after_item(c: Context, end: u32, w: &mut Walk)
     w.trailing = 0;
 }
 
-fn deeper_context(c: Context) -> Context
+fn deeper_context(c: ListContext) -> ListContext
     ensures { result ≡ steps.deeper_context c }
 {
-    Context {
+    ListContext {
         kind: c.kind,
         in_arguments: c.in_arguments,
         owner: c.owner,
@@ -58,10 +58,10 @@ fn deeper_context(c: Context) -> Context
     }
 }
 
-fn arguments_context(c: Context) -> Context
+fn arguments_context(c: ListContext) -> ListContext
     ensures { result ≡ steps.arguments_context c }
 {
-    Context {
+    ListContext {
         kind: ListKind::InArguments,
         in_arguments: true,
         owner: c.owner,
@@ -69,10 +69,10 @@ fn arguments_context(c: Context) -> Context
     }
 }
 
-fn x_context(c: Context, owner: StarOwner) -> Context
+fn x_context(c: ListContext, owner: StarOwner) -> ListContext
     ensures { result ≡ steps.x_context c owner }
 {
-    Context {
+    ListContext {
         kind: ListKind::InX,
         in_arguments: c.in_arguments,
         owner,
@@ -92,7 +92,12 @@ fn brace_token(kind: BraceKind, emitted: bool) -> TokenKind
 }
 
 #[inline(always)]
-fn enter(frame: Frame, c: Context, kept: u32, w: &mut Walk) -> Result<(), SyntaxFault>
+fn enter(
+    frame: Suspended,
+    c: ListContext,
+    kept: u32,
+    w: &mut ReaderState,
+) -> Result<(), SyntaxFault>
     ensures does { Gives SyntaxFault.Memory (λ _. state w.new) result
         (Ok (steps.enter frame c kept (state w.old))) }
     ensures size { OnOk result (length w.new.tokens.items ≤ length w.old.tokens.items) }
@@ -108,7 +113,7 @@ fn enter(frame: Frame, c: Context, kept: u32, w: &mut Walk) -> Result<(), Syntax
 }
 
 /// Braces open.
-pub fn open_braces(start: u32, kind: BraceKind, w: &mut Walk) -> Result<(), SyntaxFault>
+pub fn open_braces(start: u32, kind: BraceKind, w: &mut ReaderState) -> Result<(), SyntaxFault>
     requires room { length w.old.tokens.items < 2 ^ 31 }
     ensures does { Gives SyntaxFault.Memory (λ _. state w.new) result
         (Ok (steps.open_braces start kind (state w.old))) }
@@ -126,7 +131,7 @@ pub fn open_braces(start: u32, kind: BraceKind, w: &mut Walk) -> Result<(), Synt
 }
 
 /// A function's arguments open.
-pub fn open_call(start: u32, w: &mut Walk) -> Result<(), SyntaxFault>
+pub fn open_call(start: u32, w: &mut ReaderState) -> Result<(), SyntaxFault>
     requires room { length w.old.tokens.items < 2 ^ 31 }
     ensures does { Gives SyntaxFault.Memory (λ _. state w.new) result
         (Ok (steps.open_call start (state w.old))) }
@@ -135,7 +140,7 @@ pub fn open_call(start: u32, w: &mut Walk) -> Result<(), SyntaxFault>
     let part = next_open(w, start);
     name_word(&w.word, &mut w.labels)?;
     enter(
-        Frame::Call {
+        Suspended::Call {
             context: w.context,
             part,
         },
@@ -147,21 +152,21 @@ pub fn open_call(start: u32, w: &mut Walk) -> Result<(), SyntaxFault>
 }
 
 /// The alternative of the tests so far, which begins here if there are none.
-pub fn alternative_of(form: Form, start: u32, w: &Walk) -> Open
+pub fn alternative_of(form: HeadForm, start: u32, w: &ReaderState) -> Open
     requires { length w.now.tokens.items < 2 ^ 31 }
     ensures { result ≡ steps.alternative_of form start (state w.now) }
 {
     match form {
-        Form::Tests {
+        HeadForm::Tests {
             alternative: part,
             ..
         } => part,
-        Form::Fresh | Form::Patterns | Form::Later => next_open(w, start),
+        HeadForm::Fresh | HeadForm::Patterns | HeadForm::Later => next_open(w, start),
     }
 }
 
 /// An alternative opens.
-pub fn open_alternative(start: u32, w: &mut Walk) -> Result<(), SyntaxFault>
+pub fn open_alternative(start: u32, w: &mut ReaderState) -> Result<(), SyntaxFault>
     ensures does { Gives SyntaxFault.Memory (λ _. state w.new) result
         (Ok (steps.open_alternative start (state w.old))) }
     ensures size { OnOk result (length w.new.tokens.items ≤ length w.old.tokens.items + 1) }
@@ -171,35 +176,35 @@ pub fn open_alternative(start: u32, w: &mut Walk) -> Result<(), SyntaxFault>
     w.labels.push_none()
 }
 
-fn with_alternative(form: Form, start: u32, w: &mut Walk) -> Result<(), SyntaxFault>
+fn with_alternative(form: HeadForm, start: u32, w: &mut ReaderState) -> Result<(), SyntaxFault>
     ensures does { Gives SyntaxFault.Memory (λ _. state w.new) result
         (Ok (steps.with_alternative form start (state w.old))) }
     ensures size { OnOk result (length w.new.tokens.items ≤ length w.old.tokens.items + 1) }
     ensures trail { OnOk result (w.new.trailing ≤ w.old.trailing) }
 {
     match form {
-        Form::Tests { .. } => Ok(()),
-        Form::Fresh | Form::Patterns | Form::Later => open_alternative(start, w),
+        HeadForm::Tests { .. } => Ok(()),
+        HeadForm::Fresh | HeadForm::Patterns | HeadForm::Later => open_alternative(start, w),
     }
 }
 
 /// All tests so far are starred patterns without `!`.
-pub fn stars(form: Form) -> bool
+pub fn stars(form: HeadForm) -> bool
     ensures { result ≡ steps.stars form }
 {
     match form {
-        Form::Tests { starred, .. } => starred,
-        Form::Fresh | Form::Patterns | Form::Later => true,
+        HeadForm::Tests { starred, .. } => starred,
+        HeadForm::Fresh | HeadForm::Patterns | HeadForm::Later => true,
     }
 }
 
 /// A function's arguments open in a test, with a `!` or without.
 pub fn open_test(
     head: Head,
-    form: Form,
+    form: HeadForm,
     start: u32,
     negated: bool,
-    w: &mut Walk,
+    w: &mut ReaderState,
 ) -> Result<(), SyntaxFault>
     requires room { length w.old.tokens.items < 2 ^ 31 }
     ensures does { Gives SyntaxFault.Memory (λ _. state w.new) result
@@ -212,7 +217,7 @@ pub fn open_test(
     name_call(negated, &w.word, &mut w.labels)?;
     let context = arguments_context(deeper_context(w.context));
     enter(
-        Frame::Test {
+        Suspended::Test {
             context: w.context,
             head,
             alternative,
@@ -297,7 +302,7 @@ pub fn untested(at: u32, behind: Behind) -> SyntaxFault
 
 /// The pattern.
 #[inline(always)]
-pub fn with_pattern(behind: Behind, w: &mut Walk) -> Result<(), SyntaxFault>
+pub fn with_pattern(behind: Behind, w: &mut ReaderState) -> Result<(), SyntaxFault>
     requires { length w.old.tokens.items < 2 ^ 31 }
     ensures does { Gives SyntaxFault.Memory (λ _. state w.new) result
         (Ok (steps.with_pattern behind (state w.old))) }
@@ -310,7 +315,7 @@ pub fn with_pattern(behind: Behind, w: &mut Walk) -> Result<(), SyntaxFault>
 
 /// The pattern, whose word is this one. It stays what it was.
 #[inline(always)]
-pub fn lent_pattern(behind: Behind, word: &[u8], w: &mut Walk) -> Result<(), SyntaxFault>
+pub fn lent_pattern(behind: Behind, word: &[u8], w: &mut ReaderState) -> Result<(), SyntaxFault>
     requires { length w.old.tokens.items < 2 ^ 31 }
     ensures does { Gives SyntaxFault.Memory (λ _. steps.with_word word.now (state w.new)) result
         (Ok (steps.with_pattern behind (steps.with_word word.now (state w.old)))) }
@@ -323,7 +328,12 @@ pub fn lent_pattern(behind: Behind, word: &[u8], w: &mut Walk) -> Result<(), Syn
 
 /// The test, whose word is this one, in its alternative.
 #[inline(always)]
-pub fn lent_test(form: Form, behind: Behind, word: &[u8], w: &mut Walk) -> Result<(), SyntaxFault>
+pub fn lent_test(
+    form: HeadForm,
+    behind: Behind,
+    word: &[u8],
+    w: &mut ReaderState,
+) -> Result<(), SyntaxFault>
     requires { length w.old.tokens.items < 2 ^ 31 }
     ensures does { Gives SyntaxFault.Memory (λ _. steps.with_word word.now (state w.new)) result
         (Ok (steps.with_test form behind (steps.with_word word.now (state w.old)))) }
@@ -337,7 +347,7 @@ pub fn lent_test(form: Form, behind: Behind, word: &[u8], w: &mut Walk) -> Resul
 
 /// The test, in its alternative.
 #[inline(always)]
-pub fn with_test(form: Form, behind: Behind, w: &mut Walk) -> Result<(), SyntaxFault>
+pub fn with_test(form: HeadForm, behind: Behind, w: &mut ReaderState) -> Result<(), SyntaxFault>
     requires { length w.old.tokens.items < 2 ^ 31 }
     ensures does { Gives SyntaxFault.Memory (λ _. state w.new) result
         (Ok (steps.with_test form behind (state w.old))) }
@@ -350,7 +360,7 @@ pub fn with_test(form: Form, behind: Behind, w: &mut Walk) -> Result<(), SyntaxF
 }
 
 /// The braces end here.
-pub fn close_braces(head: Head, emitted: bool, end: u32, c: Context, w: &mut Walk)
+pub fn close_braces(head: Head, emitted: bool, end: u32, c: ListContext, w: &mut ReaderState)
     requires { length w.old.tokens.items < 2 ^ 32 }
     ensures does { state w.new ≡ steps.close_braces head emitted end c (state w.old) }
     ensures size { length w.new.tokens.items ≡ length w.old.tokens.items }
@@ -368,7 +378,7 @@ pub fn ask(
     tested: bool,
     starred: bool,
     colon: u32,
-    w: &mut Walk,
+    w: &mut ReaderState,
 ) -> Result<(), SyntaxFault>
     requires { colon < 2 ^ 31 }
     ensures does { Gives SyntaxFault.Memory (λ _. state w.new) result
@@ -381,7 +391,7 @@ pub fn ask(
         StarOwner::Mixed
     };
     enter(
-        Frame::X {
+        Suspended::X {
             context: w.context,
             head,
             colon,

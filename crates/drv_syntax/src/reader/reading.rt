@@ -12,9 +12,9 @@ use crate::labels::Labels;
 use crate::reader::actions::{Part, Single, Taken};
 use crate::reader::edits::with_part;
 use crate::reader::ending::{Ended, Ending};
-use crate::reader::stages::{Context, Frame, ListKind, ListStage, Stage, StarOwner};
+use crate::reader::stages::{ListContext, ListKind, ListStage, Stage, StarOwner, Suspended};
+use crate::reader::state::ReaderState;
 use crate::reader::turns::turn;
-use crate::reader::walk::Walk;
 use crate::token::Token;
 use std::alloc::Global;
 
@@ -23,7 +23,7 @@ fn end_part(
     taken: Taken,
     start: u32,
     end: u32,
-    w: &mut Walk,
+    w: &mut ReaderState,
 ) -> Result<(), SyntaxFault>
     requires room { length w.old.tokens.items < 2 ^ 30 }
     requires trail { w.old.trailing < 2 ^ 30 }
@@ -49,7 +49,7 @@ fn unclosed(at: u32) -> Result<(), SyntaxFault>
     Err(SyntaxFault::Unclosed(at as usize))
 }
 
-fn finish_list(stage: ListStage, n: u32, w: &mut Walk) -> Result<(), SyntaxFault>
+fn finish_list(stage: ListStage, n: u32, w: &mut ReaderState) -> Result<(), SyntaxFault>
     requires room { length w.old.tokens.items < 2 ^ 30 }
     requires trail { w.old.trailing < 2 ^ 30 }
     ensures does { Gives SyntaxFault.Memory (λ _. state w.new) result
@@ -90,19 +90,19 @@ fn finish_list(stage: ListStage, n: u32, w: &mut Walk) -> Result<(), SyntaxFault
     }
 }
 
-fn place_of(frame: Frame) -> u32
+fn place_of(frame: Suspended) -> u32
     ensures { result ≡ steps.place_of frame }
 {
     match frame {
-        Frame::X { head, .. } => head.part.start,
-        Frame::Call { part, .. } => part.start,
-        Frame::Test { head, .. } => head.part.start,
+        Suspended::X { head, .. } => head.part.start,
+        Suspended::Call { part, .. } => part.start,
+        Suspended::Test { head, .. } => head.part.start,
     }
 }
 
 /// What the state comes to where the text ends, of this size.
 #[tactic(auto, using(crate::proofs::WalkNames::outer_first))]
-fn finish(n: u32, w: &mut Walk) -> Result<(), SyntaxFault>
+fn finish(n: u32, w: &mut ReaderState) -> Result<(), SyntaxFault>
     requires room { length w.old.tokens.items < 2 ^ 30 }
     requires trail { w.old.trailing < 2 ^ 30 }
     ensures does { Gives SyntaxFault.Memory (λ _. state w.new) result
@@ -122,14 +122,14 @@ fn finish(n: u32, w: &mut Walk) -> Result<(), SyntaxFault>
 
 /// Where a text begins, with this room for its parts.
 #[inline(always)]
-fn begun(alloc: Global, tokens: Vec<Token>, labels: Labels) -> Walk
+fn begun(alloc: Global, tokens: Vec<Token>, labels: Labels) -> ReaderState
     requires tokens { tokens.items ≡ [] }
     requires labels { labels ≡ [] }
     ensures { state result ≡ steps.started }
 {
-    Walk {
+    ReaderState {
         stage: Stage::List(ListStage::Start),
-        context: Context {
+        context: ListContext {
             kind: ListKind::Top,
             in_arguments: false,
             owner: StarOwner::Nobody,
@@ -157,7 +157,7 @@ fn first_room(size: usize) -> usize {
 }
 
 /// What the bytes of a text make of a state, the first of which has this place.
-fn read(start: u32, text: &[u8], w: &mut Walk) -> Result<(), SyntaxFault>
+fn read(start: u32, text: &[u8], w: &mut ReaderState) -> Result<(), SyntaxFault>
     requires short { start + length text.now ≤ 1048576 }
     requires room { length w.old.tokens.items ≤ 5 * start + 1 }
     requires trail { w.old.trailing ≤ 5 * start + 1 }
@@ -179,7 +179,7 @@ fn read(start: u32, text: &[u8], w: &mut Walk) -> Result<(), SyntaxFault>
 
 /// The same, and the end of the text after them: how it ends.
 #[tactic(auto, using(crate::proofs::Resuming::walked_to, crate::proofs::Resuming::walk_fails, crate::proofs::Resuming::followed))]
-fn read_to_end(start: u32, text: &[u8], w: &mut Walk) -> Result<Ending, SyntaxFault>
+fn read_to_end(start: u32, text: &[u8], w: &mut ReaderState) -> Result<Ending, SyntaxFault>
     requires short { start + length text.now ≤ 1048576 }
     requires room { length w.old.tokens.items ≤ 5 * start + 1 }
     requires trail { w.old.trailing ≤ 5 * start + 1 }
@@ -199,7 +199,7 @@ fn read_to_end(start: u32, text: &[u8], w: &mut Walk) -> Result<Ending, SyntaxFa
 
 /// What a text comes to, the first bytes of which have come to this state, so many: by the rest of
 /// it.
-pub fn read_after(start: u32, more: &[u8], walk: Walk) -> Result<Ended, SyntaxFault>
+pub fn read_after(start: u32, more: &[u8], walk: ReaderState) -> Result<Ended, SyntaxFault>
     requires short { start + length more.now ≤ 1048576 }
     requires room { length walk.tokens.items ≤ 5 * start + 1 }
     requires trail { walk.trailing ≤ 5 * start + 1 }

@@ -10,9 +10,9 @@ ghost use Rattle.std.specs.List.{prefix_len};
 ghost use Rattle.std.specs.Prelude.{◌≡◌, ◌≤◌, ◌++◌, Ok, length, take};
 
 use crate::fault::SyntaxFault;
-use crate::reader::bytes::{is_name, is_suffix, is_word};
+use crate::reader::bytes::{is_name_byte, is_suffix, is_word};
 use crate::reader::stages::ListKind;
-use crate::reader::walk::Walk;
+use crate::reader::state::ReaderState;
 use bstr::ByteSlice;
 
 /// The byte stands for itself in such a list.
@@ -66,11 +66,11 @@ pub fn said_length(kind: ListKind, text: &[u8]) -> usize
 
 /// How many bytes of a name a text begins with.
 pub fn name_length(text: &[u8]) -> usize
-    ensures run { result ≡ prefix_len bytes.is_name text.now }
+    ensures run { result ≡ prefix_len bytes.is_name_byte text.now }
     ensures within { result ≤ length text.now }
 {
     let mut length = 0;
-    while length < text.len() && is_name(text[length]) {
+    while length < text.len() && is_name_byte(text[length]) {
         length += 1;
     }
     length
@@ -111,7 +111,7 @@ pub fn front(text: &[u8], size: usize) -> &[u8]
 }
 
 /// So many bytes go to the word's end.
-pub fn extend(size: usize, text: &[u8], w: &mut Walk) -> Result<(), SyntaxFault>
+pub fn extend(size: usize, text: &[u8], w: &mut ReaderState) -> Result<(), SyntaxFault>
     requires { size ≤ length text.now }
     ensures does { Gives SyntaxFault.Memory (λ _. state w.new) result
         (Ok (steps.with_word (w.old.word.items ++ take size text.now) (state w.old))) }

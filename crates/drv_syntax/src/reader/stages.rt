@@ -27,7 +27,7 @@ pub enum StarOwner {
 
 /// Where a list of items stands.
 #[derive(Clone, Copy)]
-pub struct Context {
+pub struct ListContext {
     /// What it is.
     pub kind: ListKind,
     /// In arguments at any depth.
@@ -137,7 +137,7 @@ pub struct Head {
 
 /// What braces hold so far.
 #[derive(Clone, Copy)]
-pub enum Form {
+pub enum HeadForm {
     /// Nothing.
     Fresh,
     /// Patterns.
@@ -249,7 +249,7 @@ pub enum Stage {
     /// In braces, to the left of a colon.
     Braces {
         head: Head,
-        form: Form,
+        form: HeadForm,
         stage: HeadStage,
     },
     /// After a test of a function's result, in this alternative; whether the braces can hold
@@ -264,11 +264,11 @@ pub enum Stage {
 /// A directive that waits for the end of a list in it, and the context of the list that it stands
 /// in.
 #[derive(Clone, Copy)]
-pub enum Frame {
+pub enum Suspended {
     /// An X: the braces, the place of the colon, the alternative, whether it has tests, and whether
     /// the X around has a `%*` of its own so far.
     X {
-        context: Context,
+        context: ListContext,
         head: Head,
         colon: u32,
         alternative: Open,
@@ -277,13 +277,13 @@ pub enum Frame {
     },
     /// A function.
     Call {
-        context: Context,
+        context: ListContext,
         part: Open,
     },
     /// A test of a function: the braces, the alternative, the test, and whether the braces can hold
     /// alternatives.
     Test {
-        context: Context,
+        context: ListContext,
         head: Head,
         alternative: Open,
         part: Open,

@@ -10,10 +10,10 @@ use crate::reader::acts::act_result;
 use crate::reader::head_steps::{choice_step, head_step};
 use crate::reader::list_steps::list_step;
 use crate::reader::stages::Stage;
-use crate::reader::walk::Walk;
+use crate::reader::state::ReaderState;
 
 /// What the byte at this place makes of the state.
-pub fn step(n: u32, b: u8, w: &mut Walk) -> Result<(), SyntaxFault>
+pub fn step(n: u32, b: u8, w: &mut ReaderState) -> Result<(), SyntaxFault>
     requires room { length w.old.tokens.items < 2 ^ 30 }
     requires place { n < 2 ^ 31 }
     requires trail { w.old.trailing < 2 ^ 30 }

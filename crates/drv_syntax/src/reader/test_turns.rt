@@ -11,19 +11,19 @@ use crate::reader::acts::act_lent;
 use crate::reader::bytes::{begins_word, ends_word};
 use crate::reader::head_steps::{after_test, at, test_word};
 use crate::reader::runs::{extend, front, word_length};
-use crate::reader::stages::{Behind, Form, Head, HeadStage, Stage};
-use crate::reader::walk::Walk;
+use crate::reader::stages::{Behind, Head, HeadForm, HeadStage, Stage};
+use crate::reader::state::ReaderState;
 
 /// After the word of a test: what ends it, with the byte after a star.
 #[inline(always)]
 fn word_end(
     head: Head,
-    form: Form,
+    form: HeadForm,
     start: u32,
     negated: bool,
     n: u32,
     text: &[u8],
-    w: &mut Walk,
+    w: &mut ReaderState,
 ) -> Result<usize, SyntaxFault>
     requires here { w.old.stage ≡ Stage.Braces head form (HeadStage.TestWord start negated) }
     requires room { length w.old.tokens.items < 2 ^ 29 }
@@ -56,12 +56,12 @@ fn word_end(
 #[inline(never)]
 pub fn word_turn(
     head: Head,
-    form: Form,
+    form: HeadForm,
     start: u32,
     negated: bool,
     n: u32,
     text: &[u8],
-    w: &mut Walk,
+    w: &mut ReaderState,
 ) -> Result<usize, SyntaxFault>
     requires here { w.old.stage ≡ Stage.Braces head form (HeadStage.TestWord start negated) }
     requires room { length w.old.tokens.items < 2 ^ 29 }
@@ -90,13 +90,13 @@ pub fn word_turn(
 #[inline(never)]
 fn put_end(
     head: Head,
-    form: Form,
+    form: HeadForm,
     start: u32,
     negated: bool,
     word: &[u8],
     n: u32,
     text: &[u8],
-    w: &mut Walk,
+    w: &mut ReaderState,
 ) -> Result<usize, SyntaxFault>
     requires room { length w.old.tokens.items < 2 ^ 29 }
     requires place { n + length text.now < 2 ^ 30 }
@@ -117,13 +117,13 @@ fn put_end(
 #[inline(always)]
 fn lent_end(
     head: Head,
-    form: Form,
+    form: HeadForm,
     start: u32,
     negated: bool,
     word: &[u8],
     n: u32,
     text: &[u8],
-    w: &mut Walk,
+    w: &mut ReaderState,
 ) -> Result<usize, SyntaxFault>
     requires room { length w.old.tokens.items < 2 ^ 29 }
     requires place { n + length text.now < 2 ^ 30 }
@@ -163,12 +163,12 @@ fn lent_end(
 #[inline(never)]
 fn begun_turn(
     head: Head,
-    form: Form,
+    form: HeadForm,
     start: u32,
     negated: bool,
     n: u32,
     text: &[u8],
-    w: &mut Walk,
+    w: &mut ReaderState,
 ) -> Result<usize, SyntaxFault>
     requires word { bytes.is_word (get_or text.now 0 0) ≡ true }
     requires begins { steps.step (state w.old) n (get_or text.now 0 0)
@@ -200,10 +200,10 @@ fn begun_turn(
 #[inline(always)]
 fn mark_turn(
     head: Head,
-    form: Form,
+    form: HeadForm,
     n: u32,
     text: &[u8],
-    w: &mut Walk,
+    w: &mut ReaderState,
 ) -> Result<usize, SyntaxFault>
     requires some { 0 < length text.now }
     requires begins { steps.step (state w.old) n (get_or text.now 0 0)
@@ -229,7 +229,7 @@ pub fn choice_turn(
     later: bool,
     n: u32,
     text: &[u8],
-    w: &mut Walk,
+    w: &mut ReaderState,
 ) -> Result<usize, SyntaxFault>
     requires here { w.old.stage ≡ Stage.Choice head later }
     requires room { length w.old.tokens.items < 2 ^ 29 }
@@ -243,7 +243,11 @@ pub fn choice_turn(
     if text.is_empty() {
         return Ok(0);
     }
-    let form = if later { Form::Later } else { Form::Fresh };
+    let form = if later {
+        HeadForm::Later
+    } else {
+        HeadForm::Fresh
+    };
     if text[0] == b'!' {
         return mark_turn(head, form, n, text, w);
     }
@@ -257,10 +261,10 @@ pub fn choice_turn(
 #[inline(always)]
 pub fn due_turn(
     head: Head,
-    form: Form,
+    form: HeadForm,
     n: u32,
     text: &[u8],
-    w: &mut Walk,
+    w: &mut ReaderState,
 ) -> Result<usize, SyntaxFault>
     requires here { w.old.stage ≡ Stage.Braces head form HeadStage.TestDue }
     requires room { length w.old.tokens.items < 2 ^ 29 }
@@ -281,11 +285,11 @@ pub fn due_turn(
 #[inline(always)]
 pub fn negated_turn(
     head: Head,
-    form: Form,
+    form: HeadForm,
     start: u32,
     n: u32,
     text: &[u8],
-    w: &mut Walk,
+    w: &mut ReaderState,
 ) -> Result<usize, SyntaxFault>
     requires here { w.old.stage ≡ Stage.Braces head form (HeadStage.TestNegated start) }
     requires room { length w.old.tokens.items < 2 ^ 29 }

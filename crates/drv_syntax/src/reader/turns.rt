@@ -16,9 +16,9 @@ use crate::reader::runs::{
     extend, front, name_length, run_length, said_length, suffix_length, word_length,
 };
 use crate::reader::stages::{HeadStage, ListStage, Stage};
+use crate::reader::state::ReaderState;
 use crate::reader::steps::step;
 use crate::reader::test_turns::{choice_turn, due_turn, negated_turn, word_turn};
-use crate::reader::walk::Walk;
 use crate::token::TempKind;
 
 /// In a suffix: the rest of it, and the byte after it.
@@ -28,7 +28,7 @@ fn suffix_turn(
     kind: TempKind,
     n: u32,
     text: &[u8],
-    w: &mut Walk,
+    w: &mut ReaderState,
 ) -> Result<usize, SyntaxFault>
     requires here { w.old.stage ≡ Stage.List (ListStage.SuffixRun at kind) }
     requires room { length w.old.tokens.items < 2 ^ 29 }
@@ -50,7 +50,7 @@ fn suffix_turn(
 
 /// In the name of a text: the rest of it, and the byte after it.
 #[inline(never)]
-fn name_turn(at: u32, n: u32, text: &[u8], w: &mut Walk) -> Result<usize, SyntaxFault>
+fn name_turn(at: u32, n: u32, text: &[u8], w: &mut ReaderState) -> Result<usize, SyntaxFault>
     requires here { w.old.stage ≡ Stage.List (ListStage.NameText at) }
     requires room { length w.old.tokens.items < 2 ^ 29 }
     requires place { n + length text.now < 2 ^ 30 }
@@ -74,7 +74,7 @@ fn name_turn(at: u32, n: u32, text: &[u8], w: &mut Walk) -> Result<usize, Syntax
 
 /// After `%(`: the name of a text, and the parenthesis after it.
 #[inline(always)]
-fn named_turn(at: u32, n: u32, inside: &[u8], w: &mut Walk) -> Result<usize, SyntaxFault>
+fn named_turn(at: u32, n: u32, inside: &[u8], w: &mut ReaderState) -> Result<usize, SyntaxFault>
     requires room { length w.old.tokens.items < 2 ^ 28 }
     requires place { n + length inside.now < 2 ^ 30 }
     requires trail { w.old.trailing < 2 ^ 28 }
@@ -97,7 +97,7 @@ fn named_turn(at: u32, n: u32, inside: &[u8], w: &mut Walk) -> Result<usize, Syn
 
 /// In the word of `%<`: the rest of it, and the byte after it.
 #[inline(never)]
-fn hide_turn(at: u32, n: u32, text: &[u8], w: &mut Walk) -> Result<usize, SyntaxFault>
+fn hide_turn(at: u32, n: u32, text: &[u8], w: &mut ReaderState) -> Result<usize, SyntaxFault>
     requires here { w.old.stage ≡ Stage.List (ListStage.HideWord at) }
     requires room { length w.old.tokens.items < 2 ^ 29 }
     requires place { n + length text.now < 2 ^ 30 }
@@ -123,7 +123,7 @@ fn saying_turn(
     kind: SayKind,
     n: u32,
     text: &[u8],
-    w: &mut Walk,
+    w: &mut ReaderState,
 ) -> Result<usize, SyntaxFault>
     requires here { w.old.stage ≡ Stage.List (ListStage.SayingText at kind) }
     requires room { length w.old.tokens.items < 2 ^ 29 }
@@ -151,7 +151,7 @@ fn begins_directive(text: &[u8]) -> bool {
 
 /// Where an item begins: the bytes that stand for themselves.
 #[inline(always)]
-fn plain_turn(n: u32, text: &[u8], w: &mut Walk) -> Result<usize, SyntaxFault>
+fn plain_turn(n: u32, text: &[u8], w: &mut ReaderState) -> Result<usize, SyntaxFault>
     requires here { w.old.stage ≡ Stage.List ListStage.Start }
     requires room { length w.old.tokens.items < 2 ^ 29 }
     requires place { n + length text.now < 2 ^ 30 }
@@ -171,7 +171,7 @@ fn plain_turn(n: u32, text: &[u8], w: &mut Walk) -> Result<usize, SyntaxFault>
 /// What the first bytes of a text make of the state, where they go on as the byte before them did,
 /// with the byte after them: how many.
 #[inline(always)]
-pub fn run(n: u32, text: &[u8], w: &mut Walk) -> Result<usize, SyntaxFault>
+pub fn run(n: u32, text: &[u8], w: &mut ReaderState) -> Result<usize, SyntaxFault>
     requires room { length w.old.tokens.items < 2 ^ 29 }
     requires place { n + length text.now < 2 ^ 30 }
     requires trail { w.old.trailing < 2 ^ 29 }
@@ -201,7 +201,7 @@ pub fn run(n: u32, text: &[u8], w: &mut Walk) -> Result<usize, SyntaxFault>
 /// What the byte at this place and those that go on as it did make of the state: how many of those
 /// after it.
 #[inline(never)]
-fn byte_turn(n: u32, b: u8, behind: &[u8], w: &mut Walk) -> Result<usize, SyntaxFault>
+fn byte_turn(n: u32, b: u8, behind: &[u8], w: &mut ReaderState) -> Result<usize, SyntaxFault>
     requires room { length w.old.tokens.items < 2 ^ 28 }
     requires place { n + 1 + length behind.now < 2 ^ 30 }
     requires trail { w.old.trailing < 2 ^ 28 }
@@ -217,7 +217,7 @@ fn byte_turn(n: u32, b: u8, behind: &[u8], w: &mut Walk) -> Result<usize, Syntax
 
 /// The `%` of an item at this place, and what goes on after it: how many bytes of that.
 #[inline(always)]
-fn percent_turn(n: u32, behind: &[u8], w: &mut Walk) -> Result<usize, SyntaxFault>
+fn percent_turn(n: u32, behind: &[u8], w: &mut ReaderState) -> Result<usize, SyntaxFault>
     requires here { w.old.stage ≡ Stage.List ListStage.Start }
     requires room { length w.old.tokens.items < 2 ^ 28 }
     requires place { n + 1 + length behind.now < 2 ^ 30 }
@@ -241,7 +241,7 @@ fn percent_turn(n: u32, behind: &[u8], w: &mut Walk) -> Result<usize, SyntaxFaul
 
 /// The same, with the name of a text or the first word of braces in the same turn.
 #[inline(always)]
-fn directive_turn(n: u32, behind: &[u8], w: &mut Walk) -> Result<usize, SyntaxFault>
+fn directive_turn(n: u32, behind: &[u8], w: &mut ReaderState) -> Result<usize, SyntaxFault>
     requires here { w.old.stage ≡ Stage.List ListStage.Start }
     requires room { length w.old.tokens.items < 2 ^ 28 }
     requires place { n + 1 + length behind.now < 2 ^ 30 }
@@ -269,7 +269,7 @@ fn directive_turn(n: u32, behind: &[u8], w: &mut Walk) -> Result<usize, SyntaxFa
 /// Where an item begins, at a byte that does not stand for itself: what it and those that go on
 /// after it make of the state: how many of those after it.
 #[inline(always)]
-fn first_turn(n: u32, b: u8, behind: &[u8], w: &mut Walk) -> Result<usize, SyntaxFault>
+fn first_turn(n: u32, b: u8, behind: &[u8], w: &mut ReaderState) -> Result<usize, SyntaxFault>
     requires here { w.old.stage ≡ Stage.List ListStage.Start }
     requires room { length w.old.tokens.items < 2 ^ 28 }
     requires place { n + 1 + length behind.now < 2 ^ 30 }
@@ -290,7 +290,13 @@ fn first_turn(n: u32, b: u8, behind: &[u8], w: &mut Walk) -> Result<usize, Synta
 /// Where an item begins, at a byte that is no `%`: what this byte and those that go on after it
 /// make of the state: how many of those after it.
 #[inline(always)]
-fn start_turn(n: u32, b: u8, text: &[u8], behind: &[u8], w: &mut Walk) -> Result<usize, SyntaxFault>
+fn start_turn(
+    n: u32,
+    b: u8,
+    text: &[u8],
+    behind: &[u8],
+    w: &mut ReaderState,
+) -> Result<usize, SyntaxFault>
     requires here { w.old.stage ≡ Stage.List ListStage.Start }
     requires text { text.now ≡ b ∷ behind.now }
     requires longer { length text.now ≡ 1 + length behind.now }
@@ -320,7 +326,13 @@ fn start_turn(n: u32, b: u8, text: &[u8], behind: &[u8], w: &mut Walk) -> Result
 /// What the first byte of a text, at this place, and some of those after it make of the state: how
 /// many of those after it.
 #[inline(always)]
-pub fn turn(n: u32, b: u8, text: &[u8], behind: &[u8], w: &mut Walk) -> Result<usize, SyntaxFault>
+pub fn turn(
+    n: u32,
+    b: u8,
+    text: &[u8],
+    behind: &[u8],
+    w: &mut ReaderState,
+) -> Result<usize, SyntaxFault>
     requires text { text.now ≡ b ∷ behind.now }
     requires longer { length text.now ≡ 1 + length behind.now }
     requires room { length w.old.tokens.items < 2 ^ 28 }

@@ -1,18 +1,18 @@
 //! The state in which a text is read.
 
 use crate::labels::Labels;
-use crate::reader::stages::{Context, Frame, Stage};
+use crate::reader::stages::{ListContext, Stage, Suspended};
 use crate::token::Token;
 
 /// What has been read of a text.
 #[derive(Drop)]
-pub struct Walk {
+pub struct ReaderState {
     /// Where the next byte stands.
     pub stage: Stage,
     /// The context of the innermost list.
-    pub context: Context,
+    pub context: ListContext,
     /// The directives that wait for the end of a list in them, outermost first.
-    pub waiting: Vec<Frame>,
+    pub waiting: Vec<Suspended>,
     /// The tokens, with those that are still open.
     pub tokens: Vec<Token>,
     /// Their labels.
