@@ -38,7 +38,7 @@ fn add_pair(
 }
 
 /// Adds two texts as one word.
-fn add_word(
+fn add_joined(
     alloc: Global,
     words: &mut Listing<Word>,
     prefix: &[u8],
@@ -83,7 +83,7 @@ impl Front {
     pub(crate) fn add_flag(&mut self, alloc: Global, word: &[u8]) -> Result<(), AllocError>
         ensures { OnOk result (self.new ≡ with_items self.old (Passed (word.now ∷ []) ∷ [])) }
     {
-        add_word(alloc, &mut self.others, b"", word)
+        add_joined(alloc, &mut self.others, b"", word)
     }
 
     /// Adds an operand.
@@ -97,7 +97,7 @@ impl Front {
             ≡ with_items self.old (Operand (prefix.now ++ word.now) ∷ [])) }
     {
         self.has_operand = true;
-        add_word(alloc, &mut self.others, prefix, word)
+        add_joined(alloc, &mut self.others, prefix, word)
     }
 
     /// Adds an option and its argument.
@@ -119,7 +119,7 @@ impl Front {
             Taking::Level if !is_level(argument) => {
                 return Err(C99Fault::BadLevel(Word::from_bytes(alloc, argument)?));
             }
-            Taking::Level => add_word(alloc, &mut self.others, b"-O", argument),
+            Taking::Level => add_joined(alloc, &mut self.others, b"-O", argument),
             Taking::Library if argument.is_empty() => return Err(missing_argument(alloc, option)),
             Taking::Library => self.add_operand(alloc, b"-l", argument),
         };
