@@ -1,6 +1,6 @@
 use Rattle.drv_machine.proofs.Runs.{Course, bare, breaks, breaks_bare, course, moved, moves, opened_by, over, pipes, pipes_bare, with_word}
 use Rattle.drv_machine.specs.Context.{Context}
-use Rattle.drv_machine.specs.Cuts.{Enclosed, Failure, File, ends_word, open_after, open_behind, open_parts}
+use Rattle.drv_machine.specs.Cuts.{Enclosed, Failure, File, ends_word, open_after, open_behind}
 use Rattle.drv_machine.specs.Cutting.{Cut, Line, all_taken, file_done, inside_done, line_ended, nothing_cut, pipe_done, pipe_ended}
 use Rattle.drv_machine.specs.Working.{Atom, Break, End, FileFrom, FileTo, From, Marked, Open, Piped, Put, To, Without}
 use Rattle.drv_system.specs.Facts.{Facts}
@@ -9,6 +9,10 @@ use Rattle.std.proofs.Common.{◌≡◌, ◌∙◌, List, [], ◌∷◌, None, O
 use Rattle.std.specs.Prelude.{option_and_then, option_to_list}
 
 -- A cut has as many %W and files open as the list of its atoms.
+
+abbrev pub open_parts : Enclosed → Cut → ℕ
+open_parts Failure c = length c.inside
+open_parts File c = length (option_to_list c.outer)
 
 to_parts : (inside : List (Option (List ℕ))) (c : Cut) (rest : ℕ → Option ℕ) (n : ℕ) → option_and_then rest (open_after To Failure (length inside)) ≡ Some n
     → rest (length (inside_done inside c).inside) ≡ Some n

@@ -1,11 +1,11 @@
 use Rattle.drv_machine.specs.Context.{Context}
-use Rattle.drv_machine.specs.Cutting.{Cut, Line, NamedLine, found_file, found_script, named_line, no_line, script_option}
+use Rattle.drv_machine.specs.Cutting.{Line, NamedLine, found_file, found_script, named_line, no_line, script_option}
 use Rattle.drv_machine.specs.Working.{◌>>-◌, Answer, Atom, Break, End, FileFrom, FileTo, From, Goes, Marked, Open, Piped, Put, Refuses, To, Waits, Without, Work}
 use Rattle.drv_machine.specs.declared.machine.marking.Mark.TheVariants.{AsFile, AsOutput, AsRemoved, AsScript}
 use Rattle.drv_system.specs.Facts.{Facts}
 use Rattle.drv_system.specs.Known.{Is}
 use Rattle.std.specs.List.{filter, filter_map, flat_map, list_any}
-use Rattle.std.specs.Prelude.{◌≡◌, ◌&&◌, ◌||◌, Bool, List, [], ◌∷◌, ◌++◌, Option, None, Some, Ok, false, if◌then◌else◌, is_some, length, not, option_and_then, option_to_list, suc, true, zero, ℕ}
+use Rattle.std.specs.Prelude.{◌≡◌, ◌&&◌, ◌||◌, Bool, List, [], ◌∷◌, ◌++◌, Option, None, Some, Ok, false, if◌then◌else◌, is_some, not, option_and_then, suc, true, zero, ℕ}
 
 -- What a list of atoms is cut into, said of the list as it stands (this project's profile). `Cutting` says it atom by atom.
 
@@ -306,11 +306,6 @@ open_after atom enclosed count = Some count
 abbrev pub open_behind : List Atom → Enclosed → ℕ → Option ℕ
 open_behind [] enclosed count = Some count
 open_behind (atom ∷ atoms) enclosed count = option_and_then (λ left. open_behind atoms enclosed left) (open_after atom enclosed count)
-
--- how many of them a cut has open
-abbrev pub open_parts : Enclosed → Cut → ℕ
-open_parts Failure c = length c.inside
-open_parts File c = length (option_to_list c.outer)
 
 -- None ends that is not open, and no file begins in another. Where work goes to its end, none is left open.
 abbrev pub Balanced : {X : Type 0} → Work X → Type 0

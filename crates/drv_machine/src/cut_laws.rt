@@ -2,11 +2,11 @@
 
 ghost use Rattle.drv_machine.specs.Atoms.{atoms, items_step, levels_left};
 ghost use Rattle.drv_machine.specs.Context as specs;
-ghost use Rattle.drv_machine.specs.Cuts.{Balanced, Enclosed, Stretch, Stretched, begins_file};
+ghost use Rattle.drv_machine.specs.Cuts.{Balanced, Failure, File, Stretch, Stretched, begins_file};
 ghost use Rattle.drv_machine.specs.Cuts.{bounds_file, each, failure_files, has_stray_pipe, if_any};
 ghost use Rattle.drv_machine.specs.Cuts.{is_broken, line_of, lines, open_behind, open_command};
-ghost use Rattle.drv_machine.specs.Cuts.{open_parts, output, path, path_of, removed, stretch_atoms};
-ghost use Rattle.drv_machine.specs.Cuts.{texts, whether, without_file, words};
+ghost use Rattle.drv_machine.specs.Cuts.{output, path, path_of, removed, stretch_atoms, texts};
+ghost use Rattle.drv_machine.specs.Cuts.{whether, without_file, words};
 ghost use Rattle.drv_machine.specs.Cutting.{Cut, all_taken, argument_words, file_words};
 ghost use Rattle.drv_machine.specs.Cutting.{nothing_cut};
 ghost use Rattle.drv_machine.specs.Outcome.{outcome};
@@ -17,7 +17,8 @@ ghost use Rattle.drv_syntax.specs.Tree.{Items};
 ghost use Rattle.drv_system.specs.Facts.{Facts};
 ghost use Rattle.drv_system.specs.Known.{Is};
 ghost use Rattle.std.specs.List.{flat_map, list_any};
-ghost use Rattle.std.specs.Prelude.{◌≡◌, ◌∷◌, ◌++◌, [], List, Ok, Some, false, ℕ};
+ghost use Rattle.std.specs.Prelude.{◌≡◌, ◌∷◌, ◌++◌, [], List, Ok, Some, false, length};
+ghost use Rattle.std.specs.Prelude.{option_to_list, ℕ};
 
 /// The law that a list of atoms is cut as the list as it stands says: the output is the last word
 /// that is marked as one and begins after the last `%V`, the removed files are the words that are
@@ -37,9 +38,12 @@ pub fn cut_law()
         → each (path_of F C) (failure_files atoms) ≡ Is (Ok c.on_failure) }
     ensures found { (F : Facts) (C : specs.Context) (atoms : List Atom)
         → whether (all_taken F C nothing_cut atoms) ≡ whether (each (path F C) (words atoms)) }
-    ensures opened { (F : Facts) (C : specs.Context) (atoms : List Atom) (c : Cut)
-        (enclosed : Enclosed) (n : ℕ) → all_taken F C nothing_cut atoms ≡ Is (Ok c)
-        → open_behind atoms enclosed 0 ≡ Some n → open_parts enclosed c ≡ n }
+    ensures inside { (F : Facts) (C : specs.Context) (atoms : List Atom) (c : Cut) (n : ℕ)
+        → all_taken F C nothing_cut atoms ≡ Is (Ok c) → open_behind atoms Failure 0 ≡ Some n
+        → length c.inside ≡ n }
+    ensures outer { (F : Facts) (C : specs.Context) (atoms : List Atom) (c : Cut) (n : ℕ)
+        → all_taken F C nothing_cut atoms ≡ Is (Ok c) → open_behind atoms File 0 ≡ Some n
+        → length (option_to_list c.outer) ≡ n }
 {}
 
 /// The law that a list of atoms in which no file begins is cut into the commands that the list as

@@ -2,6 +2,7 @@ use Rattle.drv_machine.proofs.CutFailures.{failures_are}
 use Rattle.drv_machine.proofs.CutOpen.{open_are}
 use Rattle.drv_machine.proofs.CutRuns.{each_found, output_is, removed_are}
 use Rattle.drv_machine.proofs.cut_laws.cut_law.Goals as goal
+use Rattle.drv_machine.specs.Cuts.{Failure, File}
 
 pub returns-clause-output : goal.returns-clause-output
 returns-clause-output c = output_is
@@ -15,5 +16,8 @@ returns-clause-failures c = failures_are
 pub returns-clause-found : goal.returns-clause-found
 returns-clause-found c = each_found
 
-pub returns-clause-opened : goal.returns-clause-opened
-returns-clause-opened c F C atoms cut enclosed n = open_are F C atoms cut enclosed n
+pub returns-clause-inside : goal.returns-clause-inside
+returns-clause-inside c F C atoms cut n = open_are F C atoms cut Failure n
+
+pub returns-clause-outer : goal.returns-clause-outer
+returns-clause-outer c F C atoms cut n = open_are F C atoms cut File n
