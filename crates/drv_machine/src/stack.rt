@@ -55,6 +55,18 @@ impl<'a> Stack<'a> {
         }
     }
 
+    /// The first part is open. It is out of line, so that other pushes have no room for a table.
+    #[inline(never)]
+    fn push_first(&mut self, frame: Frame<'a>) -> Result<(), AllocError>
+        requires { self.old ≡ [] }
+        ensures { OnOk result (self.new ≡ frame.entry ∷ []) }
+    {
+        let mut table = new_table(self.alloc)?;
+        table.push(frame);
+        self.table = Some(table);
+        Ok(())
+    }
+
     /// One more part is open.
     ///
     /// # Errors
@@ -68,12 +80,10 @@ impl<'a> Stack<'a> {
         if self.is_full() {
             return Err(MachineFault::SpecTooDeep);
         }
-        let mut table = match self.table.take() {
-            Some(table) => table,
-            None => new_table(self.alloc)?,
-        };
-        table.push(frame);
-        self.table = Some(table);
+        match &mut self.table {
+            Some(table) => table.push(frame),
+            None => self.push_first(frame)?,
+        }
         Ok(())
     }
 
@@ -82,9 +92,9 @@ impl<'a> Stack<'a> {
         ensures items { self.old ≡ self.new ++ option_to_list result }
         ensures variant { IsSome result ↔ (0 < length self.old) }
     {
-        let mut table = self.table.take()?;
-        let frame = table.pop();
-        self.table = Some(table);
-        frame
+        match &mut self.table {
+            Some(table) => table.pop(),
+            None => None,
+        }
     }
 }
