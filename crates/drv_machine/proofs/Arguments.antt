@@ -8,7 +8,7 @@ use Rattle.drv_machine.specs.Cutting.{Cut, all_taken, nothing_cut}
 use Rattle.drv_machine.specs.Code.Running.{Machine, done, run}
 use Rattle.drv_machine.specs.Code.Standing.{Stands}
 use Rattle.drv_machine.specs.Code.Walking.{Around, Behind, Framed, Kept, Left, Lies, OpenedFits, arguments_of, asked_on, back_at, back_of, after_arguments, closing, ends, levels_in, nothing_kept, onward, star_of, text_around}
-use Rattle.drv_machine.specs.Working.{◌>>-◌, ◌>>=◌, ◌>>◌, Answer, Break, Goes, Levels, Refuses, Step, Waits, Work, follow, most_open, needs, puts}
+use Rattle.drv_machine.specs.Working.{◌>>-◌, ◌>>=◌, ◌>>◌, Answer, Break, Goes, Levels, Refuses, Step, Waits, Worked, follow, most_open, needs, puts}
 use Rattle.drv_machine.specs.declared.fault.MachineFault.TheVariants.{Memory, SpecTooDeep}
 use Rattle.drv_machine.specs.declared.fault.MachineFault.{MachineFault}
 use Rattle.drv_machine.specs.declared.walk.Opened.{Opened}
@@ -23,7 +23,7 @@ use Rattle.std.proofs.Common.{◌≡◌, ◌⊎◌, ◌<◌, ◌+◌, ◌-◌, �
 -- Arguments: they are cut by the law of the text, in a cut of their own.
 
 module _ (F : Facts) (C : Context) where
-  arguments_done : (s : Machine) (work : Work (Unit {0})) → done F C s.cut (words_of F C s.world work) ≡ (done F C nothing_cut (follow work (λ u. puts (Break ∷ []))) >>- back_at F C s.cut)
+  arguments_done : (s : Machine) (work : Worked (Unit {0})) → done F C s.cut (words_of F C s.world work) ≡ (done F C nothing_cut (follow work (λ u. puts (Break ∷ []))) >>- back_at F C s.cut)
   arguments_done s (Goes atoms u v) = by (all_taken F C nothing_cut (atoms ++ Break ∷ []))
     where
       by : (x : Answer Cut) → done F C s.cut (needs (x >>- λ c. Is (Ok c.line.words)) v) ≡ ((x >>- λ d. Is (Ok (tt, record { cut = d; world = v }))) >>- back_at F C s.cut)

@@ -3,7 +3,7 @@ use Rattle.drv_machine.proofs.Laws.{all_taken-append, then_same, then_then}
 use Rattle.drv_machine.proofs.Runs.{Course, Opened, any_after, bare, bare_ends, breaks, breaks_bare, broken_is, course, ended_as, moved, moves, name_of, open_in, opened_by, over, pipes, pipes_bare, with_word, word_ends, words_moved}
 use Rattle.drv_machine.specs.Context.{Context}
 use Rattle.drv_machine.specs.Cuts.{Bare, Filed, Run, Stretch, begins_file, bounds_file, each, has_stray_pipe, is_broken, is_script, line_of, lines, open_command, opens_word, path, stretch_atoms, texts, without_file, words, words_after}
-use Rattle.drv_machine.specs.Cutting.{Cut, Line, NamedLine, all_taken, argument_words, broken, file_begun, file_done, file_words, found_file, found_script, inside_done, line_ended, no_marks, nothing_cut, pipe_done, pipe_ended, script_option, taken, word_done, words_in_file}
+use Rattle.drv_machine.specs.Cutting.{Cut, CutLine, NamedLine, all_taken, argument_words, broken, file_begun, file_done, file_words, found_file, found_script, inside_done, line_ended, no_marks, nothing_cut, pipe_done, pipe_ended, script_option, taken, word_done, words_in_file}
 use Rattle.drv_machine.specs.Working.{◌>>-◌, Answer, Atom, Break, End, FileFrom, FileTo, From, Marked, Open, Piped, Put, To, Without}
 use Rattle.drv_machine.specs.declared.machine.marking.Marking.{Marking}
 use Rattle.drv_system.specs.Facts.{Facts}
@@ -24,7 +24,7 @@ inside_plain [] c = refl
 inside_plain (None ∷ outer) c = refl
 inside_plain (Some last ∷ outer) c = refl
 
-end_plain : (c : Cut) (outer : Option Line) → plain (line_ended (record c { outer = outer })) ≡ plain (line_ended (record (plain c) { outer = outer }))
+end_plain : (c : Cut) (outer : Option CutLine) → plain (line_ended (record c { outer = outer })) ≡ plain (line_ended (record (plain c) { outer = outer }))
 end_plain c None = refl
 end_plain c (Some line) = refl
 
@@ -32,11 +32,11 @@ pipe_words_plain : (c : Cut) (words : List (List ℕ)) → plain (pipe_done (rec
 pipe_words_plain c [] = refl
 pipe_words_plain c (w ∷ ws) = refl
 
-pipe_plain : (c : Cut) (outer : Option Line) → plain (pipe_ended (record c { outer = outer })) ≡ plain (pipe_ended (record (plain c) { outer = outer }))
+pipe_plain : (c : Cut) (outer : Option CutLine) → plain (pipe_ended (record c { outer = outer })) ≡ plain (pipe_ended (record (plain c) { outer = outer }))
 pipe_plain c None = pipe_words_plain (record c { outer = None }) c.line.words
 pipe_plain c (Some line) = refl
 
-file_plain : (c : Cut) (outer : Option Line) → plain (file_done (record c { outer = outer })) ≡ plain (file_done (record (plain c) { outer = outer }))
+file_plain : (c : Cut) (outer : Option CutLine) → plain (file_done (record c { outer = outer })) ≡ plain (file_done (record (plain c) { outer = outer }))
 file_plain c None = refl
 file_plain c (Some line) = refl
 
@@ -122,18 +122,18 @@ came (Is (Err fault)) next y e = absurd cc
 came Unasked next y e = absurd cc
 
 -- in a file no command ends, nor with a pipe
-end_in_file : (c : Cut) (outer : Option Line) (l : Line) → outer ≡ Some l → line_ended (record c { outer = outer }) ≡ record c { outer = outer }
+end_in_file : (c : Cut) (outer : Option CutLine) (l : CutLine) → outer ≡ Some l → line_ended (record c { outer = outer }) ≡ record c { outer = outer }
 end_in_file c None l e = absurd cc
 end_in_file c (Some line) l e = refl
 
-pipe_in_file : (c : Cut) (outer : Option Line) (l : Line) → outer ≡ Some l → pipe_ended (record c { outer = outer }) ≡ record c { outer = outer }
+pipe_in_file : (c : Cut) (outer : Option CutLine) (l : CutLine) → outer ≡ Some l → pipe_ended (record c { outer = outer }) ≡ record c { outer = outer }
 pipe_in_file c None l e = absurd cc
 pipe_in_file c (Some line) l e = refl
 
 no_pipe_yet : (c : Cut) → c.line.piped ≡ false → record (lined c) { stray = c.stray || c.line.piped } ≡ lined c
 no_pipe_yet c e = ap (λ (b : Bool). record (lined c) { stray = c.stray || b }) e ∙ ap (λ (b : Bool). record (lined c) { stray = b }) (or_none c.stray)
 
-moved_in_file : (c : Cut) (atom : Atom) (l : Line) → bounds_file atom ≡ false → c.outer ≡ Some l → c.line.piped ≡ false → lined (moved c atom) ≡ lined c
+moved_in_file : (c : Cut) (atom : Atom) (l : CutLine) → bounds_file atom ≡ false → c.outer ≡ Some l → c.line.piped ≡ false → lined (moved c atom) ≡ lined c
 moved_in_file c (Put b) l n o p = no_pipe_yet c p
 moved_in_file c Open l n o p = no_pipe_yet c p
 moved_in_file c Break l n o p = refl
@@ -186,7 +186,7 @@ module _ (F : Facts) (C : Context) where
   bare_within : (l m : Lined) (run atoms : List Atom) → list_any opens_word run ≡ false → Within F C l m (words_after [] atoms) → Within F C l m (words_after run (Break ∷ atoms))
   bare_within l m run atoms none rest = subst (λ (found : List Run). Within F C l m found) (sym (bare_ends run atoms none)) rest
 
-  pub within : {run atoms : List Atom} {c d : Cut} → Course F C run c atoms d → list_any bounds_file atoms ≡ false → (l : Line) → c.outer ≡ Some l → c.line.piped ≡ false → Within F C (lined c) (lined d) (words_after run atoms)
+  pub within : {run atoms : List Atom} {c d : Cut} → Course F C run c atoms d → list_any bounds_file atoms ≡ false → (l : CutLine) → c.outer ≡ Some l → c.line.piped ≡ false → Within F C (lined c) (lined d) (words_after run atoms)
   within (over {c = c}) n l o p = record { outer = refl; lines = refl; stray = refl; piped = refl; lists = []; all = refl; words = sym (append-nil c.line.words) }
   within (moves {run = run} {atoms = atoms} {c = c} {d = d} atom e rest) n l o p =
       let bounds = not_first (bounds_file atom) (list_any bounds_file atoms) n in
@@ -212,7 +212,7 @@ module _ (F : Facts) (C : Context) where
       ap (λ (b : Bool). b || list_any bounds_file (atoms ++ Break ∷ [])) bounds.0 ∙ bounds_after atoms bounds.1
 
   -- the words of a file
-  words_within : (d : Cut) (outer : Option Line) → outer ≡ Some nothing_cut.line → words_in_file (record d { outer = outer }) ≡ d.line.words
+  words_within : (d : Cut) (outer : Option CutLine) → outer ≡ Some nothing_cut.line → words_in_file (record d { outer = outer }) ≡ d.line.words
   words_within d None e = absurd cc
   words_within d (Some line) e = refl
 
@@ -239,7 +239,7 @@ closed_opens d e =
     ap (λ (w : Option (List ℕ)). open_of w d.marks d.barred) e.0 ∙ ap (λ (m : Marking). open_of None m d.barred) e.1 ∙ ap (λ (b : Bool). open_of None no_marks b) e.2
 
 -- one cut, but for what a file leaves
-abbrev cut_of : Option (List ℕ) → Marking → Bool → Line → List NamedLine → Bool → Option Line → Cut
+abbrev cut_of : Option (List ℕ) → Marking → Bool → CutLine → List NamedLine → Bool → Option CutLine → Cut
 cut_of word marks barred line lines stray outer = record {
   word = word;
   marks = marks;
@@ -254,7 +254,7 @@ cut_of word marks barred line lines stray outer = record {
   inside = [];
 }
 
-same_plain : (x y : Cut) (line : Line) (outer : Option Line) → Closed x → Closed y → y.lines ≡ x.lines → y.stray ≡ x.stray → outer ≡ None
+same_plain : (x y : Cut) (line : CutLine) (outer : Option CutLine) → Closed x → Closed y → y.lines ≡ x.lines → y.stray ≡ x.stray → outer ≡ None
     → cut_of y.word y.marks y.barred line y.lines y.stray None ≡ cut_of x.word x.marks x.barred line x.lines x.stray outer
 same_plain x y line outer a b lines stray out =
     ap (λ (w : Option (List ℕ)). cut_of w y.marks y.barred line y.lines y.stray None) (b.0 ∙ sym a.0)
@@ -262,13 +262,13 @@ same_plain x y line outer a b lines stray out =
     ∙ ap (λ (z : Bool). cut_of x.word x.marks z line y.lines y.stray None) (b.2 ∙ sym a.2)
     ∙ ap (λ (ls : List NamedLine). cut_of x.word x.marks x.barred line ls y.stray None) lines
     ∙ ap (λ (z : Bool). cut_of x.word x.marks x.barred line x.lines z None) stray
-    ∙ ap (λ (o : Option Line). cut_of x.word x.marks x.barred line x.lines x.stray o) (sym out)
+    ∙ ap (λ (o : Option CutLine). cut_of x.word x.marks x.barred line x.lines x.stray o) (sym out)
 
-file_back : (y : Cut) (outer : Option Line) (l : Line) → outer ≡ Some l → plain (file_done (record y { outer = outer })) ≡ plain (record y { outer = None; line = l })
+file_back : (y : Cut) (outer : Option CutLine) (l : CutLine) → outer ≡ Some l → plain (file_done (record y { outer = outer })) ≡ plain (record y { outer = None; line = l })
 file_back y None l e = absurd cc
-file_back y (Some line) l e = let same : line ≡ l = cc in ap (λ (x : Line). plain (record y { outer = None; line = x })) same
+file_back y (Some line) l e = let same : line ≡ l = cc in ap (λ (x : CutLine). plain (record y { outer = None; line = x })) same
 
-end_outside : (c : Cut) (outer : Option Line) → (line_ended (record c { outer = outer })).outer ≡ outer
+end_outside : (c : Cut) (outer : Option CutLine) → (line_ended (record c { outer = outer })).outer ≡ outer
 end_outside c None = refl
 end_outside c (Some line) = refl
 
@@ -276,7 +276,7 @@ words_outside : (c : Cut) (words : List (List ℕ)) → (pipe_done (record c { l
 words_outside c [] = refl
 words_outside c (w ∷ ws) = refl
 
-pipe_outside : (c : Cut) (outer : Option Line) → (pipe_ended (record c { outer = outer })).outer ≡ outer
+pipe_outside : (c : Cut) (outer : Option CutLine) → (pipe_ended (record c { outer = outer })).outer ≡ outer
 pipe_outside c None = words_outside (record c { outer = None }) c.line.words
 pipe_outside c (Some line) = refl
 
@@ -297,7 +297,7 @@ module _ (F : Facts) (C : Context) where
   abbrev gone : Cut → Answer Cut
   gone x = Is (Ok x)
 
-  same_outside : (x d : Cut) (outer : Option Line) → gone x ≡ gone d → x.outer ≡ outer → d.outer ≡ outer
+  same_outside : (x d : Cut) (outer : Option CutLine) → gone x ≡ gone d → x.outer ≡ outer → d.outer ≡ outer
   same_outside x d outer e is = let same : x ≡ d = cc in ap (λ (y : Cut). y.outer) (sym same) ∙ is
 
   bare_outside : (c d : Cut) (atom : Atom) → bounds_file atom ≡ false → taken F C c atom ≡ Is (Ok d) → d.outer ≡ c.outer
@@ -429,6 +429,6 @@ module _ (F : Facts) (C : Context) where
       by : Came (all_taken F C nothing_cut (flat_map stretch_atoms stretches ++ Break ∷ [])) (λ c. Is (Ok c.line.words)) found → words_around stretches ≡ Is (Ok found)
       by (c, is, e) =
           ap (λ (atoms : List Atom). line_of F C (open_command [] [] atoms) >>- λ line. Is (Ok line.words)) (sym (with_break without_file stretches refl))
-          ∙ ap (λ (a : Answer Line). a >>- λ line. Is (Ok line.words))
+          ∙ ap (λ (a : Answer CutLine). a >>- λ line. Is (Ok line.words))
           (around_files (stretches ++ Bare Break ∷ []) c (any_after is_broken stretches (Bare Break) ∙ n) (ap (all_taken F C nothing_cut) (with_break stretch_atoms stretches refl) ∙ is)).2
           ∙ e

@@ -1,7 +1,7 @@
 use Rattle.drv_machine.proofs.Runs.{Course, any_after, bare, breaks, breaks_bare, course, moves, opened_by, over, pipes, pipes_bare, with_word}
 use Rattle.drv_machine.specs.Context.{Context}
 use Rattle.drv_machine.specs.Cuts.{Part, Piece, Pipe, Run, Word, begins_file, commands, each, has_more, has_stray_pipe, is_end_of_word, is_pipe, is_script, is_stray, lacks_word, line_of, lines, open_command, opens_word, path, texts, word_of}
-use Rattle.drv_machine.specs.Cutting.{Cut, Line, NamedLine, all_taken, argument_words, file_done, inside_done, line_ended, named_line, no_line, nothing_cut, pipe_done, pipe_ended, script_option}
+use Rattle.drv_machine.specs.Cutting.{Cut, CutLine, NamedLine, all_taken, argument_words, file_done, inside_done, line_ended, named_line, no_line, nothing_cut, pipe_done, pipe_ended, script_option}
 use Rattle.drv_machine.specs.Working.{◌>>-◌, Answer, Atom, Break, End, FileFrom, FileTo, From, Marked, Open, Piped, Put, To, Without}
 use Rattle.drv_machine.specs.declared.fault.MachineFault.{MachineFault}
 use Rattle.drv_system.specs.Facts.{Facts}
@@ -83,8 +83,8 @@ stray_for_want false false rest = refl
 
 -- what commands are made of in a cut
 pub record Lined : Type 0 where
-  pub outer : Option Line
-  pub line : Line
+  pub outer : Option CutLine
+  pub line : CutLine
   pub lines : List NamedLine
   pub stray : Bool
 
@@ -96,14 +96,14 @@ inside_lined c [] = refl
 inside_lined c (None ∷ outer) = refl
 inside_lined c (Some last ∷ outer) = refl
 
-file_lined : (c : Cut) (outer : Option Line) → outer ≡ None → lined (file_done (record c { outer = outer })) ≡ lined (record c { outer = outer })
+file_lined : (c : Cut) (outer : Option CutLine) → outer ≡ None → lined (file_done (record c { outer = outer })) ≡ lined (record c { outer = outer })
 file_lined c None e = refl
 file_lined c (Some line) e = absurd cc
 
-abbrev one_if : Line → List NamedLine
+abbrev one_if : CutLine → List NamedLine
 one_if line = option_to_list (named_line line)
 
-end_lined : (c : Cut) (outer : Option Line) → outer ≡ None → lined (line_ended (record c { outer = outer })) ≡ record { outer = None; line = no_line; lines = c.lines ++ one_if c.line; stray = c.stray }
+end_lined : (c : Cut) (outer : Option CutLine) → outer ≡ None → lined (line_ended (record c { outer = outer })) ≡ record { outer = None; line = no_line; lines = c.lines ++ one_if c.line; stray = c.stray }
 end_lined c None e = refl
 end_lined c (Some line) e = absurd cc
 
@@ -117,7 +117,7 @@ pipe_done_lined : (c : Cut) (words : List (List ℕ)) → lined (pipe_done (reco
 pipe_done_lined c [] = refl
 pipe_done_lined c (w ∷ ws) = refl
 
-pipe_lined : (c : Cut) (outer : Option Line) → outer ≡ None → lined (pipe_ended (record c { outer = outer }))
+pipe_lined : (c : Cut) (outer : Option CutLine) → outer ≡ None → lined (pipe_ended (record c { outer = outer }))
     ≡ record { outer = None; line = record { words = c.line.words; piped = true }; lines = c.lines; stray = if is_nil c.line.words then true else c.stray || c.line.piped }
 pipe_lined c None e = pipe_done_lined c c.line.words
 pipe_lined c (Some line) e = absurd cc
@@ -126,13 +126,13 @@ some_after : (xs ys : List (List ℕ)) → is_nil ys ≡ false → is_nil (xs ++
 some_after [] ys e = e
 some_after (x ∷ xs) ys e = refl
 
-abbrev ahead : List (List ℕ) → Line → Answer Line
+abbrev ahead : List (List ℕ) → CutLine → Answer CutLine
 ahead ws line = Is (Ok (record { words = ws ++ line.words; piped = line.piped }))
 
-abbrev with_more : Line → List (List ℕ) → Answer Line
+abbrev with_more : CutLine → List (List ℕ) → Answer CutLine
 with_more line ts = Is (Ok (record { words = line.words ++ ts; piped = line.piped }))
 
-abbrev as_piped : Line → Answer Line
+abbrev as_piped : CutLine → Answer CutLine
 as_piped line = Is (Ok (record { words = line.words; piped = true }))
 
 module _ (F : Facts) (C : Context) where
@@ -144,9 +144,9 @@ module _ (F : Facts) (C : Context) where
       by (Is (Err fault)) = refl
       by Unasked = refl
   word_line (Word v ∷ ps) w =
-      ap (λ (a : Answer Line). texts F C v >>- λ ws. a >>- λ line. ahead ws line) (word_line ps w) ∙ by (texts F C v) (line_of F C ps) (texts F C w)
+      ap (λ (a : Answer CutLine). texts F C v >>- λ ws. a >>- λ line. ahead ws line) (word_line ps w) ∙ by (texts F C v) (line_of F C ps) (texts F C w)
     where
-      by : (a : Answer (List (List ℕ))) (b : Answer Line) (t : Answer (List (List ℕ)))
+      by : (a : Answer (List (List ℕ))) (b : Answer CutLine) (t : Answer (List (List ℕ)))
           → (a >>- λ ws. (b >>- λ l. t >>- λ ts. with_more l ts) >>- λ line. ahead ws line)
           ≡ ((a >>- λ ws. b >>- λ line. ahead ws line) >>- λ l. t >>- λ ts. with_more l ts)
       by (Is (Ok ws)) (Is (Ok l)) (Is (Ok ts)) = ap (λ (x : List (List ℕ)). Is (Ok (record { words = x; piped = l.piped }))) (sym (append_assoc ws l.words ts))
@@ -158,9 +158,9 @@ module _ (F : Facts) (C : Context) where
       by Unasked b t = refl
   word_line (Part ∷ ps) w = word_line ps w
   word_line (Pipe ∷ ps) w =
-      ap (λ (a : Answer Line). a >>- λ line. as_piped line) (word_line ps w) ∙ by (line_of F C ps) (texts F C w)
+      ap (λ (a : Answer CutLine). a >>- λ line. as_piped line) (word_line ps w) ∙ by (line_of F C ps) (texts F C w)
     where
-      by : (b : Answer Line) (t : Answer (List (List ℕ)))
+      by : (b : Answer CutLine) (t : Answer (List (List ℕ)))
           → ((b >>- λ l. t >>- λ ts. with_more l ts) >>- λ line. as_piped line)
           ≡ ((b >>- λ line. as_piped line) >>- λ l. t >>- λ ts. with_more l ts)
       by (Is (Ok l)) (Is (Ok ts)) = refl
@@ -171,16 +171,16 @@ module _ (F : Facts) (C : Context) where
 
   part_line : (pieces : List Piece) → line_of F C (pieces ++ Part ∷ []) ≡ line_of F C pieces
   part_line [] = refl
-  part_line (Word v ∷ ps) = ap (λ (a : Answer Line). texts F C v >>- λ ws. a >>- λ line. ahead ws line) (part_line ps)
+  part_line (Word v ∷ ps) = ap (λ (a : Answer CutLine). texts F C v >>- λ ws. a >>- λ line. ahead ws line) (part_line ps)
   part_line (Part ∷ ps) = part_line ps
-  part_line (Pipe ∷ ps) = ap (λ (a : Answer Line). a >>- λ line. as_piped line) (part_line ps)
+  part_line (Pipe ∷ ps) = ap (λ (a : Answer CutLine). a >>- λ line. as_piped line) (part_line ps)
 
   pipe_line : (pieces : List Piece) → line_of F C (pieces ++ Pipe ∷ []) ≡ (line_of F C pieces >>- λ l. as_piped l)
   pipe_line [] = refl
   pipe_line (Word v ∷ ps) =
-      ap (λ (a : Answer Line). texts F C v >>- λ ws. a >>- λ line. ahead ws line) (pipe_line ps) ∙ by (texts F C v) (line_of F C ps)
+      ap (λ (a : Answer CutLine). texts F C v >>- λ ws. a >>- λ line. ahead ws line) (pipe_line ps) ∙ by (texts F C v) (line_of F C ps)
     where
-      by : (a : Answer (List (List ℕ))) (b : Answer Line)
+      by : (a : Answer (List (List ℕ))) (b : Answer CutLine)
           → (a >>- λ ws. (b >>- λ l. as_piped l) >>- λ line. ahead ws line)
           ≡ ((a >>- λ ws. b >>- λ line. ahead ws line) >>- λ l. as_piped l)
       by (Is (Ok ws)) (Is (Ok l)) = refl
@@ -189,7 +189,7 @@ module _ (F : Facts) (C : Context) where
       by (Is (Err fault)) b = refl
       by Unasked b = refl
   pipe_line (Part ∷ ps) = pipe_line ps
-  pipe_line (Pipe ∷ ps) = ap (λ (a : Answer Line). a >>- λ line. as_piped line) (pipe_line ps)
+  pipe_line (Pipe ∷ ps) = ap (λ (a : Answer CutLine). a >>- λ line. as_piped line) (pipe_line ps)
 
 -- a command of these pieces is open in a cut
 pub record Stands (F : Facts) (C : Context) (pieces : List Piece) (s : Bool) (l : Lined) : Type 0 where
@@ -219,7 +219,7 @@ bare_pieces run atoms e = rw e refl
 word_pieces : (run atoms : List Atom) → list_any opens_word run ≡ true → word_of (record { atoms = run; behind = atoms }) ≡ Word (record { atoms = run; behind = atoms }) ∷ []
 word_pieces run atoms e = rw e refl
 
-one_more : (line : Line) (found : List Line) → one_if line ++ filter_map named_line found ≡ filter_map named_line (line ∷ found)
+one_more : (line : CutLine) (found : List CutLine) → one_if line ++ filter_map named_line found ≡ filter_map named_line (line ∷ found)
 one_more line found = by (named_line line)
   where
     by : (named : Option NamedLine) → option_to_list named ++ filter_map named_line found ≡ cons_option named (filter_map named_line found)
@@ -240,7 +240,7 @@ module _ (F : Facts) (C : Context) where
       → Stands F C (ps ++ Word w ∷ []) s (with_texts l ts)
   stands_word ps s l w ts st is some = record {
     outside = st.outside;
-    line = word_line F C ps w ∙ ap (λ (a : Answer Line). a >>- λ x. texts F C w >>- λ us. with_more x us) st.line
+    line = word_line F C ps w ∙ ap (λ (a : Answer CutLine). a >>- λ x. texts F C w >>- λ us. with_more x us) st.line
         ∙ ap (λ (a : Answer (List (List ℕ))). a >>- λ us. with_more l.line us) is;
     some = some_after l.line.words ts some ∙ sym (ap not (any_after is_end_of_word ps (Word w)));
     piped = st.piped ∙ sym (any_after is_pipe ps (Word w));
@@ -250,7 +250,7 @@ module _ (F : Facts) (C : Context) where
   stands_pipe : (ps : List Piece) (s : Bool) (l : Lined) → Stands F C ps s l → Stands F C (ps ++ Pipe ∷ []) s (with_pipe l)
   stands_pipe ps s l st = record {
     outside = refl;
-    line = pipe_line F C ps ∙ ap (λ (a : Answer Line). a >>- λ x. as_piped x) st.line;
+    line = pipe_line F C ps ∙ ap (λ (a : Answer CutLine). a >>- λ x. as_piped x) st.line;
     some = st.some ∙ sym (ap not (any_after is_end_of_word ps Pipe));
     piped = sym (any_after is_pipe ps Pipe);
     stray = ap (λ b. if b then true else l.stray || l.line.piped) st.some ∙ ap (λ b. if not (list_any is_end_of_word ps) then true else l.stray || b) st.piped
@@ -273,13 +273,13 @@ module _ (F : Facts) (C : Context) where
 
   abbrev Commanded : List (List Piece) → List Piece → Bool → List NamedLine → Cut → Type 0
   Commanded cs o s before d =
-      (found : List Line) × (each (line_of F C) cs ≡ Is (Ok found)) × (d.lines ≡ before ++ filter_map named_line found) × (d.stray ≡ (s || (list_any is_stray cs || is_stray o))) × (line_of F C o ≡ Is (Ok d.line))
+      (found : List CutLine) × (each (line_of F C) cs ≡ Is (Ok found)) × (d.lines ≡ before ++ filter_map named_line found) × (d.stray ≡ (s || (list_any is_stray cs || is_stray o))) × (line_of F C o ≡ Is (Ok d.line))
 
-  end_more : (ps : List Piece) (s : Bool) (line : Line) (before : List NamedLine) (cs : List (List Piece)) (o : List Piece) (d : Cut) → line_of F C ps ≡ Is (Ok line)
+  end_more : (ps : List Piece) (s : Bool) (line : CutLine) (before : List NamedLine) (cs : List (List Piece)) (o : List Piece) (d : Cut) → line_of F C ps ≡ Is (Ok line)
       → Commanded cs o (s || is_stray ps) (before ++ one_if line) d → Commanded (ps ∷ cs) o s before d
   end_more ps s line before cs o d is (found, all, kept, stray, last) = (
     line ∷ found,
-    ap (λ (a : Answer Line). a >>- λ y. each (line_of F C) cs >>- λ ys. Is (Ok (y ∷ ys))) is ∙ ap (λ (a : Answer (List Line)). a >>- λ ys. Is (Ok (line ∷ ys))) all,
+    ap (λ (a : Answer CutLine). a >>- λ y. each (line_of F C) cs >>- λ ys. Is (Ok (y ∷ ys))) is ∙ ap (λ (a : Answer (List CutLine)). a >>- λ ys. Is (Ok (line ∷ ys))) all,
     kept ∙ append_assoc before (one_if line) (filter_map named_line found) ∙ ap (λ (ls : List NamedLine). before ++ ls) (one_more line found),
     stray ∙ or_assoc s (is_stray ps) (list_any is_stray cs || is_stray o) ∙ ap (λ b. s || b) (sym (or_assoc (is_stray ps) (list_any is_stray cs) (is_stray o))),
     last,
@@ -338,7 +338,7 @@ module _ (F : Facts) (C : Context) where
     where
       by : Commanded (commands [] [] atoms) (open_command [] [] atoms) false [] c → (lines F C atoms ≡ Is (Ok c.lines)) × (has_stray_pipe atoms ≡ c.stray) × (line_of F C (open_command [] [] atoms) ≡ Is (Ok c.line))
       by (found, all, kept, stray, last) =
-          (ap (λ (a : Answer (List Line)). a >>- λ ls. Is (Ok (filter_map named_line ls))) all ∙ ap (λ (ls : List NamedLine). Is (Ok ls)) (sym kept), sym stray, last)
+          (ap (λ (a : Answer (List CutLine)). a >>- λ ls. Is (Ok (filter_map named_line ls))) all ∙ ap (λ (ls : List NamedLine). Is (Ok ls)) (sym kept), sym stray, last)
 
   pub lines_are : (atoms : List Atom) (c : Cut) → list_any begins_file atoms ≡ false → all_taken F C nothing_cut atoms ≡ Is (Ok c) → lines F C atoms ≡ Is (Ok c.lines)
   lines_are atoms c f e = (commands_are atoms c f e).0
@@ -360,6 +360,6 @@ module _ (F : Facts) (C : Context) where
     where
       by : (x : Answer Cut) → all_taken F C nothing_cut (atoms ++ Break ∷ []) ≡ x → (x >>- λ c. Is (Ok c.line.words)) ≡ Is (Ok found) → last_words atoms ≡ Is (Ok found)
       by (Is (Ok c)) is w =
-          ap (λ (a : Answer Line). a >>- λ line. Is (Ok line.words)) (commands_are (atoms ++ Break ∷ []) c (any_after begins_file atoms Break ∙ f) is).2 ∙ w
+          ap (λ (a : Answer CutLine). a >>- λ line. Is (Ok line.words)) (commands_are (atoms ++ Break ∷ []) c (any_after begins_file atoms Break ∙ f) is).2 ∙ w
       by (Is (Err fault)) is w = refused_words (Is (Err fault)) found fault refl w
       by Unasked is w = no_words Unasked found refl w

@@ -1,7 +1,7 @@
 use Rattle.drv_machine.proofs.Runs.{Course, bare, breaks, breaks_bare, course, moved, moves, opened_by, over, pipes, pipes_bare, with_word}
 use Rattle.drv_machine.specs.Context.{Context}
 use Rattle.drv_machine.specs.Cuts.{Enclosed, Failure, File, ends_word, open_after, open_behind}
-use Rattle.drv_machine.specs.Cutting.{Cut, Line, all_taken, file_done, inside_done, line_ended, nothing_cut, pipe_done, pipe_ended}
+use Rattle.drv_machine.specs.Cutting.{Cut, CutLine, all_taken, file_done, inside_done, line_ended, nothing_cut, pipe_done, pipe_ended}
 use Rattle.drv_machine.specs.Working.{Atom, Break, End, FileFrom, FileTo, From, Marked, Open, Piped, Put, To, Without}
 use Rattle.drv_system.specs.Facts.{Facts}
 use Rattle.drv_system.specs.Known.{Is}
@@ -25,7 +25,7 @@ to_outside [] c = refl
 to_outside (None ∷ outer) c = refl
 to_outside (Some last ∷ outer) c = refl
 
-end_parts : (enclosed : Enclosed) (c : Cut) (outer : Option Line) → open_parts enclosed (line_ended (record c { outer = outer })) ≡ open_parts enclosed (record c { outer = outer })
+end_parts : (enclosed : Enclosed) (c : Cut) (outer : Option CutLine) → open_parts enclosed (line_ended (record c { outer = outer })) ≡ open_parts enclosed (record c { outer = outer })
 end_parts Failure c None = refl
 end_parts Failure c (Some line) = refl
 end_parts File c None = refl
@@ -37,21 +37,21 @@ pipe_words Failure c (w ∷ ws) = refl
 pipe_words File c [] = refl
 pipe_words File c (w ∷ ws) = refl
 
-pipe_parts : (enclosed : Enclosed) (c : Cut) (outer : Option Line) → open_parts enclosed (pipe_ended (record c { outer = outer })) ≡ open_parts enclosed (record c { outer = outer })
+pipe_parts : (enclosed : Enclosed) (c : Cut) (outer : Option CutLine) → open_parts enclosed (pipe_ended (record c { outer = outer })) ≡ open_parts enclosed (record c { outer = outer })
 pipe_parts enclosed c None = pipe_words enclosed (record c { outer = None }) c.line.words
 pipe_parts Failure c (Some line) = refl
 pipe_parts File c (Some line) = refl
 
-file_from : (outer : Option Line) (line : Line) (rest : ℕ → Option ℕ) (n : ℕ) → option_and_then rest (open_after FileFrom File (length (option_to_list outer))) ≡ Some n → rest 1 ≡ Some n
+file_from : (outer : Option CutLine) (line : CutLine) (rest : ℕ → Option ℕ) (n : ℕ) → option_and_then rest (open_after FileFrom File (length (option_to_list outer))) ≡ Some n → rest 1 ≡ Some n
 file_from None line rest n is = is
 file_from (Some l) line rest n is = absurd cc
 
-file_to : (c : Cut) (outer : Option Line) (rest : ℕ → Option ℕ) (n : ℕ) → option_and_then rest (open_after FileTo File (length (option_to_list outer))) ≡ Some n
+file_to : (c : Cut) (outer : Option CutLine) (rest : ℕ → Option ℕ) (n : ℕ) → option_and_then rest (open_after FileTo File (length (option_to_list outer))) ≡ Some n
     → rest (open_parts File (file_done (record c { outer = outer }))) ≡ Some n
 file_to c None rest n is = absurd cc
 file_to c (Some line) rest n is = is
 
-file_inside : (c : Cut) (outer : Option Line) → (file_done (record c { outer = outer })).inside ≡ c.inside
+file_inside : (c : Cut) (outer : Option CutLine) → (file_done (record c { outer = outer })).inside ≡ c.inside
 file_inside c None = refl
 file_inside c (Some line) = refl
 
@@ -71,7 +71,7 @@ moved_open c Without File rest n e is = is
 moved_open c From Failure rest n e is = is
 moved_open c From File rest n e is = is
 moved_open c To Failure rest n e is = to_parts c.inside c rest n is
-moved_open c To File rest n e is = ap (λ (o : Option Line). rest (length (option_to_list o))) (to_outside c.inside c) ∙ is
+moved_open c To File rest n e is = ap (λ (o : Option CutLine). rest (length (option_to_list o))) (to_outside c.inside c) ∙ is
 moved_open c FileFrom Failure rest n e is = is
 moved_open c FileFrom File rest n e is = file_from c.outer c.line rest n is
 moved_open c FileTo Failure rest n e is = ap (λ (i : List (Option (List ℕ))). rest (length i)) (file_inside c c.outer) ∙ is

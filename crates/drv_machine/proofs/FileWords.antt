@@ -1,6 +1,6 @@
 use Rattle.drv_machine.proofs.Laws.{then_same, then_then}
 use Rattle.drv_machine.specs.Context.{Context}
-use Rattle.drv_machine.specs.Cutting.{Cut, Line, all_taken, broken, file_begun, file_done, file_words, found_file, found_script, inside_done, line_ended, marked, no_line, no_marks, nothing_cut, pipe_done, pipe_ended, script_option, taken, word_done, words_in_file}
+use Rattle.drv_machine.specs.Cutting.{Cut, CutLine, all_taken, broken, file_begun, file_done, file_words, found_file, found_script, inside_done, line_ended, marked, no_line, no_marks, nothing_cut, pipe_done, pipe_ended, script_option, taken, word_done, words_in_file}
 use Rattle.drv_machine.specs.Working.{◌>>-◌, Answer, Atom, Break, End, FileFrom, FileTo, From, Marked, Open, Piped, Put, To, Without}
 use Rattle.drv_machine.specs.declared.machine.marking.Marking.{Marking}
 use Rattle.drv_system.specs.Facts.{Facts}
@@ -16,7 +16,7 @@ pub record Seen : Type 0 where
   pub word : Option (List ℕ)
   pub marks : Marking
   pub barred : Bool
-  pub line : Option Line
+  pub line : Option CutLine
 
 abbrev pub seen : Cut → Seen
 seen c = record { word = c.word; marks = c.marks; barred = c.barred; line = option_map (λ outer. c.line) c.outer }
@@ -26,20 +26,20 @@ abbrev pub Begun : Cut → Type 0
 Begun c = seen c ≡ seen (file_begun nothing_cut)
 
 abbrev seen_words : Seen → List (List ℕ)
-seen_words v = unwrap_or (option_map (λ (l : Line). l.words) v.line) []
+seen_words v = unwrap_or (option_map (λ (l : CutLine). l.words) v.line) []
 
-abbrev with_words : List (List ℕ) → Line → Line
+abbrev with_words : List (List ℕ) → CutLine → CutLine
 with_words words l = record { words = l.words ++ words; piped = l.piped }
 
 abbrev word_seen : Seen → List (List ℕ) → Seen
 word_seen v words = record { word = None; marks = no_marks; barred = false; line = option_map (with_words words) v.line }
 
-words_seen : (outer : Option Line) (line : Line) → unwrap_or (option_map (λ (l : Line). l.words) (option_map (λ (o : Line). line) outer)) [] ≡ unwrap_or (option_map (λ (o : Line). line.words) outer) []
+words_seen : (outer : Option CutLine) (line : CutLine) → unwrap_or (option_map (λ (l : CutLine). l.words) (option_map (λ (o : CutLine). line) outer)) [] ≡ unwrap_or (option_map (λ (o : CutLine). line.words) outer) []
 words_seen None line = refl
 words_seen (Some o) line = refl
 
 -- an end of a command, a pipe and the end of a %W are not seen
-end_unseen : (c : Cut) (outer : Option Line) → seen (line_ended (record c { outer = outer })) ≡ seen (record c { outer = outer })
+end_unseen : (c : Cut) (outer : Option CutLine) → seen (line_ended (record c { outer = outer })) ≡ seen (record c { outer = outer })
 end_unseen c None = refl
 end_unseen c (Some line) = refl
 
@@ -47,7 +47,7 @@ piped_or_not : (c : Cut) (words : List (List ℕ)) (piped : Bool) → seen (pipe
 piped_or_not c [] piped = refl
 piped_or_not c (w ∷ words) piped = refl
 
-pipe_unseen : (c : Cut) (outer : Option Line) → seen (pipe_ended (record c { outer = outer })) ≡ seen (record c { outer = outer })
+pipe_unseen : (c : Cut) (outer : Option CutLine) → seen (pipe_ended (record c { outer = outer })) ≡ seen (record c { outer = outer })
 pipe_unseen c None = piped_or_not c c.line.words c.line.piped
 pipe_unseen c (Some line) = refl
 
@@ -56,11 +56,11 @@ inside_unseen [] c = refl
 inside_unseen (None ∷ outer) c = refl
 inside_unseen (Some last ∷ outer) c = refl
 
-file_unseen : (c : Cut) (outer : Option Line) → seen (file_done (record c { outer = outer })) ≡ record (seen c) { line = None }
+file_unseen : (c : Cut) (outer : Option CutLine) → seen (file_done (record c { outer = outer })) ≡ record (seen c) { line = None }
 file_unseen c None = refl
 file_unseen c (Some line) = refl
 
-word_done_seen : (c : Cut) (words : List (List ℕ)) (last : List ℕ) (outer : Option Line) → seen (word_done (record c { outer = outer }) words last) ≡ word_seen (seen (record c { outer = outer })) words
+word_done_seen : (c : Cut) (words : List (List ℕ)) (last : List ℕ) (outer : Option CutLine) → seen (word_done (record c { outer = outer }) words last) ≡ word_seen (seen (record c { outer = outer })) words
 word_done_seen c words last None = refl
 word_done_seen c words last (Some line) = refl
 

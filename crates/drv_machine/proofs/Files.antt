@@ -6,7 +6,7 @@ use Rattle.drv_machine.specs.Context.{Context}
 use Rattle.drv_machine.specs.Cutting.{Cut, all_taken, broken, file_begun, file_done, file_words, words_in_file}
 use Rattle.drv_machine.specs.Code.Running.{Machine, done, run}
 use Rattle.drv_machine.specs.Code.Walking.{file_end, file_from, into_file, out_of_file}
-use Rattle.drv_machine.specs.Working.{◌>>-◌, ◌>>=◌, Answer, Atom, Break, FileFrom, FileTo, Goes, Put, Refuses, Step, Waits, Work, World, needs, puts}
+use Rattle.drv_machine.specs.Working.{◌>>-◌, ◌>>=◌, Answer, Atom, Break, FileFrom, FileTo, Goes, Put, Refuses, Step, Waits, Worked, World, needs, puts}
 use Rattle.drv_machine.specs.declared.fault.MachineFault.TheVariants.{Memory}
 use Rattle.drv_machine.specs.declared.fault.MachineFault.{MachineFault}
 use Rattle.drv_machine.specs.declared.machine.naming.Drawing.TheVariants.{Anew}
@@ -103,7 +103,7 @@ module _ (F : Facts) (C : Context) where
       (λ d. sym (then_then (all_taken F C d (Break ∷ [])) (ended v) (λ r. run F C (out_of_file r.1) (named_file F C (words_in_file r.1.cut)))))
       ∙ sym (then_then (all_taken F C b atoms) (ended v) (λ q. file_end F C q.1))
 
-  filed_done : (c : Cut) (work : Work (Unit {0})) → done F C c (filed F C work) ≡ (broken F C c >>- λ d. done F C (file_begun d) work >>- λ q. file_end F C q.1)
+  filed_done : (c : Cut) (work : Worked (Unit {0})) → done F C c (filed F C work) ≡ (broken F C c >>- λ d. done F C (file_begun d) work >>- λ q. file_end F C q.1)
   filed_done c (Goes atoms u v) =
       done-behind F C c (Break ∷ FileFrom ∷ atoms ++ Break ∷ FileTo ∷ []) ((needs (file_words F C atoms) >>= named_file F C) (outside v))
       ∙ then_then (broken F C c) (λ d. all_taken F C (file_begun d) (atoms ++ Break ∷ FileTo ∷ [])) (λ d. done F C d ((needs (file_words F C atoms) >>= named_file F C) (outside v)))

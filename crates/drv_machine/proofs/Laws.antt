@@ -3,7 +3,7 @@ use Rattle.drv_machine.specs.Context.{Context}
 use Rattle.drv_machine.specs.Cutting.{Cut, all_taken, nothing_cut, taken}
 use Rattle.drv_machine.specs.Outcome.{cut, finished, outcome}
 use Rattle.drv_machine.specs.Code.Running.{Machine, begun, done, run}
-use Rattle.drv_machine.specs.Working.{◌>>-◌, ◌>>=◌, Answer, Atom, Goes, Refuses, Step, Waits, Work, behind, follow}
+use Rattle.drv_machine.specs.Working.{◌>>-◌, ◌>>=◌, Answer, Atom, Goes, Refuses, Step, Waits, Worked, behind, follow}
 use Rattle.drv_syntax.specs.Tree.{Items}
 use Rattle.drv_system.specs.Facts.{Facts}
 use Rattle.drv_system.specs.Known.{Is, Unasked}
@@ -33,12 +33,12 @@ module _ (F : Facts) (C : Context) where
       → (all_taken F C c (xs ++ ys) >>- last) ≡ (all_taken F C c xs >>- λ d. all_taken F C d ys >>- last)
   further c xs ys last = ap (λ a. a >>- last) (all_taken-append c xs ys) ∙ then_then (all_taken F C c xs) (λ d. all_taken F C d ys) last
 
-  pub done-behind : {Y : Type 0} (c : Cut) (xs : List Atom) (work : Work Y) → done F C c (behind xs work) ≡ (all_taken F C c xs >>- λ d. done F C d work)
+  pub done-behind : {Y : Type 0} (c : Cut) (xs : List Atom) (work : Worked Y) → done F C c (behind xs work) ≡ (all_taken F C c xs >>- λ d. done F C d work)
   done-behind c xs (Goes ys y w) = further c xs ys (λ d. Is (Ok (y, record { cut = d; world = w })))
   done-behind c xs (Refuses ys fault) = further c xs ys (λ d. Is (Err fault))
   done-behind c xs (Waits ys) = further c xs ys (λ d. Unasked)
 
-  done-follow : {X Y : Type 0} (c : Cut) (work : Work X) (f : X → Step Y)
+  done-follow : {X Y : Type 0} (c : Cut) (work : Worked X) (f : X → Step Y)
       → done F C c (follow work f) ≡ (done F C c work >>- λ r. run F C r.1 (f r.0))
   done-follow c (Goes xs x w) f = done-behind c xs (f x w) ∙ sym (then_then (all_taken F C c xs) (λ d. Is (Ok (x, record { cut = d; world = w }))) (λ r. run F C r.1 (f r.0)))
   done-follow c (Refuses xs fault) f = sym (then_then (all_taken F C c xs) (λ d. Is (Err fault)) (λ r. run F C r.1 (f r.0)))
@@ -48,7 +48,7 @@ module _ (F : Facts) (C : Context) where
   pub run_then : {X Y : Type 0} (s : Machine) (a : Step X) (f : X → Step Y) → run F C s (a >>= f) ≡ (run F C s a >>- λ r. run F C r.1 (f r.0))
   run_then s a f = done-follow s.cut (a s.world) f
 
-  cut_done : (work : Work Unit) → cut F C work ≡ (done F C nothing_cut work >>- λ r. finished F C r.1.world r.1.cut)
+  cut_done : (work : Worked Unit) → cut F C work ≡ (done F C nothing_cut work >>- λ r. finished F C r.1.world r.1.cut)
   cut_done (Goes xs u w) = sym (then_then (all_taken F C nothing_cut xs) (λ d. Is (Ok (u, record { cut = d; world = w }))) (λ r. finished F C r.1.world r.1.cut))
   cut_done (Refuses xs fault) = sym (then_then (all_taken F C nothing_cut xs) (λ d. Is (Err fault)) (λ r. finished F C r.1.world r.1.cut))
   cut_done (Waits xs) = sym (then_then (all_taken F C nothing_cut xs) (λ d. Unasked) (λ r. finished F C r.1.world r.1.cut))

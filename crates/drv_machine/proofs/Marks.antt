@@ -3,7 +3,7 @@ use Rattle.drv_machine.specs.Atoms as a
 use Rattle.drv_machine.specs.Atoms.{atoms, items_step, levels_left, named, start}
 use Rattle.drv_machine.specs.Context.{Context}
 use Rattle.drv_machine.specs.Cutting.{all_taken, argument_words, nothing_cut}
-use Rattle.drv_machine.specs.Working.{◌>>-◌, Answer, Atom, Break, End, From, Goes, Marked, Open, Piped, Put, Refuses, To, Waits, Without, Work, World}
+use Rattle.drv_machine.specs.Working.{◌>>-◌, Answer, Atom, Break, End, From, Goes, Marked, Open, Piped, Put, Refuses, To, Waits, Without, Worked, World}
 use Rattle.drv_machine.specs.declared.machine.marking.Mark.TheVariants.{AsOutput, AsRemoved}
 use Rattle.drv_machine.specs.declared.fault.MachineFault.TheVariants.{SpecTooDeep, TooManySteps}
 use Rattle.drv_syntax.specs.Outcome.{parsed}
@@ -99,7 +99,7 @@ module _ (F : Facts) where
   arguments : argument_words F one_switch (Put letter_a ∷ Put letter_b ∷ Break ∷ Open ∷ Break ∷ Put letter_c ∷ []) ≡ Is (Ok (codes "ab" ∷ [] ∷ codes "c" ∷ []))
   arguments = refl
 
-  abbrev words_got : Work (List (List ℕ)) → List (List ℕ)
+  abbrev words_got : Worked (List (List ℕ)) → List (List ℕ)
   words_got (Goes atoms got w) = got
   words_got _ = []
 
@@ -107,7 +107,7 @@ module _ (F : Facts) where
   arguments_of_text = refl
 
   -- how far a part got: its atoms, and the items reached or what stops it
-  abbrev ends : Work Unit → List Atom × Answer ℕ
+  abbrev ends : Worked Unit → List Atom × Answer ℕ
   ends (Goes atoms u w) = (atoms, Is (Ok w.items))
   ends (Refuses atoms fault) = (atoms, Is (Err fault))
   ends (Waits atoms) = (atoms, Unasked)

@@ -1,6 +1,6 @@
 use Rattle.drv_machine.specs.Context.{Context}
 use Rattle.drv_machine.specs.Cuts.{byte_of, ends_word, is_bar, is_barred, is_file, is_output, is_removed, is_script, opens_word, path, words_after}
-use Rattle.drv_machine.specs.Cutting.{Cut, Line, all_taken, broken, file_begun, file_done, found_file, found_script, in_word, inside_done, line_ended, marked, no_line, no_marks, pipe_done, pipe_ended, script_option, touched}
+use Rattle.drv_machine.specs.Cutting.{Cut, CutLine, all_taken, broken, file_begun, file_done, found_file, found_script, in_word, inside_done, line_ended, marked, no_line, no_marks, pipe_done, pipe_ended, script_option, touched}
 use Rattle.drv_machine.specs.Working.{◌>>-◌, Answer, Atom, Break, End, FileFrom, FileTo, From, Marked, Open, Piped, Put, To, Without}
 use Rattle.drv_machine.specs.declared.fault.MachineFault.{MachineFault}
 use Rattle.drv_machine.specs.declared.machine.marking.Mark.TheVariants.{AsFile, AsOutput, AsRemoved, AsScript}
@@ -132,7 +132,7 @@ moved c FileTo = file_done c
 abbrev pub unlined : Cut → Cut
 unlined c = record c { line = no_line; lines = []; stray = false; outer = None }
 
-line_unlined : (c : Cut) (outer : Option Line) → unlined (line_ended (record c { outer = outer })) ≡ unlined c
+line_unlined : (c : Cut) (outer : Option CutLine) → unlined (line_ended (record c { outer = outer })) ≡ unlined c
 line_unlined c None = refl
 line_unlined c (Some line) = refl
 
@@ -140,7 +140,7 @@ pipe_done_unlined : (c : Cut) (words : List (List ℕ)) → unlined (pipe_done (
 pipe_done_unlined c [] = refl
 pipe_done_unlined c (w ∷ ws) = refl
 
-pipe_unlined : (c : Cut) (outer : Option Line) → unlined (pipe_ended (record c { outer = outer })) ≡ unlined c
+pipe_unlined : (c : Cut) (outer : Option CutLine) → unlined (pipe_ended (record c { outer = outer })) ≡ unlined c
 pipe_unlined c None = pipe_done_unlined (record c { outer = None }) c.line.words
 pipe_unlined c (Some line) = refl
 
@@ -150,7 +150,7 @@ pipe_kept c = pipe_unlined c c.outer
 pub end_kept : (c : Cut) → unlined (line_ended c) ≡ unlined c
 end_kept c = line_unlined c c.outer
 
-file_unlined : (c : Cut) (outer : Option Line) → unlined (file_done (record c { outer = outer })) ≡ unlined c
+file_unlined : (c : Cut) (outer : Option CutLine) → unlined (file_done (record c { outer = outer })) ≡ unlined c
 file_unlined c None = refl
 file_unlined c (Some line) = refl
 

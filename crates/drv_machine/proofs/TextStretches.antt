@@ -7,7 +7,7 @@ use Rattle.drv_machine.specs.Names.{base, is_word, language_of, stem, suffix_of}
 use Rattle.drv_machine.specs.Temps.{last_drawn, temp_name}
 use Rattle.drv_funcs.specs.Outcome as outcomes
 use Rattle.drv_machine.specs.Cuts.{Balanced, Bare, Enclosed, Failure, File, Filed, Stretch, Stretched, bounds_file, is_broken, open_after, open_behind, stretch_atoms}
-use Rattle.drv_machine.specs.Working.{◌>>-◌, ◌>>=◌, ◌>>◌, Answer, Atom, Break, End, FileFrom, FileTo, From, Goes, Levels, Marked, Open, Piped, Put, Refuses, Step, To, Waits, Without, Work, World, behind, bytes, called, change, counted, known, follow, give, look, most_items, most_open, needs, opened, puts, refuse, whole_word, word_of, words}
+use Rattle.drv_machine.specs.Working.{◌>>-◌, ◌>>=◌, ◌>>◌, Answer, Atom, Break, End, FileFrom, FileTo, From, Goes, Levels, Marked, Open, Piped, Put, Refuses, Step, To, Waits, Without, Worked, World, behind, bytes, called, change, counted, known, follow, give, look, most_items, most_open, needs, opened, puts, refuse, whole_word, word_of, words}
 use Rattle.drv_machine.specs.declared.fault.MachineFault.{MachineFault}
 use Rattle.drv_machine.specs.declared.fault.MachineFault.TheVariants as fault
 use Rattle.drv_machine.specs.declared.machine.marking.Mark.TheVariants.{AsFile, AsOutput, AsRemoved, AsScript}
@@ -262,7 +262,7 @@ stops_failure : (b : Bool) (atoms : List Atom) → Stops b atoms → Stops b (Fr
 stops_failure b atoms e = (halted_append b (From ∷ []) atoms (shaped_bare b (From ∷ []) refl) e.0, λ count. e.1 (suc count))
 
 -- work, in a file or not: it stays there
-abbrev WellDone : {X : Type 0} → Bool → Work X → Type 0
+abbrev WellDone : {X : Type 0} → Bool → Worked X → Type 0
 WellDone b (Goes atoms x v) = Fits b atoms × (v.is_in_file ≡ b)
 WellDone b (Refuses atoms fault) = Stops b atoms
 WellDone b (Waits atoms) = Stops b atoms
@@ -270,12 +270,12 @@ WellDone b (Waits atoms) = Stops b atoms
 pub record Well {X : Type 0} (step : Step X) : Type 0 where
   pub stays : (w : World) (b : Bool) → w.is_in_file ≡ b → WellDone b (step w)
 
-after_well : {X : Type 0} (b : Bool) (atoms : List Atom) (work : Work X) → Fits b atoms → WellDone b work → WellDone b (behind atoms work)
+after_well : {X : Type 0} (b : Bool) (atoms : List Atom) (work : Worked X) → Fits b atoms → WellDone b work → WellDone b (behind atoms work)
 after_well b atoms (Goes others x v) e f = (fits_append b atoms others e f.0, f.1)
 after_well b atoms (Refuses others fault) e f = stops_append b atoms others e f
 after_well b atoms (Waits others) e f = stops_append b atoms others e f
 
-follow_well : {X Y : Type 0} (b : Bool) (work : Work X) (f : X → Step Y) → WellDone b work → ((x : X) → Well (f x)) → WellDone b (follow work f)
+follow_well : {X Y : Type 0} (b : Bool) (work : Worked X) (f : X → Step Y) → WellDone b work → ((x : X) → Well (f x)) → WellDone b (follow work f)
 follow_well b (Goes atoms x v) f e goes = after_well b atoms (f x v) e.0 ((goes x).stays v b e.1)
 follow_well b (Refuses atoms fault) f e goes = e
 follow_well b (Waits atoms) f e goes = e
@@ -332,7 +332,7 @@ opened_well (deeper ∷ inside) part e goes = goes deeper inside e.0 e.1
 failure_well : (step : Step (Unit {0})) → Well step → Well (puts (From ∷ []) >> step >> puts (Break ∷ To ∷ []))
 failure_well step e = record { stays = λ w b i. by b (step w) (e.stays w b i) }
   where
-    by : (b : Bool) (work : Work (Unit {0})) → WellDone b work → WellDone b (follow (behind (From ∷ []) work) (λ u. puts (Break ∷ To ∷ [])))
+    by : (b : Bool) (work : Worked (Unit {0})) → WellDone b work → WellDone b (follow (behind (From ∷ []) work) (λ u. puts (Break ∷ To ∷ [])))
     by b (Goes atoms u v) done = (fits_failure b atoms done.0, done.1)
     by b (Refuses atoms fault) done = stops_failure b atoms done
     by b (Waits atoms) done = stops_failure b atoms done
@@ -392,7 +392,7 @@ module _ (F : Facts) (C : Context) where
   has_well : (name : List ℕ) (args : List (List ℕ)) → Well (has_value F C name args)
   has_well name args = then_well (call_well name args) (λ given. give_well (is_some given))
 
-  words_well : (w : World) (b : Bool) (work : Work (Unit {0})) → w.is_in_file ≡ b → WellDone b work → WellDone b (words_of F C w work)
+  words_well : (w : World) (b : Bool) (work : Worked (Unit {0})) → w.is_in_file ≡ b → WellDone b work → WellDone b (words_of F C w work)
   words_well w b (Goes atoms u v) i e = (needs_well (argument_words F C atoms)).stays v b e.1
   words_well w b (Refuses atoms fault) i e = (needs_well (all_taken F C nothing_cut atoms >>- λ c. Is (Err fault))).stays w b i
   words_well w b (Waits atoms) i e = (needs_well (all_taken F C nothing_cut atoms >>- λ c. Unasked)).stays w b i
@@ -408,7 +408,7 @@ module _ (F : Facts) (C : Context) where
   one_file : (atoms : List Atom) → Unfiled atoms → Stretched (Break ∷ FileFrom ∷ atoms ++ Break ∷ FileTo ∷ [])
   one_file atoms e = record { stretches = Filed atoms ∷ []; whole = ap (λ (b : Bool). b || false) e; same = append-nil (Break ∷ FileFrom ∷ atoms ++ Break ∷ FileTo ∷ []) }
 
-  filed_well : (work : Work (Unit {0})) → WellDone true work → WellDone false (filed F C work)
+  filed_well : (work : Worked (Unit {0})) → WellDone true work → WellDone false (filed F C work)
   filed_well (Goes atoms u v) e =
       after_well false (Break ∷ FileFrom ∷ atoms ++ Break ∷ FileTo ∷ []) ((needs (file_words F C atoms) >>= named_file F C) (record v { is_in_file = false })) (one_file atoms e.0.0, even_file atoms e.0.1)
       ((then_well (needs_well (file_words F C atoms)) named_file_well).stays (record v { is_in_file = false }) false refl)
@@ -528,7 +528,7 @@ module _ (F : Facts) (C : Context) where
   text_well : (items : Items) (n : ℕ) → Well (items_step F C items (levels_left F C n) [] >> puts (Break ∷ End ∷ []))
   text_well items n = then_well (items_well items (levels_left F C n) [] (levels_well n)) (λ u. puts_well (Break ∷ End ∷ []) refl)
 
-  goes_stretched : (work : Work (Unit {0})) (xs : List Atom) (w : World) → WellDone false work → work ≡ Goes xs tt w → Stretched xs
+  goes_stretched : (work : Worked (Unit {0})) (xs : List Atom) (w : World) → WellDone false work → work ≡ Goes xs tt w → Stretched xs
   goes_stretched (Goes ys u v) xs w e is = let same : ys ≡ xs = cc in subst Stretched same e.0.0
   goes_stretched (Refuses ys fault) xs w e is = absurd cc
   goes_stretched (Waits ys) xs w e is = absurd cc
@@ -544,7 +544,7 @@ module _ (F : Facts) (C : Context) where
   stops_as b atoms e Failure = e.1 0
   stops_as b atoms e File = halted_open b atoms e.0
 
-  balanced_as : (b : Bool) (work : Work (Unit {0})) → WellDone b work → Balanced work
+  balanced_as : (b : Bool) (work : Worked (Unit {0})) → WellDone b work → Balanced work
   balanced_as b (Goes atoms u v) e = λ enclosed. goes_as b atoms e.0 enclosed
   balanced_as b (Refuses atoms fault) e = λ enclosed. stops_as b atoms e enclosed
   balanced_as b (Waits atoms) e = λ enclosed. stops_as b atoms e enclosed

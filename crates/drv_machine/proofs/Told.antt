@@ -8,7 +8,7 @@ use Rattle.drv_machine.specs.Cuts.{Stretched, stretch_atoms}
 use Rattle.drv_machine.specs.Cutting.{Cut, NamedLine, all_taken, nothing_cut}
 use Rattle.drv_machine.specs.Outcome.{cut, ends_piped, finished, groups, job, most_piped, outcome}
 use Rattle.drv_machine.specs.Told.{Told, lasting_of}
-use Rattle.drv_machine.specs.Working.{◌>>-◌, Answer, Atom, Goes, Refuses, Waits, Work, World}
+use Rattle.drv_machine.specs.Working.{◌>>-◌, Answer, Atom, Goes, Refuses, Waits, Worked, World}
 use Rattle.drv_machine.specs.declared.fault.MachineFault.TheVariants.{PipeTooLong, StrayPipe}
 use Rattle.drv_machine.specs.declared.outcome.Outcome.{Outcome}
 use Rattle.drv_syntax.specs.Tree.{Items}
@@ -76,7 +76,7 @@ module _ (F : Facts) (C : Context) where
   told_from : (items : Items) (o : Outcome) (list : List Atom) (w : World) → atoms F C items ≡ Goes list tt w → Came (all_taken F C nothing_cut list) (λ c. finished F C w c) o → Told F C items o
   told_from items o list w gives (c, is, e) = told_as items o list w c gives is (are_stretched F C items list w gives) (ended_as w c o e)
 
-  told_by : (items : Items) (o : Outcome) (work : Work (Unit {0})) → atoms F C items ≡ work → cut F C work ≡ Is (Ok o) → Told F C items o
+  told_by : (items : Items) (o : Outcome) (work : Worked (Unit {0})) → atoms F C items ≡ work → cut F C work ≡ Is (Ok o) → Told F C items o
   told_by items o (Goes list u w) gives e = told_from items o list w gives (came (all_taken F C nothing_cut list) (λ c. finished F C w c) o e)
   told_by items o (Refuses list fault) gives e = by (came (all_taken F C nothing_cut list) (λ c. Is (Err fault)) o e)
     where

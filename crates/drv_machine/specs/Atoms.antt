@@ -5,7 +5,7 @@ use Rattle.drv_machine.specs.Context.{Context, Source, argument, names, site_of,
 use Rattle.drv_machine.specs.Cutting.{all_taken, argument_words, file_words, nothing_cut}
 use Rattle.drv_machine.specs.Temps.{last_drawn, temp_name}
 use Rattle.drv_machine.specs.Names.{base, is_word, language_of, stem, suffix_of}
-use Rattle.drv_machine.specs.Working.{◌>>-◌, ◌>>=◌, ◌>>◌, Atom, Break, End, FileFrom, FileTo, From, Goes, Levels, Marked, Piped, Put, Refuses, Step, To, Waits, Without, Work, World, behind, bytes, called, change, counted, give, is_among, known, look, most_open, needs, nothing, opened, puts, refuse, word_of, words}
+use Rattle.drv_machine.specs.Working.{◌>>-◌, ◌>>=◌, ◌>>◌, Atom, Break, End, FileFrom, FileTo, From, Goes, Levels, Marked, Piped, Put, Refuses, Step, To, Waits, Without, Worked, World, behind, bytes, called, change, counted, give, is_among, known, look, most_open, needs, nothing, opened, puts, refuse, word_of, words}
 use Rattle.drv_machine.specs.declared.fault.MachineFault.TheVariants as fault
 use Rattle.drv_machine.specs.declared.fault.MachineFault.TheVariants.{NoInput, NotInLink}
 use Rattle.drv_machine.specs.declared.machine.marking.Mark.TheVariants.{AsFile, AsOutput, AsRemoved, AsScript}
@@ -122,7 +122,7 @@ module _ (F : Facts) (C : Context) where
   emitted patterns hidden = flat_map switch_atoms (filter (λ i. list_any (λ p. is_hit (names C) hidden (matching p.1) i) patterns) places)
 
   -- the words of arguments, whose atoms go nowhere else; what stops first in their order counts
-  abbrev pub words_of : World → Work (Unit {0}) → Work (List (List ℕ))
+  abbrev pub words_of : World → Worked (Unit {0}) → Worked (List (List ℕ))
   words_of w (Goes atoms u v) = needs (argument_words F C atoms) v
   words_of w (Refuses atoms fault) = needs (all_taken F C nothing_cut atoms >>- λ c. Is (Err fault)) w
   words_of w (Waits atoms) = needs (all_taken F C nothing_cut atoms >>- λ c. Unasked) w
@@ -159,7 +159,7 @@ module _ (F : Facts) (C : Context) where
       draw_with (response_text (word ∷ words)) Anew (codes ".args") >>= λ path. puts (map Put (at_sign ∷ path) ++ Break ∷ [])
 
   -- what stands in a %@ that makes a file: its words are those of the file, and then the file is named
-  abbrev pub filed : Work (Unit {0}) → Work (Unit {0})
+  abbrev pub filed : Worked (Unit {0}) → Worked (Unit {0})
   filed (Goes atoms u v) =
       behind (Break ∷ FileFrom ∷ atoms ++ Break ∷ FileTo ∷ []) ((needs (file_words F C atoms) >>= named_file) (record v { is_in_file = false }))
   filed (Refuses atoms fault) = Refuses (Break ∷ FileFrom ∷ atoms) fault
@@ -286,5 +286,5 @@ module _ (F : Facts) (C : Context) where
   abbrev pub whole_text : Items → Step (Unit {0})
   whole_text items = items_step items (levels_left most_open) [] >> puts (Break ∷ End ∷ [])
 
-  abbrev pub atoms : Items → Work (Unit {0})
+  abbrev pub atoms : Items → Worked (Unit {0})
   atoms items = whole_text items start

@@ -1,6 +1,6 @@
 use Rattle.drv_machine.specs.Context.{Context}
-use Rattle.drv_machine.specs.Cutting.{Line, NamedLine, found_file, found_script, named_line, no_line, script_option}
-use Rattle.drv_machine.specs.Working.{◌>>-◌, Answer, Atom, Break, End, FileFrom, FileTo, From, Goes, Marked, Open, Piped, Put, Refuses, To, Waits, Without, Work}
+use Rattle.drv_machine.specs.Cutting.{CutLine, NamedLine, found_file, found_script, named_line, no_line, script_option}
+use Rattle.drv_machine.specs.Working.{◌>>-◌, Answer, Atom, Break, End, FileFrom, FileTo, From, Goes, Marked, Open, Piped, Put, Refuses, To, Waits, Without, Worked}
 use Rattle.drv_machine.specs.declared.machine.marking.Mark.TheVariants.{AsFile, AsOutput, AsRemoved, AsScript}
 use Rattle.drv_system.specs.Facts.{Facts}
 use Rattle.drv_system.specs.Known.{Is}
@@ -308,14 +308,14 @@ open_behind [] enclosed count = Some count
 open_behind (atom ∷ atoms) enclosed count = option_and_then (λ left. open_behind atoms enclosed left) (open_after atom enclosed count)
 
 -- None ends that is not open, and no file begins in another. Where work goes to its end, none is left open.
-abbrev pub Balanced : {X : Type 0} → Work X → Type 0
+abbrev pub Balanced : {X : Type 0} → Worked X → Type 0
 Balanced (Goes atoms x w) = (enclosed : Enclosed) → open_behind atoms enclosed 0 ≡ Some 0
 Balanced (Refuses atoms fault) = (enclosed : Enclosed) → is_some (open_behind atoms enclosed 0) ≡ true
 Balanced (Waits atoms) = (enclosed : Enclosed) → is_some (open_behind atoms enclosed 0) ≡ true
 
 module _ (F : Facts) (C : Context) where
   -- the words of a command, and whether a pipe stands in it
-  abbrev pub line_of : List Piece → Answer Line
+  abbrev pub line_of : List Piece → Answer CutLine
   line_of [] = Is (Ok no_line)
   line_of (Word word ∷ pieces) = texts F C word >>- λ words. line_of pieces >>- λ line. Is (Ok (record { words = words ++ line.words; piped = line.piped }))
   line_of (Part ∷ pieces) = line_of pieces

@@ -12,7 +12,7 @@ use Rattle.std.specs.Prelude.{◌&&◌, ◌||◌, Bool, List, [], ◌∷◌, ◌
 -- Atoms cut into words with their marks, and words into commands (this project's profile).
 
 -- the words of a command so far, and whether it ends with a pipe
-pub record Line : Type 0 where
+pub record CutLine : Type 0 where
   pub words : List (List ℕ)
   pub piped : Bool
 
@@ -27,19 +27,19 @@ pub record Cut : Type 0 where
   pub word : Option (List ℕ)  -- that is open
   pub marks : Marking
   pub barred : Bool  -- the open word began before a %V
-  pub line : Line  -- that is open
+  pub line : CutLine  -- that is open
   pub lines : List NamedLine  -- that have ended
   pub stray : Bool  -- a pipe stood without a word before it, or something stood behind one
   pub removed : List (List ℕ)
   pub on_failure : List (List ℕ)
   pub output : Option (List ℕ)
-  pub outer : Option Line  -- the command, where words go to the file of a %@
+  pub outer : Option CutLine  -- the command, where words go to the file of a %@
   pub inside : List (Option (List ℕ))  -- for each %W that is open the last word that ended in it, the innermost first
 
 abbrev pub no_marks : Marking
 no_marks = record { removed = false; output = false; file = false; script = false }
 
-abbrev pub no_line : Line
+abbrev pub no_line : CutLine
 no_line = record { words = []; piped = false }
 
 abbrev pub nothing_cut : Cut
@@ -85,7 +85,7 @@ word_done c words last = record c {
 }
 
 -- the command of a line, if a word stands in it
-abbrev pub named_line : Line → Option NamedLine
+abbrev pub named_line : CutLine → Option NamedLine
 named_line line = by line.words
   where
     by : List (List ℕ) → Option NamedLine
@@ -114,7 +114,7 @@ inside_done (Some last ∷ outer) c = record c { inside = outer; on_failure = c.
 abbrev pub line_ended : Cut → Cut
 line_ended c = by c.outer
   where
-    by : Option Line → Cut
+    by : Option CutLine → Cut
     by None = line_done c
     by (Some line) = c
 
@@ -122,7 +122,7 @@ line_ended c = by c.outer
 abbrev pub pipe_ended : Cut → Cut
 pipe_ended c = by c.outer
   where
-    by : Option Line → Cut
+    by : Option CutLine → Cut
     by None = pipe_done c
     by (Some line) = c
 
@@ -134,7 +134,7 @@ file_begun c = record c { outer = Some c.line; line = no_line }
 abbrev pub file_done : Cut → Cut
 file_done c = by c.outer
   where
-    by : Option Line → Cut
+    by : Option CutLine → Cut
     by None = c
     by (Some line) = record c { outer = None; line = line }
 

@@ -1,7 +1,7 @@
 use Rattle.drv_machine.specs.Atoms.{atoms}
 use Rattle.drv_machine.specs.Context.{Context}
 use Rattle.drv_machine.specs.Cutting.{Cut, NamedLine, all_taken, nothing_cut}
-use Rattle.drv_machine.specs.Working.{◌>>-◌, Answer, Goes, Refuses, Waits, Work, World, is_among, known}
+use Rattle.drv_machine.specs.Working.{◌>>-◌, Answer, Goes, Refuses, Waits, Worked, World, is_among, known}
 use Rattle.drv_machine.specs.declared.fault.MachineFault.TheVariants.{PipeTooLong, StrayPipe}
 use Rattle.drv_machine.specs.declared.outcome.Outcome.{Outcome}
 use Rattle.drv_search.specs.Search.{program_found}
@@ -73,7 +73,7 @@ finished F C w c =
     else Is (Ok (record { job = job w c commands; notices = w.notices; outs = w.outputs; accumulated = w.options; next_number = w.number; cost = w.items })))
 
 -- what stops first in the order of the list counts
-abbrev pub cut : Facts → Context → Work (Unit {0}) → Answer Outcome
+abbrev pub cut : Facts → Context → Worked (Unit {0}) → Answer Outcome
 cut F C (Goes atoms u w) = all_taken F C nothing_cut atoms >>- λ c. finished F C w c
 cut F C (Refuses atoms fault) = all_taken F C nothing_cut atoms >>- λ c. Is (Err fault)
 cut F C (Waits atoms) = all_taken F C nothing_cut atoms >>- λ c. Unasked

@@ -74,21 +74,21 @@ called (Is (Ok x)) = Is (Ok x)
 called (Is (Err fault)) = Is (Err (funcs_lifted fault))
 
 -- atoms, and then a value and the world after them; or a refusal; or the want of an answer of the facts
-pub data Work (X : Type 0) : Type 0 where
-  Goes : List Atom → X → World → Work X
-  Refuses : List Atom → MachineFault → Work X
-  Waits : List Atom → Work X
+pub data Worked (X : Type 0) : Type 0 where
+  Goes : List Atom → X → World → Worked X
+  Refuses : List Atom → MachineFault → Worked X
+  Waits : List Atom → Worked X
 
 -- a part of a text, by the world before it
 abbrev pub Step : Type 0 → Type 0
-Step X = World → Work X
+Step X = World → Worked X
 
-abbrev pub behind : {X : Type 0} → List Atom → Work X → Work X
+abbrev pub behind : {X : Type 0} → List Atom → Worked X → Worked X
 behind atoms (Goes others x w) = Goes (atoms ++ others) x w
 behind atoms (Refuses others fault) = Refuses (atoms ++ others) fault
 behind atoms (Waits others) = Waits (atoms ++ others)
 
-abbrev pub follow : {X Y : Type 0} → Work X → (X → Step Y) → Work Y
+abbrev pub follow : {X Y : Type 0} → Worked X → (X → Step Y) → Worked Y
 follow (Goes atoms x w) next = behind atoms (next x w)
 follow (Refuses atoms fault) next = Refuses atoms fault
 follow (Waits atoms) next = Waits atoms

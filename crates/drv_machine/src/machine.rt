@@ -48,15 +48,15 @@ const MOST_ITEMS: usize = 1_000_000;
 
 /// A command as it was cut so far: its words, and whether it ends with a pipe.
 #[derive(Drop)]
-pub(crate) struct Line {
+pub(crate) struct CutLine {
     pub(crate) words: Listing<Word>,
     pub(crate) piped: bool,
 }
 
-impl Model for Line {
+impl Model for CutLine {
     ghost use Rattle.drv_machine.specs.Cutting as cutting;
 
-    ghost Value = { cutting.Line };
+    ghost Value = { cutting.CutLine };
 
     ghost view = { λ l. record { words = l.words; piped = l.piped } };
 }
@@ -114,7 +114,7 @@ pub(crate) struct Machine {
     /// Whether a pipe stood where none may.
     is_stray: bool,
     /// The command, where words go to the file of a `%@`.
-    outer: Option<Line>,
+    outer: Option<CutLine>,
     /// The marks of the open word, or those that wait for the next one.
     marks: Marking,
     /// Whether the open word began before a `%V`.

@@ -1,7 +1,7 @@
 use Rattle.drv_machine.specs.Atoms.{start}
 use Rattle.drv_machine.specs.Context.{Context}
 use Rattle.drv_machine.specs.Cutting.{Cut, all_taken, nothing_cut}
-use Rattle.drv_machine.specs.Working.{◌>>-◌, Answer, Goes, Refuses, Step, Waits, Work, World}
+use Rattle.drv_machine.specs.Working.{◌>>-◌, Answer, Goes, Refuses, Step, Waits, Worked, World}
 use Rattle.drv_system.specs.Facts.{Facts}
 use Rattle.drv_system.specs.Known.{Is, Unasked}
 use Rattle.std.specs.Prelude.{Err, Ok}
@@ -15,7 +15,7 @@ pub record Machine : Type 0 where
   pub world : World
 
 module _ (F : Facts) (C : Context) where
-  abbrev pub done : {X : Type 0} → Cut → Work X → Answer (X × Machine)
+  abbrev pub done : {X : Type 0} → Cut → Worked X → Answer (X × Machine)
   done c (Goes atoms x w) = all_taken F C c atoms >>- λ d. Is (Ok (x, record { cut = d; world = w }))
   done c (Refuses atoms fault) = all_taken F C c atoms >>- λ d. Is (Err fault)
   done c (Waits atoms) = all_taken F C c atoms >>- λ d. Unasked

@@ -3,7 +3,7 @@
 ghost use Rattle.drv_machine.specs.Cutting.{nothing_cut};
 ghost use Rattle.std.specs.Prelude.{◌≡◌};
 
-use super::{Inside, Line, Machine, Marking, NamedLine};
+use super::{CutLine, Inside, Machine, Marking, NamedLine};
 use drv_words::{Listing, Word};
 use smallvec::SmallVec;
 use std::marker::Model;
@@ -18,7 +18,7 @@ pub(crate) struct Cutter {
     is_piped: bool,
     lines: Listing<NamedLine>,
     is_stray: bool,
-    outer: Option<Line>,
+    outer: Option<CutLine>,
     marks: Marking,
     is_barred: bool,
     removed: Listing<Word>,

@@ -10,7 +10,7 @@ ghost use Rattle.drv_system.specs.Facts.{Facts};
 ghost use Rattle.drv_system.specs.Gives.{GivesKnown};
 ghost use Rattle.std.specs.Prelude.{◌≡◌, OnOk, length};
 
-use super::{Drawing, Line, Machine};
+use super::{CutLine, Drawing, Machine};
 use crate::outside::Outside;
 use crate::{Context, MachineFault};
 use drv_system::System;
@@ -31,7 +31,7 @@ impl Machine {
     {
         let words = mem::replace(&mut self.line, Listing::new(self.alloc));
         let piped = mem::replace(&mut self.is_piped, false);
-        self.outer = Some(Line { words, piped });
+        self.outer = Some(CutLine { words, piped });
         self.is_in_file = true;
     }
 
