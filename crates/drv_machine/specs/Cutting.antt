@@ -130,7 +130,7 @@ pipe_ended c = by c.outer
 abbrev pub file_begun : Cut → Cut
 file_begun c = record c { outer = Some c.line; line = no_line }
 
--- and ends, where one is open; nor do the atoms of a text come to the end of another
+-- and ends. Where none is open, none ends: the atoms of no text come to that either.
 abbrev pub file_done : Cut → Cut
 file_done c = by c.outer
   where
