@@ -57,16 +57,13 @@ enum ReadFault {
     Failed,
 }
 
-/// Makes the room of the next read twice as large, unless it is large. What it holds was taken out
-/// of it, and isn't copied.
+/// Makes the room of the next read twice as large, unless it is large.
 fn widen(room: &mut Vec<u8>) -> Result<(), AllocError>
     requires { 0 < length room.old.items }
     ensures { OnOk result (0 < length room.new.items) }
 {
     if room.len() < MOST_ROOM {
-        let mut wider = Vec::new(*room.allocator());
-        wider.resize(room.len() * 2, 0)?;
-        *room = wider;
+        room.resize(room.len() * 2, 0)?;
     }
     Ok(())
 }

@@ -19,6 +19,16 @@ use std::mem;
 /// the text names.
 const OTHER_WORDS: usize = 32;
 
+/// Makes room for so many words more, and for some others after them where that room isn't there.
+fn with_room(words: &mut Vec<Word>, count: usize) -> Result<(), AllocError>
+    ensures { words.new.items ≡ words.old.items }
+{
+    if words.capacity() - words.len() >= count {
+        return Ok(());
+    }
+    words.reserve(count.saturating_add(OTHER_WORDS))
+}
+
 impl Machine {
     /// Makes room for so many words more of the open command, and for some others after them, so
     /// that it isn't copied as it grows.
@@ -26,7 +36,7 @@ impl Machine {
         ensures { self.new ≡ self.old }
     {
         let mut words = mem::replace(&mut self.line, Listing::new(self.alloc)).into_vec();
-        let made = words.reserve(count.saturating_add(OTHER_WORDS));
+        let made = with_room(&mut words, count);
         self.line = Listing::from_vec(words);
         made
     }
