@@ -1,5 +1,5 @@
-use Rattle.drv_words.specs.Response.{ArePieces, EndsWord, IsPiece, IsRun, Splits, at_end, at_space, backslash, escaped, is_quote, is_space, more, no_more, nothing, one_word, plain, quoted, run_backslash, run_closed, run_escaped, run_plain, run_unclosed, space}
-use Rattle.drv_words.specs.Code.Splitter.{open_word, start, words_of}
+use Rattle.drv_words.specs.Response.{ArePieces, EndsWord, IsPiece, IsRun, Splits, SplitsOnto, at_end, at_space, backslash, escaped, is_quote, is_space, more, no_more, nothing, one_word, plain, quoted, run_backslash, run_closed, run_escaped, run_plain, run_unclosed, space}
+use Rattle.drv_words.specs.Code.Splitter.{behind, open_word, words_of}
 use Rattle.drv_words.specs.declared.response.Splitter.{Splitter}
 use Rattle.std.proofs.Common.{◌≡◌, ◌||◌, ◌==◌, Bool, false, true, List, [], ◌∷◌, ◌++◌, None, Option, Some, refl, sym, subst, ap, ◌∙◌, append_assoc, ℕ}
 use Rattle.std.proofs.Math.Seq.{append_snoc}
@@ -170,14 +170,20 @@ goes_on (b ∷ text) = by (is_space b) refl (goes_on text)
         }
 
 -- what the splitter gives is in the grammar, and nothing else is
-pub split_is_grammar : (text : List ℕ) (words : List (List ℕ)) → words ≡ words_of start text → Splits text words
-split_is_grammar text words e =
+pub split_is_onto : (text : List ℕ) (words all : List (List ℕ)) → all ≡ words_of (behind words) text → SplitsOnto text words all
+split_is_onto text words all e =
+    let goes : Goes text = goes_on text in
+    (goes.words, e ∙ splits_split goes.splits words, goes.splits)
+
+pub split_is_grammar : (text : List ℕ) (none words : List (List ℕ)) → none ≡ [] → words ≡ words_of (behind none) text → Splits text words
+split_is_grammar text none words empty e =
     let goes : Goes text = goes_on text in
     let P : List (List ℕ) → Type 0 = λ ws. Splits text ws in
-    subst P (sym (e ∙ splits_split goes.splits [])) goes.splits
+    subst P (sym (e ∙ splits_split goes.splits none ∙ ap (λ front. front ++ goes.words) empty)) goes.splits
 
-pub split_is_only : (text : List ℕ) (words : List (List ℕ)) → words ≡ words_of start text → (others : List (List ℕ)) → Splits text others → words ≡ others
-split_is_only text words e others splits = e ∙ splits_split splits []
+pub split_is_only : (text : List ℕ) (none words : List (List ℕ)) → none ≡ [] → words ≡ words_of (behind none) text
+    → (others : List (List ℕ)) → Splits text others → words ≡ others
+split_is_only text none words empty e others splits = e ∙ splits_split splits none ∙ ap (λ front. front ++ others) empty
 
 -- a text has words, and no others
 pub some_words : (text : List ℕ) → (words : List (List ℕ)) × Splits text words

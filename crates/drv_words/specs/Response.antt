@@ -46,6 +46,10 @@ pub data Splits : List ℕ → List (List ℕ) → Type 0 where
   space : {b : ℕ} {rest : List ℕ} {words : List (List ℕ)} → is_space b ≡ true → Splits rest words → Splits (b ∷ rest) words
   one_word : {text bytes mid word rest : List ℕ} {words : List (List ℕ)} → IsPiece text bytes mid → ArePieces mid word rest → Splits rest words → Splits text ((bytes ++ word) ∷ words)
 
+-- the words of a text, put behind others
+abbrev pub SplitsOnto : List ℕ → List (List ℕ) → List (List ℕ) → Type 0
+SplitsOnto text words all = (more : List (List ℕ)) × (all ≡ words ++ more) × Splits text more
+
 -- The text that stands for words: a line each.
 
 -- the bytes after a backslash: white space, both quotes and the backslash

@@ -18,6 +18,6 @@ pub use plan::{Command, Group, Job, Plan, PlanLine, Temp};
 pub use printing::{plan_lines, render, render_plan};
 pub use quoting::quote;
 pub use reading_back::{one_list_of_lines, read_back};
-pub use response::{one_list_of_words, respond_text, split};
+pub use response::{one_list_of_words, respond_text, split, split_onto};
 pub use steps::{Note, Place, RunEvent, Step};
 pub use word::Word;

@@ -1,6 +1,7 @@
 //! An owned list that contracts see as the list of its items.
 
-ghost use Rattle.std.specs.Prelude.{◌≡◌, ◌∷◌, ◌++◌, [], IfErr, IfOk, List, OnErr, OnOk, length};
+ghost use Rattle.std.specs.Prelude.{◌≡◌, ◌∷◌, ◌++◌, [], IfErr, IfOk, List, MatchOption, OnErr, OnOk};
+ghost use Rattle.std.specs.Prelude.{length};
 ghost use Rattle.std.specs.Prelude.{◌↔◌, IsTrue};
 
 use std::alloc::{AllocError, AllocFailed, Global};
@@ -63,6 +64,14 @@ impl<T> Listing<T> {
         self.items.is_empty()
     }
 
+    /// Makes room for so many more items, so that the list doesn't grow item by item. The items
+    /// stay, whatever the result.
+    pub(crate) fn reserve(&mut self, additional: usize) -> Result<(), AllocError>
+        ensures { self.new ≡ self.old }
+    {
+        self.items.reserve(additional)
+    }
+
     /// Adds an item at the end. On an error the list is as it was, and the item comes back.
     pub fn push(&mut self, item: T) -> Result<(), AllocFailed<T>>
         ensures ok { OnOk result (self.new ≡ self.old ++ item ∷ []) }
@@ -70,6 +79,14 @@ impl<T> Listing<T> {
         ensures value_returned { IfErr result (λ e. e.value ≡ item) }
     {
         self.items.push(item)
+    }
+
+    /// Takes the last item off, if there is one.
+    pub fn pop(&mut self) -> Option<T>
+        ensures { MatchOption result ((self.old ≡ []) × (self.new ≡ []))
+            (λ item. self.old ≡ self.new ++ item ∷ []) }
+    {
+        self.items.pop()
     }
 
     /// Moves the items of another list to the end. On an error the list is as it was.

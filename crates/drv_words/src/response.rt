@@ -1,9 +1,9 @@
 //! The text of response files, both ways.
 
-ghost use Rattle.drv_words.specs.Response.{Splits, is_marked, is_quote, is_space, marked, response};
-ghost use Rattle.drv_words.specs.Response.{response_text};
-ghost use Rattle.drv_words.specs.Code.Splitter.{ended, is_outside, opened, plain_length};
-ghost use Rattle.drv_words.specs.Code.Splitter.{plain_step, quoted_step, start, step, with_byte};
+ghost use Rattle.drv_words.specs.Response.{Splits, SplitsOnto, is_marked, is_quote, is_space};
+ghost use Rattle.drv_words.specs.Response.{marked, response, response_text};
+ghost use Rattle.drv_words.specs.Code.Splitter.{behind, ended, is_outside, opened, plain_length};
+ghost use Rattle.drv_words.specs.Code.Splitter.{plain_step, quoted_step, step, with_byte};
 ghost use Rattle.drv_words.specs.Code.Splitter.{with_bytes, words_of};
 ghost use Rattle.std.specs.List.{position};
 ghost use Rattle.std.specs.Prelude.{◌≡◌, ◌<◌, ◌≤◌, ◌∷◌, ◌++◌, [], IfOk, List, OnOk, length, true};
@@ -11,6 +11,14 @@ ghost use Rattle.std.specs.Prelude.{ℕ};
 
 use crate::{Listing, Word};
 use std::alloc::{AllocError, Global};
+use std::mem;
+
+/// The list of words is given room at once for as many as the text of a file may have, up to this
+/// number.
+const MOST_ROOM: usize = 4096;
+
+/// A word of a response file has so many bytes or more, mostly, with the white space after it.
+const BYTES_A_WORD: usize = 4;
 
 /// Whether a byte is white space in response text: tab to carriage return, and space.
 fn is_space_byte(byte: u8) -> bool
@@ -54,8 +62,9 @@ fn plain_length(text: &[u8]) -> usize
     first_marked(text).unwrap_or(text.len())
 }
 
-/// A splitter of response text: the words that ended, the word that is open, the quote of its run,
-/// and whether the last byte was a backslash that stands for the next.
+/// A splitter of response text: the words that ended, after those that were there before, the word
+/// that is open, the quote of its run, and whether the last byte was a backslash that stands for the
+/// next.
 #[derive(Drop)]
 struct Splitter {
     words: Listing<Word>,
@@ -65,11 +74,12 @@ struct Splitter {
 }
 
 impl Splitter {
-    fn new(alloc: Global) -> Splitter
-        ensures { result ≡ start }
+    /// A splitter that puts its words behind these.
+    fn new(words: Listing<Word>) -> Splitter
+        ensures { result ≡ behind words }
     {
         Splitter {
-            words: Listing::new(alloc),
+            words,
             word: None,
             quote: None,
             escaped: false,
@@ -219,17 +229,35 @@ impl Splitter {
     }
 }
 
-/// Splits a whole text.
-fn split_text(alloc: Global, text: &[u8]) -> Result<Listing<Word>, AllocError>
-    ensures { IfOk result (λ words. words ≡ words_of start text.now) }
+/// How many words a text is given room for.
+fn room_for(text: &[u8]) -> usize
+    ensures { result ≤ 4096 }
 {
-    let mut splitter = Splitter::new(alloc);
+    (text.len() / BYTES_A_WORD + 1).min(MOST_ROOM)
+}
+
+/// Splits a whole text, and puts its words behind others.
+fn split_text(alloc: Global, words: Listing<Word>, text: &[u8]) -> Result<Listing<Word>, AllocError>
+    ensures { IfOk result (λ all. all ≡ words_of (behind words) text.now) }
+{
+    let mut splitter = Splitter::new(words);
+    splitter.words.reserve(room_for(text))?;
     let mut left = text;
     while !left.is_empty() {
         left = splitter.take_front(alloc, left)?;
     }
     splitter.end_word()?;
     Ok(splitter.words)
+}
+
+/// Adds the words of a response file's text, as [`split`] gives them, to others, where they stand
+/// from then on.
+pub fn split_onto(alloc: Global, words: &mut Listing<Word>, text: &[u8]) -> Result<(), AllocError>
+    ensures { OnOk result (SplitsOnto text.now words.old words.new) }
+{
+    let others = mem::replace(words, Listing::new(alloc));
+    *words = split_text(alloc, others, text)?;
+    Ok(())
 }
 
 /// The words of a response file's text: separated by white space, with quoted runs and backslashes
@@ -239,7 +267,7 @@ pub fn split(alloc: Global, text: &[u8]) -> Result<Listing<Word>, AllocError>
     ensures only { IfOk result (λ words. (others : List (List ℕ)) → Splits text.now others
         → words ≡ others) }
 {
-    split_text(alloc, text)
+    split_text(alloc, Listing::new(alloc), text)
 }
 
 /// A law: a text has a list of words, and one alone.
