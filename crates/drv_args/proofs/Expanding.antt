@@ -8,9 +8,9 @@ use Rattle.drv_system.specs.Facts.{Facts, read_of}
 use Rattle.drv_system.specs.Known.{◌>>=◌, Is, asked}
 use Rattle.drv_system.specs.declared.event.ReadAnswer.TheVariants.{Failed, Missing}
 use Rattle.drv_system.specs.declared.event.ReadAnswer.{ReadAnswer}
-use Rattle.drv_words.specs.Response.{Splits}
-use Rattle.std.proofs.Common.{◌≡◌, ◌⊎◌, ◌||◌, Bool, Err, List, None, Option, false, is_some, true, [], ◌∷◌, ◌++◌, IsErrAnd, Ok, Result, Some, reverse, refl, sym, subst, ap, ◌∙◌, append_assoc, inl, inr, ℕ, suc}
-use Rattle.std.proofs.Math.Seq.{append_snoc}
+use Rattle.drv_words.specs.Response.{Splits, SplitsOnto}
+use Rattle.std.proofs.Common.{◌≡◌, ◌⊎◌, ◌||◌, drop, take, Bool, Err, List, None, Option, false, is_some, true, [], ◌∷◌, ◌++◌, IsErrAnd, Ok, Result, Some, reverse, refl, sym, subst, ap, ◌∙◌, append_assoc, inl, inr, ℕ, suc}
+use Rattle.std.proofs.Math.Seq.{append_snoc, drop-append_seam, take-append_seam}
 use Rattle.std.specs.List.{list_any}
 use Rattle.std.proofs.lemmas.List.{append-nil, reverse-append, reverse-reverse}
 
@@ -118,17 +118,21 @@ text_goes F left left' stack rest stack' word inner out args popped one pushed (
     let is : reverse stack' ≡ inner ++ reverse rest = ap reverse pushed ∙ reverse-append rest (reverse inner) ∙ ap (λ ws. ws ++ reverse rest) (reverse-reverse inner) in
     subst P (sym is) (goes_by_text F left' word text inner (reverse rest) out args m splits (subst Q one (subst R (next_is stack rest word popped) goes)))
 
-pub many_refused : (F : Facts) (left : ℕ) (stack rest : List (List ℕ)) (word : List ℕ) (inner out args : List (List ℕ))
-    → stack ≡ rest ++ word ∷ [] → left ≡ 0 → StandsFor F word inner → GoesOn F left (reverse stack) out args → Refuses F 2000 args TooManyFiles
-many_refused F left stack rest word inner out args popped none (text, m, splits) goes =
+-- a word that stands for words, which were put behind those that stay
+abbrev pub StandsBehind : Facts → List ℕ → List (List ℕ) → List (List ℕ) → Type 0
+StandsBehind F word out all = (text : List ℕ) × (replacement_of F word ≡ Is (Text text)) × SplitsOnto text out all
+
+pub many_refused : (F : Facts) (left : ℕ) (stack rest : List (List ℕ)) (word : List ℕ) (out all args : List (List ℕ))
+    → stack ≡ rest ++ word ∷ [] → left ≡ 0 → StandsBehind F word out all → GoesOn F left (reverse stack) out args → Refuses F 2000 args TooManyFiles
+many_refused F left stack rest word out all args popped none (text, m, (inner, is, splits)) goes =
     let P : ℕ → Type 0 = λ n. Refuses F n (word ∷ reverse rest) TooManyFiles in
     let Q : List (List ℕ) → Type 0 = λ ws. Refuses F left ws TooManyFiles in
     goes.refuses TooManyFiles (subst Q (sym (next_is stack rest word popped)) (subst P (sym none) (too_many m)))
 
-pub large_refused : (F : Facts) (left : ℕ) (stack rest : List (List ℕ)) (word : List ℕ) (out args : List (List ℕ)) (fault : ArgsFault)
-    → stack ≡ rest ++ word ∷ [] → IsReplaced F word (Err fault) → GoesOn F left (reverse stack) out args → (fault ≡ Memory) ⊎ Refuses F 2000 args fault
-large_refused F left stack rest word out args fault popped (inl memory) goes = inl memory
-large_refused F left stack rest word out args fault popped (inr (path, m, e)) goes =
+pub large_refused : (F : Facts) (left : ℕ) (stack rest : List (List ℕ)) (word : List ℕ) (out all args : List (List ℕ)) (fault : ArgsFault)
+    → stack ≡ rest ++ word ∷ [] → IsReplaced F word out all (Err fault) → GoesOn F left (reverse stack) out args → (fault ≡ Memory) ⊎ Refuses F 2000 args fault
+large_refused F left stack rest word out all args fault popped (inl memory) goes = inl memory
+large_refused F left stack rest word out all args fault popped (inr (path, m, e)) goes =
     let P : ArgsFault → Type 0 = λ f. Refuses F 2000 args f in
     let Q : List (List ℕ) → Type 0 = λ ws. Refuses F left ws (ResponseTooLarge path) in
     inr (subst P (sym e) (goes.refuses (ResponseTooLarge path) (subst Q (sym (next_is stack rest word popped)) (too_large m))))
@@ -190,11 +194,21 @@ stay_goes F left left' stack rest stack' word inner out out' args popped one sam
       refuses = λ fault r. goes.refuses fault (behind m splits (themselves F left' inner none) r);
     }
 
-pub put_goes : (F : Facts) (left left' : ℕ) (stack rest stack' : List (List ℕ)) (word : List ℕ) (inner out out' args : List (List ℕ))
+words_go : (F : Facts) (left left' : ℕ) (stack rest stack' : List (List ℕ)) (word : List ℕ) (inner out out' args : List (List ℕ))
     → stack ≡ rest ++ word ∷ [] → left ≡ suc left' → IsPut inner rest stack' out out' → StandsFor F word inner → GoesOn F left (reverse stack) out args
     → GoesOn F left' (reverse stack') out' args
-put_goes F left left' stack rest stack' word inner out out' args popped one (inl (none, same, more)) stands goes =
+words_go F left left' stack rest stack' word inner out out' args popped one (inl (none, same, more)) stands goes =
     stay_goes F left left' stack rest stack' word inner out out' args popped one same more none stands goes
-put_goes F left left' stack rest stack' word inner out out' args popped one (inr (pushed, same)) stands goes =
+words_go F left left' stack rest stack' word inner out out' args popped one (inr (pushed, same)) stands goes =
     let P : List (List ℕ) → Type 0 = λ o. GoesOn F left' (reverse stack') o args in
     subst P (sym same) (text_goes F left left' stack rest stack' word inner out args popped one pushed stands goes)
+
+pub put_goes : (F : Facts) (left left' start : ℕ) (stack rest stack' : List (List ℕ)) (word : List ℕ) (out all out' args : List (List ℕ))
+    → stack ≡ rest ++ word ∷ [] → left ≡ suc left' → IsReplaced F word out all (Ok (Some start)) → IsPut (drop start all) rest stack' (take start all) out'
+    → GoesOn F left (reverse stack) out args → GoesOn F left' (reverse stack') out' args
+put_goes F left left' start stack rest stack' word out all out' args popped one (at, (text, m, (inner, is, splits))) put goes =
+    let behind_is : drop start all ≡ inner = ap (drop start) is ∙ ap (λ n. drop n (out ++ inner)) at ∙ drop-append_seam out inner in
+    let front_is : take start all ≡ out = ap (take start) is ∙ ap (λ n. take n (out ++ inner)) at ∙ take-append_seam out inner in
+    let P : List (List ℕ) → Type 0 = λ ws. IsPut ws rest stack' (take start all) out' in
+    let Q : List (List ℕ) → Type 0 = λ ws. IsPut inner rest stack' ws out' in
+    words_go F left left' stack rest stack' word inner out out' args popped one (subst Q front_is (subst P behind_is put)) (text, m, splits) goes

@@ -3,16 +3,11 @@ use Rattle.drv_args.specs.declared.fault.ArgsFault.TheVariants.{ResponseTooLarge
 use Rattle.drv_args.specs.declared.fault.ArgsFault.{ArgsFault}
 use Rattle.drv_system.specs.Facts.{Facts}
 use Rattle.drv_system.specs.Known.{Is}
-use Rattle.drv_words.proofs.Splitting.{split_is_only}
+use Rattle.drv_words.proofs.Splitting.{one_list}
 use Rattle.drv_words.specs.Response.{Splits}
-use Rattle.drv_words.specs.Code.Splitter.{start, words_of}
 use Rattle.std.proofs.Common.{◌≡◌, List, ◌∷◌, ◌++◌, refl, sym, subst, ap, ◌∙◌, ℕ}
 
 -- Words respond to one list of words, or are refused once.
-
-one_split : (text : List ℕ) (a b : List (List ℕ)) → Splits text a → Splits text b → a ≡ b
-one_split text a b splits_a splits_b =
-    sym (split_is_only text (words_of start text) refl a splits_a) ∙ split_is_only text (words_of start text) refl b splits_b
 
 one_replacement : (F : Facts) (word : List ℕ) (a b : Replacement) → replacement_of F word ≡ Is a → replacement_of F word ≡ Is b → a ≡ b
 one_replacement F word a b m m' = let same : Is a ≡ Is b = sym m ∙ m' in cc
@@ -32,7 +27,7 @@ same_inner : (F : Facts) (word text text' : List ℕ) (inner inner' : List (List
 same_inner F word text text' inner inner' m splits m' splits' =
     let same : Text text' ≡ Text text = one_replacement F word (Text text') (Text text) m' m in
     let texts : text' ≡ text = cc in
-    one_split text inner' inner (subst (λ (t : List ℕ). Splits t inner') texts splits') splits
+    one_list text inner' inner (subst (λ (t : List ℕ). Splits t inner') texts splits') splits
 
 record Same (left left' : ℕ) (out out' : List (List ℕ)) : Type 0 where
   lefts : left ≡ left'

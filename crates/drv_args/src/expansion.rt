@@ -5,11 +5,11 @@ ghost use Rattle.drv_args.specs.Code.Replacing.{IsPut, IsReplaced};
 ghost use Rattle.drv_system.specs.Asking.{Asks, Extends};
 ghost use Rattle.drv_system.specs.Facts.{Facts};
 ghost use Rattle.std.specs.List.{list_any};
-ghost use Rattle.std.specs.Prelude.{◌≡◌, ◌++◌, IfOk, List, OnOk, is_some, ℕ, reverse};
+ghost use Rattle.std.specs.Prelude.{◌≡◌, ◌++◌, IfOk, OnOk, drop, is_some, reverse, take};
 
 use crate::{ArgsFault, Expanded};
 use drv_system::{FactTable, ReadAnswer, System};
-use drv_words::{Listing, Word, split};
+use drv_words::{Listing, Word, split_onto};
 use std::alloc::{AllocError, Global};
 
 /// How many words may be replaced.
@@ -25,34 +25,49 @@ fn named_file(alloc: Global, word: &Word) -> Result<Option<Word>, AllocError>
     }
 }
 
-/// The words that replace a word: those of the response file that it names, if that can be read.
+/// Replaces a word by those of the response file that it names, if that can be read: they are put
+/// behind the words that stay. Where the first of them stands there.
 #[tactic(auto, using(drv_system::proofs::Asking::asks_then))]
-fn replacement<S: System>(
+fn replace_word<S: System>(
     alloc: Global,
     word: &Word,
     sys: &mut S,
     facts: &mut FactTable,
-) -> Result<Option<Listing<Word>>, ArgsFault>
+    words: &mut Listing<Word>,
+) -> Result<Option<usize>, ArgsFault>
     ensures asks { Asks (S.events sys.old) (S.events sys.new) facts.old facts.new }
-    ensures replaces { (F : Facts) → Extends facts.new F → IsReplaced F word.now result }
+    ensures replaces { (F : Facts) → Extends facts.new F
+        → IsReplaced F word.now words.old words.new result }
 {
     let Some(path) = named_file(alloc, word)? else {
         return Ok(None);
     };
     facts.read(sys, &path)?;
     match facts.read_answer(&path) {
-        ReadAnswer::Read(text) => Ok(Some(split(alloc, text.as_bytes())?)),
+        ReadAnswer::Read(text) => {
+            let start = words.len();
+            split_onto(alloc, words, text.as_bytes())?;
+            Ok(Some(start))
+        }
         ReadAnswer::Missing | ReadAnswer::Failed => Ok(None),
         ReadAnswer::TooLarge => Err(ArgsFault::ResponseTooLarge(path)),
     }
 }
 
-/// Puts words on the stack, the first on top.
-fn push_reversed(stack: &mut Vec<Word>, words: Listing<Word>) -> Result<(), AllocError>
-    ensures { OnOk result (stack.new.items ≡ stack.old.items ++ reverse words) }
+/// Takes the words from a place on off the list, and puts them on the stack, the first on top.
+fn push_reversed(
+    stack: &mut Vec<Word>,
+    words: &mut Listing<Word>,
+    start: usize,
+) -> Result<(), AllocError>
+    ensures stack { OnOk result
+        (stack.new.items ≡ stack.old.items ++ reverse (drop start words.old)) }
+    ensures words { OnOk result (words.new ≡ take start words.old) }
 {
-    let mut words = words.into_vec();
-    while let Some(word) = words.pop() {
+    while words.len() > start {
+        let Some(word) = words.pop() else {
+            return Ok(());
+        };
         stack.push(word)?;
     }
     Ok(())
@@ -72,19 +87,21 @@ fn name_files(words: &[Word]) -> bool
     words.iter().any(names_file)
 }
 
-/// Puts the words of a file in place of the word that named it: at the end of those that stay,
-/// where none of them names a file, and otherwise on the stack, the first on top.
+/// The words of a file, which are those from a place on, stay behind the others where none of them
+/// names a file, and are otherwise put on the stack, the first on top.
 fn put_words(
     stack: &mut Vec<Word>,
     words: &mut Listing<Word>,
-    inner: Listing<Word>,
+    start: usize,
 ) -> Result<(), AllocError>
-    ensures { OnOk result (IsPut inner stack.old.items stack.new.items words.old words.new) }
+    ensures { OnOk result (IsPut (drop start words.old) stack.old.items stack.new.items
+        (take start words.old) words.new) }
 {
-    if name_files(inner.as_slice()) {
-        return push_reversed(stack, inner);
+    let inner = words.as_slice().get(start..).unwrap_or(&[]);
+    if name_files(inner) {
+        return push_reversed(stack, words, start);
     }
-    words.append(inner)
+    Ok(())
 }
 
 /// Replaces each argument that names a file.
@@ -103,12 +120,12 @@ fn expand_all<S: System>(
     let mut words = Listing::new(alloc);
     let mut left = MOST_FILES;
     while let Some(word) = stack.pop() {
-        match replacement(alloc, &word, sys, facts)? {
+        match replace_word(alloc, &word, sys, facts, &mut words)? {
             None => words.push(word)?,
             Some(_) if left == 0 => return Err(ArgsFault::TooManyFiles),
-            Some(inner) => {
+            Some(start) => {
                 left -= 1;
-                put_words(&mut stack, &mut words, inner)?;
+                put_words(&mut stack, &mut words, start)?;
             }
         }
     }

@@ -1,8 +1,11 @@
-use Rattle.std.proofs.Common.{◌≡◌, ◌++◌, reverse, vec_len}
+use Rattle.std.proofs.Common.{◌≡◌, ◌++◌, drop, length, reverse, take}
 use Rattle.drv_args.proofs.expansion.push_reversed.Given as goal
 
-abbrev pub invariant-loop-word : goal.invariant-loop-word
-invariant-loop-word l = l.stack.items ++ reverse l.words.items ≡ l.fn.stack.items ++ reverse l.fn.words
+abbrev pub invariant-loop-words : goal.invariant-loop-words
+invariant-loop-words l = record {
+  order : l.stack.items ++ reverse (drop l.start l.words) ≡ l.fn.stack.items ++ reverse (drop l.start l.fn.words);
+  front : take l.start l.words ≡ take l.start l.fn.words;
+}
 
-abbrev pub decreases-loop-word : goal.decreases-loop-word
-decreases-loop-word l = vec_len l.words
+abbrev pub decreases-loop-words : goal.decreases-loop-words
+decreases-loop-words l = length l.words
