@@ -1,6 +1,10 @@
-use Rattle.std.proofs.Common.{◌≡◌, ◌<◌, ◌≤◌, ◌==◌, ◌&&◌, ◌+◌, ◌∙◌, Bool, List, [], ◌∷◌, ap, arith, drop, false, get_or, length, refl, sym, true, ℕ}
-use Rattle.std.proofs.lemmas.Bool.{ne_eqb}
+use Rattle.drv_args.specs.Options.{form_fits}
+use Rattle.drv_args.specs.declared.option_table.Form.TheVariants.{Either, Exact, Joined, Separate}
+use Rattle.drv_args.specs.declared.option_table.Form.{Form}
+use Rattle.std.proofs.Common.{◌≡◌, ◌<◌, ◌≤◌, ◌==◌, ◌&&◌, ◌+◌, ◌∙◌, Bool, List, [], ◌∷◌, ◌++◌, ap, arith, drop, false, get_or, length, refl, sym, true, ℕ}
+use Rattle.std.proofs.lemmas.Bool.{eqb-true, ne_eqb}
 use Rattle.std.proofs.lemmas.List.{drop_all, drop_more}
+use Rattle.std.specs.Cmp.Lexicographic.{pointwise}
 use Rattle.std.specs.List.{starts_with}
 use Rattle.std.specs.Prelude.{nat_eq}
 
@@ -29,3 +33,30 @@ differs a b option word apart = rw (ne_eqb a b (λ e. apart (sym e))) refl
 pub begins_apart : (option word : List ℕ) (i : ℕ) → i < length option → length option ≤ length word → (get_or word i 0 ≡ get_or option i 0 → ⊥) → begins (drop i option) (drop i word) ≡ begins option word → false ≡ starts_with nat_eq word option
 begins_apart option word i below within apart same =
     sym (begins_is option word ∙ sym same ∙ (rw (drop_more option i 0 below, drop_more word i 0 (omega (arith, below, within))) (differs (get_or option i 0) (get_or word i 0) (drop (i + 1) option) (drop (i + 1) word) apart)))
+
+-- A row's option and the rest of a word that it fits are the word.
+
+both_true : (a b : Bool) → (a && b) ≡ true → (a ≡ true) × (b ≡ true)
+both_true true b e = (refl, e)
+both_true false b e = absurd cc
+
+begins_word : (option word : List ℕ) → begins option word ≡ true → option ++ drop (length option) word ≡ word
+begins_word [] word e = refl
+begins_word (a ∷ option) [] e = absurd cc
+begins_word (a ∷ option) (b ∷ word) e =
+    let both = both_true (a == b) (begins option word) e in
+    ap (λ c. c ∷ option ++ drop (length option) word) (eqb-true a b both.0) ∙ ap (λ w. b ∷ w) (begins_word option word both.1)
+
+same_word : (option word : List ℕ) → pointwise nat_eq option word ≡ true → option ++ drop (length option) word ≡ word
+same_word [] [] e = refl
+same_word [] (b ∷ word) e = absurd cc
+same_word (a ∷ option) [] e = absurd cc
+same_word (a ∷ option) (b ∷ word) e =
+    let both = both_true (a == b) (pointwise nat_eq option word) e in
+    ap (λ c. c ∷ option ++ drop (length option) word) (eqb-true a b both.0) ∙ ap (λ w. b ∷ w) (same_word option word both.1)
+
+pub fits_whole : (form : Form) (option word : List ℕ) → form_fits form option word ≡ true → option ++ drop (length option) word ≡ word
+fits_whole Exact option word e = same_word option word e
+fits_whole Separate option word e = same_word option word e
+fits_whole Joined option word e = begins_word option word (sym (begins_is option word) ∙ e)
+fits_whole Either option word e = begins_word option word (sym (begins_is option word) ∙ e)

@@ -279,6 +279,25 @@ impl LineBuilder {
         self.add_input(Input::Library(joined(alloc, option, argument)?))
     }
 
+    /// Adds all that an item gives whose option and argument are one word. A library's word is
+    /// copied whole.
+    pub(crate) fn note_whole(
+        &mut self,
+        alloc: Global,
+        effect: Effect,
+        word: &[u8],
+        option: &[u8],
+        argument: &[u8],
+    ) -> Result<(), AllocError>
+        requires { option.now ++ argument.now ≡ word.now }
+        ensures { OnOk result (self.new ≡ noted self.old (item effect option.now argument.now)) }
+    {
+        match effect {
+            Effect::Library => self.add_input(Input::Library(Word::from_bytes(alloc, word)?)),
+            _ => self.note(alloc, effect, option, argument),
+        }
+    }
+
     /// Adds all that an item gives.
     pub(crate) fn note(
         &mut self,

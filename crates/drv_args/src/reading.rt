@@ -1,6 +1,6 @@
 //! Words read by the option table.
 
-ghost use Rattle.drv_args.specs.Code.Building.{line_with, start_shown};
+ghost use Rattle.drv_args.specs.Code.Building.{is_whole, line_with, start_shown};
 ghost use Rattle.drv_args.specs.Fronts.{by_effect, is_bad, items_of, start_of};
 ghost use Rattle.drv_args.specs.Lines.{line_of_items, line_read};
 ghost use Rattle.drv_args.specs.Code.Lookup.{shown};
@@ -9,7 +9,8 @@ ghost use Rattle.drv_args.specs.declared.fault.ArgsFault.TheVariants as fault;
 ghost use Rattle.drv_words.specs.Gives.{Gives};
 ghost use Rattle.std.specs.List.{starts_with};
 ghost use Rattle.std.specs.Option.{option_map};
-ghost use Rattle.std.specs.Prelude.{◌≡◌, ◌≤◌, IfOk, find, map, nat_eq, true};
+ghost use Rattle.std.specs.Prelude.{◌≡◌, ◌≤◌, IfOk, IfSome, drop, find, length, map};
+ghost use Rattle.std.specs.Prelude.{nat_eq, true};
 
 use crate::building::LineBuilder;
 use crate::jobs::jobs_named;
@@ -64,7 +65,8 @@ fn does_fit(row: &Row, word: &[u8]) -> bool
 
 /// The first row of a table that fits a word.
 fn first_fit(table: &[Row], word: &[u8]) -> Option<Row>
-    ensures { option_map shown result ≡ find (row_fits word.now) (map shown table.now) }
+    ensures first { option_map shown result ≡ find (row_fits word.now) (map shown table.now) }
+    ensures fits { IfSome result (λ row. row_fits word.now (shown row) ≡ true) }
 {
     for row in table {
         if does_fit(row, word) {
@@ -77,7 +79,7 @@ fn first_fit(table: &[Row], word: &[u8]) -> Option<Row>
 /// How a word begins a front of the line.
 #[derive(Clone, Copy)]
 enum Start<'a> {
-    /// It is one by itself.
+    /// It is one by itself: its option, with its argument after it.
     Alone {
         effect: Effect,
         option: &'a [u8],
@@ -102,16 +104,25 @@ fn is_bad(effect: Effect, argument: &[u8]) -> bool
     }
 }
 
+/// What stands in a word after an option.
+fn rest_of<'a>(word: &'a [u8], option: &[u8]) -> &'a [u8]
+    ensures { result.now ≡ drop (length option.now) word.now }
+{
+    word.get(option.len()..).unwrap_or(&[])
+}
+
 /// How a word begins a front by the row that fits it.
 fn start_by_row<'a>(row: Row, word: &'a [u8]) -> Start<'a>
-    ensures { start_shown result ≡ by_effect row.effect (shown row) word.now }
+    requires { row_fits word.now (shown row) ≡ true }
+    ensures start { start_shown result ≡ by_effect row.effect (shown row) word.now }
+    ensures whole { is_whole word.now result }
 {
     let Row {
         option,
         form,
         effect,
     } = row;
-    let argument = word.get(option.len()..).unwrap_or(&[]);
+    let argument = rest_of(word, option);
     if is_bad(effect, argument) {
         return Start::Bad;
     }
@@ -133,7 +144,8 @@ fn start_by_row<'a>(row: Row, word: &'a [u8]) -> Start<'a>
 
 /// How a word begins a front.
 fn start_of<'a>(word: &'a [u8]) -> Start<'a>
-    ensures { start_shown result ≡ start_of word.now }
+    ensures start { start_shown result ≡ start_of word.now }
+    ensures whole { is_whole word.now result }
 {
     let [b'-', letter, ..] = word else {
         return Start::Alone {
@@ -159,13 +171,14 @@ fn note_words(alloc: Global, builder: &mut LineBuilder, words: &[Word]) -> Resul
 {
     let mut left = words;
     while let [word, behind @ ..] = left {
-        match start_of(word.as_bytes()) {
+        let bytes = word.as_bytes();
+        match start_of(bytes) {
             Start::Alone {
                 effect,
                 option,
                 argument,
             } => {
-                builder.note(alloc, effect, option, argument)?;
+                builder.note_whole(alloc, effect, bytes, option, argument)?;
                 left = behind;
             }
             Start::Wants { effect, option } => {

@@ -16,7 +16,7 @@ use Rattle.drv_args.specs.declared.reading.Start.TheVariants as code
 use Rattle.drv_args.specs.declared.reading.Start.{Start as CodeStart}
 use Rattle.std.specs.List.{filter_map, flat_map}
 use Rattle.std.specs.Option.{unwrap_or}
-use Rattle.std.specs.Prelude.{◌||◌, Bool, Err, List, [], ◌∷◌, ◌++◌, None, Ok, Option, Result, map, true, ℕ}
+use Rattle.std.specs.Prelude.{◌≡◌, ◌||◌, ⊤, Bool, Err, List, [], ◌∷◌, ◌++◌, None, Ok, Option, Result, map, true, ℕ}
 
 -- A line that is built item by item. Private clauses alone cite it: what `read` answers is said by `line_read`.
 
@@ -84,3 +84,9 @@ abbrev pub start_shown : CodeStart → Start
 start_shown (code.Alone effect option argument) = fronts.Alone (item effect option.now argument.now)
 start_shown (code.Wants effect option) = fronts.Wants effect option.now
 start_shown code.Bad = fronts.Bad
+
+-- the option and the argument of an item that is a word by itself are the whole word
+abbrev pub is_whole : List ℕ → CodeStart → Type 0
+is_whole word (code.Alone effect option argument) = option.now ++ argument.now ≡ word
+is_whole word (code.Wants effect option) = ⊤
+is_whole word code.Bad = ⊤
