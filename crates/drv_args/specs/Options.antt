@@ -61,9 +61,9 @@ option_table =
     ∷ row (codes "-iwithprefixbefore") Separate effect.SwitchWithArgument
     ∷ row (codes "-aux-info") Separate effect.SwitchWithArgument
     ∷ row (codes "--param") Separate effect.SwitchWithArgument
+    ∷ row (codes "-Wl,") Joined (effect.Pieces tool.Linker)
     ∷ row (codes "-Wa,") Joined (effect.Pieces tool.Assembler)
     ∷ row (codes "-Wp,") Joined (effect.Pieces tool.Preprocessor)
-    ∷ row (codes "-Wl,") Joined (effect.Pieces tool.Linker)
     ∷ row (codes "-Xassembler") Separate (effect.Piece tool.Assembler)
     ∷ row (codes "-Xpreprocessor") Separate (effect.Piece tool.Preprocessor)
     ∷ row (codes "-Xlinker") Separate (effect.Piece tool.Linker)

@@ -133,11 +133,11 @@ const WITH_P: [Row; 2] = [
     row!(b"-pipe", Exact, Effect::TurnsOn(Setting::Pipe)),
 ];
 
-/// The rows whose option begins with `-W`.
+/// The rows whose option begins with `-W`: first the one that most words have.
 const WITH_W: [Row; 3] = [
+    row!(b"-Wl,", Joined, Effect::Pieces(Tool::Linker)),
     row!(b"-Wa,", Joined, Effect::Pieces(Tool::Assembler)),
     row!(b"-Wp,", Joined, Effect::Pieces(Tool::Preprocessor)),
-    row!(b"-Wl,", Joined, Effect::Pieces(Tool::Linker)),
 ];
 
 /// The rows whose option begins with `-X`.
