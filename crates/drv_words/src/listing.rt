@@ -1,8 +1,7 @@
 //! An owned list that contracts see as the list of its items.
 
-ghost use Rattle.std.specs.Prelude.{◌≡◌, ◌∷◌, ◌++◌, [], IfErr, IfOk, List, MatchOption, OnErr, OnOk};
-ghost use Rattle.std.specs.Prelude.{length};
-ghost use Rattle.std.specs.Prelude.{◌↔◌, IsTrue};
+ghost use Rattle.std.specs.Prelude.{◌≡◌, ◌∷◌, ◌++◌, [], IfErr, IfOk, List, MatchOption, OnErr};
+ghost use Rattle.std.specs.Prelude.{◌↔◌, IsTrue, OnOk, length};
 
 use std::alloc::{AllocError, AllocFailed, Global};
 use std::marker::Model;

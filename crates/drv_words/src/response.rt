@@ -63,8 +63,8 @@ fn plain_length(text: &[u8]) -> usize
 }
 
 /// A splitter of response text: the words that ended, after those that were there before, the word
-/// that is open, the quote of its run, and whether the last byte was a backslash that stands for the
-/// next.
+/// that is open, the quote of its run, and whether the last byte was a backslash that stands for
+/// the next.
 #[derive(Drop)]
 struct Splitter {
     words: Listing<Word>,
