@@ -87,21 +87,6 @@ impl<T> Listing<T> {
     {
         self.items.pop()
     }
-
-    /// Moves the items of another list to the end. On an error the list is as it was.
-    pub fn append(&mut self, other: Listing<T>) -> Result<(), AllocError>
-    where
-        T: Drop,
-        ensures ok { OnOk result (self.new ≡ self.old ++ other) }
-        ensures err { OnErr result (self.new ≡ self.old) }
-    {
-        let mut items = other.items;
-        if self.items.is_empty() {
-            self.items = items;
-            return Ok(());
-        }
-        self.items.append(&mut items)
-    }
 }
 
 impl<T: Clone> Clone for Listing<T> {
