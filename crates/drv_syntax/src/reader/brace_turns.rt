@@ -13,7 +13,7 @@ use crate::reader::bytes::begins_word;
 use crate::reader::edits::{next_open, with_emit};
 use crate::reader::nesting::{ask, open_braces};
 use crate::reader::runs::{front, word_length};
-use crate::reader::stages::Head;
+use crate::reader::stages::{Head, ListStage, Stage};
 use crate::reader::state::ReaderState;
 use crate::reader::turns::run;
 use crate::token::{Token, TokenKind};
@@ -120,6 +120,7 @@ pub fn braces_turn(
     inside: &[u8],
     w: &mut ReaderState,
 ) -> Result<usize, SyntaxFault>
+    requires here { w.old.stage ≡ Stage.List ListStage.Start }
     requires room { length w.old.tokens.items < 2 ^ 28 }
     requires place { n + length inside.now < 2 ^ 30 }
     requires trail { w.old.trailing < 2 ^ 28 }

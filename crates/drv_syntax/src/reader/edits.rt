@@ -240,6 +240,7 @@ fn push_plains(n: u32, run: &[u8], tokens: &mut Vec<Token>)
 /// Bytes that stand for themselves, the first of them at this place.
 #[inline(always)]
 pub fn with_plains(n: u32, run: &[u8], w: &mut ReaderState) -> Result<(), SyntaxFault>
+    requires here { w.old.stage ≡ Stage.List ListStage.Start }
     requires room { length w.old.tokens.items + length run.now < 2 ^ 31 }
     requires place { n + length run.now < 2 ^ 31 }
     ensures does { Gives SyntaxFault.Memory (λ _. state w.new) result
@@ -251,7 +252,6 @@ pub fn with_plains(n: u32, run: &[u8], w: &mut ReaderState) -> Result<(), Syntax
     w.tokens.reserve(run.len())?;
     push_plains(n, run, &mut w.tokens);
     w.labels.push_bytes(run)?;
-    w.stage = Stage::List(ListStage::Start);
     w.word.clear();
     w.kept = n + run.len() as u32;
     w.trailing = 0;
@@ -261,6 +261,7 @@ pub fn with_plains(n: u32, run: &[u8], w: &mut ReaderState) -> Result<(), Syntax
 /// A named text of this name.
 #[inline(always)]
 pub fn with_name(at: u32, end: u32, name: &[u8], w: &mut ReaderState) -> Result<(), SyntaxFault>
+    requires here { w.old.stage ≡ Stage.List ListStage.Start }
     requires room { length w.old.tokens.items + 1 < 2 ^ 32 }
     ensures does { Gives SyntaxFault.Memory (λ _. state w.new) result
         (Ok (steps.with_part (turns.part Single.NamedText Taken.Word at end)
@@ -270,7 +271,6 @@ pub fn with_name(at: u32, end: u32, name: &[u8], w: &mut ReaderState) -> Result<
 {
     with_leaf(TokenKind::NamedText, at, end, w)?;
     name_word(name, &mut w.labels)?;
-    w.stage = Stage::List(ListStage::Start);
     w.word.clear();
     w.kept = end;
     w.trailing = 0;
@@ -287,6 +287,7 @@ pub fn with_emit(
     word: &[u8],
     w: &mut ReaderState,
 ) -> Result<(), SyntaxFault>
+    requires here { w.old.stage ≡ Stage.List ListStage.Start }
     requires room { length w.old.tokens.items + 2 < 2 ^ 32 }
     requires place { end < 2 ^ 31 }
     ensures does { Gives SyntaxFault.Memory (λ _. state w.new) result
@@ -310,7 +311,6 @@ pub fn with_emit(
         end,
         next: inner,
     });
-    w.stage = Stage::List(ListStage::Start);
     w.word.clear();
     w.kept = end + 1;
     w.trailing = 0;
@@ -320,6 +320,7 @@ pub fn with_emit(
 /// A space or a tab.
 #[inline]
 pub fn with_blank(n: u32, w: &mut ReaderState) -> Result<(), SyntaxFault>
+    requires here { w.old.stage ≡ Stage.List ListStage.Start }
     requires room { length w.old.tokens.items + 1 < 2 ^ 32 }
     requires place { n < 2 ^ 31 }
     requires trail { w.old.trailing + 1 < 2 ^ 32 }
@@ -329,7 +330,6 @@ pub fn with_blank(n: u32, w: &mut ReaderState) -> Result<(), SyntaxFault>
 {
     with_leaf(TokenKind::Blank, n, n + 1, w)?;
     w.labels.push_none()?;
-    w.stage = Stage::List(ListStage::Start);
     w.word.clear();
     w.trailing += 1;
     Ok(())

@@ -13,7 +13,7 @@ use crate::reader::acts::close;
 use crate::reader::bytes::{
     is_blank, is_function, is_function_front, is_name_byte, is_suffix, is_word,
 };
-use crate::reader::edits::{add, begin, clear, keep, with_blank, with_part, with_plain};
+use crate::reader::edits::{add, begin, clear, keep, with_part, with_plain};
 use crate::reader::nesting::{open_braces, open_call};
 use crate::reader::stages::{ListKind, ListStage, Stage, StarOwner};
 use crate::reader::state::ReaderState;
@@ -89,11 +89,11 @@ pub fn start(n: u32, b: u8, w: &mut ReaderState) -> Result<(), SyntaxFault>
     } else if ends(w.context.kind, b) {
         close(n, b, w)
     } else if is_blank(b) {
-        with_blank(n, w)
+        item(Single::Blank, Taken::Nothing, n, n + 1, w)
     } else if b == b'\n' && !w.context.in_arguments {
         item(Single::Newline, Taken::Nothing, n, n + 1, w)
     } else if b == b'\n' {
-        with_blank(n, w)
+        item(Single::Blank, Taken::Nothing, n, n + 1, w)
     } else if b == b'|' && !w.context.in_arguments {
         item(Single::Pipe, Taken::Nothing, n, n + 1, w)
     } else {

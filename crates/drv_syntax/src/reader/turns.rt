@@ -75,6 +75,7 @@ fn name_turn(at: u32, n: u32, text: &[u8], w: &mut ReaderState) -> Result<usize,
 /// After `%(`: the name of a text, and the parenthesis after it.
 #[inline(always)]
 fn named_turn(at: u32, n: u32, inside: &[u8], w: &mut ReaderState) -> Result<usize, SyntaxFault>
+    requires here { w.old.stage ≡ Stage.List ListStage.Start }
     requires room { length w.old.tokens.items < 2 ^ 28 }
     requires place { n + length inside.now < 2 ^ 30 }
     requires trail { w.old.trailing < 2 ^ 28 }
