@@ -1,4 +1,5 @@
 -- How the code goes over its input, step by step: what stands between the code and the definitions. No public contract rests on these.
+pub mod Filled
 pub mod HeadActions
 pub mod ListActions
 pub mod Marks

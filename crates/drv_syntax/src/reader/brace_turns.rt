@@ -10,7 +10,7 @@ ghost use Rattle.std.specs.Prelude.{length};
 use crate::directives::BraceKind;
 use crate::fault::SyntaxFault;
 use crate::reader::bytes::begins_word;
-use crate::reader::edits::{next_open, with_emit};
+use crate::reader::edits::{next_open, with_filled};
 use crate::reader::nesting::{ask, open_braces};
 use crate::reader::runs::{front, word_length};
 use crate::reader::stages::{Head, ListStage, Stage};
@@ -18,19 +18,25 @@ use crate::reader::state::ReaderState;
 use crate::reader::turns::run;
 use crate::token::{Token, TokenKind};
 
-/// After `%{`, where the braces do not begin with a word that fills them.
+/// Where braces of this kind open and do not begin with a word that fills them.
 #[inline(never)]
-fn opened_turn(at: u32, n: u32, inside: &[u8], w: &mut ReaderState) -> Result<usize, SyntaxFault>
+fn opened_turn(
+    kind: BraceKind,
+    at: u32,
+    n: u32,
+    inside: &[u8],
+    w: &mut ReaderState,
+) -> Result<usize, SyntaxFault>
     requires room { length w.old.tokens.items < 2 ^ 28 }
     requires place { n + length inside.now < 2 ^ 30 }
     requires trail { w.old.trailing < 2 ^ 28 }
-    ensures does { Reads n inside.now (steps.open_braces at BraceKind.InPlace (state w.old))
+    ensures does { Reads n inside.now (steps.open_braces at kind (state w.old))
         (state w.new) result }
     ensures size { IfOk result (λ taken. length w.new.tokens.items
         ≤ length w.old.tokens.items + 4 * (taken + 1)) }
     ensures trail { IfOk result (λ taken. w.new.trailing ≤ w.old.trailing + 4 * (taken + 1)) }
 {
-    open_braces(at, BraceKind::InPlace, w)?;
+    open_braces(at, kind, w)?;
     let taken = run(n, inside, w)?;
     Ok(taken)
 }
@@ -101,11 +107,11 @@ fn negation_turn(at: u32, n: u32, inside: &[u8], w: &mut ReaderState) -> Result<
 {
     let behind = &inside[1..];
     if behind.is_empty() || !begins_word(behind[0]) {
-        return opened_turn(at, n, inside, w);
+        return opened_turn(BraceKind::InPlace, at, n, inside, w);
     }
     let size = word_length(behind);
     if size == behind.len() || behind[size] != b':' {
-        return opened_turn(at, n, inside, w);
+        return opened_turn(BraceKind::InPlace, at, n, inside, w);
     }
     let end = n + 1 + size as u32;
     with_asked(at, n, end, true, front(behind, size), w)?;
@@ -131,22 +137,22 @@ pub fn braces_turn(
     ensures trail { IfOk result (λ taken. w.new.trailing ≤ w.old.trailing + 4 * (taken + 1)) }
 {
     if inside.is_empty() {
-        return opened_turn(at, n, inside, w);
+        return opened_turn(BraceKind::InPlace, at, n, inside, w);
     }
     if inside[0] == b'!' {
         return negation_turn(at, n, inside, w);
     }
     if !begins_word(inside[0]) {
-        return opened_turn(at, n, inside, w);
+        return opened_turn(BraceKind::InPlace, at, n, inside, w);
     }
     let size = word_length(inside);
     if size == inside.len() {
-        return opened_turn(at, n, inside, w);
+        return opened_turn(BraceKind::InPlace, at, n, inside, w);
     }
     let end = n + size as u32;
     let word = front(inside, size);
     if inside[size] == b'}' {
-        with_emit(at, n, end, false, word, w)?;
+        with_filled(BraceKind::InPlace, at, n, end, false, word, w)?;
         return Ok(size + 1);
     }
     if inside[size] == b':' {
@@ -154,8 +160,39 @@ pub fn braces_turn(
         return Ok(size + 1);
     }
     if inside[size] == b'*' && size + 1 < inside.len() && inside[size + 1] == b'}' {
-        with_emit(at, n, end + 1, true, word, w)?;
+        with_filled(BraceKind::InPlace, at, n, end + 1, true, word, w)?;
         return Ok(size + 2);
     }
-    opened_turn(at, n, inside, w)
+    opened_turn(BraceKind::InPlace, at, n, inside, w)
+}
+
+/// After `%W{` or `%@{`: a word that fills the braces, or what they begin with.
+#[inline(never)]
+pub fn marked_turn(
+    kind: BraceKind,
+    at: u32,
+    n: u32,
+    inside: &[u8],
+    w: &mut ReaderState,
+) -> Result<usize, SyntaxFault>
+    requires here { w.old.stage ≡ Stage.List ListStage.Start }
+    requires room { length w.old.tokens.items < 2 ^ 28 }
+    requires place { n + length inside.now < 2 ^ 30 }
+    requires trail { w.old.trailing < 2 ^ 28 }
+    ensures does { Reads n inside.now (steps.open_braces at kind (state w.old))
+        (state w.new) result }
+    ensures size { IfOk result (λ taken. length w.new.tokens.items
+        ≤ length w.old.tokens.items + 4 * (taken + 1)) }
+    ensures trail { IfOk result (λ taken. w.new.trailing ≤ w.old.trailing + 4 * (taken + 1)) }
+{
+    if inside.is_empty() || !begins_word(inside[0]) {
+        return opened_turn(kind, at, n, inside, w);
+    }
+    let size = word_length(inside);
+    if size + 1 >= inside.len() || inside[size] != b'*' || inside[size + 1] != b'}' {
+        return opened_turn(kind, at, n, inside, w);
+    }
+    let end = n + size as u32 + 1;
+    with_filled(kind, at, n, end, true, front(inside, size), w)?;
+    Ok(size + 2)
 }

@@ -1,6 +1,7 @@
 //! Parts of a text in the state in which it is read: the stage, the word, and items without an
 //! inside.
 
+ghost use Rattle.drv_syntax.specs.Code.Filled as filled;
 ghost use Rattle.drv_syntax.specs.Code.Steps as steps;
 ghost use Rattle.drv_syntax.specs.Code.Turns as turns;
 ghost use Rattle.drv_syntax.specs.Code.States.{Fits, state};
@@ -8,10 +9,11 @@ ghost use Rattle.drv_words.specs.Gives.{Gives};
 ghost use Rattle.std.specs.Prelude.{◌≡◌, ◌<◌, ◌≤◌, ◌^◌, ◌+◌, ◌++◌, ◌∷◌, [], false, length, OnOk};
 ghost use Rattle.std.specs.Prelude.{Ok, vec_capacity, vec_len};
 
-use crate::directives::SayKind;
+use crate::directives::{BraceKind, SayKind};
 use crate::fault::SyntaxFault;
 use crate::reader::actions::{Part, Single, Taken};
 use crate::reader::naming::{name_single, name_word, taken_word};
+use crate::reader::nesting::brace_token;
 use crate::reader::stages::{ListStage, Open, Stage};
 use crate::reader::state::ReaderState;
 use crate::token::{Token, TokenKind};
@@ -277,9 +279,10 @@ pub fn with_name(at: u32, end: u32, name: &[u8], w: &mut ReaderState) -> Result<
     Ok(())
 }
 
-/// Braces in place with one pattern, this word, which ends at this place as they do after it.
+/// Braces of this kind with one pattern, this word, which ends at this place as they do after it.
 #[inline(always)]
-pub fn with_emit(
+pub fn with_filled(
+    kind: BraceKind,
     at: u32,
     start: u32,
     end: u32,
@@ -291,7 +294,7 @@ pub fn with_emit(
     requires room { length w.old.tokens.items + 2 < 2 ^ 32 }
     requires place { end < 2 ^ 31 }
     ensures does { Gives SyntaxFault.Memory (λ _. state w.new) result
-        (Ok (steps.with_emit at start end starred word.now (state w.old))) }
+        (Ok (filled.with_filled kind at start end starred word.now (state w.old))) }
     ensures size { OnOk result (length w.new.tokens.items ≤ length w.old.tokens.items + 2) }
     ensures trail { OnOk result (w.new.trailing ≡ 0) }
 {
@@ -299,7 +302,7 @@ pub fn with_emit(
     w.labels.push_filled(word, starred)?;
     let after = w.tokens.len() as u32 + 2;
     w.tokens.push_reserved(Token {
-        kind: TokenKind::Emit,
+        kind: brace_token(kind, true),
         start: at,
         end: end + 1,
         next: after,

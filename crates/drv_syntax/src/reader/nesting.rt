@@ -80,7 +80,9 @@ fn x_context(c: ListContext, owner: StarOwner) -> ListContext
     }
 }
 
-fn brace_token(kind: BraceKind, emitted: bool) -> TokenKind
+/// The token of braces, which hold patterns alone or do not.
+#[inline(always)]
+pub fn brace_token(kind: BraceKind, emitted: bool) -> TokenKind
     ensures { result ≡ steps.brace_token kind emitted }
 {
     match kind {

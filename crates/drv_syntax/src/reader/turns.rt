@@ -6,9 +6,9 @@ ghost use Rattle.drv_syntax.specs.Code.Steps as steps;
 ghost use Rattle.std.specs.Prelude.{◌≡◌, ◌<◌, ◌≤◌, ◌^◌, ◌+◌, ◌*◌, ◌∷◌, [], IfOk, OnOk};
 ghost use Rattle.std.specs.Prelude.{length};
 
-use crate::directives::SayKind;
+use crate::directives::{BraceKind, SayKind};
 use crate::fault::SyntaxFault;
-use crate::reader::brace_turns::braces_turn;
+use crate::reader::brace_turns::{braces_turn, marked_turn};
 use crate::reader::bytes::is_blank;
 use crate::reader::edits::{with_blank, with_name, with_plains};
 use crate::reader::list_steps::{hide_word, name_text, percent, saying_text, start, suffix_run};
@@ -262,6 +262,11 @@ fn directive_turn(n: u32, behind: &[u8], w: &mut ReaderState) -> Result<usize, S
             let place = n + 1;
             let taken = named_turn(n, place + 1, inside, w)?;
             Ok(taken + 1)
+        }
+        [b'W', b'{', inside @ ..] if w.context.levels != 0 && !w.context.in_arguments => {
+            let kind = BraceKind::IntoFailureFile;
+            let taken = marked_turn(kind, n, n + 3, inside, w)?;
+            Ok(taken + 2)
         }
         _ => percent_turn(n, behind, w),
     }

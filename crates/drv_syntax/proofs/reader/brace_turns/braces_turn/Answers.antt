@@ -1,17 +1,18 @@
 use Rattle.drv_syntax.proofs.BraceTurns.{star_fills, word_asks, word_fills}
 use Rattle.drv_syntax.proofs.reader.brace_turns.braces_turn.Goals as goal
 use Rattle.drv_syntax.specs.Code.States.{state}
+use Rattle.drv_syntax.specs.declared.directives.BraceKind.TheVariants as braces
 use Rattle.std.proofs.Common.{arith, rules}
 
 pub returns-then-inside-size-eq125-clause-does : goal.returns-then-inside-size-eq125-clause-does
 returns-then-inside-size-eq125-clause-does c =
-    word_fills (state c.args.w.now) (state c.with_emit.new.w) c.args.at c.word_length-size.result c.args.n c.args.inside.now c.front-word.result.now (search rules) c.word_length-size.ensures.run
-    c.front-word.ensures.bytes (omega (arith, c.word_length-size.ensures.within, c.if-size-inside.false)) c.if-inside-size-eq125.true c.in_ok-with_emit.ensures.does
+    word_fills braces.InPlace (state c.args.w.now) (state c.with_filled.new.w) c.args.at c.word_length-size.result c.args.n c.args.inside.now c.front-word.result.now (search rules) c.word_length-size.ensures.run
+    c.front-word.ensures.bytes (omega (arith, c.word_length-size.ensures.within, c.if-size-inside.false)) c.if-inside-size-eq125.true c.in_ok-with_filled.ensures.does
 
 pub returns-then-inside-size-eq125-2-clause-does : goal.returns-then-inside-size-eq125-2-clause-does
 returns-then-inside-size-eq125-2-clause-does c =
-    star_fills (state c.args.w.now) (state c.with_emit-then-inside-size-eq125-2.new.w) c.args.at c.word_length-size.result c.args.n c.args.inside.now c.front-word.result.now (search rules) c.word_length-size.ensures.run
-    c.front-word.ensures.bytes (omega (arith, c.if-size-inside-2.true)) c.if-inside-size-eq42.true c.if-inside-size-eq125-2.true c.in_ok-with_emit-2.ensures.does
+    star_fills braces.InPlace (state c.args.w.now) (state c.with_filled-then-inside-size-eq125-2.new.w) c.args.at c.word_length-size.result c.args.n c.args.inside.now c.front-word.result.now (search rules) c.word_length-size.ensures.run
+    c.front-word.ensures.bytes (omega (arith, c.if-size-inside-2.true)) c.if-inside-size-eq42.true c.if-inside-size-eq125-2.true c.in_ok-with_filled-2.ensures.does
 
 pub returns-then-inside-size-eq58-clause-does : goal.returns-then-inside-size-eq58-clause-does
 returns-then-inside-size-eq58-clause-does c =

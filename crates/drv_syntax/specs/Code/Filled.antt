@@ -1,0 +1,18 @@
+use Rattle.drv_syntax.specs.Code.Steps.{ReaderState, after_item, brace_token, with_label, with_leaf}
+use Rattle.drv_syntax.specs.Code.Turns.{after_pattern}
+use Rattle.drv_syntax.specs.Labels.{no_label}
+use Rattle.drv_syntax.specs.declared.directives.BraceKind.{BraceKind}
+use Rattle.drv_syntax.specs.declared.reader.stages.Behind.TheVariants as behinds
+use Rattle.drv_syntax.specs.declared.token.TokenKind.TheVariants as kinds
+use Rattle.std.specs.Prelude.{◌+◌, Bool, false, true, List, [], ◌∷◌, ◌++◌, length, ℕ}
+
+-- Braces that one pattern fills.
+
+-- braces of this kind with this word, with a star or without, which ends where they end after it
+abbrev pub with_filled : BraceKind → ℕ → ℕ → ℕ → Bool → List ℕ → ReaderState → ReaderState
+with_filled kind at start end starred word w =
+    after_item w.context (end + 1)
+    (with_label (after_pattern (behinds.Switch start end false starred) word)
+    (with_leaf kinds.Pattern start end
+    (with_label no_label
+    (record w { tokens = w.tokens ++ record { kind = brace_token kind true; start = at; end = end + 1; next = length w.tokens + 2 } ∷ [] }))))
