@@ -13,7 +13,7 @@ use Rattle.drv_syntax.specs.declared.reader.stages.HeadStage.TheVariants as plac
 use Rattle.drv_syntax.specs.declared.reader.stages.Stage.TheVariants.{Braces}
 use Rattle.drv_syntax.specs.declared.token.Token.{Token}
 use Rattle.drv_syntax.specs.declared.token.TokenKind.TheVariants as kinds
-use Rattle.std.proofs.Common.{◌≡◌, get_or, ◌∙◌, ◌+◌, ◌-◌, ◌++◌, ◌<◌, ◌≤◌, Bool, true, false, List, [], ◌∷◌, ap, append_assoc, arith, drop, length, length-append, refl, sym, take, ℕ}
+use Rattle.std.proofs.Common.{◌≡◌, get_or, ◌∙◌, ◌+◌, ◌++◌, ◌<◌, ◌≤◌, Bool, true, false, List, [], ◌∷◌, ap, append_assoc, arith, drop, length, length-append, refl, sym, take, ℕ}
 use Rattle.std.proofs.Math.Seq.{set-append_seam}
 use Rattle.std.specs.List.{prefix_len}
 use Rattle.std.specs.Prelude.{◌&&◌, not, slice_set}

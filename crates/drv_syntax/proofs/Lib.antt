@@ -47,6 +47,7 @@ pub mod WalkReads
 pub mod WalkShows
 pub mod WalkStars
 pub mod WalkTests
+pub mod Trims
 pub mod Unrefused
 pub mod Wanted
 pub mod RunLengths

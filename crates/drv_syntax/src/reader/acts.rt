@@ -205,11 +205,15 @@ pub fn act_lent(
     }
 }
 
+#[tactic(auto, using(crate::proofs::Trims::untrimmed))]
 fn trim(w: &mut ReaderState)
     ensures does { state w.new ≡ steps.trim (state w.old) }
     ensures size { length w.new.tokens.items ≤ length w.old.tokens.items }
     ensures trail { w.new.trailing ≡ w.old.trailing }
 {
+    if w.trailing == 0 {
+        return;
+    }
     let left = w.tokens.len().saturating_sub(w.trailing as usize);
     w.tokens.truncate(left);
     let left = w.labels.len().saturating_sub(w.trailing as usize);
