@@ -89,12 +89,12 @@ impl Labels {
         }
     }
 
-    /// None yet, with room for so many, and for a byte each.
-    pub fn with_capacity(alloc: Global, count: usize) -> Result<Labels, SyntaxFault>
+    /// None yet, with room for so many, and for so many bytes of their words.
+    pub fn with_capacity(alloc: Global, count: usize, bytes: usize) -> Result<Labels, SyntaxFault>
         ensures { Gives SyntaxFault.Memory (λ made. made) result (Ok []) }
     {
         Ok(Labels {
-            words: Vec::with_capacity(alloc, count)?,
+            words: Vec::with_capacity(alloc, bytes)?,
             marks: Vec::with_capacity(alloc, count)?,
         })
     }

@@ -228,7 +228,8 @@ pub fn read_text(alloc: Global, text: &[u8]) -> Result<Ended, SyntaxFault>
 {
     let count = first_room(text.len());
     let tokens = Vec::with_capacity(alloc, count)?;
-    let labels = Labels::with_capacity(alloc, count)?;
+    let bytes = if text.len() > 4096 { 4096 } else { text.len() };
+    let labels = Labels::with_capacity(alloc, count, bytes)?;
     let mut walk = begun(alloc, tokens, labels);
     let ending = read_to_end(0, text, &mut walk)?;
     Ok(Ended { walk, ending })
