@@ -260,15 +260,6 @@ with_test form behind w =
 abbrev pub close_braces : Head → Bool → ℕ → ListContext → ReaderState → ReaderState
 close_braces head emitted end c w = after_item c end (close_token (brace_token head.kind emitted) head.part end w)
 
--- braces in place with one pattern, this word with a star or without, which ends where they end after it
-abbrev pub with_emit : ℕ → ℕ → ℕ → Bool → List ℕ → ReaderState → ReaderState
-with_emit at start end starred word w =
-    after_item w.context (end + 1)
-    (with_label (after_pattern (behinds.Switch start end false starred) word)
-    (with_leaf kinds.Pattern start end
-    (with_label no_label
-    (record w { tokens = w.tokens ++ record { kind = kinds.Emit; start = at; end = end + 1; next = length w.tokens + 2 } ∷ [] }))))
-
 abbrev pub with_star : Bool → ReaderState → ReaderState
 with_star holds w = record w { holds_star = holds }
 
