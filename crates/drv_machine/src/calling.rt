@@ -74,9 +74,10 @@ pub(crate) fn open_test(
     ensures same { machine.new.world ≡ machine.old.world }
     ensures same_text { walk.new.text.now ≡ walk.old.text.now }
 {
+    let places = Box::new(machine.alloc(), asking)?;
     let outer = Box::new(machine.alloc(), machine.put_aside())?;
     walk.frames.push(Frame {
-        opened: Opened::Asks(asking, outer),
+        opened: Opened::Asks(places, outer),
         end: walk.end,
         star: walk.star,
     })?;

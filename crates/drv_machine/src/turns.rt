@@ -87,7 +87,8 @@ fn close<'w, S: System>(
             walk.at = back;
             machine.put_value(text.word(at), outer, context, outside)
         }
-        Opened::Asks(asking, outer) => {
+        Opened::Asks(places, outer) => {
+            let asking = Box::into_inner(places);
             let name = text.word(asking.test);
             let holds = machine.has_value(name, outer, context, outside)?;
             answer(text, context, asking, holds, walk, machine)

@@ -60,8 +60,9 @@ pub(crate) enum Opened<'a> {
     /// The arguments of the function at a place, and what was cut before them. The part around it
     /// goes on at a place.
     Call(usize, usize, Box<Cutter>),
-    /// The arguments of a function that a test asks, and what was cut before them.
-    Asks(Asking, Box<Cutter>),
+    /// The arguments of a function that a test asks, and what was cut before them. The places of
+    /// the test have a room of their own, since open parts are moved, and most are smaller.
+    Asks(Box<Asking>, Box<Cutter>),
 }
 
 impl<'a> Default for Opened<'a> {

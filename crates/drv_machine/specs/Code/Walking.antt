@@ -98,7 +98,7 @@ OpenedFits text C (Failure back) p items kept = ⊤
 OpenedFits text C (File back) p items kept = ⊤
 OpenedFits text C (Inside back) p items kept = ⊤
 OpenedFits text C (Call at back outer) p items kept = CallFits text at kept
-OpenedFits text C (Asks asking outer) p items kept = AskFits text asking items kept
+OpenedFits text C (Asks places outer) p items kept = AskFits text places.value items kept
 
 -- where the part around an open part goes on
 abbrev pub back_of : Opened → ℕ
@@ -108,7 +108,7 @@ back_of (Failure back) = back
 back_of (File back) = back
 back_of (Inside back) = back
 back_of (Call at back outer) = back
-back_of (Asks asking outer) = asking.end
+back_of (Asks places outer) = places.value.end
 
 -- the text of the part around an open part, which lies in this text
 abbrev pub text_around : List ℕ → Opened → List ℕ
@@ -118,7 +118,7 @@ text_around text (Failure back) = text
 text_around text (File back) = text
 text_around text (Inside back) = text
 text_around text (Call at back outer) = text
-text_around text (Asks asking outer) = text
+text_around text (Asks places outer) = text
 
 pub record Fits (text : List ℕ) (C : Context) (a : Around) : Type 0 where
   pub opened : OpenedFits text C a.frame.opened a.pattern a.items a.kept
@@ -138,7 +138,7 @@ hits_left size (Failure back) = 1
 hits_left size (File back) = 1
 hits_left size (Inside back) = 1
 hits_left size (Call at back outer) = 1
-hits_left size (Asks asking outer) = size + 1 + (asking.end - asking.test)
+hits_left size (Asks places outer) = size + 1 + (places.value.end - places.value.test)
 
 abbrev pub weight : ℕ → List Frame → ℕ
 weight size [] = 0
@@ -219,7 +219,7 @@ module _ (F : Facts) (C : Context) where
   closing levels star (File back) p items kept s = file_end s
   closing levels star (Inside back) p items kept s = run F C s nothing
   closing levels star (Call at back outer) p items kept s = after_arguments outer.value (value_step F C kept.name) s
-  closing levels star (Asks asking outer) p items kept s = after_arguments outer.value (asked_on items kept levels star) s
+  closing levels star (Asks places outer) p items kept s = after_arguments outer.value (asked_on items kept levels star) s
 
   -- what follows the innermost open part
   abbrev pub ends : List Around → Machine → Answer (Unit {0} × Machine)
