@@ -3,14 +3,11 @@ use Rattle.drv_machine.specs.Cutting.{Cut, found_file, found_script, no_marks, s
 use Rattle.drv_machine.specs.Code.Held.{ended_in, open_word, word_found}
 use Rattle.drv_machine.specs.Code.Running.{Machine, run}
 use Rattle.drv_machine.specs.Working.{◌>>-◌, Answer, Break, puts}
-use Rattle.drv_machine.specs.declared.fault.MachineFault.TheVariants.{Memory}
-use Rattle.drv_machine.specs.declared.fault.MachineFault.{MachineFault}
 use Rattle.drv_system.specs.Facts.{Facts}
-use Rattle.drv_system.specs.Gives.{GivesKnown}
 use Rattle.drv_system.specs.Known.{Is, Unasked}
-use Rattle.std.proofs.Common.{◌≡◌, ◌≤◌, ◌∙◌, ◌++◌, ◌&&◌, ◌-◌, Bool, Err, List, [], ◌∷◌, Ok, Option, Result, ap, append_assoc, arith, false, if◌then◌else◌, inl, length, map, refl, sym, true, ℕ}
+use Rattle.std.proofs.Common.{◌≡◌, ◌≤◌, ◌∙◌, ◌++◌, ◌&&◌, ◌-◌, Bool, Err, List, [], ◌∷◌, Ok, Option, ap, append_assoc, arith, false, if◌then◌else◌, length, map, refl, sym, true, ℕ}
 use Rattle.std.proofs.lemmas.List.{length-append, length-replicate}
-use Rattle.std.specs.Prelude.{IfErr, None, OnOk, Some, is_some, not, replicate}
+use Rattle.std.specs.Prelude.{None, Some, is_some, not, replicate}
 
 -- What the end of a word does.
 
@@ -57,12 +54,6 @@ pub word_finished : (word : List ℕ) (s a b c d e f : Machine) → a ≡ remove
     → f ≡ record s { cut = word_done s.cut (word ∷ []) word }
 word_finished word s a b c d e f ea eb ec ed ee ef =
     ef ∙ ap word_closed (ee ∙ ap (word_pushed word) (ed ∙ ap (inside_kept word) (ec ∙ ap (output_kept word) (eb ∙ ap (failure_kept word) ea))))
-
--- what is given where only memory can run out
-pub well_given : (new whole : Machine) (result : Result (Unit {0}) MachineFault) (given : Answer (Unit {0} × Machine)) → given ≡ Is (Ok (tt, whole)) → OnOk result (new ≡ whole) → IfErr result (λ fault. fault ≡ Memory)
-    → GivesKnown Memory (λ u. (tt, new)) result given
-well_given new whole (Ok u) given is ok memory = is ∙ ap (λ (m : Machine). Is (Ok (tt, m))) (sym ok)
-well_given new whole (Err fault) given is ok memory = inl memory
 
 -- a script's path is put after its option
 pub script_finished : (path option : List ℕ) (s a b : Machine) → option ≡ script_option → a ≡ word_pushed option s → b ≡ record a { cut = word_done a.cut (path ∷ []) path }

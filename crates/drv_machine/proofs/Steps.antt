@@ -45,6 +45,6 @@ pub gives_as : (new : Machine) (result : Result (Unit {0}) MachineFault) (given 
 gives_as new result given whole e g = subst (λ x. GivesKnown Memory (λ u. (tt, new)) result x) e g
 
 -- what holds where a part of the walk went well
-pub ok_as : {A B : Type 0} (result : Result (Unit {0}) MachineFault) → (A → B) → OnOk result A → OnOk result B
+pub ok_as : {E A B : Type 0} (result : Result (Unit {0}) E) → (A → B) → OnOk result A → OnOk result B
 ok_as (Ok u) f a = f a
 ok_as (Err fault) f a = a

@@ -149,7 +149,7 @@ pub(crate) fn work_item<S: System>(
 {
     let next = token.next as usize;
     match token.kind {
-        TokenKind::Plain | TokenKind::Escape => machine.put_item(text.word(at)),
+        TokenKind::Plain | TokenKind::Escape => machine.put(text.word(at)),
         TokenKind::Blank => machine.end_word(context, outside),
         TokenKind::Newline => machine.end_line(context, outside),
         TokenKind::Pipe => machine.pipe(context, outside),

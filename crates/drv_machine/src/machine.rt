@@ -202,11 +202,11 @@ impl Machine {
         })
     }
 
-    /// Bytes go into the open word, or open one; no bytes change nothing.
-    pub(crate) fn put(&mut self, bytes: &[u8]) -> Result<(), MachineFault>
-        ensures does { (F : Facts) (C : specs.Context)
-            → GivesKnown MachineFault.Memory (λ u. (tt, self.new)) result
-            (run F C self.old (step.bytes bytes.now)) }
+    /// Bytes go into the open word, or open one; no bytes change nothing. Want of memory is the
+    /// only error.
+    fn put_bytes(&mut self, bytes: &[u8]) -> Result<(), AllocError>
+        ensures does { (F : Facts) (C : specs.Context) → OnOk result
+            (run F C self.old (step.bytes bytes.now) ≡ Is (Ok (tt, self.new))) }
         ensures sized { length self.new.world.hidden ≡ length self.old.world.hidden }
         ensures uncounted { OnOk result (self.new.world.items ≡ self.old.world.items) }
     {
@@ -219,11 +219,22 @@ impl Machine {
         Ok(())
     }
 
-    /// A byte goes into the open word, or opens one.
-    fn put_byte(&mut self, byte: u8) -> Result<(), MachineFault>
+    /// Bytes go into the open word, or open one; no bytes change nothing.
+    pub(crate) fn put(&mut self, bytes: &[u8]) -> Result<(), MachineFault>
         ensures does { (F : Facts) (C : specs.Context)
             → GivesKnown MachineFault.Memory (λ u. (tt, self.new)) result
-            (run F C self.old (step.bytes (byte ∷ []))) }
+            (run F C self.old (step.bytes bytes.now)) }
+        ensures sized { length self.new.world.hidden ≡ length self.old.world.hidden }
+        ensures uncounted { OnOk result (self.new.world.items ≡ self.old.world.items) }
+    {
+        self.put_bytes(bytes)?;
+        Ok(())
+    }
+
+    /// A byte goes into the open word, or opens one. Want of memory is the only error.
+    fn put_byte(&mut self, byte: u8) -> Result<(), AllocError>
+        ensures does { (F : Facts) (C : specs.Context) → OnOk result
+            (run F C self.old (step.bytes (byte ∷ [])) ≡ Is (Ok (tt, self.new))) }
         ensures sized { length self.new.world.hidden ≡ length self.old.world.hidden }
         ensures uncounted { OnOk result (self.new.world.items ≡ self.old.world.items) }
     {
@@ -234,18 +245,17 @@ impl Machine {
     }
 
     /// The bytes of an item go into the open word, or open one: mostly one byte, which has a
-    /// shorter path.
-    pub(crate) fn put_item(&mut self, bytes: &[u8]) -> Result<(), MachineFault>
-        ensures does { (F : Facts) (C : specs.Context)
-            → GivesKnown MachineFault.Memory (λ u. (tt, self.new)) result
-            (run F C self.old (step.bytes bytes.now)) }
+    /// shorter path. Want of memory is the only error.
+    pub(crate) fn put_item(&mut self, bytes: &[u8]) -> Result<(), AllocError>
+        ensures does { (F : Facts) (C : specs.Context) → OnOk result
+            (run F C self.old (step.bytes bytes.now) ≡ Is (Ok (tt, self.new))) }
         ensures sized { length self.new.world.hidden ≡ length self.old.world.hidden }
         ensures uncounted { OnOk result (self.new.world.items ≡ self.old.world.items) }
     {
         if bytes.len() == 1 {
             return self.put_byte(bytes[0]);
         }
-        self.put(bytes)
+        self.put_bytes(bytes)
     }
 
     /// A word is open, which may stay empty.
@@ -369,7 +379,8 @@ impl Machine {
         ensures uncounted { OnOk result (self.new.world.items ≡ self.old.world.items) }
     {
         if !self.is_open && !self.marks.script && !self.marks.file {
-            return self.add_switch(context, i);
+            self.add_switch(context, i)?;
+            return Ok(());
         }
         self.put(b"-")?;
         self.put(context.switches().name(i))?;

@@ -4,7 +4,8 @@ ghost use Rattle.drv_machine.specs.Code.Asked.{Asked};
 ghost use Rattle.drv_machine.specs.Atoms.{items_step, levels_left};
 ghost use Rattle.drv_machine.specs.Code.Running as running;
 ghost use Rattle.drv_machine.specs.Code.Running.{run};
-ghost use Rattle.drv_machine.specs.Code.Walking.{After, AtItem, HasFrames, Kept, Lain, Left};
+ghost use Rattle.drv_machine.specs.Code.Walking.{After, AskFits, AtItem, HasFrames, Kept, Lain};
+ghost use Rattle.drv_machine.specs.Code.Walking.{Left, after_arguments, asked_on};
 ghost use Rattle.drv_machine.specs.Code.Walking.{OpenedFits, Settled, Went, back_of, closing};
 ghost use Rattle.drv_machine.specs.Code.Walking.{hits_left, text_around, weight};
 ghost use Rattle.drv_machine.specs.Working.{Answer, most_open};
@@ -13,7 +14,7 @@ ghost use Rattle.drv_syntax.specs.Tree as tree;
 ghost use Rattle.drv_system.specs.Asking.{Extends};
 ghost use Rattle.drv_system.specs.Facts.{Facts};
 ghost use Rattle.drv_system.specs.Gives.{GivesKnown};
-ghost use Rattle.std.specs.Prelude.{◌≡◌, ◌+◌, ◌<◌, [], IfOk, IsTrue, OnOk, length};
+ghost use Rattle.std.specs.Prelude.{◌≡◌, ◌+◌, ◌-◌, ◌<◌, [], IfOk, IsTrue, OnOk, length};
 
 use crate::braces::{answer, choose};
 use crate::calling::open_call;
@@ -21,14 +22,48 @@ use crate::failing::work_failure;
 use crate::filing::work_filed;
 use crate::hits::close_hit;
 use crate::items::work_item;
-use crate::machine::Machine;
+use crate::machine::{Cutter, Machine};
 use crate::named::open_text;
 use crate::outside::Outside;
 use crate::places::token_at;
-use crate::walk::{Frame, Opened, Walk};
+use crate::walk::{Asking, Frame, Opened, Walk};
 use crate::{Context, MachineFault};
 use drv_syntax::{SpecTree, TokenKind};
 use drv_system::System;
+
+/// The arguments of the function that a test asks end: the test is judged by what the function
+/// says. It is out of line, so that the end of other parts has no room for that.
+#[inline(never)]
+fn close_test<S: System>(
+    context: &Context<'_>,
+    asking: Asking,
+    outer: Box<Cutter>,
+    walk: &mut Walk<'_>,
+    machine: &mut Machine,
+    outside: &mut Outside<'_, S>,
+) -> Result<(), MachineFault>
+    requires fits { (items : tree.Items) × (kept : Kept)
+        × AskFits walk.old.text.now asking items kept }
+    requires sized { length machine.old.world.hidden ≡ length context.now.switches }
+    ensures asks { Asked S.events outside.old outside.new }
+    ensures does { (F : Facts) → Extends outside.new.facts.now F
+        → (items : tree.Items) (kept : Kept) (given : Answer (Unit {0} × running.Machine))
+        → AskFits walk.old.text.now asking items kept
+        → After F context.now walk.old.text.now walk.old asking.end (λ levels star s.
+        after_arguments F context.now outer.value (asked_on F context.now items kept levels star)
+        s) machine.old given
+        → Went F context.now walk.new.text.now walk.new machine.new given result }
+    ensures lighter { OnOk result (weight (length context.now.switches) walk.new.frames
+        < weight (length context.now.switches) walk.old.frames +
+        (length context.now.switches + 1 + (asking.end - asking.test))) }
+    ensures sized { length machine.new.world.hidden ≡ length machine.old.world.hidden }
+    ensures uncounted { OnOk result (machine.new.world.items ≡ machine.old.world.items) }
+{
+    let text = walk.text;
+    let name = text.word(asking.test);
+    let holds = machine.has_value(name, outer, context, outside)?;
+    answer(text, context, asking, holds, walk, machine)
+}
 
 /// The innermost open part ends: what it was opened for is done, or done once more, in the part
 /// around it.
@@ -88,10 +123,14 @@ fn close<'w, S: System>(
             machine.put_value(text.word(at), outer, context, outside)
         }
         Opened::Asks(places, outer) => {
-            let asking = Box::into_inner(places);
-            let name = text.word(asking.test);
-            let holds = machine.has_value(name, outer, context, outside)?;
-            answer(text, context, asking, holds, walk, machine)
+            close_test(
+                context,
+                Box::into_inner(places),
+                outer,
+                walk,
+                machine,
+                outside,
+            )
         }
     }
 }
@@ -173,7 +212,8 @@ fn turn<'w, S: System>(
         // Most items are plain bytes, which take a shorter path.
         TokenKind::Plain => {
             walk.at = next;
-            machine.put_item(text.word(at))
+            machine.put_item(text.word(at))?;
+            Ok(())
         }
         _ => {
             walk.at = next;

@@ -197,10 +197,9 @@ impl Machine {
 
     /// The open word has ended as this one.
     #[tactic(auto, using(crate::proofs::Ends::word_finished))]
-    pub(crate) fn finish_word(&mut self, word: Word) -> Result<(), MachineFault>
+    pub(crate) fn finish_word(&mut self, word: Word) -> Result<(), AllocError>
         ensures ok { OnOk result (self.new
             ≡ record self.old { cut = word_done self.old.cut (word ∷ []) word }) }
-        ensures memory { IfErr result (λ fault. fault ≡ MachineFault.Memory) }
         ensures same { self.new.world ≡ self.old.world }
     {
         self.keep_removed(&word)?;
@@ -232,7 +231,8 @@ impl Machine {
             outside.sys,
             outside.facts,
         )?;
-        self.finish_word(path)
+        self.finish_word(path)?;
+        Ok(())
     }
 
     /// The open word, which is this one, has ended as the option and the path of a linker script.
@@ -257,7 +257,8 @@ impl Machine {
             outside.facts,
         )?;
         self.push_word(Word::from_bytes(self.alloc, b"--script")?)?;
-        self.finish_word(path)
+        self.finish_word(path)?;
+        Ok(())
     }
 
     /// The open word, if there is one, ends: as it is, or as the path of a library file or a linker
@@ -289,7 +290,8 @@ impl Machine {
         if self.marks.file {
             return self.finish_file(&word, context, outside);
         }
-        self.finish_word(word)
+        self.finish_word(word)?;
+        Ok(())
     }
 
     /// A `%W` begins.

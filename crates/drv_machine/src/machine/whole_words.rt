@@ -6,11 +6,11 @@ ghost use Rattle.drv_machine.specs.Code.Running.{run};
 ghost use Rattle.drv_machine.specs.Context as specs;
 ghost use Rattle.drv_machine.specs.Working.{puts};
 ghost use Rattle.drv_system.specs.Facts.{Facts};
-ghost use Rattle.drv_system.specs.Gives.{GivesKnown};
-ghost use Rattle.std.specs.Prelude.{◌≡◌, ◌<◌, IfErr, OnOk, length};
+ghost use Rattle.drv_system.specs.Known.{Is};
+ghost use Rattle.std.specs.Prelude.{◌≡◌, ◌<◌, Ok, OnOk, length};
 
 use super::Machine;
-use crate::{Context, MachineFault};
+use crate::Context;
 use drv_words::{Listing, Word};
 use std::alloc::AllocError;
 use std::mem;
@@ -42,10 +42,9 @@ impl Machine {
     }
 
     /// A word is put whole.
-    fn add_word(&mut self, word: Word) -> Result<(), MachineFault>
+    fn add_word(&mut self, word: Word) -> Result<(), AllocError>
         requires { IsBetweenWords self.old.cut }
         ensures ok { OnOk result (self.new ≡ word_added self.old word) }
-        ensures memory { IfErr result (λ fault. fault ≡ MachineFault.Memory) }
         ensures same { self.new.world ≡ self.old.world }
     {
         self.is_stray |= self.is_piped;
@@ -53,11 +52,12 @@ impl Machine {
     }
 
     /// The switch at a place and its argument are put, each as a whole word.
-    pub(crate) fn add_switch(&mut self, context: &Context<'_>, i: usize) -> Result<(), MachineFault>
+    pub(crate) fn add_switch(&mut self, context: &Context<'_>, i: usize) -> Result<(), AllocError>
         requires at { i < length context.now.switches }
         requires between { IsBetweenWords self.old.cut }
-        ensures does { (F : Facts) → GivesKnown MachineFault.Memory (λ u. (tt, self.new)) result
-            (run F context.now self.old (puts (switch_atoms F context.now i))) }
+        ensures does { (F : Facts) → OnOk result
+            (run F context.now self.old (puts (switch_atoms F context.now i))
+            ≡ Is (Ok (tt, self.new))) }
         ensures sized { length self.new.world.hidden ≡ length self.old.world.hidden }
         ensures uncounted { OnOk result (self.new.world.items ≡ self.old.world.items) }
     {

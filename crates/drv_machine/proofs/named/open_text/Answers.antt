@@ -1,6 +1,7 @@
 use Rattle.drv_machine.proofs.NamedTexts.{none_named, some_named, text_opened, text_refused}
 use Rattle.drv_machine.proofs.Onward.{leaf, same_step}
 use Rattle.drv_machine.proofs.named.open_text.Goals as goal
+use Rattle.drv_machine.specs.Code.Opening.{opening_lifted}
 use Rattle.drv_machine.specs.Atoms.{named, tree_named}
 use Rattle.drv_machine.specs.Code.Running.{run}
 use Rattle.drv_machine.specs.Code.Walking.{levels_in}
@@ -20,7 +21,7 @@ returns-in_err-push c F s given b =
     (same_step F c.args.context.now c.args.walk.now.text.now c.args.walk.now s given c.args.walk.now.at (λ levels star. named F c.args.context.now (tree_named F c.args.context.now c.args.name.now) levels) b
     (λ levels star. named F c.args.context.now (Some (tree_of c.in-Some.text.now)) levels) s
     (ap (λ found. run F c.args.context.now s (named F c.args.context.now (option_map tree_of found) (levels_in F c.args.context.now b.arounds))) (some_named _ c.named.result _ c.in-Some.text c.named.ensures c.in-Some.is)))
-    c.in_err-push.field-0.0 c.in_err-push.ensures.err in
+    (opening_lifted c.in_err-push.field-0.0) c.in_err-push.ensures.err in
     let f = c.from_residual.ensures in
     search rules
 

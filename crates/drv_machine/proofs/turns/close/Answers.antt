@@ -1,7 +1,6 @@
-use Rattle.drv_machine.proofs.Judging.{answer_refused, answered}
 use Rattle.drv_machine.proofs.Onward.{after_leaf, as_after, after_in, leaf, once_lighter, went_in}
 use Rattle.drv_machine.proofs.turns.close.Goals as goal
-use Rattle.drv_machine.specs.Atoms.{has_value, value_step}
+use Rattle.drv_machine.specs.Atoms.{value_step}
 use Rattle.drv_machine.specs.Cutting.{Cut}
 use Rattle.drv_machine.specs.Code.Running.{run}
 use Rattle.drv_machine.specs.Code.Walking.{After, AskFits, OpenedFits, asked_on, back_of, after_arguments, closing, file_end, hit_end, hits_left, text_around, weight}
@@ -10,8 +9,7 @@ use Rattle.drv_machine.specs.declared.fault.MachineFault.TheVariants.{Memory}
 use Rattle.drv_machine.specs.declared.walk.Asking.{Asking}
 use Rattle.drv_machine.specs.declared.walk.Opened.{Opened}
 use Rattle.drv_system.specs.Gives.{GivesKnown}
-use Rattle.drv_system.specs.Known.{Is}
-use Rattle.std.proofs.Common.{◌≡◌, ◌⊎◌, ◌∙◌, Err, List, [], ◌∷◌, Ok, ap, arith, length, refl, rules, subst, sym, ℕ}
+use Rattle.std.proofs.Common.{◌≡◌, ◌∙◌, List, [], ◌∷◌, Ok, ap, arith, length, refl, rules, subst, sym, ℕ}
 
 pub close_hit-requires-clause-in_list : goal.close_hit-requires-clause-in_list
 close_hit-requires-clause-in_list g c =
@@ -93,42 +91,21 @@ returns-in-Call-clause-lighter g c =
     let e = ap (hits_left (length c.args.context.now.switches)) c.in-Call.is in
     once_lighter c.put_value.result (weight (length c.args.context.now.switches) c.args.walk.now.frames) (hits_left (length c.args.context.now.switches) c.args.frame.opened) (omega (arith, e))
 
-pub word-name-requires : goal.word-name-requires
-word-name-requires g c =
-    let is : c.into_inner-asking.result ≡ c.in-Asks.places.value = search rules in
-    (subst (λ (a : Asking). AskFits c.args.walk.now.text.now a c.requires.fits.1 c.requires.fits.2) (sym is)
-    (subst (λ (o : Opened). OpenedFits c.args.walk.now.text.now c.args.context.now o c.requires.fits.0 c.requires.fits.1 c.requires.fits.2) c.in-Asks.is c.requires.fits.3)).in_list
+pub close_test-requires-clause-fits : goal.close_test-requires-clause-fits
+close_test-requires-clause-fits g c =
+    let is : c.into_inner.result ≡ c.in-Asks.places.value = search rules in (
+      c.requires.fits.1,
+      c.requires.fits.2,
+      subst (λ (a : Asking). AskFits c.args.walk.now.text.now a c.requires.fits.1 c.requires.fits.2) (sym is)
+          (subst (λ (o : Opened). OpenedFits c.args.walk.now.text.now c.args.context.now o c.requires.fits.0 c.requires.fits.1 c.requires.fits.2) c.in-Asks.is c.requires.fits.3),
+    )
 
-pub answer-requires-clause-fits : goal.answer-requires-clause-fits
-answer-requires-clause-fits g c =
-    let is : c.into_inner-asking.result ≡ c.in-Asks.places.value = search rules in
-    (c.requires.fits.1, c.requires.fits.2, subst (λ (a : Asking). AskFits c.args.walk.now.text.now a c.requires.fits.1 c.requires.fits.2) (sym is)
-    (subst (λ (o : Opened). OpenedFits c.args.walk.now.text.now c.args.context.now o c.requires.fits.0 c.requires.fits.1 c.requires.fits.2) c.in-Asks.is c.requires.fits.3))
-
-pub returns-in_err-holds-in-Asks-clause-does : goal.returns-in_err-holds-in-Asks-clause-does
-returns-in_err-holds-in-Asks-clause-does g c F e p items kept given fits a =
-    let is : c.into_inner-asking.result ≡ c.in-Asks.places.value = search rules in
-    let ask = subst (λ (a : Asking). AskFits c.args.walk.now.text.now a items kept) (sym is)
-        (subst (λ (o : Opened). OpenedFits c.args.walk.now.text.now c.args.context.now o p items kept) c.in-Asks.is fits) in
-    let failed =
-    answer_refused F c.args.context.now c.args.walk.now.text.now (record c.args.walk.now { end = c.args.frame.end; star = c.args.frame.star }) items kept given c.into_inner-asking.result.end c.in-Asks.outer.value c.args.machine.now
+pub returns-in-Asks-clause-does : goal.returns-in-Asks-clause-does
+returns-in-Asks-clause-does g c F e p items kept given fits a =
+    let is : c.into_inner.result ≡ c.in-Asks.places.value = search rules in
+    c.close_test.ensures.does F e items kept given
+    (subst (λ (a : Asking). AskFits c.args.walk.now.text.now a items kept) (sym is)
+    (subst (λ (o : Opened). OpenedFits c.args.walk.now.text.now c.args.context.now o p items kept) c.in-Asks.is fits))
+    (subst (λ (cut : Cut). After F c.args.context.now c.args.walk.now.text.now (record c.args.walk.now { end = c.args.frame.end; star = c.args.frame.star }) c.into_inner.result.end (λ levels star s. after_arguments F c.args.context.now cut (asked_on F c.args.context.now items kept levels star) s) c.args.machine.now given) (search rules)
     (subst (λ (back : ℕ). After F c.args.context.now c.args.walk.now.text.now (record c.args.walk.now { end = c.args.frame.end; star = c.args.frame.star }) back (λ levels star s. after_arguments F c.args.context.now c.in-Asks.outer.value (asked_on F c.args.context.now items kept levels star) s) c.args.machine.now given) (sym (ap (λ (places : Asking). places.end) is))
-    (subst (λ (o : Opened). After F c.args.context.now (text_around c.args.walk.now.text.now o) (record c.args.walk.now { end = c.args.frame.end; star = c.args.frame.star }) (back_of o) (λ levels star s. closing F c.args.context.now levels star o p items kept s) c.args.machine.now given) c.in-Asks.is a)) c.in_err-holds-in-Asks.field-0.0
-    (subst (λ (name : List ℕ). (c.in_err-holds-in-Asks.field-0.0 ≡ Memory) ⊎ (after_arguments F c.args.context.now c.in-Asks.outer.value (has_value F c.args.context.now name) c.args.machine.now ≡ Is (Err c.in_err-holds-in-Asks.field-0.0))) (c.word-name.ensures ∙ ask.name_is)
-    (subst (λ (cut : Cut). (c.in_err-holds-in-Asks.field-0.0 ≡ Memory) ⊎ (after_arguments F c.args.context.now cut (has_value F c.args.context.now c.word-name.result.now) c.args.machine.now ≡ Is (Err c.in_err-holds-in-Asks.field-0.0))) (search rules) (c.in_err-holds-in-Asks.ensures.does F e))) in
-    let f = c.from_residual.ensures in
-    search rules
-
-pub returns-in_ok-holds-in-Asks-clause-does : goal.returns-in_ok-holds-in-Asks-clause-does
-returns-in_ok-holds-in-Asks-clause-does g c F e p items kept given fits a =
-    let is : c.into_inner-asking.result ≡ c.in-Asks.places.value = search rules in
-    let ask = subst (λ (a : Asking). AskFits c.args.walk.now.text.now a items kept) (sym is)
-        (subst (λ (o : Opened). OpenedFits c.args.walk.now.text.now c.args.context.now o p items kept) c.in-Asks.is fits) in
-    went_in F c.args.context.now c.args.walk.now.text.now c.answer.new.walk.text.now c.answer.new.walk c.answer.new.machine given c.answer.result c.answer.ensures.same_text
-    (c.answer.ensures.does F items kept given ask
-    (answered F c.args.context.now c.args.walk.now.text.now (record c.args.walk.now { end = c.args.frame.end; star = c.args.frame.star }) items kept given c.into_inner-asking.result.end c.in-Asks.outer.value c.args.machine.now
-    (subst (λ (back : ℕ). After F c.args.context.now c.args.walk.now.text.now (record c.args.walk.now { end = c.args.frame.end; star = c.args.frame.star }) back (λ levels star s. after_arguments F c.args.context.now c.in-Asks.outer.value (asked_on F c.args.context.now items kept levels star) s) c.args.machine.now given) (sym (ap (λ (places : Asking). places.end) is))
-    (subst (λ (o : Opened). After F c.args.context.now (text_around c.args.walk.now.text.now o) (record c.args.walk.now { end = c.args.frame.end; star = c.args.frame.star }) (back_of o) (λ levels star s. closing F c.args.context.now levels star o p items kept s) c.args.machine.now given) c.in-Asks.is a)) c.in_ok-holds-in-Asks.holds c.has_value.new.self
-    (subst (λ (name : List ℕ). after_arguments F c.args.context.now c.in-Asks.outer.value (has_value F c.args.context.now name) c.args.machine.now ≡ Is (Ok (c.in_ok-holds-in-Asks.holds, c.has_value.new.self))) (c.word-name.ensures ∙ ask.name_is)
-    (subst (λ (cut : Cut). after_arguments F c.args.context.now cut (has_value F c.args.context.now c.word-name.result.now) c.args.machine.now ≡ Is (Ok (c.in_ok-holds-in-Asks.holds, c.has_value.new.self))) (search rules)
-    (c.in_ok-holds-in-Asks.ensures.does F e)))))
+    (subst (λ (o : Opened). After F c.args.context.now (text_around c.args.walk.now.text.now o) (record c.args.walk.now { end = c.args.frame.end; star = c.args.frame.star }) (back_of o) (λ levels star s. closing F c.args.context.now levels star o p items kept s) c.args.machine.now given) c.in-Asks.is a)))

@@ -3,7 +3,7 @@ use Rattle.drv_machine.proofs.Standing.{stand_grows}
 use Rattle.drv_machine.proofs.TurnSteps.{at_place, inner_there, turn_builtin, turn_choose, turn_failure, turn_filed, turn_function, turn_item, turn_plain, turn_text, turn_uncounted}
 use Rattle.drv_machine.proofs.turns.turn.Goals as goal
 use Rattle.drv_machine.specs.Code.Walking.{Went}
-use Rattle.std.proofs.Common.{arith, rules, ◌+◌}
+use Rattle.std.proofs.Common.{Ok, arith, rules, ◌+◌}
 
 pub token_at-token-requires : goal.token_at-token-requires
 token_at-token-requires g c = at_place c.args.walk.now.text.now c.args.walk.now c.requires.lain c.requires.at_item
@@ -44,10 +44,10 @@ returns-in_default-clause-does g c F e given left =
 pub word-requires-in-Plain : goal.word-requires-in-Plain
 word-requires-in-Plain g c = at_place c.args.walk.now.text.now c.args.walk.now c.requires.lain c.requires.at_item
 
-pub returns-in-Plain-clause-does : goal.returns-in-Plain-clause-does
-returns-in-Plain-clause-does g c F e given left =
+pub returns-in_ok-put_item-in-Plain-clause-does : goal.returns-in_ok-put_item-in-Plain-clause-does
+returns-in_ok-put_item-in-Plain-clause-does g c F e given left =
     turn_plain c.args.walk.now.text.now c.args.walk.now c.requires.at_item c.token_at-token.result c.token_at-token.ensures F c.args.context.now c.args.machine.now given left c.count.new.self
-    (c.in_ok-count.ensures.does F c.args.context.now) c.in-Plain.is c.word-in-Plain.result.now c.word-in-Plain.ensures c.put_item.result c.put_item.new.self (c.put_item.ensures.does F c.args.context.now)
+    (c.in_ok-count.ensures.does F c.args.context.now) c.in-Plain.is c.word-in-Plain.result.now c.word-in-Plain.ensures (Ok tt) c.put_item.new.self (c.in_ok-put_item-in-Plain.ensures.does F c.args.context.now)
 
 pub word-requires : goal.word-requires
 word-requires g c = at_place c.args.walk.now.text.now c.args.walk.now c.requires.lain c.requires.at_item

@@ -1,4 +1,4 @@
-use Rattle.drv_machine.proofs.Ends.{well_given}
+use Rattle.drv_machine.proofs.Steps.{ok_as}
 use Rattle.drv_machine.proofs.WholeWords.{between_again, switch_alone, switch_with, whole_added}
 use Rattle.drv_machine.proofs.machine.Machine.add_switch.Goals as goal
 use Rattle.drv_machine.specs.Code.Held.{word_added}
@@ -28,4 +28,4 @@ returns-clause-does c F =
     ∙ whole_added F C (word_added s word) c.in-Some.argument (between_again s word)
     ∙ ap (λ (m : Machine). Is (Ok (tt, word_added m c.in-Some.argument))) (sym c.in_ok-add_word.ensures.ok)
     ∙ ap (λ (w : List ℕ). Is (Ok (tt, word_added c.add_word.new.self w))) (sym c.in_ok-clone.ensures.cases) in
-    well_given c.add_word-2.new.self (word_added c.add_word.new.self c.in_ok-clone.field-0) c.add_word-2.result _ both c.add_word-2.ensures.ok c.add_word-2.ensures.memory
+    ok_as c.add_word-2.result (λ added. both ∙ ap (λ (m : Machine). Is (Ok (tt, m))) (sym added)) c.add_word-2.ensures.ok

@@ -1,11 +1,9 @@
-use Rattle.drv_machine.proofs.Ends.{none_ends, plain_ends, well_given}
+use Rattle.drv_machine.proofs.Ends.{none_ends, plain_ends}
 use Rattle.drv_machine.proofs.machine.Machine.end_word.Goals as goal
-use Rattle.drv_machine.specs.Cutting.{word_done}
 use Rattle.drv_machine.specs.Code.Held.{open_word}
-use Rattle.drv_machine.specs.Code.Running.{Machine, run}
-use Rattle.drv_machine.specs.Working.{Break, puts}
+use Rattle.drv_machine.specs.Code.Running.{Machine}
 use Rattle.drv_system.specs.Known.{Is}
-use Rattle.std.proofs.Common.{Ok, Some, [], ◌∷◌, ap, sym, ◌∙◌}
+use Rattle.std.proofs.Common.{Ok, Some, ap, sym, ◌∙◌}
 
 pub returns-then-not-self-clause-does : goal.returns-then-not-self-clause-does
 returns-then-not-self-clause-does g c F e =
@@ -17,6 +15,5 @@ returns-clause-does g c F e =
     let s = c.args.self.now in
     let word = c.in_ok-word.word in
     let is_open = ap (λ (m : Machine). m.cut.word) (sym c.self.view_is) ∙ ap (λ b. open_word b c.self.inside.word.items) c.if-not-self.false ∙ ap Some (sym (c.in_ok-word.ensures ∙ c.as_slice.ensures)) in
-    well_given c.finish_word.new.self (record s { cut = word_done s.cut (word ∷ []) word }) c.finish_word.result (run F c.args.context.now s (puts (Break ∷ [])))
-    (plain_ends F c.args.context.now s word is_open (ap (λ (m : Machine). m.cut.marks.script) (sym c.self.view_is) ∙ c.if-self.false) (ap (λ (m : Machine). m.cut.marks.file) (sym c.self.view_is) ∙ c.if-self-2.false))
-    c.finish_word.ensures.ok c.finish_word.ensures.memory
+    plain_ends F c.args.context.now s word is_open (ap (λ (m : Machine). m.cut.marks.script) (sym c.self.view_is) ∙ c.if-self.false) (ap (λ (m : Machine). m.cut.marks.file) (sym c.self.view_is) ∙ c.if-self-2.false)
+    ∙ ap (λ (m : Machine). Is (Ok (tt, m))) (sym c.in_ok-finish_word.ensures.ok)

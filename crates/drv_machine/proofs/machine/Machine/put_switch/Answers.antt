@@ -12,7 +12,7 @@ pub returns-in_err-put-clause-does : goal.returns-in_err-put-clause-does
 returns-in_err-put-clause-does g c F e =
     let C = c.args.context.now in
     let failed = put_failed F C c.args.self.now (Put hyphen ∷ []) (map Put (name_at (names C) c.args.i) ++ Break ∷ word_of (argument C c.args.i)) c.in_err-put.field-0.0 (c.in_err-put.ensures.does F C) in
-    let handed = c.from_residual.ensures in search rules
+    let handed = c.from_residual-in_err-put.ensures in search rules
 
 pub returns-in_err-put-2-clause-does : goal.returns-in_err-put-2-clause-does
 returns-in_err-put-2-clause-does g c F e =

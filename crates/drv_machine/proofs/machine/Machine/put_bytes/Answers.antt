@@ -1,5 +1,5 @@
 use Rattle.drv_machine.proofs.Cutter.{bytes_put}
-use Rattle.drv_machine.proofs.machine.Machine.put.Goals as goal
+use Rattle.drv_machine.proofs.machine.Machine.put_bytes.Goals as goal
 use Rattle.std.proofs.Common.{◌∙◌, ◌++◌, ap, sym}
 
 pub returns-clause-does : goal.returns-clause-does

@@ -1,0 +1,10 @@
+use Rattle.drv_machine.specs.declared.fault.MachineFault.TheVariants as fault
+use Rattle.drv_machine.specs.declared.fault.MachineFault.{MachineFault}
+use Rattle.drv_machine.specs.declared.stack.StackFault.TheVariants.{Memory, TooDeep}
+use Rattle.drv_machine.specs.declared.stack.StackFault.{StackFault}
+
+-- Why a part isn't opened, as a fault of the machine.
+
+abbrev pub opening_lifted : StackFault → MachineFault
+opening_lifted Memory = fault.Memory
+opening_lifted TooDeep = fault.SpecTooDeep
