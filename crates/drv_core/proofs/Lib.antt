@@ -38,6 +38,7 @@ pub mod OneByOne
 pub mod Open
 pub mod Order
 pub mod PathNumbers
+pub mod Places
 pub mod Progress
 pub mod Removed
 pub mod Replay

@@ -9,7 +9,7 @@ ghost use Rattle.drv_core.specs.Code.Machine.{awaits, inside, left};
 ghost use Rattle.drv_core.specs.Code.Source.{HasRoom};
 ghost use Rattle.std.specs.Prelude.{◌≡◌, ◌+◌, ◌<◌, ◌≤◌, IfOk, OnOk, drop, get_or, length, map};
 ghost use Rattle.drv_words.specs.Places.{no_job};
-ghost use Rattle.std.specs.List.{filter};
+ghost use Rattle.std.specs.List.{filter, position};
 ghost use Rattle.std.specs.Vec.{vec_capacity};
 
 use crate::source::SourceState;
@@ -41,28 +41,35 @@ pub(crate) enum Allowed {
     NotWaiting,
 }
 
-/// The first job from this number on that has something to do, or a number that no job has.
+/// Whether a job has something to do.
+fn is_busy(job: &Job) -> bool
+    ensures { result ≡ busy job.now }
+{
+    !job.groups.as_slice().is_empty()
+}
+
+/// Where the first of these jobs stands that has something to do.
+fn busy_place(jobs: &[Job]) -> Option<usize>
+    ensures { result ≡ position busy jobs.now }
+{
+    jobs.iter().position(is_busy)
+}
+
+/// The first job from this number on that has something to do, or the number of jobs.
+#[tactic(auto, using(crate::proofs::Places::place_within))]
 fn first_busy(jobs: &[Job], from: usize) -> usize
+    requires { from ≤ length jobs.now }
     ensures { result ≡ first_busy from (drop from jobs.now) }
 {
-    let mut number = from;
-    while number < jobs.len() && jobs[number].groups.as_slice().is_empty() {
-        number += 1;
-    }
-    number
+    let left = &jobs[from..];
+    from + busy_place(left).unwrap_or(left.len())
 }
 
 /// How many jobs have something to do.
 fn count_busy(jobs: &[Job]) -> usize
     ensures { result ≡ length (filter busy jobs.now) }
 {
-    let mut count = 0;
-    for job in jobs {
-        if !job.groups.as_slice().is_empty() {
-            count += 1;
-        }
-    }
-    count
+    jobs.iter().filter(|job| is_busy(job)).count()
 }
 
 /// A source for each job, of which none has an empty group. Want of memory is the only error.
@@ -213,13 +220,8 @@ impl Flight {
     fn flying(&self) -> usize
         ensures { result ≡ flying (fleet_of self.now) }
     {
-        let mut count = 0;
-        for number in self.begun.as_slice() {
-            if self.awaits(*number) {
-                count += 1;
-            }
-        }
-        count
+        let begun = self.begun.as_slice();
+        begun.iter().filter(|number| self.awaits(**number)).count()
     }
 
     /// Once all sources that can have a child in flight have one, a source may wait.
@@ -251,17 +253,9 @@ impl Flight {
             choice self.now.next }
     {
         let allowed = self.allowed();
-        let mut left = choice;
-        for number in self.begun.as_slice() {
-            if !self.may_go(allowed, *number) {
-                continue;
-            }
-            if left == 0 {
-                return *number;
-            }
-            left -= 1;
-        }
-        self.next
+        let begun = self.begun.as_slice();
+        let mut going = begun.iter().filter(|number| self.may_go(allowed, **number));
+        going.nth(choice).copied().unwrap_or(self.next)
     }
 
     /// How many of those that have begun may go on.
@@ -271,13 +265,11 @@ impl Flight {
         ensures few { result ≤ length self.now.begun.items }
     {
         let allowed = self.allowed();
-        let mut count = 0;
-        for number in self.begun.as_slice() {
-            if self.may_go(allowed, *number) {
-                count += 1;
-            }
-        }
-        count
+        let begun = self.begun.as_slice();
+        begun
+            .iter()
+            .filter(|number| self.may_go(allowed, **number))
+            .count()
     }
 
     /// How many sources may go on.

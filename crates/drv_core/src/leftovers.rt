@@ -8,7 +8,8 @@ ghost use Rattle.drv_core.specs.Outcomes.{File, marked_files};
 ghost use Rattle.drv_core.specs.Code.Counting.{counting, fresh_remains, noting, noting_claim};
 ghost use Rattle.drv_core.specs.Code.Counting.{place_at};
 ghost use Rattle.drv_core.specs.Code.Remains.{is_due, is_left, passing, seeking, sought};
-ghost use Rattle.std.specs.Prelude.{◌≡◌, ◌-◌, ◌++◌, ◌∷◌, ◌<◌, ◌^◌, [], IfOk, List, OnOk, drop};
+ghost use Rattle.std.specs.List.{position};
+ghost use Rattle.std.specs.Prelude.{◌≡◌, ◌-◌, ◌++◌, ◌∷◌, ◌<◌, ◌≤◌, ◌^◌, [], IfOk, List, OnOk, drop};
 ghost use Rattle.std.specs.Prelude.{false, get_or, length, unwrap_or, ℕ};
 
 use drv_words::{Answer, ClaimAnswer, Job, Place, Plan, Step, Word};
@@ -275,21 +276,29 @@ impl Leftovers {
 
     /// Goes to the next file that is to be removed, from this number on, or after the last.
     pub(crate) fn seek(&mut self, from: usize)
+        requires { from ≤ length self.old.files.items }
         ensures { remains_of self.new ≡ seeking (remains_of self.old) from }
     {
         self.at = self.sought(from);
     }
 
     /// The number of the next file that is to be removed, from this one on.
+    #[tactic(auto, using(crate::proofs::Places::place_within))]
     fn sought(&self, from: usize) -> usize
+        requires { from ≤ length self.now.files.items }
         ensures { result
             ≡ sought (remains_of self.now) from (lefts_of (drop from self.now.files.items)) }
     {
-        let mut at = from;
-        while at < self.files.len() && !self.is_due(self.files[at]) {
-            at += 1;
-        }
-        at
+        let left = &self.files[from..];
+        from + self.due_place(left).unwrap_or(left.len())
+    }
+
+    /// Where the first of these files stands that is to be removed.
+    fn due_place(&self, files: &[Leftover]) -> Option<usize>
+        ensures { result ≡ position
+            (λ file. is_due (remains_of self.now) self.now.gone.items (left_of file)) files.now }
+    {
+        files.iter().position(|file| self.is_due(*file))
     }
 
     /// The file's path is removed, and the next is sought.
