@@ -1,4 +1,5 @@
 mod Counts
+mod Cuts
 mod Folders
 mod Noted
 mod Parted

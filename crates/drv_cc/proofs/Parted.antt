@@ -1,7 +1,7 @@
 use Rattle.drv_cc.specs.SideFiles.{parted}
-use Rattle.std.proofs.Common.{append-nil, arith, ◌≡◌, ◌∙◌, ◌++◌, ◌==◌, ◌+◌, ◌-◌, ◌<◌, List, [], ◌∷◌, None, Some, ap, drop, get_or, length, refl, sym, take, true, ℕ}
+use Rattle.std.proofs.Common.{append-nil, arith, ◌≡◌, ◌∙◌, ◌++◌, ◌==◌, ◌+◌, ◌-◌, ◌<◌, ◌≤◌, ◌≢◌, Bool, List, [], ◌∷◌, None, Some, ap, drop, eqb-true, false, get_or, length, refl, suc, sym, take, true, ℕ}
 use Rattle.std.proofs.lemmas.Bool.Decides.{nat_tests}
-use Rattle.std.proofs.lemmas.List.{drop_more, length-drop, take-append-drop, take_all}
+use Rattle.std.proofs.lemmas.List.{drop_more, get_or-drop, length-drop, take-append-drop, take_all}
 
 -- The last byte of a kind is looked for from the end.
 
@@ -17,6 +17,15 @@ parted_after : (mark : ℕ) (front name before behind : List ℕ) → parted mar
 parted_after mark [] name before behind is = is
 parted_after mark (b ∷ front) name before behind is = rw (parted_after mark front name before behind is) refl
 
+-- it stands nowhere
+pub parted_nowhere : (mark : ℕ) (name : List ℕ) → ((k : ℕ) → k < length name → get_or name k 0 ≢ mark) → parted mark name ≡ None
+parted_nowhere mark [] none = refl
+parted_nowhere mark (b ∷ name) none = rw (parted_nowhere mark name (λ k within. none (suc k) (omega (arith, within))), other (b == mark) refl) refl
+  where
+    other : (here : Bool) → (b == mark) ≡ here → (b == mark) ≡ false
+    other true h = absurd (none 0 (omega arith) (eqb-true b mark h))
+    other false h = h
+
 -- it stands at this place
 pub parted_at : (mark i : ℕ) (name : List ℕ) → i < length name → get_or name i 0 ≡ mark → parted mark (drop (i + 1) name) ≡ None
     → Some (take i name, take (length name - (i + 1)) (drop (i + 1) name)) ≡ parted mark name
@@ -27,3 +36,8 @@ parted_at mark i name within is none =
     ∙ sym (ap (λ front. Some (front, drop (i + 1) name)) (append-nil (take i name)))
     ∙ sym (parted_after mark (take i name) (drop i name) [] (drop (i + 1) name) here)
     ∙ ap (parted mark) (take-append-drop i name)
+
+-- behind this place it stands nowhere
+pub nowhere_behind : (mark i : ℕ) (name : List ℕ) → ((k : ℕ) → i + 1 ≤ k → k < length name → get_or name k 0 ≢ mark) → parted mark (drop (i + 1) name) ≡ None
+nowhere_behind mark i name none = parted_nowhere mark (drop (i + 1) name) (λ k within same.
+    none (i + 1 + k) (omega arith) (omega (arith, within, length-drop (i + 1) name)) (sym (get_or-drop (i + 1) name k 0) ∙ same))

@@ -11,6 +11,7 @@ mod judging;
 mod keeping;
 mod levels;
 mod names;
+mod places;
 mod quoting;
 mod reading;
 mod refusal;

@@ -10,14 +10,10 @@ use crate::reading::rest_after;
 pub(crate) fn parted(mark: u8, name: &[u8]) -> Option<(&[u8], &[u8])>
     ensures { option_map (λ parts. (parts.0.now, parts.1.now)) result ≡ parted mark name.now }
 {
-    let mut i = name.len();
-    while i > 0 {
-        i -= 1;
-        if name[i] == mark {
-            return Some((&name[..i], &name[i + 1..]));
-        }
+    match name.iter().rposition(|byte| *byte == mark) {
+        Some(at) => Some((&name[..at], &name[at + 1..])),
+        None => None,
     }
-    None
 }
 
 /// A name without its folder.

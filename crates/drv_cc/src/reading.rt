@@ -7,6 +7,7 @@ ghost use Rattle.std.specs.Prelude.{◌≡◌, IfOk, None, drop, length};
 
 use crate::classes::{ignored, paired, stands_in};
 use crate::item::Item;
+use crate::places::first_place;
 use crate::renaming::renamed;
 use crate::table::{Part, Row, Spelling, Takes, first_row};
 use drv_words::{Listing, Word};
@@ -53,17 +54,14 @@ fn knows(known: &[Word], name: &[u8]) -> bool
 }
 
 /// A word up to its first `=`, and that too.
+#[tactic(auto, using(crate::proofs::Cuts::head_at, crate::proofs::Cuts::head_whole))]
 fn head_of(word: &[u8]) -> &[u8]
     ensures { result.now ≡ head_of word.now }
 {
-    let mut i = 0;
-    while i < word.len() {
-        if word[i] == b'=' {
-            return &word[..i + 1];
-        }
-        i += 1;
+    match first_place(b'=', word) {
+        Some(at) => &word[..at + 1],
+        None => word,
     }
-    word
 }
 
 /// A word that no row fits, by the name that it stands for.

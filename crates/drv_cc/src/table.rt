@@ -6,6 +6,7 @@ ghost use Rattle.drv_cc.specs.Table.{name_after, option_of, or_itself, row_of, s
 ghost use Rattle.std.specs.Option.{option_map};
 ghost use Rattle.std.specs.Prelude.{◌≡◌, find};
 
+use crate::places::first_place;
 use crate::rows::sections;
 
 /// How an option takes its argument.
@@ -109,32 +110,25 @@ impl Takes {
 }
 
 /// The option of an entry.
+#[tactic(auto, using(crate::proofs::Cuts::option_at, crate::proofs::Cuts::option_whole))]
 fn option_of(entry: &[u8]) -> &[u8]
     ensures { result.now ≡ option_of entry.now }
 {
-    let mut i = 0;
-    while i < entry.len() {
-        if entry[i] == b'>' {
-            return &entry[..i];
-        }
-        i += 1;
+    match first_place(b'>', entry) {
+        Some(at) => &entry[..at],
+        None => entry,
     }
-    entry
 }
 
 /// The name that an entry's option is called by.
+#[tactic(auto, using(crate::proofs::Cuts::name_at, crate::proofs::Cuts::name_lacking, crate::proofs::Cuts::name_whole))]
 fn name_of(entry: &[u8]) -> &[u8]
     ensures { result.now ≡ or_itself (name_after entry.now) entry.now }
 {
-    let mut i = 0;
-    while i < entry.len() {
-        if entry[i] == b'>' {
-            let name = &entry[i + 1..];
-            return if name.is_empty() { entry } else { name };
-        }
-        i += 1;
+    match first_place(b'>', entry) {
+        Some(at) if at + 1 < entry.len() => &entry[at + 1..],
+        _ => entry,
     }
-    entry
 }
 
 /// The first entry of a text whose option fits a word.

@@ -1,9 +1,11 @@
-use Rattle.drv_cc.proofs.Parted.{parted_at}
+use Rattle.drv_cc.proofs.Parted.{nowhere_behind, parted_at, parted_nowhere}
 use Rattle.drv_cc.proofs.names.parted.Goals as goal
-use Rattle.drv_cc.specs.SideFiles.{parted}
-use Rattle.std.proofs.Common.{◌≡◌, ◌+◌, ◌-◌, ap, arith, drop, ◌∙◌}
+use Rattle.std.proofs.Common.{rules, sym}
 
-pub returns-then-name-i : goal.returns-then-name-i
-returns-then-name-i c =
-    let next : c.loop-i.i - 1 + 1 ≡ c.loop-i.i = omega arith in
-    parted_at c.args.mark (c.loop-i.i - 1) c.args.name.now (omega arith) c.if-name-i.true (ap (λ i. parted c.args.mark (drop i c.args.name.now)) next ∙ c.loop-i.invariant.none)
+pub returns-in-Some : goal.returns-in-Some
+returns-in-Some c =
+    let name = c.args.name.now in
+    parted_at c.args.mark c.in-Some.at name (search rules) (search rules) (nowhere_behind c.args.mark c.in-Some.at name (search rules))
+
+pub returns-in-None : goal.returns-in-None
+returns-in-None c = sym (parted_nowhere c.args.mark c.args.name.now (search rules))
