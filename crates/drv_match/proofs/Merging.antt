@@ -3,16 +3,18 @@ use Rattle.drv_match.proofs.Parts.{all_hidden, any_filter, at_place, block_has, 
 use Rattle.drv_match.specs.Code.Indexed.{AreNamed, SameHits}
 use Rattle.drv_match.specs.Matching.{IsNextHit, any_hits, hits, is_any_hit, is_broad, is_hit, is_named, name_at}
 use Rattle.drv_match.specs.Pattern.{Pattern}
-use Rattle.std.proofs.Common.{◌≡◌, ◌<◌, ◌≤◌, ◌+◌, ◌-◌, ◌∙◌, ◌&&◌, ◌||◌, ◌==◌, All, Bool, false, true, List, [], ◌∷◌, ◌++◌, None, Some, ap, append_assoc, append-nil, arith, drop, filter, get_or, if◌then◌else◌, length, nat_eq, nat_lt, refl, set, subst, suc, sym, take, zero, ℕ}
+use Rattle.std.proofs.Common.{◌≡◌, ◌<◌, ◌≤◌, ◌+◌, ◌-◌, ◌∙◌, ◌&&◌, ◌||◌, ◌==◌, All, Bool, false, true, List, [], ◌∷◌, ◌++◌, None, Option, Some, ap, append_assoc, append-nil, arith, cond, drop, filter, get_or, if◌then◌else◌, length, MatchOption, nat_eq, nat_lt, not, refl, set, subst, suc, sym, take, zero, ℕ}
 use Rattle.std.proofs.Math.Bool.{or-false}
 use Rattle.std.proofs.lemmas.Bool.{eqb-true}
 use Rattle.std.proofs.lemmas.Bool.Decides.{nat_tests}
 use Rattle.std.proofs.lemmas.Cmp.{nat_eq_equiv}
-use Rattle.std.proofs.lemmas.List.{drop_all, drop_more}
+use Rattle.std.proofs.lemmas.List.{drop_all, drop_more, length-drop, take_all}
 use Rattle.std.proofs.lemmas.List.Elements.{All-filter, All-from_all_within}
 use Rattle.std.proofs.lemmas.List.Folds.{list_any_at}
 use Rattle.std.proofs.lemmas.List.FromFn.{get_or-range_with_len, length-range_with_len}
-use Rattle.std.specs.List.{list_any, range_with_len}
+use Rattle.std.proofs.lemmas.List.Sums.{prefix_len-le-length}
+use Rattle.std.specs.List.{list_any, position, position_or_len, range_with_len}
+use Rattle.std.specs.Prelude.{unwrap_or}
 
 -- Places that one of several patterns hits, and the next place that one hits.
 
@@ -88,14 +90,53 @@ module _ (names : List (List ℕ)) (hidden : List Bool) where
   pub hits_none : (pattern : Pattern) (i : ℕ) → nat_lt 0 (length (hits names hidden pattern)) ≡ false → i < length names → is_hit names hidden pattern i ≡ false
   hits_none pattern i none within = not_in (is_hit names hidden pattern) (length names) i (any_filter (is_hit names hidden pattern) (range_with_len 0 (length names)) ∙ none) within
 
-  -- the patterns after one that hits nothing hit the same
-  pub passed : (patterns : List Pattern) (at : ℕ) (pattern : Pattern) (has : Bool) → at < length patterns → pattern ≡ get_or patterns at pattern → has ≡ nat_lt 0 (length (hits names hidden pattern)) → has ≡ false
-      → SameHits names hidden (drop at patterns) patterns → SameHits names hidden (drop (at + 1) patterns) patterns
-  passed patterns at pattern has within is says missed same = λ i low.
-      let none : is_hit names hidden pattern i ≡ false = hits_none pattern i (sym says ∙ missed) low in
-      let step : is_any_hit names hidden (drop at patterns) i ≡ is_any_hit names hidden (drop (at + 1) patterns) i =
-      ap (λ ps. is_any_hit names hidden ps i) (drop_more patterns at pattern within ∙ ap (λ p. p ∷ drop (at + 1) patterns) (sym is)) ∙ ap (λ t. t || is_any_hit names hidden (drop (at + 1) patterns) i) none in
-      sym step ∙ same i low
+  abbrev has_hit : Pattern → Bool
+  has_hit pattern = nat_lt 0 (length (hits names hidden pattern))
+
+  -- the patterns from the first on that hits a switch hit the same
+  pub from_first : (patterns : List Pattern) → SameHits names hidden (drop (position_or_len has_hit patterns) patterns) patterns
+  from_first [] i low = refl
+  from_first (p ∷ patterns) i low = by (has_hit p) refl (from_first patterns i low)
+    where
+      n : ℕ
+      n = position_or_len has_hit patterns
+
+      by : (here : Bool) → has_hit p ≡ here → is_any_hit names hidden (drop n patterns) i ≡ is_any_hit names hidden patterns i
+          → is_any_hit names hidden (drop (cond (not here) (1 + n) 0) (p ∷ patterns)) i ≡ is_any_hit names hidden (p ∷ patterns) i
+      by true is rest = refl
+      by false is rest =
+          ap (λ m. is_any_hit names hidden (drop m (p ∷ patterns)) i) (let e : 1 + n ≡ suc n = omega arith in e)
+          ∙ rest ∙ sym (ap (λ t. t || is_any_hit names hidden patterns i) (hits_none p i is low))
+
+  or_length : (patterns : List Pattern) → unwrap_or (position has_hit patterns) (length patterns) ≡ position_or_len has_hit patterns
+  or_length patterns = by (nat_lt n (length patterns)) refl
+    where
+      n : ℕ
+      n = position_or_len has_hit patterns
+
+      by : (below : Bool) → nat_lt n (length patterns) ≡ below → unwrap_or (cond below (Some n) None) (length patterns) ≡ n
+      by true is = refl
+      by false is =
+          let at_least : length patterns ≤ n = grind (arith, nat_tests, is) in
+          omega (arith, at_least, prefix_len-le-length (λ p. not (has_hit p)) patterns)
+
+  pub place_within : (patterns : List Pattern) → unwrap_or (position has_hit patterns) (length patterns) ≤ length patterns
+  place_within patterns = omega (arith, or_length patterns, prefix_len-le-length (λ p. not (has_hit p)) patterns)
+
+  pub from_place : (patterns : List Pattern) (at : ℕ) → at ≡ unwrap_or (position has_hit patterns) (length patterns)
+      → SameHits names hidden (take (length patterns - at) (drop at patterns)) patterns
+  from_place patterns at is i low =
+      ap (λ ps. is_any_hit names hidden ps i)
+      (take_all (length patterns - at) (drop at patterns) (omega (arith, length-drop at patterns)) ∙ ap (λ n. drop n patterns) (is ∙ or_length patterns))
+      ∙ from_first patterns i low
+
+  -- the first place from one on that is hit
+  pub next_found : (pattern : Pattern) (from end : ℕ) (found : Option ℕ) → end ≡ length names
+      → MatchOption found ((k : ℕ) → from ≤ k → k < end → is_hit names hidden pattern k ≡ false)
+      (λ i. (from ≤ i) × (i < end) × (is_hit names hidden pattern i ≡ true) × ((k : ℕ) → from ≤ k → k < i → is_hit names hidden pattern k ≡ false))
+      → IsNextHit names hidden pattern from found
+  next_found pattern from end None is none = λ i low high. none i low (omega (arith, is, high))
+  next_found pattern from end (Some next) is (low, high, hit, before) = (low, omega (arith, is, high), hit, before)
 
   -- Flags of the places that are hit.
 

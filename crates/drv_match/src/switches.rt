@@ -4,6 +4,7 @@ ghost use Rattle.drv_match.specs.Code.Indexed.{AreNamed, SameHits};
 ghost use Rattle.drv_match.specs.Matching.{IsNextHit, any_hits, hidden_by, hits, is_broad};
 ghost use Rattle.drv_match.specs.Matching.{is_hit, is_live, name_at};
 ghost use Rattle.drv_match.specs.Order.{IsBlock, IsOrder};
+ghost use Rattle.std.specs.List.{position};
 ghost use Rattle.std.specs.Prelude.{◌≡◌, ◌<◌, ◌&&◌, ◌||◌, ◌∷◌, All, IfOk, List, false, get_or};
 ghost use Rattle.std.specs.Prelude.{drop, length, map, nat_lt, not, ℕ};
 
@@ -196,6 +197,7 @@ impl<'a> Switches<'a> {
     }
 
     /// These patterns from the first one on that hits a switch.
+    #[tactic(auto, using(crate::proofs::Merging::place_within))]
     fn from_first_hit<'p, 'n>(
         &self,
         patterns: &'p [Pattern<'n>],
@@ -204,11 +206,19 @@ impl<'a> Switches<'a> {
         requires { length hidden.now ≡ length self.now }
         ensures { SameHits self.now hidden.now result.now patterns.now }
     {
-        let mut at = 0;
-        while at < patterns.len() && !self.has_hit(&patterns[at], hidden) {
-            at += 1;
-        }
-        &patterns[at..]
+        let at = self.hit_place(patterns, hidden);
+        &patterns[at.unwrap_or(patterns.len())..]
+    }
+
+    /// Where the first of these patterns stands that hits a switch.
+    fn hit_place(&self, patterns: &[Pattern<'_>], hidden: &Hidden) -> Option<usize>
+        requires { length hidden.now ≡ length self.now }
+        ensures { result ≡ position
+            (λ pattern. nat_lt 0 (length (hits self.now hidden.now pattern))) patterns.now }
+    {
+        patterns
+            .iter()
+            .position(|pattern| self.has_hit(pattern, hidden))
     }
 
     /// Whether a pattern names so many switches of several names that to go over the line is less
@@ -291,12 +301,7 @@ impl<'a> Switches<'a> {
         requires { length hidden.now ≡ length self.now }
         ensures { IsNextHit self.now hidden.now pattern.now from result }
     {
-        for i in from..self.len() {
-            if self.is_hit(pattern, hidden, i) {
-                return Some(i);
-            }
-        }
-        None
+        (from..self.len()).find(|i| self.is_hit(pattern, hidden, *i))
     }
 
     /// The places that a pattern names, by name, then by place.

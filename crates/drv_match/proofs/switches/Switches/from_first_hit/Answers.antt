@@ -1,9 +1,8 @@
-use Rattle.drv_match.proofs.Merging.{passed}
+use Rattle.drv_match.proofs.Merging.{from_place}
 use Rattle.drv_match.proofs.switches.Switches.from_first_hit.Goals as goal
-use Rattle.std.proofs.Common.{arith}
+use Rattle.std.proofs.Common.{◌∙◌, ap, length}
+use Rattle.std.specs.Prelude.{unwrap_or}
 
-pub loop-at-preserved : goal.loop-at-preserved
-loop-at-preserved c = record {
-  within = omega (arith, c.loop-at-test.true);
-  same = passed c.args.self.now c.args.hidden.now c.args.patterns.now c.loop-at.at c.index-patterns-at.result c.has_hit.result c.loop-at-test.true c.index-patterns-at.is c.has_hit.ensures c.if-not-has_hit.true c.loop-at.invariant.same;
-}
+pub returns : goal.returns
+returns c = from_place c.args.self.now c.args.hidden.now c.args.patterns.now c.unwrap_or.result
+    (c.unwrap_or.ensures ∙ ap (λ place. unwrap_or place (length c.args.patterns.now)) c.hit_place-at.ensures)
