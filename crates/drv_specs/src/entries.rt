@@ -140,7 +140,7 @@ impl Entries {
     }
 
     /// The text of the pair at a place, where it is one that is worked.
-    pub(crate) fn pair_text(&self, place: usize) -> Option<&Text>
+    pub(crate) fn worked_text(&self, place: usize) -> Option<&Text>
         ensures { option_map (λ text. text.now) result
             ≡ option_and_then worked_text (slice_get self.now.pairs place) }
     {

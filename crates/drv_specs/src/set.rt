@@ -77,7 +77,7 @@ impl SpecSet {
         ensures { option_map (λ tree. tree.now) result
             ≡ option_and_then worked_text (slice_get self.now.pairs place) }
     {
-        match self.entries.pair_text(place) {
+        match self.entries.worked_text(place) {
             Some(text) => Some(text.tree()),
             None => None,
         }
