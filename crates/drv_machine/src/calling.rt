@@ -42,7 +42,11 @@ pub(crate) fn open_call(
 {
     let outer = Box::new(machine.alloc(), machine.put_aside())?;
     walk.frames.push(Frame {
-        opened: Opened::Call(at, next, outer),
+        opened: Opened::Call {
+            at,
+            back: next,
+            outer,
+        },
         end: walk.end,
         star: walk.star,
     })?;
@@ -77,7 +81,7 @@ pub(crate) fn open_test(
     let places = Box::new(machine.alloc(), asking)?;
     let outer = Box::new(machine.alloc(), machine.put_aside())?;
     walk.frames.push(Frame {
-        opened: Opened::Asks(places, outer),
+        opened: Opened::Asks { places, outer },
         end: walk.end,
         star: walk.star,
     })?;

@@ -86,7 +86,7 @@ fn open_failure(end: usize, walk: &mut Walk<'_>, machine: &mut Machine) -> Resul
     ensures same_text { walk.new.text.now ≡ walk.old.text.now }
 {
     walk.frames.push(Frame {
-        opened: Opened::Failure(end),
+        opened: Opened::Failure { back: end },
         end: walk.end,
         star: walk.star,
     })?;

@@ -80,9 +80,9 @@ fn open_filed<S: System>(
     ensures same_text { walk.new.text.now ≡ walk.old.text.now }
 {
     if !starts_file(context, machine) {
-        return open_part(Opened::Inside(end), end, walk);
+        return open_part(Opened::Inside { back: end }, end, walk);
     }
-    open_part(Opened::File(end), end, walk)?;
+    open_part(Opened::File { back: end }, end, walk)?;
     machine.begin_file(context, outside)
 }
 

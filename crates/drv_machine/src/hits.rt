@@ -54,7 +54,7 @@ fn open_hit(each: Each, switch: usize, size: usize, walk: &mut Walk<'_>) -> Resu
     ensures same_text { walk.new.text.now ≡ walk.old.text.now }
 {
     walk.frames.push(Frame {
-        opened: Opened::Hit(each, switch),
+        opened: Opened::Hit { each, switch },
         end: walk.end,
         star: walk.star,
     })?;

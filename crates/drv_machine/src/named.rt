@@ -28,7 +28,10 @@ pub(crate) fn open_text<'w>(
     };
     let end = text.tokens().len();
     walk.frames.push(Frame {
-        opened: Opened::Text(walk.text, walk.at),
+        opened: Opened::Text {
+            around: walk.text,
+            back: walk.at,
+        },
         end: walk.end,
         star: walk.star,
     })?;

@@ -98,31 +98,31 @@ fn close<'w, S: System>(
     walk.end = frame.end;
     walk.star = frame.star;
     match frame.opened {
-        Opened::Hit(each, switch) => {
+        Opened::Hit { each, switch } => {
             close_hit(text, context, each, switch, walk, machine, outside)
         }
-        Opened::Text(around, back) => {
+        Opened::Text { around, back } => {
             walk.text = around;
             walk.at = back;
             Ok(())
         }
-        Opened::Failure(back) => {
+        Opened::Failure { back } => {
             walk.at = back;
             machine.end_failure(context, outside)
         }
-        Opened::File(back) => {
+        Opened::File { back } => {
             walk.at = back;
             machine.end_file(context, outside)
         }
-        Opened::Inside(back) => {
+        Opened::Inside { back } => {
             walk.at = back;
             Ok(())
         }
-        Opened::Call(at, back, outer) => {
+        Opened::Call { at, back, outer } => {
             walk.at = back;
             machine.put_value(text.word(at), outer, context, outside)
         }
-        Opened::Asks(places, outer) => {
+        Opened::Asks { places, outer } => {
             close_test(
                 context,
                 Box::into_inner(places),

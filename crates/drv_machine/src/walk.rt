@@ -47,27 +47,46 @@ pub(crate) struct Asking {
 /// What a part was opened for. A row that opens a part of another kind adds a variant.
 #[derive(Drop)]
 pub(crate) enum Opened<'a> {
-    /// A working of an X for the hit at a place of the line. The part around it goes on after X.
-    Hit(Each, usize),
+    /// A working of an X for the hit of a switch. The part around it goes on after X.
+    Hit {
+        each: Each,
+        switch: usize,
+    },
     /// A named text. The part around it lies in this text, and goes on at a place of it.
-    Text(&'a SpecTree, usize),
+    Text {
+        around: &'a SpecTree,
+        back: usize,
+    },
     /// A `%W`. The part around it goes on at a place.
-    Failure(usize),
+    Failure {
+        back: usize,
+    },
     /// A `%@` that makes a file of its words. The part around it goes on at a place.
-    File(usize),
+    File {
+        back: usize,
+    },
     /// A `%@` that means what its braces mean. The part around it goes on at a place.
-    Inside(usize),
+    Inside {
+        back: usize,
+    },
     /// The arguments of the function at a place, and what was cut before them. The part around it
     /// goes on at a place.
-    Call(usize, usize, Box<Cutter>),
+    Call {
+        at: usize,
+        back: usize,
+        outer: Box<Cutter>,
+    },
     /// The arguments of a function that a test asks, and what was cut before them. The places of
     /// the test have a room of their own, since open parts are moved, and most are smaller.
-    Asks(Box<Asking>, Box<Cutter>),
+    Asks {
+        places: Box<Asking>,
+        outer: Box<Cutter>,
+    },
 }
 
 impl<'a> Default for Opened<'a> {
     fn default() -> Opened<'a> {
-        Opened::Failure(0)
+        Opened::Failure { back: 0 }
     }
 }
 
