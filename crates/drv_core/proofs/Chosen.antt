@@ -18,7 +18,7 @@ use Rattle.drv_core.proofs.Tells.{ToldStory, tells}
 use Rattle.drv_core.specs.Choices.{BetweenBlocks, ChoicesAre, GoesOn, HasEnded, IsChoice, IsNextOf, IsOfFirst, SoFar, is_step_of, source_may}
 use Rattle.drv_core.specs.Code.Course.{Done, Link, Phase, Removals, Report, Sources}
 use Rattle.drv_core.specs.Code.Fleet.{Fleet, able, selected, stage_in}
-use Rattle.drv_core.specs.Code.Machine.{ClaimReport, Claims, Closing, Ended, RemovalReport, Removals as OwnRemovals, Stage, StartReport, Starts, WaitReport, Waits, asks, begin, inside, left}
+use Rattle.drv_core.specs.Code.Machine.{Claims, Removals as OwnRemovals, Stage, Starts, Waits, asks, begin, inside, left}
 use Rattle.drv_core.specs.Code.Position.{Position, asked_in, next_of}
 use Rattle.drv_core.specs.Code.Reached.{Kept, between_blocks, choices_at, choosing}
 use Rattle.drv_core.specs.Story.{Block}
@@ -117,15 +117,10 @@ record Asks (k : ℕ) (job : Job) (s : Stage) : Type 0 where
 
 own_step : (k : ℕ) (job : Job) (s : Stage) → left s ≡ true → inside s ≡ false → Asks k job s
 own_step k job (Claims i) l o = record { step = asked (asks k job (Claims i)); asks = refl; own = nat_eq_equiv.refl k }
-own_step k job (ClaimReport i x) l o = absurd cc
 own_step k job (Starts g was ids) l o = record { step = asked (asks k job (Starts g was ids)); asks = refl; own = nat_eq_equiv.refl k }
-own_step k job (StartReport g was ids why) l o = absurd cc
-own_step k job (Closing g was ids why told) l o = absurd cc
 own_step k job (Waits g was ids i fault) l o = record { step = asked (asks k job (Waits g was ids i fault)); asks = refl; own = nat_eq_equiv.refl k }
-own_step k job (WaitReport g was ids i fault x) l o = absurd cc
 own_step k job (OwnRemovals i) l o = record { step = asked (asks k job (OwnRemovals i)); asks = refl; own = nat_eq_equiv.refl k }
-own_step k job (RemovalReport i) l o = absurd cc
-own_step k job Ended l o = absurd cc
+own_step k job s l o = absurd cc
 
 -- whether the code is between blocks
 

@@ -26,29 +26,17 @@ use Rattle.std.specs.Prelude.{⊤}
 
 -- whether a pipe is pending
 abbrev pub piped : Stage → Bool
-piped (Claims i) = false
-piped (ClaimReport i x) = false
 piped (Starts g was ids) = nat_lt 0 (length ids)
 piped (StartReport g was ids why) = nat_lt 0 (length ids)
 piped (Closing g was ids why told) = true
-piped (Waits g was ids i fault) = false
-piped (WaitReport g was ids i fault x) = false
-piped (Removals i) = false
-piped (RemovalReport i) = false
-piped Ended = false
+piped s = false
 
 pub piped_out : (s : Stage) → inside s ≡ false → piped s ≡ false
-piped_out (Claims i) e = refl
-piped_out (ClaimReport i x) e = refl
 piped_out (Starts g was []) e = refl
 piped_out (Starts g was (id ∷ ids)) e = absurd cc
 piped_out (StartReport g was ids why) e = absurd cc
 piped_out (Closing g was ids why told) e = absurd cc
-piped_out (Waits g was ids i fault) e = refl
-piped_out (WaitReport g was ids i fault x) e = refl
-piped_out (Removals i) e = refl
-piped_out (RemovalReport i) e = refl
-piped_out Ended e = refl
+piped_out s e = refl
 
 no_pipe_group : (job : Job) (g : ℕ) (was : Bool) → false ≡ piped (enter_group job g was)
 no_pipe_group job g was = by (nat_lt g (length job.groups))

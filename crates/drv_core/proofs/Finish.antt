@@ -132,28 +132,12 @@ begun_waiting k job [] m p e = absurd (let no : nat_lt 0 0 ≡ true = ap (λ n. 
 begun_waiting k job (b ∷ bs) m p e = refl
 
 waiting_left : (s : Stage) → nat_lt 0 (pending s) ≡ true → left s ≡ true
-waiting_left (Claims i) e = refl
-waiting_left (ClaimReport i x) e = refl
-waiting_left (Starts g was ids) e = refl
-waiting_left (StartReport g was ids why) e = refl
-waiting_left (Closing g was ids why told) e = refl
-waiting_left (Waits g was ids i fault) e = refl
-waiting_left (WaitReport g was ids i fault x) e = refl
-waiting_left (Removals i) e = refl
-waiting_left (RemovalReport i) e = refl
 waiting_left Ended e = absurd (let no : nat_lt 0 0 ≡ true = e in cc)
+waiting_left s e = refl
 
 pub ended : (s : Stage) → left s ≡ false → s ≡ Ended
-ended (Claims i) e = absurd cc
-ended (ClaimReport i x) e = absurd cc
-ended (Starts g was ids) e = absurd cc
-ended (StartReport g was ids why) e = absurd cc
-ended (Closing g was ids why told) e = absurd cc
-ended (Waits g was ids i fault) e = absurd cc
-ended (WaitReport g was ids i fault x) e = absurd cc
-ended (Removals i) e = absurd cc
-ended (RemovalReport i) e = absurd cc
 ended Ended e = refl
+ended s e = absurd cc
 
 pub between : (jobs : List Job) (N : ℕ) (st : ℕ → Stage) (blocks : List SourceBlock) → Keeps jobs N st blocks → Between (length jobs) N (λ j. has j blocks) (λ j. left (st j)) (λ j. in_flight (of j blocks)) (λ j. nat_lt 0 (pending (st j)))
 between jobs N st blocks keep = record {

@@ -4,7 +4,7 @@ use Rattle.drv_core.proofs.Order.{count_some, is_less, is_not_less, less, not_le
 use Rattle.drv_core.proofs.Progress.{Between, Goes, begun_goes, count_same, count_with, progress}
 use Rattle.drv_core.proofs.Standing.{pending}
 use Rattle.drv_core.specs.Code.Fleet.{Fleet, all_fly, closed, ended, first_busy, flying, may_go, opened, picked, stage_in, worker_in}
-use Rattle.drv_core.specs.Code.Machine.{ClaimReport, Claims, Closing, Ended, RemovalReport, Removals, Stage, StartReport, Starts, WaitReport, Waits, awaits, begin, enter_claims, enter_group, left}
+use Rattle.drv_core.specs.Code.Machine.{Claims, Ended, Stage, Starts, Waits, awaits, begin, enter_claims, enter_group, left}
 use Rattle.drv_core.specs.Outcomes.{greatest, none}
 use Rattle.drv_core.specs.Windowed.{MayCome, SourceBlock, count, has, in_flight, of}
 use Rattle.drv_words.specs.Places.{no_job}
@@ -297,20 +297,12 @@ opened_is jobs N f g blocks more w = by (nat_eq g.current g.next) refl
 -- one goes on
 
 pub awaits_is : (s : Stage) → awaits s ≡ nat_lt 0 (pending s)
-awaits_is (Claims i) = refl
-awaits_is (ClaimReport i x) = refl
-awaits_is (Starts g was ids) = refl
-awaits_is (StartReport g was ids why) = refl
-awaits_is (Closing g was ids why told) = refl
 awaits_is (Waits g was ids i fault) = by (nat_lt i (length ids)) refl
   where
     by : (t : Bool) → nat_lt i (length ids) ≡ t → t ≡ nat_lt 0 (length ids - i)
     by true e = let lt : i < length ids = is_less i (length ids) e in sym (less 0 (length ids - i) (omega (arith, lt)))
     by false e = let le : length ids ≤ i = is_not_less i (length ids) e in sym (not_less 0 (length ids - i) (omega (arith, le)))
-awaits_is (WaitReport g was ids i fault x) = refl
-awaits_is (Removals i) = refl
-awaits_is (RemovalReport i) = refl
-awaits_is Ended = refl
+awaits_is s = refl
 
 pub record Picks (jobs : List Job) (N : ℕ) (st : ℕ → Stage) (blocks : List SourceBlock) (k : ℕ) : Type 0 where
   pub may : MayCome (length jobs) N (λ j. has j blocks) (λ j. left (st j)) (λ j. in_flight (of j blocks)) k (nat_lt 0 (pending (st k)))

@@ -34,16 +34,8 @@ path_ends k job s (b ∷ bs) p = (p.0, (p.1.0, path_ends k job p.0 bs p.1.1))
 -- children in flight
 
 abbrev pub pending : Stage → ℕ
-pending (Claims i) = 0
-pending (ClaimReport i x) = 0
-pending (Starts g was ids) = 0
-pending (StartReport g was ids why) = 0
-pending (Closing g was ids why told) = 0
 pending (Waits g was ids i fault) = length ids - i
-pending (WaitReport g was ids i fault x) = 0
-pending (Removals i) = 0
-pending (RemovalReport i) = 0
-pending Ended = 0
+pending s = 0
 
 -- a stage between blocks; a wait has a child to wait for
 abbrev pub Sound : Stage → Type 0
@@ -59,17 +51,14 @@ Sound (RemovalReport i) = ⊥
 Sound Ended = ⊤
 
 pub sound_out : (s : Stage) → Sound s → inside s ≡ false
-sound_out (Claims i) so = refl
-sound_out (ClaimReport i x) so = absurd so
 sound_out (Starts g was []) so = refl
 sound_out (Starts g was (id ∷ ids)) so = absurd cc
+sound_out (ClaimReport i x) so = absurd so
 sound_out (StartReport g was ids why) so = absurd so
 sound_out (Closing g was ids why told) so = absurd so
-sound_out (Waits g was ids i fault) so = refl
 sound_out (WaitReport g was ids i fault x) so = absurd so
-sound_out (Removals i) so = refl
 sound_out (RemovalReport i) so = absurd so
-sound_out Ended so = refl
+sound_out s so = refl
 
 pub record Settled (s : Stage) : Type 0 where
   pub none_pending : pending s ≡ 0

@@ -190,56 +190,32 @@ closing k job (RemovalReport i) v e = record { rest = report (note.NotRemoved (p
 closing k job Ended v e = absurd cc
 
 pub inside_left : (s : Stage) → inside s ≡ true → left s ≡ true
-inside_left (Claims i) e = refl
-inside_left (ClaimReport i x) e = refl
-inside_left (Starts g was ids) e = refl
-inside_left (StartReport g was ids why) e = refl
-inside_left (Closing g was ids why told) e = refl
-inside_left (Waits g was ids i fault) e = refl
-inside_left (WaitReport g was ids i fault x) e = refl
-inside_left (Removals i) e = refl
-inside_left (RemovalReport i) e = refl
 inside_left Ended e = absurd cc
+inside_left s e = refl
 
 -- between blocks
 
 pub left_base : (s : Stage) → left (base s) ≡ left s
-left_base (Claims i) = refl
-left_base (ClaimReport i x) = refl
-left_base (Starts g was ids) = refl
-left_base (StartReport g was ids why) = refl
-left_base (Closing g was ids why told) = refl
-left_base (Waits g was ids i fault) = refl
-left_base (WaitReport g was ids i fault x) = refl
-left_base (Removals i) = refl
-left_base (RemovalReport i) = refl
 left_base Ended = refl
+left_base s = refl
 
 pub base_out : (s : Stage) → inside s ≡ false → base s ≡ s
 base_out (Claims i) e = refl
-base_out (ClaimReport i x) e = absurd cc
 base_out (Starts g was []) e = refl
 base_out (Starts g was (id ∷ ids)) e = absurd cc
-base_out (StartReport g was ids why) e = absurd cc
-base_out (Closing g was ids why told) e = absurd cc
 base_out (Waits g was ids i fault) e = refl
-base_out (WaitReport g was ids i fault x) e = absurd cc
 base_out (Removals i) e = refl
-base_out (RemovalReport i) e = absurd cc
 base_out Ended e = refl
+base_out s e = absurd cc
 
 pub open_out : (k : ℕ) (job : Job) (s : Stage) → inside s ≡ false → open_of k job s ≡ []
 open_out k job (Claims i) e = refl
-open_out k job (ClaimReport i x) e = absurd cc
 open_out k job (Starts g was []) e = refl
 open_out k job (Starts g was (id ∷ ids)) e = absurd cc
-open_out k job (StartReport g was ids why) e = absurd cc
-open_out k job (Closing g was ids why told) e = absurd cc
 open_out k job (Waits g was ids i fault) e = refl
-open_out k job (WaitReport g was ids i fault x) e = absurd cc
 open_out k job (Removals i) e = refl
-open_out k job (RemovalReport i) e = absurd cc
 open_out k job Ended e = refl
+open_out k job s e = absurd cc
 
 pub events_append : (xs ys : List SourceBlock) → events_of (blocks_of (xs ++ ys)) ≡ events_of (blocks_of xs) ++ events_of (blocks_of ys)
 events_append [] ys = refl
