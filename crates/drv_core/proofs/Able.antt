@@ -1,15 +1,15 @@
 use Rattle.drv_core.proofs.Conditions.{piped_out}
 use Rattle.drv_core.proofs.Finish.{Keeps, between}
 use Rattle.drv_core.proofs.Flights.{Going}
-use Rattle.drv_core.proofs.Going.{Counts, Picks, and_none, awaits_is, or_all, or_same}
-use Rattle.drv_core.proofs.Listed.{listed, listed_count, listed_filter, listed_same, listed_up_to}
-use Rattle.drv_core.proofs.Order.{count_none, count_some, is_less, is_not_less, less, not_less, same}
+use Rattle.drv_core.proofs.Going.{Counts, Picks, and_none, awaits_is, begun_may, fly_is, or_all, or_same}
+use Rattle.drv_core.proofs.Listed.{listed, listed_count, listed_same, listed_up_to}
+use Rattle.drv_core.proofs.Order.{and_first, and_second, clash, count_none, count_some, is_less, is_not_less, less, not_less, same}
 use Rattle.drv_core.proofs.Progress.{Between, count_same, count_with}
 use Rattle.drv_core.proofs.Standing.{pending}
 use Rattle.drv_core.proofs.Steps.{base_out, bases, turns}
 use Rattle.drv_core.proofs.Sure.{Sure}
-use Rattle.drv_core.specs.Code.Fleet.{Fleet, able, all_fly, flying, may_begin, may_go, selected, stage_in}
-use Rattle.drv_core.specs.Code.Machine.{awaits, inside, left}
+use Rattle.drv_core.specs.Code.Fleet.{Fleet, able, all_fly, may_begin, may_go, selected, stage_in}
+use Rattle.drv_core.specs.Code.Machine.{inside, left}
 use Rattle.drv_core.specs.Windowed.{MayCome, SourceBlock, count, has, in_flight, may_go_on, of}
 use Rattle.drv_words.specs.declared.plan.Job.{Job}
 use Rattle.drv_words.specs.declared.steps.RunEvent.{RunEvent}
@@ -17,21 +17,8 @@ use Rattle.std.proofs.Common.{◌≡◌, ◌<◌, ◌≤◌, ◌+◌, ◌∙◌,
 use Rattle.std.proofs.Math.Path.{fun_ext}
 use Rattle.std.proofs.lemmas.Bool.Decides.{nat_tests}
 use Rattle.std.proofs.lemmas.Cmp.{nat_eq_equiv}
-use Rattle.std.specs.List.{filter}
 
 -- The sources that the code finds able to go on are those that may.
-
-clash : (t : Bool) → t ≡ true → t ≡ false → ⊥
-clash true e h = absurd cc
-clash false e h = absurd cc
-
-first_true : (a b : Bool) → (a && b) ≡ true → a ≡ true
-first_true true b e = refl
-first_true false b e = e
-
-second_true : (a b : Bool) → (a && b) ≡ true → b ≡ true
-second_true true b e = e
-second_true false b e = absurd cc
 
 -- what may go on, may come
 
@@ -42,11 +29,11 @@ may_come : (jobs : List Job) (N : ℕ) (f : Fleet) (blocks : List SourceBlock) (
 may_come jobs N f blocks k lt e = record {
   may = record {
     is_source = less k (length jobs) lt;
-    in_order = same (count k (λ j. not (has j blocks) && left (stage_in f j))) 0 (first_true (nat_eq (count k (λ j. not (has j blocks) && left (stage_in f j))) 0) window_and_wait rest);
-    in_window = (let below : count (length jobs) (λ j. (has j blocks || nat_eq j k) && left (stage_in f j)) < N + 1 = is_less (count (length jobs) (λ j. (has j blocks || nat_eq j k) && left (stage_in f j))) (N + 1) (first_true in_window wait last) in omega (arith, below));
-    all_in_flight = λ w. same (count (length jobs) (λ j. in_flight (of j blocks))) (min N (count (length jobs) (λ j. left (stage_in f j)))) (waited (nat_lt 0 (pending (stage_in f k))) w (second_true in_window wait last));
+    in_order = same (count k (λ j. not (has j blocks) && left (stage_in f j))) 0 (and_first (nat_eq (count k (λ j. not (has j blocks) && left (stage_in f j))) 0) window_and_wait rest);
+    in_window = (let below : count (length jobs) (λ j. (has j blocks || nat_eq j k) && left (stage_in f j)) < N + 1 = is_less (count (length jobs) (λ j. (has j blocks || nat_eq j k) && left (stage_in f j))) (N + 1) (and_first in_window wait last) in omega (arith, below));
+    all_in_flight = λ w. same (count (length jobs) (λ j. in_flight (of j blocks))) (min N (count (length jobs) (λ j. left (stage_in f j)))) (waited (nat_lt 0 (pending (stage_in f k))) w (and_second in_window wait last));
   };
-  more = first_true (left (stage_in f k)) (nat_eq (count k (λ j. not (has j blocks) && left (stage_in f j))) 0 && window_and_wait) e;
+  more = and_first (left (stage_in f k)) (nat_eq (count k (λ j. not (has j blocks) && left (stage_in f j))) 0 && window_and_wait) e;
 }
   where
     wait : Bool
@@ -59,42 +46,14 @@ may_come jobs N f blocks k lt e = record {
     window_and_wait = in_window && wait
 
     rest : (nat_eq (count k (λ j. not (has j blocks) && left (stage_in f j))) 0 && window_and_wait) ≡ true
-    rest = second_true (left (stage_in f k)) (nat_eq (count k (λ j. not (has j blocks) && left (stage_in f j))) 0 && window_and_wait) e
+    rest = and_second (left (stage_in f k)) (nat_eq (count k (λ j. not (has j blocks) && left (stage_in f j))) 0 && window_and_wait) e
 
     last : (in_window && wait) ≡ true
-    last = second_true (nat_eq (count k (λ j. not (has j blocks) && left (stage_in f j))) 0) window_and_wait rest
+    last = and_second (nat_eq (count k (λ j. not (has j blocks) && left (stage_in f j))) 0) window_and_wait rest
 
     waited : (t : Bool) → t ≡ true → (not t || nat_eq (count (length jobs) (λ j. in_flight (of j blocks))) (min N (count (length jobs) (λ j. left (stage_in f j))))) ≡ true → nat_eq (count (length jobs) (λ j. in_flight (of j blocks))) (min N (count (length jobs) (λ j. left (stage_in f j)))) ≡ true
     waited true w h = h
     waited false w h = absurd cc
-
--- the sources that have begun and may go on, as a list
-begun_may : (jobs : List Job) (N : ℕ) (f : Fleet) (blocks : List SourceBlock) → Counts jobs N f blocks → filter (may_go (all_fly f) f) f.begun ≡ listed f.next (λ j. left (stage_in f j) && may_go (all_fly f) f j)
-begun_may jobs N f blocks c = ap (λ l. filter (may_go (all_fly f) f) l) c.begun_is ∙ listed_filter f.next (λ j. left (stage_in f j)) (may_go (all_fly f) f)
-
-pub fly_is : (jobs : List Job) (N : ℕ) (f : Fleet) (blocks : List SourceBlock) → Keeps jobs N (stage_in f) blocks → Counts jobs N f blocks → all_fly f ≡ nat_eq (count (length jobs) (λ j. in_flight (of j blocks))) (min N (count (length jobs) (λ j. left (stage_in f j))))
-fly_is jobs N f blocks keep c = ap (λ n. nat_eq n (min f.window f.unended)) (sym many) ∙ ap (λ n. nat_eq (count (length jobs) (λ j. in_flight (of j blocks))) n) least
-  where
-    b : Between (length jobs) N (λ j. has j blocks) (λ j. left (stage_in f j)) (λ j. in_flight (of j blocks)) (λ j. nat_lt 0 (pending (stage_in f j)))
-    b = between jobs N (stage_in f) blocks keep
-
-    not_beyond : (j : ℕ) → f.next ≤ j → j < length jobs → (t u : Bool) → left (stage_in f j) ≡ t → awaits (stage_in f j) ≡ u → (t && u) ≡ false
-    not_beyond j le lt true true l a = absurd (clash (has j blocks) (b.begun_waits j lt (sym (awaits_is (stage_in f j)) ∙ a)) (c.has_is j l ∙ not_less j f.next le))
-    not_beyond j le lt true false l a = refl
-    not_beyond j le lt false u l a = refl
-
-    both : (j : ℕ) → j < length jobs → (u : Bool) → awaits (stage_in f j) ≡ u → u ≡ (left (stage_in f j) && u)
-    both j lt true a = sym (ap (λ (t : Bool). t && true) (b.waits_left j lt (sym (awaits_is (stage_in f j)) ∙ a)))
-    both j lt false a = sym (and_none (left (stage_in f j)))
-
-    many : count (length jobs) (λ j. in_flight (of j blocks)) ≡ flying f
-    many = count_same (length jobs) (λ j. in_flight (of j blocks)) (λ j. left (stage_in f j) && awaits (stage_in f j)) (λ j lt. b.fly j lt ∙ sym (awaits_is (stage_in f j)) ∙ both j lt (awaits (stage_in f j)) refl)
-        ∙ sym (listed_count (length jobs) (λ j. left (stage_in f j) && awaits (stage_in f j)))
-        ∙ ap (λ (l : List ℕ). length l) (listed_up_to f.next (length jobs) (λ j. left (stage_in f j) && awaits (stage_in f j)) c.next_within (λ j le lt. not_beyond j le lt (left (stage_in f j)) (awaits (stage_in f j)) refl refl)
-        ∙ sym (listed_filter f.next (λ j. left (stage_in f j)) (λ j. awaits (stage_in f j))) ∙ ap (λ l. filter (λ j. awaits (stage_in f j)) l) (sym c.begun_is))
-
-    least : min f.window f.unended ≡ min N (count (length jobs) (λ j. left (stage_in f j)))
-    least = ap (λ n. min n f.unended) c.window_is ∙ ap (λ n. min N n) c.unended_is
 
 -- the test, where the source stands before the next that begins, there, and after
 

@@ -1,6 +1,6 @@
 use Rattle.drv_core.proofs.Finish.{Keeps, between}
 use Rattle.drv_core.proofs.Listed.{First as Heads, first_listed, listed, listed_count, listed_filter, listed_next, listed_same, listed_up_to}
-use Rattle.drv_core.proofs.Order.{count_some, is_less, is_not_less, less, not_less, same}
+use Rattle.drv_core.proofs.Order.{and_first, clash, count_some, is_less, is_not_less, less, not_less, same}
 use Rattle.drv_core.proofs.Progress.{Between, Goes, begun_goes, count_same, count_with, progress}
 use Rattle.drv_core.proofs.Standing.{pending}
 use Rattle.drv_core.specs.Code.Fleet.{Fleet, all_fly, closed, ended, first_busy, flying, may_go, opened, picked, stage_in, worker_in}
@@ -308,18 +308,16 @@ pub record Picks (jobs : List Job) (N : ℕ) (st : ℕ → Stage) (blocks : List
   pub may : MayCome (length jobs) N (λ j. has j blocks) (λ j. left (st j)) (λ j. in_flight (of j blocks)) k (nat_lt 0 (pending (st k)))
   pub more : left (st k) ≡ true
 
-pub picks : (jobs : List Job) (N : ℕ) (f : Fleet) (blocks : List SourceBlock) → 1 ≤ N → Keeps jobs N (stage_in f) blocks → Counts jobs N f blocks → (k : ℕ) → k < length jobs → left (stage_in f k) ≡ true → Picks jobs N (stage_in f) blocks (picked f)
-picks jobs N f blocks some keep c k below more = subst (λ l. Picks jobs N (stage_in f) blocks (get_or l 0 f.next)) (sym may_list) (by (listed f.next (λ j. left (stage_in f j) && may_go (all_fly f) f j)) (first_listed f.next (λ j. left (stage_in f j) && may_go (all_fly f) f j)))
+-- the sources that have begun and may go on, as a list
+pub begun_may : (jobs : List Job) (N : ℕ) (f : Fleet) (blocks : List SourceBlock) → Counts jobs N f blocks → filter (may_go (all_fly f) f) f.begun ≡ listed f.next (λ j. left (stage_in f j) && may_go (all_fly f) f j)
+begun_may jobs N f blocks c = ap (λ l. filter (may_go (all_fly f) f) l) c.begun_is ∙ listed_filter f.next (λ j. left (stage_in f j)) (may_go (all_fly f) f)
+
+-- whether all fly that may: as many as the window and those that are left allow
+pub fly_is : (jobs : List Job) (N : ℕ) (f : Fleet) (blocks : List SourceBlock) → Keeps jobs N (stage_in f) blocks → Counts jobs N f blocks → all_fly f ≡ nat_eq (count (length jobs) (λ j. in_flight (of j blocks))) (min N (count (length jobs) (λ j. left (stage_in f j))))
+fly_is jobs N f blocks keep c = ap (λ n. nat_eq n (min f.window f.unended)) (sym many) ∙ ap (λ n. nat_eq (count (length jobs) (λ j. in_flight (of j blocks))) n) least
   where
     b : Between (length jobs) N (λ j. has j blocks) (λ j. left (stage_in f j)) (λ j. in_flight (of j blocks)) (λ j. nat_lt 0 (pending (stage_in f j)))
     b = between jobs N (stage_in f) blocks keep
-
-    may_list : filter (may_go (all_fly f) f) f.begun ≡ listed f.next (λ j. left (stage_in f j) && may_go (all_fly f) f j)
-    may_list = ap (λ l. filter (may_go (all_fly f) f) l) c.begun_is ∙ listed_filter f.next (λ j. left (stage_in f j)) (may_go (all_fly f) f)
-
-    clash : (t : Bool) → t ≡ true → t ≡ false → ⊥
-    clash true e h = absurd cc
-    clash false e h = absurd cc
 
     not_beyond : (j : ℕ) → f.next ≤ j → j < length jobs → (t u : Bool) → left (stage_in f j) ≡ t → awaits (stage_in f j) ≡ u → (t && u) ≡ false
     not_beyond j le lt true true l a = absurd (clash (has j blocks) (b.begun_waits j lt (sym (awaits_is (stage_in f j)) ∙ a)) (c.has_is j l ∙ not_less j f.next le))
@@ -330,24 +328,26 @@ picks jobs N f blocks some keep c k below more = subst (λ l. Picks jobs N (stag
     both j lt true a = sym (ap (λ (t : Bool). t && true) (b.waits_left j lt (sym (awaits_is (stage_in f j)) ∙ a)))
     both j lt false a = sym (and_none (left (stage_in f j)))
 
-    fly_is : count (length jobs) (λ j. in_flight (of j blocks)) ≡ flying f
-    fly_is = count_same (length jobs) (λ j. in_flight (of j blocks)) (λ j. left (stage_in f j) && awaits (stage_in f j)) (λ j lt. b.fly j lt ∙ sym (awaits_is (stage_in f j)) ∙ both j lt (awaits (stage_in f j)) refl)
+    many : count (length jobs) (λ j. in_flight (of j blocks)) ≡ flying f
+    many = count_same (length jobs) (λ j. in_flight (of j blocks)) (λ j. left (stage_in f j) && awaits (stage_in f j)) (λ j lt. b.fly j lt ∙ sym (awaits_is (stage_in f j)) ∙ both j lt (awaits (stage_in f j)) refl)
         ∙ sym (listed_count (length jobs) (λ j. left (stage_in f j) && awaits (stage_in f j)))
         ∙ ap (λ (l : List ℕ). length l) (listed_up_to f.next (length jobs) (λ j. left (stage_in f j) && awaits (stage_in f j)) c.next_within (λ j le lt. not_beyond j le lt (left (stage_in f j)) (awaits (stage_in f j)) refl refl)
         ∙ sym (listed_filter f.next (λ j. left (stage_in f j)) (λ j. awaits (stage_in f j))) ∙ ap (λ l. filter (λ j. awaits (stage_in f j)) l) (sym c.begun_is))
 
-    least_is : min f.window f.unended ≡ min N (count (length jobs) (λ j. left (stage_in f j)))
-    least_is = ap (λ n. min n f.unended) c.window_is ∙ ap (λ n. min N n) c.unended_is
+    least : min f.window f.unended ≡ min N (count (length jobs) (λ j. left (stage_in f j)))
+    least = ap (λ n. min n f.unended) c.window_is ∙ ap (λ n. min N n) c.unended_is
+
+pub picks : (jobs : List Job) (N : ℕ) (f : Fleet) (blocks : List SourceBlock) → 1 ≤ N → Keeps jobs N (stage_in f) blocks → Counts jobs N f blocks → (k : ℕ) → k < length jobs → left (stage_in f k) ≡ true → Picks jobs N (stage_in f) blocks (picked f)
+picks jobs N f blocks some keep c k below more = subst (λ l. Picks jobs N (stage_in f) blocks (get_or l 0 f.next)) (sym (begun_may jobs N f blocks c)) (by (listed f.next (λ j. left (stage_in f j) && may_go (all_fly f) f j)) (first_listed f.next (λ j. left (stage_in f j) && may_go (all_fly f) f j)))
+  where
+    b : Between (length jobs) N (λ j. has j blocks) (λ j. left (stage_in f j)) (λ j. in_flight (of j blocks)) (λ j. nat_lt 0 (pending (stage_in f j)))
+    b = between jobs N (stage_in f) blocks keep
 
     all_is : all_fly f ≡ true → count (length jobs) (λ j. in_flight (of j blocks)) ≡ min N (count (length jobs) (λ j. left (stage_in f j)))
-    all_is e = fly_is ∙ same (flying f) (min f.window f.unended) e ∙ least_is
+    all_is e = same (count (length jobs) (λ j. in_flight (of j blocks))) (min N (count (length jobs) (λ j. left (stage_in f j)))) (sym (fly_is jobs N f blocks keep c) ∙ e)
 
     is_all : count (length jobs) (λ j. in_flight (of j blocks)) ≡ min N (count (length jobs) (λ j. left (stage_in f j))) → all_fly f ≡ true
-    is_all e = ap (λ n. nat_eq n (min f.window f.unended)) (sym fly_is ∙ e ∙ sym least_is) ∙ nat_eq_equiv.refl (min f.window f.unended)
-
-    and_first : (x y : Bool) → (x && y) ≡ true → x ≡ true
-    and_first true y e = refl
-    and_first false y e = e
+    is_all e = fly_is jobs N f blocks keep c ∙ ap (λ n. nat_eq n (min N (count (length jobs) (λ j. left (stage_in f j))))) e ∙ nat_eq_equiv.refl (min N (count (length jobs) (λ j. left (stage_in f j))))
 
     goes : (x : ℕ) → (u : Bool) → awaits (stage_in f x) ≡ u → (left (stage_in f x) && (all_fly f || not u)) ≡ true → awaits (stage_in f x) ≡ true → all_fly f ≡ true
     goes x true a e w = pass (left (stage_in f x)) (all_fly f) e

@@ -13,6 +13,11 @@ pub and_second : (a b : Bool) → (a && b) ≡ true → b ≡ true
 and_second true b e = e
 and_second false b e = absurd cc
 
+-- a test does not both pass and fail
+pub clash : (t : Bool) → t ≡ true → t ≡ false → ⊥
+clash true e h = absurd cc
+clash false e h = absurd cc
+
 pub less : (a b : ℕ) → a < b → nat_lt a b ≡ true
 less a b h = grind (arith, nat_tests)
 
