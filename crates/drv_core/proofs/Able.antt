@@ -1,12 +1,12 @@
 use Rattle.drv_core.proofs.Conditions.{piped_out}
 use Rattle.drv_core.proofs.Finish.{Keeps, between}
-use Rattle.drv_core.proofs.Flights.{Going}
+use Rattle.drv_core.proofs.Flights.{goes_to, keeps_at}
 use Rattle.drv_core.proofs.Going.{Counts, Picks, and_none, awaits_is, begun_may, fly_is, or_all, or_same}
 use Rattle.drv_core.proofs.Listed.{listed, listed_count, listed_same, listed_up_to}
 use Rattle.drv_core.proofs.Order.{and_first, and_second, clash, count_none, count_some, is_less, is_not_less, less, not_less, same}
 use Rattle.drv_core.proofs.Progress.{Between, count_same, count_with}
 use Rattle.drv_core.proofs.Standing.{pending}
-use Rattle.drv_core.proofs.Steps.{base_out, bases, turns}
+use Rattle.drv_core.proofs.Steps.{all_out}
 use Rattle.drv_core.proofs.Sure.{Sure}
 use Rattle.drv_core.specs.Code.Fleet.{Fleet, able, all_fly, may_begin, may_go, selected, stage_in}
 use Rattle.drv_core.specs.Code.Machine.{inside, left}
@@ -14,7 +14,6 @@ use Rattle.drv_core.specs.Windowed.{MayCome, SourceBlock, count, has, in_flight,
 use Rattle.drv_words.specs.declared.plan.Job.{Job}
 use Rattle.drv_words.specs.declared.steps.RunEvent.{RunEvent}
 use Rattle.std.proofs.Common.{◌≡◌, ◌<◌, ◌≤◌, ◌+◌, ◌∙◌, ◌&&◌, ◌||◌, Bool, false, true, List, [], ◌∷◌, ◌++◌, ap, append-nil, arith, get_or, if◌then◌else◌, length, min, nat_eq, nat_lt, not, refl, subst, suc, sym, zero, ℕ}
-use Rattle.std.proofs.Math.Path.{fun_ext}
 use Rattle.std.proofs.lemmas.Bool.Decides.{nat_tests}
 use Rattle.std.proofs.lemmas.Cmp.{nat_eq_equiv}
 
@@ -228,50 +227,14 @@ able_picks jobs N f blocks keep c k lt = subst (λ l. Picks jobs N (stage_in f) 
 
 pub sure_selected : (jobs : List Job) (N most : ℕ) (f : Fleet) (E : List RunEvent) (k : ℕ) → Sure jobs N most f E → inside (stage_in f f.current) ≡ false → k < length (able jobs f) → Sure jobs N most (selected jobs f k) E
 sure_selected jobs N most f E k s out lt = record {
-  going = on (able_picks jobs N f s.going.run.blocks keep s.going.counts k lt);
+  going = goes_to jobs N f f.current s.going.st E s.going.run out_at s.going.at s.going.counts (get_or (able jobs f) k f.next)
+      (able_picks jobs N f s.going.run.blocks (keeps_at jobs N f f.current s.going.st E s.going.run out_at s.going.at) s.going.counts k lt);
   opens = s.opens;
   sized = s.sized;
-  pipe = s.pipe ∙ piped_out (stage_in f f.current) out ∙ sym (piped_out (stage_in f (get_or (able jobs f) k f.next)) (ap inside (s.going.at (get_or (able jobs f) k f.next)) ∙ all_out (get_or (able jobs f) k f.next)));
+  pipe = s.pipe ∙ piped_out (stage_in f f.current) out ∙ sym (piped_out (stage_in f (get_or (able jobs f) k f.next)) (ap inside (s.going.at (get_or (able jobs f) k f.next)) ∙ all_out jobs N s.going.st f.current E s.going.run out_at (get_or (able jobs f) k f.next)));
   bound = s.bound;
   later = s.later;
 }
   where
     out_at : inside (s.going.st f.current) ≡ false
     out_at = sym (ap inside (s.going.at f.current)) ∙ out
-
-    out_by : (j : ℕ) (t : Bool) → nat_eq f.current j ≡ t → inside (s.going.st j) ≡ false
-    out_by j true e = subst (λ i. inside (s.going.st i) ≡ false) (same f.current j e) out_at
-    out_by j false e = s.going.run.others j e
-
-    all_out : (j : ℕ) → inside (s.going.st j) ≡ false
-    all_out j = out_by j (nat_eq f.current j) refl
-
-    bases_are : bases s.going.st ≡ stage_in f
-    bases_are = fun_ext (λ j. base_out (s.going.st j) (all_out j) ∙ sym (s.going.at j))
-
-    keep : Keeps jobs N (stage_in f) s.going.run.blocks
-    keep = subst (λ st. Keeps jobs N st s.going.run.blocks) bases_are s.going.run.keep
-
-    c : Counts jobs N f s.going.run.blocks
-    c = s.going.counts
-
-    on : Picks jobs N (stage_in f) s.going.run.blocks (get_or (able jobs f) k f.next) → Going jobs N (selected jobs f k) E
-    on p = record {
-      st = s.going.st;
-      at = s.going.at;
-      run = turns jobs N s.going.st f.current (get_or (able jobs f) k f.next) E s.going.run out_at;
-      may = subst (λ st. MayCome (length jobs) N (λ j. has j s.going.run.blocks) (λ j. left (st j)) (λ j. in_flight (of j s.going.run.blocks)) (get_or (able jobs f) k f.next) (nat_lt 0 (pending (st (get_or (able jobs f) k f.next))))) (sym bases_are) p.may;
-      more = ap left (sym (s.going.at (get_or (able jobs f) k f.next))) ∙ p.more;
-      counts = record {
-        sizes = c.sizes;
-        next_within = c.next_within;
-        next_left = c.next_left;
-        waiting = c.waiting;
-        has_is = c.has_is;
-        begun_is = c.begun_is;
-        unended_is = c.unended_is;
-        window_is = c.window_is;
-        room_is = c.room_is;
-        rooms = c.rooms;
-      };
-    }

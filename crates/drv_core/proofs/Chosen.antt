@@ -6,14 +6,14 @@ use Rattle.drv_core.proofs.Courses.{FilledPlan}
 use Rattle.drv_core.proofs.Ends.{HoldsAt, most_of}
 use Rattle.drv_core.proofs.Finish.{Fails, Keeps, ended, fails, still}
 use Rattle.drv_core.proofs.First.{WorksFirst}
-use Rattle.drv_core.proofs.Flights.{Going}
+use Rattle.drv_core.proofs.Flights.{Going, bases_at, keeps_at}
 use Rattle.drv_core.proofs.Listed.{listed, listed_count}
-use Rattle.drv_core.proofs.Order.{count_some, is_less, less, same}
+use Rattle.drv_core.proofs.Order.{count_some, is_less, less}
 use Rattle.drv_core.proofs.Progress.{count_same}
 use Rattle.drv_core.proofs.Rooms.{first_cost}
 use Rattle.drv_core.proofs.Standing.{Path, begins, path_ends, path_even, path_more, pending, waits_next}
 use Rattle.drv_core.proofs.Stands.{Stands, filled_plan, stands}
-use Rattle.drv_core.proofs.Steps.{asked, base_out, open_out}
+use Rattle.drv_core.proofs.Steps.{all_out, asked, open_out}
 use Rattle.drv_core.proofs.Tells.{ToldStory, tells}
 use Rattle.drv_core.specs.Choices.{BetweenBlocks, ChoicesAre, GoesOn, HasEnded, IsChoice, IsNextOf, IsOfFirst, SoFar, is_step_of, source_may}
 use Rattle.drv_core.specs.Code.Course.{Done, Link, Phase, Removals, Report, Sources}
@@ -29,7 +29,6 @@ use Rattle.drv_words.specs.declared.plan.Plan.{Plan}
 use Rattle.drv_words.specs.declared.steps.RunEvent.{RunEvent}
 use Rattle.drv_words.specs.declared.steps.Step.{Step}
 use Rattle.std.proofs.Common.{◌≡◌, ◌⊎◌, ◌<◌, ◌+◌, ◌∙◌, ◌&&◌, ◌||◌, Bool, false, true, List, [], ◌∷◌, ◌++◌, Some, ap, append-nil, append_assoc, arith, get_or, if◌then◌else◌, inl, inr, length, min, nat_eq, nat_lt, not, refl, subst, suc, sym, zero, ℕ}
-use Rattle.std.proofs.Math.Path.{fun_ext}
 use Rattle.std.proofs.lemmas.Cmp.{nat_eq_equiv}
 
 -- What the choices between blocks are.
@@ -59,6 +58,9 @@ so_far_is k job bs s p = by (left s) refl
     by true e = going (fails k job s (path_even k job (begin job) bs s (begins job).sound p).sound e)
     by false e = over (tells k job bs (path_ends k job (begin job) bs (subst (λ m. Path k job (begin job) bs m) (ended s e) p)))
 
+all_kept : (plan : Plan) (N : ℕ) (f : Fleet) (E : List RunEvent) → (g : Going plan.jobs N f E) → inside (stage_in f f.current) ≡ false → Keeps plan.jobs N (stage_in f) g.run.blocks
+all_kept plan N f E g out = keeps_at plan.jobs N f f.current g.st E g.run (sym (ap inside (g.at f.current)) ∙ out) g.at
+
 going_between : (plan : Plan) (N : ℕ) (f : Fleet) (E : List RunEvent) → (g : Going plan.jobs N f E) → inside (stage_in f f.current) ≡ false → BetweenBlocks plan N E
 going_between plan N f E g out = record {
   blocks = g.run.blocks;
@@ -75,12 +77,8 @@ going_between plan N f E g out = record {
     out_at : inside (g.st f.current) ≡ false
     out_at = sym (ap inside (g.at f.current)) ∙ out
 
-    all_out : (j : ℕ) (t : Bool) → nat_eq f.current j ≡ t → inside (g.st j) ≡ false
-    all_out j true e = subst (λ i. inside (g.st i) ≡ false) (same f.current j e) out_at
-    all_out j false e = g.run.others j e
-
     keep : Keeps plan.jobs N (stage_in f) g.run.blocks
-    keep = subst (λ st. Keeps plan.jobs N st g.run.blocks) (fun_ext (λ j. base_out (g.st j) (all_out j (nat_eq f.current j) refl) ∙ sym (g.at j))) g.run.keep
+    keep = all_kept plan N f E g out
 
 -- the k-th of a list of numbers
 
@@ -123,16 +121,6 @@ own_step k job (OwnRemovals i) l o = record { step = asked (asks k job (OwnRemov
 own_step k job s l o = absurd cc
 
 -- whether the code is between blocks
-
-keeps_all : (plan : Plan) (N : ℕ) (f : Fleet) (E : List RunEvent) → (g : Going plan.jobs N f E) → inside (stage_in f f.current) ≡ false → (j : ℕ) → inside (g.st j) ≡ false
-keeps_all plan N f E g out j = by (nat_eq f.current j) refl
-  where
-    by : (t : Bool) → nat_eq f.current j ≡ t → inside (g.st j) ≡ false
-    by true e = subst (λ i. inside (g.st i) ≡ false) (same f.current j e) (sym (ap inside (g.at f.current)) ∙ out)
-    by false e = g.run.others j e
-
-keeps_at : (plan : Plan) (N : ℕ) (f : Fleet) (E : List RunEvent) → (g : Going plan.jobs N f E) → inside (stage_in f f.current) ≡ false → Keeps plan.jobs N (stage_in f) g.run.blocks
-keeps_at plan N f E g out = subst (λ st. Keeps plan.jobs N st g.run.blocks) (fun_ext (λ j. base_out (g.st j) (keeps_all plan N f E g out j) ∙ sym (g.at j))) g.run.keep
 
 record IsOpen (plan : Plan) (N : ℕ) (p : Position) : Type 0 where
   phase : p.phase ≡ Sources
@@ -180,7 +168,7 @@ choices_are plan N p k = by (where_is plan N p k)
     by : IsOpen plan N p ⊎ IsClosed plan N p → ChoicesAre plan N p.events (choices_at plan p)
     by (inl o) = record {
       counted = λ b. ap (λ (t : Bool). if t then length (able plan.jobs p.fleet) else 1) (open_test plan N p o)
-          ∙ able_count plan.jobs N p.fleet o.going.run.blocks (keeps_at plan N p.fleet p.events o.going o.out) o.going.counts
+          ∙ able_count plan.jobs N p.fleet o.going.run.blocks (all_kept plan N p.fleet p.events o.going o.out) o.going.counts
           ∙ sym (count_same (length plan.jobs) (source_may plan N p.events b) (test plan.jobs N p.fleet o.going.run.blocks) (seen plan N p.fleet p.events (filled_at plan N p k) o.going b).tests);
       elsewhere = λ none. absurd (none (going_between plan N p.fleet p.events o.going o.out));
     }
@@ -232,10 +220,10 @@ chosen_next plan N p i k lt b = by (where_is plan N p k)
         tests = (seen plan N p.fleet p.events (filled_at plan N p k) o.going b).tests
 
     at : (o : IsOpen plan N p) (x : ℕ) → get_or (able plan.jobs p.fleet) i p.fleet.next ≡ x → Kth (length plan.jobs) (test plan.jobs N p.fleet o.going.run.blocks) i x → IsNextOf plan N p.events b i (next_of plan (choosing plan p i))
-    at o x is m = found o x is m (own_step x (get_or plan.jobs x no_job) (stage_in p.fleet x) (test_left plan N p.fleet p.events o.going x m.passes) (ap inside (o.going.at x) ∙ keeps_all plan N p.fleet p.events o.going o.out x))
+    at o x is m = found o x is m (own_step x (get_or plan.jobs x no_job) (stage_in p.fleet x) (test_left plan N p.fleet p.events o.going x m.passes) (ap inside (o.going.at x) ∙ all_out plan.jobs N o.going.st p.fleet.current p.events o.going.run (sym (ap inside (o.going.at p.fleet.current)) ∙ o.out) x))
 
     able_list : (o : IsOpen plan N p) → able plan.jobs p.fleet ≡ listed (length plan.jobs) (test plan.jobs N p.fleet o.going.run.blocks)
-    able_list o = able_is plan.jobs N p.fleet o.going.run.blocks (keeps_at plan N p.fleet p.events o.going o.out) o.going.counts
+    able_list o = able_is plan.jobs N p.fleet o.going.run.blocks (all_kept plan N p.fleet p.events o.going o.out) o.going.counts
 
     by : IsOpen plan N p ⊎ IsClosed plan N p → IsNextOf plan N p.events b i (next_of plan (choosing plan p i))
     by (inl o) = at o (get_or (listed (length plan.jobs) (test plan.jobs N p.fleet o.going.run.blocks)) i p.fleet.next) (ap (λ l. get_or l i p.fleet.next) (able_list o))
@@ -262,11 +250,11 @@ goes n N begun left flying waits k m more = ap (λ (t : Bool). t && (nat_eq (cou
 
 some_choice : (plan : Plan) (N : ℕ) (p : Position) → IsOpen plan N p → 0 < choices_at plan p
 some_choice plan N p o = subst (λ n. 0 < n) (sym (ap (λ (t : Bool). if t then length (able plan.jobs p.fleet) else 1) (open_test plan N p o)
-    ∙ able_count plan.jobs N p.fleet o.going.run.blocks (keeps_at plan N p.fleet p.events o.going o.out) o.going.counts))
+    ∙ able_count plan.jobs N p.fleet o.going.run.blocks (all_kept plan N p.fleet p.events o.going o.out) o.going.counts))
     (count_some (length plan.jobs) p.fleet.current (test plan.jobs N p.fleet o.going.run.blocks) (is_less p.fleet.current (length plan.jobs) o.going.may.is_source)
     (goes (length plan.jobs) N (λ j. has j o.going.run.blocks) (λ j. left (stage_in p.fleet j)) (λ j. in_flight (of j o.going.run.blocks)) (λ j. nat_lt 0 (pending (stage_in p.fleet j))) p.fleet.current
     (subst (λ st. MayCome (length plan.jobs) N (λ j. has j o.going.run.blocks) (λ j. left (st j)) (λ j. in_flight (of j o.going.run.blocks)) p.fleet.current (nat_lt 0 (pending (st p.fleet.current))))
-    (fun_ext (λ j. base_out (o.going.st j) (keeps_all plan N p.fleet p.events o.going o.out j) ∙ sym (o.going.at j))) o.going.may)
+    (bases_at plan.jobs N p.fleet p.fleet.current o.going.st p.events o.going.run (sym (ap inside (o.going.at p.fleet.current)) ∙ o.out) o.going.at) o.going.may)
     (ap left (o.going.at p.fleet.current) ∙ o.going.more)))
 
 pub first_next : (plan : Plan) (N : ℕ) (p : Position) → Kept plan N p → WorksFirst plan p → IsOfFirst plan N p.events (next_of plan p)

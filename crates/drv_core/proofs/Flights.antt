@@ -4,14 +4,14 @@ use Rattle.drv_core.proofs.Going.{Counts, Next, Picks, Worked, begun_next, count
 use Rattle.drv_core.proofs.Listed.{listed, listed_up_to}
 use Rattle.drv_core.proofs.Order.{count_none, count_some, is_less, is_not_less, not_less, same}
 use Rattle.drv_core.proofs.Progress.{First, count_same, find}
-use Rattle.drv_core.proofs.Standing.{begins, has_append, pending, put, sound_out, stands_first}
-use Rattle.drv_core.proofs.Steps.{MayGo, Running, Valid, asked, base_out, bases, goes_inside, goes_out, inside_left, left_base, one_step, open_out, put_here, turns, valid_after, valid_begin}
+use Rattle.drv_core.proofs.Standing.{begins, has_append, put, sound_out, stands_first}
+use Rattle.drv_core.proofs.Steps.{MayGo, Running, Valid, all_out, asked, base_out, bases, goes_inside, goes_out, inside_left, left_base, one_step, open_out, put_here, turns, valid_after, valid_begin}
 use Rattle.drv_core.specs.Filled.{Filled}
 use Rattle.drv_core.specs.Code.Fleet.{Fleet, Worker, busy, chosen, closed, ended, first_busy, fresh, fresh_fleet, idle, opened, picked, stage_in, taken, turned, worked, worker_in}
 use Rattle.drv_core.specs.Code.Machine.{Ended, Stage, after, asks, base, begin, inside, is_kind, left, open_of}
 use Rattle.drv_core.specs.Outcomes.{none}
 use Rattle.drv_core.specs.Story.{Block, event}
-use Rattle.drv_core.specs.Windowed.{MayCome, SourceBlock, count, has, in_flight, of}
+use Rattle.drv_core.specs.Windowed.{SourceBlock, count, has, of}
 use Rattle.drv_words.specs.Places.{no_job}
 use Rattle.drv_words.specs.declared.answers.Answer.{Answer}
 use Rattle.drv_words.specs.declared.plan.Job.{Job}
@@ -99,54 +99,47 @@ current_before jobs N f E g = by (nat_lt f.next f.current) refl
         )
     by false e = is_not_less f.next f.current e
 
+-- between blocks each source stands where its next block begins
+pub bases_at : (jobs : List Job) (N : ℕ) (h : Fleet) (cur : ℕ) (st : ℕ → Stage) (E : List RunEvent) → Running jobs N st cur E → inside (st cur) ≡ false → ((j : ℕ) → stage_in h j ≡ st j) → bases st ≡ stage_in h
+bases_at jobs N h cur st E r out at = fun_ext (λ j. base_out (st j) (all_out jobs N st cur E r out j) ∙ sym (at j))
+
+pub keeps_at : (jobs : List Job) (N : ℕ) (h : Fleet) (cur : ℕ) (st : ℕ → Stage) (E : List RunEvent) → (r : Running jobs N st cur E) → inside (st cur) ≡ false → ((j : ℕ) → stage_in h j ≡ st j) → Keeps jobs N (stage_in h) r.blocks
+keeps_at jobs N h cur st E r out at = subst (λ s. Keeps jobs N s r.blocks) (bases_at jobs N h cur st E r out at) r.keep
+
+-- and any that may go on may be worked next
+pub goes_to : (jobs : List Job) (N : ℕ) (h : Fleet) (cur : ℕ) (st : ℕ → Stage) (E : List RunEvent) → (r : Running jobs N st cur E) → inside (st cur) ≡ false → ((j : ℕ) → stage_in h j ≡ st j) → Counts jobs N h r.blocks → (k : ℕ) → Picks jobs N (stage_in h) r.blocks k
+    → Going jobs N (record h { current = k }) E
+goes_to jobs N h cur st E r out at c k p = record {
+  st = st;
+  at = at;
+  run = turns jobs N st cur k E r out;
+  may = subst (λ s. MayGo jobs N s r.blocks k) (sym (bases_at jobs N h cur st E r out at)) p.may;
+  more = ap left (sym (at k)) ∙ p.more;
+  counts = record {
+    sizes = c.sizes;
+    next_within = c.next_within;
+    next_left = c.next_left;
+    waiting = c.waiting;
+    has_is = c.has_is;
+    begun_is = c.begun_is;
+    unended_is = c.unended_is;
+    window_is = c.window_is;
+    room_is = c.room_is;
+    rooms = c.rooms;
+  };
+}
+
 -- after a block: another goes on, or all have ended
 settles : (jobs : List Job) (N : ℕ) (h : Fleet) (cur : ℕ) (st : ℕ → Stage) (E : List RunEvent) → 1 ≤ N → (r : Running jobs N st cur E) → inside (st cur) ≡ false → ((j : ℕ) → stage_in h j ≡ st j) → Counts jobs N h r.blocks
     → Going jobs N (chosen h) E ⊎ Landed jobs N (chosen h) E
 settles jobs N h cur st E some r out at c = by (find (length jobs) (λ j. left (stage_in h j)))
   where
-    out_by : (j : ℕ) (t : Bool) → nat_eq cur j ≡ t → inside (st j) ≡ false
-    out_by j true e = subst (λ i. inside (st i) ≡ false) (same cur j e) out
-    out_by j false e = r.others j e
-
-    all_out : (j : ℕ) → inside (st j) ≡ false
-    all_out j = out_by j (nat_eq cur j) refl
-
-    bases_are : bases st ≡ stage_in h
-    bases_are = fun_ext (λ j. base_out (st j) (all_out j) ∙ sym (at j))
-
-    keep : Keeps jobs N (stage_in h) r.blocks
-    keep = subst (λ s. Keeps jobs N s r.blocks) bases_are r.keep
-
-    counts : Counts jobs N (chosen h) r.blocks
-    counts = record {
-      sizes = c.sizes;
-      next_within = c.next_within;
-      next_left = c.next_left;
-      waiting = c.waiting;
-      has_is = c.has_is;
-      begun_is = c.begun_is;
-      unended_is = c.unended_is;
-      window_is = c.window_is;
-      room_is = c.room_is;
-      rooms = c.rooms;
-    }
-
-    on : Picks jobs N (stage_in h) r.blocks (picked h) → Going jobs N (chosen h) E
-    on p = record {
-      st = st;
-      at = at;
-      run = turns jobs N st cur (picked h) E r out;
-      may = subst (λ s. MayCome (length jobs) N (λ j. has j r.blocks) (λ j. left (s j)) (λ j. in_flight (of j r.blocks)) (picked h) (nat_lt 0 (pending (s (picked h))))) (sym bases_are) p.may;
-      more = ap left (sym (at (picked h))) ∙ p.more;
-      counts = counts;
-    }
-
     ended_at : ((j : ℕ) → j < length jobs → left (stage_in h j) ≡ false) → (j : ℕ) (t : Bool) → nat_lt j (length jobs) ≡ t → st j ≡ Ended
     ended_at none j true lt = is_ended (st j) (ap left (sym (at j)) ∙ none j (is_less j (length jobs) lt))
-    ended_at none j false past = sym (base_out (st j) (all_out j)) ∙ r.keep.beyond j (is_not_less j (length jobs) past)
+    ended_at none j false past = sym (base_out (st j) (all_out jobs N st cur E r out j)) ∙ r.keep.beyond j (is_not_less j (length jobs) past)
 
     by : First (length jobs) (λ j. left (stage_in h j)) ⊎ ((j : ℕ) → j < length jobs → left (stage_in h j) ≡ false) → Going jobs N (chosen h) E ⊎ Landed jobs N (chosen h) E
-    by (inl k) = inl (on (picks jobs N h r.blocks some keep c k.at k.below k.passes))
+    by (inl k) = inl (goes_to jobs N h cur st E r out at c (picked h) (picks jobs N h r.blocks some (keeps_at jobs N h cur st E r out at) c k.at k.below k.passes))
     by (inr none) = inr (record {
       st = st;
       at = at;

@@ -311,23 +311,24 @@ goes_on jobs N st k E a filled r may more fit = by (inside (after job (st k) a))
     by true e s = goes_inside jobs N st k E (after (get_or jobs k no_job) (st k) a) (event (asked (asks k (get_or jobs k no_job) (st k))) a) r may valid s.0 s.1
     by false e s = goes_out jobs N st k E (after (get_or jobs k no_job) (st k) a) (event (asked (asks k (get_or jobs k no_job) (st k))) a) r may valid more e s
 
+-- where the source that is worked is between blocks, all are
+pub all_out : (jobs : List Job) (N : ℕ) (st : ℕ → Stage) (cur : ℕ) (E : List RunEvent) → Running jobs N st cur E → inside (st cur) ≡ false → (j : ℕ) → inside (st j) ≡ false
+all_out jobs N st cur E r out j = by (nat_eq cur j) refl
+  where
+    by : (t : Bool) → nat_eq cur j ≡ t → inside (st j) ≡ false
+    by true e = subst (λ i. inside (st i) ≡ false) (same cur j e) out
+    by false e = r.others j e
+
 -- between blocks any source may be the one that is worked
 abbrev pub turns : (jobs : List Job) (N : ℕ) (st : ℕ → Stage) (cur k : ℕ) (E : List RunEvent) → Running jobs N st cur E → inside (st cur) ≡ false → Running jobs N st k E
 turns jobs N st cur k E r out = record {
   blocks = r.blocks;
   keep = r.keep;
-  events = r.events ∙ ap (λ l. events_of (blocks_of r.blocks) ++ l) (open_out cur (get_or jobs cur no_job) (st cur) out ∙ sym (open_out k (get_or jobs k no_job) (st k) (all_out k)));
-  others = λ j e. all_out j;
+  events = r.events ∙ ap (λ l. events_of (blocks_of r.blocks) ++ l) (open_out cur (get_or jobs cur no_job) (st cur) out ∙ sym (open_out k (get_or jobs k no_job) (st k) (all_out jobs N st cur E r out k)));
+  others = λ j e. all_out jobs N st cur E r out j;
   valid = r.valid;
-  may = λ e. absurd (let clash : true ≡ false = sym e ∙ all_out k in cc);
+  may = λ e. absurd (let clash : true ≡ false = sym e ∙ all_out jobs N st cur E r out k in cc);
 }
-  where
-    at : (j : ℕ) (t : Bool) → nat_eq cur j ≡ t → inside (st j) ≡ false
-    at j true e = let is : cur ≡ j = same cur j e in subst (λ i. inside (st i) ≡ false) is out
-    at j false e = r.others j e
-
-    all_out : (j : ℕ) → inside (st j) ≡ false
-    all_out j = at j (nat_eq cur j) refl
 
 -- The events so far are the beginning of a whole run of the sources.
 pub record Begins (jobs : List Job) (N : ℕ) (E : List RunEvent) : Type 0 where
