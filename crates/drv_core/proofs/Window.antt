@@ -17,26 +17,37 @@ use Rattle.std.proofs.Common.{◌≡◌, ◌<◌, ◌≤◌, ◌+◌, ◌∙◌,
 
 -- The window of a run stays as it was given.
 
-linked_fleet : (p : Position) → (linked p).fleet ≡ p.fleet
-linked_fleet p = by (left p.link.stage)
-  where
-    by : (t : Bool) → (if t then record p { phase = Link } else removing_first p).fleet ≡ p.fleet
-    by true = refl
-    by false = refl
+-- the moves from phase to phase leave the sources' fleet and the events as they are
+abbrev SameStory : Position → Position → Type 0
+SameStory p q = (q.fleet ≡ p.fleet) × (q.events ≡ p.events)
 
-left_fleet : (p : Position) → (sources_left p).fleet ≡ p.fleet
-left_fleet p = by (nat_eq p.code 0)
+linked_same : (p : Position) → SameStory p (linked p)
+linked_same p = by (left p.link.stage)
   where
-    by : (t : Bool) → (if t then linked (record p { remains = record p.remains { linked = true } }) else removing_first p).fleet ≡ p.fleet
-    by true = linked_fleet (record p { remains = record p.remains { linked = true } })
-    by false = refl
+    by : (t : Bool) → SameStory p (if t then record p { phase = Link } else removing_first p)
+    by true = (refl, refl)
+    by false = (refl, refl)
 
-flown_fleet : (p : Position) → (flown p).fleet ≡ p.fleet
-flown_fleet p = by (nat_eq p.fleet.unended 0)
+left_same : (p : Position) → SameStory p (sources_left p)
+left_same p = by (nat_eq p.code 0)
   where
-    by : (t : Bool) → (if t then sources_left p else p).fleet ≡ p.fleet
-    by true = left_fleet p
-    by false = refl
+    by : (t : Bool) → SameStory p (if t then linked (record p { remains = record p.remains { linked = true } }) else removing_first p)
+    by true = linked_same (record p { remains = record p.remains { linked = true } })
+    by false = (refl, refl)
+
+flown_same : (p : Position) → SameStory p (flown p)
+flown_same p = by (nat_eq p.fleet.unended 0)
+  where
+    by : (t : Bool) → SameStory p (if t then sources_left p else p)
+    by true = left_same p
+    by false = (refl, refl)
+
+removal_same : (p : Position) (a : Answer) → SameStory p (removal_made p a)
+removal_same p a = by (removal_failed (remove_of a))
+  where
+    by : (t : Bool) → SameStory p (if t then record p { phase = Report } else removing_next p)
+    by true = (refl, refl)
+    by false = (refl, refl)
 
 opened_window : (jobs : List Job) (f : Fleet) → (opened jobs f).window ≡ f.window
 opened_window jobs f = by (nat_eq f.current f.next)
@@ -59,20 +70,13 @@ settled_window jobs f = by (inside (stage_in f f.current))
     by true = refl
     by false = closed_window (opened jobs f) ∙ opened_window jobs f
 
-removal_fleet : (p : Position) (a : Answer) → (removal_made p a).fleet ≡ p.fleet
-removal_fleet p a = by (removal_failed (remove_of a))
-  where
-    by : (t : Bool) → (if t then record p { phase = Report } else removing_next p).fleet ≡ p.fleet
-    by true = refl
-    by false = refl
-
 moved_window : (plan : Plan) (p : Position) (s : Step) (a : Answer) → (moved plan p s a).fleet.window ≡ p.fleet.window
 moved_window plan p s a = by p.phase
   where
     by : (q : Phase) → (moved_in q plan (kept p s a) a).fleet.window ≡ p.fleet.window
-    by Sources = ap (λ f. f.window) (flown_fleet (record (kept p s a) { fleet = taken plan.jobs p.fleet a })) ∙ settled_window plan.jobs (worked (get_or plan.jobs p.fleet.current no_job) p.fleet a)
-    by Link = ap (λ f. f.window) (linked_fleet (record (kept p s a) { link = link_after plan.link p.link a }))
-    by Removals = ap (λ f. f.window) (removal_fleet (kept p s a) a)
+    by Sources = ap (λ f. f.window) (flown_same (record (kept p s a) { fleet = taken plan.jobs p.fleet a })).0 ∙ settled_window plan.jobs (worked (get_or plan.jobs p.fleet.current no_job) p.fleet a)
+    by Link = ap (λ f. f.window) (linked_same (record (kept p s a) { link = link_after plan.link p.link a })).0
+    by Removals = ap (λ f. f.window) (removal_same (kept p s a) a).0
     by Report = refl
     by Done = refl
 
@@ -89,7 +93,7 @@ pub fresh_stands : (plan : Plan) (N room : ℕ) (p : Position) → 1 ≤ N → A
 fresh_stands plan N room p some jobs link fits is = (subst (λ n. Kept plan n p) (sym window) (fresh_kept plan N room p some jobs link fits is), window)
   where
     window : p.fleet.window ≡ N
-    window = ap (λ q. q.fleet.window) is ∙ ap (λ f. f.window) (flown_fleet (first_position plan N room))
+    window = ap (λ q. q.fleet.window) is ∙ ap (λ f. f.window) (flown_same (first_position plan N room)).0
 
 pub answer_stands : (plan : Plan) (p q : Position) (s : Step) (a : Answer) → Kept plan p.fleet.window p → next_of plan p ≡ Some s → is_kind s a ≡ true → q ≡ moved plan p s a → (Kept plan q.fleet.window q) × (q.fleet.window ≡ p.fleet.window)
 answer_stands plan p q s a k is kind to = (subst (λ n. Kept plan n q) (sym window) (answer_kept plan p.fleet.window p q s a k is kind to), window)
@@ -105,38 +109,13 @@ choice_stands plan p q i k lt to = (subst (λ n. Kept plan n q) (sym window) (ch
 
 -- and an answer is one event more
 
-linked_events : (p : Position) → (linked p).events ≡ p.events
-linked_events p = by (left p.link.stage)
-  where
-    by : (t : Bool) → (if t then record p { phase = Link } else removing_first p).events ≡ p.events
-    by true = refl
-    by false = refl
-
-left_events : (p : Position) → (sources_left p).events ≡ p.events
-left_events p = by (nat_eq p.code 0)
-  where
-    by : (t : Bool) → (if t then linked (record p { remains = record p.remains { linked = true } }) else removing_first p).events ≡ p.events
-    by true = linked_events (record p { remains = record p.remains { linked = true } })
-    by false = refl
-
-flown_events : (p : Position) → (flown p).events ≡ p.events
-flown_events p = by (nat_eq p.fleet.unended 0)
-  where
-    by : (t : Bool) → (if t then sources_left p else p).events ≡ p.events
-    by true = left_events p
-    by false = refl
-
 pub moved_events : (plan : Plan) (p : Position) (s : Step) (a : Answer) → (moved plan p s a).events ≡ p.events ++ event s a ∷ []
 moved_events plan p s a = by p.phase
   where
-    removal : (t : Bool) → (if t then record (kept p s a) { phase = Report } else removing_next (kept p s a)).events ≡ p.events ++ event s a ∷ []
-    removal true = refl
-    removal false = refl
-
     by : (q : Phase) → (moved_in q plan (kept p s a) a).events ≡ p.events ++ event s a ∷ []
-    by Sources = flown_events (record (kept p s a) { fleet = taken plan.jobs p.fleet a })
-    by Link = linked_events (record (kept p s a) { link = link_after plan.link p.link a })
-    by Removals = removal (removal_failed (remove_of a))
+    by Sources = (flown_same (record (kept p s a) { fleet = taken plan.jobs p.fleet a })).1
+    by Link = (linked_same (record (kept p s a) { link = link_after plan.link p.link a })).1
+    by Removals = (removal_same (kept p s a) a).1
     by Report = refl
     by Done = refl
 
@@ -148,4 +127,4 @@ choosing_events plan p i = by (between_blocks p.phase p.fleet)
     by false = refl
 
 pub fresh_events : (plan : Plan) (N room : ℕ) → (fresh_position plan N room).events ≡ []
-fresh_events plan N room = flown_events (first_position plan N room)
+fresh_events plan N room = (flown_same (first_position plan N room)).1
