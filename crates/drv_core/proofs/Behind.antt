@@ -7,6 +7,7 @@ use Rattle.drv_core.proofs.ExactEnd.{after_is, after_owned, behind_sources, ran_
 use Rattle.drv_core.proofs.Fates.{fate_replays}
 use Rattle.drv_core.proofs.Lanes.{AllOwned, end_owned, open_owned, path_owned, story_owned, tag}
 use Rattle.drv_core.proofs.Linked.{Ending, Linking}
+use Rattle.drv_core.proofs.Order.{clash}
 use Rattle.drv_core.proofs.Retrace.{same_end, story_replays}
 use Rattle.drv_core.proofs.Replay.{Replays}
 use Rattle.drv_core.proofs.Steps.{Ran}
@@ -20,7 +21,7 @@ use Rattle.drv_words.specs.Places.{no_job}
 use Rattle.drv_words.specs.declared.plan.Job.{Job}
 use Rattle.drv_words.specs.declared.plan.Plan.{Plan}
 use Rattle.drv_words.specs.declared.steps.RunEvent.{RunEvent}
-use Rattle.std.proofs.Common.{◌≡◌, ◌<◌, ◌∙◌, Bool, false, true, List, [], ◌∷◌, ◌++◌, ap, append-nil, get_or, length, subst, suc, sym, ℕ}
+use Rattle.std.proofs.Common.{◌≡◌, ◌<◌, ◌∙◌, Bool, false, List, [], ◌∷◌, ◌++◌, ap, append-nil, get_or, length, subst, suc, sym, ℕ}
 
 -- After the sources no story goes on.
 
@@ -37,10 +38,6 @@ pub record Behind (plan : Plan) (N : ℕ) (E : List RunEvent) : Type 0 where
 pub none_goes_on : (plan : Plan) (N : ℕ) (E : List RunEvent) → FilledPlan plan → Behind plan N E → BetweenBlocks plan N E → ⊥
 none_goes_on plan N E filled z b = clash (b.left b.some) b.some_left (sym (fate_at plan N E b b.some b.some_is).left_is ∙ ap left (sym ended))
   where
-    clash : (t : Bool) → t ≡ true → t ≡ false → ⊥
-    clash true e h = absurd cc
-    clash false e h = absurd cc
-
     told : events_of (of b.some b.blocks) ≡ events_of (story b.some (get_or plan.jobs b.some no_job) (get_or z.ran.run.answers b.some no_answers))
     told = same_lane (length plan.jobs) b.some b.blocks (behind_sources plan N z.sources z.ran z.own z.last) (between_owned plan N E b) (after_owned plan N z.sources z.ran z.own z.last z.own_owned z.last_owned) (sym b.events ∙ z.events ∙ after_is plan N z.sources z.ran z.own z.last)
         ∙ ap (λ l. events_of l) (source_after plan N z.sources z.ran z.own z.last b.some b.some_is ∙ ran_story plan N z.sources z.ran b.some b.some_is)

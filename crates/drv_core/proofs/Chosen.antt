@@ -8,7 +8,7 @@ use Rattle.drv_core.proofs.Finish.{Fails, Keeps, ended, fails, still}
 use Rattle.drv_core.proofs.First.{WorksFirst}
 use Rattle.drv_core.proofs.Flights.{Going, bases_at, keeps_at}
 use Rattle.drv_core.proofs.Listed.{listed, listed_count}
-use Rattle.drv_core.proofs.Order.{count_some, is_less, less}
+use Rattle.drv_core.proofs.Order.{clash, count_some, is_less, less}
 use Rattle.drv_core.proofs.Progress.{count_same}
 use Rattle.drv_core.proofs.Rooms.{first_cost}
 use Rattle.drv_core.proofs.Standing.{Path, begins, path_ends, path_even, path_more, pending, waits_next}
@@ -32,10 +32,6 @@ use Rattle.std.proofs.Common.{◌≡◌, ◌⊎◌, ◌<◌, ◌+◌, ◌∙◌,
 use Rattle.std.proofs.lemmas.Cmp.{nat_eq_equiv}
 
 -- What the choices between blocks are.
-
-clash : (t : Bool) → t ≡ true → t ≡ false → ⊥
-clash true e h = absurd cc
-clash false e h = absurd cc
 
 out_of : (t : Bool) → not t ≡ true → t ≡ false
 out_of true e = absurd cc

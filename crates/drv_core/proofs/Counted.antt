@@ -1,5 +1,5 @@
 use Rattle.drv_core.proofs.Fair.{total_append}
-use Rattle.drv_core.proofs.Order.{same}
+use Rattle.drv_core.proofs.Order.{clash, same}
 use Rattle.drv_core.proofs.Steps.{asked}
 use Rattle.drv_core.specs.Code.Counting.{noting, noting_claim}
 use Rattle.drv_core.specs.Code.Due.{claims_in, claims_of, tally}
@@ -52,10 +52,6 @@ claimed_one n j i x E c = record {
   counts = λ k le. by k le (nat_eq j k) refl;
 }
   where
-    apart : (t : Bool) → t ≡ true → t ≡ false → ⊥
-    apart true e h = absurd cc
-    apart false e h = absurd cc
-
     by : (k : ℕ) → k ≤ n → (t : Bool) → nat_eq j k ≡ t → get_or (slice_set x.claimed j (get_or x.claimed j 0 + 1)) k 0 ≡ tally k (E ++ event (step.Claim (place.Temp j i)) (answer.Claim claim.Claimed) ∷ [])
     by k le true e =
         let more : tally k (E ++ event (step.Claim (place.Temp j i)) (answer.Claim claim.Claimed) ∷ []) ≡ tally k E + one_if (nat_eq j k && true) = tally_more k E (step.Claim (place.Temp j i)) (answer.Claim claim.Claimed) in
@@ -69,7 +65,7 @@ claimed_one n j i x E c = record {
         let none : one_if (nat_eq j k && true) ≡ 0 = ap (λ (t : Bool). one_if (t && true)) e in
         let is = c.counts k le in
         let set : get_or (slice_set x.claimed j (get_or x.claimed j 0 + 1)) k 0 ≡ get_or x.claimed k 0 =
-        get_or-set_other x.claimed j k (get_or x.claimed j 0 + 1) 0 (λ at. apart (nat_eq j k) (ap (λ m. nat_eq j m) at ∙ nat_eq_equiv.refl j) e) in
+        get_or-set_other x.claimed j k (get_or x.claimed j 0 + 1) 0 (λ at. clash (nat_eq j k) (ap (λ m. nat_eq j m) at ∙ nat_eq_equiv.refl j) e) in
         omega (arith, more, none, is, set)
 
 claim_counted : (n : ℕ) (x : Remains) (E : List RunEvent) (p : Place) (c : ClaimAnswer) → Counted n x E → Counted n (noting_claim x p (answer.Claim c)) (E ++ event (step.Claim p) (answer.Claim c) ∷ [])

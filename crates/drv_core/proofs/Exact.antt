@@ -1,7 +1,7 @@
 use Rattle.drv_core.proofs.Alone.{events_both}
 use Rattle.drv_core.proofs.Flights.{Going}
 use Rattle.drv_core.proofs.Lanes.{AllOwned, AtEndOnly, all_owned, blocks_tag, end_owned, lane, lane_of, of_tag, open_owned, owned_append, path_owned, story_owned, tag}
-use Rattle.drv_core.proofs.Order.{and_first, and_second, apart_above, is_less, of_append}
+use Rattle.drv_core.proofs.Order.{and_first, and_second, apart_above, clash, is_less, of_append}
 use Rattle.drv_core.proofs.Retrace.{has_ended}
 use Rattle.drv_core.proofs.Status.{all_below}
 use Rattle.drv_core.proofs.Steps.{Running, bases, events_append}
@@ -144,7 +144,3 @@ not_whole plan N st cur E o filled r lt w = has_ended cur (get_or plan.jobs cur 
 
 pub going_not_whole : (plan : Plan) (N : ℕ) (f : Fleet) (E : List RunEvent) → Filled (get_or plan.jobs f.current no_job) → Going plan.jobs N f E → IsWhole plan N E → ⊥
 going_not_whole plan N f E filled g w = clash (left (g.st f.current)) g.more (ap left (not_whole plan N g.st f.current E w.o filled g.run (is_less f.current (length plan.jobs) g.may.is_source) w.windowed))
-  where
-    clash : (t : Bool) → t ≡ true → t ≡ false → ⊥
-    clash true e h = absurd cc
-    clash false e h = absurd cc

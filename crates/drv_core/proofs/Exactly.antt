@@ -2,18 +2,15 @@ use Rattle.drv_core.proofs.Courses.{FilledPlan}
 use Rattle.drv_core.proofs.Ends.{Holds, HoldsAt, most_of}
 use Rattle.drv_core.proofs.Exact.{going_not_whole}
 use Rattle.drv_core.proofs.ExactEnd.{end_not_whole, link_not_whole}
+use Rattle.drv_core.proofs.Order.{clash}
 use Rattle.drv_core.proofs.Rooms.{first_cost}
 use Rattle.drv_core.specs.Code.Course.{Course, Done, Link, Phase, Removals, Report, Sources, asked_at, asked_by}
 use Rattle.drv_core.specs.Code.Machine.{left}
 use Rattle.drv_core.specs.Windowed.{IsWhole}
 use Rattle.drv_words.specs.declared.plan.Plan.{Plan}
-use Rattle.std.proofs.Common.{◌≡◌, ◌+◌, Bool, false, true, None, ap, refl, ℕ}
+use Rattle.std.proofs.Common.{◌≡◌, ◌+◌, false, true, None, ap, refl, ℕ}
 
 -- Nothing is asked for exactly where the events are a whole run.
-
-clash : (t : Bool) → t ≡ true → t ≡ false → ⊥
-clash true e h = absurd cc
-clash false e h = absurd cc
 
 pub whole_ends : (plan : Plan) (N : ℕ) (c : Course) → FilledPlan plan → Holds plan N c → IsWhole plan N c.events → asked_by plan c ≡ None
 whole_ends plan N c filled h w = by c.phase h

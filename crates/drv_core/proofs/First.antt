@@ -1,3 +1,4 @@
+use Rattle.drv_core.proofs.Order.{clash}
 use Rattle.drv_core.proofs.Selecting.{able_at}
 use Rattle.drv_core.specs.Code.Course.{Done, Link, Phase, Removals, Report, Sources}
 use Rattle.drv_core.specs.Code.Fleet.{Fleet, able, chosen, closed, fresh_fleet, opened, settled, stage_in, taken, turned, worked}
@@ -13,19 +14,12 @@ use Rattle.drv_words.specs.declared.plan.Job.{Job}
 use Rattle.drv_words.specs.declared.plan.Plan.{Plan}
 use Rattle.drv_words.specs.declared.steps.Step.{Step}
 use Rattle.std.proofs.Common.{◌≡◌, Bool, false, true, List, get_or, if◌then◌else◌, length, nat_eq, nat_lt, not, refl, subst, sym, ℕ}
+use Rattle.std.proofs.lemmas.Bool.{not-true}
 
 -- Where no source was chosen, the first that may go on is worked.
 
 abbrev pub WorksFirst : Plan → Position → Type 0
 WorksFirst plan p = between_blocks p.phase p.fleet ≡ true → get_or (able plan.jobs p.fleet) 0 p.fleet.next ≡ p.fleet.current
-
-clash : (t : Bool) → t ≡ true → not t ≡ true → ⊥
-clash true e h = absurd cc
-clash false e h = absurd cc
-
-no_test : (t : Bool) → t ≡ false → t ≡ true → ⊥
-no_test true e h = absurd cc
-no_test false e h = absurd cc
 
 -- after the sources no block of theirs comes
 
@@ -70,14 +64,14 @@ settled_first jobs f = by (inside (stage_in f f.current)) refl
   where
     by : (t : Bool) → inside (stage_in f f.current) ≡ t → not (inside (stage_in (if t then f else turned jobs f) (if t then f else turned jobs f).current)) ≡ true
         → get_or (able jobs (if t then f else turned jobs f)) 0 (if t then f else turned jobs f).next ≡ (if t then f else turned jobs f).current
-    by true e h = absurd (clash (inside (stage_in f f.current)) e h)
+    by true e h = absurd (clash (inside (stage_in f f.current)) e (not-true (inside (stage_in f f.current)) h))
     by false e h = sym (able_at jobs (chosen (closed (opened jobs f))) 0)
 
 flown_first : (plan : Plan) (p : Position) → WorksFirst plan p → WorksFirst plan (flown p)
 flown_first plan p first = by (nat_eq p.fleet.unended 0)
   where
     by : (t : Bool) → WorksFirst plan (if t then sources_left p else p)
-    by true = λ e. absurd (no_test (between_blocks (sources_left p).phase (sources_left p).fleet) (left_closed p (sources_left p).fleet) e)
+    by true = λ e. absurd (clash (between_blocks (sources_left p).phase (sources_left p).fleet) e (left_closed p (sources_left p).fleet))
     by false = first
 
 pub fresh_first : (plan : Plan) (N room : ℕ) → WorksFirst plan (fresh_position plan N room)
@@ -89,7 +83,7 @@ moved_first plan p s a = by p.phase refl
     by : (q : Phase) → p.phase ≡ q → WorksFirst plan (moved_in q plan (kept p s a) a)
     by Sources is = flown_first plan (record (kept p s a) { fleet = taken plan.jobs p.fleet a })
         (λ e. settled_first plan.jobs (worked (get_or plan.jobs p.fleet.current no_job) p.fleet a) (subst (λ q. between_blocks q (taken plan.jobs p.fleet a) ≡ true) is e))
-    by Link is = λ e. absurd (no_test (between_blocks (linked (record (kept p s a) { link = link_after plan.link p.link a })).phase (linked (record (kept p s a) { link = link_after plan.link p.link a })).fleet) (linked_closed (record (kept p s a) { link = link_after plan.link p.link a }) (linked (record (kept p s a) { link = link_after plan.link p.link a })).fleet) e)
-    by Removals is = λ e. absurd (no_test (between_blocks (removal_made (kept p s a) a).phase (removal_made (kept p s a) a).fleet) (removal_closed (kept p s a) a (removal_made (kept p s a) a).fleet) e)
-    by Report is = λ e. absurd (no_test (between_blocks (removing_next (kept p s a)).phase (removing_next (kept p s a)).fleet) (next_closed (kept p s a) (removing_next (kept p s a)).fleet) e)
-    by Done is = λ e. absurd (no_test (between_blocks p.phase p.fleet) (subst (λ q. between_blocks q p.fleet ≡ false) (sym is) refl) e)
+    by Link is = λ e. absurd (clash (between_blocks (linked (record (kept p s a) { link = link_after plan.link p.link a })).phase (linked (record (kept p s a) { link = link_after plan.link p.link a })).fleet) e (linked_closed (record (kept p s a) { link = link_after plan.link p.link a }) (linked (record (kept p s a) { link = link_after plan.link p.link a })).fleet))
+    by Removals is = λ e. absurd (clash (between_blocks (removal_made (kept p s a) a).phase (removal_made (kept p s a) a).fleet) e (removal_closed (kept p s a) a (removal_made (kept p s a) a).fleet))
+    by Report is = λ e. absurd (clash (between_blocks (removing_next (kept p s a)).phase (removing_next (kept p s a)).fleet) e (next_closed (kept p s a) (removing_next (kept p s a)).fleet))
+    by Done is = λ e. absurd (clash (between_blocks p.phase p.fleet) e (subst (λ q. between_blocks q p.fleet ≡ false) (sym is) refl))

@@ -2,7 +2,7 @@ use Rattle.drv_core.proofs.Blocks.{Stepped}
 use Rattle.drv_core.proofs.Finish.{Keeps, ended as is_ended}
 use Rattle.drv_core.proofs.Going.{Counts, Next, Picks, Worked, begun_next, counts_closed, idle_next, left_begin, next_is, opened_is, picks}
 use Rattle.drv_core.proofs.Listed.{listed, listed_up_to}
-use Rattle.drv_core.proofs.Order.{count_none, count_some, is_less, is_not_less, not_less, same}
+use Rattle.drv_core.proofs.Order.{clash, count_none, count_some, is_less, is_not_less, not_less, same}
 use Rattle.drv_core.proofs.Progress.{First, count_same, find}
 use Rattle.drv_core.proofs.Standing.{begins, has_append, put, sound_out, stands_first}
 use Rattle.drv_core.proofs.Steps.{MayGo, Running, Valid, all_out, asked, base_out, bases, goes_inside, goes_out, inside_left, left_base, one_step, open_out, put_here, turns, valid_after, valid_begin}
@@ -46,19 +46,11 @@ pub record Landed (jobs : List Job) (N : ℕ) (f : Fleet) (E : List RunEvent) : 
 
 stage_set : (ws : List Worker) (k j : ℕ) (w : Worker) (st : ℕ → Stage) → k < length ws → ((i : ℕ) → (get_or ws i idle).stage ≡ st i) → (t : Bool) → nat_eq k j ≡ t → (get_or (slice_set ws k w) j idle).stage ≡ (if t then w.stage else st j)
 stage_set ws k j w st lt at true e = ap (λ x. x.stage) (subst (λ i. get_or (slice_set ws k w) i idle ≡ w) (same k j e) (get_or-set_same ws k w idle lt))
-stage_set ws k j w st lt at false e = ap (λ x. x.stage) (get_or-set_other ws k j w idle (λ is. apart (nat_eq k j) e (ap (λ i. nat_eq k i) is ∙ nat_eq_equiv.refl k))) ∙ at j
-  where
-    apart : (t : Bool) → t ≡ false → t ≡ true → ⊥
-    apart true e h = absurd cc
-    apart false e h = absurd cc
+stage_set ws k j w st lt at false e = ap (λ x. x.stage) (get_or-set_other ws k j w idle (λ is. clash (nat_eq k j) (ap (λ i. nat_eq k i) is ∙ nat_eq_equiv.refl k) e)) ∙ at j
 
 room_set : (ws : List Worker) (k j : ℕ) (w : Worker) → k < length ws → w.room ≡ (get_or ws k idle).room → (t : Bool) → nat_eq k j ≡ t → (get_or (slice_set ws k w) j idle).room ≡ (get_or ws j idle).room
 room_set ws k j w lt is true e = subst (λ i. (get_or (slice_set ws k w) i idle).room ≡ (get_or ws i idle).room) (same k j e) (ap (λ x. x.room) (get_or-set_same ws k w idle lt) ∙ is)
-room_set ws k j w lt is false e = ap (λ x. x.room) (get_or-set_other ws k j w idle (λ i. apart (nat_eq k j) e (ap (λ n. nat_eq k n) i ∙ nat_eq_equiv.refl k)))
-  where
-    apart : (t : Bool) → t ≡ false → t ≡ true → ⊥
-    apart true e h = absurd cc
-    apart false e h = absurd cc
+room_set ws k j w lt is false e = ap (λ x. x.room) (get_or-set_other ws k j w idle (λ i. clash (nat_eq k j) (ap (λ n. nat_eq k n) i ∙ nat_eq_equiv.refl k) e))
 
 pub stage_closed : (f : Fleet) (j : ℕ) → stage_in (closed f) j ≡ stage_in f j
 stage_closed f j = by (left (stage_in f f.current))

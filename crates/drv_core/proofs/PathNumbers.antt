@@ -1,4 +1,4 @@
-use Rattle.drv_core.proofs.Order.{same}
+use Rattle.drv_core.proofs.Order.{clash, same}
 use Rattle.drv_core.proofs.Removed.{Each, Flagged, Numbered, numbered}
 use Rattle.drv_core.specs.Code.Numbering.{first_with, lefts}
 use Rattle.drv_core.specs.Outcomes.{File}
@@ -12,10 +12,6 @@ use Rattle.std.specs.Prelude.{replicate, unwrap_or}
 
 abbrev pub number_in : List File → List ℕ → ℕ
 number_in fs p = unwrap_or (first_with 0 p fs) (length fs)
-
-clash : (t : Bool) → t ≡ true → t ≡ false → ⊥
-clash true e h = absurd cc
-clash false e h = absurd cc
 
 -- after the files before it, a path is found at its file if not before
 first_here : (i : ℕ) (p : List ℕ) (before : List File) (f : File) (rest : List File) → pointwise nat_eq p f.path ≡ true → first_with i p (before ++ f ∷ rest) ≡ Some (unwrap_or (first_with i p before) (i + length before))

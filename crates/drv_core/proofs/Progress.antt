@@ -1,6 +1,7 @@
-use Rattle.drv_core.proofs.Order.{count_none, is_less, is_not_less, less, same}
+use Rattle.drv_core.proofs.Order.{and_first, and_second, count_none, is_less, is_not_less, less, same}
 use Rattle.drv_core.specs.Windowed.{MayCome, count}
 use Rattle.std.proofs.Common.{◌≡◌, ◌⊎◌, ◌<◌, ◌≤◌, ◌+◌, ◌∙◌, ◌&&◌, ◌||◌, Bool, false, true, ap, arith, if◌then◌else◌, inl, inr, min, nat_eq, nat_lt, not, refl, subst, suc, sym, zero, ℕ}
+use Rattle.std.proofs.lemmas.Bool.{not-true}
 use Rattle.std.proofs.lemmas.Bool.Decides.{nat_tests}
 use Rattle.std.proofs.lemmas.Cmp.{nat_eq_equiv}
 
@@ -80,18 +81,6 @@ pub record Goes (n N : ℕ) (begun left flying waits : ℕ → Bool) : Type 0 wh
 both_true : (a b : Bool) → a ≡ true → b ≡ true → (a && b) ≡ true
 both_true a b x y = rw (x, y) refl
 
-first_true : (a b : Bool) → (a && b) ≡ true → a ≡ true
-first_true true b e = refl
-first_true false b e = e
-
-second_true : (a b : Bool) → (a && b) ≡ true → b ≡ true
-second_true true b e = e
-second_true false b e = absurd cc
-
-not_true : (a : Bool) → not a ≡ true → a ≡ false
-not_true true e = absurd cc
-not_true false e = refl
-
 -- a source that has begun may go on, where its next block is no wait, or all that can are in flight
 pub begun_goes : (n N : ℕ) (begun left flying waits : ℕ → Bool) (k : ℕ) → Between n N begun left flying waits → k < n → begun k ≡ true → (waits k ≡ true → count n flying ≡ min N (count n left)) → MayCome n N begun left flying k (waits k)
 begun_goes n N begun left flying waits k b lt is all = record {
@@ -123,10 +112,10 @@ new_goes n N begun left flying waits b f room = record {
     or_false false = refl
 
     new : begun f.at ≡ false
-    new = not_true (begun f.at) (first_true (not (begun f.at)) (left f.at) f.passes)
+    new = not-true (begun f.at) (and_first (not (begun f.at)) (left f.at) f.passes)
 
     more : left f.at ≡ true
-    more = second_true (not (begun f.at)) (left f.at) f.passes
+    more = and_second (not (begun f.at)) (left f.at) f.passes
 
 -- all that have begun wait, and no other may begin
 all_wait : (n N : ℕ) (begun left flying waits : ℕ → Bool) → Between n N begun left flying waits → ((j : ℕ) → j < n → (begun j && (left j && not (waits j))) ≡ false)
@@ -145,7 +134,7 @@ all_wait n N begun left flying waits b none_free full = flying_is ∙ by full
     flying_is = count_same n flying (λ j. begun j && left j) (λ j lt. b.fly j lt ∙ case (begun j) (left j) (waits j) (none_free j lt) (b.begun_waits j lt) (b.waits_left j lt))
 
     fewer : count n (λ j. begun j && left j) ≤ count n left
-    fewer = count_fewer n (λ j. begun j && left j) left (λ j lt e. second_true (begun j) (left j) e)
+    fewer = count_fewer n (λ j. begun j && left j) left (λ j lt e. and_second (begun j) (left j) e)
 
     all_begun : (x y : Bool) → (not x && y) ≡ false → (x && y) ≡ y
     all_begun true y e = refl
@@ -162,8 +151,8 @@ progress n N begun left flying waits some b k lt more = free (find n (λ j. begu
     waiting : ((j : ℕ) → j < n → (begun j && (left j && not (waits j))) ≡ false) → (count n (λ j. begun j && left j) ≡ N) ⊎ ((j : ℕ) → j < n → (not (begun j) && left j) ≡ false) → First n (λ j. begun j && left j) → Goes n N begun left flying waits
     waiting none full f = record {
       k = f.at;
-      has_more = second_true (begun f.at) (left f.at) f.passes;
-      may = begun_goes n N begun left flying waits f.at b f.below (first_true (begun f.at) (left f.at) f.passes) (λ e. all_wait n N begun left flying waits b none full);
+      has_more = and_second (begun f.at) (left f.at) f.passes;
+      may = begun_goes n N begun left flying waits f.at b f.below (and_first (begun f.at) (left f.at) f.passes) (λ e. all_wait n N begun left flying waits b none full);
     }
 
     -- a source with blocks to come has begun
@@ -180,7 +169,7 @@ progress n N begun left flying waits some b k lt more = free (find n (λ j. begu
     some_begun full (inr none) = absurd (let zero_all : count n (λ j. begun j && left j) ≡ 0 = count_none n (λ j. begun j && left j) none in omega arith)
 
     room : ((j : ℕ) → j < n → (begun j && (left j && not (waits j))) ≡ false) → (f : First n (λ j. not (begun j) && left j)) → (t : Bool) → nat_lt (count n (λ j. begun j && left j)) N ≡ t → Goes n N begun left flying waits
-    room none f true e = record { k = f.at; has_more = second_true (not (begun f.at)) (left f.at) f.passes; may = new_goes n N begun left flying waits b f (is_less (count n (λ j. begun j && left j)) N e) }
+    room none f true e = record { k = f.at; has_more = and_second (not (begun f.at)) (left f.at) f.passes; may = new_goes n N begun left flying waits b f (is_less (count n (λ j. begun j && left j)) N e) }
     room none f false e =
         let full : count n (λ j. begun j && left j) ≡ N = (let most = b.in_window in let least : N ≤ count n (λ j. begun j && left j) = is_not_less (count n (λ j. begun j && left j)) N e in omega (arith, most, least)) in
         waiting none (inl full) (some_begun full (find n (λ j. begun j && left j)))
@@ -192,7 +181,7 @@ progress n N begun left flying waits some b k lt more = free (find n (λ j. begu
     free : First n (λ j. begun j && (left j && not (waits j))) ⊎ ((j : ℕ) → j < n → (begun j && (left j && not (waits j))) ≡ false) → Goes n N begun left flying waits
     free (inl f) = record {
       k = f.at;
-      has_more = first_true (left f.at) (not (waits f.at)) (second_true (begun f.at) (left f.at && not (waits f.at)) f.passes);
-      may = begun_goes n N begun left flying waits f.at b f.below (first_true (begun f.at) (left f.at && not (waits f.at)) f.passes) (λ e. absurd (let no : waits f.at ≡ false = not_true (waits f.at) (second_true (left f.at) (not (waits f.at)) (second_true (begun f.at) (left f.at && not (waits f.at)) f.passes)) in let clash : true ≡ false = sym e ∙ no in cc));
+      has_more = and_first (left f.at) (not (waits f.at)) (and_second (begun f.at) (left f.at && not (waits f.at)) f.passes);
+      may = begun_goes n N begun left flying waits f.at b f.below (and_first (begun f.at) (left f.at && not (waits f.at)) f.passes) (λ e. absurd (let no : waits f.at ≡ false = not-true (waits f.at) (and_second (left f.at) (not (waits f.at)) (and_second (begun f.at) (left f.at && not (waits f.at)) f.passes)) in let clash : true ≡ false = sym e ∙ no in cc));
     }
     free (inr none) = new none (find n (λ j. not (begun j) && left j))

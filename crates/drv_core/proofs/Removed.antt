@@ -1,4 +1,4 @@
-use Rattle.drv_core.proofs.Order.{is_less, is_not_less, same}
+use Rattle.drv_core.proofs.Order.{clash, is_less, is_not_less, same}
 use Rattle.drv_core.specs.Code.Due.{due_of_job}
 use Rattle.drv_core.specs.Code.Leftovers.{job_files, place_in, temp_files}
 use Rattle.drv_core.specs.Outcomes.{File, each_once, marked_files, none}
@@ -141,14 +141,10 @@ Flagged num gone seen f = (num f.path < length gone) × (get_or gone (num f.path
 flag_more : (num : List ℕ → ℕ) (gone : List Bool) (seen : List (List ℕ)) (f g : File) → num f.path < length gone → pointwise nat_eq g.path f.path ≡ nat_eq (num f.path) (num g.path) → Flagged num gone seen g → Flagged num (slice_set gone (num f.path) true) (f.path ∷ seen) g
 flag_more num gone seen f g room alike old = (subst (λ n. num g.path < n) (sym (length-set gone (num f.path) true)) old.0, by (nat_eq (num f.path) (num g.path)) refl)
   where
-    apart : (t : Bool) → t ≡ true → t ≡ false → ⊥
-    apart true e h = absurd cc
-    apart false e h = absurd cc
-
     by : (t : Bool) → nat_eq (num f.path) (num g.path) ≡ t → get_or (slice_set gone (num f.path) true) (num g.path) false ≡ (pointwise nat_eq g.path f.path || list_any (pointwise nat_eq g.path) seen)
     by true e = subst (λ n. get_or (slice_set gone (num f.path) true) n false ≡ true) (same (num f.path) (num g.path) e) (get_or-set_same gone (num f.path) true false room)
         ∙ ap (λ (t : Bool). t || list_any (pointwise nat_eq g.path) seen) (sym (alike ∙ e))
-    by false e = get_or-set_other gone (num f.path) (num g.path) true false (λ is. apart (nat_eq (num f.path) (num g.path)) (ap (λ n. nat_eq (num f.path) n) is ∙ nat_eq_equiv.refl (num f.path)) e) ∙ old.1
+    by false e = get_or-set_other gone (num f.path) (num g.path) true false (λ is. clash (nat_eq (num f.path) (num g.path)) (ap (λ n. nat_eq (num f.path) n) is ∙ nat_eq_equiv.refl (num f.path)) e) ∙ old.1
         ∙ ap (λ (t : Bool). t || list_any (pointwise nat_eq g.path) seen) (sym (alike ∙ e))
 
 kept_is : (seen : List (List ℕ)) (f : File) (rest : List File) (t : Bool) → each_once seen (if t then f ∷ rest else rest) ≡ (if t then (if list_any (pointwise nat_eq f.path) seen then each_once seen rest else f ∷ each_once (f.path ∷ seen) rest) else each_once seen rest)
