@@ -1,13 +1,13 @@
 use Rattle.drv_core.proofs.Codes.{job_is}
 use Rattle.drv_core.proofs.Exact.{whole_at}
 use Rattle.drv_core.proofs.Order.{apart_above, same}
-use Rattle.drv_core.proofs.Sifted.{halves, jobs_whole, nothing, only_first, sift, two_lists}
+use Rattle.drv_core.proofs.Sifted.{halves, jobs_whole, no_last, nothing, only_first, sift, two_lists}
 use Rattle.drv_core.proofs.Status.{code_story}
 use Rattle.drv_core.proofs.Tally.{told_at}
 use Rattle.drv_core.specs.Choices.{job_of}
 use Rattle.drv_core.specs.Code.Course.{run_code}
 use Rattle.drv_core.specs.Links.{FailsWhere, codes_in, is_work_of, work_code}
-use Rattle.drv_core.specs.Outcomes.{Answers, File, GroupAnswers, JobAnswers, Told, answer_code, greatest, job_code, link_run, no_answers, removed_at_end}
+use Rattle.drv_core.specs.Outcomes.{Answers, GroupAnswers, JobAnswers, Told, answer_code, greatest, job_code, link_run, no_answers, removed_at_end}
 use Rattle.drv_core.specs.Story.{Block, after_sources, claim_block, claim_blocks, end_removals, event, group_blocks, own_removals, removal_block, removal_failed, report, starts_block, story, wait_block, wait_blocks}
 use Rattle.drv_core.specs.Windowed.{Windowed, events_of, of}
 use Rattle.drv_words.specs.Places.{no_job}
@@ -131,18 +131,6 @@ other_codes : (j k : ℕ) (E : List RunEvent) → nat_eq j k ≡ false → AreAt
 other_codes j k [] other a = refl
 other_codes j k (e ∷ E) other a = nothing (ap (λ (t : Bool). if t then answer_code e.answer ∷ [] else []) (none_at j k e other a.0)) (other_codes j k E other a.1)
 
-no_removal : (k : ℕ) (p : Place) (x : RemoveAnswer) (t : Bool) → codes_in k (removal_block p (record { answer = x; told = t })) ≡ []
-no_removal k p x t = by (removal_failed x)
-  where
-    by : (u : Bool) → codes_in k (if u then report (note.NotRemoved p) t ∷ [] else []) ≡ []
-    by true = refl
-    by false = refl
-
-no_last : (k : ℕ) (files : List File) (rs : List (Told RemoveAnswer)) → codes_in k (events_of (end_removals files rs)) ≡ []
-no_last k [] rs = refl
-no_last k (f ∷ files) [] = refl
-no_last k (f ∷ files) (r ∷ rs) = flat_map-append (work_code k) (removal_block f.place r) (events_of (end_removals files rs)) ∙ nothing (no_removal k f.place r.answer r.told) (no_last k files rs)
-
 -- a whole run
 
 pub fails_where : (plan : Plan) (N : ℕ) (o : Answers) (E : List RunEvent) → Windowed plan N o E → FailsWhere plan o E
@@ -153,7 +141,7 @@ fails_where plan N o E w k lt = job_is (get_or o.jobs k no_answers) ∙ ap (λ n
 
     after : codes_in k (events_of (after_sources plan o)) ≡ []
     after = two_lists (work_code k) (story (length plan.jobs) (link_run plan.link o.jobs) o.link) (end_removals (removed_at_end plan o) o.last)
-        ∙ nothing (other_codes (length plan.jobs) k (events_of (story (length plan.jobs) (link_run plan.link o.jobs) o.link)) (apart_above (length plan.jobs) k lt) (of_story (length plan.jobs) (link_run plan.link o.jobs) o.link)) (no_last k (removed_at_end plan o) o.last)
+        ∙ nothing (other_codes (length plan.jobs) k (events_of (story (length plan.jobs) (link_run plan.link o.jobs) o.link)) (apart_above (length plan.jobs) k lt) (of_story (length plan.jobs) (link_run plan.link o.jobs) o.link)) (no_last (work_code k) (λ p x t. (refl, refl)) (removed_at_end plan o) o.last)
 
     codes_are : greatest (λ c. c) (codes_in k E) ≡ job_code (get_or o.jobs k no_answers)
     codes_are = ap (λ l. greatest (λ c. c) l) (halves (work_code k) plan N o E w k (λ j job a other. other_codes j k (events_of (story j job a)) other (of_story j job a)) ∙ only_first (ap (λ l. sift (work_code k) l) told) after)

@@ -1,15 +1,14 @@
 use Rattle.drv_core.proofs.Order.{and_first, and_second}
-use Rattle.drv_core.proofs.Sifted.{halves, link_whole, none_above, nothing, only_first, sift, two_lists}
+use Rattle.drv_core.proofs.Sifted.{halves, link_whole, no_last, no_removals, none_above, nothing, only_first, sift, two_lists}
 use Rattle.drv_core.specs.Filled.{Filled}
 use Rattle.drv_core.specs.Links.{LinksWhere, at_job, call_of, calls_of}
-use Rattle.drv_core.specs.Outcomes.{Answers, File, GroupAnswers, JobAnswers, Told, all_succeeded, claims_failed, group_failed, is_claimed, link_run, none, removed_at_end, removed_by_job, whole_claims, whole_group, whole_groups, whole_job}
-use Rattle.drv_core.specs.Story.{Block, after_sources, claim_block, claim_blocks, end_removals, event, group_blocks, own_removals, removal_block, removal_failed, report, starts_block, story, wait_block, wait_blocks}
+use Rattle.drv_core.specs.Outcomes.{Answers, GroupAnswers, JobAnswers, Told, all_succeeded, claims_failed, group_failed, is_claimed, link_run, none, removed_at_end, removed_by_job, whole_claims, whole_group, whole_groups, whole_job}
+use Rattle.drv_core.specs.Story.{Block, after_sources, claim_block, claim_blocks, end_removals, event, group_blocks, own_removals, starts_block, story, wait_block, wait_blocks}
 use Rattle.drv_core.specs.Windowed.{Windowed, events_of}
 use Rattle.drv_words.specs.Places.{no_job}
 use Rattle.drv_words.specs.declared.answers.Answer.TheVariants as answer
 use Rattle.drv_words.specs.declared.answers.ClaimAnswer.{ClaimAnswer}
 use Rattle.drv_words.specs.declared.answers.ClaimAnswer.TheVariants as claim
-use Rattle.drv_words.specs.declared.answers.RemoveAnswer.{RemoveAnswer}
 use Rattle.drv_words.specs.declared.answers.StartAnswer.{StartAnswer}
 use Rattle.drv_words.specs.declared.answers.StartAnswer.TheVariants.{NotStarted, Started}
 use Rattle.drv_words.specs.declared.answers.WaitAnswer.{WaitAnswer}
@@ -17,7 +16,6 @@ use Rattle.drv_words.specs.declared.answers.WaitAnswer.TheVariants.{Exit, Lost, 
 use Rattle.drv_words.specs.declared.plan.Command.{Command}
 use Rattle.drv_words.specs.declared.plan.Job.{Job}
 use Rattle.drv_words.specs.declared.plan.Plan.{Plan}
-use Rattle.drv_words.specs.declared.steps.Note.TheVariants as note
 use Rattle.drv_words.specs.declared.steps.Place.{Place}
 use Rattle.drv_words.specs.declared.steps.Place.TheVariants as place
 use Rattle.drv_words.specs.declared.steps.RunEvent.{RunEvent}
@@ -36,7 +34,7 @@ calls k e = call_of k e.step
 two : (k : ℕ) (E F : List RunEvent) → calls_of k (E ++ F) ≡ calls_of k E ++ calls_of k F
 two k E F = flat_map-append (calls k) E F
 
--- waits and removals are neither
+-- waits are neither
 
 no_wait : (k j g i id : ℕ) (x : WaitAnswer) (t : Bool) → calls_of k (wait_block j g i id (record { answer = x; told = t })) ≡ []
 no_wait k j g i id (Exit n) t = refl
@@ -48,22 +46,6 @@ no_waits k j g i [] ws = refl
 no_waits k j g i (NotStarted why ∷ xs) ws = refl
 no_waits k j g i (Started id ∷ xs) [] = refl
 no_waits k j g i (Started id ∷ xs) (w ∷ ws) = two k (wait_block j g i id w) (events_of (wait_blocks j g (i + 1) xs ws)) ∙ nothing (no_wait k j g i id w.answer w.told) (no_waits k j g (i + 1) xs ws)
-
-no_removal : (k : ℕ) (p : Place) (x : RemoveAnswer) (t : Bool) → calls_of k (removal_block p (record { answer = x; told = t })) ≡ []
-no_removal k p x t = by (removal_failed x)
-  where
-    by : (u : Bool) → calls_of k (if u then report (note.NotRemoved p) t ∷ [] else []) ≡ []
-    by true = refl
-    by false = refl
-
-no_removals : (k j i : ℕ) (rs : List (Told RemoveAnswer)) → sift (calls k) (own_removals j i rs) ≡ []
-no_removals k j i [] = refl
-no_removals k j i (r ∷ rs) = two k (removal_block (place.OnFailure j i) r) (events_of (own_removals j (i + 1) rs)) ∙ nothing (no_removal k (place.OnFailure j i) r.answer r.told) (no_removals k j (i + 1) rs)
-
-no_last : (k : ℕ) (files : List File) (rs : List (Told RemoveAnswer)) → sift (calls k) (end_removals files rs) ≡ []
-no_last k [] rs = refl
-no_last k (f ∷ files) [] = refl
-no_last k (f ∷ files) (r ∷ rs) = two k (removal_block f.place r) (events_of (end_removals files rs)) ∙ nothing (no_removal k f.place r.answer r.told) (no_last k files rs)
 
 -- other jobs make none of this one's
 
@@ -100,7 +82,7 @@ no_groups k j g (c ∷ cs) (x ∷ xs) other =
 other_story : (k j : ℕ) (job : Job) (a : JobAnswers) → nat_eq j k ≡ false → sift (calls k) (story j job a) ≡ []
 other_story k j job a other = two_lists (calls k) (claim_blocks j 0 a.claims) (group_blocks j 0 job.groups a.groups ++ own_removals j 0 a.removals)
     ∙ nothing (no_claims k j 0 a.claims other)
-    (two_lists (calls k) (group_blocks j 0 job.groups a.groups) (own_removals j 0 a.removals) ∙ nothing (no_groups k j 0 job.groups a.groups other) (no_removals k j 0 a.removals))
+    (two_lists (calls k) (group_blocks j 0 job.groups a.groups) (own_removals j 0 a.removals) ∙ nothing (no_groups k j 0 job.groups a.groups other) (no_removals (calls k) (λ p x t. (refl, refl)) j 0 a.removals))
 
 -- a job with commands makes one
 
@@ -147,7 +129,7 @@ empty [] e = refl
 empty (x ∷ xs) e = absurd cc
 
 idle : (k : ℕ) (a : JobAnswers) → whole_job no_job a ≡ true → sift (calls k) (story k no_job a) ≡ []
-idle k a whole = ap (λ l. sift (calls k) (claim_blocks k 0 l ++ own_removals k 0 a.removals)) (empty a.claims (and_first (none a.claims) (none a.groups) (and_first (none a.claims && none a.groups) (none a.removals) whole))) ∙ no_removals k k 0 a.removals
+idle k a whole = ap (λ l. sift (calls k) (claim_blocks k 0 l ++ own_removals k 0 a.removals)) (empty a.claims (and_first (none a.claims) (none a.groups) (and_first (none a.claims && none a.groups) (none a.removals) whole))) ∙ no_removals (calls k) (λ p x t. (refl, refl)) k 0 a.removals
 
 -- a whole run
 
@@ -157,7 +139,7 @@ links_where plan N o E w = record { where_all = λ job is busy filled. by job is
     of_link : calls_of (length plan.jobs) E ≡ sift (calls (length plan.jobs)) (story (length plan.jobs) (link_run plan.link o.jobs) o.link)
     of_link = halves (calls (length plan.jobs)) plan N o E w (length plan.jobs) (λ j job a other. other_story (length plan.jobs) j job a other)
         ∙ ap (λ l. sift (calls (length plan.jobs)) l ++ sift (calls (length plan.jobs)) (after_sources plan o)) (none_above plan N o E w (length plan.jobs) (let le : length plan.jobs ≤ length plan.jobs = omega arith in le))
-        ∙ two_lists (calls (length plan.jobs)) (story (length plan.jobs) (link_run plan.link o.jobs) o.link) (end_removals (removed_at_end plan o) o.last) ∙ only_first refl (no_last (length plan.jobs) (removed_at_end plan o) o.last)
+        ∙ two_lists (calls (length plan.jobs)) (story (length plan.jobs) (link_run plan.link o.jobs) o.link) (end_removals (removed_at_end plan o) o.last) ∙ only_first refl (no_last (calls (length plan.jobs)) (λ p x t. (refl, refl)) (removed_at_end plan o) o.last)
 
     idle_link : link_run plan.link o.jobs ≡ no_job → calls_of (length plan.jobs) E ≡ []
     idle_link is = of_link ∙ ap (λ j. sift (calls (length plan.jobs)) (story (length plan.jobs) j o.link)) is ∙ idle (length plan.jobs) o.link (subst (λ j. whole_job j o.link ≡ true) is (link_whole plan N o E w))

@@ -1,11 +1,17 @@
 use Rattle.drv_core.proofs.Order.{and_first, and_second, apart}
 use Rattle.drv_core.proofs.Status.{Below, all_below}
-use Rattle.drv_core.specs.Outcomes.{Answers, JobAnswers, link_run, removed_at_end, whole_job, whole_jobs}
-use Rattle.drv_core.specs.Story.{Block, after_sources, story}
+use Rattle.drv_core.specs.Outcomes.{Answers, File, JobAnswers, Told, link_run, removed_at_end, whole_job, whole_jobs}
+use Rattle.drv_core.specs.Story.{Block, after_sources, end_removals, event, own_removals, removal_block, removal_failed, report, story}
 use Rattle.drv_core.specs.Windowed.{SourceBlock, TellStories, Windowed, blocks_of, events_of, nowhere, of}
+use Rattle.drv_words.specs.declared.answers.Answer.TheVariants as answer
+use Rattle.drv_words.specs.declared.answers.RemoveAnswer.{RemoveAnswer}
 use Rattle.drv_words.specs.declared.plan.Job.{Job}
 use Rattle.drv_words.specs.declared.plan.Plan.{Plan}
+use Rattle.drv_words.specs.declared.steps.Note.TheVariants as note
+use Rattle.drv_words.specs.declared.steps.Place.{Place}
+use Rattle.drv_words.specs.declared.steps.Place.TheVariants as place
 use Rattle.drv_words.specs.declared.steps.RunEvent.{RunEvent}
+use Rattle.drv_words.specs.declared.steps.Step.TheVariants as step
 use Rattle.std.proofs.Common.{◌≡◌, ◌<◌, ◌≤◌, ◌+◌, ◌∙◌, ◌&&◌, Bool, false, true, List, [], ◌∷◌, ◌++◌, ap, append-nil, arith, if◌then◌else◌, length, nat_eq, refl, suc, sym, zero, ℕ}
 use Rattle.std.proofs.lemmas.Cmp.{nat_eq_equiv}
 use Rattle.std.proofs.lemmas.Grind.{flat_map-append}
@@ -29,6 +35,26 @@ parts (x ∷ xs) ys e = absurd cc
 
 pub two_lists : {X : Type 0} (f : RunEvent → List X) (xs ys : List Block) → sift f (xs ++ ys) ≡ sift f xs ++ sift f ys
 two_lists f xs ys = ap (λ E. flat_map f E) (flat_map-append (λ b. b) xs ys) ∙ flat_map-append f (events_of xs) (events_of ys)
+
+-- whether neither a removal nor the report of one says anything of it
+abbrev pub NotOfRemovals : {X : Type 0} → (RunEvent → List X) → Type 0
+NotOfRemovals f = (p : Place) (x : RemoveAnswer) (t : Bool) → (f (event (step.Remove p) (answer.Remove x)) ≡ []) × (f (report (note.NotRemoved p) t) ≡ [])
+
+no_removal : {X : Type 0} (f : RunEvent → List X) → NotOfRemovals f → (p : Place) (r : Told RemoveAnswer) → flat_map f (removal_block p r) ≡ []
+no_removal f quiet p r = nothing (quiet p r.answer r.told).0 (by (removal_failed r.answer))
+  where
+    by : (t : Bool) → flat_map f (if t then report (note.NotRemoved p) r.told ∷ [] else []) ≡ []
+    by true = nothing (quiet p r.answer r.told).1 refl
+    by false = refl
+
+pub no_removals : {X : Type 0} (f : RunEvent → List X) → NotOfRemovals f → (k i : ℕ) (rs : List (Told RemoveAnswer)) → sift f (own_removals k i rs) ≡ []
+no_removals f quiet k i [] = refl
+no_removals f quiet k i (r ∷ rs) = flat_map-append f (removal_block (place.OnFailure k i) r) (events_of (own_removals k (i + 1) rs)) ∙ nothing (no_removal f quiet (place.OnFailure k i) r) (no_removals f quiet k (i + 1) rs)
+
+pub no_last : {X : Type 0} (f : RunEvent → List X) → NotOfRemovals f → (files : List File) (rs : List (Told RemoveAnswer)) → sift f (end_removals files rs) ≡ []
+no_last f quiet [] rs = refl
+no_last f quiet (x ∷ files) [] = refl
+no_last f quiet (x ∷ files) (r ∷ rs) = flat_map-append f (removal_block x.place r) (events_of (end_removals files rs)) ∙ nothing (no_removal f quiet x.place r) (no_last f quiet files rs)
 
 -- the sources, in whatever order their blocks come
 

@@ -1,9 +1,9 @@
 use Rattle.drv_core.proofs.OneByOne.{rearranged, rearranges}
 use Rattle.drv_core.proofs.Order.{and_first, and_second, apart_above, is_less, is_not_less, of_beyond, of_by_source}
-use Rattle.drv_core.proofs.Sifted.{halves, jobs_whole, link_whole, none_above, nothing, only_first, two_lists}
+use Rattle.drv_core.proofs.Sifted.{halves, jobs_whole, link_whole, no_last, no_removals, none_above, nothing, only_first, two_lists}
 use Rattle.drv_core.proofs.Tells.{no_group}
-use Rattle.drv_core.specs.Outcomes.{Answers, File, GroupAnswers, JobAnswers, Told, all_succeeded, claims_failed, group_failed, link_run, none, removed_at_end, removed_by_job, started, started_in_group, started_in_groups, whole_claims, whole_group, whole_groups, whole_job, whole_jobs}
-use Rattle.drv_core.specs.Story.{Block, after_sources, claim_block, claim_blocks, end_removals, event, group_blocks, own_removals, removal_block, removal_failed, report, starts_block, story, wait_block, wait_blocks}
+use Rattle.drv_core.specs.Outcomes.{Answers, GroupAnswers, JobAnswers, Told, all_succeeded, claims_failed, group_failed, link_run, none, removed_at_end, removed_by_job, started, started_in_group, started_in_groups, whole_claims, whole_group, whole_groups, whole_job, whole_jobs}
+use Rattle.drv_core.specs.Story.{Block, after_sources, claim_block, claim_blocks, end_removals, event, group_blocks, own_removals, starts_block, story, wait_block, wait_blocks}
 use Rattle.drv_core.specs.Windowed.{TellStories, Windowed, by_source, events_of, of, serial}
 use Rattle.drv_core.proofs.StartedFirst.{every_one, first_ones}
 use Rattle.drv_core.specs.Started.{EachStartsFirst, StartsFirst, StartsTheSame, command_at, started_by, started_in}
@@ -11,7 +11,6 @@ use Rattle.drv_words.specs.Places.{group_at, job_at, no_job}
 use Rattle.drv_words.specs.declared.answers.Answer.TheVariants as answer
 use Rattle.drv_words.specs.declared.answers.ClaimAnswer.{ClaimAnswer}
 use Rattle.drv_words.specs.declared.answers.ClaimAnswer.TheVariants as claim
-use Rattle.drv_words.specs.declared.answers.RemoveAnswer.{RemoveAnswer}
 use Rattle.drv_words.specs.declared.answers.StartAnswer.{StartAnswer}
 use Rattle.drv_words.specs.declared.answers.StartAnswer.TheVariants.{NotStarted, Started}
 use Rattle.drv_words.specs.declared.answers.WaitAnswer.{WaitAnswer}
@@ -19,8 +18,6 @@ use Rattle.drv_words.specs.declared.answers.WaitAnswer.TheVariants.{Exit, Lost, 
 use Rattle.drv_words.specs.declared.plan.Command.{Command}
 use Rattle.drv_words.specs.declared.plan.Job.{Job}
 use Rattle.drv_words.specs.declared.plan.Plan.{Plan}
-use Rattle.drv_words.specs.declared.steps.Note.TheVariants as note
-use Rattle.drv_words.specs.declared.steps.Place.{Place}
 use Rattle.drv_words.specs.declared.steps.Place.TheVariants as place
 use Rattle.drv_words.specs.declared.steps.RunEvent.{RunEvent}
 use Rattle.drv_words.specs.declared.steps.Step.TheVariants as step
@@ -43,7 +40,7 @@ two plan k E F = flat_map-append (λ e. started_by plan k e.step e.answer) E F
 both : (plan : Plan) (k : ℕ) (xs ys : List Block) → seen plan k (xs ++ ys) ≡ seen plan k xs ++ seen plan k ys
 both plan k xs ys = two_lists (λ e. started_by plan k e.step e.answer) xs ys
 
--- claims, waits and removals start nothing
+-- claims and waits start nothing
 
 no_claim : (plan : Plan) (k j i : ℕ) (x : ClaimAnswer) (t : Bool) → started_in plan k (claim_block j i (record { answer = x; told = t })) ≡ []
 no_claim plan k j i claim.Claimed t = refl
@@ -64,22 +61,6 @@ no_waits plan k j g i [] ws = refl
 no_waits plan k j g i (NotStarted why ∷ xs) ws = refl
 no_waits plan k j g i (Started id ∷ xs) [] = refl
 no_waits plan k j g i (Started id ∷ xs) (w ∷ ws) = two plan k (wait_block j g i id w) (events_of (wait_blocks j g (i + 1) xs ws)) ∙ nothing (no_wait plan k j g i id w.answer w.told) (no_waits plan k j g (i + 1) xs ws)
-
-no_removal : (plan : Plan) (k : ℕ) (p : Place) (x : RemoveAnswer) (t : Bool) → started_in plan k (removal_block p (record { answer = x; told = t })) ≡ []
-no_removal plan k p x t = by (removal_failed x)
-  where
-    by : (u : Bool) → started_in plan k (if u then report (note.NotRemoved p) t ∷ [] else []) ≡ []
-    by true = refl
-    by false = refl
-
-no_removals : (plan : Plan) (k j i : ℕ) (rs : List (Told RemoveAnswer)) → seen plan k (own_removals j i rs) ≡ []
-no_removals plan k j i [] = refl
-no_removals plan k j i (r ∷ rs) = two plan k (removal_block (place.OnFailure j i) r) (events_of (own_removals j (i + 1) rs)) ∙ nothing (no_removal plan k (place.OnFailure j i) r.answer r.told) (no_removals plan k j (i + 1) rs)
-
-no_last : (plan : Plan) (k : ℕ) (files : List File) (rs : List (Told RemoveAnswer)) → seen plan k (end_removals files rs) ≡ []
-no_last plan k [] rs = refl
-no_last plan k (f ∷ files) [] = refl
-no_last plan k (f ∷ files) (r ∷ rs) = two plan k (removal_block f.place r) (events_of (end_removals files rs)) ∙ nothing (no_removal plan k f.place r.answer r.told) (no_last plan k files rs)
 
 -- the starts of a group
 
@@ -150,7 +131,7 @@ in_story : (plan : Plan) (k j : ℕ) (job : Job) (a : JobAnswers) → seen plan 
 in_story plan k j job a = both plan k (claim_blocks j 0 a.claims) (group_blocks j 0 job.groups a.groups ++ own_removals j 0 a.removals)
     ∙ ap (λ l. l ++ seen plan k (group_blocks j 0 job.groups a.groups ++ own_removals j 0 a.removals)) (no_claims plan k j 0 a.claims)
     ∙ both plan k (group_blocks j 0 job.groups a.groups) (own_removals j 0 a.removals)
-    ∙ only_first refl (no_removals plan k j 0 a.removals)
+    ∙ only_first refl (no_removals (λ e. started_by plan k e.step e.answer) (λ p x t. (refl, refl)) j 0 a.removals)
 
 other_story : (plan : Plan) (k j : ℕ) (job : Job) (a : JobAnswers) → nat_eq j k ≡ false → seen plan k (story j job a) ≡ []
 other_story plan k j job a other = in_story plan k j job a ∙ no_groups plan k j 0 job.groups a.groups other
@@ -209,7 +190,7 @@ started_first plan N o E w = each 0 plan.jobs o.jobs (jobs_whole plan N o E w) w
     (λ h lt. ap (λ i. job_at plan i) (let is : 0 + h ≡ h = omega arith in is) ∙ get_or-append plan.jobs (option_to_list plan.link) no_job h lt)
   where
     ends : (k : ℕ) → seen plan k (after_sources plan o) ≡ seen plan k (story (length plan.jobs) (link_run plan.link o.jobs) o.link)
-    ends k = both plan k (story (length plan.jobs) (link_run plan.link o.jobs) o.link) (end_removals (removed_at_end plan o) o.last) ∙ only_first refl (no_last plan k (removed_at_end plan o) o.last)
+    ends k = both plan k (story (length plan.jobs) (link_run plan.link o.jobs) o.link) (end_removals (removed_at_end plan o) o.last) ∙ only_first refl (no_last (λ e. started_by plan k e.step e.answer) (λ p x t. (refl, refl)) (removed_at_end plan o) o.last)
 
     first : (k : ℕ) (job : Job) (a : JobAnswers) → whole_job job a ≡ true → started_in plan k E ≡ started job a → StartsFirst plan E k job a
     first k job a whole is = record { by_rule = is; rest = (first_ones job a whole).0; first = (first_ones job a whole).1 ∙ ap (λ l. l ++ (first_ones job a whole).0) (sym is); every = λ well. is ∙ every_one job a whole well }

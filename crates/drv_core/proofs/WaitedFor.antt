@@ -1,14 +1,13 @@
 use Rattle.drv_core.proofs.Order.{and_first, and_second, apart_above, is_less, is_not_less, same}
-use Rattle.drv_core.proofs.Sifted.{halves, jobs_whole, link_whole, none_above, nothing, only_first, two_lists}
+use Rattle.drv_core.proofs.Sifted.{halves, jobs_whole, link_whole, no_last, no_removals, none_above, nothing, only_first, two_lists}
 use Rattle.drv_core.proofs.Tells.{no_group}
-use Rattle.drv_core.specs.Outcomes.{Answers, File, GroupAnswers, JobAnswers, Told, claims_failed, group_failed, link_run, none, removed_at_end, removed_by_job, whole_claims, whole_group, whole_groups, whole_job, whole_jobs}
-use Rattle.drv_core.specs.Story.{Block, after_sources, claim_block, claim_blocks, end_removals, event, group_blocks, own_removals, removal_block, removal_failed, report, starts_block, story, wait_block, wait_blocks}
+use Rattle.drv_core.specs.Outcomes.{Answers, GroupAnswers, JobAnswers, Told, claims_failed, group_failed, link_run, none, removed_at_end, removed_by_job, whole_claims, whole_group, whole_groups, whole_job, whole_jobs}
+use Rattle.drv_core.specs.Story.{Block, after_sources, claim_block, claim_blocks, end_removals, event, group_blocks, own_removals, starts_block, story, wait_block, wait_blocks}
 use Rattle.drv_core.specs.Waited.{Act, Ascends, Awaits, Begins, Child, Waited, WaitsForEach, acts_in, acts_of, awaits, begins, child_at, over}
 use Rattle.drv_core.specs.Windowed.{SourceBlock, TellStories, Windowed, events_of, of}
 use Rattle.drv_words.specs.declared.answers.Answer.TheVariants as answer
 use Rattle.drv_words.specs.declared.answers.ClaimAnswer.{ClaimAnswer}
 use Rattle.drv_words.specs.declared.answers.ClaimAnswer.TheVariants as claim
-use Rattle.drv_words.specs.declared.answers.RemoveAnswer.{RemoveAnswer}
 use Rattle.drv_words.specs.declared.answers.StartAnswer.{StartAnswer}
 use Rattle.drv_words.specs.declared.answers.StartAnswer.TheVariants.{NotStarted, Started}
 use Rattle.drv_words.specs.declared.answers.WaitAnswer.{WaitAnswer}
@@ -16,8 +15,6 @@ use Rattle.drv_words.specs.declared.answers.WaitAnswer.TheVariants.{Exit, Lost, 
 use Rattle.drv_words.specs.declared.plan.Command.{Command}
 use Rattle.drv_words.specs.declared.plan.Job.{Job}
 use Rattle.drv_words.specs.declared.plan.Plan.{Plan}
-use Rattle.drv_words.specs.declared.steps.Note.TheVariants as note
-use Rattle.drv_words.specs.declared.steps.Place.{Place}
 use Rattle.drv_words.specs.declared.steps.Place.TheVariants as place
 use Rattle.drv_words.specs.declared.steps.RunEvent.{RunEvent}
 use Rattle.drv_words.specs.declared.steps.Step.TheVariants as step
@@ -36,7 +33,7 @@ two k E F = flat_map-append (λ e. acts_of k e.step e.answer) E F
 both : (k : ℕ) (xs ys : List Block) → seen k (xs ++ ys) ≡ seen k xs ++ seen k ys
 both k xs ys = two_lists (λ e. acts_of k e.step e.answer) xs ys
 
--- claims and removals do nothing to children
+-- claims do nothing to children
 
 no_claim : (k j i : ℕ) (x : ClaimAnswer) (t : Bool) → acts_in k (claim_block j i (record { answer = x; told = t })) ≡ []
 no_claim k j i claim.Claimed t = refl
@@ -46,22 +43,6 @@ no_claim k j i claim.Failed t = refl
 no_claims : (k j i : ℕ) (cs : List (Told ClaimAnswer)) → seen k (claim_blocks j i cs) ≡ []
 no_claims k j i [] = refl
 no_claims k j i (c ∷ cs) = two k (claim_block j i c) (events_of (claim_blocks j (i + 1) cs)) ∙ nothing (no_claim k j i c.answer c.told) (no_claims k j (i + 1) cs)
-
-no_removal : (k : ℕ) (p : Place) (x : RemoveAnswer) (t : Bool) → acts_in k (removal_block p (record { answer = x; told = t })) ≡ []
-no_removal k p x t = by (removal_failed x)
-  where
-    by : (u : Bool) → acts_in k (if u then report (note.NotRemoved p) t ∷ [] else []) ≡ []
-    by true = refl
-    by false = refl
-
-no_removals : (k j i : ℕ) (rs : List (Told RemoveAnswer)) → seen k (own_removals j i rs) ≡ []
-no_removals k j i [] = refl
-no_removals k j i (r ∷ rs) = two k (removal_block (place.OnFailure j i) r) (events_of (own_removals j (i + 1) rs)) ∙ nothing (no_removal k (place.OnFailure j i) r.answer r.told) (no_removals k j (i + 1) rs)
-
-no_last : (k : ℕ) (files : List File) (rs : List (Told RemoveAnswer)) → seen k (end_removals files rs) ≡ []
-no_last k [] rs = refl
-no_last k (f ∷ files) [] = refl
-no_last k (f ∷ files) (r ∷ rs) = two k (removal_block f.place r) (events_of (end_removals files rs)) ∙ nothing (no_removal k f.place r.answer r.told) (no_last k files rs)
 
 -- the children of a group, from member i on
 
@@ -183,7 +164,7 @@ in_story : (k j : ℕ) (job : Job) (a : JobAnswers) → seen k (story j job a) �
 in_story k j job a = both k (claim_blocks j 0 a.claims) (group_blocks j 0 job.groups a.groups ++ own_removals j 0 a.removals)
     ∙ ap (λ l. l ++ seen k (group_blocks j 0 job.groups a.groups ++ own_removals j 0 a.removals)) (no_claims k j 0 a.claims)
     ∙ both k (group_blocks j 0 job.groups a.groups) (own_removals j 0 a.removals)
-    ∙ only_first refl (no_removals k j 0 a.removals)
+    ∙ only_first refl (no_removals (λ e. acts_of k e.step e.answer) (λ p x t. (refl, refl)) j 0 a.removals)
 
 other_story : (k j : ℕ) (job : Job) (a : JobAnswers) → nat_eq j k ≡ false → seen k (story j job a) ≡ []
 other_story k j job a other = in_story k j job a ∙ no_groups k j 0 job.groups a.groups other
@@ -222,7 +203,7 @@ pub waits_for_each : (plan : Plan) (N : ℕ) (o : Answers) (E : List RunEvent) �
 waits_for_each plan N o E w k = done (by (nat_lt k (length plan.jobs)) refl)
   where
     after : seen k (after_sources plan o) ≡ seen k (story (length plan.jobs) (link_run plan.link o.jobs) o.link)
-    after = both k (story (length plan.jobs) (link_run plan.link o.jobs) o.link) (end_removals (removed_at_end plan o) o.last) ∙ only_first refl (no_last k (removed_at_end plan o) o.last)
+    after = both k (story (length plan.jobs) (link_run plan.link o.jobs) o.link) (end_removals (removed_at_end plan o) o.last) ∙ only_first refl (no_last (λ e. acts_of k e.step e.answer) (λ p x t. (refl, refl)) (removed_at_end plan o) o.last)
 
     whole : acts_in k E ≡ seen k (of k w.blocks) ++ seen k (story (length plan.jobs) (link_run plan.link o.jobs) o.link)
     whole = halves (λ e. acts_of k e.step e.answer) plan N o E w k (λ j job a other. other_story k j job a other) ∙ ap (λ l. seen k (of k w.blocks) ++ l) after
