@@ -1,14 +1,13 @@
 use Rattle.drv_core.proofs.Order.{and_first, and_second}
-use Rattle.drv_core.proofs.Sifted.{halves, link_whole, no_last, no_removals, none_above, nothing, only_first, sift, two_lists}
+use Rattle.drv_core.proofs.Sifted.{halves, link_whole, no_claims, no_last, no_removals, no_waits, none_above, nothing, only_first, sift, two_lists}
 use Rattle.drv_core.specs.Filled.{Filled}
 use Rattle.drv_core.specs.Links.{LinksWhere, at_job, call_of, calls_of}
 use Rattle.drv_core.specs.Outcomes.{Answers, GroupAnswers, JobAnswers, Told, all_succeeded, claims_failed, group_failed, is_claimed, link_run, none, removed_at_end, removed_by_job, whole_claims, whole_group, whole_groups, whole_job}
-use Rattle.drv_core.specs.Story.{Block, after_sources, claim_block, claim_blocks, end_removals, event, group_blocks, own_removals, starts_block, story, wait_block, wait_blocks}
+use Rattle.drv_core.specs.Story.{Block, after_sources, claim_blocks, end_removals, event, group_blocks, own_removals, starts_block, story, wait_block, wait_blocks}
 use Rattle.drv_core.specs.Windowed.{Windowed, events_of}
 use Rattle.drv_words.specs.Places.{no_job}
 use Rattle.drv_words.specs.declared.answers.Answer.TheVariants as answer
 use Rattle.drv_words.specs.declared.answers.ClaimAnswer.{ClaimAnswer}
-use Rattle.drv_words.specs.declared.answers.ClaimAnswer.TheVariants as claim
 use Rattle.drv_words.specs.declared.answers.StartAnswer.{StartAnswer}
 use Rattle.drv_words.specs.declared.answers.StartAnswer.TheVariants.{NotStarted, Started}
 use Rattle.drv_words.specs.declared.answers.WaitAnswer.{WaitAnswer}
@@ -41,26 +40,11 @@ no_wait k j g i id (Exit n) t = refl
 no_wait k j g i id Signal t = refl
 no_wait k j g i id Lost t = refl
 
-no_waits : (k j g i : ℕ) (xs : List StartAnswer) (ws : List (Told WaitAnswer)) → sift (calls k) (wait_blocks j g i xs ws) ≡ []
-no_waits k j g i [] ws = refl
-no_waits k j g i (NotStarted why ∷ xs) ws = refl
-no_waits k j g i (Started id ∷ xs) [] = refl
-no_waits k j g i (Started id ∷ xs) (w ∷ ws) = two k (wait_block j g i id w) (events_of (wait_blocks j g (i + 1) xs ws)) ∙ nothing (no_wait k j g i id w.answer w.told) (no_waits k j g (i + 1) xs ws)
-
 -- other jobs make none of this one's
 
 off : {X : Type 0} (t : Bool) (x : X) → t ≡ false → (if t then x ∷ [] else []) ≡ []
 off true x e = absurd cc
 off false x e = refl
-
-no_claim : (k j i : ℕ) (x : ClaimAnswer) (t : Bool) → nat_eq j k ≡ false → calls_of k (claim_block j i (record { answer = x; told = t })) ≡ []
-no_claim k j i claim.Claimed t other = nothing (off (nat_eq j k) (step.Claim (place.Temp j i)) other) refl
-no_claim k j i claim.Taken t other = nothing (off (nat_eq j k) (step.Claim (place.Temp j i)) other) refl
-no_claim k j i claim.Failed t other = nothing (off (nat_eq j k) (step.Claim (place.Temp j i)) other) refl
-
-no_claims : (k j i : ℕ) (cs : List (Told ClaimAnswer)) → nat_eq j k ≡ false → sift (calls k) (claim_blocks j i cs) ≡ []
-no_claims k j i [] other = refl
-no_claims k j i (c ∷ cs) other = two k (claim_block j i c) (events_of (claim_blocks j (i + 1) cs)) ∙ nothing (no_claim k j i c.answer c.told other) (no_claims k j (i + 1) cs other)
 
 no_close : (k : ℕ) (t : Bool) → calls_of k (if t then event step.ClosePipe answer.Closed ∷ [] else []) ≡ []
 no_close k true = refl
@@ -76,12 +60,12 @@ no_groups k j g [] xs other = refl
 no_groups k j g (c ∷ cs) [] other = refl
 no_groups k j g (c ∷ cs) (x ∷ xs) other =
     two_lists (calls k) (starts_block j g (length c) 0 x.refused x.starts ∷ wait_blocks j g 0 x.starts x.waits) (group_blocks j (g + 1) cs xs)
-    ∙ nothing (two k (starts_block j g (length c) 0 x.refused x.starts) (events_of (wait_blocks j g 0 x.starts x.waits)) ∙ nothing (no_starts k j g (length c) 0 x.refused x.starts other) (no_waits k j g 0 x.starts x.waits))
+    ∙ nothing (two k (starts_block j g (length c) 0 x.refused x.starts) (events_of (wait_blocks j g 0 x.starts x.waits)) ∙ nothing (no_starts k j g (length c) 0 x.refused x.starts other) (no_waits (calls k) j g (λ i id w t. no_wait k j g i id w t) 0 x.starts x.waits))
     (no_groups k j (g + 1) cs xs other)
 
 other_story : (k j : ℕ) (job : Job) (a : JobAnswers) → nat_eq j k ≡ false → sift (calls k) (story j job a) ≡ []
 other_story k j job a other = two_lists (calls k) (claim_blocks j 0 a.claims) (group_blocks j 0 job.groups a.groups ++ own_removals j 0 a.removals)
-    ∙ nothing (no_claims k j 0 a.claims other)
+    ∙ nothing (no_claims (calls k) j (λ i x t. (off (nat_eq j k) (step.Claim (place.Temp j i)) other, refl)) 0 a.claims)
     (two_lists (calls k) (group_blocks j 0 job.groups a.groups) (own_removals j 0 a.removals) ∙ nothing (no_groups k j 0 job.groups a.groups other) (no_removals (calls k) (λ p x t. (refl, refl)) j 0 a.removals))
 
 -- a job with commands makes one

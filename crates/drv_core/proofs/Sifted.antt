@@ -1,10 +1,14 @@
 use Rattle.drv_core.proofs.Order.{and_first, and_second, apart}
 use Rattle.drv_core.proofs.Status.{Below, all_below}
-use Rattle.drv_core.specs.Outcomes.{Answers, File, JobAnswers, Told, link_run, removed_at_end, whole_job, whole_jobs}
-use Rattle.drv_core.specs.Story.{Block, after_sources, end_removals, event, own_removals, removal_block, removal_failed, report, story}
+use Rattle.drv_core.specs.Outcomes.{Answers, File, JobAnswers, Told, is_claimed, link_run, removed_at_end, whole_job, whole_jobs}
+use Rattle.drv_core.specs.Story.{Block, after_sources, claim_block, claim_blocks, end_removals, event, own_removals, removal_block, removal_failed, report, story, wait_block, wait_blocks}
 use Rattle.drv_core.specs.Windowed.{SourceBlock, TellStories, Windowed, blocks_of, events_of, nowhere, of}
 use Rattle.drv_words.specs.declared.answers.Answer.TheVariants as answer
+use Rattle.drv_words.specs.declared.answers.ClaimAnswer.{ClaimAnswer}
 use Rattle.drv_words.specs.declared.answers.RemoveAnswer.{RemoveAnswer}
+use Rattle.drv_words.specs.declared.answers.StartAnswer.{StartAnswer}
+use Rattle.drv_words.specs.declared.answers.StartAnswer.TheVariants.{NotStarted, Started}
+use Rattle.drv_words.specs.declared.answers.WaitAnswer.{WaitAnswer}
 use Rattle.drv_words.specs.declared.plan.Job.{Job}
 use Rattle.drv_words.specs.declared.plan.Plan.{Plan}
 use Rattle.drv_words.specs.declared.steps.Note.TheVariants as note
@@ -55,6 +59,24 @@ pub no_last : {X : Type 0} (f : RunEvent → List X) → NotOfRemovals f → (fi
 no_last f quiet [] rs = refl
 no_last f quiet (x ∷ files) [] = refl
 no_last f quiet (x ∷ files) (r ∷ rs) = flat_map-append f (removal_block x.place r) (events_of (end_removals files rs)) ∙ nothing (no_removal f quiet x.place r) (no_last f quiet files rs)
+
+-- whether neither a claim of the job nor the report of one says anything of it
+abbrev pub NotOfClaims : {X : Type 0} → (RunEvent → List X) → ℕ → Type 0
+NotOfClaims f k = (i : ℕ) (x : ClaimAnswer) (t : Bool) → (f (event (step.Claim (place.Temp k i)) (answer.Claim x)) ≡ []) × (f (report (note.NotClaimed (place.Temp k i)) t) ≡ [])
+
+pub no_claims : {X : Type 0} (f : RunEvent → List X) (k : ℕ) → NotOfClaims f k → (i : ℕ) (cs : List (Told ClaimAnswer)) → sift f (claim_blocks k i cs) ≡ []
+no_claims f k quiet i [] = refl
+no_claims f k quiet i (c ∷ cs) = flat_map-append f (claim_block k i c) (events_of (claim_blocks k (i + 1) cs)) ∙ nothing (nothing (quiet i c.answer c.told).0 (by (is_claimed c.answer))) (no_claims f k quiet (i + 1) cs)
+  where
+    by : (t : Bool) → flat_map f (if t then [] else report (note.NotClaimed (place.Temp k i)) c.told ∷ []) ≡ []
+    by true = refl
+    by false = nothing (quiet i c.answer c.told).1 refl
+
+pub no_waits : {X : Type 0} (f : RunEvent → List X) (k g : ℕ) → ((i id : ℕ) (x : WaitAnswer) (t : Bool) → flat_map f (wait_block k g i id (record { answer = x; told = t })) ≡ []) → (i : ℕ) (xs : List StartAnswer) (ws : List (Told WaitAnswer)) → sift f (wait_blocks k g i xs ws) ≡ []
+no_waits f k g quiet i [] ws = refl
+no_waits f k g quiet i (NotStarted why ∷ xs) ws = refl
+no_waits f k g quiet i (Started id ∷ xs) [] = refl
+no_waits f k g quiet i (Started id ∷ xs) (w ∷ ws) = flat_map-append f (wait_block k g i id w) (events_of (wait_blocks k g (i + 1) xs ws)) ∙ nothing (quiet i id w.answer w.told) (no_waits f k g quiet (i + 1) xs ws)
 
 -- the sources, in whatever order their blocks come
 

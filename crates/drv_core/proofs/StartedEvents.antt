@@ -1,16 +1,14 @@
 use Rattle.drv_core.proofs.OneByOne.{rearranged, rearranges}
 use Rattle.drv_core.proofs.Order.{and_first, and_second, apart_above, is_less, is_not_less, of_beyond, of_by_source}
-use Rattle.drv_core.proofs.Sifted.{halves, jobs_whole, link_whole, no_last, no_removals, none_above, nothing, only_first, two_lists}
+use Rattle.drv_core.proofs.Sifted.{halves, jobs_whole, link_whole, no_claims, no_last, no_removals, no_waits, none_above, nothing, only_first, two_lists}
 use Rattle.drv_core.proofs.Tells.{no_group}
-use Rattle.drv_core.specs.Outcomes.{Answers, GroupAnswers, JobAnswers, Told, all_succeeded, claims_failed, group_failed, link_run, none, removed_at_end, removed_by_job, started, started_in_group, started_in_groups, whole_claims, whole_group, whole_groups, whole_job, whole_jobs}
-use Rattle.drv_core.specs.Story.{Block, after_sources, claim_block, claim_blocks, end_removals, event, group_blocks, own_removals, starts_block, story, wait_block, wait_blocks}
+use Rattle.drv_core.specs.Outcomes.{Answers, GroupAnswers, JobAnswers, all_succeeded, claims_failed, group_failed, link_run, none, removed_at_end, removed_by_job, started, started_in_group, started_in_groups, whole_claims, whole_group, whole_groups, whole_job, whole_jobs}
+use Rattle.drv_core.specs.Story.{Block, after_sources, claim_blocks, end_removals, event, group_blocks, own_removals, starts_block, story, wait_block, wait_blocks}
 use Rattle.drv_core.specs.Windowed.{TellStories, Windowed, by_source, events_of, of, serial}
 use Rattle.drv_core.proofs.StartedFirst.{every_one, first_ones}
 use Rattle.drv_core.specs.Started.{EachStartsFirst, StartsFirst, StartsTheSame, command_at, started_by, started_in}
 use Rattle.drv_words.specs.Places.{group_at, job_at, no_job}
 use Rattle.drv_words.specs.declared.answers.Answer.TheVariants as answer
-use Rattle.drv_words.specs.declared.answers.ClaimAnswer.{ClaimAnswer}
-use Rattle.drv_words.specs.declared.answers.ClaimAnswer.TheVariants as claim
 use Rattle.drv_words.specs.declared.answers.StartAnswer.{StartAnswer}
 use Rattle.drv_words.specs.declared.answers.StartAnswer.TheVariants.{NotStarted, Started}
 use Rattle.drv_words.specs.declared.answers.WaitAnswer.{WaitAnswer}
@@ -40,27 +38,12 @@ two plan k E F = flat_map-append (λ e. started_by plan k e.step e.answer) E F
 both : (plan : Plan) (k : ℕ) (xs ys : List Block) → seen plan k (xs ++ ys) ≡ seen plan k xs ++ seen plan k ys
 both plan k xs ys = two_lists (λ e. started_by plan k e.step e.answer) xs ys
 
--- claims and waits start nothing
-
-no_claim : (plan : Plan) (k j i : ℕ) (x : ClaimAnswer) (t : Bool) → started_in plan k (claim_block j i (record { answer = x; told = t })) ≡ []
-no_claim plan k j i claim.Claimed t = refl
-no_claim plan k j i claim.Taken t = refl
-no_claim plan k j i claim.Failed t = refl
-
-no_claims : (plan : Plan) (k j i : ℕ) (cs : List (Told ClaimAnswer)) → seen plan k (claim_blocks j i cs) ≡ []
-no_claims plan k j i [] = refl
-no_claims plan k j i (c ∷ cs) = two plan k (claim_block j i c) (events_of (claim_blocks j (i + 1) cs)) ∙ nothing (no_claim plan k j i c.answer c.told) (no_claims plan k j (i + 1) cs)
+-- waits start nothing
 
 no_wait : (plan : Plan) (k j g i id : ℕ) (x : WaitAnswer) (t : Bool) → started_in plan k (wait_block j g i id (record { answer = x; told = t })) ≡ []
 no_wait plan k j g i id (Exit n) t = refl
 no_wait plan k j g i id Signal t = refl
 no_wait plan k j g i id Lost t = refl
-
-no_waits : (plan : Plan) (k j g i : ℕ) (xs : List StartAnswer) (ws : List (Told WaitAnswer)) → seen plan k (wait_blocks j g i xs ws) ≡ []
-no_waits plan k j g i [] ws = refl
-no_waits plan k j g i (NotStarted why ∷ xs) ws = refl
-no_waits plan k j g i (Started id ∷ xs) [] = refl
-no_waits plan k j g i (Started id ∷ xs) (w ∷ ws) = two plan k (wait_block j g i id w) (events_of (wait_blocks j g (i + 1) xs ws)) ∙ nothing (no_wait plan k j g i id w.answer w.told) (no_waits plan k j g (i + 1) xs ws)
 
 -- the starts of a group
 
@@ -104,7 +87,7 @@ groups plan k g (c ∷ cs) [] at e = refl
 groups plan k g (c ∷ cs) (x ∷ xs) at e =
     both plan k (starts_block k g (length c) 0 x.refused x.starts ∷ wait_blocks k g 0 x.starts x.waits) (group_blocks k (g + 1) cs xs)
     ∙ ap (λ l. l ++ seen plan k (group_blocks k (g + 1) cs xs)) (two plan k (starts_block k g (length c) 0 x.refused x.starts) (events_of (wait_blocks k g 0 x.starts x.waits))
-    ∙ only_first (starts plan k g (length c) 0 x.refused c x.starts (λ h. ap (λ m. slice_get (group_at (job_at plan k) g) m) (let is : 0 + h ≡ h = omega arith in is) ∙ ap (λ l. slice_get l h) here)) (no_waits plan k k g 0 x.starts x.waits))
+    ∙ only_first (starts plan k g (length c) 0 x.refused c x.starts (λ h. ap (λ m. slice_get (group_at (job_at plan k) g) m) (let is : 0 + h ≡ h = omega arith in is) ∙ ap (λ l. slice_get l h) here)) (no_waits (λ e. started_by plan k e.step e.answer) k g (λ i id w t. no_wait plan k k g i id w t) 0 x.starts x.waits))
     ∙ ap (λ l. started_in_group c x.starts ++ l) (rest (group_failed x) xs (and_second (whole_group c x.starts x.waits) (if group_failed x then none xs else whole_groups cs xs) e)
     (λ w. groups plan k (g + 1) cs xs (λ h. ap (λ m. group_at (job_at plan k) m) (let is : g + 1 + h ≡ g + suc h = omega arith in is) ∙ at (suc h)) w))
   where
@@ -122,14 +105,14 @@ no_groups plan k j g [] xs other = refl
 no_groups plan k j g (c ∷ cs) [] other = refl
 no_groups plan k j g (c ∷ cs) (x ∷ xs) other =
     both plan k (starts_block j g (length c) 0 x.refused x.starts ∷ wait_blocks j g 0 x.starts x.waits) (group_blocks j (g + 1) cs xs)
-    ∙ nothing (two plan k (starts_block j g (length c) 0 x.refused x.starts) (events_of (wait_blocks j g 0 x.starts x.waits)) ∙ nothing (no_starts plan k j g (length c) 0 x.refused x.starts other) (no_waits plan k j g 0 x.starts x.waits))
+    ∙ nothing (two plan k (starts_block j g (length c) 0 x.refused x.starts) (events_of (wait_blocks j g 0 x.starts x.waits)) ∙ nothing (no_starts plan k j g (length c) 0 x.refused x.starts other) (no_waits (λ e. started_by plan k e.step e.answer) j g (λ i id w t. no_wait plan k j g i id w t) 0 x.starts x.waits))
     (no_groups plan k j (g + 1) cs xs other)
 
 -- the story of a job
 
 in_story : (plan : Plan) (k j : ℕ) (job : Job) (a : JobAnswers) → seen plan k (story j job a) ≡ seen plan k (group_blocks j 0 job.groups a.groups)
 in_story plan k j job a = both plan k (claim_blocks j 0 a.claims) (group_blocks j 0 job.groups a.groups ++ own_removals j 0 a.removals)
-    ∙ ap (λ l. l ++ seen plan k (group_blocks j 0 job.groups a.groups ++ own_removals j 0 a.removals)) (no_claims plan k j 0 a.claims)
+    ∙ ap (λ l. l ++ seen plan k (group_blocks j 0 job.groups a.groups ++ own_removals j 0 a.removals)) (no_claims (λ e. started_by plan k e.step e.answer) j (λ i x t. (refl, refl)) 0 a.claims)
     ∙ both plan k (group_blocks j 0 job.groups a.groups) (own_removals j 0 a.removals)
     ∙ only_first refl (no_removals (λ e. started_by plan k e.step e.answer) (λ p x t. (refl, refl)) j 0 a.removals)
 

@@ -1,13 +1,11 @@
 use Rattle.drv_core.proofs.Order.{and_first, and_second, apart_above, is_less, is_not_less, same}
-use Rattle.drv_core.proofs.Sifted.{halves, jobs_whole, link_whole, no_last, no_removals, none_above, nothing, only_first, two_lists}
+use Rattle.drv_core.proofs.Sifted.{halves, jobs_whole, link_whole, no_claims, no_last, no_removals, no_waits, none_above, nothing, only_first, two_lists}
 use Rattle.drv_core.proofs.Tells.{no_group}
 use Rattle.drv_core.specs.Outcomes.{Answers, GroupAnswers, JobAnswers, Told, claims_failed, group_failed, link_run, none, removed_at_end, removed_by_job, whole_claims, whole_group, whole_groups, whole_job, whole_jobs}
-use Rattle.drv_core.specs.Story.{Block, after_sources, claim_block, claim_blocks, end_removals, event, group_blocks, own_removals, starts_block, story, wait_block, wait_blocks}
+use Rattle.drv_core.specs.Story.{Block, after_sources, claim_blocks, end_removals, event, group_blocks, own_removals, starts_block, story, wait_block, wait_blocks}
 use Rattle.drv_core.specs.Waited.{Act, Ascends, Awaits, Begins, Child, Waited, WaitsForEach, acts_in, acts_of, awaits, begins, child_at, over}
 use Rattle.drv_core.specs.Windowed.{SourceBlock, TellStories, Windowed, events_of, of}
 use Rattle.drv_words.specs.declared.answers.Answer.TheVariants as answer
-use Rattle.drv_words.specs.declared.answers.ClaimAnswer.{ClaimAnswer}
-use Rattle.drv_words.specs.declared.answers.ClaimAnswer.TheVariants as claim
 use Rattle.drv_words.specs.declared.answers.StartAnswer.{StartAnswer}
 use Rattle.drv_words.specs.declared.answers.StartAnswer.TheVariants.{NotStarted, Started}
 use Rattle.drv_words.specs.declared.answers.WaitAnswer.{WaitAnswer}
@@ -32,17 +30,6 @@ two k E F = flat_map-append (λ e. acts_of k e.step e.answer) E F
 
 both : (k : ℕ) (xs ys : List Block) → seen k (xs ++ ys) ≡ seen k xs ++ seen k ys
 both k xs ys = two_lists (λ e. acts_of k e.step e.answer) xs ys
-
--- claims do nothing to children
-
-no_claim : (k j i : ℕ) (x : ClaimAnswer) (t : Bool) → acts_in k (claim_block j i (record { answer = x; told = t })) ≡ []
-no_claim k j i claim.Claimed t = refl
-no_claim k j i claim.Taken t = refl
-no_claim k j i claim.Failed t = refl
-
-no_claims : (k j i : ℕ) (cs : List (Told ClaimAnswer)) → seen k (claim_blocks j i cs) ≡ []
-no_claims k j i [] = refl
-no_claims k j i (c ∷ cs) = two k (claim_block j i c) (events_of (claim_blocks j (i + 1) cs)) ∙ nothing (no_claim k j i c.answer c.told) (no_claims k j (i + 1) cs)
 
 -- the children of a group, from member i on
 
@@ -82,12 +69,8 @@ waits k g i (c ∷ cs) (Started id ∷ xs) (w ∷ ws) e = two k (wait_block k g 
     ∙ ap (λ l. l ++ seen k (wait_blocks k g (i + 1) xs ws)) (a_wait k k g i id w.answer w.told ∙ ap (λ (t : Bool). if t then Awaits (record { group = g; member = i; id = id }) ∷ [] else []) (nat_eq_equiv.refl k))
     ∙ ap (λ l. Awaits (record { group = g; member = i; id = id }) ∷ l) (waits k g (i + 1) cs xs ws e)
 
-no_waits : (k j g i : ℕ) (xs : List StartAnswer) (ws : List (Told WaitAnswer)) → nat_eq j k ≡ false → seen k (wait_blocks j g i xs ws) ≡ []
-no_waits k j g i [] ws other = refl
-no_waits k j g i (NotStarted why ∷ xs) ws other = refl
-no_waits k j g i (Started id ∷ xs) [] other = refl
-no_waits k j g i (Started id ∷ xs) (w ∷ ws) other = two k (wait_block j g i id w) (events_of (wait_blocks j g (i + 1) xs ws))
-    ∙ nothing (a_wait k j g i id w.answer w.told ∙ ap (λ (t : Bool). if t then Awaits (record { group = g; member = i; id = id }) ∷ [] else []) other) (no_waits k j g (i + 1) xs ws other)
+no_wait : (k j g i id : ℕ) (x : WaitAnswer) (t : Bool) → nat_eq j k ≡ false → acts_in k (wait_block j g i id (record { answer = x; told = t })) ≡ []
+no_wait k j g i id x t other = a_wait k j g i id x t ∙ ap (λ (u : Bool). if u then Awaits (record { group = g; member = i; id = id }) ∷ [] else []) other
 
 -- all of a group are started, and then waited for in that order
 
@@ -155,14 +138,14 @@ no_groups k j g [] xs other = refl
 no_groups k j g (c ∷ cs) [] other = refl
 no_groups k j g (c ∷ cs) (x ∷ xs) other =
     both k (starts_block j g (length c) 0 x.refused x.starts ∷ wait_blocks j g 0 x.starts x.waits) (group_blocks j (g + 1) cs xs)
-    ∙ nothing (two k (starts_block j g (length c) 0 x.refused x.starts) (events_of (wait_blocks j g 0 x.starts x.waits)) ∙ nothing (no_starts k j g (length c) 0 x.refused x.starts other) (no_waits k j g 0 x.starts x.waits other))
+    ∙ nothing (two k (starts_block j g (length c) 0 x.refused x.starts) (events_of (wait_blocks j g 0 x.starts x.waits)) ∙ nothing (no_starts k j g (length c) 0 x.refused x.starts other) (no_waits (λ e. acts_of k e.step e.answer) j g (λ i id w t. no_wait k j g i id w t other) 0 x.starts x.waits))
     (no_groups k j (g + 1) cs xs other)
 
 -- the story of a job
 
 in_story : (k j : ℕ) (job : Job) (a : JobAnswers) → seen k (story j job a) ≡ seen k (group_blocks j 0 job.groups a.groups)
 in_story k j job a = both k (claim_blocks j 0 a.claims) (group_blocks j 0 job.groups a.groups ++ own_removals j 0 a.removals)
-    ∙ ap (λ l. l ++ seen k (group_blocks j 0 job.groups a.groups ++ own_removals j 0 a.removals)) (no_claims k j 0 a.claims)
+    ∙ ap (λ l. l ++ seen k (group_blocks j 0 job.groups a.groups ++ own_removals j 0 a.removals)) (no_claims (λ e. acts_of k e.step e.answer) j (λ i x t. (refl, refl)) 0 a.claims)
     ∙ both k (group_blocks j 0 job.groups a.groups) (own_removals j 0 a.removals)
     ∙ only_first refl (no_removals (λ e. acts_of k e.step e.answer) (λ p x t. (refl, refl)) j 0 a.removals)
 
