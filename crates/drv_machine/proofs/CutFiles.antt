@@ -374,17 +374,8 @@ module _ (F : Facts) (C : Context) where
       file_alike atoms stretches c d (λ x. alike stretches x d whole.1) (after_file c d atoms (flat_map stretch_atoms stretches) whole.0 o e)
 
 begins_none : (atom : Atom) → bounds_file atom ≡ false → begins_file atom ≡ false
-begins_none (Put b) n = refl
-begins_none Open n = refl
-begins_none Break n = refl
-begins_none End n = refl
-begins_none Piped n = refl
-begins_none (Marked mark) n = refl
-begins_none Without n = refl
-begins_none From n = refl
-begins_none To n = refl
 begins_none FileFrom n = absurd cc
-begins_none FileTo n = refl
+begins_none _ n = refl
 
 none_begins : (stretches : List Stretch) → list_any is_broken stretches ≡ false → list_any begins_file (flat_map without_file stretches) ≡ false
 none_begins [] n = refl

@@ -80,17 +80,9 @@ unfiled_append : (xs ys : List Atom) → Unfiled xs → Unfiled ys → Unfiled (
 unfiled_append xs ys e f = list_any-append bounds_file xs ys ∙ ap (λ (b : Bool). b || list_any bounds_file ys) e ∙ f
 
 bounds_no_file : (atom : Atom) → bounds_any atom ≡ false → bounds_file atom ≡ false
-bounds_no_file (Put b) e = refl
-bounds_no_file Open e = refl
-bounds_no_file Break e = refl
-bounds_no_file End e = refl
-bounds_no_file Piped e = refl
-bounds_no_file (Marked mark) e = refl
-bounds_no_file Without e = refl
-bounds_no_file From e = refl
-bounds_no_file To e = refl
 bounds_no_file FileFrom e = absurd cc
 bounds_no_file FileTo e = absurd cc
+bounds_no_file _ e = refl
 
 unfiled_bare : (atoms : List Atom) → None-bounds atoms → Unfiled atoms
 unfiled_bare [] e = refl
@@ -125,17 +117,11 @@ begun_append : (xs ys : List Atom) → Even xs → Begun ys → Begun (xs ++ ys)
 begun_append xs ys e f count = ap is_some (open_append xs ys Failure count ∙ ap (then_open ys Failure) (e count)) ∙ f count
 
 opens_no_failure : (atom : Atom) (count : ℕ) → bounds_any atom ≡ false → open_after atom Failure count ≡ Some count
-opens_no_failure (Put b) count e = refl
-opens_no_failure Open count e = refl
-opens_no_failure Break count e = refl
-opens_no_failure End count e = refl
-opens_no_failure Piped count e = refl
-opens_no_failure (Marked mark) count e = refl
-opens_no_failure Without count e = refl
 opens_no_failure From count e = absurd cc
 opens_no_failure To count e = absurd cc
 opens_no_failure FileFrom count e = absurd cc
 opens_no_failure FileTo count e = absurd cc
+opens_no_failure _ count e = refl
 
 even_bare : (atoms : List Atom) → None-bounds atoms → Even atoms
 even_bare [] e count = refl
@@ -152,17 +138,9 @@ even_file atoms e count = open_append atoms (Break ∷ FileTo ∷ []) Failure co
 
 -- files that are open
 opens_no_file : (atom : Atom) (count : ℕ) → bounds_file atom ≡ false → open_after atom File count ≡ Some count
-opens_no_file (Put b) count e = refl
-opens_no_file Open count e = refl
-opens_no_file Break count e = refl
-opens_no_file End count e = refl
-opens_no_file Piped count e = refl
-opens_no_file (Marked mark) count e = refl
-opens_no_file Without count e = refl
-opens_no_file From count e = refl
-opens_no_file To count e = refl
 opens_no_file FileFrom count e = absurd cc
 opens_no_file FileTo count e = absurd cc
+opens_no_file _ count e = refl
 
 unfiled_open : (atoms : List Atom) (count : ℕ) → Unfiled atoms → open_behind atoms File count ≡ Some count
 unfiled_open [] count e = refl
