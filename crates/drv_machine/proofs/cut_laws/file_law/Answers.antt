@@ -1,14 +1,5 @@
 use Rattle.drv_machine.proofs.CutFiles.{arguments_around, file_words_are, lines_around, stray_around}
 use Rattle.drv_machine.proofs.cut_laws.file_law.Goals as goal
 
-pub returns-clause-words : goal.returns-clause-words
-returns-clause-words c = file_words_are
-
-pub returns-clause-lines : goal.returns-clause-lines
-returns-clause-lines c = lines_around
-
-pub returns-clause-stray : goal.returns-clause-stray
-returns-clause-stray c = stray_around
-
-pub returns-clause-arguments : goal.returns-clause-arguments
-returns-clause-arguments c = arguments_around
+pub returns : goal.returns
+returns c = record { words = file_words_are; lines = lines_around; stray = stray_around; arguments = arguments_around }
