@@ -1,10 +1,13 @@
 use Rattle.drv_machine.proofs.ItemKinds.{inner_step}
-use Rattle.drv_machine.specs.Atoms.{leaf_step}
+use Rattle.drv_machine.proofs.Steps.{fails_as, then_fails}
+use Rattle.drv_machine.specs.Atoms.{input_name, leaf_step}
 use Rattle.drv_machine.specs.Code.ByKind.{Means, kind_step}
 use Rattle.drv_machine.specs.Context.{Context}
 use Rattle.drv_machine.specs.Code.Running.{Machine, run}
 use Rattle.drv_machine.specs.Code.Standing.{Stands}
-use Rattle.drv_machine.specs.Working.{Levels, Step}
+use Rattle.drv_machine.specs.Working.{◌>>=◌, Levels, Step}
+use Rattle.drv_machine.specs.declared.fault.MachineFault.TheVariants.{Memory}
+use Rattle.drv_machine.specs.declared.fault.MachineFault.{MachineFault}
 use Rattle.drv_syntax.specs.Labels.{inner_nodes, label_at}
 use Rattle.drv_syntax.specs.Parsed.{tree_of}
 use Rattle.drv_syntax.specs.Tokens.{kind_of}
@@ -13,7 +16,8 @@ use Rattle.drv_syntax.specs.Tree.{Item}
 use Rattle.drv_syntax.specs.declared.token.Leaf.{Leaf}
 use Rattle.drv_syntax.specs.declared.token.TokenKind.{TokenKind}
 use Rattle.drv_system.specs.Facts.{Facts}
-use Rattle.std.proofs.Common.{◌≡◌, List, ap, refl, sym, ℕ}
+use Rattle.drv_system.specs.Known.{Is}
+use Rattle.std.proofs.Common.{◌≡◌, ◌⊎◌, ◌∙◌, Err, List, ap, refl, sym, ℕ}
 
 -- Items by their kinds, where they stand.
 
@@ -46,3 +50,9 @@ by_kind F C s kind k text at star inner e = ap (λ x. run F C s (kind_step F C x
 
 pub by_leaf : (F : Facts) (C : Context) (s : Machine) (leaf l : Leaf) → leaf ≡ l → run F C s (leaf_step F C l) ≡ run F C s (leaf_step F C leaf)
 by_leaf F C s leaf l e = ap (λ x. run F C s (leaf_step F C x)) (sym e)
+
+-- what is made of the input's name, where there is none
+pub leaf_unnamed : (F : Facts) (C : Context) (s : Machine) (leaf l : Leaf) → leaf ≡ l → (f : List ℕ → Step (Unit {0})) → leaf_step F C l ≡ (input_name F C >>= f) → (fault : MachineFault)
+    → (fault ≡ Memory) ⊎ (run F C s (input_name F C) ≡ Is (Err fault)) → (fault ≡ Memory) ⊎ (run F C s (leaf_step F C leaf) ≡ Is (Err fault))
+leaf_unnamed F C s leaf l is f means fault stopped =
+    fails_as _ (run F C s (leaf_step F C leaf)) (then_fails F C s (input_name F C) f fault stopped) (λ e. sym (by_leaf F C s leaf l is) ∙ ap (run F C s) means ∙ e)

@@ -1,37 +1,28 @@
 use Rattle.drv_machine.proofs.items.work_leaf.Goals as goal
-use Rattle.drv_machine.proofs.Steps.{fails_as, gives_as, then_fails, then_ok}
-use Rattle.drv_machine.proofs.WorkSteps.{by_leaf}
-use Rattle.drv_machine.specs.Atoms.{input_name, leaf_step}
+use Rattle.drv_machine.proofs.Steps.{gives_as, then_ok}
+use Rattle.drv_machine.proofs.WorkSteps.{by_leaf, leaf_unnamed}
+use Rattle.drv_machine.specs.Atoms.{input_name}
 use Rattle.drv_machine.specs.Names.{base, stem}
 use Rattle.drv_machine.specs.Code.Running.{run}
 use Rattle.drv_machine.specs.Working.{bytes}
 use Rattle.drv_syntax.specs.declared.token.Leaf.TheVariants as leaves
-use Rattle.std.proofs.Common.{ap, rules, sym, ◌∙◌}
+use Rattle.std.proofs.Common.{ap, refl, rules, sym, ◌∙◌}
 
 pub returns-in_err-input_name-in-InputName-clause-does : goal.returns-in_err-input_name-in-InputName-clause-does
 returns-in_err-input_name-in-InputName-clause-does g c F e =
-    let failed = then_fails F c.args.context.now c.args.machine.now (input_name F c.args.context.now) (λ name. bytes name) c.in_err-input_name-in-InputName.field-0.0 (c.in_err-input_name-in-InputName.ensures F c.args.machine.now) in
-    let whole =
-    fails_as _ (run F c.args.context.now c.args.machine.now (leaf_step F c.args.context.now c.args.leaf)) failed
-    (λ x. sym (by_leaf F c.args.context.now c.args.machine.now c.args.leaf leaves.InputName c.in-InputName.is) ∙ x) in
+    let failed = leaf_unnamed F c.args.context.now c.args.machine.now c.args.leaf leaves.InputName c.in-InputName.is (λ name. bytes name) refl c.in_err-input_name-in-InputName.field-0.0 (c.in_err-input_name-in-InputName.ensures F c.args.machine.now) in
     let f = c.from_residual.ensures in
     search rules
 
 pub returns-in_err-input_name-in-BaseStem-clause-does : goal.returns-in_err-input_name-in-BaseStem-clause-does
 returns-in_err-input_name-in-BaseStem-clause-does g c F e =
-    let failed = then_fails F c.args.context.now c.args.machine.now (input_name F c.args.context.now) (λ name. bytes (stem name)) c.in_err-input_name-in-BaseStem.field-0.0 (c.in_err-input_name-in-BaseStem.ensures F c.args.machine.now) in
-    let whole =
-    fails_as _ (run F c.args.context.now c.args.machine.now (leaf_step F c.args.context.now c.args.leaf)) failed
-    (λ x. sym (by_leaf F c.args.context.now c.args.machine.now c.args.leaf leaves.BaseStem c.in-BaseStem.is) ∙ x) in
+    let failed = leaf_unnamed F c.args.context.now c.args.machine.now c.args.leaf leaves.BaseStem c.in-BaseStem.is (λ name. bytes (stem name)) refl c.in_err-input_name-in-BaseStem.field-0.0 (c.in_err-input_name-in-BaseStem.ensures F c.args.machine.now) in
     let f = c.from_residual-in_err-input_name-in-BaseStem.ensures in
     search rules
 
 pub returns-in_err-input_name-in-BaseName-clause-does : goal.returns-in_err-input_name-in-BaseName-clause-does
 returns-in_err-input_name-in-BaseName-clause-does g c F e =
-    let failed = then_fails F c.args.context.now c.args.machine.now (input_name F c.args.context.now) (λ name. bytes (base name)) c.in_err-input_name-in-BaseName.field-0.0 (c.in_err-input_name-in-BaseName.ensures F c.args.machine.now) in
-    let whole =
-    fails_as _ (run F c.args.context.now c.args.machine.now (leaf_step F c.args.context.now c.args.leaf)) failed
-    (λ x. sym (by_leaf F c.args.context.now c.args.machine.now c.args.leaf leaves.BaseName c.in-BaseName.is) ∙ x) in
+    let failed = leaf_unnamed F c.args.context.now c.args.machine.now c.args.leaf leaves.BaseName c.in-BaseName.is (λ name. bytes (base name)) refl c.in_err-input_name-in-BaseName.field-0.0 (c.in_err-input_name-in-BaseName.ensures F c.args.machine.now) in
     let f = c.from_residual-in_err-input_name-in-BaseName.ensures in
     search rules
 
