@@ -1,15 +1,13 @@
 use Rattle.drv_machine.proofs.Laws.{run_then, then_same, then_then}
-use Rattle.drv_machine.proofs.Lying.{lies_alone}
-use Rattle.drv_machine.proofs.NamedTexts.{no_level, one_level}
-use Rattle.drv_machine.proofs.Onward.{framed_long}
+use Rattle.drv_machine.proofs.Onward.{items_opened, one_deeper}
 use Rattle.drv_machine.specs.Atoms.{arguments, found_step, has_value, item_step, items_step, judged, levels_left, value_step, words_of}
 use Rattle.drv_machine.specs.Context.{Context}
 use Rattle.drv_machine.specs.Cutting.{Cut, all_taken, nothing_cut}
 use Rattle.drv_machine.specs.Code.Running.{Machine, done, run}
 use Rattle.drv_machine.specs.Code.Standing.{Stands}
-use Rattle.drv_machine.specs.Code.Walking.{Around, Behind, Framed, Kept, Left, Lies, OpenedFits, arguments_of, asked_on, back_at, back_of, after_arguments, closing, ends, levels_in, nothing_kept, onward, star_of, text_around}
+use Rattle.drv_machine.specs.Code.Walking.{Around, Behind, Kept, Left, OpenedFits, arguments_of, asked_on, back_at, back_of, after_arguments, closing, ends, levels_in, nothing_kept, onward, star_of, text_around}
 use Rattle.drv_machine.specs.Working.{◌>>-◌, ◌>>=◌, ◌>>◌, Answer, Break, Goes, Levels, Refuses, Step, Waits, Worked, follow, most_open, needs, puts}
-use Rattle.drv_machine.specs.declared.fault.MachineFault.TheVariants.{Memory, SpecTooDeep}
+use Rattle.drv_machine.specs.declared.fault.MachineFault.TheVariants.{Memory}
 use Rattle.drv_machine.specs.declared.fault.MachineFault.{MachineFault}
 use Rattle.drv_machine.specs.declared.walk.Opened.{Opened}
 use Rattle.drv_machine.specs.declared.walk.Walk.{Walk}
@@ -18,7 +16,7 @@ use Rattle.drv_syntax.specs.Tree as tree
 use Rattle.drv_syntax.specs.Tree.{Items}
 use Rattle.drv_system.specs.Facts.{Facts}
 use Rattle.drv_system.specs.Known.{Is, Unasked}
-use Rattle.std.proofs.Common.{◌≡◌, ◌⊎◌, ◌<◌, ◌+◌, ◌-◌, ◌++◌, ◌∙◌, Err, List, [], ◌∷◌, Ok, ap, arith, false, inl, inr, length, refl, subst, sym, ℕ}
+use Rattle.std.proofs.Common.{◌≡◌, ◌⊎◌, ◌<◌, ◌+◌, ◌-◌, ◌++◌, ◌∙◌, Err, List, [], ◌∷◌, Ok, ap, false, inl, inr, length, refl, sym, ℕ}
 
 -- Arguments: they are cut by the law of the text, in a cut of their own.
 
@@ -91,16 +89,6 @@ module _ (F : Facts) (C : Context) (text : List ℕ) (w : Walk) (s : Machine) (n
   abbrev inner : Levels → Step (Unit {0})
   inner inside = items_step F C items inside (star_of C w.star)
 
-  call_full : length w.frames ≡ 64 → given ≡ Is (Err SpecTooDeep)
-  call_full h =
-      sym b.same
-      ∙ ap (λ levels. run F C s (item_step F C (tree.Function name items) levels (star_of C w.star)) >>- k)
-      (no_level F C (length b.arounds) (sym (framed_long text C w.frames b.arounds b.framed) ∙ h))
-
-  pub call_refused : (fault : MachineFault) → (fault ≡ Memory) ⊎ ((fault ≡ SpecTooDeep) × (length w.frames ≡ 64)) → (fault ≡ Memory) ⊎ (given ≡ Is (Err fault))
-  call_refused fault (inl memory) = inl memory
-  call_refused fault (inr full) = inr (call_full full.1 ∙ ap (λ f. Is (Err f)) (sym full.0))
-
   abbrev kept : Kept
   kept = record nothing_kept { name = name }
 
@@ -110,10 +98,6 @@ module _ (F : Facts) (C : Context) (text : List ℕ) (w : Walk) (s : Machine) (n
     abbrev around : Around
     around = record { frame = record { opened = o; end = w.end; star = w.star }; pattern = tree.pattern [] false; items = tree.none; kept = kept; rest = b.rest }
 
-    deeper_is : (m n : ℕ) → m ≡ n
-        → (run F C (aside F C s) (inner (levels_left F C (most_open - m))) >>- λ r. ends F C (around ∷ b.arounds) r.1) ≡ (run F C (aside F C s) (inner (levels_left F C (most_open - n))) >>- λ r. ends F C (around ∷ b.arounds) r.1)
-    deeper_is m n e = ap (λ j. run F C (aside F C s) (inner (levels_left F C (most_open - j))) >>- λ r. ends F C (around ∷ b.arounds) r.1) e
-
     ends_as : (x : Answer (Unit {0} × Machine)) → (x >>- λ r. ends F C (around ∷ b.arounds) r.1) ≡ (x >>- λ r. after_arguments F C s.cut (value_step F C name) r.1 >>- k)
     ends_as (Is (Ok r)) = ap (λ a. a >>- k) (closes (levels_in F C b.arounds) (star_of C w.star) r.1)
     ends_as (Is (Err fault)) = refl
@@ -122,27 +106,10 @@ module _ (F : Facts) (C : Context) (text : List ℕ) (w : Walk) (s : Machine) (n
     pub call_opened : length w.frames < 64 → (start : ℕ) → Stands text start (nodes_of items) next → (v : Walk) → v.at ≡ start → v.end ≡ next → v.star ≡ w.star → v.frames ≡ w.frames ++ record { opened = o; end = w.end; star = w.star } ∷ []
         → Left F C text v (aside F C s) given
     call_opened h start stands v at_is end_is star_is frames_is =
-        let n = framed_long text C w.frames b.arounds b.framed in record {
-          rest = items;
-          arounds = around ∷ b.arounds;
-          lies = subst (λ (j : ℕ). Lies text j items v.end) (sym at_is) (subst (λ (j : ℕ). Lies text start items j) (sym end_is) (lies_alone text items start next stands));
-          framed = (
-            w.frames,
-            frames_is,
-            record {
-              opened = fits;
-              behind = subst (λ (t : List ℕ). Lies t (back_of o) b.rest w.end) (sym around_is) (subst (λ (j : ℕ). Lies text j b.rest w.end) (sym back_is) b.lies);
-            },
-            subst (λ (t : List ℕ). Framed t C w.frames b.arounds) (sym around_is) b.framed,
-          );
-          same =
-              ap (λ star. onward F C star items (around ∷ b.arounds) (aside F C s)) star_is
-              ∙ deeper_is (length (around ∷ b.arounds)) (length b.arounds + 1) (omega arith)
-              ∙ ends_as (run F C (aside F C s) (inner (levels_left F C (most_open - (length b.arounds + 1)))))
-              ∙ sym (arguments_then F C s (inner (levels_left F C (most_open - (length b.arounds + 1)))) (value_step F C name) k)
-              ∙ sym (ap (λ levels. run F C s (item_step F C (tree.Function name items) levels (star_of C w.star)) >>- k) (one_level F C (length b.arounds) (omega (arith, n, h))))
-              ∙ b.same;
-        }
+        items_opened F C text w s given next _ b text o (tree.pattern [] false) tree.none kept fits around_is back_is v frames_is w.star star_is (aside F C s) items start next stands at_is end_is
+        (ends_as (run F C (aside F C s) (inner (levels_left F C (most_open - (length b.arounds + 1)))))
+        ∙ sym (arguments_then F C s (inner (levels_left F C (most_open - (length b.arounds + 1)))) (value_step F C name) k)
+        ∙ sym (ap (λ levels. run F C s (item_step F C (tree.Function name items) levels (star_of C w.star)) >>- k) (one_deeper F C text w s given next _ b h)) ∙ b.same)
 
 -- the arguments of a function that a test asks are opened
 module _ (F : Facts) (C : Context) where
@@ -166,13 +133,6 @@ module _ (F : Facts) (C : Context) (text : List ℕ) (w : Walk) (s : Machine) (e
   asked_whole levels =
       arguments_of F C inner_items kept.name levels (star_of C w.star) >>= judged F C kept.negated kept.asked kept.tests (levels_in F C b.arounds) (star_of C w.star) >>= found_step F C items kept.choices (levels_in F C b.arounds) (star_of C w.star)
 
-  ask_full : length w.frames ≡ 64 → given ≡ Is (Err SpecTooDeep)
-  ask_full h = sym b.same ∙ ap (λ levels. run F C s (asked_whole levels) >>- ask_k) (no_level F C (length b.arounds) (sym (framed_long text C w.frames b.arounds b.framed) ∙ h))
-
-  pub ask_refused : (fault : MachineFault) → (fault ≡ Memory) ⊎ ((fault ≡ SpecTooDeep) × (length w.frames ≡ 64)) → (fault ≡ Memory) ⊎ (given ≡ Is (Err fault))
-  ask_refused fault (inl memory) = inl memory
-  ask_refused fault (inr full) = inr (ask_full full.1 ∙ ap (λ f. Is (Err f)) (sym full.0))
-
   abbrev on_words : List (List ℕ) → Step (Unit {0})
   on_words args = asked_on F C items kept (levels_in F C b.arounds) (star_of C w.star) args
 
@@ -180,10 +140,6 @@ module _ (F : Facts) (C : Context) (text : List ℕ) (w : Walk) (s : Machine) (e
       (closes : (r : Machine) → closing F C (levels_in F C b.arounds) (star_of C w.star) o (tree.pattern [] false) items kept r ≡ after_arguments F C s.cut on_words r) where
     abbrev ask_around : Around
     ask_around = record { frame = record { opened = o; end = w.end; star = w.star }; pattern = tree.pattern [] false; items = items; kept = kept; rest = b.rest }
-
-    ask_deeper : (m n : ℕ) → m ≡ n
-        → (run F C (aside F C s) (asked_inside (levels_left F C (most_open - m))) >>- λ r. ends F C (ask_around ∷ b.arounds) r.1) ≡ (run F C (aside F C s) (asked_inside (levels_left F C (most_open - n))) >>- λ r. ends F C (ask_around ∷ b.arounds) r.1)
-    ask_deeper m n e = ap (λ j. run F C (aside F C s) (asked_inside (levels_left F C (most_open - j))) >>- λ r. ends F C (ask_around ∷ b.arounds) r.1) e
 
     ask_ends : (x : Answer (Unit {0} × Machine)) → (x >>- λ r. ends F C (ask_around ∷ b.arounds) r.1) ≡ (x >>- λ r. after_arguments F C s.cut on_words r.1 >>- ask_k)
     ask_ends (Is (Ok r)) = ap (λ a. a >>- ask_k) (closes r.1)
@@ -201,25 +157,8 @@ module _ (F : Facts) (C : Context) (text : List ℕ) (w : Walk) (s : Machine) (e
     pub ask_opened : length w.frames < 64 → (start next : ℕ) → Stands text start (nodes_of inner_items) next → (v : Walk) → v.at ≡ start → v.end ≡ next → v.star ≡ w.star → v.frames ≡ w.frames ++ record { opened = o; end = w.end; star = w.star } ∷ []
         → Left F C text v (aside F C s) given
     ask_opened h start next stands v at_is end_is star_is frames_is =
-        let n = framed_long text C w.frames b.arounds b.framed in record {
-          rest = inner_items;
-          arounds = ask_around ∷ b.arounds;
-          lies = subst (λ (j : ℕ). Lies text j inner_items v.end) (sym at_is) (subst (λ (j : ℕ). Lies text start inner_items j) (sym end_is) (lies_alone text inner_items start next stands));
-          framed = (
-            w.frames,
-            frames_is,
-            record {
-              opened = fits;
-              behind = subst (λ (t : List ℕ). Lies t (back_of o) b.rest w.end) (sym around_is) (subst (λ (j : ℕ). Lies text j b.rest w.end) (sym back_is) b.lies);
-            },
-            subst (λ (t : List ℕ). Framed t C w.frames b.arounds) (sym around_is) b.framed,
-          );
-          same =
-              ap (λ star. onward F C star inner_items (ask_around ∷ b.arounds) (aside F C s)) star_is
-              ∙ ask_deeper (length (ask_around ∷ b.arounds)) (length b.arounds + 1) (omega arith)
-              ∙ ask_ends (run F C (aside F C s) (asked_inside (levels_left F C (most_open - (length b.arounds + 1)))))
-              ∙ sym (arguments_then F C s (asked_inside (levels_left F C (most_open - (length b.arounds + 1)))) on_words ask_k)
-              ∙ sym (ap (λ x. x >>- ask_k) (ask_right (asked_inside (levels_left F C (most_open - (length b.arounds + 1))))))
-              ∙ sym (ap (λ levels. run F C s (asked_whole levels) >>- ask_k) (one_level F C (length b.arounds) (omega (arith, n, h))))
-              ∙ b.same;
-        }
+        items_opened F C text w s given end _ b text o (tree.pattern [] false) items kept fits around_is back_is v frames_is w.star star_is (aside F C s) inner_items start next stands at_is end_is
+        (ask_ends (run F C (aside F C s) (asked_inside (levels_left F C (most_open - (length b.arounds + 1)))))
+        ∙ sym (arguments_then F C s (asked_inside (levels_left F C (most_open - (length b.arounds + 1)))) on_words ask_k)
+        ∙ sym (ap (λ x. x >>- ask_k) (ask_right (asked_inside (levels_left F C (most_open - (length b.arounds + 1))))))
+        ∙ sym (ap (λ levels. run F C s (asked_whole levels) >>- ask_k) (one_deeper F C text w s given end _ b h)) ∙ b.same)

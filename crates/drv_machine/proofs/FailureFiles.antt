@@ -1,7 +1,6 @@
 use Rattle.drv_machine.proofs.ChoiceSteps.{front_choice}
 use Rattle.drv_machine.proofs.Laws.{run_then, then_then}
-use Rattle.drv_machine.proofs.NamedTexts.{no_level, one_level}
-use Rattle.drv_machine.proofs.Onward.{framed_long, three}
+use Rattle.drv_machine.proofs.Onward.{one_deeper, step_opened, three}
 use Rattle.drv_machine.proofs.Standing.{some_same, stand_grows}
 use Rattle.drv_machine.specs.Atoms.{brace_step, item_step, levels_left, places, switch_atoms}
 use Rattle.drv_machine.specs.Context.{Context}
@@ -9,9 +8,9 @@ use Rattle.drv_machine.specs.Cutting.{Cut, inside_done}
 use Rattle.drv_machine.specs.Code.Held.{Ends, ended_in}
 use Rattle.drv_machine.specs.Code.Running.{Machine, run}
 use Rattle.drv_machine.specs.Code.Standing.{Stands}
-use Rattle.drv_machine.specs.Code.Walking.{Around, Behind, Chooses, Emits, Reaches, ends, levels_in, nothing_kept, onward, star_of}
+use Rattle.drv_machine.specs.Code.Walking.{Behind, Chooses, Emits, Reaches, nothing_kept, onward, star_of}
 use Rattle.drv_machine.specs.Working.{◌>>-◌, ◌>>◌, Answer, Atom, Break, From, Levels, Step, To, most_open, puts}
-use Rattle.drv_machine.specs.declared.fault.MachineFault.TheVariants.{Memory, SpecTooDeep}
+use Rattle.drv_machine.specs.declared.fault.MachineFault.TheVariants.{Memory}
 use Rattle.drv_machine.specs.declared.fault.MachineFault.{MachineFault}
 use Rattle.drv_machine.specs.declared.walk.Opened.TheVariants.{Failure}
 use Rattle.drv_machine.specs.declared.walk.Walk.{Walk}
@@ -25,7 +24,7 @@ use Rattle.drv_syntax.specs.declared.token.TokenKind.TheVariants as kinds
 use Rattle.drv_system.specs.Facts.{Facts}
 use Rattle.drv_system.specs.Gives.{GivesKnown}
 use Rattle.drv_system.specs.Known.{Is}
-use Rattle.std.proofs.Common.{◌≡◌, ◌⊎◌, ◌<◌, ◌≤◌, ◌+◌, ◌-◌, ◌++◌, ◌∙◌, Err, List, [], ◌∷◌, None, Ok, Option, Result, Some, ap, arith, false, inl, inr, length, refl, slice_get, subst, suc, sym, zero, ℕ}
+use Rattle.std.proofs.Common.{◌≡◌, ◌<◌, ◌≤◌, ◌+◌, ◌-◌, ◌++◌, ◌∙◌, Err, List, [], ◌∷◌, None, Ok, Option, Result, Some, ap, arith, false, inl, inr, length, refl, slice_get, subst, suc, sym, zero, ℕ}
 use Rattle.std.specs.List.{filter, flat_map}
 use Rattle.std.specs.Prelude.{replicate}
 
@@ -130,49 +129,20 @@ module _ (F : Facts) (C : Context) (text : List ℕ) (w : Walk) (s : Machine) (e
   abbrev inner : Levels → Step (Unit {0})
   inner inside = brace_step F C brace inside (star_of C w.star)
 
-  failure_full : length w.frames ≡ 64 → given ≡ Is (Err SpecTooDeep)
-  failure_full h =
-      sym b.same
-      ∙ ap (λ levels. run F C s (item_step F C (tree.FailureFile brace) levels (star_of C w.star)) >>- k)
-      (no_level F C (length b.arounds) (sym (framed_long text C w.frames b.arounds b.framed) ∙ h))
-
-  pub failure_refused : (fault : MachineFault) → (fault ≡ Memory) ⊎ ((fault ≡ SpecTooDeep) × (length w.frames ≡ 64)) → (fault ≡ Memory) ⊎ (given ≡ Is (Err fault))
-  failure_refused fault (inl memory) = inl memory
-  failure_refused fault (inr full) = inr (failure_full full.1 ∙ ap (λ f. Is (Err f)) (sym full.0))
-
-  abbrev around : Around
-  around = record { frame = record { opened = Failure end; end = w.end; star = w.star }; pattern = tree.pattern [] false; items = tree.none; kept = nothing_kept; rest = b.rest }
-
-  deeper_is : (t : Machine) (m n : ℕ) → m ≡ n
-      → (run F C t (inner (levels_left F C (most_open - m))) >>- λ r. ends F C (around ∷ b.arounds) r.1) ≡ (run F C t (inner (levels_left F C (most_open - n))) >>- λ r. ends F C (around ∷ b.arounds) r.1)
-  deeper_is t m n e = ap (λ j. run F C t (inner (levels_left F C (most_open - j))) >>- λ r. ends F C (around ∷ b.arounds) r.1) e
-
   -- the step and its end, at the depth of the part
-  opens_as : (n : ℕ) → n < 64 → (levels : Levels) → levels ≡ levels_left F C (most_open - n)
-      → (run F C s (item_step F C (tree.FailureFile brace) levels (star_of C w.star)) >>- k)
-      ≡ (run F C s (puts (From ∷ [])) >>- λ r. run F C r.1 (inner (levels_left F C (most_open - (n + 1))) >> puts (Break ∷ To ∷ [])) >>- k)
-  opens_as n h levels e =
-      ap (λ ls. run F C s (item_step F C (tree.FailureFile brace) ls (star_of C w.star)) >>- k) (e ∙ one_level F C n h)
-      ∙ three F C s (puts (From ∷ [])) (inner (levels_left F C (most_open - (n + 1)))) (puts (Break ∷ To ∷ [])) k
+  opens_as : length w.frames < 64 → (run F C s (puts (From ∷ [])) >>- λ r. run F C r.1 (inner (levels_left F C (most_open - (length b.arounds + 1))) >> puts (Break ∷ To ∷ [])) >>- k) ≡ given
+  opens_as h =
+      sym (three F C s (puts (From ∷ [])) (inner (levels_left F C (most_open - (length b.arounds + 1)))) (puts (Break ∷ To ∷ [])) k)
+      ∙ sym (ap (λ levels. run F C s (item_step F C (tree.FailureFile brace) levels (star_of C w.star)) >>- k) (one_deeper F C text w s given end _ b h)) ∙ b.same
 
   pub failure_opened : length w.frames < 64 → (t : Machine) → run F C s (puts (From ∷ [])) ≡ Is (Ok (tt, t)) → (v : Walk) → v.end ≡ end → v.star ≡ w.star → v.frames ≡ w.frames ++ record { opened = Failure end; end = w.end; star = w.star } ∷ []
       → Behind F C text v end (λ levels star. brace_step F C brace levels star) t given
   failure_opened h t went v end_is star_is frames_is =
-      let n = framed_long text C w.frames b.arounds b.framed in
-      let inside : Levels = levels_left F C (most_open - (length b.arounds + 1)) in record {
-        rest = tree.none;
-        arounds = around ∷ b.arounds;
-        lies = (tree.no_choice, sym end_is);
-        framed = (w.frames, frames_is, record { opened = tt; behind = b.lies }, b.framed);
-        same =
-            ap (λ star. run F C t (brace_step F C brace (levels_in F C (around ∷ b.arounds)) (star_of C star)) >>- λ r. ends F C (around ∷ b.arounds) r.1) star_is
-            ∙ deeper_is t (length (around ∷ b.arounds)) (length b.arounds + 1) (omega arith)
-            ∙ sym (ap (λ x. x >>- k) (run_then F C t (inner (levels_left F C (most_open - (length b.arounds + 1)))) (λ u. puts (Break ∷ To ∷ [])))
-            ∙ then_then (run F C t (inner (levels_left F C (most_open - (length b.arounds + 1))))) (λ r. run F C r.1 (puts (Break ∷ To ∷ []))) k)
-            ∙ sym (ap (λ x. x >>- λ r. run F C r.1 (inner (levels_left F C (most_open - (length b.arounds + 1))) >> puts (Break ∷ To ∷ [])) >>- k) went)
-            ∙ sym (opens_as (length b.arounds) (omega (arith, n, h)) (levels_in F C b.arounds) refl)
-            ∙ b.same;
-      }
+      step_opened F C text w s given end _ b text (Failure end) (tree.pattern [] false) tree.none nothing_kept tt refl refl v frames_is w.star star_is t (λ levels star. brace_step F C brace levels star) end_is
+      (sym (ap (λ x. x >>- k) (run_then F C t (inner (levels_left F C (most_open - (length b.arounds + 1)))) (λ u. puts (Break ∷ To ∷ [])))
+      ∙ then_then (run F C t (inner (levels_left F C (most_open - (length b.arounds + 1))))) (λ r. run F C r.1 (puts (Break ∷ To ∷ []))) k)
+      ∙ sym (ap (λ x. x >>- λ r. run F C r.1 (inner (levels_left F C (most_open - (length b.arounds + 1))) >> puts (Break ∷ To ∷ [])) >>- k) went)
+      ∙ opens_as h)
 
   -- its beginning is cut, or memory ran out
   pub from_begun : length w.frames < 64 → (result : Result (Unit {0}) MachineFault) (t : Machine) → GivesKnown Memory (λ u. (tt, t)) result (run F C s (puts (From ∷ [])))

@@ -8,13 +8,15 @@ use Rattle.drv_machine.specs.Code.ByKind.{Means, kind_step}
 use Rattle.drv_machine.specs.Context.{Context, argument, names}
 use Rattle.drv_machine.specs.Code.Running.{Machine, run}
 use Rattle.drv_machine.specs.Code.Standing.{Part, Stands}
-use Rattle.drv_machine.specs.Code.Walking.{After, Around, Behind, Fits, Framed, HitFits, Left, Lies, Skips, Went, back_of, closing, each_from, ends, hit_step, hits_left, levels_in, nothing_kept, onward, star_of, text_around, weight}
+use Rattle.drv_machine.specs.Code.Walking.{After, Around, Behind, Fits, Framed, HitFits, Kept, Left, Lies, OpenedFits, Skips, Went, back_of, closing, each_from, ends, hit_step, hits_left, levels_in, nothing_kept, onward, star_of, text_around, weight}
 use Rattle.drv_machine.specs.Working.{◌>>-◌, ◌>>◌, Answer, Break, Levels, Step, counted, most_open, puts, word_of}
 use Rattle.drv_machine.specs.declared.fault.MachineFault.TheVariants.{Memory, SpecTooDeep}
 use Rattle.drv_machine.specs.declared.fault.MachineFault.{MachineFault}
 use Rattle.drv_machine.specs.declared.walk.Each.{Each}
 use Rattle.drv_machine.specs.declared.walk.Frame.{Frame}
 use Rattle.drv_machine.specs.declared.walk.Opened.TheVariants.{Hit}
+use Rattle.drv_machine.specs.declared.walk.Opened.{Opened}
+use Rattle.drv_machine.specs.declared.walk.Rest.{Rest}
 use Rattle.drv_machine.specs.declared.walk.Walk.{Walk}
 use Rattle.drv_match.specs.Matching.{name_at}
 use Rattle.drv_syntax.specs.Labels.{Label, choice_nodes, inner_nodes, label_at, label_of, labels_of, nodes_of}
@@ -28,7 +30,7 @@ use Rattle.drv_syntax.specs.declared.token.TokenKind.{TokenKind}
 use Rattle.drv_system.specs.Facts.{Facts}
 use Rattle.drv_system.specs.Gives.{GivesKnown}
 use Rattle.drv_system.specs.Known.{Is}
-use Rattle.std.proofs.Common.{◌≡◌, ◌⊎◌, ◌<◌, ◌≤◌, ◌+◌, ◌-◌, ◌++◌, ◌∙◌, Err, List, [], ◌∷◌, Ok, OnOk, Result, Some, ap, arith, drop, inl, inr, length, length-append, refl, slice_get, subst, suc, sym, ℕ}
+use Rattle.std.proofs.Common.{◌≡◌, ◌⊎◌, ◌<◌, ◌≤◌, ◌+◌, ◌-◌, ◌++◌, ◌∙◌, Err, List, [], ◌∷◌, Ok, OnOk, Option, Result, Some, ap, arith, drop, inl, inr, length, length-append, refl, slice_get, subst, suc, sym, ℕ}
 
 -- What is left of a walk, and what follows the open parts.
 
@@ -122,6 +124,16 @@ pub as_after : (F : Facts) (C : Context) (text : List ℕ) (w : Walk) (at : ℕ)
 as_after F C text w at step s given a = record { rest = a.rest; arounds = a.arounds; lies = a.lies; framed = a.framed; same = a.same }
 
 module _ (F : Facts) (C : Context) where
+  -- what may still be opened
+  no_level : (n : ℕ) → n ≡ 64 → levels_left F C (most_open - n) ≡ []
+  no_level n e = ap (λ k. levels_left F C (most_open - k)) e
+
+  one_level : (n : ℕ) → n < 64 → levels_left F C (most_open - n) ≡ ◌∷◌ (λ xs. items_step F C xs (levels_left F C (most_open - (n + 1))) []) (levels_left F C (most_open - (n + 1)))
+  one_level n h = by (most_open - n) (most_open - (n + 1)) (omega (arith, h))
+    where
+      by : (k m : ℕ) → k ≡ suc m → levels_left F C k ≡ ◌∷◌ (λ xs. items_step F C xs (levels_left F C m) []) (levels_left F C m)
+      by k m e = ap (levels_left F C) e
+
   -- three steps
   pub three : (s : Machine) (a b d : Step (Unit {0})) (k : Unit {0} × Machine → Answer (Unit {0} × Machine)) → (run F C s ((a >> b) >> d) >>- k) ≡ (run F C s a >>- λ r. run F C r.1 (b >> d) >>- k)
   three s a b d k =
@@ -228,59 +240,94 @@ module _ (F : Facts) (C : Context) where
           ∙ b.same;
     }
 
+    -- a part that a step opens
+    module _ (at : ℕ) (step : Levels → List ℕ → Step (Unit {0})) (b : Behind F C text w at step s given) where
+      -- where as many are open as may be
+      full : run F C s (step [] (star_of C w.star)) ≡ Is (Err SpecTooDeep) → length w.frames ≡ 64 → given ≡ Is (Err SpecTooDeep)
+      full deep h =
+          sym b.same
+          ∙ ap (λ levels. run F C s (step levels (star_of C w.star)) >>- λ r. onward F C w.star b.rest b.arounds r.1) (no_level (length b.arounds) (sym (framed_long text C w.frames b.arounds b.framed) ∙ h))
+          ∙ ap (λ x. x >>- λ r. onward F C w.star b.rest b.arounds r.1) deep
+
+      pub too_deep : run F C s (step [] (star_of C w.star)) ≡ Is (Err SpecTooDeep) → (fault : MachineFault) → (fault ≡ Memory) ⊎ ((fault ≡ SpecTooDeep) × (length w.frames ≡ 64)) → (fault ≡ Memory) ⊎ (given ≡ Is (Err fault))
+      too_deep deep fault (inl memory) = inl memory
+      too_deep deep fault (inr most) = inr (full deep most.1 ∙ ap (λ f. Is (Err f)) (sym most.0))
+
+      -- where one more may be
+      pub one_deeper : length w.frames < 64
+          → levels_in F C b.arounds ≡ ◌∷◌ (λ xs. items_step F C xs (levels_left F C (most_open - (length b.arounds + 1))) []) (levels_left F C (most_open - (length b.arounds + 1)))
+      one_deeper h = one_level (length b.arounds) (omega (arith, framed_long text C w.frames b.arounds b.framed, h))
+
+      module _ (inside : List ℕ) (o : Opened) (p : Pattern) (items : Items) (kept : Kept) (fits : OpenedFits inside C o p items kept) (around_is : text_around inside o ≡ text) (back_is : back_of o ≡ at) (v : Walk)
+          (frames_is : v.frames ≡ w.frames ++ record { opened = o; end = w.end; star = w.star } ∷ []) (star : Option Rest) (star_is : v.star ≡ star) (t : Machine) where
+        abbrev around : Around
+        around = record { frame = record { opened = o; end = w.end; star = w.star }; pattern = p; items = items; kept = kept; rest = b.rest }
+
+        framed_in : Framed inside C v.frames (around ∷ b.arounds)
+        framed_in = (
+          w.frames,
+          frames_is,
+          record {
+            opened = fits;
+            behind = subst (λ (x : List ℕ). Lies x (back_of o) b.rest w.end) (sym around_is) (subst (λ (j : ℕ). Lies text j b.rest w.end) (sym back_is) b.lies);
+          },
+          subst (λ (x : List ℕ). Framed x C w.frames b.arounds) (sym around_is) b.framed,
+        )
+
+        deeper : levels_in F C (around ∷ b.arounds) ≡ levels_left F C (most_open - (length b.arounds + 1))
+        deeper = let one : length (around ∷ b.arounds) ≡ length b.arounds + 1 = omega arith in ap (λ n. levels_left F C (most_open - n)) one
+
+        -- items that stand in it
+        pub items_opened : (rest : Items) (start next : ℕ) → Stands inside start (nodes_of rest) next → v.at ≡ start → v.end ≡ next
+            → (run F C t (items_step F C rest (levels_left F C (most_open - (length b.arounds + 1))) (star_of C star)) >>- λ r. ends F C (around ∷ b.arounds) r.1) ≡ given → Left F C inside v t given
+        items_opened rest start next stands at_is end_is gives = record {
+          rest = rest;
+          arounds = around ∷ b.arounds;
+          lies = subst (λ (j : ℕ). Lies inside j rest v.end) (sym at_is) (subst (λ (j : ℕ). Lies inside start rest j) (sym end_is) (lies_alone inside rest start next stands));
+          framed = framed_in;
+          same =
+              ap (λ x. onward F C x rest (around ∷ b.arounds) t) star_is
+              ∙ ap (λ levels. run F C t (items_step F C rest levels (star_of C star)) >>- λ r. ends F C (around ∷ b.arounds) r.1) deeper ∙ gives;
+        }
+
+        -- or a step, and nothing after it
+        pub step_opened : (inner : Levels → List ℕ → Step (Unit {0})) → v.end ≡ at
+            → (run F C t (inner (levels_left F C (most_open - (length b.arounds + 1))) (star_of C star)) >>- λ r. ends F C (around ∷ b.arounds) r.1) ≡ given → Behind F C inside v at inner t given
+        step_opened inner end_is gives = record {
+          rest = tree.none;
+          arounds = around ∷ b.arounds;
+          lies = (tree.no_choice, sym end_is);
+          framed = framed_in;
+          same =
+              ap (λ x. run F C t (inner (levels_in F C (around ∷ b.arounds)) (star_of C x)) >>- λ r. ends F C (around ∷ b.arounds) r.1) star_is
+              ∙ ap (λ levels. run F C t (inner levels (star_of C star)) >>- λ r. ends F C (around ∷ b.arounds) r.1) deeper ∙ gives;
+        }
+
     -- an X for a switch that is hit
     module _ (each : Each) (switch size : ℕ) (p : Pattern) (items : Items) (fits : HitFits text C each switch p items) (long : size ≡ length (matching p).name)
         (b : Behind F C text w each.end (λ levels star. hit_step F C p items levels switch >> each_from F C p items levels (switch + 1)) s given) where
-      levels_full : (n : ℕ) → n ≡ 64 → levels_left F C (most_open - n) ≡ []
-      levels_full n e = ap (λ k. levels_left F C (most_open - k)) e
-
-      too_deep : length w.frames ≡ 64 → given ≡ Is (Err SpecTooDeep)
-      too_deep h =
-          sym b.same
-          ∙ ap (λ levels. run F C s (hit_step F C p items levels switch >> each_from F C p items levels (switch + 1)) >>- λ r. onward F C w.star b.rest b.arounds r.1)
-          (levels_full (length b.arounds) (sym (framed_long text C w.frames b.arounds b.framed) ∙ h))
-
-      pub push_refused : (fault : MachineFault) → (fault ≡ Memory) ⊎ ((fault ≡ SpecTooDeep) × (length w.frames ≡ 64)) → (fault ≡ Memory) ⊎ (given ≡ Is (Err fault))
-      push_refused fault (inl memory) = inl memory
-      push_refused fault (inr full) = inr (too_deep full.1 ∙ ap (λ f. Is (Err f)) (sym full.0))
+      abbrev k : Unit {0} × Machine → Answer (Unit {0} × Machine)
+      k r = onward F C w.star b.rest b.arounds r.1
 
       abbrev frame : Frame
       frame = record { opened = Hit each switch; end = w.end; star = w.star }
 
-      abbrev around : Around
-      around = record { frame = record { opened = Hit each switch; end = w.end; star = w.star }; pattern = p; items = items; kept = nothing_kept; rest = b.rest }
+      abbrev work : ℕ → Step (Unit {0})
+      work m = items_step F C items (levels_left F C (most_open - (length b.arounds + 1))) (drop m (name_at (names C) switch))
 
-      one_level : (n : ℕ) → n < 64 → levels_left F C (most_open - n) ≡ ◌∷◌ (λ xs. items_step F C xs (levels_left F C (most_open - (n + 1))) []) (levels_left F C (most_open - (n + 1)))
-      one_level n h = by (most_open - n) (most_open - (n + 1)) (omega (arith, h))
-        where
-          by : (k m : ℕ) → k ≡ suc m → levels_left F C k ≡ ◌∷◌ (λ xs. items_step F C xs (levels_left F C m) []) (levels_left F C m)
-          by k m e = ap (levels_left F C) e
+      abbrev hit_around : Around
+      hit_around = record { frame = frame; pattern = p; items = items; kept = nothing_kept; rest = b.rest }
+
+      hit_given : length w.frames < 64 → (run F C s (work size) >>- λ r. ends F C (hit_around ∷ b.arounds) r.1) ≡ given
+      hit_given h =
+          ap (λ m. run F C s (work m) >>- λ r. ends F C (hit_around ∷ b.arounds) r.1) long
+          ∙ sym (three s (work (length (matching p).name)) (puts (Break ∷ word_of (argument C switch))) (each_from F C p items (levels_in F C b.arounds) (switch + 1)) k)
+          ∙ sym (ap (λ levels. run F C s (hit_step F C p items levels switch >> each_from F C p items (levels_in F C b.arounds) (switch + 1)) >>- k) (one_deeper each.end _ b h)) ∙ b.same
 
       pub opened_left : length w.frames < 64 → (v : Walk) → v.at ≡ each.start → v.end ≡ each.end → v.star ≡ Some (record { switch = switch; size = size }) → v.frames ≡ w.frames ++ frame ∷ []
           → Left F C text v s given
       opened_left h v at_is end_is star_is frames_is =
-          let n = framed_long text C w.frames b.arounds b.framed in
-          let inside : Levels = levels_left F C (most_open - (length b.arounds + 1)) in
-          let k : Unit {0} × Machine → Answer (Unit {0} × Machine) = λ r. onward F C w.star b.rest b.arounds r.1 in
-          let work : Step (Unit {0}) = items_step F C items (levels_left F C (most_open - (length b.arounds + 1))) (drop (length (matching p).name) (name_at (names C) switch)) in
-          record {
-            rest = items;
-            arounds = around ∷ b.arounds;
-            lies = subst (λ (k : ℕ). Lies text k items v.end) (sym at_is) (subst (λ (k : ℕ). Lies text each.start items k) (sym end_is) (lies_alone text items each.start each.end fits.stands));
-            framed = (w.frames, frames_is, record { opened = fits; behind = b.lies }, b.framed);
-            same =
-                ap (λ star. onward F C star items (around ∷ b.arounds) s) star_is
-                ∙ deeper_is (length (around ∷ b.arounds)) (length b.arounds + 1) (omega arith)
-                ∙ ap (λ m. run F C s (items_step F C items (levels_left F C (most_open - (length b.arounds + 1))) (drop m (name_at (names C) switch))) >>- λ r. ends F C (around ∷ b.arounds) r.1) long
-                ∙ sym (three s work (puts (Break ∷ word_of (argument C switch))) (each_from F C p items (levels_in F C b.arounds) (switch + 1)) k)
-                ∙ sym (ap (λ levels. run F C s (hit_step F C p items levels switch >> each_from F C p items (levels_in F C b.arounds) (switch + 1)) >>- k) (one_level (length b.arounds) (omega (arith, n, h))))
-                ∙ b.same;
-          }
-        where
-          deeper_is : (m n : ℕ) → m ≡ n
-              → (run F C s (items_step F C items (levels_left F C (most_open - m)) (drop size (name_at (names C) switch))) >>- λ r. ends F C (around ∷ b.arounds) r.1)
-              ≡ (run F C s (items_step F C items (levels_left F C (most_open - n)) (drop size (name_at (names C) switch))) >>- λ r. ends F C (around ∷ b.arounds) r.1)
-          deeper_is m n e = ap (λ k. run F C s (items_step F C items (levels_left F C (most_open - k)) (drop size (name_at (names C) switch))) >>- λ r. ends F C (around ∷ b.arounds) r.1) e
+          items_opened each.end _ b text (Hit each switch) p items nothing_kept fits refl refl v frames_is (Some (record { switch = switch; size = size })) star_is s items each.start each.end fits.stands at_is end_is (hit_given h)
 
     -- what a part was opened for, after its end
     pub closes : (left : Left F C text w s given) → w.end ≤ w.at → (frame : Frame) (outer : List Frame) (o : Popped text C left.arounds frame outer) (v : Walk) → v.end ≡ frame.end → v.star ≡ frame.star → v.frames ≡ outer

@@ -1,4 +1,5 @@
-use Rattle.drv_machine.proofs.Arguments.{call_opened, call_refused}
+use Rattle.drv_machine.proofs.Arguments.{call_opened}
+use Rattle.drv_machine.proofs.Onward.{too_deep}
 use Rattle.drv_machine.proofs.calling.open_call.Goals as goal
 use Rattle.drv_machine.specs.Code.Opening.{opening_lifted}
 use Rattle.drv_machine.specs.Atoms.{value_step}
@@ -10,7 +11,7 @@ use Rattle.std.proofs.Common.{ap, refl, rules, subst, sym, ◌+◌, ◌∙◌}
 
 pub returns-in_err-push-clause-does : goal.returns-in_err-push-clause-does
 returns-in_err-push-clause-does c F C text name items given within named stands b =
-    let failed = call_refused F C text c.args.walk.now c.args.machine.now c.args.next name items given b (opening_lifted c.in_err-push.field-0.0) c.in_err-push.ensures.err in
+    let failed = too_deep F C text c.args.walk.now c.args.machine.now given c.args.next _ b refl (opening_lifted c.in_err-push.field-0.0) c.in_err-push.ensures.err in
     let f = c.from_residual-in_err-push.ensures in
     search rules
 

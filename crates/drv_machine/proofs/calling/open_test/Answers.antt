@@ -1,5 +1,5 @@
-use Rattle.drv_machine.proofs.Arguments.{ask_opened, ask_refused}
-use Rattle.drv_machine.proofs.Onward.{weight_one}
+use Rattle.drv_machine.proofs.Arguments.{ask_opened}
+use Rattle.drv_machine.proofs.Onward.{too_deep, weight_one}
 use Rattle.drv_machine.proofs.calling.open_test.Goals as goal
 use Rattle.drv_machine.specs.Code.Opening.{opening_lifted}
 use Rattle.drv_machine.specs.Cutting.{Cut}
@@ -11,7 +11,7 @@ use Rattle.std.proofs.Common.{ap, arith, refl, rules, subst, sym, ◌+◌, ◌-�
 
 pub returns-in_err-push-clause-does : goal.returns-in_err-push-clause-does
 returns-in_err-push-clause-does c F C text items arguments kept given fits stands b =
-    let failed = ask_refused F C text c.args.walk.now c.args.machine.now c.args.asking.end items arguments kept given b (opening_lifted c.in_err-push.field-0.0) c.in_err-push.ensures.err in
+    let failed = too_deep F C text c.args.walk.now c.args.machine.now given c.args.asking.end _ b refl (opening_lifted c.in_err-push.field-0.0) c.in_err-push.ensures.err in
     let f = c.from_residual-in_err-push.ensures in
     search rules
 

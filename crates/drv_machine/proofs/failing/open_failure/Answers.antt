@@ -1,11 +1,12 @@
-use Rattle.drv_machine.proofs.FailureFiles.{failure_refused, from_begun}
+use Rattle.drv_machine.proofs.FailureFiles.{from_begun}
+use Rattle.drv_machine.proofs.Onward.{too_deep}
 use Rattle.drv_machine.proofs.failing.open_failure.Goals as goal
 use Rattle.drv_machine.specs.Code.Opening.{opening_lifted}
 use Rattle.std.proofs.Common.{refl, rules}
 
 pub returns-in_err-push-clause-does : goal.returns-in_err-push-clause-does
 returns-in_err-push-clause-does c F C text brace given b =
-    let failed = failure_refused F C text c.args.walk.now c.args.machine.now c.args.end brace given b (opening_lifted c.in_err-push.field-0.0) c.in_err-push.ensures.err in
+    let failed = too_deep F C text c.args.walk.now c.args.machine.now given c.args.end _ b refl (opening_lifted c.in_err-push.field-0.0) c.in_err-push.ensures.err in
     let f = c.from_residual.ensures in
     search rules
 

@@ -1,7 +1,8 @@
-use Rattle.drv_machine.proofs.FileParts.{file_reached, filed_refused, inside_reached}
+use Rattle.drv_machine.proofs.FileParts.{file_reached, inside_reached}
+use Rattle.drv_machine.proofs.Onward.{too_deep}
 use Rattle.drv_machine.proofs.filing.open_filed.Goals as goal
 use Rattle.drv_machine.specs.declared.walk.Walk.{Walk}
-use Rattle.std.proofs.Common.{ap, rules}
+use Rattle.std.proofs.Common.{ap, refl, rules}
 
 pub returns-then-not-starts_file-clause-does : goal.returns-then-not-starts_file-clause-does
 returns-then-not-starts_file-clause-does g c F e text brace given b =
@@ -10,7 +11,7 @@ returns-then-not-starts_file-clause-does g c F e text brace given b =
 
 pub returns-in_err-open_part-clause-does : goal.returns-in_err-open_part-clause-does
 returns-in_err-open_part-clause-does g c F e text brace given b =
-    let failed = filed_refused F c.args.context.now text c.args.walk.now c.args.machine.now c.args.end brace given b c.in_err-open_part.field-0.0 c.in_err-open_part.ensures.err in
+    let failed = too_deep F c.args.context.now text c.args.walk.now c.args.machine.now given c.args.end _ b refl c.in_err-open_part.field-0.0 c.in_err-open_part.ensures.err in
     let f = c.from_residual.ensures in
     search rules
 

@@ -1,4 +1,4 @@
-use Rattle.drv_machine.proofs.Onward.{opened_left, push_refused, weight_one}
+use Rattle.drv_machine.proofs.Onward.{opened_left, too_deep, weight_one}
 use Rattle.drv_machine.proofs.hits.open_hit.Goals as goal
 use Rattle.drv_machine.specs.Code.Opening.{opening_lifted}
 use Rattle.drv_machine.specs.Code.Walking.{weight}
@@ -7,7 +7,7 @@ use Rattle.std.proofs.Common.{ap, arith, refl, rules}
 
 pub returns-in_err-push-clause-does : goal.returns-in_err-push-clause-does
 returns-in_err-push-clause-does c F C text p items s given fits long b =
-    let failed = push_refused F C text c.args.walk.now s given c.args.each c.args.switch c.args.size p items fits long b (opening_lifted c.in_err-push.field-0.0) c.in_err-push.ensures.err in
+    let failed = too_deep F C text c.args.walk.now s given c.args.each.end _ b refl (opening_lifted c.in_err-push.field-0.0) c.in_err-push.ensures.err in
     let f = c.from_residual.ensures in
     search rules
 

@@ -1,5 +1,5 @@
-use Rattle.drv_machine.proofs.NamedTexts.{none_named, some_named, text_opened, text_refused}
-use Rattle.drv_machine.proofs.Onward.{leaf, same_step}
+use Rattle.drv_machine.proofs.NamedTexts.{none_named, some_named, text_opened}
+use Rattle.drv_machine.proofs.Onward.{leaf, same_step, too_deep}
 use Rattle.drv_machine.proofs.named.open_text.Goals as goal
 use Rattle.drv_machine.specs.Code.Opening.{opening_lifted}
 use Rattle.drv_machine.specs.Atoms.{named, tree_named}
@@ -17,11 +17,11 @@ returns-in_default c F s given b =
 pub returns-in_err-push : goal.returns-in_err-push
 returns-in_err-push c F s given b =
     let failed =
-    text_refused F c.args.context.now c.args.walk.now c.args.walk.now.at c.in-Some.text.now s given
+    too_deep F c.args.context.now c.args.walk.now.text.now c.args.walk.now s given c.args.walk.now.at _
     (same_step F c.args.context.now c.args.walk.now.text.now c.args.walk.now s given c.args.walk.now.at (λ levels star. named F c.args.context.now (tree_named F c.args.context.now c.args.name.now) levels) b
     (λ levels star. named F c.args.context.now (Some (tree_of c.in-Some.text.now)) levels) s
     (ap (λ found. run F c.args.context.now s (named F c.args.context.now (option_map tree_of found) (levels_in F c.args.context.now b.arounds))) (some_named _ c.named.result _ c.in-Some.text c.named.ensures c.in-Some.is)))
-    (opening_lifted c.in_err-push.field-0.0) c.in_err-push.ensures.err in
+    refl (opening_lifted c.in_err-push.field-0.0) c.in_err-push.ensures.err in
     let f = c.from_residual.ensures in
     search rules
 
