@@ -1,19 +1,19 @@
 use Rattle.drv_machine.proofs.ItemKinds.{item_no_test, tests_first}
 use Rattle.drv_machine.proofs.Laws.{run_then}
-use Rattle.drv_machine.proofs.Standing.{next_at, stand_grows}
+use Rattle.drv_machine.proofs.Standing.{First, next_at, stand_grows, stands_behind, stands_within}
 use Rattle.drv_machine.proofs.Steps.{then_err, then_ok}
 use Rattle.drv_machine.specs.Atoms.{choices_step, each_hit, first_true, found_step, items_step, judged, matching, places, truth, worked}
 use Rattle.drv_machine.specs.Code.ByKind.{AskedTest, TrueTest, asks_switch, labelled}
 use Rattle.drv_machine.specs.Context.{Context, names}
 use Rattle.drv_machine.specs.Code.Running.{Machine, run}
-use Rattle.drv_machine.specs.Code.Standing.{Part, Stands, after_tests, tests_in}
+use Rattle.drv_machine.specs.Code.Standing.{Stands, after_tests, tests_in}
 use Rattle.drv_machine.specs.Code.Walking.{AskFits, Kept, NextHit, arguments_of, each_from, hit_step}
 use Rattle.drv_machine.specs.Working.{◌>>-◌, ◌>>=◌, ◌>>◌, Answer, Levels, Step, look, nothing}
 use Rattle.drv_machine.specs.declared.fault.MachineFault.TheVariants.{Memory}
 use Rattle.drv_machine.specs.declared.fault.MachineFault.{MachineFault}
 use Rattle.drv_match.specs.Matching.{IsNextHit, is_hit}
 use Rattle.drv_match.specs.Pattern as switches
-use Rattle.drv_syntax.specs.Labels.{Label, Nodes, alternative_label, both, choice_nodes, label_at, labels_of, nodes_of, test_label, test_nodes}
+use Rattle.drv_syntax.specs.Labels.{Label, Nodes, alternative_label, both, choice_nodes, label_at, nodes_of, test_label, test_nodes}
 use Rattle.drv_syntax.specs.Parsed.{tree_of}
 use Rattle.drv_syntax.specs.Stars.{has_star}
 use Rattle.drv_syntax.specs.Tokens.{tokens_of}
@@ -43,10 +43,7 @@ pub record FrontChoice (text : List ℕ) (at : ℕ) (choices : Choices) (end : �
   pub items : Items
   pub others : Choices
   pub is : choices ≡ tree.choice span tests items others
-  pub next : ℕ
-  pub part : Part (tokens_of (tree_of text)) (labels_of (tree_of text)) at kinds.Alternative (alternative_label items) next
-  pub within : Stands text (at + 1) (both (test_nodes tests) (nodes_of items)) next
-  pub behind : Stands text next (choice_nodes others) end
+  pub first : First text at kinds.Alternative (alternative_label items) (both (test_nodes tests) (nodes_of items)) (choice_nodes others) end
 
 pub front_choice : (text : List ℕ) (at : ℕ) (choices : Choices) (end : ℕ) → at < end → Stands text at (choice_nodes choices) end → FrontChoice text at choices end
 front_choice text at tree.no_choice end h e = absurd (omega (arith, h, e))
@@ -56,10 +53,7 @@ front_choice text at (tree.choice span tests items others) end h (next, part, wi
   items = items;
   others = others;
   is = refl;
-  next = next;
-  part = part;
-  within = within;
-  behind = behind;
+  first = record { next = next; part = part; within = within; behind = behind };
 }
 
 pub no_choices_left : (text : List ℕ) (at : ℕ) (choices : Choices) (end : ℕ) → end ≤ at → Stands text at (choice_nodes choices) end → choices ≡ tree.no_choice
@@ -95,12 +89,12 @@ module _ (F : Facts) (C : Context) (text : List ℕ) (s t : Machine) (at end : �
     pub others_there : (choices : Choices) × Stands text token.next (choice_nodes choices) end
     others_there =
         let f = front_choice text at left.rest end h left.stands in
-        (f.others, subst (λ (k : ℕ). Stands text k (choice_nodes f.others) end) (sym (next_at text at token kinds.Alternative (alternative_label f.items) f.next there f.part)) f.behind)
+        (f.others, stands_behind f.first token there)
 
     module _ (middle : ℕ) (first : (nodes : Nodes) → Stands text (at + 1) nodes token.next → Stands text (at + 1) (tests_in nodes) middle)
         (after_first : (nodes : Nodes) → Stands text (at + 1) nodes token.next → Stands text middle (after_tests nodes) token.next) where
       inside : (f : FrontChoice text at left.rest end) → Stands text (at + 1) (both (test_nodes f.tests) (nodes_of f.items)) token.next
-      inside f = subst (λ (k : ℕ). Stands text (at + 1) (both (test_nodes f.tests) (nodes_of f.items)) k) (sym (next_at text at token kinds.Alternative (alternative_label f.items) f.next there f.part)) f.within
+      inside f = stands_within f.first token there
 
       tests_there : (f : FrontChoice text at left.rest end) → Stands text (at + 1) (test_nodes f.tests) middle
       tests_there f = subst (λ (xs : Nodes). Stands text (at + 1) xs middle) (tests_first f.tests f.items) (first (both (test_nodes f.tests) (nodes_of f.items)) (inside f))
@@ -134,7 +128,7 @@ module _ (F : Facts) (C : Context) (text : List ℕ) (s t : Machine) (at end : �
         none_true u none =
             let f = front_choice text at left.rest end h left.stands in record {
               rest = f.others;
-              stands = subst (λ (k : ℕ). Stands text k (choice_nodes f.others) end) (sym (next_at text at token kinds.Alternative (alternative_label f.items) f.next there f.part)) f.behind;
+              stands = stands_behind f.first token there;
               same = sym (with_tests f ∙ then_ok F C t (first_true F C f.tests levels star) (by_found F C f.items f.others levels star) None u (none f.tests (tests_there f)));
             }
 
@@ -146,7 +140,7 @@ module _ (F : Facts) (C : Context) (text : List ℕ) (s t : Machine) (at end : �
             let f = front_choice text at left.rest end h left.stands in
             let g = found f.tests (tests_there f) in
             subst P (sym (with_tests f ∙ then_ok F C t (first_true F C f.tests levels star) (by_found F C f.items f.others levels star) (Some g.asked) u g.gives))
-            (working g.negated g.asked f.items (choices_step F C f.others levels star) (ap (λ (l : Label). l.holds_star) f.part.label_is) g.label_is (items_there f))
+            (working g.negated g.asked f.items (choices_step F C f.others levels star) (ap (λ (l : Label). l.holds_star) f.first.part.label_is) g.label_is (items_there f))
 
         -- a test by a function comes first: its arguments are opened, with what follows them
         pub one_asked : (u : Machine) (test : ℕ) (at_test : Token) (is : slice_get (tokens_of (tree_of text)) test ≡ Some at_test) (own : Bool) (owns : own ≡ (label_at (tree_of text) at).holds_star) (P : Answer (Unit {0} × Machine) → Type 0)
@@ -169,10 +163,10 @@ module _ (F : Facts) (C : Context) (text : List ℕ) (s t : Machine) (at end : �
               name_is = ap (λ (l : Label). l.word) g.part.label_is;
               label_is = g.part.label_is;
               later = omega (arith, next, g.part.later);
-              own_is = owns ∙ ap (λ (l : Label). l.holds_star) f.part.label_is;
+              own_is = owns ∙ ap (λ (l : Label). l.holds_star) f.first.part.label_is;
               tests_stand = subst (λ (k : ℕ). Stands text k (test_nodes g.others) middle) (sym next) g.behind;
               items_stand = items_there f;
-              choices_stand = subst (λ (k : ℕ). Stands text k (choice_nodes f.others) end) (sym (next_at text at token kinds.Alternative (alternative_label f.items) f.next there f.part)) f.behind;
+              choices_stand = stands_behind f.first token there;
             })
             (subst (λ (k : ℕ). Stands text (test + 1) (nodes_of g.arguments) k) (sym next) g.within))
 

@@ -1,19 +1,19 @@
 use Rattle.drv_machine.proofs.Cutter.{put_failed, put_then}
 use Rattle.drv_machine.proofs.ItemKinds.{labelled_is}
-use Rattle.drv_machine.proofs.Standing.{next_at, stand_grows}
+use Rattle.drv_machine.proofs.Standing.{First, stand_grows, stands_behind}
 use Rattle.drv_machine.proofs.Steps.{fails_as}
 use Rattle.drv_machine.specs.Atoms.{emitted, matching, places, switch_atoms}
 use Rattle.drv_machine.specs.Code.ByKind.{labelled, put_at}
 use Rattle.drv_machine.specs.Context.{Context, argument, names}
 use Rattle.drv_machine.specs.Cutting.{Cut, all_taken}
 use Rattle.drv_machine.specs.Code.Running.{Machine, run}
-use Rattle.drv_machine.specs.Code.Standing.{Part, Stands}
+use Rattle.drv_machine.specs.Code.Standing.{Stands}
 use Rattle.drv_machine.specs.Working.{◌>>-◌, Answer, Atom, Break, Put, World, puts, word_of}
 use Rattle.drv_machine.specs.declared.fault.MachineFault.TheVariants.{Memory}
 use Rattle.drv_machine.specs.declared.fault.MachineFault.{MachineFault}
 use Rattle.drv_match.specs.Matching.{any_hits, is_any_hit, is_hit, name_at}
 use Rattle.drv_match.specs.Pattern as switches
-use Rattle.drv_syntax.specs.Labels.{label_at, labels_of, pattern_label, pattern_nodes}
+use Rattle.drv_syntax.specs.Labels.{label_at, no_node, pattern_label, pattern_nodes}
 use Rattle.drv_syntax.specs.Parsed.{tree_of}
 use Rattle.drv_syntax.specs.Tokens.{tokens_of}
 use Rattle.drv_syntax.specs.Tree.{Pattern, Span}
@@ -35,16 +35,14 @@ pub record PatternsLeft (text : List ℕ) (at end : ℕ) (done : List switches.P
   pub same : done ++ map (λ p. matching p.1) rest ≡ map (λ p. matching p.1) patterns
 
 pub record FrontPattern (text : List ℕ) (at : ℕ) (patterns : List (Span × Pattern)) (end : ℕ) : Type 0 where
-  pub first : Span × Pattern
+  pub pattern : Span × Pattern
   pub others : List (Span × Pattern)
-  pub is : patterns ≡ first ∷ others
-  pub next : ℕ
-  pub part : Part (tokens_of (tree_of text)) (labels_of (tree_of text)) at kinds.Pattern (pattern_label first.1) next
-  pub behind : Stands text next (pattern_nodes others) end
+  pub is : patterns ≡ pattern ∷ others
+  pub first : First text at kinds.Pattern (pattern_label pattern.1) no_node (pattern_nodes others) end
 
 pub front_pattern : (text : List ℕ) (at : ℕ) (patterns : List (Span × Pattern)) (end : ℕ) → at < end → Stands text at (pattern_nodes patterns) end → FrontPattern text at patterns end
 front_pattern text at [] end h e = absurd (omega (arith, h, e))
-front_pattern text at (p ∷ patterns) end h (next, part, within, behind) = record { first = p; others = patterns; is = refl; next = next; part = part; behind = behind }
+front_pattern text at (p ∷ patterns) end h (next, part, within, behind) = record { pattern = p; others = patterns; is = refl; first = record { next = next; part = part; within = within; behind = behind } }
 
 pub no_patterns_left : (text : List ℕ) (at : ℕ) (patterns : List (Span × Pattern)) (end : ℕ) → end ≤ at → Stands text at (pattern_nodes patterns) end → patterns ≡ []
 no_patterns_left text at [] end h s = refl
@@ -79,12 +77,12 @@ pub patterns_step : (text : List ℕ) (at end : ℕ) → at < end → (token : T
     → p ≡ labelled (label_at (tree_of text) at) → new ≡ done ++ p ∷ [] → (patterns : List (Span × Pattern)) → PatternsLeft text at end done patterns → PatternsLeft text token.next end new patterns
 patterns_step text at end h token there done new p is e patterns left =
     let f = front_pattern text at left.rest end h left.stands in
-    let m = matching f.first.1 in
-    let one : p ≡ matching f.first.1 = is ∙ ap labelled f.part.label_is ∙ labelled_is f.first.1 in record {
+    let m = matching f.pattern.1 in
+    let one : p ≡ matching f.pattern.1 = is ∙ ap labelled f.first.part.label_is ∙ labelled_is f.pattern.1 in record {
       rest = f.others;
-      stands = subst (λ (k : ℕ). Stands text k (pattern_nodes f.others) end) (sym (next_at text at token kinds.Pattern (pattern_label f.first.1) f.next there f.part)) f.behind;
+      stands = stands_behind f.first token there;
       same =
-          ap (λ ps. ps ++ map (λ q. matching q.1) f.others) (e ∙ ap (λ q. done ++ q ∷ []) one) ∙ append_assoc done (matching f.first.1 ∷ []) (map (λ q. matching q.1) f.others)
+          ap (λ ps. ps ++ map (λ q. matching q.1) f.others) (e ∙ ap (λ q. done ++ q ∷ []) one) ∙ append_assoc done (matching f.pattern.1 ∷ []) (map (λ q. matching q.1) f.others)
           ∙ ap (λ qs. done ++ map (λ q. matching q.1) qs) (sym f.is) ∙ left.same;
     }
 

@@ -1,7 +1,7 @@
 use Rattle.drv_machine.proofs.ChoiceSteps.{front_choice}
 use Rattle.drv_machine.proofs.Laws.{run_then, then_then}
 use Rattle.drv_machine.proofs.Onward.{one_deeper, step_opened, three}
-use Rattle.drv_machine.proofs.Standing.{some_same, stand_grows}
+use Rattle.drv_machine.proofs.Standing.{first_kind, some_same, stand_grows}
 use Rattle.drv_machine.specs.Atoms.{brace_step, item_step, levels_left, places, switch_atoms}
 use Rattle.drv_machine.specs.Context.{Context}
 use Rattle.drv_machine.specs.Cutting.{Cut, inside_done}
@@ -112,7 +112,7 @@ module _ (text : List ℕ) (start end : ℕ) (h : start < end) (token : Token) (
   are_patterns k (tree.Emit patterns) s = (patterns, refl)
   are_patterns k (tree.Choose choices) s =
       let f = front_choice text start choices end h s in
-      let same = sym k ∙ ap (λ (t : Token). t.kind) (some_same token f.part.token (sym there ∙ f.part.there)) ∙ f.part.kind_is in absurd cc
+      let same = sym k ∙ first_kind f.first token there in absurd cc
 
   pub are_choices : (token.kind ≡ kinds.Pattern → ⊥) → (brace : Brace) → Stands text start (brace_nodes brace) end → Chooses text start end brace
   are_choices never (tree.Choose choices) s = record { choices = choices; stands = s; same = λ F C t levels star. refl }

@@ -92,6 +92,35 @@ pub record Passed (text : List ℕ) (start at : ℕ) (nodes : Nodes) (end : ℕ)
 pub passed_none : (text : List ℕ) (start : ℕ) (nodes : Nodes) (end : ℕ) → Stands text start nodes end → Passed text start start nodes end
 passed_none text start nodes end s = record { rest = nodes; stands = s; joins = λ x t. t; same = refl }
 
+pub some_same : {X : Type 0} (a b : X) → Some a ≡ Some b → a ≡ b
+some_same {X = X} a b e = ap (λ (o : Option X). unwrap_or o a) e
+
+-- the part at a place ends where its token says
+pub next_at : (text : List ℕ) (at : ℕ) (token : Token) (kind : TokenKind) (label : Label) (next : ℕ) → slice_get (tokens_of (tree_of text)) at ≡ Some token
+    → Part (tokens_of (tree_of text)) (labels_of (tree_of text)) at kind label next → token.next ≡ next
+next_at text at token kind label next e part = ap (λ (t : Token). t.next) (some_same token part.token (sym e ∙ part.there)) ∙ part.next_is
+
+-- a part that stands first, and what stands behind it
+pub record First (text : List ℕ) (at : ℕ) (kind : TokenKind) (label : Label) (inner others : Nodes) (end : ℕ) : Type 0 where
+  pub next : ℕ
+  pub part : Part (tokens_of (tree_of text)) (labels_of (tree_of text)) at kind label next
+  pub within : Stands text (at + 1) inner next
+  pub behind : Stands text next others end
+
+-- by the token that is there
+module _ {text : List ℕ} {at : ℕ} {kind : TokenKind} {label : Label} {inner others : Nodes} {end : ℕ} (f : First text at kind label inner others end) (token : Token) (there : slice_get (tokens_of (tree_of text)) at ≡ Some token) where
+  pub first_kind : token.kind ≡ kind
+  first_kind = ap (λ (t : Token). t.kind) (some_same token f.part.token (sym there ∙ f.part.there)) ∙ f.part.kind_is
+
+  pub first_next : token.next ≡ f.next
+  first_next = next_at text at token kind label f.next there f.part
+
+  pub stands_within : Stands text (at + 1) inner token.next
+  stands_within = subst (λ (k : ℕ). Stands text (at + 1) inner k) (sym first_next) f.within
+
+  pub stands_behind : Stands text token.next others end
+  stands_behind = subst (λ (k : ℕ). Stands text k others end) (sym first_next) f.behind
+
 -- the token at the first place of parts that aren't at their end
 pub record Front (text : List ℕ) (at : ℕ) (nodes : Nodes) (end : ℕ) : Type 0 where
   pub kind : TokenKind
@@ -100,10 +129,7 @@ pub record Front (text : List ℕ) (at : ℕ) (nodes : Nodes) (end : ℕ) : Type
   pub inner : Nodes
   pub others : Nodes
   pub is : nodes ≡ node kind label span inner others
-  pub next : ℕ
-  pub part : Part (tokens_of (tree_of text)) (labels_of (tree_of text)) at kind label next
-  pub within : Stands text (at + 1) inner next
-  pub behind : Stands text next others end
+  pub first : First text at kind label inner others end
 
 pub front : (text : List ℕ) (at : ℕ) (nodes : Nodes) (end : ℕ) → at < end → Stands text at nodes end → Front text at nodes end
 front text at no_node end h e = absurd (omega (arith, h, e))
@@ -114,14 +140,8 @@ front text at (node kind label span inner others) end h (next, part, within, beh
   inner = inner;
   others = others;
   is = refl;
-  next = next;
-  part = part;
-  within = within;
-  behind = behind;
+  first = record { next = next; part = part; within = within; behind = behind };
 }
-
-pub some_same : {X : Type 0} (a b : X) → Some a ≡ Some b → a ≡ b
-some_same {X = X} a b e = ap (λ (o : Option X). unwrap_or o a) e
 
 -- what stands at a place before the end of parts, by the token there
 pub record Here (text : List ℕ) (at : ℕ) (token : Token) (end : ℕ) : Type 0 where
@@ -132,42 +152,35 @@ pub record Here (text : List ℕ) (at : ℕ) (token : Token) (end : ℕ) : Type 
   pub behind : Spans text token.next end
 
 module _ (text : List ℕ) (at end : ℕ) (h : at < end) (token : Token) (e : slice_get (tokens_of (tree_of text)) at ≡ Some token) where
-  -- the token at the front is the one in the list
-  pub kind_there : (nodes : Nodes) (f : Front text at nodes end) → token.kind ≡ f.kind
-  kind_there nodes f = ap (λ (t : Token). t.kind) (some_same token f.part.token (sym e ∙ f.part.there)) ∙ f.part.kind_is
-
-  pub next_there : (nodes : Nodes) (f : Front text at nodes end) → token.next ≡ f.next
-  next_there nodes f = ap (λ (t : Token). t.next) (some_same token f.part.token (sym e ∙ f.part.there)) ∙ f.part.next_is
-
   pub here : Spans text at end → Here text at token end
   here s =
       let f = front text at s.nodes end h s.stands in
-      let n = next_there s.nodes f in record {
+      let n = first_next f.first token e in record {
         in_list = slice_get_within (tokens_of (tree_of text)) at token e;
-        later = omega (arith, n, f.part.later);
-        in_parts = omega (arith, n, stand_grows _ _ f.next f.others end f.behind);
-        within = record { nodes = f.inner; stands = subst (λ (k : ℕ). Stands text (at + 1) f.inner k) (sym n) f.within };
-        behind = record { nodes = f.others; stands = subst (λ (k : ℕ). Stands text k f.others end) (sym n) f.behind };
+        later = omega (arith, n, f.first.part.later);
+        in_parts = omega (arith, n, stand_grows _ _ f.first.next f.others end f.first.behind);
+        within = record { nodes = f.inner; stands = stands_within f.first token e };
+        behind = record { nodes = f.others; stands = stands_behind f.first token e };
       }
 
   module _ (start : ℕ) (nodes : Nodes) (p : Passed text start at nodes end) where
     pub passed_step : is_test token.kind ≡ true → Passed text start token.next nodes end
     passed_step t =
         let f = front text at p.rest end h p.stands in
-        let test : is_test f.kind ≡ true = ap is_test (sym (kind_there p.rest f)) ∙ t in
-        let n = next_there p.rest f in record {
+        let test : is_test f.kind ≡ true = ap is_test (sym (first_kind f.first token e)) ∙ t in
+        let n = first_next f.first token e in record {
           rest = f.others;
-          stands = subst (λ (k : ℕ). Stands text k f.others end) (sym n) f.behind;
+          stands = stands_behind f.first token e;
           joins = λ x s.
               p.joins x (subst (λ (xs : Nodes). Stands text at xs x) (sym (ap tests_in f.is ∙ ap (λ b. if b then node f.kind f.label f.span f.inner (tests_in f.others) else no_node) test))
-              (f.next, f.part, f.within, subst (λ (k : ℕ). Stands text k (tests_in f.others) x) n s));
+              (f.first.next, f.first.part, f.first.within, subst (λ (k : ℕ). Stands text k (tests_in f.others) x) n s));
           same = sym (ap (λ b. if b then after_tests f.others else node f.kind f.label f.span f.inner f.others) test) ∙ sym (ap after_tests f.is) ∙ p.same;
         }
 
     pub passed_stop : is_test token.kind ≡ false → Stands text start (tests_in nodes) at × Stands text at (after_tests nodes) end
     passed_stop t =
         let f = front text at p.rest end h p.stands in
-        let test : is_test f.kind ≡ false = ap is_test (sym (kind_there p.rest f)) ∙ t in (
+        let test : is_test f.kind ≡ false = ap is_test (sym (first_kind f.first token e)) ∙ t in (
           p.joins at (subst (λ (xs : Nodes). Stands text at xs at) (sym (ap tests_in f.is ∙ ap (λ b. if b then node f.kind f.label f.span f.inner (tests_in f.others) else no_node) test)) refl),
           subst (λ (xs : Nodes). Stands text at xs end)
               (f.is ∙ sym (ap (λ b. if b then after_tests f.others else node f.kind f.label f.span f.inner f.others) test) ∙ sym (ap after_tests f.is) ∙ p.same) p.stands,
@@ -183,7 +196,7 @@ not_test kinds.Test h = absurd (h refl)
 not_test _ h = refl
 
 pub front_in : (text : List ℕ) (at end : ℕ) → at < end → Spans text at end → at < length (tokens_of (tree_of text))
-front_in text at end h s = let f = front text at s.nodes end h s.stands in slice_get_within (tokens_of (tree_of text)) at f.part.token f.part.there
+front_in text at end h s = let f = front text at s.nodes end h s.stands in slice_get_within (tokens_of (tree_of text)) at f.first.part.token f.first.part.there
 
 at_end : (text : List ℕ) (at end : ℕ) (nodes : Nodes) → end ≤ at → Stands text at nodes end → at ≡ end
 at_end text at end nodes h s = omega (arith, h, stand_grows _ _ at nodes end s)
@@ -194,11 +207,6 @@ passed_end text start at nodes end h p =
       p.joins at (subst (λ (xs : Nodes). Stands text at xs at) (sym (ap tests_in none)) refl),
       subst (λ (xs : Nodes). Stands text at xs end) (sym (ap after_tests none) ∙ p.same) (at_end text at end p.rest h p.stands),
     )
-
--- the part at a place ends where its token says
-pub next_at : (text : List ℕ) (at : ℕ) (token : Token) (kind : TokenKind) (label : Label) (next : ℕ) → slice_get (tokens_of (tree_of text)) at ≡ Some token
-    → Part (tokens_of (tree_of text)) (labels_of (tree_of text)) at kind label next → token.next ≡ next
-next_at text at token kind label next e part = ap (λ (t : Token). t.next) (some_same token part.token (sym e ∙ part.there)) ∙ part.next_is
 
 pub whole_there : (text : List ℕ) (end : ℕ) → end ≡ length (tokens_of (tree_of text)) → Stands text 0 (nodes_of (tree_of text)) end
 whole_there text end e = subst (λ (k : ℕ). Stands text 0 (nodes_of (tree_of text)) k) (sym e) (whole_stands text)

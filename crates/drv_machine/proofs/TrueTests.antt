@@ -1,4 +1,4 @@
-use Rattle.drv_machine.proofs.Standing.{next_at, stand_grows}
+use Rattle.drv_machine.proofs.Standing.{First, stand_grows, stands_behind}
 use Rattle.drv_machine.proofs.Steps.{then_err, then_ok}
 use Rattle.drv_machine.specs.Atoms.{first_true, judged, truth, turned}
 use Rattle.drv_machine.specs.Code.ByKind.{AskedTest, TrueTest, asked_step, is_call}
@@ -48,10 +48,7 @@ pub record FrontTest (text : List ℕ) (at : ℕ) (tests : Tests) (end : ℕ) : 
   pub asked : Asked
   pub others : Tests
   pub is : tests ≡ tree.test span negated asked others
-  pub next : ℕ
-  pub part : Part (tokens_of (tree_of text)) (labels_of (tree_of text)) at kinds.Test (test_label negated asked) next
-  pub within : Stands text (at + 1) (asked_nodes asked) next
-  pub behind : Stands text next (test_nodes others) end
+  pub first : First text at kinds.Test (test_label negated asked) (asked_nodes asked) (test_nodes others) end
 
 pub front_test : (text : List ℕ) (at : ℕ) (tests : Tests) (end : ℕ) → at < end → Stands text at (test_nodes tests) end → FrontTest text at tests end
 front_test text at tree.no_test end h e = absurd (omega (arith, h, e))
@@ -61,10 +58,7 @@ front_test text at (tree.test span negated asked others) end h (next, part, with
   asked = asked;
   others = others;
   is = refl;
-  next = next;
-  part = part;
-  within = within;
-  behind = behind;
+  first = record { next = next; part = part; within = within; behind = behind };
 }
 
 pub no_tests_left : (text : List ℕ) (at : ℕ) (tests : Tests) (end : ℕ) → end ≤ at → Stands text at (test_nodes tests) end → tests ≡ tree.no_test
@@ -104,16 +98,16 @@ negated_kept kept asked text at holds negated b n label e = ap (λ m. turned m h
 module _ (F : Facts) (C : Context) (text : List ℕ) (s v : Machine) (at end : ℕ) (h : at < end) (tests : Tests) (levels : Levels) (star : List ℕ) (left : TestsLeft F C text s v at end tests levels star) where
   turned_at : (f : FrontTest text at left.rest end) (holds negated b : Bool) → negated ≡ (label_at (tree_of text) at).negated → not (beq holds negated) ≡ b → turned f.negated holds ≡ b
   turned_at f holds negated b n e =
-      ap (λ m. turned m holds) (sym (negated_is f.negated f.asked) ∙ ap (λ (l : Label). l.negated) (sym f.part.label_is) ∙ sym n) ∙ turned_is holds negated ∙ e
+      ap (λ m. turned m holds) (sym (negated_is f.negated f.asked) ∙ ap (λ (l : Label). l.negated) (sym f.first.part.label_is) ∙ sym n) ∙ turned_is holds negated ∙ e
 
   asks_at : (f : FrontTest text at left.rest end) (given : Answer (Bool × Machine)) → run F C v (asked_step C (label_at (tree_of text) at)) ≡ given → run F C v (asked_step C (test_label f.negated f.asked)) ≡ given
-  asks_at f given e = ap (λ l. run F C v (asked_step C l)) (sym f.part.label_is) ∙ e
+  asks_at f given e = ap (λ l. run F C v (asked_step C l)) (sym f.first.part.label_is) ∙ e
 
   from_rest : (f : FrontTest text at left.rest end) → run F C s (first_true F C tests levels star) ≡ run F C v (first_true F C (tree.test f.span f.negated f.asked f.others) levels star)
   from_rest f = sym left.same ∙ ap (λ ts. run F C v (first_true F C ts levels star)) f.is
 
   plain_at : (f : FrontTest text at left.rest end) (b : Bool) → is_call (label_at (tree_of text) at) ≡ b → is_call (test_label f.negated f.asked) ≡ b
-  plain_at f b e = ap is_call (sym f.part.label_is) ∙ e
+  plain_at f b e = ap is_call (sym f.first.part.label_is) ∙ e
 
   -- a test by a function stands here
   pub found_asks : is_call (label_at (tree_of text) at) ≡ true → AskedTest F C text end s v at tests levels star
@@ -124,10 +118,10 @@ module _ (F : Facts) (C : Context) (text : List ℕ) (s v : Machine) (at end : �
         name = r.0;
         arguments = r.1;
         others = f.others;
-        next = f.next;
-        part = subst (λ (a : Asked). Part (tokens_of (tree_of text)) (labels_of (tree_of text)) at kinds.Test (test_label f.negated a) f.next) r.2 f.part;
-        within = subst (λ (a : Asked). Stands text (at + 1) (asked_nodes a) f.next) r.2 f.within;
-        behind = f.behind;
+        next = f.first.next;
+        part = subst (λ (a : Asked). Part (tokens_of (tree_of text)) (labels_of (tree_of text)) at kinds.Test (test_label f.negated a) f.first.next) r.2 f.first.part;
+        within = subst (λ (a : Asked). Stands text (at + 1) (asked_nodes a) f.first.next) r.2 f.first.within;
+        behind = f.first.behind;
         gives = from_rest f ∙ ap (λ (a : Asked). run F C v (first_true F C (tree.test f.span f.negated a f.others) levels star)) r.2;
       }
 
@@ -137,7 +131,7 @@ module _ (F : Facts) (C : Context) (text : List ℕ) (s v : Machine) (at end : �
       let f = front_test text at left.rest end h left.stands in record {
         negated = f.negated;
         asked = f.asked;
-        label_is = f.part.label_is;
+        label_is = f.first.part.label_is;
         gives = from_rest f ∙ test_is_true F C v u f.span f.negated f.asked f.others levels star (plain_at f false plain) holds (asks_at f (Is (Ok (holds, u))) e) (turned_at f holds negated true n t);
       }
 
@@ -146,7 +140,7 @@ module _ (F : Facts) (C : Context) (text : List ℕ) (s v : Machine) (at end : �
   found_false plain u holds negated n e t token there =
       let f = front_test text at left.rest end h left.stands in record {
         rest = f.others;
-        stands = subst (λ (k : ℕ). Stands text k (test_nodes f.others) end) (sym (next_at text at token kinds.Test (test_label f.negated f.asked) f.next there f.part)) f.behind;
+        stands = stands_behind f.first token there;
         same = sym (from_rest f ∙ test_is_false F C v u f.span f.negated f.asked f.others levels star (plain_at f false plain) holds (asks_at f (Is (Ok (holds, u))) e) (turned_at f holds negated false n t));
       }
 
