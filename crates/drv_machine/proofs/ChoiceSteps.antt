@@ -1,7 +1,8 @@
 use Rattle.drv_machine.proofs.ItemKinds.{item_no_test, tests_first}
 use Rattle.drv_machine.proofs.Laws.{run_then}
-use Rattle.drv_machine.proofs.Standing.{First, next_at, stand_grows, stands_behind, stands_within}
+use Rattle.drv_machine.proofs.Standing.{First, first_of, next_at, stand_grows, stands_behind, stands_within}
 use Rattle.drv_machine.proofs.Steps.{then_err, then_ok}
+use Rattle.drv_machine.proofs.TrueTests.{no_tests_left}
 use Rattle.drv_machine.specs.Atoms.{choices_step, each_hit, first_true, found_step, items_step, judged, matching, places, truth, worked}
 use Rattle.drv_machine.specs.Code.ByKind.{AskedTest, TrueTest, asks_switch, labelled}
 use Rattle.drv_machine.specs.Context.{Context, names}
@@ -47,13 +48,13 @@ pub record FrontChoice (text : List ℕ) (at : ℕ) (choices : Choices) (end : �
 
 pub front_choice : (text : List ℕ) (at : ℕ) (choices : Choices) (end : ℕ) → at < end → Stands text at (choice_nodes choices) end → FrontChoice text at choices end
 front_choice text at tree.no_choice end h e = absurd (omega (arith, h, e))
-front_choice text at (tree.choice span tests items others) end h (next, part, within, behind) = record {
+front_choice text at (tree.choice span tests items others) end h s = record {
   span = span;
   tests = tests;
   items = items;
   others = others;
   is = refl;
-  first = record { next = next; part = part; within = within; behind = behind };
+  first = first_of s;
 }
 
 pub no_choices_left : (text : List ℕ) (at : ℕ) (choices : Choices) (end : ℕ) → end ≤ at → Stands text at (choice_nodes choices) end → choices ≡ tree.no_choice
@@ -65,11 +66,6 @@ pub tests_after : (tests : Tests) (items : Items) → after_tests (both (test_no
 tests_after tree.no_test tree.none = refl
 tests_after tree.no_test (tree.more span item items) = rw (item_no_test item) refl
 tests_after (tree.test span negated asked tests) items = tests_after tests items
-
--- no test takes no place
-no_tests : (text : List ℕ) (at end : ℕ) (tests : Tests) → end ≡ at → Stands text at (test_nodes tests) end → tests ≡ tree.no_test
-no_tests text at end tree.no_test h s = refl
-no_tests text at end (tree.test span negated asked tests) h (next, part, within, behind) = absurd (omega (arith, h, part.later, stand_grows _ _ next (test_nodes tests) end behind))
 
 -- an X by the first of its tests that is true, and the alternatives after it
 abbrev pub by_found : Facts → Context → Items → Choices → Levels → List ℕ → Option Asked → Step (Unit {0})
@@ -104,7 +100,7 @@ module _ (F : Facts) (C : Context) (text : List ℕ) (s t : Machine) (at end : �
 
       -- the default
       default_is : (f : FrontChoice text at left.rest end) → middle ≡ at + 1 → run F C s (choices_step F C choices levels star) ≡ run F C t (items_step F C f.items levels star)
-      default_is f e = from_rest f ∙ ap (λ ts. run F C t (choices_step F C (tree.choice f.span ts f.items f.others) levels star)) (no_tests text (at + 1) middle f.tests e (tests_there f))
+      default_is f e = from_rest f ∙ ap (λ ts. run F C t (choices_step F C (tree.choice f.span ts f.items f.others) levels star)) (no_tests_left text (at + 1) f.tests middle (omega (arith, e)) (tests_there f))
 
       pub as_default : (P : Answer (Unit {0} × Machine) → Type 0) → middle ≡ at + 1 → ((items : Items) → Stands text middle (nodes_of items) token.next → P (run F C t (items_step F C items levels star))) → P (run F C s (choices_step F C choices levels star))
       as_default P e working = let f = front_choice text at left.rest end h left.stands in subst P (sym (default_is f e)) (working f.items (items_there f))

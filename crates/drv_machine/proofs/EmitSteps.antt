@@ -1,6 +1,6 @@
 use Rattle.drv_machine.proofs.Cutter.{put_failed, put_then}
 use Rattle.drv_machine.proofs.ItemKinds.{labelled_is}
-use Rattle.drv_machine.proofs.Standing.{First, stand_grows, stands_behind}
+use Rattle.drv_machine.proofs.Standing.{First, first_of, stand_grows, stands_behind}
 use Rattle.drv_machine.proofs.Steps.{fails_as}
 use Rattle.drv_machine.specs.Atoms.{emitted, matching, places, switch_atoms}
 use Rattle.drv_machine.specs.Code.ByKind.{labelled, put_at}
@@ -42,7 +42,7 @@ pub record FrontPattern (text : List ℕ) (at : ℕ) (patterns : List (Span × P
 
 pub front_pattern : (text : List ℕ) (at : ℕ) (patterns : List (Span × Pattern)) (end : ℕ) → at < end → Stands text at (pattern_nodes patterns) end → FrontPattern text at patterns end
 front_pattern text at [] end h e = absurd (omega (arith, h, e))
-front_pattern text at (p ∷ patterns) end h (next, part, within, behind) = record { pattern = p; others = patterns; is = refl; first = record { next = next; part = part; within = within; behind = behind } }
+front_pattern text at (p ∷ patterns) end h s = record { pattern = p; others = patterns; is = refl; first = first_of s }
 
 pub no_patterns_left : (text : List ℕ) (at : ℕ) (patterns : List (Span × Pattern)) (end : ℕ) → end ≤ at → Stands text at (pattern_nodes patterns) end → patterns ≡ []
 no_patterns_left text at [] end h s = refl

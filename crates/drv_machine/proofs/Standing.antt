@@ -7,7 +7,7 @@ use Rattle.drv_syntax.specs.Tree.{Span}
 use Rattle.drv_syntax.specs.declared.token.Token.{Token}
 use Rattle.drv_syntax.specs.declared.token.TokenKind.TheVariants as kinds
 use Rattle.drv_syntax.specs.declared.token.TokenKind.{TokenKind}
-use Rattle.std.proofs.Common.{◌≡◌, ◌<◌, ◌≤◌, ◌+◌, ◌++◌, ◌∙◌, ◌∷◌, List, [], Option, Some, ap, append-nil, append_assoc, arith, false, get_or, if◌then◌else◌, length, length-append, refl, slice_get, subst, sym, true, unwrap_or, ℕ}
+use Rattle.std.proofs.Common.{◌≡◌, ◌<◌, ◌≤◌, ◌+◌, ◌-◌, ◌++◌, ◌∙◌, ◌∷◌, List, [], Option, Some, ap, append-nil, append_assoc, arith, false, get_or, if◌then◌else◌, length, length-append, refl, slice_get, subst, sym, true, unwrap_or, ℕ}
 use Rattle.std.proofs.lemmas.Option.{slice_get_within}
 use Rattle.std.proofs.Math.Seq.{get_or-append_seam}
 
@@ -107,6 +107,10 @@ pub record First (text : List ℕ) (at : ℕ) (kind : TokenKind) (label : Label)
   pub within : Stands text (at + 1) inner next
   pub behind : Stands text next others end
 
+pub first_of : {text : List ℕ} {at : ℕ} {kind : TokenKind} {label : Label} {inner others : Nodes} {end : ℕ}
+    → (next : ℕ) × Part (tokens_of (tree_of text)) (labels_of (tree_of text)) at kind label next × Stands text (at + 1) inner next × Stands text next others end → First text at kind label inner others end
+first_of (next, part, within, behind) = record { next = next; part = part; within = within; behind = behind }
+
 -- by the token that is there
 module _ {text : List ℕ} {at : ℕ} {kind : TokenKind} {label : Label} {inner others : Nodes} {end : ℕ} (f : First text at kind label inner others end) (token : Token) (there : slice_get (tokens_of (tree_of text)) at ≡ Some token) where
   pub first_kind : token.kind ≡ kind
@@ -133,14 +137,14 @@ pub record Front (text : List ℕ) (at : ℕ) (nodes : Nodes) (end : ℕ) : Type
 
 pub front : (text : List ℕ) (at : ℕ) (nodes : Nodes) (end : ℕ) → at < end → Stands text at nodes end → Front text at nodes end
 front text at no_node end h e = absurd (omega (arith, h, e))
-front text at (node kind label span inner others) end h (next, part, within, behind) = record {
+front text at (node kind label span inner others) end h s = record {
   kind = kind;
   label = label;
   span = span;
   inner = inner;
   others = others;
   is = refl;
-  first = record { next = next; part = part; within = within; behind = behind };
+  first = first_of s;
 }
 
 -- what stands at a place before the end of parts, by the token there
@@ -162,6 +166,10 @@ module _ (text : List ℕ) (at end : ℕ) (h : at < end) (token : Token) (e : sl
         within = record { nodes = f.inner; stands = stands_within f.first token e };
         behind = record { nodes = f.others; stands = stands_behind f.first token e };
       }
+
+  -- the parts after it are nearer to the end
+  pub nearer : Spans text at end → end - token.next < end - at
+  nearer s = let p = here s in omega (arith, p.later, p.in_parts)
 
   module _ (start : ℕ) (nodes : Nodes) (p : Passed text start at nodes end) where
     pub passed_step : is_test token.kind ≡ true → Passed text start token.next nodes end

@@ -1,4 +1,4 @@
-use Rattle.drv_machine.proofs.Standing.{First, stand_grows, stands_behind}
+use Rattle.drv_machine.proofs.Standing.{First, first_of, stand_grows, stands_behind}
 use Rattle.drv_machine.proofs.Steps.{then_err, then_ok}
 use Rattle.drv_machine.specs.Atoms.{first_true, judged, truth, turned}
 use Rattle.drv_machine.specs.Code.ByKind.{AskedTest, TrueTest, asked_step, is_call}
@@ -52,13 +52,13 @@ pub record FrontTest (text : List ℕ) (at : ℕ) (tests : Tests) (end : ℕ) : 
 
 pub front_test : (text : List ℕ) (at : ℕ) (tests : Tests) (end : ℕ) → at < end → Stands text at (test_nodes tests) end → FrontTest text at tests end
 front_test text at tree.no_test end h e = absurd (omega (arith, h, e))
-front_test text at (tree.test span negated asked others) end h (next, part, within, behind) = record {
+front_test text at (tree.test span negated asked others) end h s = record {
   span = span;
   negated = negated;
   asked = asked;
   others = others;
   is = refl;
-  first = record { next = next; part = part; within = within; behind = behind };
+  first = first_of s;
 }
 
 pub no_tests_left : (text : List ℕ) (at : ℕ) (tests : Tests) (end : ℕ) → end ≤ at → Stands text at (test_nodes tests) end → tests ≡ tree.no_test

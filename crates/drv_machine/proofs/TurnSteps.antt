@@ -1,7 +1,7 @@
 use Rattle.drv_machine.proofs.ItemKinds.{failure_item, filed_item, function_item, inner_step}
 use Rattle.drv_machine.proofs.Lying.{Reached, lies_alone, place_in, reached}
 use Rattle.drv_machine.proofs.Onward.{Popped, after_in, after_item, builtin_there, choices_there, closes, count_stops, kind_there, leaf, means_there, none_open, part_ended, popped, same_step, step_there, text_there}
-use Rattle.drv_machine.proofs.Standing.{next_at, some_same}
+use Rattle.drv_machine.proofs.Standing.{next_at, some_same, stand_grows}
 use Rattle.drv_machine.specs.Atoms.{choices_step, item_step, items_step, levels_left, named, tree_named}
 use Rattle.drv_machine.specs.Code.ByKind.{Means, kind_step}
 use Rattle.drv_machine.specs.Context.{Context}
@@ -54,6 +54,9 @@ module _ (text : List ℕ) (w : Walk) (item : AtItem text w) (token : Token) (th
   inner_there lain =
       let r = reached text w.at lain.rest w.end item.before_end item.no_alternative lain.lies in
       record { nodes = inner_nodes r.item; stands = subst (λ (k : ℕ). Stands text (w.at + 1) (inner_nodes r.item) k) (sym (next_at text w.at token (kind_of r.item) (label_of r.item) r.next there r.part)) r.within }
+
+  pub inner_later : Lain text w → w.at + 1 ≤ token.next
+  inner_later lain = let inner = inner_there lain in stand_grows _ _ (w.at + 1) inner.nodes token.next inner.stands
 
   module _ (F : Facts) (C : Context) (s : Machine) (given : Answer (Unit {0} × Machine)) (left : Left F C text w s given) where
     pub front : Reached text w.at left.rest w.end

@@ -1,4 +1,4 @@
-use Rattle.drv_machine.proofs.Standing.{front_in, here}
+use Rattle.drv_machine.proofs.Standing.{front_in, here, nearer}
 use Rattle.drv_machine.proofs.TrueTests.{found_asks, found_false, found_true, no_tests_left}
 use Rattle.drv_machine.proofs.asking.first_true.Goals as goal
 use Rattle.drv_machine.specs.Atoms as atoms
@@ -37,9 +37,7 @@ pub token_at-at-requires : goal.token_at-at-requires
 token_at-at-requires c = front_in c.args.text.now c.loop-at.at c.args.end c.loop-at-test.true c.loop-at.invariant.spans
 
 pub loop-at-smaller : goal.loop-at-smaller
-loop-at-smaller c =
-    let h = here c.args.text.now c.loop-at.at c.args.end c.loop-at-test.true c.token_at-at.result c.token_at-at.ensures c.loop-at.invariant.spans in
-    omega (arith, h.later, h.in_parts)
+loop-at-smaller c = nearer c.args.text.now c.loop-at.at c.args.end c.loop-at-test.true c.token_at-at.result c.token_at-at.ensures c.loop-at.invariant.spans
 
 pub returns-then-truth-negated-clause-does : goal.returns-then-truth-negated-clause-does
 returns-then-truth-negated-clause-does c F tests levels star s =

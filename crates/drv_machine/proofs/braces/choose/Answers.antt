@@ -1,6 +1,6 @@
 use Rattle.drv_machine.proofs.ChoiceSteps.{none_true}
 use Rattle.drv_machine.proofs.ChoiceTurns.{asked_chosen, default_chosen, none_chosen, one_chosen}
-use Rattle.drv_machine.proofs.Standing.{front_in, here}
+use Rattle.drv_machine.proofs.Standing.{front_in, here, nearer}
 use Rattle.drv_machine.proofs.Steps.{ok_as}
 use Rattle.drv_machine.proofs.braces.choose.Goals as goal
 use Rattle.drv_machine.specs.Atoms.{found_step, items_step, judged, worked}
@@ -78,9 +78,7 @@ returns-in-Asks-clause-does c F choices given s b =
     c.loop-at.machine given) (sym c.loop-at.invariant.walk) behind))
 
 pub loop-at-smaller : goal.loop-at-smaller
-loop-at-smaller c =
-    let h = here c.args.text.now c.loop-at.at c.args.end c.loop-at-test.true c.token_at-next.result c.token_at-next.ensures c.loop-at.invariant.spans in
-    omega (arith, h.later, h.in_parts)
+loop-at-smaller c = nearer c.args.text.now c.loop-at.at c.args.end c.loop-at-test.true c.token_at-next.result c.token_at-next.ensures c.loop-at.invariant.spans
 
 pub loop-at-preserved : goal.loop-at-preserved
 loop-at-preserved c =

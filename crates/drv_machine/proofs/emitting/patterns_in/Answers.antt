@@ -1,5 +1,5 @@
 use Rattle.drv_machine.proofs.EmitSteps.{patterns_end, patterns_step}
-use Rattle.drv_machine.proofs.Standing.{front_in, here}
+use Rattle.drv_machine.proofs.Standing.{front_in, here, nearer}
 use Rattle.drv_machine.proofs.emitting.patterns_in.Goals as goal
 use Rattle.std.proofs.Common.{arith}
 
@@ -10,9 +10,7 @@ pub token_at-at-requires : goal.token_at-at-requires
 token_at-at-requires c = front_in c.args.text.now c.loop-at.at c.args.end c.loop-at-test.true c.loop-at.invariant.spans
 
 pub loop-at-smaller : goal.loop-at-smaller
-loop-at-smaller c =
-    let h = here c.args.text.now c.loop-at.at c.args.end c.loop-at-test.true c.token_at-at.result c.token_at-at.ensures c.loop-at.invariant.spans in
-    omega (arith, h.later, h.in_parts)
+loop-at-smaller c = nearer c.args.text.now c.loop-at.at c.args.end c.loop-at-test.true c.token_at-at.result c.token_at-at.ensures c.loop-at.invariant.spans
 
 pub loop-at-preserved : goal.loop-at-preserved
 loop-at-preserved c = record {

@@ -1,4 +1,4 @@
-use Rattle.drv_machine.proofs.Standing.{front_in, here, not_test, passed_end, passed_step, passed_stop}
+use Rattle.drv_machine.proofs.Standing.{front_in, here, nearer, not_test, passed_end, passed_step, passed_stop}
 use Rattle.drv_machine.specs.Code.Standing.{Stands, is_test}
 use Rattle.drv_machine.proofs.places.tests_end.Goals as goal
 use Rattle.drv_syntax.specs.Labels.{Nodes}
@@ -8,9 +8,7 @@ pub token_at-token-requires : goal.token_at-token-requires
 token_at-token-requires c = front_in c.args.tree.now c.loop-at.at c.args.end c.loop-at-test.true c.loop-at.invariant.spans
 
 pub loop-at-smaller : goal.loop-at-smaller
-loop-at-smaller c =
-    let h = here c.args.tree.now c.loop-at.at c.args.end c.loop-at-test.true c.token_at-token.result c.token_at-token.ensures c.loop-at.invariant.spans in
-    omega (arith, h.later, h.in_parts)
+loop-at-smaller c = nearer c.args.tree.now c.loop-at.at c.args.end c.loop-at-test.true c.token_at-token.result c.token_at-token.ensures c.loop-at.invariant.spans
 
 pub loop-at-preserved : goal.loop-at-preserved
 loop-at-preserved c = record {

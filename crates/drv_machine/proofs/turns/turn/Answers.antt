@@ -1,9 +1,8 @@
 use Rattle.drv_machine.proofs.Onward.{went_in}
-use Rattle.drv_machine.proofs.Standing.{stand_grows}
-use Rattle.drv_machine.proofs.TurnSteps.{at_place, inner_there, turn_builtin, turn_choose, turn_failure, turn_filed, turn_function, turn_item, turn_plain, turn_text, turn_uncounted}
+use Rattle.drv_machine.proofs.TurnSteps.{at_place, inner_later, inner_there, turn_builtin, turn_choose, turn_failure, turn_filed, turn_function, turn_item, turn_plain, turn_text, turn_uncounted}
 use Rattle.drv_machine.proofs.turns.turn.Goals as goal
 use Rattle.drv_machine.specs.Code.Walking.{Went}
-use Rattle.std.proofs.Common.{Ok, arith, rules, ◌+◌}
+use Rattle.std.proofs.Common.{Ok, arith, rules}
 
 pub token_at-token-requires : goal.token_at-token-requires
 token_at-token-requires g c = at_place c.args.walk.now.text.now c.args.walk.now c.requires.lain c.requires.at_item
@@ -25,8 +24,7 @@ work_item-requires-clause-spans g c = inner_there c.args.walk.now.text.now c.arg
 
 pub overflow_add-at : goal.overflow_add-at
 overflow_add-at g c =
-    let inner = inner_there c.args.walk.now.text.now c.args.walk.now c.requires.at_item c.token_at-token.result c.token_at-token.ensures c.requires.lain in
-    let later = stand_grows _ _ (c.args.walk.now.at + 1) inner.nodes c.token_at-token.result.next inner.stands in
+    let later = inner_later c.args.walk.now.text.now c.args.walk.now c.requires.at_item c.token_at-token.result c.token_at-token.ensures c.requires.lain in
     grind (arith)
 
 pub returns-in-Choose-clause-does : goal.returns-in-Choose-clause-does
@@ -72,8 +70,7 @@ work_failure-requires-clause-spans g c = inner_there c.args.walk.now.text.now c.
 
 pub overflow_add-at-in-FailureFile : goal.overflow_add-at-in-FailureFile
 overflow_add-at-in-FailureFile g c =
-    let inner = inner_there c.args.walk.now.text.now c.args.walk.now c.requires.at_item c.token_at-token.result c.token_at-token.ensures c.requires.lain in
-    let later = stand_grows _ _ (c.args.walk.now.at + 1) inner.nodes c.token_at-token.result.next inner.stands in
+    let later = inner_later c.args.walk.now.text.now c.args.walk.now c.requires.at_item c.token_at-token.result c.token_at-token.ensures c.requires.lain in
     grind (arith)
 
 pub returns-in-FailureFile-clause-does : goal.returns-in-FailureFile-clause-does
@@ -85,8 +82,7 @@ returns-in-FailureFile-clause-does g c F e given left =
 
 pub open_call-requires : goal.open_call-requires
 open_call-requires g c =
-    let inner = inner_there c.args.walk.now.text.now c.args.walk.now c.requires.at_item c.token_at-token.result c.token_at-token.ensures c.requires.lain in
-    let later = stand_grows _ _ (c.args.walk.now.at + 1) inner.nodes c.token_at-token.result.next inner.stands in
+    let later = inner_later c.args.walk.now.text.now c.args.walk.now c.requires.at_item c.token_at-token.result c.token_at-token.ensures c.requires.lain in
     grind (arith)
 
 pub returns-in-Function-clause-does : goal.returns-in-Function-clause-does
@@ -102,8 +98,7 @@ work_filed-requires-clause-spans g c = inner_there c.args.walk.now.text.now c.ar
 
 pub overflow_add-at-in-ArgumentsFile : goal.overflow_add-at-in-ArgumentsFile
 overflow_add-at-in-ArgumentsFile g c =
-    let inner = inner_there c.args.walk.now.text.now c.args.walk.now c.requires.at_item c.token_at-token.result c.token_at-token.ensures c.requires.lain in
-    let later = stand_grows _ _ (c.args.walk.now.at + 1) inner.nodes c.token_at-token.result.next inner.stands in
+    let later = inner_later c.args.walk.now.text.now c.args.walk.now c.requires.at_item c.token_at-token.result c.token_at-token.ensures c.requires.lain in
     grind (arith)
 
 pub returns-in-ArgumentsFile-clause-does : goal.returns-in-ArgumentsFile-clause-does
