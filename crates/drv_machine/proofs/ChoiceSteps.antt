@@ -48,14 +48,7 @@ pub record FrontChoice (text : List ℕ) (at : ℕ) (choices : Choices) (end : �
 
 pub front_choice : (text : List ℕ) (at : ℕ) (choices : Choices) (end : ℕ) → at < end → Stands text at (choice_nodes choices) end → FrontChoice text at choices end
 front_choice text at tree.no_choice end h e = absurd (omega (arith, h, e))
-front_choice text at (tree.choice span tests items others) end h s = record {
-  span = span;
-  tests = tests;
-  items = items;
-  others = others;
-  is = refl;
-  first = first_of s;
-}
+front_choice text at (tree.choice span tests items others) end h s = record { span = span; tests = tests; items = items; others = others; is = refl; first = first_of s }
 
 pub no_choices_left : (text : List ℕ) (at : ℕ) (choices : Choices) (end : ℕ) → end ≤ at → Stands text at (choice_nodes choices) end → choices ≡ tree.no_choice
 no_choices_left text at tree.no_choice end h s = refl

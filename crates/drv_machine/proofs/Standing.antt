@@ -137,15 +137,7 @@ pub record Front (text : List ℕ) (at : ℕ) (nodes : Nodes) (end : ℕ) : Type
 
 pub front : (text : List ℕ) (at : ℕ) (nodes : Nodes) (end : ℕ) → at < end → Stands text at nodes end → Front text at nodes end
 front text at no_node end h e = absurd (omega (arith, h, e))
-front text at (node kind label span inner others) end h s = record {
-  kind = kind;
-  label = label;
-  span = span;
-  inner = inner;
-  others = others;
-  is = refl;
-  first = first_of s;
-}
+front text at (node kind label span inner others) end h s = record { kind = kind; label = label; span = span; inner = inner; others = others; is = refl; first = first_of s }
 
 -- what stands at a place before the end of parts, by the token there
 pub record Here (text : List ℕ) (at : ℕ) (token : Token) (end : ℕ) : Type 0 where

@@ -52,14 +52,7 @@ pub record FrontTest (text : List ℕ) (at : ℕ) (tests : Tests) (end : ℕ) : 
 
 pub front_test : (text : List ℕ) (at : ℕ) (tests : Tests) (end : ℕ) → at < end → Stands text at (test_nodes tests) end → FrontTest text at tests end
 front_test text at tree.no_test end h e = absurd (omega (arith, h, e))
-front_test text at (tree.test span negated asked others) end h s = record {
-  span = span;
-  negated = negated;
-  asked = asked;
-  others = others;
-  is = refl;
-  first = first_of s;
-}
+front_test text at (tree.test span negated asked others) end h s = record { span = span; negated = negated; asked = asked; others = others; is = refl; first = first_of s }
 
 pub no_tests_left : (text : List ℕ) (at : ℕ) (tests : Tests) (end : ℕ) → end ≤ at → Stands text at (test_nodes tests) end → tests ≡ tree.no_test
 no_tests_left text at tree.no_test end h s = refl
