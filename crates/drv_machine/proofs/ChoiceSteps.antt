@@ -1,6 +1,6 @@
 use Rattle.drv_machine.proofs.ItemKinds.{item_no_test, tests_first}
 use Rattle.drv_machine.proofs.Laws.{run_then}
-use Rattle.drv_machine.proofs.Standing.{First, first_of, next_at, stand_grows, stands_behind, stands_within}
+use Rattle.drv_machine.proofs.Standing.{First, PartsLeft, first_of, next_at, stand_grows, stands_behind, stands_within}
 use Rattle.drv_machine.proofs.Steps.{then_err, then_ok}
 use Rattle.drv_machine.proofs.TrueTests.{no_tests_left}
 use Rattle.drv_machine.specs.Atoms.{choices_step, each_hit, first_true, found_step, items_step, judged, matching, places, truth, worked}
@@ -32,12 +32,6 @@ use Rattle.std.specs.Option.{IfSome}
 
 -- Alternatives, one after another.
 
--- the alternatives that are left at a place, and the state that was there and that is
-pub record ChoicesLeft (F : Facts) (C : Context) (text : List ℕ) (s t : Machine) (at end : ℕ) (choices : Choices) (levels : Levels) (star : List ℕ) : Type 0 where
-  pub rest : Choices
-  pub stands : Stands text at (choice_nodes rest) end
-  pub same : run F C t (choices_step F C rest levels star) ≡ run F C s (choices_step F C choices levels star)
-
 pub record FrontChoice (text : List ℕ) (at : ℕ) (choices : Choices) (end : ℕ) : Type 0 where
   pub span : Span
   pub tests : Tests
@@ -68,6 +62,10 @@ tested : (F : Facts) (C : Context) (text : List ℕ) (at end : ℕ) (span : Span
     → choices_step F C (tree.choice span tests items others) levels star ≡ (first_true F C tests levels star >>= by_found F C items others levels star)
 tested F C text at end span tree.no_test items others levels star some s = absurd (some (sym s))
 tested F C text at end span (tree.test place negated asked tests) items others levels star some s = refl
+
+-- the alternatives that are left at a place, and the state that was there and that is
+abbrev pub ChoicesLeft : Facts → Context → List ℕ → Machine → Machine → ℕ → ℕ → Choices → Levels → List ℕ → Type 0
+ChoicesLeft F C text s t at end choices levels star = PartsLeft choice_nodes text at end (λ rest. run F C t (choices_step F C rest levels star) ≡ run F C s (choices_step F C choices levels star))
 
 module _ (F : Facts) (C : Context) (text : List ℕ) (s t : Machine) (at end : ℕ) (h : at < end) (choices : Choices) (levels : Levels) (star : List ℕ) (left : ChoicesLeft F C text s t at end choices levels star) where
   from_rest : (f : FrontChoice text at left.rest end) → run F C s (choices_step F C choices levels star) ≡ run F C t (choices_step F C (tree.choice f.span f.tests f.items f.others) levels star)

@@ -1,6 +1,6 @@
 use Rattle.drv_machine.proofs.Cutter.{put_failed, put_then}
 use Rattle.drv_machine.proofs.ItemKinds.{labelled_is}
-use Rattle.drv_machine.proofs.Standing.{First, first_of, stand_grows, stands_behind}
+use Rattle.drv_machine.proofs.Standing.{First, PartsLeft, first_of, stand_grows, stands_behind}
 use Rattle.drv_machine.proofs.Steps.{fails_as}
 use Rattle.drv_machine.specs.Atoms.{emitted, matching, places, switch_atoms}
 use Rattle.drv_machine.specs.Code.ByKind.{labelled, put_at}
@@ -29,10 +29,8 @@ use Rattle.std.specs.List.{filter, flat_map, list_any, range_with_len}
 -- Switches put as they stand on the line.
 
 -- the patterns that are left at a place
-pub record PatternsLeft (text : List ℕ) (at end : ℕ) (done : List switches.Pattern) (patterns : List (Span × Pattern)) : Type 0 where
-  pub rest : List (Span × Pattern)
-  pub stands : Stands text at (pattern_nodes rest) end
-  pub same : done ++ map (λ p. matching p.1) rest ≡ map (λ p. matching p.1) patterns
+abbrev pub PatternsLeft : List ℕ → ℕ → ℕ → List switches.Pattern → List (Span × Pattern) → Type 0
+PatternsLeft text at end done patterns = PartsLeft pattern_nodes text at end (λ rest. done ++ map (λ p. matching p.1) rest ≡ map (λ p. matching p.1) patterns)
 
 pub record FrontPattern (text : List ℕ) (at : ℕ) (patterns : List (Span × Pattern)) (end : ℕ) : Type 0 where
   pub pattern : Span × Pattern

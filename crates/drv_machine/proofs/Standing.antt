@@ -100,6 +100,12 @@ pub next_at : (text : List ℕ) (at : ℕ) (token : Token) (kind : TokenKind) (l
     → Part (tokens_of (tree_of text)) (labels_of (tree_of text)) at kind label next → token.next ≡ next
 next_at text at token kind label next e part = ap (λ (t : Token). t.next) (some_same token part.token (sym e ∙ part.there)) ∙ part.next_is
 
+-- the parts that are left at a place, and what holds of them
+pub record PartsLeft {X : Type 0} (nodes : X → Nodes) (text : List ℕ) (at end : ℕ) (Same : X → Type 0) : Type 0 where
+  pub rest : X
+  pub stands : Stands text at (nodes rest) end
+  pub same : Same rest
+
 -- a part that stands first, and what stands behind it
 pub record First (text : List ℕ) (at : ℕ) (kind : TokenKind) (label : Label) (inner others : Nodes) (end : ℕ) : Type 0 where
   pub next : ℕ

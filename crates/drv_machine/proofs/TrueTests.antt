@@ -1,4 +1,4 @@
-use Rattle.drv_machine.proofs.Standing.{First, first_of, stand_grows, stands_behind}
+use Rattle.drv_machine.proofs.Standing.{First, PartsLeft, first_of, stand_grows, stands_behind}
 use Rattle.drv_machine.proofs.Steps.{then_err, then_ok}
 use Rattle.drv_machine.specs.Atoms.{first_true, judged, truth, turned}
 use Rattle.drv_machine.specs.Code.ByKind.{AskedTest, TrueTest, asked_step, is_call}
@@ -35,12 +35,6 @@ result_asked negated (tree.HasSwitch (tree.pattern word starred)) e = absurd cc
 result_asked negated (tree.HasSuffix word) e = absurd cc
 result_asked negated (tree.HasLanguage word) e = absurd cc
 result_asked negated (tree.HasResult name items) e = (name, items, refl)
-
--- the tests that are left at a place, and the state that was there and that is
-pub record TestsLeft (F : Facts) (C : Context) (text : List ℕ) (s t : Machine) (at end : ℕ) (tests : Tests) (levels : Levels) (star : List ℕ) : Type 0 where
-  pub rest : Tests
-  pub stands : Stands text at (test_nodes rest) end
-  pub same : run F C t (first_true F C rest levels star) ≡ run F C s (first_true F C tests levels star)
 
 pub record FrontTest (text : List ℕ) (at : ℕ) (tests : Tests) (end : ℕ) : Type 0 where
   pub span : Span
@@ -87,6 +81,10 @@ negated_is negated (tree.HasResult name items) = refl
 
 pub negated_kept : (kept : Bool) (asked : Asked) (text : List ℕ) (at : ℕ) (holds negated b : Bool) → negated ≡ (label_at (tree_of text) at).negated → label_at (tree_of text) at ≡ test_label kept asked → not (beq holds negated) ≡ b → turned kept holds ≡ b
 negated_kept kept asked text at holds negated b n label e = ap (λ m. turned m holds) (sym (negated_is kept asked) ∙ ap (λ (l : Label). l.negated) (sym label) ∙ sym n) ∙ turned_is holds negated ∙ e
+
+-- the tests that are left at a place, and the state that was there and that is
+abbrev pub TestsLeft : Facts → Context → List ℕ → Machine → Machine → ℕ → ℕ → Tests → Levels → List ℕ → Type 0
+TestsLeft F C text s t at end tests levels star = PartsLeft test_nodes text at end (λ rest. run F C t (first_true F C rest levels star) ≡ run F C s (first_true F C tests levels star))
 
 module _ (F : Facts) (C : Context) (text : List ℕ) (s v : Machine) (at end : ℕ) (h : at < end) (tests : Tests) (levels : Levels) (star : List ℕ) (left : TestsLeft F C text s v at end tests levels star) where
   turned_at : (f : FrontTest text at left.rest end) (holds negated b : Bool) → negated ≡ (label_at (tree_of text) at).negated → not (beq holds negated) ≡ b → turned f.negated holds ≡ b
