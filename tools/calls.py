@@ -49,7 +49,7 @@ def split_outside(text):
 
 
 def used(text):
-    """What the words behind a `use` name: each path, as a list of its names, with the name that it gets."""
+    """What the words after a `use` name: each path, as a list of its names, with the name that it gets."""
     front, brace, inside = text.partition("{")
     if brace:
         begins = [it for it in front.strip().split("::") if it]

@@ -187,7 +187,7 @@ def lanes():
 
 
 def chains(tasks):
-    """The seconds of the longest chain of tasks from each one on. A task stands behind those that it waits for."""
+    """The seconds of the longest chain of tasks from each one on. A task stands after those that it waits for."""
     found = {}
     for it in reversed(tasks):
         found[it.name] = it.seconds + max((found[other.name] for other in tasks if it.name in other.after), default=0)

@@ -29,7 +29,7 @@ def text_of(path):
 @dataclass(frozen=True)
 class Function:
     """A function of a file, with the trait and the type of the impl that it stands in, whether it is `pub`, and its lines (from 1) in the
-    layout of rt fmt: those of its body begin behind the contract and end with the first closing brace below the `fn`."""
+    layout of rt fmt: those of its body begin after the contract and end with the first closing brace below the `fn`."""
 
     file: str
     trait: str

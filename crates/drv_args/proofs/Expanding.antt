@@ -1,4 +1,4 @@
-use Rattle.drv_args.specs.Expansion.{Expands, Itself, Refuses, Responds, Text, behind, by_answer, by_name, by_text, file_named, inside, itself, later, replacement_of, no_word, too_large, too_many}
+use Rattle.drv_args.specs.Expansion.{Expands, Itself, Refuses, Responds, Text, following, by_answer, by_name, by_text, file_named, inside, itself, later, replacement_of, no_word, too_large, too_many}
 use Rattle.drv_args.specs.Code.Replacing.{IsPut, IsReplaced}
 use Rattle.drv_args.specs.declared.fault.ArgsFault.TheVariants.{Memory, ResponseTooLarge, TooManyFiles}
 use Rattle.drv_args.specs.declared.fault.ArgsFault.{ArgsFault}
@@ -58,10 +58,10 @@ refused_of {F = F} {left = left} {fault = fault} (word ∷ front) words (later m
     go (in_front r) = in_front (later m r)
     go (in_rest done r) = in_rest (itself m done) r
 refused_of (word ∷ front) words (inside m splits inner) = in_front (inside m splits inner)
-refused_of {F = F} {fault = fault} (word ∷ front) words (behind {left = left} {mid = mid} m splits inner rest) = go (refused_of front words rest)
+refused_of {F = F} {fault = fault} (word ∷ front) words (following {left = left} {mid = mid} m splits inner rest) = go (refused_of front words rest)
   where
     go : Refused F mid front words fault → Refused F (suc left) (word ∷ front) words fault
-    go (in_front r) = in_front (behind m splits inner r)
+    go (in_front r) = in_front (following m splits inner r)
     go (in_rest done r) = in_rest (by_text m splits inner done) r
 
 -- how what is done goes on to what all the arguments come to
@@ -91,7 +91,7 @@ goes_by_text F left word text inner words out args m splits goes = record {
   where
     refused : {fault : ArgsFault} → Refused F left inner words fault → Refuses F (suc left) (word ∷ words) fault
     refused (in_front r) = inside m splits r
-    refused (in_rest done r) = behind m splits done r
+    refused (in_rest done r) = following m splits done r
 
 -- The same of a stack, whose last word is the next one.
 
@@ -118,12 +118,12 @@ text_goes F left left' stack rest stack' word inner out args popped one pushed (
     let is : reverse stack' ≡ inner ++ reverse rest = ap reverse pushed ∙ reverse-append rest (reverse inner) ∙ ap (λ ws. ws ++ reverse rest) (reverse-reverse inner) in
     subst P (sym is) (goes_by_text F left' word text inner (reverse rest) out args m splits (subst Q one (subst R (next_is stack rest word popped) goes)))
 
--- a word that stands for words, which were put behind those that stay
-abbrev pub StandsBehind : Facts → List ℕ → List (List ℕ) → List (List ℕ) → Type 0
-StandsBehind F word out all = (text : List ℕ) × (replacement_of F word ≡ Is (Text text)) × SplitsOnto text out all
+-- a word that stands for words, which were put after those that stay
+abbrev pub StandsAfter : Facts → List ℕ → List (List ℕ) → List (List ℕ) → Type 0
+StandsAfter F word out all = (text : List ℕ) × (replacement_of F word ≡ Is (Text text)) × SplitsOnto text out all
 
 pub many_refused : (F : Facts) (left : ℕ) (stack rest : List (List ℕ)) (word : List ℕ) (out all args : List (List ℕ))
-    → stack ≡ rest ++ word ∷ [] → left ≡ 0 → StandsBehind F word out all → GoesOn F left (reverse stack) out args → Refuses F 2000 args TooManyFiles
+    → stack ≡ rest ++ word ∷ [] → left ≡ 0 → StandsAfter F word out all → GoesOn F left (reverse stack) out args → Refuses F 2000 args TooManyFiles
 many_refused F left stack rest word out all args popped none (text, m, (inner, is, splits)) goes =
     let P : ℕ → Type 0 = λ n. Refuses F n (word ∷ reverse rest) TooManyFiles in
     let Q : List (List ℕ) → Type 0 = λ ws. Refuses F left ws TooManyFiles in
@@ -191,7 +191,7 @@ stay_goes F left left' stack rest stack' word inner out out' args popped one sam
       responds = λ last after r.
           let T : List (List ℕ) → Type 0 = λ o. Responds F 2000 args last o in
           subst T (sym (append_assoc out inner after)) (goes.responds last (inner ++ after) (by_text m splits (themselves F left' inner none) r));
-      refuses = λ fault r. goes.refuses fault (behind m splits (themselves F left' inner none) r);
+      refuses = λ fault r. goes.refuses fault (following m splits (themselves F left' inner none) r);
     }
 
 words_go : (F : Facts) (left left' : ℕ) (stack rest stack' : List (List ℕ)) (word : List ℕ) (inner out out' args : List (List ℕ))
@@ -207,8 +207,8 @@ pub put_goes : (F : Facts) (left left' start : ℕ) (stack rest stack' : List (L
     → stack ≡ rest ++ word ∷ [] → left ≡ suc left' → IsReplaced F word out all (Ok (Some start)) → IsPut (drop start all) rest stack' (take start all) out'
     → GoesOn F left (reverse stack) out args → GoesOn F left' (reverse stack') out' args
 put_goes F left left' start stack rest stack' word out all out' args popped one (at, (text, m, (inner, is, splits))) put goes =
-    let behind_is : drop start all ≡ inner = ap (drop start) is ∙ ap (λ n. drop n (out ++ inner)) at ∙ drop-append_seam out inner in
+    let following_is : drop start all ≡ inner = ap (drop start) is ∙ ap (λ n. drop n (out ++ inner)) at ∙ drop-append_seam out inner in
     let front_is : take start all ≡ out = ap (take start) is ∙ ap (λ n. take n (out ++ inner)) at ∙ take-append_seam out inner in
     let P : List (List ℕ) → Type 0 = λ ws. IsPut ws rest stack' (take start all) out' in
     let Q : List (List ℕ) → Type 0 = λ ws. IsPut inner rest stack' ws out' in
-    words_go F left left' stack rest stack' word inner out out' args popped one (subst Q front_is (subst P behind_is put)) (text, m, splits) goes
+    words_go F left left' stack rest stack' word inner out out' args popped one (subst Q front_is (subst P following_is put)) (text, m, splits) goes

@@ -27,9 +27,9 @@ comes (word ∷ next ∷ words) = by (start_of word) refl (comes (next ∷ words
   where
     by : (s : Start) → start_of word ≡ s → Comes (next ∷ words) (items_of (next ∷ words)) → Comes words (items_of words)
         → Comes (word ∷ next ∷ words) (at_word s word next (items_of (next ∷ words)) (items_of words))
-    by (Alone i) e others behind = with_front (word ∷ []) (next ∷ words) i (alone e) (items_of (next ∷ words)) others
-    by Bad e others behind = bad_jobs e
-    by (Wants effect option) e others behind = with_front (word ∷ next ∷ []) words (item effect option next) (with_next e) (items_of words) behind
+    by (Alone i) e others following = with_front (word ∷ []) (next ∷ words) i (alone e) (items_of (next ∷ words)) others
+    by Bad e others following = bad_jobs e
+    by (Wants effect option) e others following = with_front (word ∷ next ∷ []) words (item effect option next) (with_next e) (items_of words) following
 
 -- a word that is a front by itself, and what is after it
 pub alone_first : (word : List ℕ) (i : Item) (words : List (List ℕ)) → start_of word ≡ Alone i → items_of (word ∷ words) ≡ and_items i (items_of words)

@@ -31,7 +31,7 @@ ranged : (number : Option ℕ) → IfSome (in_range number) Few
 ranged None = tt
 ranged (Some n) = tested n (nat_le 1 n && nat_le n 64) refl
 
-named : (behind : List ℕ) → IfSome (jobs_named behind) Few
+named : (following : List ℕ) → IfSome (jobs_named following) Few
 named [] = tt
 named (b ∷ digits) = by (b == equals)
   where

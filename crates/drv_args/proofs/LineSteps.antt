@@ -81,10 +81,10 @@ pub wants_next : (left : List (List ℕ)) (word bytes next next_bytes : List ℕ
 wants_next [] word bytes next next_bytes b b' effect option whole some first same starts more second alike noted_is so_far = absurd (omega arith)
 wants_next (w ∷ []) word bytes next next_bytes b b' effect option whole some first same starts more second alike noted_is so_far = absurd (omega arith)
 wants_next (w ∷ n ∷ words) word bytes next next_bytes b b' effect option whole some first same starts more second alike noted_is so_far =
-    let behind = after_first w (n ∷ words) in
-    let is_next : next_bytes ≡ n = alike ∙ second ∙ ap (λ l. get_or l 0 next) behind in
+    let following = after_first w (n ∷ words) in
+    let is_next : next_bytes ≡ n = alike ∙ second ∙ ap (λ l. get_or l 0 next) following in
     let i = item effect option n in
-    noted_on b' (noted b (item effect option next_bytes)) (noted b i) _ words noted_is (ap (λ a. noted b (item effect option a)) is_next) (ap (λ l. take (length l - 1) (drop 1 l)) behind ∙ after_first n words)
+    noted_on b' (noted b (item effect option next_bytes)) (noted b i) _ words noted_is (ap (λ a. noted b (item effect option a)) is_next) (ap (λ l. take (length l - 1) (drop 1 l)) following ∙ after_first n words)
     ∙ note_line b i (items_of words)
     ∙ ap (line_with b) (sym (with_next_first w n option effect words (ap start_of (sym (same ∙ first)) ∙ sym starts)))
     ∙ so_far

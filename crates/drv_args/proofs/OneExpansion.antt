@@ -1,4 +1,4 @@
-use Rattle.drv_args.specs.Expansion.{Itself, Large, Replacement, Refuses, Responds, Text, behind, by_text, inside, itself, later, replacement_of, no_word, too_large, too_many}
+use Rattle.drv_args.specs.Expansion.{Itself, Large, Replacement, Refuses, Responds, Text, following, by_text, inside, itself, later, replacement_of, no_word, too_large, too_many}
 use Rattle.drv_args.specs.declared.fault.ArgsFault.TheVariants.{ResponseTooLarge}
 use Rattle.drv_args.specs.declared.fault.ArgsFault.{ArgsFault}
 use Rattle.drv_system.specs.Facts.{Facts}
@@ -56,13 +56,13 @@ never_both {F = F} (itself {word = word} m rest) (too_large {path = path} m') = 
 never_both {F = F} (itself {word = word} m rest) (too_many {text = text} m') = not_itself F word text m m'
 never_both (itself m rest) (later m' refused) = never_both rest refused
 never_both {F = F} (itself {word = word} m rest) (inside {text = text} m' splits refused) = not_itself F word text m m'
-never_both {F = F} (itself {word = word} m rest) (behind {text = text} m' splits first refused) = not_itself F word text m m'
+never_both {F = F} (itself {word = word} m rest) (following {text = text} m' splits first refused) = not_itself F word text m m'
 never_both {F = F} (by_text {word = word} {text = text} m splits first rest) (too_large {path = path} m') = not_text F word path text m' m
 never_both {F = F} (by_text {word = word} {text = text} m splits first rest) (later m' refused) = not_itself F word text m' m
 never_both {F = F} (by_text {left = left} {word = word} {text = text} {inner = inner} m splits first rest) (inside {text = text'} {inner = inner'} {fault = fault} m' splits' refused) =
     never_both first (subst (λ (ws : List (List ℕ)). Refuses F left ws fault) (same_inner F word text text' inner inner' m splits m' splits') refused)
 never_both {F = F} (by_text {left = left} {mid = mid} {word = word} {text = text} {inner = inner} {words = words} m splits first rest)
-    (behind {mid = mid'} {text = text'} {inner = inner'} {out = out'} {fault = fault} m' splits' first' refused) =
+    (following {mid = mid'} {text = text'} {inner = inner'} {out = out'} {fault = fault} m' splits' first' refused) =
     let s = same first (subst (λ (ws : List (List ℕ)). Responds F left ws mid' out') (same_inner F word text text' inner inner' m splits m' splits') first') in
     never_both rest (subst (λ (n : ℕ). Refuses F n words fault) (sym s.lefts) refused)
 
@@ -78,7 +78,7 @@ one_refusal {F = F} (too_large {word = word} {path = path} m) (too_large {path =
 one_refusal {F = F} (too_large {word = word} {path = path} m) (too_many {text = text} m') = absurd (not_text F word path text m m')
 one_refusal {F = F} (too_large {word = word} {path = path} m) (later m' refused) = absurd (not_large F word path m m')
 one_refusal {F = F} (too_large {word = word} {path = path} m) (inside {text = text} m' splits refused) = absurd (not_text F word path text m m')
-one_refusal {F = F} (too_large {word = word} {path = path} m) (behind {text = text} m' splits first refused) = absurd (not_text F word path text m m')
+one_refusal {F = F} (too_large {word = word} {path = path} m) (following {text = text} m' splits first refused) = absurd (not_text F word path text m m')
 one_refusal {F = F} (too_many {word = word} {text = text} m) (too_large {path = path} m') = absurd (not_text F word path text m' m)
 one_refusal (too_many m) (too_many m') = refl
 one_refusal {F = F} (too_many {word = word} {text = text} m) (later m' refused) = absurd (not_itself F word text m' m)
@@ -86,19 +86,19 @@ one_refusal {F = F} (later {word = word} m refused) (too_large {path = path} m')
 one_refusal {F = F} (later {word = word} m refused) (too_many {text = text} m') = absurd (not_itself F word text m m')
 one_refusal (later m refused) (later m' refused') = one_refusal refused refused'
 one_refusal {F = F} (later {word = word} m refused) (inside {text = text} m' splits refused') = absurd (not_itself F word text m m')
-one_refusal {F = F} (later {word = word} m refused) (behind {text = text} m' splits first refused') = absurd (not_itself F word text m m')
+one_refusal {F = F} (later {word = word} m refused) (following {text = text} m' splits first refused') = absurd (not_itself F word text m m')
 one_refusal {F = F} (inside {word = word} {text = text} m splits refused) (too_large {path = path} m') = absurd (not_text F word path text m' m)
 one_refusal {F = F} (inside {word = word} {text = text} m splits refused) (later m' refused') = absurd (not_itself F word text m' m)
 one_refusal {F = F} (inside {left = left} {word = word} {text = text} {inner = inner} m splits refused) (inside {text = text'} {inner = inner'} {fault = fault} m' splits' refused') =
     one_refusal refused (subst (λ (ws : List (List ℕ)). Refuses F left ws fault) (same_inner F word text text' inner inner' m splits m' splits') refused')
-one_refusal {F = F} (inside {left = left} {word = word} {text = text} {inner = inner} {fault = fault} m splits refused) (behind {mid = mid} {text = text'} {inner = inner'} {out = out} m' splits' first refused') =
+one_refusal {F = F} (inside {left = left} {word = word} {text = text} {inner = inner} {fault = fault} m splits refused) (following {mid = mid} {text = text'} {inner = inner'} {out = out} m' splits' first refused') =
     absurd (never_both (subst (λ (ws : List (List ℕ)). Responds F left ws mid out) (same_inner F word text text' inner inner' m splits m' splits') first) refused)
-one_refusal {F = F} (behind {word = word} {text = text} m splits first refused) (too_large {path = path} m') = absurd (not_text F word path text m' m)
-one_refusal {F = F} (behind {word = word} {text = text} m splits first refused) (later m' refused') = absurd (not_itself F word text m' m)
-one_refusal {F = F} (behind {left = left} {word = word} {text = text} {inner = inner} m splits first refused) (inside {text = text'} {inner = inner'} {fault = fault} m' splits' refused') =
+one_refusal {F = F} (following {word = word} {text = text} m splits first refused) (too_large {path = path} m') = absurd (not_text F word path text m' m)
+one_refusal {F = F} (following {word = word} {text = text} m splits first refused) (later m' refused') = absurd (not_itself F word text m' m)
+one_refusal {F = F} (following {left = left} {word = word} {text = text} {inner = inner} m splits first refused) (inside {text = text'} {inner = inner'} {fault = fault} m' splits' refused') =
     absurd (never_both first (subst (λ (ws : List (List ℕ)). Refuses F left ws fault) (same_inner F word text text' inner inner' m splits m' splits') refused'))
-one_refusal {F = F} (behind {left = left} {mid = mid} {word = word} {text = text} {inner = inner} {words = words} m splits first refused)
-    (behind {mid = mid'} {text = text'} {inner = inner'} {out = out'} {fault = fault} m' splits' first' refused') =
+one_refusal {F = F} (following {left = left} {mid = mid} {word = word} {text = text} {inner = inner} {words = words} m splits first refused)
+    (following {mid = mid'} {text = text'} {inner = inner'} {out = out'} {fault = fault} m' splits' first' refused') =
     let s = same first (subst (λ (ws : List (List ℕ)). Responds F left ws mid' out') (same_inner F word text text' inner inner' m splits m' splits') first') in
     one_refusal refused (subst (λ (n : ℕ). Refuses F n words fault) (sym s.lefts) refused')
 

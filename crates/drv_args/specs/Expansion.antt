@@ -50,7 +50,7 @@ pub data Refuses (F : Facts) : ℕ → List (List ℕ) → ArgsFault → Type 0 
   too_many : {word text : List ℕ} {words : List (List ℕ)} → replacement_of F word ≡ Is (Text text) → Refuses F zero (word ∷ words) TooManyFiles
   later : {left : ℕ} {word : List ℕ} {words : List (List ℕ)} {fault : ArgsFault} → replacement_of F word ≡ Is Itself → Refuses F left words fault → Refuses F left (word ∷ words) fault
   inside : {left : ℕ} {word text : List ℕ} {inner words : List (List ℕ)} {fault : ArgsFault} → replacement_of F word ≡ Is (Text text) → Splits text inner → Refuses F left inner fault → Refuses F (suc left) (word ∷ words) fault
-  behind : {left mid : ℕ} {word text : List ℕ} {inner words out : List (List ℕ)} {fault : ArgsFault} → replacement_of F word ≡ Is (Text text) → Splits text inner → Responds F left inner mid out → Refuses F mid words fault → Refuses F (suc left) (word ∷ words) fault
+  following : {left mid : ℕ} {word text : List ℕ} {inner words out : List (List ℕ)} {fault : ArgsFault} → replacement_of F word ≡ Is (Text text) → Splits text inner → Responds F left inner mid out → Refuses F mid words fault → Refuses F (suc left) (word ∷ words) fault
 
 -- what expanding comes to, with so many replacements left; `from_file` says whether one was made
 abbrev pub Expands : Facts → ℕ → List (List ℕ) → Result Expanded ArgsFault → Type 0

@@ -94,13 +94,13 @@ abbrev pub is_on : Setting → List Item → Bool
 is_on setting = list_any (λ i. turns_on setting i.effect)
 
 -- the last of what is there
-abbrev pub output_behind : Effect → List ℕ → Option (List ℕ) → Option (List ℕ)
-output_behind effect.Output argument output = Some argument
-output_behind _ argument output = output
+abbrev pub output_following : Effect → List ℕ → Option (List ℕ) → Option (List ℕ)
+output_following effect.Output argument output = Some argument
+output_following _ argument output = output
 
 abbrev pub last_output : Option (List ℕ) → List Item → Option (List ℕ)
 last_output output [] = output
-last_output output (i ∷ items) = last_output (output_behind i.effect i.argument output) items
+last_output output (i ∷ items) = last_output (output_following i.effect i.argument output) items
 
 abbrev pub spec_of : Effect → List ℕ → Option (List ℕ)
 spec_of effect.Specs argument = Some argument

@@ -87,7 +87,7 @@ fn name_files(words: &[Word]) -> bool
     words.iter().any(names_file)
 }
 
-/// The words of a file, which are those from a place on, stay behind the others where none of them
+/// The words of a file, which are those from a place on, stay after the others where none of them
 /// names a file, and are otherwise put on the stack, the first on top.
 fn put_words(
     stack: &mut Vec<Word>,

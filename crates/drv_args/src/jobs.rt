@@ -59,10 +59,10 @@ fn in_range(number: Option<usize>) -> Option<usize>
 
 /// The number of jobs that stands after `--jobs`: an equals sign, and a number from 1 to 64 in
 /// decimal digits without a leading zero.
-pub(crate) fn jobs_named(behind: &[u8]) -> Option<usize>
-    ensures { result ≡ jobs_named behind.now }
+pub(crate) fn jobs_named(following: &[u8]) -> Option<usize>
+    ensures { result ≡ jobs_named following.now }
 {
-    match behind {
+    match following {
         [b'=', digits @ ..] => in_range(number(digits)),
         _ => None,
     }

@@ -170,7 +170,7 @@ fn note_words(alloc: Global, builder: &mut LineBuilder, words: &[Word]) -> Resul
         (line_with builder.old (items_of words.now)) }
 {
     let mut left = words;
-    while let [word, behind @ ..] = left {
+    while let [word, following @ ..] = left {
         let bytes = word.as_bytes();
         match start_of(bytes) {
             Start::Alone {
@@ -179,10 +179,10 @@ fn note_words(alloc: Global, builder: &mut LineBuilder, words: &[Word]) -> Resul
                 argument,
             } => {
                 builder.note_whole(alloc, effect, bytes, option, argument)?;
-                left = behind;
+                left = following;
             }
             Start::Wants { effect, option } => {
-                let [argument, others @ ..] = behind else {
+                let [argument, others @ ..] = following else {
                     return Err(ArgsFault::MissingArgument(word.clone()?));
                 };
                 builder.note(alloc, effect, option, argument.as_bytes())?;

@@ -4,7 +4,7 @@ use Rattle.drv_c99.specs.declared.building.Front.{Front}
 use Rattle.drv_c99.specs.declared.fault.C99Fault.TheVariants.{Memory}
 use Rattle.drv_c99.specs.declared.fault.C99Fault.{C99Fault}
 use Rattle.drv_c99.specs.declared.option.Taking.{Taking}
-use Rattle.drv_c99.specs.declared.option.Part.TheVariants.{BehindEnd}
+use Rattle.drv_c99.specs.declared.option.Part.TheVariants.{AfterEnd}
 use Rattle.drv_c99.specs.declared.option.Part.{Part}
 use Rattle.drv_words.specs.Gives.{Gives}
 use Rattle.std.specs.Prelude.{IsErrAnd}
@@ -18,22 +18,22 @@ use Rattle.std.proofs.lemmas.List.{append-nil, take_all}
 
 flag_first : (part : Part) (w : List ℕ) (words : List (List ℕ)) → start_of part w ≡ Flag → items_of part (w ∷ words) ≡ and_items (Ok (Passed (w ∷ []))) (items_of part words)
 flag_first part w [] starts = ap (λ s. at_last s w) starts
-flag_first part w (n ∷ words) starts = ap (λ s. at_word s w n (items_of part (n ∷ words)) (items_of part words) (items_of BehindEnd (n ∷ words))) starts
+flag_first part w (n ∷ words) starts = ap (λ s. at_word s w n (items_of part (n ∷ words)) (items_of part words) (items_of AfterEnd (n ∷ words))) starts
 
 names_first : (part : Part) (prefix w : List ℕ) (words : List (List ℕ)) → start_of part w ≡ Names prefix → items_of part (w ∷ words) ≡ and_items (Ok (Operand (prefix ++ w))) (items_of part words)
 names_first part prefix w [] starts = ap (λ s. at_last s w) starts
-names_first part prefix w (n ∷ words) starts = ap (λ s. at_word s w n (items_of part (n ∷ words)) (items_of part words) (items_of BehindEnd (n ∷ words))) starts
+names_first part prefix w (n ∷ words) starts = ap (λ s. at_word s w n (items_of part (n ∷ words)) (items_of part words) (items_of AfterEnd (n ∷ words))) starts
 
 joined_first : (part : Part) (option : Taking) (argument w : List ℕ) (words : List (List ℕ)) → start_of part w ≡ Joined option argument → items_of part (w ∷ words) ≡ and_items (given option argument) (items_of part words)
 joined_first part option argument w [] starts = ap (λ s. at_last s w) starts
-joined_first part option argument w (n ∷ words) starts = ap (λ s. at_word s w n (items_of part (n ∷ words)) (items_of part words) (items_of BehindEnd (n ∷ words))) starts
+joined_first part option argument w (n ∷ words) starts = ap (λ s. at_word s w n (items_of part (n ∷ words)) (items_of part words) (items_of AfterEnd (n ∷ words))) starts
 
 wants_first : (part : Part) (option : Taking) (w n : List ℕ) (words : List (List ℕ)) → start_of part w ≡ Wants option → items_of part (w ∷ n ∷ words) ≡ and_items (given option n) (items_of part words)
-wants_first part option w n words starts = ap (λ s. at_word s w n (items_of part (n ∷ words)) (items_of part words) (items_of BehindEnd (n ∷ words))) starts
+wants_first part option w n words starts = ap (λ s. at_word s w n (items_of part (n ∷ words)) (items_of part words) (items_of AfterEnd (n ∷ words))) starts
 
-ends_first : (part : Part) (w : List ℕ) (words : List (List ℕ)) → start_of part w ≡ Ends → items_of part (w ∷ words) ≡ items_of BehindEnd words
+ends_first : (part : Part) (w : List ℕ) (words : List (List ℕ)) → start_of part w ≡ Ends → items_of part (w ∷ words) ≡ items_of AfterEnd words
 ends_first part w [] starts = ap (λ s. at_last s w) starts
-ends_first part w (n ∷ words) starts = ap (λ s. at_word s w n (items_of part (n ∷ words)) (items_of part words) (items_of BehindEnd (n ∷ words))) starts
+ends_first part w (n ∷ words) starts = ap (λ s. at_word s w n (items_of part (n ∷ words)) (items_of part words) (items_of AfterEnd (n ∷ words))) starts
 
 -- An item noted first is what all items hold first.
 
@@ -96,10 +96,10 @@ joined_refused (w ∷ words) word bytes argument option part f fault whole some 
 
 pub ends_next : (left : List (List ℕ)) (word bytes : List ℕ) (part : Part) (f : Front) (whole : Result (List (List ℕ)) C99Fault)
     → 1 ≤ length left → word ≡ get_or left 0 word → bytes ≡ word → Ends ≡ start_of part bytes
-    → front_with f (items_of part left) ≡ whole → front_with f (items_of BehindEnd (take (length left - 1) (drop 1 left))) ≡ whole
+    → front_with f (items_of part left) ≡ whole → front_with f (items_of AfterEnd (take (length left - 1) (drop 1 left))) ≡ whole
 ends_next [] word bytes part f whole some first same starts so_far = absurd (omega arith)
 ends_next (w ∷ words) word bytes part f whole some first same starts so_far =
-    ap (λ l. front_with f (items_of BehindEnd l)) (after_first w words) ∙ ap (front_with f) (sym (ends_first part w words (ap (start_of part) (sym (same ∙ first)) ∙ sym starts))) ∙ so_far
+    ap (λ l. front_with f (items_of AfterEnd l)) (after_first w words) ∙ ap (front_with f) (sym (ends_first part w words (ap (start_of part) (sym (same ∙ first)) ∙ sym starts))) ∙ so_far
 
 -- An option that wants the next word.
 
@@ -111,9 +111,9 @@ pub wants_next : (left : List (List ℕ)) (word bytes next next_bytes : List ℕ
 wants_next [] word bytes next next_bytes option part f f' whole some first same starts more second alike added so_far = absurd (omega arith)
 wants_next (w ∷ []) word bytes next next_bytes option part f f' whole some first same starts more second alike added so_far = absurd (omega arith)
 wants_next (w ∷ n ∷ words) word bytes next next_bytes option part f f' whole some first same starts more second alike added so_far =
-    let behind = after_first w (n ∷ words) in
-    let is_next : next_bytes ≡ n = alike ∙ second ∙ ap (λ l. get_or l 0 next) behind in
-    ap (λ l. front_with f' (items_of part l)) (ap (λ l. take (length l - 1) (drop 1 l)) behind ∙ after_first n words)
+    let following = after_first w (n ∷ words) in
+    let is_next : next_bytes ≡ n = alike ∙ second ∙ ap (λ l. get_or l 0 next) following in
+    ap (λ l. front_with f' (items_of part l)) (ap (λ l. take (length l - 1) (drop 1 l)) following ∙ after_first n words)
     ∙ note_rest f f' (given option n) (items_of part words) (ap (λ b. noted f (given option b)) (sym is_next) ∙ added)
     ∙ ap (front_with f) (sym (wants_first part option w n words (ap (start_of part) (sym (same ∙ first)) ∙ sym starts)))
     ∙ so_far

@@ -2,7 +2,7 @@ use Rattle.drv_c99.specs.declared.fault.C99Fault.TheVariants.{BadLevel, MissingA
 use Rattle.drv_c99.specs.declared.fault.C99Fault.{C99Fault}
 use Rattle.drv_c99.specs.declared.option.Taking.TheVariants.{Define, IncludeFolder, Level, Library, LibraryFolder, Output, Undefine}
 use Rattle.drv_c99.specs.declared.option.Taking.{Taking}
-use Rattle.drv_c99.specs.declared.option.Part.TheVariants.{BeforeEnd, BehindEnd}
+use Rattle.drv_c99.specs.declared.option.Part.TheVariants.{BeforeEnd, AfterEnd}
 use Rattle.drv_c99.specs.declared.option.Part.{Part}
 use Rattle.drv_words.specs.Bytes.{hyphen}
 use Rattle.std.specs.Cmp.Lexicographic.{pointwise}
@@ -79,7 +79,7 @@ start_after (b ∷ rest) = if b == hyphen then hyphened_start rest else Names []
 
 abbrev pub start_of : Part → List ℕ → Start
 start_of BeforeEnd word = start_before word
-start_of BehindEnd word = start_after word
+start_of AfterEnd word = start_after word
 
 -- an option with its argument: the level is 0 or 1, and a library has a name
 abbrev pub with_level : Bool → List ℕ → Result Item C99Fault
@@ -127,7 +127,7 @@ at_word Unknown word next from_next after_next ended = Err (UnknownOption word)
 abbrev pub items_of : Part → List (List ℕ) → Result (List Item) C99Fault
 items_of part [] = Ok []
 items_of part (word ∷ []) = at_last (start_of part word) word
-items_of part (word ∷ next ∷ words) = at_word (start_of part word) word next (items_of part (next ∷ words)) (items_of part words) (items_of BehindEnd (next ∷ words))
+items_of part (word ∷ next ∷ words) = at_word (start_of part word) word next (items_of part (next ∷ words)) (items_of part words) (items_of AfterEnd (next ∷ words))
 
 -- the words of the driver: the standard, what is defined, what is undefined, and all else in its order
 

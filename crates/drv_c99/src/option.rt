@@ -131,7 +131,7 @@ pub(crate) enum Part {
     /// That before the end of the options.
     BeforeEnd,
     /// That after it.
-    BehindEnd,
+    AfterEnd,
 }
 
 /// How a word of a part begins.
@@ -140,6 +140,6 @@ pub(crate) fn start_of<'a>(part: Part, word: &'a [u8]) -> Start<'a>
 {
     match part {
         Part::BeforeEnd => start_before(word),
-        Part::BehindEnd => start_after(word),
+        Part::AfterEnd => start_after(word),
     }
 }

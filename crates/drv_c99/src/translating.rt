@@ -20,21 +20,21 @@ fn add_words(alloc: Global, front: &mut Front, words: &[Word]) -> Result<(), C99
 {
     let mut part = Part::BeforeEnd;
     let mut left = words;
-    while let [word, behind @ ..] = left {
-        left = behind;
+    while let [word, following @ ..] = left {
+        left = following;
         let bytes = word.as_bytes();
         match start_of(part, bytes) {
             Start::Flag => front.add_flag(alloc, bytes)?,
             Start::Operand { prefix } => front.add_operand(alloc, prefix, bytes)?,
             Start::Joined { option, argument } => front.add_option(alloc, option, argument)?,
             Start::Wants { option } => {
-                let [argument, others @ ..] = behind else {
+                let [argument, others @ ..] = following else {
                     return Err(missing_argument(alloc, option));
                 };
                 front.add_option(alloc, option, argument.as_bytes())?;
                 left = others;
             }
-            Start::Ends => part = Part::BehindEnd,
+            Start::Ends => part = Part::AfterEnd,
             Start::Unknown => return Err(C99Fault::UnknownOption(word.clone()?)),
         }
     }

@@ -4,7 +4,7 @@ use Rattle.drv_cc.specs.declared.table.Spelling.TheVariants.{Alone, Joined, Nowh
 use Rattle.drv_cc.specs.declared.table.Spelling.{Spelling}
 use Rattle.drv_cc.specs.declared.table.Part.TheVariants.{Input, Lacking, Switch, Unknown}
 use Rattle.drv_cc.specs.declared.table.Part.{Part}
-use Rattle.drv_cc.specs.declared.table.Takes.TheVariants.{Behind, Either, Next, Nothing, Rest}
+use Rattle.drv_cc.specs.declared.table.Takes.TheVariants.{Attached, Either, Next, Nothing, Rest}
 use Rattle.drv_cc.specs.declared.table.Takes.{Takes}
 use Rattle.drv_words.specs.Bytes.{equals, hyphen}
 use Rattle.std.specs.Cmp.Lexicographic.{pointwise}
@@ -73,8 +73,8 @@ pub data Start : Type 0 where
 abbrev pub with_rest : Takes → OptionRow → List ℕ → Start
 with_rest Nothing r rest = Whole (by_row r [])
 with_rest Next r rest = Wants r
-with_rest Behind r [] = Whole (plain Lacking r.option)
-with_rest Behind r (b ∷ rest) = Whole (by_row r (b ∷ rest))
+with_rest Attached r [] = Whole (plain Lacking r.option)
+with_rest Attached r (b ∷ rest) = Whole (by_row r (b ∷ rest))
 with_rest Rest r rest = Whole (by_row r rest)
 with_rest Either r [] = Wants r
 with_rest Either r (b ∷ rest) = Whole (by_row r (b ∷ rest))
@@ -82,7 +82,7 @@ with_rest Either r (b ∷ rest) = Whole (by_row r (b ∷ rest))
 abbrev pub takes_rest : Takes → Bool
 takes_rest Nothing = false
 takes_rest Next = false
-takes_rest Behind = true
+takes_rest Attached = true
 takes_rest Rest = true
 takes_rest Either = true
 
@@ -137,8 +137,8 @@ start_of known word = if is_file word then Whole (plain Input word) else start_o
 
 -- the items of words, where the option of a row waits for its argument or none does
 abbrev pub with_start : Start → (Option OptionRow → List Item) → List Item
-with_start (Whole i) behind = i ∷ behind None
-with_start (Wants r) behind = behind (Some r)
+with_start (Whole i) following = i ∷ following None
+with_start (Wants r) following = following (Some r)
 
 abbrev pub items_of : List (List ℕ) → Option OptionRow → List (List ℕ) → List Item
 items_of known None [] = []

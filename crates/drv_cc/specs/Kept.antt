@@ -90,7 +90,7 @@ refusals named items = flat_map (refused_item named) items ++ (if has_input item
 
 -- Kept: of each class the last item stays, and what is of no class.
 abbrev pub goes : Item → List Item → Bool
-goes i behind = nat_lt 0 (length i.class) && list_any (λ j. same i.class j.class) behind
+goes i following = nat_lt 0 (length i.class) && list_any (λ j. same i.class j.class) following
 
 abbrev pub kept : List Item → List Item
 kept [] = []

@@ -2,7 +2,7 @@ use Rattle.drv_cc.specs.declared.table.Spelling.TheVariants.{Alone, Joined, Nowh
 use Rattle.drv_cc.specs.declared.table.Spelling.{Spelling}
 use Rattle.drv_cc.specs.declared.table.Part.TheVariants.{Library, Piece, Question, Refused, Switch, Tells}
 use Rattle.drv_cc.specs.declared.table.Part.{Part}
-use Rattle.drv_cc.specs.declared.table.Takes.TheVariants.{Behind, Either, Next, Nothing, Rest}
+use Rattle.drv_cc.specs.declared.table.Takes.TheVariants.{Attached, Either, Next, Nothing, Rest}
 use Rattle.drv_cc.specs.declared.table.Takes.{Takes}
 use Rattle.drv_words.specs.Bytes.{greater_than, space}
 use Rattle.std.specs.List.{flat_map, slice_split}
@@ -162,37 +162,37 @@ sections =
     (codes "-Xassembler -Xpreprocessor")
     ∷ section Next Separate Library
     (codes "-Xlinker")
-    ∷ section Behind Separate Switch
+    ∷ section Attached Separate Switch
     (codes "--assert=>-A --define-macro=>-D")
-    ∷ section Behind Joined Switch
+    ∷ section Attached Joined Switch
     (codes "--dump=>-d")
-    ∷ section Behind Separate Switch
+    ∷ section Attached Separate Switch
     (codes "--entry=>-e --force-link=>-u")
-    ∷ section Behind Separate Piece
+    ∷ section Attached Separate Piece
     (codes "--for-assembler=>-Xassembler")
-    ∷ section Behind Separate Library
+    ∷ section Attached Separate Library
     (codes "--for-linker=>-Xlinker")
-    ∷ section Behind Separate Switch
+    ∷ section Attached Separate Switch
     (codes "--imacros=>-imacros --include=>-include --include-directory=>-I --include-directory-after=>-idirafter "
     ++ codes "--include-prefix=>-iprefix --include-with-prefix=>-iwithprefix --include-with-prefix-after=>-iwithprefix "
     ++ codes "--include-with-prefix-before=>-iwithprefixbefore")
-    ∷ section Behind Separate Piece
+    ∷ section Attached Separate Piece
     (codes "--language=>-x")
-    ∷ section Behind Joined Switch
+    ∷ section Attached Joined Switch
     (codes "--library-directory=>-L")
-    ∷ section Behind Separate Switch
+    ∷ section Attached Separate Switch
     (codes "--output=>-o --prefix=>-B --undefine-macro=>-U")
-    ∷ section Behind Separate Refused
+    ∷ section Attached Separate Refused
     (codes "--sysroot=>--sysroot")
-    ∷ section Behind Joined Question
+    ∷ section Attached Joined Question
     (codes "--help= --completion= -fhelp= -print-file-name= --print-file-name= -print-prog-name= --print-prog-name=")
-    ∷ section Behind Joined Refused
+    ∷ section Attached Joined Refused
     (codes "-time= -fcompare-debug= --output-pch=")
-    ∷ section Behind Joined Switch
+    ∷ section Attached Joined Switch
     (codes "-specs= --specs=>-specs= --param=")
-    ∷ section Behind Separate Switch
+    ∷ section Attached Separate Switch
     (codes "-aux-info=>-aux-info")
-    ∷ section Behind Joined Switch
+    ∷ section Attached Joined Switch
     (codes "-Tbss= -Tdata= -Ttext= -std= -march= -mtune= -mcpu= -fsanitize= -fno-sanitize= -ftree-parallelize-loops= "
     ++ codes "-fdiagnostics-color= -flto= -Wlarger-than->-Wlarger-than= -finline-limit->-finline-limit= -fno-builtin- -fbuiltin- "
     ++ codes "-fcall-saved- -fcall-used- -fdisable- -fdump- -fenable- -ffixed- -fopt-info- -fplugin-arg-")

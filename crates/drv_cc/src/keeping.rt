@@ -89,11 +89,11 @@ fn has_class(items: &[Item], class: &[u8]) -> bool
 }
 
 /// Whether an item goes, by those after it.
-fn goes(item: &Item, behind: &[Item]) -> bool
-    ensures { result ≡ goes item.now behind.now }
+fn goes(item: &Item, following: &[Item]) -> bool
+    ensures { result ≡ goes item.now following.now }
 {
     let class = item.class.as_bytes();
-    (0 < class.len()) & has_class(behind, class)
+    (0 < class.len()) & has_class(following, class)
 }
 
 /// The items that stay: of each class the last, and those of no class.
@@ -102,11 +102,11 @@ pub(crate) fn kept(alloc: Global, items: &[Item]) -> Result<Listing<Item>, Alloc
 {
     let mut stay = Listing::new(alloc);
     let mut left = items;
-    while let [item, behind @ ..] = left {
-        if !goes(item, behind) {
+    while let [item, following @ ..] = left {
+        if !goes(item, following) {
             stay.push(item.clone()?)?;
         }
-        left = behind;
+        left = following;
     }
     Ok(stay)
 }

@@ -37,10 +37,10 @@ fn with_rest(alloc: Global, row: Row, rest: &[u8]) -> Result<Start, AllocError>
         Takes::Nothing => Ok(Start::Whole(Item::by_row(alloc, row, b"")?)),
         Takes::Next => Ok(Start::Wants(row)),
         Takes::Either if rest.is_empty() => Ok(Start::Wants(row)),
-        Takes::Behind if rest.is_empty() => {
+        Takes::Attached if rest.is_empty() => {
             Ok(Start::Whole(Item::plain(alloc, Part::Lacking, row.option)?))
         }
-        Takes::Behind | Takes::Rest | Takes::Either => {
+        Takes::Attached | Takes::Rest | Takes::Either => {
             Ok(Start::Whole(Item::by_row(alloc, row, rest)?))
         }
     }

@@ -223,24 +223,24 @@ const SECTIONS: [Section; 52] = [
           --include-with-prefix=>-iwithprefix --include-with-prefix-after=>-iwithprefix \
           --include-with-prefix-before=>-iwithprefixbefore"
     ),
-    section!(Behind, Separate, Piece, b"--language=>-x"),
-    section!(Behind, Joined, Switch, b"--library-directory=>-L"),
+    section!(Attached, Separate, Piece, b"--language=>-x"),
+    section!(Attached, Joined, Switch, b"--library-directory=>-L"),
     section!(
-        Behind,
+        Attached,
         Separate,
         Switch,
         b"--output=>-o --prefix=>-B --undefine-macro=>-U"
     ),
-    section!(Behind, Separate, Refused, b"--sysroot=>--sysroot"),
+    section!(Attached, Separate, Refused, b"--sysroot=>--sysroot"),
     section!(
-        Behind,
+        Attached,
         Joined,
         Question,
         b"--help= --completion= -fhelp= -print-file-name= --print-file-name= -print-prog-name= \
           --print-prog-name="
     ),
     section!(
-        Behind,
+        Attached,
         Joined,
         Refused,
         b"-time= -fcompare-debug= --output-pch="

@@ -15,7 +15,7 @@ pub(crate) enum Takes {
     /// It takes none: the word is the option.
     Nothing,
     /// The word's rest, which is not empty.
-    Behind,
+    Attached,
     /// The word's rest, which may be empty.
     Rest,
     /// The next word.
@@ -94,7 +94,7 @@ impl Takes {
     fn takes_rest(self) -> bool
         ensures { result ≡ takes_rest self }
     {
-        matches!(self, Takes::Behind | Takes::Rest | Takes::Either)
+        matches!(self, Takes::Attached | Takes::Rest | Takes::Either)
     }
 
     /// Whether an option fits a word.

@@ -1,6 +1,6 @@
 use Rattle.drv_core.proofs.Able.{able_count, able_is, test}
 use Rattle.drv_core.proofs.Alone.{Leads, leads}
-use Rattle.drv_core.proofs.Behind.{Behind, after_done, after_ending, after_linking, none_goes_on}
+use Rattle.drv_core.proofs.Following.{Following, after_done, after_ending, after_linking, none_goes_on}
 use Rattle.drv_core.proofs.Between.{seen}
 use Rattle.drv_core.proofs.Courses.{FilledPlan}
 use Rattle.drv_core.proofs.Ends.{HoldsAt, most_of}
@@ -140,15 +140,15 @@ where_is plan N p k = at (stands plan N p.room p k.some (filled_at plan N p k) k
     sources t phase g true e = inr (record { test_is = ap (λ q. between_blocks q p.fleet) phase ∙ ap not e; none = λ b. clash (inside (stage_in p.fleet p.fleet.current)) e (seen plan N p.fleet p.events filled g b).out })
     sources t phase g false e = inl (record { phase = phase; going = g; out = e })
 
-    behind : (t : Stands plan N p.room p) (q : Phase) → p.phase ≡ q → between_blocks q p.fleet ≡ false → Behind plan N t.c.events → IsOpen plan N p ⊎ IsClosed plan N p
-    behind t q phase e z = inr (record { test_is = ap (λ r. between_blocks r p.fleet) phase ∙ e; none = λ b. none_goes_on plan N p.events filled (subst (λ E. Behind plan N E) (sym t.match.alike.events) z) b })
+    following : (t : Stands plan N p.room p) (q : Phase) → p.phase ≡ q → between_blocks q p.fleet ≡ false → Following plan N t.c.events → IsOpen plan N p ⊎ IsClosed plan N p
+    following t q phase e z = inr (record { test_is = ap (λ r. between_blocks r p.fleet) phase ∙ e; none = λ b. none_goes_on plan N p.events filled (subst (λ E. Following plan N E) (sym t.match.alike.events) z) b })
 
     by : (t : Stands plan N p.room p) (q : Phase) → p.phase ≡ q → HoldsAt plan N q t.c → IsOpen plan N p ⊎ IsClosed plan N p
     by t Sources phase held = sources t phase (subst (λ f. Going plan.jobs N f p.events) (sym t.match.alike.fleet) (subst (λ E. Going plan.jobs N t.c.fleet E) (sym t.match.alike.events) held.going)) (inside (stage_in p.fleet p.fleet.current)) refl
-    by t Link phase held = behind t Link phase refl (after_linking plan N (most_of plan + first_cost held.job) held.job t.c.link t.c.events held.linked)
-    by t Removals phase held = behind t Removals phase refl (after_ending plan N held.i false t.c.events held.ending held.some)
-    by t Report phase held = behind t Report phase refl (after_ending plan N held.i true t.c.events held.ending held.some)
-    by t Done phase held = behind t Done phase refl (after_done plan N held.i t.c.events held.ending)
+    by t Link phase held = following t Link phase refl (after_linking plan N (most_of plan + first_cost held.job) held.job t.c.link t.c.events held.linked)
+    by t Removals phase held = following t Removals phase refl (after_ending plan N held.i false t.c.events held.ending held.some)
+    by t Report phase held = following t Report phase refl (after_ending plan N held.i true t.c.events held.ending held.some)
+    by t Done phase held = following t Done phase refl (after_done plan N held.i t.c.events held.ending)
 
     at : Stands plan N p.room p → IsOpen plan N p ⊎ IsClosed plan N p
     at t = by t t.c.phase t.match.phase t.holds

@@ -10,7 +10,7 @@ use Rattle.drv_core.proofs.Sure.{Over, Sure, sure_fewer, sure_makes, sure_starts
 use Rattle.drv_core.proofs.Able.{sure_selected}
 use Rattle.drv_core.proofs.Whole.{file_at, no_file}
 use Rattle.drv_core.specs.Filled.{Filled}
-use Rattle.drv_core.specs.Code.Course.{Course, Done, Link, Phase, Removals, Report, Sources, asked_at, asked_by, after_link, behind_sources, fresh_course, link_by, link_of, linking, removed, removes, removing, reports, run_code, sourced, stepped, stepped_at}
+use Rattle.drv_core.specs.Code.Course.{Course, Done, Link, Phase, Removals, Report, Sources, asked_at, asked_by, after_link, following_sources, fresh_course, link_by, link_of, linking, removed, removes, removing, reports, run_code, sourced, stepped, stepped_at}
 use Rattle.drv_core.specs.Code.Fleet.{able, asked_of, fresh_fleet, selected, stage_in, taken}
 use Rattle.drv_core.specs.Code.Leftovers.{all_files}
 use Rattle.drv_core.specs.Code.Machine.{ClaimReport, Claims, Closing, Ended, RemovalReport, Removals as OwnRemovals, Stage, StartReport, Starts, WaitReport, Waits, after, asks, begin, inside, is_kind, left}
@@ -54,22 +54,22 @@ linking_holds plan N c job is k = by (left c.link) refl
     by false e = link_ends plan N c job is (subst (λ s. Linking plan N (most_of plan + first_cost job) job s c.events) (is_ended c.link e) k)
 
 -- all sources have ended
-over_holds : (plan : Plan) (N : ℕ) (c : Course) → FilledPlan plan → Over plan.jobs N (most_of plan) c.fleet c.events → Holds plan N (behind_sources plan (link_by plan.link (run_code c.events)) c)
+over_holds : (plan : Plan) (N : ℕ) (c : Course) → FilledPlan plan → Over plan.jobs N (most_of plan) c.fleet c.events → Holds plan N (following_sources plan (link_by plan.link (run_code c.events)) c)
 over_holds plan N c filled o = by plan.link refl
   where
-    quiet : link_by plan.link (run_code c.events) ≡ no_job → Holds plan N (behind_sources plan no_job c)
+    quiet : link_by plan.link (run_code c.events) ≡ no_job → Holds plan N (following_sources plan no_job c)
     quiet e = sources_end plan N (record c { link = Ended }) o e
 
-    runs : (job : Job) → plan.link ≡ Some job → (t : Bool) → nat_eq (run_code c.events) 0 ≡ t → Holds plan N (behind_sources plan (if t then job else no_job) c)
+    runs : (job : Job) → plan.link ≡ Some job → (t : Bool) → nat_eq (run_code c.events) 0 ≡ t → Holds plan N (following_sources plan (if t then job else no_job) c)
     runs job is true e = linking_holds plan N (record c { link = begin job }) job is (link_starts plan N (most_of plan) c.fleet job c.events (filled.link job is) o is e)
     runs job is false e = quiet (ap (λ l. link_by l (run_code c.events)) is ∙ ap (λ (t : Bool). if t then job else no_job) e)
 
-    by : (l : Option Job) → plan.link ≡ l → Holds plan N (behind_sources plan (link_by l (run_code c.events)) c)
+    by : (l : Option Job) → plan.link ≡ l → Holds plan N (following_sources plan (link_by l (run_code c.events)) c)
     by None is = quiet (ap (λ l. link_by l (run_code c.events)) is)
     by (Some job) is = runs job is (nat_eq (run_code c.events) 0) refl
 
 sourced_holds : (plan : Plan) (N : ℕ) (c : Course) → FilledPlan plan → Sure plan.jobs N (most_of plan) c.fleet c.events ⊎ Over plan.jobs N (most_of plan) c.fleet c.events → Holds plan N (sourced plan c)
-sourced_holds plan N c filled (inl s) = subst (λ (t : Bool). Holds plan N (if t then behind_sources plan (link_by plan.link (run_code c.events)) c else record c { phase = Sources })) (sym some_left) s
+sourced_holds plan N c filled (inl s) = subst (λ (t : Bool). Holds plan N (if t then following_sources plan (link_by plan.link (run_code c.events)) c else record c { phase = Sources })) (sym some_left) s
   where
     in_range : c.fleet.current < length plan.jobs
     in_range = is_less c.fleet.current (length plan.jobs) s.going.may.is_source
@@ -79,7 +79,7 @@ sourced_holds plan N c filled (inl s) = subst (λ (t : Bool). Holds plan N (if t
         let one : 1 ≤ count (length plan.jobs) (λ j. left (stage_in c.fleet j)) = count_some (length plan.jobs) c.fleet.current (λ j. left (stage_in c.fleet j)) in_range (ap left (s.going.at c.fleet.current) ∙ s.going.more) in
         let is : c.fleet.unended ≡ count (length plan.jobs) (λ j. left (stage_in c.fleet j)) = s.going.counts.unended_is in
         apart_above c.fleet.unended 0 (omega (arith, one, is))
-sourced_holds plan N c filled (inr o) = subst (λ (t : Bool). Holds plan N (if t then behind_sources plan (link_by plan.link (run_code c.events)) c else record c { phase = Sources })) (sym (ap (λ n. nat_eq n 0) o.landed.unended_is)) (over_holds plan N c filled o)
+sourced_holds plan N c filled (inr o) = subst (λ (t : Bool). Holds plan N (if t then following_sources plan (link_by plan.link (run_code c.events)) c else record c { phase = Sources })) (sym (ap (λ n. nat_eq n 0) o.landed.unended_is)) (over_holds plan N c filled o)
 
 -- at the beginning
 pub fresh_holds : (plan : Plan) (N : ℕ) → 1 ≤ N → FilledPlan plan → Holds plan N (fresh_course plan N)

@@ -40,10 +40,10 @@ abbrev sources_of : (plan : Plan) (N : ℕ) (o : Answers) (E : List RunEvent) (w
 sources_of plan N o E w = record { blocks = w.blocks; run = record { answers = o.jobs; all = all_whole_jobs plan N o E w; stories = w.stories; may_come = w.may_come }; events = refl }
 
 -- blocks of the sources that ran, and others that are the link's or nobody's
-abbrev pub behind_sources : (plan : Plan) (N : ℕ) (S : List RunEvent) → Ran plan.jobs N S → List Block → List Block → List SourceBlock
-behind_sources plan N S ran own last = ran.blocks ++ (tag (length plan.jobs) own ++ tag (suc (length plan.jobs)) last)
+abbrev pub following_sources : (plan : Plan) (N : ℕ) (S : List RunEvent) → Ran plan.jobs N S → List Block → List Block → List SourceBlock
+following_sources plan N S ran own last = ran.blocks ++ (tag (length plan.jobs) own ++ tag (suc (length plan.jobs)) last)
 
-pub after_is : (plan : Plan) (N : ℕ) (S : List RunEvent) (ran : Ran plan.jobs N S) (own last : List Block) → S ++ (events_of own ++ events_of last) ≡ events_of (blocks_of (behind_sources plan N S ran own last))
+pub after_is : (plan : Plan) (N : ℕ) (S : List RunEvent) (ran : Ran plan.jobs N S) (own last : List Block) → S ++ (events_of own ++ events_of last) ≡ events_of (blocks_of (following_sources plan N S ran own last))
 after_is plan N S ran own last = ap (λ l. l ++ (events_of own ++ events_of last)) ran.events
     ∙ ap (λ l. events_of (blocks_of ran.blocks) ++ l) (ap (λ l. events_of l ++ events_of last) (sym (blocks_tag (length plan.jobs) own)) ∙ ap (λ l. events_of (blocks_of (tag (length plan.jobs) own)) ++ events_of l) (sym (blocks_tag (suc (length plan.jobs)) last))
     ∙ sym (events_append (tag (length plan.jobs) own) (tag (suc (length plan.jobs)) last)))
@@ -55,24 +55,24 @@ ran_story plan N S ran j lt = subst (λ n. of n ran.blocks ≡ story n (get_or p
 ran_below : (plan : Plan) (N : ℕ) (S : List RunEvent) (ran : Ran plan.jobs N S) → Below (length plan.jobs) ran.blocks
 ran_below plan N S ran = all_below (length plan.jobs) N nowhere [] ran.blocks ran.run.may_come
 
-pub after_owned : (plan : Plan) (N : ℕ) (S : List RunEvent) (ran : Ran plan.jobs N S) (own last : List Block) → AllOwned (length plan.jobs) (tag (length plan.jobs) own) → AllOwned (length plan.jobs) (tag (suc (length plan.jobs)) last) → AllOwned (length plan.jobs) (behind_sources plan N S ran own last)
+pub after_owned : (plan : Plan) (N : ℕ) (S : List RunEvent) (ran : Ran plan.jobs N S) (own last : List Block) → AllOwned (length plan.jobs) (tag (length plan.jobs) own) → AllOwned (length plan.jobs) (tag (suc (length plan.jobs)) last) → AllOwned (length plan.jobs) (following_sources plan N S ran own last)
 after_owned plan N S ran own last x y = owned_append (length plan.jobs) ran.blocks (tag (length plan.jobs) own ++ tag (suc (length plan.jobs)) last)
     (all_owned (length plan.jobs) (length plan.jobs) ran.blocks (ran_below plan N S ran) (λ j lt. subst (λ bs. AllOwned (length plan.jobs) (tag j bs)) (sym (ran_story plan N S ran j lt)) (story_owned (length plan.jobs) j (get_or plan.jobs j no_job) (get_or ran.run.answers j no_answers))))
     (owned_append (length plan.jobs) (tag (length plan.jobs) own) (tag (suc (length plan.jobs)) last) x y)
 
-of_after : (plan : Plan) (N : ℕ) (S : List RunEvent) (ran : Ran plan.jobs N S) (own last : List Block) (j : ℕ) → of j (behind_sources plan N S ran own last) ≡ of j ran.blocks ++ ((if nat_eq (length plan.jobs) j then own else []) ++ (if nat_eq (suc (length plan.jobs)) j then last else []))
+of_after : (plan : Plan) (N : ℕ) (S : List RunEvent) (ran : Ran plan.jobs N S) (own last : List Block) (j : ℕ) → of j (following_sources plan N S ran own last) ≡ of j ran.blocks ++ ((if nat_eq (length plan.jobs) j then own else []) ++ (if nat_eq (suc (length plan.jobs)) j then last else []))
 of_after plan N S ran own last j = of_append j ran.blocks (tag (length plan.jobs) own ++ tag (suc (length plan.jobs)) last)
     ∙ ap (λ l. of j ran.blocks ++ l) (of_append j (tag (length plan.jobs) own) (tag (suc (length plan.jobs)) last)
     ∙ ap (λ l. l ++ of j (tag (suc (length plan.jobs)) last)) (of_tag j (length plan.jobs) own) ∙ ap (λ l. (if nat_eq (length plan.jobs) j then own else []) ++ l) (of_tag j (suc (length plan.jobs)) last))
 
-pub source_after : (plan : Plan) (N : ℕ) (S : List RunEvent) (ran : Ran plan.jobs N S) (own last : List Block) (j : ℕ) → j < length plan.jobs → of j (behind_sources plan N S ran own last) ≡ of j ran.blocks
+pub source_after : (plan : Plan) (N : ℕ) (S : List RunEvent) (ran : Ran plan.jobs N S) (own last : List Block) (j : ℕ) → j < length plan.jobs → of j (following_sources plan N S ran own last) ≡ of j ran.blocks
 source_after plan N S ran own last j lt = of_after plan N S ran own last j
     ∙ ap (λ (t : Bool). of j ran.blocks ++ ((if t then own else []) ++ (if nat_eq (suc (length plan.jobs)) j then last else []))) (apart_above (length plan.jobs) j lt)
     ∙ ap (λ (t : Bool). of j ran.blocks ++ (if t then last else [])) (apart_above (suc (length plan.jobs)) j (omega (arith, lt)))
     ∙ append-nil (of j ran.blocks)
 
-link_behind : (plan : Plan) (N : ℕ) (S : List RunEvent) (ran : Ran plan.jobs N S) (own last : List Block) → of (length plan.jobs) (behind_sources plan N S ran own last) ≡ own
-link_behind plan N S ran own last = of_after plan N S ran own last (length plan.jobs)
+link_following : (plan : Plan) (N : ℕ) (S : List RunEvent) (ran : Ran plan.jobs N S) (own last : List Block) → of (length plan.jobs) (following_sources plan N S ran own last) ≡ own
+link_following plan N S ran own last = of_after plan N S ran own last (length plan.jobs)
     ∙ ap (λ l. l ++ ((if nat_eq (length plan.jobs) (length plan.jobs) then own else []) ++ (if nat_eq (suc (length plan.jobs)) (length plan.jobs) then last else []))) (none_of (length plan.jobs) ran.blocks (ran_below plan N S ran))
     ∙ ap (λ (t : Bool). (if t then own else []) ++ (if nat_eq (suc (length plan.jobs)) (length plan.jobs) then last else [])) (nat_eq_equiv.refl (length plan.jobs))
     ∙ ap (λ (t : Bool). own ++ (if t then last else [])) (apart_above (suc (length plan.jobs)) (length plan.jobs) (omega arith)) ∙ append-nil own
@@ -81,7 +81,7 @@ below_next : (n : ℕ) (bs : List SourceBlock) → Below n bs → of (suc n) bs 
 below_next n [] below = refl
 below_next n (b ∷ bs) below = ap (λ (t : Bool). if t then b.block ∷ of (suc n) bs else of (suc n) bs) (apart b.source (suc n) (let lt = below.0 in omega (arith, lt))) ∙ below_next n bs below.1
 
-last_after : (plan : Plan) (N : ℕ) (S : List RunEvent) (ran : Ran plan.jobs N S) (own last : List Block) → of (suc (length plan.jobs)) (behind_sources plan N S ran own last) ≡ last
+last_after : (plan : Plan) (N : ℕ) (S : List RunEvent) (ran : Ran plan.jobs N S) (own last : List Block) → of (suc (length plan.jobs)) (following_sources plan N S ran own last) ≡ last
 last_after plan N S ran own last = of_after plan N S ran own last (suc (length plan.jobs))
     ∙ ap (λ l. l ++ ((if nat_eq (length plan.jobs) (suc (length plan.jobs)) then own else []) ++ (if nat_eq (suc (length plan.jobs)) (suc (length plan.jobs)) then last else []))) (below_next (length plan.jobs) ran.blocks (ran_below plan N S ran))
     ∙ ap (λ (t : Bool). (if t then own else []) ++ (if nat_eq (suc (length plan.jobs)) (suc (length plan.jobs)) then last else [])) (apart (length plan.jobs) (suc (length plan.jobs)) (omega arith))
@@ -95,18 +95,18 @@ record Apart (plan : Plan) (N : ℕ) (o : Answers) (S : List RunEvent) (ran : Ra
   removals : events_of (end_removals (removed_at_end plan o) o.last) ≡ events_of last
 
 -- a whole run is such a way itself
-whole_is : (plan : Plan) (N : ℕ) (o : Answers) (E : List RunEvent) (w : Windowed plan N o E) → all_blocks plan o w.blocks ≡ behind_sources plan N (events_of (blocks_of w.blocks)) (sources_of plan N o E w) (story (length plan.jobs) (link_run plan.link o.jobs) o.link) (end_removals (removed_at_end plan o) o.last)
+whole_is : (plan : Plan) (N : ℕ) (o : Answers) (E : List RunEvent) (w : Windowed plan N o E) → all_blocks plan o w.blocks ≡ following_sources plan N (events_of (blocks_of w.blocks)) (sources_of plan N o E w) (story (length plan.jobs) (link_run plan.link o.jobs) o.link) (end_removals (removed_at_end plan o) o.last)
 whole_is plan N o E w = refl
 
 taken_apart : (plan : Plan) (N : ℕ) (o : Answers) (E : List RunEvent) (w : Windowed plan N o E) (S : List RunEvent) (ran : Ran plan.jobs N S) (own last : List Block) → AllOwned (length plan.jobs) (tag (length plan.jobs) own) → AllOwned (length plan.jobs) (tag (suc (length plan.jobs)) last) → E ≡ S ++ (events_of own ++ events_of last) → Apart plan N o S ran own last
 taken_apart plan N o E w S ran own last x y is = record {
   sources = λ j lt. ap events_of (sym (source_of_all plan N o E w j lt)) ∙ lanes j ∙ ap events_of (source_after plan N S ran own last j lt);
-  link = ap events_of (sym (link_behind plan N (events_of (blocks_of w.blocks)) (sources_of plan N o E w) (story (length plan.jobs) (link_run plan.link o.jobs) o.link) (end_removals (removed_at_end plan o) o.last))) ∙ lanes (length plan.jobs) ∙ ap events_of (link_behind plan N S ran own last);
+  link = ap events_of (sym (link_following plan N (events_of (blocks_of w.blocks)) (sources_of plan N o E w) (story (length plan.jobs) (link_run plan.link o.jobs) o.link) (end_removals (removed_at_end plan o) o.last))) ∙ lanes (length plan.jobs) ∙ ap events_of (link_following plan N S ran own last);
   removals = ap events_of (sym (last_after plan N (events_of (blocks_of w.blocks)) (sources_of plan N o E w) (story (length plan.jobs) (link_run plan.link o.jobs) o.link) (end_removals (removed_at_end plan o) o.last))) ∙ lanes (suc (length plan.jobs)) ∙ ap events_of (last_after plan N S ran own last);
 }
   where
-    lanes : (j : ℕ) → events_of (of j (all_blocks plan o w.blocks)) ≡ events_of (of j (behind_sources plan N S ran own last))
-    lanes j = same_lane (length plan.jobs) j (all_blocks plan o w.blocks) (behind_sources plan N S ran own last) (whole_owned plan N o E w) (after_owned plan N S ran own last x y) (sym (whole_events plan N o E w) ∙ is ∙ after_is plan N S ran own last)
+    lanes : (j : ℕ) → events_of (of j (all_blocks plan o w.blocks)) ≡ events_of (of j (following_sources plan N S ran own last))
+    lanes j = same_lane (length plan.jobs) j (all_blocks plan o w.blocks) (following_sources plan N S ran own last) (whole_owned plan N o E w) (after_owned plan N S ran own last x y) (sym (whole_events plan N o E w) ∙ is ∙ after_is plan N S ran own last)
 
 -- both have the same code, so the same link
 same_link : (plan : Plan) (N : ℕ) (o : Answers) (E : List RunEvent) (w : Windowed plan N o E) (S : List RunEvent) (ran : Ran plan.jobs N S) → ((j : ℕ) → j < length plan.jobs → events_of (story j (get_or plan.jobs j no_job) (get_or o.jobs j no_answers)) ≡ events_of (of j ran.blocks)) → link_run plan.link o.jobs ≡ link_run plan.link ran.run.answers

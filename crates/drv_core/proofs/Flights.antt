@@ -231,8 +231,8 @@ takes jobs N f E a some filled g kind = subst (λ s. Going jobs N (taken jobs f 
       counts = c;
     }
 
-    behind : (blocks : List SourceBlock) (b : Block) → Worked jobs N f (gone_on jobs f a) g.run.blocks (g.run.blocks ++ record { source = f.current; block = b } ∷ [])
-    behind blocks b = record {
+    following : (blocks : List SourceBlock) (b : Block) → Worked jobs N f (gone_on jobs f a) g.run.blocks (g.run.blocks ++ record { source = f.current; block = b } ∷ [])
+    following blocks b = record {
       counts = g.counts;
       same_next = refl;
       same_begun = refl;
@@ -261,7 +261,7 @@ takes jobs N f E a some filled g kind = subst (λ s. Going jobs N (taken jobs f 
         → Going jobs N (taken jobs f a) (E ++ made jobs f g.st a ∷ []) ⊎ Landed jobs N (taken jobs f a) (E ++ made jobs f g.st a ∷ [])
     by true e s = settled_by true e (inl (into e (goes_inside jobs N g.st f.current E (next_stage jobs f g.st a) (made jobs f g.st a) g.run g.may valid s.0 s.1)
         (counts_inside jobs N f a g.st g.run.blocks z (current_before jobs N f E g) was (inside_left (next_stage jobs f g.st a) e) g.counts)))
-    by false e s = settled_by false e (out e (goes_out jobs N g.st f.current E (next_stage jobs f g.st a) (made jobs f g.st a) g.run g.may valid g.more e s) (behind g.run.blocks (open_of f.current (get_or jobs f.current no_job) (g.st f.current) ++ made jobs f g.st a ∷ [])))
+    by false e s = settled_by false e (out e (goes_out jobs N g.st f.current E (next_stage jobs f g.st a) (made jobs f g.st a) g.run g.may valid g.more e s) (following g.run.blocks (open_of f.current (get_or jobs f.current no_job) (g.st f.current) ++ made jobs f g.st a ∷ [])))
 
 -- at the beginning
 

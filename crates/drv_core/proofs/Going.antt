@@ -228,14 +228,14 @@ opened_is jobs N f g blocks more w = by (nat_eq g.current g.next) refl
     has_is : (r : ℕ) → g.current < r → ((j : ℕ) → nat_eq j g.current ≡ false → left (stage_in g j) ≡ true → nat_lt j f.next ≡ nat_lt j r) → (j : ℕ) → left (stage_in g j) ≡ true → has j more ≡ nat_lt j r
     has_is r lt later j l = w.has_more j ∙ has_by r lt later j (nat_eq j g.current) refl l
 
-    behind : (r : ℕ) → Next jobs (g.current + 1) r → g.current ≡ f.next → (j : ℕ) → g.current < j → j < r → left (stage_in g j) ≡ false
-    behind r nx is j after_it lt = ap (λ s. left s) (w.others j (not_same g.current j after_it) ∙ c.waiting j (subst (λ i. i < j) is after_it)) ∙ idle_next (get_or jobs j no_job) (nx.before j (omega (arith, after_it)) lt)
+    following : (r : ℕ) → Next jobs (g.current + 1) r → g.current ≡ f.next → (j : ℕ) → g.current < j → j < r → left (stage_in g j) ≡ false
+    following r nx is j after_it lt = ap (λ s. left s) (w.others j (not_same g.current j after_it) ∙ c.waiting j (subst (λ i. i < j) is after_it)) ∙ idle_next (get_or jobs j no_job) (nx.before j (omega (arith, after_it)) lt)
 
     later_next : (r : ℕ) → Next jobs (g.current + 1) r → g.current ≡ f.next → (j : ℕ) → nat_eq j g.current ≡ false → left (stage_in g j) ≡ true → nat_lt j f.next ≡ nat_lt j r
     later_next r nx is j e l = at (apart_from j g.current e)
       where
         beyond : (t : Bool) → nat_lt j r ≡ t → g.current < j → nat_lt j r ≡ false
-        beyond true lt past = absurd (let clash : true ≡ false = sym l ∙ behind r nx is j past (is_less j r lt) in cc)
+        beyond true lt past = absurd (let clash : true ≡ false = sym l ∙ following r nx is j past (is_less j r lt) in cc)
         beyond false lt past = lt
 
         at : (j < g.current) ⊎ (g.current < j) → nat_lt j f.next ≡ nat_lt j r
@@ -248,7 +248,7 @@ opened_is jobs N f g blocks more w = by (nat_eq g.current g.next) refl
         ∙ sym (listed_up_to (suc g.current) r (λ j. left (stage_in g j) || nat_eq j g.current) (let le = nx.least in omega (arith, le)) (λ j le lt. none_there j (omega (arith, le)) lt))
       where
         none_there : (j : ℕ) → g.current < j → j < r → (left (stage_in g j) || nat_eq j g.current) ≡ false
-        none_there j past lt = ap (λ (t : Bool). left (stage_in g j) || t) (not_same g.current j past) ∙ or_same (left (stage_in g j)) ∙ behind r nx is j past lt
+        none_there j past lt = ap (λ (t : Bool). left (stage_in g j) || t) (not_same g.current j past) ∙ or_same (left (stage_in g j)) ∙ following r nx is j past lt
 
     unended : g.unended ≡ count (length jobs) (λ j. left (stage_in g j) || nat_eq j g.current)
     unended = w.same_unended ∙ c.unended_is ∙ count_same (length jobs) (λ j. left (stage_in f j)) (λ j. left (stage_in g j) || nat_eq j g.current) (λ j lt. same_was j)

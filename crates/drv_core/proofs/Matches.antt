@@ -6,7 +6,7 @@ use Rattle.drv_core.proofs.Removed.{Found, found}
 use Rattle.drv_core.proofs.Status.{code_append}
 use Rattle.drv_core.proofs.Steps.{asked}
 use Rattle.drv_core.specs.Code.Counting.{noting, noting_claim, place_at}
-use Rattle.drv_core.specs.Code.Course.{Course, Done, Link, Phase, Removals, Report, Sources, asked_at, asked_by, after_link, behind_sources, fresh_course, link_by, link_of, linking, removes, removing, reports, run_code, sourced, stepped, stepped_at}
+use Rattle.drv_core.specs.Code.Course.{Course, Done, Link, Phase, Removals, Report, Sources, asked_at, asked_by, after_link, following_sources, fresh_course, link_by, link_of, linking, removes, removing, reports, run_code, sourced, stepped, stepped_at}
 use Rattle.drv_core.specs.Code.Due.{due_files, tally}
 use Rattle.drv_core.specs.Code.Fleet.{Worker, asked_of, fresh, fresh_fleet, stage_in, taken}
 use Rattle.drv_core.specs.Code.Leftovers.{all_files, place_in}
@@ -176,14 +176,14 @@ flown_matches plan room p c phase a h = subst (λ (t : Bool). Matches plan room 
     end_alike : Alike plan room p (record c { link = Ended })
     end_alike = record { fleet = a.fleet; events = a.events; code = a.code; room_is = a.room_is; files = a.files; many = a.many; counted = a.counted }
 
-    left_by : (t : Bool) → nat_eq (run_code c.events) 0 ≡ t → Matches plan room (if t then linked (record p { remains = record p.remains { linked = true } }) else removing_first p) (behind_sources plan (link_by plan.link (run_code c.events)) c)
-    left_by true e = subst (λ job. Matches plan room (linked (record p { remains = record p.remains { linked = true } })) (behind_sources plan job c)) (sym (ran plan.link true e refl))
+    left_by : (t : Bool) → nat_eq (run_code c.events) 0 ≡ t → Matches plan room (if t then linked (record p { remains = record p.remains { linked = true } }) else removing_first p) (following_sources plan (link_by plan.link (run_code c.events)) c)
+    left_by true e = subst (λ job. Matches plan room (linked (record p { remains = record p.remains { linked = true } })) (following_sources plan job c)) (sym (ran plan.link true e refl))
         (linked_matches plan room (record p { remains = record p.remains { linked = true } }) (record c { link = begin (link_of plan.link) }) link_alike (ap (λ w. w.stage) h.link) (ap (λ w. w.room) h.link) refl h.gone)
-    left_by false e = subst (λ job. Matches plan room (removing_first p) (behind_sources plan job c)) (sym (not_ran plan.link e))
+    left_by false e = subst (λ job. Matches plan room (removing_first p) (following_sources plan job c)) (sym (not_ran plan.link e))
         (first_matches plan room p (record c { link = Ended }) no_job end_alike h.gone (was_not_run h.linked (a.counted.counts (length plan.jobs) (omega arith) ∙ h.unclaimed)))
 
-    by : (t : Bool) → Matches plan room (if t then sources_left p else p) (if t then behind_sources plan (link_by plan.link (run_code c.events)) c else record c { phase = Sources })
-    by true = subst (λ (t : Bool). Matches plan room (if t then linked (record p { remains = record p.remains { linked = true } }) else removing_first p) (behind_sources plan (link_by plan.link (run_code c.events)) c)) (sym (ap (λ n. nat_eq n 0) a.code)) (left_by (nat_eq (run_code c.events) 0) refl)
+    by : (t : Bool) → Matches plan room (if t then sources_left p else p) (if t then following_sources plan (link_by plan.link (run_code c.events)) c else record c { phase = Sources })
+    by true = subst (λ (t : Bool). Matches plan room (if t then linked (record p { remains = record p.remains { linked = true } }) else removing_first p) (following_sources plan (link_by plan.link (run_code c.events)) c)) (sym (ap (λ n. nat_eq n 0) a.code)) (left_by (nat_eq (run_code c.events) 0) refl)
     by false = record {
       phase = phase;
       alike = record { fleet = a.fleet; events = a.events; code = a.code; room_is = a.room_is; files = a.files; many = a.many; counted = a.counted };

@@ -82,11 +82,11 @@ no_waits f k g quiet i (Started id ∷ xs) (w ∷ ws) = flat_map-append f (wait_
 
 blocks : {X : Type 0} (f : RunEvent → List X) (k n : ℕ) (bs : List SourceBlock) → Below n bs → ((j : ℕ) → j < n → nat_eq j k ≡ false → sift f (of j bs) ≡ []) → sift f (blocks_of bs) ≡ sift f (of k bs)
 blocks f k n [] under others = refl
-blocks f k n (b ∷ bs) under others = flat_map-append f b.block (events_of (blocks_of bs)) ∙ ap (λ l. flat_map f b.block ++ l) (blocks f k n bs under.1 (λ j lt e. behind (nat_eq b.source j) j (others j lt e))) ∙ by (nat_eq b.source k) refl
+blocks f k n (b ∷ bs) under others = flat_map-append f b.block (events_of (blocks_of bs)) ∙ ap (λ l. flat_map f b.block ++ l) (blocks f k n bs under.1 (λ j lt e. following (nat_eq b.source j) j (others j lt e))) ∙ by (nat_eq b.source k) refl
   where
-    behind : (t : Bool) (j : ℕ) → sift f (if t then b.block ∷ of j bs else of j bs) ≡ [] → sift f (of j bs) ≡ []
-    behind true j e = (parts (flat_map f b.block) (sift f (of j bs)) (sym (flat_map-append f b.block (events_of (of j bs))) ∙ e)).1
-    behind false j e = e
+    following : (t : Bool) (j : ℕ) → sift f (if t then b.block ∷ of j bs else of j bs) ≡ [] → sift f (of j bs) ≡ []
+    following true j e = (parts (flat_map f b.block) (sift f (of j bs)) (sym (flat_map-append f b.block (events_of (of j bs))) ∙ e)).1
+    following false j e = e
 
     alone : nat_eq b.source k ≡ false → flat_map f b.block ≡ []
     alone e = (parts (flat_map f b.block) (sift f (of b.source bs)) (sym (flat_map-append f b.block (events_of (of b.source bs))) ∙ sym (ap (λ (t : Bool). sift f (if t then b.block ∷ of b.source bs else of b.source bs)) (nat_eq_equiv.refl b.source)) ∙ others b.source under.0 e)).0

@@ -66,12 +66,12 @@ starts plan k g n i refused cs (Started id ∷ xs) at = ap (λ l. l ++ started_i
         → ((es : List Command) → ((h : ℕ) → slice_get (group_at (job_at plan k) g) (i + 1 + h) ≡ slice_get es h) → started_in plan k (starts_block k g n (i + 1) refused xs) ≡ started_in_group es xs)
         → ((h : ℕ) → slice_get (group_at (job_at plan k) g) (i + 1 + h) ≡ slice_get ds (suc h))
         → option_to_list (slice_get (group_at (job_at plan k) g) (i + 0)) ++ started_in plan k (starts_block k g n (i + 1) refused xs) ≡ started_in_group ds (Started id ∷ xs)
-    by [] first later behind = nothing (ap option_to_list first) (later [] behind ∙ none_left xs)
+    by [] first later following = nothing (ap option_to_list first) (later [] following ∙ none_left xs)
       where
         none_left : (ys : List StartAnswer) → started_in_group [] ys ≡ []
         none_left [] = refl
         none_left (y ∷ ys) = refl
-    by (d ∷ ds) first later behind = ap (λ l. option_to_list l ++ started_in plan k (starts_block k g n (i + 1) refused xs)) first ∙ ap (λ l. d ∷ l) (later ds behind)
+    by (d ∷ ds) first later following = ap (λ l. option_to_list l ++ started_in plan k (starts_block k g n (i + 1) refused xs)) first ∙ ap (λ l. d ∷ l) (later ds following)
 
 no_starts : (plan : Plan) (k j g n i : ℕ) (refused : Bool) (xs : List StartAnswer) → nat_eq j k ≡ false → started_in plan k (starts_block j g n i refused xs) ≡ []
 no_starts plan k j g n i refused [] other = refl

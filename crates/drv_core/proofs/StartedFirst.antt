@@ -58,10 +58,10 @@ in_groups (g ∷ gs) (a ∷ xs) whole =
               ∙ ap (λ l. l ++ (part.0 ++ all_of gs)) (sym (append-nil (started_in_group g a.starts))),
         )
     by false well whole_g more later =
-        let behind = later more in (
-          behind.0,
-          ap (λ l. l ++ all_of gs) (sym (every_start g a whole_g well)) ∙ ap (λ l. started_in_group g a.starts ++ l) behind.1
-              ∙ sym (append_assoc (started_in_group g a.starts) (started_in_groups gs xs) behind.0),
+        let following = later more in (
+          following.0,
+          ap (λ l. l ++ all_of gs) (sym (every_start g a whole_g well)) ∙ ap (λ l. started_in_group g a.starts ++ l) following.1
+              ∙ sym (append_assoc (started_in_group g a.starts) (started_in_groups gs xs) following.0),
         )
 
 every_group : (gs : List (List Command)) (xs : List GroupAnswers) → whole_groups gs xs ≡ true → list_any group_failed xs ≡ false → started_in_groups gs xs ≡ all_of gs

@@ -83,7 +83,7 @@ await_all [] acts w = w
 await_all (c ∷ cs) acts w = awaits c cs (map Awaits cs ++ acts) (await_all cs acts w)
 
 -- acts that may stand after others: their children come after this place
-record Behind (g i : ℕ) (acts : List Act) : Type 0 where
+record Following (g i : ℕ) (acts : List Act) : Type 0 where
   each : Waited [] acts
   once : Ascends g i acts
 
@@ -105,20 +105,20 @@ quiet : (g m : ℕ) (cs : List Child) (acts : List Act) → Ascends g m acts →
 quiet g m [] acts a = a
 quiet g m (c ∷ cs) acts a = quiet g m cs acts a
 
-group_after : (g : ℕ) (xs : List StartAnswer) (acts : List Act) → Behind (g + 1) 0 acts → Behind g 0 (map Begins (children g 0 xs) ++ (map Awaits (children g 0 xs) ++ acts))
+group_after : (g : ℕ) (xs : List StartAnswer) (acts : List Act) → Following (g + 1) 0 acts → Following g 0 (map Begins (children g 0 xs) ++ (map Awaits (children g 0 xs) ++ acts))
 group_after g xs acts b = record {
   each = start_all (children g 0 xs) [] (map Awaits (children g 0 xs) ++ acts) (await_all (children g 0 xs) acts b.each);
   once = up g 0 xs (map Awaits (children g 0 xs) ++ acts) (λ n. quiet g n (children g 0 xs) acts (later g n 0 acts b.once));
 }
 
-none_after : (g : ℕ) (acts : List Act) → acts ≡ [] → Behind g 0 acts
-none_after g acts e = subst (λ l. Behind g 0 l) (sym e) (record { each = over; once = tt })
+none_after : (g : ℕ) (acts : List Act) → acts ≡ [] → Following g 0 acts
+none_after g acts e = subst (λ l. Following g 0 l) (sym e) (record { each = over; once = tt })
 
-groups : (k g : ℕ) (cs : List (List Command)) (xs : List GroupAnswers) → whole_groups cs xs ≡ true → Behind g 0 (seen k (group_blocks k g cs xs))
+groups : (k g : ℕ) (cs : List (List Command)) (xs : List GroupAnswers) → whole_groups cs xs ≡ true → Following g 0 (seen k (group_blocks k g cs xs))
 groups k g [] [] e = none_after g [] refl
 groups k g [] (x ∷ xs) e = absurd cc
 groups k g (c ∷ cs) [] e = absurd cc
-groups k g (c ∷ cs) (x ∷ xs) e = subst (λ l. Behind g 0 l) (sym is) (group_after g x.starts (seen k (group_blocks k (g + 1) cs xs))
+groups k g (c ∷ cs) (x ∷ xs) e = subst (λ l. Following g 0 l) (sym is) (group_after g x.starts (seen k (group_blocks k (g + 1) cs xs))
     (rest (group_failed x) xs (and_second (whole_group c x.starts x.waits) (if group_failed x then none xs else whole_groups cs xs) e) (λ w. groups k (g + 1) cs xs w)))
   where
     is : seen k (group_blocks k g (c ∷ cs) (x ∷ xs)) ≡ map Begins (children g 0 x.starts) ++ (map Awaits (children g 0 x.starts) ++ seen k (group_blocks k (g + 1) cs xs))
@@ -128,7 +128,7 @@ groups k g (c ∷ cs) (x ∷ xs) e = subst (λ l. Behind g 0 l) (sym is) (group_
         ∙ ap (λ l. map Begins (children g 0 x.starts) ++ l) (waits k g 0 c x.starts x.waits (and_first (whole_group c x.starts x.waits) (if group_failed x then none xs else whole_groups cs xs) e)))
         ∙ append_assoc (map Begins (children g 0 x.starts)) (map Awaits (children g 0 x.starts)) (seen k (group_blocks k (g + 1) cs xs))
 
-    rest : (t : Bool) (ys : List GroupAnswers) → (if t then none ys else whole_groups cs ys) ≡ true → (whole_groups cs ys ≡ true → Behind (g + 1) 0 (seen k (group_blocks k (g + 1) cs ys))) → Behind (g + 1) 0 (seen k (group_blocks k (g + 1) cs ys))
+    rest : (t : Bool) (ys : List GroupAnswers) → (if t then none ys else whole_groups cs ys) ≡ true → (whole_groups cs ys ≡ true → Following (g + 1) 0 (seen k (group_blocks k (g + 1) cs ys))) → Following (g + 1) 0 (seen k (group_blocks k (g + 1) cs ys))
     rest true [] w ih = none_after (g + 1) (seen k (group_blocks k (g + 1) cs [])) (ap (λ l. seen k l) (no_group k (g + 1) cs))
     rest true (y ∷ ys) w ih = absurd cc
     rest false ys w ih = ih w
@@ -156,29 +156,29 @@ unanswered : (k : ℕ) (cs : List (List Command)) (xs : List GroupAnswers) → n
 unanswered k cs [] e = ap (λ l. seen k l) (no_group k 0 cs)
 unanswered k cs (x ∷ xs) e = absurd cc
 
-own_story : (k : ℕ) (job : Job) (a : JobAnswers) → whole_job job a ≡ true → Behind 0 0 (seen k (story k job a))
-own_story k job a whole = subst (λ l. Behind 0 0 l) (sym (in_story k k job a)) (by (none job.groups) whole)
+own_story : (k : ℕ) (job : Job) (a : JobAnswers) → whole_job job a ≡ true → Following 0 0 (seen k (story k job a))
+own_story k job a whole = subst (λ l. Following 0 0 l) (sym (in_story k k job a)) (by (none job.groups) whole)
   where
-    claimed : (t : Bool) → (if t then none a.groups else whole_groups job.groups a.groups) ≡ true → Behind 0 0 (seen k (group_blocks k 0 job.groups a.groups))
+    claimed : (t : Bool) → (if t then none a.groups else whole_groups job.groups a.groups) ≡ true → Following 0 0 (seen k (group_blocks k 0 job.groups a.groups))
     claimed true h = none_after 0 (seen k (group_blocks k 0 job.groups a.groups)) (unanswered k job.groups a.groups h)
     claimed false h = groups k 0 job.groups a.groups h
 
     by : (t : Bool) → (if t then none a.claims && none a.groups && none a.removals else whole_claims job.temps a.claims && (if claims_failed a then none a.groups else whole_groups job.groups a.groups) && nat_eq (length a.removals) (length (removed_by_job job a))) ≡ true
-        → Behind 0 0 (seen k (group_blocks k 0 job.groups a.groups))
+        → Following 0 0 (seen k (group_blocks k 0 job.groups a.groups))
     by true h = none_after 0 (seen k (group_blocks k 0 job.groups a.groups)) (unanswered k job.groups a.groups (and_second (none a.claims) (none a.groups) (and_first (none a.claims && none a.groups) (none a.removals) h)))
     by false h = claimed (claims_failed a) (and_second (whole_claims job.temps a.claims) (if claims_failed a then none a.groups else whole_groups job.groups a.groups) (and_first (whole_claims job.temps a.claims && (if claims_failed a then none a.groups else whole_groups job.groups a.groups)) (nat_eq (length a.removals) (length (removed_by_job job a))) h))
 
 -- the sources
 
-own_source : (bs : List SourceBlock) (from : ℕ) (jobs : List Job) (xs : List JobAnswers) → whole_jobs jobs xs ≡ true → TellStories bs from jobs xs → (j : ℕ) → j < length jobs → Behind 0 0 (seen (from + j) (of (from + j) bs))
+own_source : (bs : List SourceBlock) (from : ℕ) (jobs : List Job) (xs : List JobAnswers) → whole_jobs jobs xs ≡ true → TellStories bs from jobs xs → (j : ℕ) → j < length jobs → Following 0 0 (seen (from + j) (of (from + j) bs))
 own_source bs from [] xs e t j lt = absurd (omega arith)
 own_source bs from (job ∷ jobs) [] e t j lt = absurd cc
 own_source bs from (job ∷ jobs) (a ∷ xs) e t zero lt =
     let at : from + 0 ≡ from = omega arith in
-    subst (λ i. Behind 0 0 (seen i (of i bs))) (sym at) (subst (λ l. Behind 0 0 (seen from l)) (sym t.0) (own_story from job a (and_first (whole_job job a) (whole_jobs jobs xs) e)))
+    subst (λ i. Following 0 0 (seen i (of i bs))) (sym at) (subst (λ l. Following 0 0 (seen from l)) (sym t.0) (own_story from job a (and_first (whole_job job a) (whole_jobs jobs xs) e)))
 own_source bs from (job ∷ jobs) (a ∷ xs) e t (suc j) lt =
     let at : from + suc j ≡ from + 1 + j = omega arith in
-    subst (λ i. Behind 0 0 (seen i (of i bs))) (sym at) (own_source bs (from + 1) jobs xs (and_second (whole_job job a) (whole_jobs jobs xs) e) t.1 j (omega arith))
+    subst (λ i. Following 0 0 (seen i (of i bs))) (sym at) (own_source bs (from + 1) jobs xs (and_second (whole_job job a) (whole_jobs jobs xs) e) t.1 j (omega arith))
 
 -- a whole run
 
@@ -191,18 +191,18 @@ waits_for_each plan N o E w k = done (by (nat_lt k (length plan.jobs)) refl)
     whole : acts_in k E ≡ seen k (of k w.blocks) ++ seen k (story (length plan.jobs) (link_run plan.link o.jobs) o.link)
     whole = halves (λ e. acts_of k e.step e.answer) plan N o E w k (λ j job a other. other_story k j job a other) ∙ ap (λ l. seen k (of k w.blocks) ++ l) after
 
-    done : Behind 0 0 (acts_in k E) → WaitsForEach k E
+    done : Following 0 0 (acts_in k E) → WaitsForEach k E
     done b = record { each = b.each; once = b.once }
 
-    link_of : (t : Bool) → nat_eq (length plan.jobs) k ≡ t → Behind 0 0 (seen k (story (length plan.jobs) (link_run plan.link o.jobs) o.link))
-    link_of true e = subst (λ i. Behind 0 0 (seen i (story (length plan.jobs) (link_run plan.link o.jobs) o.link))) (same (length plan.jobs) k e) (own_story (length plan.jobs) (link_run plan.link o.jobs) o.link (link_whole plan N o E w))
+    link_of : (t : Bool) → nat_eq (length plan.jobs) k ≡ t → Following 0 0 (seen k (story (length plan.jobs) (link_run plan.link o.jobs) o.link))
+    link_of true e = subst (λ i. Following 0 0 (seen i (story (length plan.jobs) (link_run plan.link o.jobs) o.link))) (same (length plan.jobs) k e) (own_story (length plan.jobs) (link_run plan.link o.jobs) o.link (link_whole plan N o E w))
     link_of false e = none_after 0 (seen k (story (length plan.jobs) (link_run plan.link o.jobs) o.link)) (other_story k (length plan.jobs) (link_run plan.link o.jobs) o.link e)
 
-    by : (t : Bool) → nat_lt k (length plan.jobs) ≡ t → Behind 0 0 (acts_in k E)
+    by : (t : Bool) → nat_lt k (length plan.jobs) ≡ t → Following 0 0 (acts_in k E)
     by true e =
         let lt : k < length plan.jobs = is_less k (length plan.jobs) e in
         let at : 0 + k ≡ k = omega arith in
-        subst (λ l. Behind 0 0 l) (sym (whole ∙ only_first refl (other_story k (length plan.jobs) (link_run plan.link o.jobs) o.link (apart_above (length plan.jobs) k lt))))
-        (subst (λ i. Behind 0 0 (seen i (of i w.blocks))) at (own_source w.blocks 0 plan.jobs o.jobs (jobs_whole plan N o E w) w.stories k lt))
-    by false e = subst (λ l. Behind 0 0 l) (sym (whole ∙ ap (λ l. seen k l ++ seen k (story (length plan.jobs) (link_run plan.link o.jobs) o.link)) (none_above plan N o E w k (is_not_less k (length plan.jobs) e))))
+        subst (λ l. Following 0 0 l) (sym (whole ∙ only_first refl (other_story k (length plan.jobs) (link_run plan.link o.jobs) o.link (apart_above (length plan.jobs) k lt))))
+        (subst (λ i. Following 0 0 (seen i (of i w.blocks))) at (own_source w.blocks 0 plan.jobs o.jobs (jobs_whole plan N o E w) w.stories k lt))
+    by false e = subst (λ l. Following 0 0 l) (sym (whole ∙ ap (λ l. seen k l ++ seen k (story (length plan.jobs) (link_run plan.link o.jobs) o.link)) (none_above plan N o E w k (is_not_less k (length plan.jobs) e))))
         (link_of (nat_eq (length plan.jobs) k) refl)

@@ -5,7 +5,7 @@ use Rattle.drv_machine.specs.Context.{Context}
 use Rattle.drv_machine.specs.Cutting.{Cut, all_taken, nothing_cut}
 use Rattle.drv_machine.specs.Code.Running.{Machine, done, run}
 use Rattle.drv_machine.specs.Code.Standing.{Stands}
-use Rattle.drv_machine.specs.Code.Walking.{Around, Behind, Kept, Left, OpenedFits, arguments_of, asked_on, back_at, back_of, after_arguments, closing, ends, levels_in, nothing_kept, onward, star_of, text_around}
+use Rattle.drv_machine.specs.Code.Walking.{Around, Following, Kept, Left, OpenedFits, arguments_of, asked_on, back_at, back_of, after_arguments, closing, ends, levels_in, nothing_kept, onward, star_of, text_around}
 use Rattle.drv_machine.specs.Working.{◌>>-◌, ◌>>=◌, ◌>>◌, Answer, Break, Goes, Levels, Refuses, Step, Waits, Worked, follow, most_open, needs, puts}
 use Rattle.drv_machine.specs.declared.fault.MachineFault.TheVariants.{Memory}
 use Rattle.drv_machine.specs.declared.fault.MachineFault.{MachineFault}
@@ -82,7 +82,7 @@ module _ (F : Facts) (C : Context) where
 
 -- the arguments of an item are opened
 module _ (F : Facts) (C : Context) (text : List ℕ) (w : Walk) (s : Machine) (next : ℕ) (name : List ℕ) (items : Items) (given : Answer (Unit {0} × Machine))
-    (b : Behind F C text w next (λ levels star. item_step F C (tree.Function name items) levels star) s given) where
+    (b : Following F C text w next (λ levels star. item_step F C (tree.Function name items) levels star) s given) where
   abbrev k : Unit {0} × Machine → Answer (Unit {0} × Machine)
   k r = onward F C w.star b.rest b.arounds r.1
 
@@ -121,7 +121,7 @@ module _ (F : Facts) (C : Context) where
       ∙ sym (run_then F C s a (λ x. f x >>= g))
 
 module _ (F : Facts) (C : Context) (text : List ℕ) (w : Walk) (s : Machine) (end : ℕ) (items inner_items : Items) (kept : Kept) (given : Answer (Unit {0} × Machine))
-    (b : Behind F C text w end (λ levels star. arguments_of F C inner_items kept.name levels star >>= judged F C kept.negated kept.asked kept.tests levels star >>= found_step F C items kept.choices levels star) s given) where
+    (b : Following F C text w end (λ levels star. arguments_of F C inner_items kept.name levels star >>= judged F C kept.negated kept.asked kept.tests levels star >>= found_step F C items kept.choices levels star) s given) where
   abbrev ask_k : Unit {0} × Machine → Answer (Unit {0} × Machine)
   ask_k r = onward F C w.star b.rest b.arounds r.1
 

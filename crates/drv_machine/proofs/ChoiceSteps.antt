@@ -1,6 +1,6 @@
 use Rattle.drv_machine.proofs.ItemKinds.{item_no_test, tests_first}
 use Rattle.drv_machine.proofs.Laws.{run_then}
-use Rattle.drv_machine.proofs.Standing.{First, PartsLeft, first_of, next_at, stand_grows, stands_behind, stands_within}
+use Rattle.drv_machine.proofs.Standing.{First, PartsLeft, first_of, next_at, stand_grows, stands_after, stands_within}
 use Rattle.drv_machine.proofs.Steps.{then_err, then_ok}
 use Rattle.drv_machine.proofs.TrueTests.{no_tests_left}
 use Rattle.drv_machine.specs.Atoms.{choices_step, each_hit, first_true, found_step, items_step, judged, matching, places, truth, worked}
@@ -46,7 +46,7 @@ front_choice text at (tree.choice span tests items others) end h s = record { sp
 
 pub no_choices_left : (text : List ℕ) (at : ℕ) (choices : Choices) (end : ℕ) → end ≤ at → Stands text at (choice_nodes choices) end → choices ≡ tree.no_choice
 no_choices_left text at tree.no_choice end h s = refl
-no_choices_left text at (tree.choice span tests items others) end h (next, part, within, behind) = absurd (omega (arith, h, part.later, stand_grows _ _ next (choice_nodes others) end behind))
+no_choices_left text at (tree.choice span tests items others) end h (next, part, within, following) = absurd (omega (arith, h, part.later, stand_grows _ _ next (choice_nodes others) end following))
 
 -- after the tests of an alternative stand its items
 pub tests_after : (tests : Tests) (items : Items) → after_tests (both (test_nodes tests) (nodes_of items)) ≡ nodes_of items
@@ -76,7 +76,7 @@ module _ (F : Facts) (C : Context) (text : List ℕ) (s t : Machine) (at end : �
     pub others_there : (choices : Choices) × Stands text token.next (choice_nodes choices) end
     others_there =
         let f = front_choice text at left.rest end h left.stands in
-        (f.others, stands_behind f.first token there)
+        (f.others, stands_after f.first token there)
 
     module _ (middle : ℕ) (first : (nodes : Nodes) → Stands text (at + 1) nodes token.next → Stands text (at + 1) (tests_in nodes) middle)
         (after_first : (nodes : Nodes) → Stands text (at + 1) nodes token.next → Stands text middle (after_tests nodes) token.next) where
@@ -115,7 +115,7 @@ module _ (F : Facts) (C : Context) (text : List ℕ) (s t : Machine) (at end : �
         none_true u none =
             let f = front_choice text at left.rest end h left.stands in record {
               rest = f.others;
-              stands = stands_behind f.first token there;
+              stands = stands_after f.first token there;
               same = sym (with_tests f ∙ then_ok F C t (first_true F C f.tests levels star) (by_found F C f.items f.others levels star) None u (none f.tests (tests_there f)));
             }
 
@@ -151,9 +151,9 @@ module _ (F : Facts) (C : Context) (text : List ℕ) (s t : Machine) (at end : �
               label_is = g.part.label_is;
               later = omega (arith, next, g.part.later);
               own_is = owns ∙ ap (λ (l : Label). l.holds_star) f.first.part.label_is;
-              tests_stand = subst (λ (k : ℕ). Stands text k (test_nodes g.others) middle) (sym next) g.behind;
+              tests_stand = subst (λ (k : ℕ). Stands text k (test_nodes g.others) middle) (sym next) g.following;
               items_stand = items_there f;
-              choices_stand = stands_behind f.first token there;
+              choices_stand = stands_after f.first token there;
             })
             (subst (λ (k : ℕ). Stands text (test + 1) (nodes_of g.arguments) k) (sym next) g.within))
 

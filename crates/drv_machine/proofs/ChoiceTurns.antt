@@ -6,7 +6,7 @@ use Rattle.drv_machine.specs.Code.ByKind.{AskedTest, TrueTest, asks_switch, labe
 use Rattle.drv_machine.specs.Context.{Context}
 use Rattle.drv_machine.specs.Code.Running.{Machine, run}
 use Rattle.drv_machine.specs.Code.Standing.{Stands, after_tests, tests_in}
-use Rattle.drv_machine.specs.Code.Walking.{AskFits, Behind, Kept, Left, Skips, arguments_of, each_from, levels_in, onward, star_of}
+use Rattle.drv_machine.specs.Code.Walking.{AskFits, Following, Kept, Left, Skips, arguments_of, each_from, levels_in, onward, star_of}
 use Rattle.drv_machine.specs.Working.{◌>>-◌, ◌>>=◌, Answer, Levels, Step}
 use Rattle.drv_machine.specs.declared.fault.MachineFault.TheVariants.{Memory}
 use Rattle.drv_machine.specs.declared.fault.MachineFault.{MachineFault}
@@ -23,7 +23,7 @@ use Rattle.std.proofs.Common.{◌≡◌, ◌⊎◌, ◌&&◌, ◌<◌, ◌≤◌
 
 -- What the walk does at alternatives.
 
-module _ (F : Facts) (C : Context) (text : List ℕ) (w : Walk) (s t : Machine) (at end : ℕ) (choices : Choices) (given : Answer (Unit {0} × Machine)) (b : Behind F C text w end (λ levels star. choices_step F C choices levels star) s given)
+module _ (F : Facts) (C : Context) (text : List ℕ) (w : Walk) (s t : Machine) (at end : ℕ) (choices : Choices) (given : Answer (Unit {0} × Machine)) (b : Following F C text w end (λ levels star. choices_step F C choices levels star) s given)
     (left : (levels : Levels) (star : List ℕ) → ChoicesLeft F C text s t at end choices levels star) where
   -- none is left
   pub none_chosen : end ≤ at → Left F C text (record w { at = end }) t given
@@ -58,7 +58,7 @@ module _ (F : Facts) (C : Context) (text : List ℕ) (w : Walk) (s t : Machine) 
       pub one_chosen : (u : Machine) (test : ℕ) (P : Type 0)
           → ((tests : Tests) (levels : Levels) (star : List ℕ) → Stands text (at + 1) (test_nodes tests) middle → TrueTest F C text t u test (first_true F C tests levels star))
           → ((negated : Bool) (asked : Asked) (items : Items) (others : Step (Unit {0})) → (label_at (tree_of text) at).holds_star ≡ has_star items → label_at (tree_of text) test ≡ test_label negated asked → Stands text middle (nodes_of items) token.next
-          → Behind F C text w token.next (λ levels star. worked F C (Some asked) (has_star items) (λ rest inside. items_step F C items inside rest) levels star others) u given → P) → P
+          → Following F C text w token.next (λ levels star. worked F C (Some asked) (has_star items) (λ rest inside. items_step F C items inside rest) levels star others) u given → P) → P
       one_chosen u test P found chosen =
           one_true F C text s t at end h choices (levels_in F C b.arounds) (star_of C w.star) (left (levels_in F C b.arounds) (star_of C w.star)) token there middle first after_first some u test
           (λ a. (◌>>-◌ {Y = Unit {0} × Machine} a (λ r. onward F C w.star b.rest b.arounds r.1) ≡ given) → P)
@@ -73,7 +73,7 @@ module _ (F : Facts) (C : Context) (text : List ℕ) (w : Walk) (s t : Machine) 
           → ((tests : Tests) (levels : Levels) (star : List ℕ) → Stands text (at + 1) (test_nodes tests) middle → AskedTest F C text middle t u test tests levels star)
           → ((items arguments : Items) (kept : Kept) → AskFits text (record { test = test; from = at_test.next; start = middle; next = token.next; own = own; end = end }) items kept
           → Stands text (test + 1) (nodes_of arguments) at_test.next
-          → Behind F C text w end (λ levels star. arguments_of F C arguments kept.name levels star >>= judged F C kept.negated kept.asked kept.tests levels star >>= found_step F C items kept.choices levels star) u given → P) → P
+          → Following F C text w end (λ levels star. arguments_of F C arguments kept.name levels star >>= judged F C kept.negated kept.asked kept.tests levels star >>= found_step F C items kept.choices levels star) u given → P) → P
       asked_chosen u test at_test is own owns P found chosen =
           one_asked F C text s t at end h choices (levels_in F C b.arounds) (star_of C w.star) (left (levels_in F C b.arounds) (star_of C w.star)) token there middle first after_first some u test at_test is own owns
           (λ a. (◌>>-◌ {Y = Unit {0} × Machine} a (λ r. onward F C w.star b.rest b.arounds r.1) ≡ given) → P)
@@ -87,7 +87,7 @@ module _ (F : Facts) (C : Context) (text : List ℕ) (w : Walk) (s t : Machine) 
 -- an X whose test is true: once, or for each hit
 module _ (F : Facts) (C : Context) (text : List ℕ) (w : Walk) (s : Machine) (test start end : ℕ) (negated : Bool) (asked : Asked) (items : Items) (others : Step (Unit {0})) (given : Answer (Unit {0} × Machine))
     (label : label_at (tree_of text) test ≡ test_label negated asked) (stands : Stands text start (nodes_of items) end)
-    (b : Behind F C text w end (λ levels star. worked F C (Some asked) (has_star items) (λ rest inside. items_step F C items inside rest) levels star others) s given) (own : Bool) (owns : own ≡ has_star items) (each : Bool)
+    (b : Following F C text w end (λ levels star. worked F C (Some asked) (has_star items) (λ rest inside. items_step F C items inside rest) levels star others) s given) (own : Bool) (owns : own ≡ has_star items) (each : Bool)
     (is : each ≡ (asks_switch (label_at (tree_of text) test) && own)) where
   pub once_entered : each ≡ false → Left F C text (record w { at = start }) s given
   once_entered e =
@@ -95,7 +95,7 @@ module _ (F : Facts) (C : Context) (text : List ℕ) (w : Walk) (s : Machine) (t
       (same_step F C text w s given end (λ levels star. worked F C (Some asked) (has_star items) (λ rest inside. items_step F C items inside rest) levels star others) b (λ levels star. items_step F C items levels star) s
       (ap (run F C s) (work_once F C text s test start end negated asked items (levels_in F C b.arounds) (star_of C w.star) others label own owns each false is e refl)))
 
-  pub each_entered : each ≡ true → (P : Type 0) → ((p : Pattern) → labelled (label_at (tree_of text) test) ≡ matching p → Behind F C text w end (λ levels star. each_from F C p items levels 0) s given → P) → P
+  pub each_entered : each ≡ true → (P : Type 0) → ((p : Pattern) → labelled (label_at (tree_of text) test) ≡ matching p → Following F C text w end (λ levels star. each_from F C p items levels 0) s given → P) → P
   each_entered e P enter =
       let works = work_for_each F C text s test start end negated asked items (levels_in F C b.arounds) (star_of C w.star) others label own owns each true is e refl in
       enter works.pattern (ap labelled label ∙ works.labelled_as)

@@ -128,8 +128,8 @@ module _ (F : Facts) (C : Context) where
 
   closes : {parts : List (Option (List Atom))} {inside : List (Option (List ℕ))} (c : Cut) → Named parts inside → Closed parts (record c { inside = inside }) (inside_done inside (record c { inside = inside }))
   closes c no_part = (no_part, λ found after rest. rest)
-  closes c (fresh rest) = (rest, λ found after behind. behind)
-  closes c (named {word = word} {name = name} is rest) = (rest, λ found after behind. after_one word found c.on_failure after name is behind)
+  closes c (fresh rest) = (rest, λ found after following. following)
+  closes c (named {word = word} {name = name} is rest) = (rest, λ found after following. after_one word found c.on_failure after name is following)
 
   abbrev failures : List Atom → List Atom → List (List Atom)
   failures before atoms = flat_map failure_at (places_after before atoms)
@@ -146,8 +146,8 @@ module _ (F : Facts) (C : Context) where
       → After ((if is_word_before before && list_any is_output (run_before before) then run_before before ∷ [] else []) ++ found) files after
   bare_ends run before files after inside found e none st goes =
       let no_word : is_word_before before ≡ false = ap (λ (r : List Atom). list_any opens_word r) e ∙ none in
-      let behind = goes (subst (λ (b : Bool). Named (ended_parts b (run_before before) (open_parts before)) inside) (sym no_word) st) in
-      subst (λ (b : Bool). After ((if b && list_any is_output (run_before before) then run_before before ∷ [] else []) ++ found) files after) (sym no_word) behind
+      let following = goes (subst (λ (b : Bool). Named (ended_parts b (run_before before) (open_parts before)) inside) (sym no_word) st) in
+      subst (λ (b : Bool). After ((if b && list_any is_output (run_before before) then run_before before ∷ [] else []) ++ found) files after) (sym no_word) following
 
   word_ends : (run before : List Atom) (files after : List (List ℕ)) (inside : List (Option (List ℕ))) (found : List (List Atom)) (name : List ℕ) → run_before before ≡ run → list_any opens_word run ≡ true
       → path_of F C run ≡ Is (Ok name) → Named (open_parts before) inside
@@ -155,11 +155,11 @@ module _ (F : Facts) (C : Context) where
       → After ((if is_word_before before && list_any is_output (run_before before) then run_before before ∷ [] else []) ++ found) files after
   word_ends run before files after inside found name e some is st goes =
       let word : is_word_before before ≡ true = ap (λ (r : List Atom). list_any opens_word r) e ∙ some in
-      let behind = goes (subst (λ (r : List Atom). Named (ended_parts (is_word_before before) r (open_parts before)) (map (λ last. Some name) inside)) (sym e)
+      let following = goes (subst (λ (r : List Atom). Named (ended_parts (is_word_before before) r (open_parts before)) (map (λ last. Some name) inside)) (sym e)
       (subst (λ (b : Bool). Named (ended_parts b run (open_parts before)) (map (λ last. Some name) inside)) (sym word) (all_named run name is st))) in
       subst (λ (r : List Atom). After ((if is_word_before before && list_any is_output r then r ∷ [] else []) ++ found) files after) (sym e)
       (subst (λ (b : Bool). After ((if b && list_any is_output run then run ∷ [] else []) ++ found) files after) (sym word)
-      (after_if (list_any is_output run) run found files after name is behind))
+      (after_if (list_any is_output run) run found files after name is following))
 
   part_ends : (before atoms : List Atom) (c d : Cut) → Closed (open_parts before) c (inside_done c.inside c)
       → (Named (without_first (open_parts before)) (inside_done c.inside c).inside → After (failures (To ∷ before) atoms) (inside_done c.inside c).on_failure d.on_failure)

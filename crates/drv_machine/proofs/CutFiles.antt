@@ -172,16 +172,16 @@ module _ (F : Facts) (C : Context) where
     words = rest.words ∙ append_assoc l.line.words list (flat_map (λ ws. ws) rest.lists);
   }
 
-  texts_are : (run atoms : List Atom) (name : List ℕ) → path F C (record { atoms = run; behind = atoms }) ≡ Is (Ok name)
-      → texts F C (record { atoms = run; behind = atoms }) ≡ Is (Ok (if list_any is_script run then script_option ∷ name ∷ [] else name ∷ []))
+  texts_are : (run atoms : List Atom) (name : List ℕ) → path F C (record { atoms = run; following = atoms }) ≡ Is (Ok name)
+      → texts F C (record { atoms = run; following = atoms }) ≡ Is (Ok (if list_any is_script run then script_option ∷ name ∷ [] else name ∷ []))
   texts_are run atoms name is = ap (λ (a : Answer (List ℕ)). a >>- λ n. Is (Ok (if list_any is_script run then script_option ∷ n ∷ [] else n ∷ []))) is
 
   -- at the end of a run
-  word_within : (c d : Cut) (run atoms : List Atom) (name : List ℕ) → list_any opens_word run ≡ true → path F C (record { atoms = run; behind = atoms }) ≡ Is (Ok name)
+  word_within : (c d : Cut) (run atoms : List Atom) (name : List ℕ) → list_any opens_word run ≡ true → path F C (record { atoms = run; following = atoms }) ≡ Is (Ok name)
       → Within F C (lined (with_word c (opened_by run) name)) (lined d) (words_after [] atoms) → Within F C (lined c) (lined d) (words_after run (Break ∷ atoms))
   word_within c d run atoms name some is rest =
       subst (λ (found : List Run). Within F C (lined c) (lined d) found) (sym (word_ends run atoms some))
-      (within_word (lined c) (lined d) (record { atoms = run; behind = atoms }) (if list_any is_script run then script_option ∷ name ∷ [] else name ∷ []) (words_after [] atoms) (texts_are run atoms name is) rest)
+      (within_word (lined c) (lined d) (record { atoms = run; following = atoms }) (if list_any is_script run then script_option ∷ name ∷ [] else name ∷ []) (words_after [] atoms) (texts_are run atoms name is) rest)
 
   bare_within : (l m : Lined) (run atoms : List Atom) → list_any opens_word run ≡ false → Within F C l m (words_after [] atoms) → Within F C l m (words_after run (Break ∷ atoms))
   bare_within l m run atoms none rest = subst (λ (found : List Run). Within F C l m found) (sym (bare_ends run atoms none)) rest

@@ -213,10 +213,10 @@ script_or_not : (script : Bool) (name : List ℕ) → is_nil (if script then scr
 script_or_not true name = refl
 script_or_not false name = refl
 
-bare_pieces : (run atoms : List Atom) → list_any opens_word run ≡ false → word_of (record { atoms = run; behind = atoms }) ≡ []
+bare_pieces : (run atoms : List Atom) → list_any opens_word run ≡ false → word_of (record { atoms = run; following = atoms }) ≡ []
 bare_pieces run atoms e = rw e refl
 
-word_pieces : (run atoms : List Atom) → list_any opens_word run ≡ true → word_of (record { atoms = run; behind = atoms }) ≡ Word (record { atoms = run; behind = atoms }) ∷ []
+word_pieces : (run atoms : List Atom) → list_any opens_word run ≡ true → word_of (record { atoms = run; following = atoms }) ≡ Word (record { atoms = run; following = atoms }) ∷ []
 word_pieces run atoms e = rw e refl
 
 one_more : (line : CutLine) (found : List CutLine) → one_if line ++ filter_map named_line found ≡ filter_map named_line (line ∷ found)
@@ -261,14 +261,14 @@ module _ (F : Facts) (C : Context) where
   stands_nil ps s l st = subst (λ (p : List Piece). Stands F C p s l) (sym (append-nil ps)) st
 
   stands_bare : (ps : List Piece) (s : Bool) (l : Lined) (run atoms : List Atom) → list_any opens_word run ≡ false → Stands F C ps s l
-      → Stands F C (ps ++ word_of (record { atoms = run; behind = atoms })) s l
+      → Stands F C (ps ++ word_of (record { atoms = run; following = atoms })) s l
   stands_bare ps s l run atoms e st = subst (λ (p : List Piece). Stands F C (ps ++ p) s l) (sym (bare_pieces run atoms e)) (stands_nil ps s l st)
 
-  stands_full : (ps : List Piece) (s : Bool) (c : Cut) (run atoms : List Atom) (name : List ℕ) → list_any opens_word run ≡ true → path F C (record { atoms = run; behind = atoms }) ≡ Is (Ok name)
-      → Stands F C ps s (lined c) → Stands F C (ps ++ word_of (record { atoms = run; behind = atoms })) s (lined (with_word c (opened_by run) name))
+  stands_full : (ps : List Piece) (s : Bool) (c : Cut) (run atoms : List Atom) (name : List ℕ) → list_any opens_word run ≡ true → path F C (record { atoms = run; following = atoms }) ≡ Is (Ok name)
+      → Stands F C ps s (lined c) → Stands F C (ps ++ word_of (record { atoms = run; following = atoms })) s (lined (with_word c (opened_by run) name))
   stands_full ps s c run atoms name e is st =
       subst (λ (p : List Piece). Stands F C (ps ++ p) s (lined (with_word c (opened_by run) name))) (sym (word_pieces run atoms e))
-      (stands_word ps s (lined c) (record { atoms = run; behind = atoms }) (if list_any is_script run then script_option ∷ name ∷ [] else name ∷ []) st
+      (stands_word ps s (lined c) (record { atoms = run; following = atoms }) (if list_any is_script run then script_option ∷ name ∷ [] else name ∷ []) st
       (ap (λ (a : Answer (List ℕ)). a >>- λ n. Is (Ok (if list_any is_script run then script_option ∷ n ∷ [] else n ∷ []))) is) (script_or_not (list_any is_script run) name))
 
   abbrev Commanded : List (List Piece) → List Piece → Bool → List NamedLine → Cut → Type 0
@@ -294,12 +294,12 @@ module _ (F : Facts) (C : Context) where
 
   -- a pipe after a run
   pipe_after : (c d : Cut) (run atoms : List Atom) (ps : List Piece) (s : Bool) → c.outer ≡ None
-      → (Stands F C ((ps ++ word_of (record { atoms = run; behind = atoms })) ++ Pipe ∷ []) s (lined (pipe_ended c)) → Commanded (commands run ps (Piped ∷ atoms)) (open_command run ps (Piped ∷ atoms)) s (pipe_ended c).lines d)
-      → Stands F C (ps ++ word_of (record { atoms = run; behind = atoms })) s (lined c) → Commanded (commands run ps (Piped ∷ atoms)) (open_command run ps (Piped ∷ atoms)) s c.lines d
+      → (Stands F C ((ps ++ word_of (record { atoms = run; following = atoms })) ++ Pipe ∷ []) s (lined (pipe_ended c)) → Commanded (commands run ps (Piped ∷ atoms)) (open_command run ps (Piped ∷ atoms)) s (pipe_ended c).lines d)
+      → Stands F C (ps ++ word_of (record { atoms = run; following = atoms })) s (lined c) → Commanded (commands run ps (Piped ∷ atoms)) (open_command run ps (Piped ∷ atoms)) s c.lines d
   pipe_after c d run atoms ps s outside goes st =
       subst (λ (l : Lined). Commanded (commands run ps (Piped ∷ atoms)) (open_command run ps (Piped ∷ atoms)) s l.lines d) (pipe_lined c c.outer outside)
-      (goes (subst (λ (l : Lined). Stands F C ((ps ++ word_of (record { atoms = run; behind = atoms })) ++ Pipe ∷ []) s l) (sym (pipe_lined c c.outer outside))
-      (stands_pipe (ps ++ word_of (record { atoms = run; behind = atoms })) s (lined c) st)))
+      (goes (subst (λ (l : Lined). Stands F C ((ps ++ word_of (record { atoms = run; following = atoms })) ++ Pipe ∷ []) s l) (sym (pipe_lined c c.outer outside))
+      (stands_pipe (ps ++ word_of (record { atoms = run; following = atoms })) s (lined c) st)))
 
   pub commanded : {run atoms : List Atom} {c d : Cut} → Course F C run c atoms d → (ps : List Piece) (s : Bool) → list_any begins_file atoms ≡ false → Stands F C ps s (lined c)
       → Commanded (commands run ps atoms) (open_command run ps atoms) s c.lines d
@@ -323,13 +323,13 @@ module _ (F : Facts) (C : Context) where
   commanded (moves {run = run} {atoms = atoms} {c = c} {d = d} FileTo e rest) ps s f st =
       goes_alike (file_done c) c (run ++ FileTo ∷ []) atoms (ps ++ []) s d (file_lined c c.outer st.outside) (commanded rest (ps ++ []) s f) (stands_nil ps s (lined c) st)
   commanded (breaks_bare {run = run} {atoms = atoms} {c = c} e rest) ps s f st =
-      commanded rest (ps ++ word_of (record { atoms = run; behind = atoms })) s f (stands_bare ps s (lined c) run atoms e st)
+      commanded rest (ps ++ word_of (record { atoms = run; following = atoms })) s f (stands_bare ps s (lined c) run atoms e st)
   commanded (breaks {run = run} {atoms = atoms} {c = c} name e is rest) ps s f st =
-      commanded rest (ps ++ word_of (record { atoms = run; behind = atoms })) s f (stands_full ps s c run atoms name e is st)
+      commanded rest (ps ++ word_of (record { atoms = run; following = atoms })) s f (stands_full ps s c run atoms name e is st)
   commanded (pipes_bare {run = run} {atoms = atoms} {c = c} {d = d} e rest) ps s f st =
-      pipe_after (bare c) d run atoms ps s st.outside (commanded rest ((ps ++ word_of (record { atoms = run; behind = atoms })) ++ Pipe ∷ []) s f) (stands_bare ps s (lined c) run atoms e st)
+      pipe_after (bare c) d run atoms ps s st.outside (commanded rest ((ps ++ word_of (record { atoms = run; following = atoms })) ++ Pipe ∷ []) s f) (stands_bare ps s (lined c) run atoms e st)
   commanded (pipes {run = run} {atoms = atoms} {c = c} {d = d} name e is rest) ps s f st =
-      pipe_after (with_word c (opened_by run) name) d run atoms ps s st.outside (commanded rest ((ps ++ word_of (record { atoms = run; behind = atoms })) ++ Pipe ∷ []) s f)
+      pipe_after (with_word c (opened_by run) name) d run atoms ps s st.outside (commanded rest ((ps ++ word_of (record { atoms = run; following = atoms })) ++ Pipe ∷ []) s f)
       (stands_full ps s c run atoms name e is st)
 
   pub commands_are : (atoms : List Atom) (c : Cut) → list_any begins_file atoms ≡ false → all_taken F C nothing_cut atoms ≡ Is (Ok c)

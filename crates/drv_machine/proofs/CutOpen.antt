@@ -1,6 +1,6 @@
 use Rattle.drv_machine.proofs.Runs.{Course, bare, breaks, breaks_bare, course, moved, moves, opened_by, over, pipes, pipes_bare, with_word}
 use Rattle.drv_machine.specs.Context.{Context}
-use Rattle.drv_machine.specs.Cuts.{Enclosed, Failure, File, ends_word, open_after, open_behind}
+use Rattle.drv_machine.specs.Cuts.{Enclosed, Failure, File, ends_word, open_after, open_following}
 use Rattle.drv_machine.specs.Cutting.{Cut, CutLine, all_taken, file_done, inside_done, line_ended, nothing_cut, pipe_done, pipe_ended}
 use Rattle.drv_machine.specs.Working.{Atom, Break, End, FileFrom, FileTo, From, Marked, Open, Piped, Put, To, Without}
 use Rattle.drv_system.specs.Facts.{Facts}
@@ -93,19 +93,19 @@ module _ (F : Facts) (C : Context) where
   at_end : (c : Cut) (enclosed : Enclosed) (n : ℕ) → Some (open_parts enclosed c) ≡ Some n → open_parts enclosed c ≡ n
   at_end c enclosed n is = cc
 
-  open_as : {run atoms : List Atom} {c d : Cut} → Course F C run c atoms d → (enclosed : Enclosed) (n : ℕ) → open_behind atoms enclosed (open_parts enclosed c) ≡ Some n → open_parts enclosed d ≡ n
+  open_as : {run atoms : List Atom} {c d : Cut} → Course F C run c atoms d → (enclosed : Enclosed) (n : ℕ) → open_following atoms enclosed (open_parts enclosed c) ≡ Some n → open_parts enclosed d ≡ n
   open_as (over {c = c}) enclosed n is = at_end c enclosed n is
-  open_as (moves {atoms = atoms} {c = c} atom e rest) enclosed n is = open_as rest enclosed n (moved_open c atom enclosed (λ left. open_behind atoms enclosed left) n e is)
-  open_as (breaks_bare {atoms = atoms} {c = c} e rest) enclosed n is = open_as rest enclosed n (ap (open_behind atoms enclosed) (bare_parts enclosed c) ∙ is)
+  open_as (moves {atoms = atoms} {c = c} atom e rest) enclosed n is = open_as rest enclosed n (moved_open c atom enclosed (λ left. open_following atoms enclosed left) n e is)
+  open_as (breaks_bare {atoms = atoms} {c = c} e rest) enclosed n is = open_as rest enclosed n (ap (open_following atoms enclosed) (bare_parts enclosed c) ∙ is)
   open_as (pipes_bare {atoms = atoms} {c = c} e rest) enclosed n is =
-      open_as rest enclosed n (ap (open_behind atoms enclosed) (pipe_parts enclosed (bare c) c.outer ∙ bare_parts enclosed c) ∙ is)
-  open_as (breaks {run = run} {atoms = atoms} {c = c} name e f rest) enclosed n is = open_as rest enclosed n (ap (open_behind atoms enclosed) (word_parts enclosed c run name) ∙ is)
+      open_as rest enclosed n (ap (open_following atoms enclosed) (pipe_parts enclosed (bare c) c.outer ∙ bare_parts enclosed c) ∙ is)
+  open_as (breaks {run = run} {atoms = atoms} {c = c} name e f rest) enclosed n is = open_as rest enclosed n (ap (open_following atoms enclosed) (word_parts enclosed c run name) ∙ is)
   open_as (pipes {run = run} {atoms = atoms} {c = c} name e f rest) enclosed n is =
-      open_as rest enclosed n (ap (open_behind atoms enclosed) (pipe_parts enclosed (with_word c (opened_by run) name) c.outer ∙ word_parts enclosed c run name) ∙ is)
+      open_as rest enclosed n (ap (open_following atoms enclosed) (pipe_parts enclosed (with_word c (opened_by run) name) c.outer ∙ word_parts enclosed c run name) ∙ is)
 
-  begun_open : (atoms : List Atom) (c : Cut) → all_taken F C nothing_cut atoms ≡ Is (Ok c) → (enclosed : Enclosed) (n : ℕ) → open_behind atoms enclosed (open_parts enclosed nothing_cut) ≡ Some n → open_parts enclosed c ≡ n
+  begun_open : (atoms : List Atom) (c : Cut) → all_taken F C nothing_cut atoms ≡ Is (Ok c) → (enclosed : Enclosed) (n : ℕ) → open_following atoms enclosed (open_parts enclosed nothing_cut) ≡ Some n → open_parts enclosed c ≡ n
   begun_open atoms c went = open_as (course F C [] nothing_cut atoms c refl went)
 
-  pub open_are : (atoms : List Atom) (c : Cut) (enclosed : Enclosed) (n : ℕ) → all_taken F C nothing_cut atoms ≡ Is (Ok c) → open_behind atoms enclosed 0 ≡ Some n → open_parts enclosed c ≡ n
+  pub open_are : (atoms : List Atom) (c : Cut) (enclosed : Enclosed) (n : ℕ) → all_taken F C nothing_cut atoms ≡ Is (Ok c) → open_following atoms enclosed 0 ≡ Some n → open_parts enclosed c ≡ n
   open_are atoms c Failure n went is = begun_open atoms c went Failure n is
   open_are atoms c File n went is = begun_open atoms c went File n is

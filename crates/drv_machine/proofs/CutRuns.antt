@@ -81,8 +81,8 @@ module _ (F : Facts) (C : Context) where
 
   after_if : (marked : Bool) (w : Run) (found : List Run) (before after : List (List ℕ)) (name : List ℕ) → path F C w ≡ Is (Ok name)
       → After found (before ++ (if marked then name ∷ [] else [])) after → After (if marked then w ∷ found else found) before after
-  after_if true w found before after name is behind = after_more w found before after name is behind
-  after_if false w found before after name is behind = subst (λ (b : List (List ℕ)). After found b after) (append-nil before) behind
+  after_if true w found before after name is following = after_more w found before after name is following
+  after_if false w found before after name is following = subst (λ (b : List (List ℕ)). After found b after) (append-nil before) following
 
   abbrev marked_removed : List Run → List Run
   marked_removed found = filter is_removed_word found
@@ -99,10 +99,10 @@ module _ (F : Facts) (C : Context) where
       (subst (λ (b : List (List ℕ)). After (marked_removed (words_after [] atoms)) b d.removed) (ap (λ (x : Cut). x.removed) (pipe_kept (bare c))) (removed_after rest))
   removed_after (breaks {run = run} {atoms = atoms} {c = c} {d = d} name e is rest) =
       subst (λ (found : List Run). After (marked_removed found) c.removed d.removed) (sym (word_ends run atoms e))
-      (after_if (list_any is_removed run) (record { atoms = run; behind = atoms }) (marked_removed (words_after [] atoms)) c.removed d.removed name is (removed_after rest))
+      (after_if (list_any is_removed run) (record { atoms = run; following = atoms }) (marked_removed (words_after [] atoms)) c.removed d.removed name is (removed_after rest))
   removed_after (pipes {run = run} {atoms = atoms} {c = c} {d = d} name e is rest) =
       subst (λ (found : List Run). After (marked_removed found) c.removed d.removed) (sym (word_ends run atoms e))
-      (after_if (list_any is_removed run) (record { atoms = run; behind = atoms }) (marked_removed (words_after [] atoms)) c.removed d.removed name is
+      (after_if (list_any is_removed run) (record { atoms = run; following = atoms }) (marked_removed (words_after [] atoms)) c.removed d.removed name is
       (subst (λ (b : List (List ℕ)). After (marked_removed (words_after [] atoms)) b d.removed) (ap (λ (x : Cut). x.removed) (pipe_kept (with_word c (opened_by run) name))) (removed_after rest)))
 
   -- the last one, or what was the output before
@@ -129,13 +129,13 @@ module _ (F : Facts) (C : Context) where
   abbrev outputs : List Run → List Run
   outputs found = filter may_be_output found
 
-  word_last : (run atoms : List Atom) (c : Cut) (name : List ℕ) → list_any opens_word run ≡ true → path F C (record { atoms = run; behind = atoms }) ≡ Is (Ok name)
+  word_last : (run atoms : List Atom) (c : Cut) (name : List ℕ) → list_any opens_word run ≡ true → path F C (record { atoms = run; following = atoms }) ≡ Is (Ok name)
       → or_before (last_of (outputs (words_after run (Break ∷ atoms)))) (unless (list_any is_bar atoms) c.output)
       ≡ or_before (last_of (outputs (words_after [] atoms))) (unless (list_any is_bar atoms) (with_word c (opened_by run) name).output)
   word_last run atoms c name e is =
       ap (λ (found : List Run). or_before (last_of (outputs found)) (unless (list_any is_bar atoms) c.output)) (word_ends run atoms e)
-      ∙ ap (λ (b : Bool). or_before (last_of (if list_any is_output run && not b then record { atoms = run; behind = atoms } ∷ outputs (words_after [] atoms) else outputs (words_after [] atoms))) (unless (list_any is_bar atoms) c.output)) (barred_or_after run atoms e)
-      ∙ last_more (list_any is_output run) (is_barred run) (list_any is_bar atoms) (record { atoms = run; behind = atoms }) (outputs (words_after [] atoms)) c.output name is
+      ∙ ap (λ (b : Bool). or_before (last_of (if list_any is_output run && not b then record { atoms = run; following = atoms } ∷ outputs (words_after [] atoms) else outputs (words_after [] atoms))) (unless (list_any is_bar atoms) c.output)) (barred_or_after run atoms e)
+      ∙ last_more (list_any is_output run) (is_barred run) (list_any is_bar atoms) (record { atoms = run; following = atoms }) (outputs (words_after [] atoms)) c.output name is
 
   pub output_after : {run atoms : List Atom} {c d : Cut} → Course F C run c atoms d → or_before (last_of (outputs (words_after run atoms))) (unless (list_any is_bar atoms) c.output) ≡ Is (Ok d.output)
   output_after over = refl
@@ -162,7 +162,7 @@ module _ (F : Facts) (C : Context) where
   run_ends run atoms c k full empty = by (list_any opens_word run) (name_of F C (opened_by run)) refl refl
     where
       w : Run
-      w = record { atoms = run; behind = atoms }
+      w = record { atoms = run; following = atoms }
 
       by : (begun : Bool) (name : Answer (List ℕ)) → list_any opens_word run ≡ begun → name_of F C (opened_by run) ≡ name
           → whether ((ended_as F C c (opened_by run) begun name >>- λ x. Is (Ok (k x))) >>- λ x. all_taken F C x atoms) ≡ whether (each (path F C) (words_after run (Break ∷ atoms)))

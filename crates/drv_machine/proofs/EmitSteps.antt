@@ -1,6 +1,6 @@
 use Rattle.drv_machine.proofs.Cutter.{put_failed, put_then}
 use Rattle.drv_machine.proofs.ItemKinds.{labelled_is}
-use Rattle.drv_machine.proofs.Standing.{First, PartsLeft, first_of, stand_grows, stands_behind}
+use Rattle.drv_machine.proofs.Standing.{First, PartsLeft, first_of, stand_grows, stands_after}
 use Rattle.drv_machine.proofs.Steps.{fails_as}
 use Rattle.drv_machine.specs.Atoms.{emitted, matching, places, switch_atoms}
 use Rattle.drv_machine.specs.Code.ByKind.{labelled, put_at}
@@ -44,7 +44,7 @@ front_pattern text at (p ∷ patterns) end h s = record { pattern = p; others = 
 
 pub no_patterns_left : (text : List ℕ) (at : ℕ) (patterns : List (Span × Pattern)) (end : ℕ) → end ≤ at → Stands text at (pattern_nodes patterns) end → patterns ≡ []
 no_patterns_left text at [] end h s = refl
-no_patterns_left text at (p ∷ patterns) end h (next, part, within, behind) = absurd (omega (arith, h, part.later, stand_grows _ _ next (pattern_nodes patterns) end behind))
+no_patterns_left text at (p ∷ patterns) end h (next, part, within, following) = absurd (omega (arith, h, part.later, stand_grows _ _ next (pattern_nodes patterns) end following))
 
 any_map : {A B : Type 0} (f : B → Bool) (g : A → B) (xs : List A) → list_any f (map g xs) ≡ list_any (λ x. f (g x)) xs
 any_map f g [] = refl
@@ -78,7 +78,7 @@ patterns_step text at end h token there done new p is e patterns left =
     let m = matching f.pattern.1 in
     let one : p ≡ matching f.pattern.1 = is ∙ ap labelled f.first.part.label_is ∙ labelled_is f.pattern.1 in record {
       rest = f.others;
-      stands = stands_behind f.first token there;
+      stands = stands_after f.first token there;
       same =
           ap (λ ps. ps ++ map (λ q. matching q.1) f.others) (e ∙ ap (λ q. done ++ q ∷ []) one) ∙ append_assoc done (matching f.pattern.1 ∷ []) (map (λ q. matching q.1) f.others)
           ∙ ap (λ qs. done ++ map (λ q. matching q.1) qs) (sym f.is) ∙ left.same;

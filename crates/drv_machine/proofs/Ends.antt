@@ -28,8 +28,8 @@ all_ended last word count fresh h = sym (map_same (Some word) (ended_in last cou
         let none : Option (List ℕ) = None in
         let all = length-append (replicate fresh none) (replicate (count - fresh) (Some last)) in
         let front = length-replicate fresh none in
-        let behind = length-replicate (count - fresh) (Some last) in
-        omega (arith, all, front, behind, h)
+        let following = length-replicate (count - fresh) (Some last) in
+        omega (arith, all, front, following, h)
 
 -- one word more, in steps
 abbrev removed_kept : List ℕ → Machine → Machine
@@ -81,10 +81,10 @@ module _ (F : Facts) (C : Context) (s : Machine) where
     pub plain_ends : s.cut.marks.script ≡ false → s.cut.marks.file ≡ false → run F C s (puts (Break ∷ [])) ≡ Is (Ok (tt, record s { cut = word_done s.cut (word ∷ []) word }))
     plain_ends a b = at_break false false a b
 
-    abbrev behind : Cut → Answer (Unit {0} × Machine)
-    behind d = Is (Ok (tt, record s { cut = d }))
+    abbrev following : Cut → Answer (Unit {0} × Machine)
+    following d = Is (Ok (tt, record s { cut = d }))
 
-    after : (words : List ℕ → List (List ℕ)) (x : Answer (List ℕ)) → (((x >>- λ path. Is (Ok (word_done s.cut (words path) path))) >>- λ d. Is (Ok d)) >>- behind) ≡ word_found s words x
+    after : (words : List ℕ → List (List ℕ)) (x : Answer (List ℕ)) → (((x >>- λ path. Is (Ok (word_done s.cut (words path) path))) >>- λ d. Is (Ok d)) >>- following) ≡ word_found s words x
     after words (Is (Ok path)) = refl
     after words (Is (Err fault)) = refl
     after words Unasked = refl

@@ -8,7 +8,7 @@ use Rattle.drv_machine.specs.Cutting.{Cut, inside_done}
 use Rattle.drv_machine.specs.Code.Held.{Ends, ended_in}
 use Rattle.drv_machine.specs.Code.Running.{Machine, run}
 use Rattle.drv_machine.specs.Code.Standing.{Stands}
-use Rattle.drv_machine.specs.Code.Walking.{Behind, Chooses, Emits, Reaches, nothing_kept, onward, star_of}
+use Rattle.drv_machine.specs.Code.Walking.{Following, Chooses, Emits, Reaches, nothing_kept, onward, star_of}
 use Rattle.drv_machine.specs.Working.{◌>>-◌, ◌>>◌, Answer, Atom, Break, From, Levels, Step, To, most_open, puts}
 use Rattle.drv_machine.specs.declared.fault.MachineFault.TheVariants.{Memory}
 use Rattle.drv_machine.specs.declared.fault.MachineFault.{MachineFault}
@@ -102,7 +102,7 @@ nothing_stands text start end (tree.Emit []) h s = record {
   stands = s;
   same = λ F C t levels star. ap (λ atoms. run F C t (puts atoms)) (none_put (places F C) (switch_atoms F C));
 }
-nothing_stands text start end (tree.Emit (p ∷ patterns)) h (next, part, within, behind) = absurd (omega (arith, h, part.later, stand_grows _ _ next _ end behind))
+nothing_stands text start end (tree.Emit (p ∷ patterns)) h (next, part, within, following) = absurd (omega (arith, h, part.later, stand_grows _ _ next _ end following))
 
 pub no_parts : (text : List ℕ) (start end : ℕ) → end ≤ start → (brace : Brace) → Stands text start (brace_nodes brace) end → Chooses text start end brace
 no_parts text start end h brace s = nothing_stands text start end brace h s
@@ -117,12 +117,12 @@ module _ (text : List ℕ) (start end : ℕ) (h : start < end) (token : Token) (
   pub are_choices : (token.kind ≡ kinds.Pattern → ⊥) → (brace : Brace) → Stands text start (brace_nodes brace) end → Chooses text start end brace
   are_choices never (tree.Choose choices) s = record { choices = choices; stands = s; same = λ F C t levels star. refl }
   are_choices never (tree.Emit []) s = absurd (omega (arith, h, s))
-  are_choices never (tree.Emit (p ∷ patterns)) (next, part, within, behind) =
+  are_choices never (tree.Emit (p ∷ patterns)) (next, part, within, following) =
       absurd (never (ap (λ (t : Token). t.kind) (some_same token part.token (sym there ∙ part.there)) ∙ part.kind_is))
 
 -- a %W is opened
 module _ (F : Facts) (C : Context) (text : List ℕ) (w : Walk) (s : Machine) (end : ℕ) (brace : Brace) (given : Answer (Unit {0} × Machine))
-    (b : Behind F C text w end (λ levels star. item_step F C (tree.FailureFile brace) levels star) s given) where
+    (b : Following F C text w end (λ levels star. item_step F C (tree.FailureFile brace) levels star) s given) where
   abbrev k : Unit {0} × Machine → Answer (Unit {0} × Machine)
   k r = onward F C w.star b.rest b.arounds r.1
 
@@ -136,7 +136,7 @@ module _ (F : Facts) (C : Context) (text : List ℕ) (w : Walk) (s : Machine) (e
       ∙ sym (ap (λ levels. run F C s (item_step F C (tree.FailureFile brace) levels (star_of C w.star)) >>- k) (one_deeper F C text w s given end _ b h)) ∙ b.same
 
   pub failure_opened : length w.frames < 64 → (t : Machine) → run F C s (puts (From ∷ [])) ≡ Is (Ok (tt, t)) → (v : Walk) → v.end ≡ end → v.star ≡ w.star → v.frames ≡ w.frames ++ record { opened = Failure end; end = w.end; star = w.star } ∷ []
-      → Behind F C text v end (λ levels star. brace_step F C brace levels star) t given
+      → Following F C text v end (λ levels star. brace_step F C brace levels star) t given
   failure_opened h t went v end_is star_is frames_is =
       step_opened F C text w s given end _ b text (Failure end) (tree.pattern [] false) tree.none nothing_kept tt refl refl v frames_is w.star star_is t (λ levels star. brace_step F C brace levels star) end_is
       (sym (ap (λ x. x >>- k) (run_then F C t (inner (levels_left F C (most_open - (length b.arounds + 1)))) (λ u. puts (Break ∷ To ∷ [])))

@@ -5,7 +5,7 @@ use Rattle.drv_machine.proofs.Steps.{looked}
 use Rattle.drv_machine.specs.Atoms.{brace_step, file_step, item_step, levels_left, starts_file}
 use Rattle.drv_machine.specs.Context.{Context}
 use Rattle.drv_machine.specs.Code.Running.{Machine, run}
-use Rattle.drv_machine.specs.Code.Walking.{Behind, Reaches, file_end, file_from, nothing_kept, onward, star_of}
+use Rattle.drv_machine.specs.Code.Walking.{Following, Reaches, file_end, file_from, nothing_kept, onward, star_of}
 use Rattle.drv_machine.specs.Working.{◌>>-◌, Answer, Levels, Step, look, most_open}
 use Rattle.drv_machine.specs.declared.fault.MachineFault.TheVariants.{Memory, SpecTooDeep}
 use Rattle.drv_machine.specs.declared.fault.MachineFault.{MachineFault}
@@ -24,7 +24,7 @@ use Rattle.std.specs.Prelude.{IfErr, OnOk}
 -- A %@ is opened, for a file or not.
 
 module _ (F : Facts) (C : Context) (text : List ℕ) (w : Walk) (s : Machine) (end : ℕ) (brace : Brace) (given : Answer (Unit {0} × Machine))
-    (b : Behind F C text w end (λ levels star. item_step F C (tree.ArgumentsFile brace) levels star) s given) where
+    (b : Following F C text w end (λ levels star. item_step F C (tree.ArgumentsFile brace) levels star) s given) where
   abbrev k : Unit {0} × Machine → Answer (Unit {0} × Machine)
   k r = onward F C w.star b.rest b.arounds r.1
 
@@ -47,7 +47,7 @@ module _ (F : Facts) (C : Context) (text : List ℕ) (w : Walk) (s : Machine) (e
 
   -- no file
   pub inside_opened : (starts : Bool) → starts ≡ starts_file F C s.world → starts ≡ false → length w.frames < 64 → (v : Walk) → v.end ≡ end → v.star ≡ w.star → v.frames ≡ w.frames ++ frame (Inside end) ∷ []
-      → Behind F C text v end (λ levels star. brace_step F C brace levels star) s given
+      → Following F C text v end (λ levels star. brace_step F C brace levels star) s given
   inside_opened starts is none h v end_is star_is frames_is =
       step_opened F C text w s given end _ b text (Inside end) (tree.pattern [] false) tree.none nothing_kept tt refl refl v frames_is w.star star_is s (λ levels star. brace_step F C brace levels star) end_is
       (sym (ap (λ starts. run F C s (chosen starts (levels_left F C (most_open - (length b.arounds + 1)))) >>- k) none) ∙ given_as starts is h)
@@ -68,7 +68,7 @@ module _ (F : Facts) (C : Context) (text : List ℕ) (w : Walk) (s : Machine) (e
         ∙ given_as starts is h
 
     file_opened : (t : Machine) → file_from F C s ≡ Is (Ok (tt, t)) → (v : Walk) → v.end ≡ end → v.star ≡ w.star → v.frames ≡ w.frames ++ frame (File end) ∷ []
-        → Behind F C text v end (λ levels star. brace_step F C brace levels star) t given
+        → Following F C text v end (λ levels star. brace_step F C brace levels star) t given
     file_opened t went v end_is star_is frames_is =
         step_opened F C text w s given end _ b text (File end) (tree.pattern [] false) tree.none nothing_kept tt refl refl v frames_is w.star star_is t (λ levels star. brace_step F C brace levels star) end_is
         (sym (ap (λ x. (x >>- λ r. run F C r.1 (inner (levels_left F C (most_open - (length b.arounds + 1))))) >>- λ q. file_end F C q.1 >>- k) went) ∙ file_given)

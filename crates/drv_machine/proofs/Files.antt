@@ -1,5 +1,5 @@
 use Rattle.drv_machine.proofs.FileWords.{Begun, after_break, file_words_as}
-use Rattle.drv_machine.proofs.Laws.{all_taken-append, done-behind, then_same, then_then}
+use Rattle.drv_machine.proofs.Laws.{all_taken-append, done-following, then_same, then_then}
 use Rattle.drv_machine.proofs.Steps.{fails_as, then_fails, then_ok}
 use Rattle.drv_machine.specs.Atoms.{draw_with, file_step, filed, named_file}
 use Rattle.drv_machine.specs.Context.{Context}
@@ -84,7 +84,7 @@ module _ (F : Facts) (C : Context) where
       → (x >>- λ d. done F C (file_done d) ((needs (file_words F C atoms) >>= named_file F C) (outside v))) ≡ (x >>- names_file v)
   named_after v atoms (Is (Ok d)) e =
       ap (λ y. done F C (file_done d) ((needs y >>= named_file F C) (outside v))) e
-      ∙ done-behind F C (file_done d) [] (named_file F C (words_in_file d) (outside v))
+      ∙ done-following F C (file_done d) [] (named_file F C (words_in_file d) (outside v))
   named_after v atoms (Is (Err fault)) e = refl
   named_after v atoms Unasked e = refl
 
@@ -105,7 +105,7 @@ module _ (F : Facts) (C : Context) where
 
   filed_done : (c : Cut) (work : Worked (Unit {0})) → done F C c (filed F C work) ≡ (broken F C c >>- λ d. done F C (file_begun d) work >>- λ q. file_end F C q.1)
   filed_done c (Goes atoms u v) =
-      done-behind F C c (Break ∷ FileFrom ∷ atoms ++ Break ∷ FileTo ∷ []) ((needs (file_words F C atoms) >>= named_file F C) (outside v))
+      done-following F C c (Break ∷ FileFrom ∷ atoms ++ Break ∷ FileTo ∷ []) ((needs (file_words F C atoms) >>= named_file F C) (outside v))
       ∙ then_then (broken F C c) (λ d. all_taken F C (file_begun d) (atoms ++ Break ∷ FileTo ∷ [])) (λ d. done F C d ((needs (file_words F C atoms) >>= named_file F C) (outside v)))
       ∙ after_break F C c (λ d. all_taken F C (file_begun d) (atoms ++ Break ∷ FileTo ∷ []) >>- λ e. done F C e ((needs (file_words F C atoms) >>= named_file F C) (outside v)))
       (λ d. done F C (file_begun d) (Goes atoms u v) >>- λ q. file_end F C q.1) (λ d begun. words_filed v atoms (file_begun d) begun)

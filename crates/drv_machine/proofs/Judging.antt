@@ -9,7 +9,7 @@ use Rattle.drv_machine.specs.Context.{Context}
 use Rattle.drv_machine.specs.Cutting.{Cut}
 use Rattle.drv_machine.specs.Code.Running.{Machine, run}
 use Rattle.drv_machine.specs.Code.Standing.{Stands}
-use Rattle.drv_machine.specs.Code.Walking.{After, AskFits, Behind, Kept, arguments_of, asked_on, after_arguments, levels_in, onward, star_of}
+use Rattle.drv_machine.specs.Code.Walking.{After, AskFits, Following, Kept, arguments_of, asked_on, after_arguments, levels_in, onward, star_of}
 use Rattle.drv_machine.specs.Working.{◌>>-◌, ◌>>=◌, Answer, Levels, Step, give}
 use Rattle.drv_machine.specs.declared.fault.MachineFault.TheVariants.{Memory}
 use Rattle.drv_machine.specs.declared.fault.MachineFault.{MachineFault}
@@ -39,7 +39,7 @@ module _ (F : Facts) (C : Context) (text : List ℕ) (w : Walk) (items : Items) 
         after_then F C outer (has_value F C kept.name) (λ holds. judged F C kept.negated kept.asked kept.tests (levels_in F C a.arounds) (star_of C w.star) holds >>= found_step F C items kept.choices (levels_in F C a.arounds) (star_of C w.star)) s
 
     pub answered : (holds : Bool) (t : Machine) → after_arguments F C outer (has_value F C kept.name) s ≡ Is (Ok (holds, t))
-        → Behind F C text w end (λ levels star. judged F C kept.negated kept.asked kept.tests levels star holds >>= found_step F C items kept.choices levels star) t given
+        → Following F C text w end (λ levels star. judged F C kept.negated kept.asked kept.tests levels star holds >>= found_step F C items kept.choices levels star) t given
     answered holds t went = record {
       rest = a.rest;
       arounds = a.arounds;
@@ -58,9 +58,9 @@ module _ (F : Facts) (C : Context) (text : List ℕ) (w : Walk) (items : Items) 
 
   -- what it decides
   module _ (asking : Asking) (fits : AskFits text asking items kept) (holds : Bool) (s : Machine)
-      (b : Behind F C text w asking.end (λ levels star. judged F C kept.negated kept.asked kept.tests levels star holds >>= found_step F C items kept.choices levels star) s given) where
+      (b : Following F C text w asking.end (λ levels star. judged F C kept.negated kept.asked kept.tests levels star holds >>= found_step F C items kept.choices levels star) s given) where
     pub answer_true : turned kept.negated holds ≡ true
-        → Behind F C text w asking.next (λ levels star. worked F C (Some kept.asked) (has_star items) (λ rest inside. items_step F C items inside rest) levels star (choices_step F C kept.choices (levels_in F C b.arounds) (star_of C w.star))) s given
+        → Following F C text w asking.next (λ levels star. worked F C (Some kept.asked) (has_star items) (λ rest inside. items_step F C items inside rest) levels star (choices_step F C kept.choices (levels_in F C b.arounds) (star_of C w.star))) s given
     answer_true t =
         after_as F C text w s given asking.end (λ levels star. judged F C kept.negated kept.asked kept.tests levels star holds >>= found_step F C items kept.choices levels star) b asking.next (kept.choices, fits.choices_stand)
         (λ levels star. worked F C (Some kept.asked) (has_star items) (λ rest inside. items_step F C items inside rest) levels star (choices_step F C kept.choices (levels_in F C b.arounds) (star_of C w.star))) s
@@ -69,20 +69,20 @@ module _ (F : Facts) (C : Context) (text : List ℕ) (w : Walk) (items : Items) 
         ∙ then_ok F C s (give (Some kept.asked)) (found_step F C items kept.choices (levels_in F C b.arounds) (star_of C w.star)) (Some kept.asked) s refl)) ∙ b.same)
 
     pub answer_false : turned kept.negated holds ≡ false
-        → Behind F C text w asking.end (λ levels star. first_true F C kept.tests levels star >>= found_step F C items kept.choices levels star) s given
+        → Following F C text w asking.end (λ levels star. first_true F C kept.tests levels star >>= found_step F C items kept.choices levels star) s given
     answer_false t =
         same_step F C text w s given asking.end (λ levels star. judged F C kept.negated kept.asked kept.tests levels star holds >>= found_step F C items kept.choices levels star) b
         (λ levels star. first_true F C kept.tests levels star >>= found_step F C items kept.choices levels star) s
         (ap (λ holds. run F C s ((if holds then give (Some kept.asked) else first_true F C kept.tests (levels_in F C b.arounds) (star_of C w.star)) >>= found_step F C items kept.choices (levels_in F C b.arounds) (star_of C w.star))) t)
 
     -- the tests after it
-    module _ (c : Behind F C text w asking.end (λ levels star. first_true F C kept.tests levels star >>= found_step F C items kept.choices levels star) s given) where
+    module _ (c : Following F C text w asking.end (λ levels star. first_true F C kept.tests levels star >>= found_step F C items kept.choices levels star) s given) where
       abbrev others : Step (Unit {0})
       others = choices_step F C kept.choices (levels_in F C c.arounds) (star_of C w.star)
 
       pub later_true : (u : Machine) (test : ℕ) → ((levels : Levels) (star : List ℕ) → TrueTest F C text s u test (first_true F C kept.tests levels star)) → (P : Type 0)
           → ((negated : Bool) (asked : Asked) (others : Step (Unit {0})) → label_at (tree_of text) test ≡ test_label negated asked
-          → Behind F C text w asking.next (λ levels star. worked F C (Some asked) (has_star items) (λ rest inside. items_step F C items inside rest) levels star others) u given → P) → P
+          → Following F C text w asking.next (λ levels star. worked F C (Some asked) (has_star items) (λ rest inside. items_step F C items inside rest) levels star others) u given → P) → P
       later_true u test found P go =
           let t = found (levels_in F C c.arounds) (star_of C w.star) in
           go t.negated t.asked others t.label_is
@@ -92,7 +92,7 @@ module _ (F : Facts) (C : Context) (text : List ℕ) (w : Walk) (items : Items) 
           (sym (then_ok F C s (first_true F C kept.tests (levels_in F C c.arounds) (star_of C w.star)) (found_step F C items kept.choices (levels_in F C c.arounds) (star_of C w.star)) (Some t.asked) u t.gives)) ∙ c.same))
 
       pub none_later : (u : Machine) → ((levels : Levels) (star : List ℕ) → run F C s (first_true F C kept.tests levels star) ≡ Is (Ok (None, u)))
-          → Behind F C text w asking.end (λ levels star. choices_step F C kept.choices levels star) u given
+          → Following F C text w asking.end (λ levels star. choices_step F C kept.choices levels star) u given
       none_later u none =
           same_step F C text w s given asking.end (λ levels star. first_true F C kept.tests levels star >>= found_step F C items kept.choices levels star) c (λ levels star. choices_step F C kept.choices levels star) u
           (then_ok F C s (first_true F C kept.tests (levels_in F C c.arounds) (star_of C w.star)) (found_step F C items kept.choices (levels_in F C c.arounds) (star_of C w.star)) None u (none (levels_in F C c.arounds) (star_of C w.star)))
@@ -105,7 +105,7 @@ module _ (F : Facts) (C : Context) (text : List ℕ) (w : Walk) (items : Items) 
       -- one of them is by a function too
       pub later_asks : (u : Machine) (test : ℕ) (at_test : Token) → slice_get (tokens_of (tree_of text)) test ≡ Some at_test → ((levels : Levels) (star : List ℕ) → AskedTest F C text asking.start s u test kept.tests levels star) → (P : Type 0)
           → ((arguments : Items) (later : Kept) → AskFits text (record asking { test = test; from = at_test.next }) items later → Stands text (test + 1) (nodes_of arguments) at_test.next
-          → Behind F C text w asking.end (λ levels star. arguments_of F C arguments later.name levels star >>= judged F C later.negated later.asked later.tests levels star >>= found_step F C items later.choices levels star) u given → P) → P
+          → Following F C text w asking.end (λ levels star. arguments_of F C arguments later.name levels star >>= judged F C later.negated later.asked later.tests levels star >>= found_step F C items later.choices levels star) u given → P) → P
       later_asks u test at_test is found P go =
           let g = found (levels_in F C c.arounds) (star_of C w.star) in
           let next = next_at text test at_test kinds.Test (test_label g.negated (tree.HasResult g.name g.arguments)) g.next is g.part in
@@ -116,7 +116,7 @@ module _ (F : Facts) (C : Context) (text : List ℕ) (w : Walk) (items : Items) 
             label_is = g.part.label_is;
             later = omega (arith, next, g.part.later);
             own_is = fits.own_is;
-            tests_stand = subst (λ (k : ℕ). Stands text k (test_nodes g.others) asking.start) (sym next) g.behind;
+            tests_stand = subst (λ (k : ℕ). Stands text k (test_nodes g.others) asking.start) (sym next) g.following;
             items_stand = fits.items_stand;
             choices_stand = fits.choices_stand;
           })

@@ -3,7 +3,7 @@ use Rattle.drv_machine.specs.Context.{Context}
 use Rattle.drv_machine.specs.Cutting.{Cut, all_taken, nothing_cut, taken}
 use Rattle.drv_machine.specs.Outcome.{cut, finished, outcome}
 use Rattle.drv_machine.specs.Code.Running.{Machine, begun, done, run}
-use Rattle.drv_machine.specs.Working.{◌>>-◌, ◌>>=◌, Answer, Atom, Goes, Refuses, Step, Waits, Worked, behind, follow}
+use Rattle.drv_machine.specs.Working.{◌>>-◌, ◌>>=◌, Answer, Atom, Goes, Refuses, Step, Waits, Worked, following, follow}
 use Rattle.drv_syntax.specs.Tree.{Items}
 use Rattle.drv_system.specs.Facts.{Facts}
 use Rattle.drv_system.specs.Known.{Is, Unasked}
@@ -33,14 +33,14 @@ module _ (F : Facts) (C : Context) where
       → (all_taken F C c (xs ++ ys) >>- last) ≡ (all_taken F C c xs >>- λ d. all_taken F C d ys >>- last)
   further c xs ys last = ap (λ a. a >>- last) (all_taken-append c xs ys) ∙ then_then (all_taken F C c xs) (λ d. all_taken F C d ys) last
 
-  pub done-behind : {Y : Type 0} (c : Cut) (xs : List Atom) (work : Worked Y) → done F C c (behind xs work) ≡ (all_taken F C c xs >>- λ d. done F C d work)
-  done-behind c xs (Goes ys y w) = further c xs ys (λ d. Is (Ok (y, record { cut = d; world = w })))
-  done-behind c xs (Refuses ys fault) = further c xs ys (λ d. Is (Err fault))
-  done-behind c xs (Waits ys) = further c xs ys (λ d. Unasked)
+  pub done-following : {Y : Type 0} (c : Cut) (xs : List Atom) (work : Worked Y) → done F C c (following xs work) ≡ (all_taken F C c xs >>- λ d. done F C d work)
+  done-following c xs (Goes ys y w) = further c xs ys (λ d. Is (Ok (y, record { cut = d; world = w })))
+  done-following c xs (Refuses ys fault) = further c xs ys (λ d. Is (Err fault))
+  done-following c xs (Waits ys) = further c xs ys (λ d. Unasked)
 
   done-follow : {X Y : Type 0} (c : Cut) (work : Worked X) (f : X → Step Y)
       → done F C c (follow work f) ≡ (done F C c work >>- λ r. run F C r.1 (f r.0))
-  done-follow c (Goes xs x w) f = done-behind c xs (f x w) ∙ sym (then_then (all_taken F C c xs) (λ d. Is (Ok (x, record { cut = d; world = w }))) (λ r. run F C r.1 (f r.0)))
+  done-follow c (Goes xs x w) f = done-following c xs (f x w) ∙ sym (then_then (all_taken F C c xs) (λ d. Is (Ok (x, record { cut = d; world = w }))) (λ r. run F C r.1 (f r.0)))
   done-follow c (Refuses xs fault) f = sym (then_then (all_taken F C c xs) (λ d. Is (Err fault)) (λ r. run F C r.1 (f r.0)))
   done-follow c (Waits xs) f = sym (then_then (all_taken F C c xs) (λ d. Unasked) (λ r. run F C r.1 (f r.0)))
 

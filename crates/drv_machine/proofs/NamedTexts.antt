@@ -3,7 +3,7 @@ use Rattle.drv_machine.proofs.Standing.{some_same, whole_there}
 use Rattle.drv_machine.specs.Atoms.{named}
 use Rattle.drv_machine.specs.Context.{Context}
 use Rattle.drv_machine.specs.Code.Running.{Machine, run}
-use Rattle.drv_machine.specs.Code.Walking.{Behind, Left, nothing_kept, onward}
+use Rattle.drv_machine.specs.Code.Walking.{Following, Left, nothing_kept, onward}
 use Rattle.drv_machine.specs.Working.{◌>>-◌, Answer}
 use Rattle.drv_machine.specs.declared.walk.Frame.{Frame}
 use Rattle.drv_machine.specs.declared.walk.Opened.TheVariants.{Text}
@@ -28,7 +28,7 @@ some_named now None text r e n = absurd cc
 
 -- a text is opened at a place of another
 module _ (F : Facts) (C : Context) (w : Walk) (at : ℕ) (inside : List ℕ) (s : Machine) (given : Answer (Unit {0} × Machine))
-    (b : Behind F C w.text.now w at (λ levels star. named F C (Some (tree_of inside)) levels) s given) where
+    (b : Following F C w.text.now w at (λ levels star. named F C (Some (tree_of inside)) levels) s given) where
   abbrev k : Unit {0} × Machine → Answer (Unit {0} × Machine)
   k r = onward F C w.star b.rest b.arounds r.1
 

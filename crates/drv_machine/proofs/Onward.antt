@@ -8,7 +8,7 @@ use Rattle.drv_machine.specs.Code.ByKind.{Means, kind_step}
 use Rattle.drv_machine.specs.Context.{Context, argument, names}
 use Rattle.drv_machine.specs.Code.Running.{Machine, run}
 use Rattle.drv_machine.specs.Code.Standing.{Part, Stands}
-use Rattle.drv_machine.specs.Code.Walking.{After, Around, Behind, Fits, Framed, HitFits, Kept, Left, Lies, OpenedFits, Skips, Went, back_of, closing, each_from, ends, hit_step, hits_left, levels_in, nothing_kept, onward, star_of, text_around, weight}
+use Rattle.drv_machine.specs.Code.Walking.{After, Around, Following, Fits, Framed, HitFits, Kept, Left, Lies, OpenedFits, Skips, Went, back_of, closing, each_from, ends, hit_step, hits_left, levels_in, nothing_kept, onward, star_of, text_around, weight}
 use Rattle.drv_machine.specs.Working.{◌>>-◌, ◌>>◌, Answer, Break, Levels, Step, counted, most_open, puts, word_of}
 use Rattle.drv_machine.specs.declared.fault.MachineFault.TheVariants.{Memory, SpecTooDeep}
 use Rattle.drv_machine.specs.declared.fault.MachineFault.{MachineFault}
@@ -109,7 +109,7 @@ left_in F C text other w s given e left = subst (λ (t : List ℕ). Left F C t w
 
 -- and by a walk that has the same open parts around it
 pub after_in : (F : Facts) (C : Context) (text : List ℕ) (w v : Walk) (at : ℕ) (step : Levels → List ℕ → Step (Unit {0})) (s : Machine) (given : Answer (Unit {0} × Machine)) → v.end ≡ w.end → v.star ≡ w.star → v.frames ≡ w.frames
-    → Behind F C text w at step s given → Behind F C text v at step s given
+    → Following F C text w at step s given → Following F C text v at step s given
 after_in F C text w v at step s given end_is star_is frames_is b = record {
   rest = b.rest;
   arounds = b.arounds;
@@ -120,7 +120,7 @@ after_in F C text w v at step s given end_is star_is frames_is b = record {
 
 -- the end of a part that is a step
 pub as_after : (F : Facts) (C : Context) (text : List ℕ) (w : Walk) (at : ℕ) (step : Levels → List ℕ → Step (Unit {0})) (s : Machine) (given : Answer (Unit {0} × Machine)) → After F C text w at (λ levels star t. run F C t (step levels star)) s given
-    → Behind F C text w at step s given
+    → Following F C text w at step s given
 as_after F C text w at step s given a = record { rest = a.rest; arounds = a.arounds; lies = a.lies; framed = a.framed; same = a.same }
 
 module _ (F : Facts) (C : Context) where
@@ -163,11 +163,11 @@ module _ (F : Facts) (C : Context) where
 
   module _ (text : List ℕ) (w : Walk) (s : Machine) (given : Answer (Unit {0} × Machine)) where
     -- the item that is reached, after its count
-    pub after_item : (left : Left F C text w s given) (r : Reached text w.at left.rest w.end) (u : Machine) → run F C s counted ≡ Is (Ok (tt, u)) → Behind F C text w r.next (λ levels star. item_step F C r.item levels star) u given
+    pub after_item : (left : Left F C text w s given) (r : Reached text w.at left.rest w.end) (u : Machine) → run F C s counted ≡ Is (Ok (tt, u)) → Following F C text w r.next (λ levels star. item_step F C r.item levels star) u given
     after_item left r u e = record {
       rest = r.others;
       arounds = left.arounds;
-      lies = r.behind;
+      lies = r.following;
       framed = left.framed;
       same =
           sym (item_next r.span r.item r.others (levels_in F C left.arounds) (star_of C w.star) s u (λ q. ends F C left.arounds q.1) e)
@@ -185,7 +185,7 @@ module _ (F : Facts) (C : Context) where
     pub part_ended : (left : Left F C text w s given) → w.end ≤ w.at → ends F C left.arounds s ≡ given
     part_ended left h = ap (λ xs. onward F C w.star xs left.arounds s) (sym (nothing_left text w.at left.rest w.end h left.lies)) ∙ left.same
 
-    module _ (at : ℕ) (step : Levels → List ℕ → Step (Unit {0})) (b : Behind F C text w at step s given) where
+    module _ (at : ℕ) (step : Levels → List ℕ → Step (Unit {0})) (b : Following F C text w at step s given) where
       -- a step that was worked, or refused
       pub leaf : (result : Result (Unit {0}) MachineFault) (t : Machine) → GivesKnown Memory (λ u. (tt, t)) result (run F C s (step (levels_in F C b.arounds) (star_of C w.star)))
           → Went F C text (record w { at = at }) t given result
@@ -201,11 +201,11 @@ module _ (F : Facts) (C : Context) where
 
       -- another step from another place on
       pub after_as : (front : ℕ) → Skips text front at → (other : Levels → List ℕ → Step (Unit {0})) (t : Machine)
-          → ((run F C t (other (levels_in F C b.arounds) (star_of C w.star)) >>- λ r. onward F C w.star b.rest b.arounds r.1) ≡ given) → Behind F C text w front other t given
+          → ((run F C t (other (levels_in F C b.arounds) (star_of C w.star)) >>- λ r. onward F C w.star b.rest b.arounds r.1) ≡ given) → Following F C text w front other t given
       after_as front skips other t e = record { rest = b.rest; arounds = b.arounds; lies = lies_after text front at b.rest w.end skips b.lies; framed = b.framed; same = e }
 
       pub same_step : (other : Levels → List ℕ → Step (Unit {0})) (t : Machine)
-          → run F C s (step (levels_in F C b.arounds) (star_of C w.star)) ≡ run F C t (other (levels_in F C b.arounds) (star_of C w.star)) → Behind F C text w at other t given
+          → run F C s (step (levels_in F C b.arounds) (star_of C w.star)) ≡ run F C t (other (levels_in F C b.arounds) (star_of C w.star)) → Following F C text w at other t given
       same_step other t e = record {
         rest = b.rest;
         arounds = b.arounds;
@@ -228,7 +228,7 @@ module _ (F : Facts) (C : Context) where
     after_leaf at f a (Err fault) t (inr e) = inr (sym a.same ∙ ap (λ x. x >>- λ r. onward F C w.star a.rest a.arounds r.1) e)
 
     -- items are reached
-    pub entered : (items : Items) (start at : ℕ) → Stands text start (nodes_of items) at → Behind F C text w at (λ levels star. items_step F C items levels star) s given → Left F C text (record w { at = start }) s given
+    pub entered : (items : Items) (start at : ℕ) → Stands text start (nodes_of items) at → Following F C text w at (λ levels star. items_step F C items levels star) s given → Left F C text (record w { at = start }) s given
     entered items start at stands b = record {
       rest = joined items b.rest;
       arounds = b.arounds;
@@ -241,7 +241,7 @@ module _ (F : Facts) (C : Context) where
     }
 
     -- a part that a step opens
-    module _ (at : ℕ) (step : Levels → List ℕ → Step (Unit {0})) (b : Behind F C text w at step s given) where
+    module _ (at : ℕ) (step : Levels → List ℕ → Step (Unit {0})) (b : Following F C text w at step s given) where
       -- where as many are open as may be
       full : run F C s (step [] (star_of C w.star)) ≡ Is (Err SpecTooDeep) → length w.frames ≡ 64 → given ≡ Is (Err SpecTooDeep)
       full deep h =
@@ -269,7 +269,7 @@ module _ (F : Facts) (C : Context) where
           frames_is,
           record {
             opened = fits;
-            behind = subst (λ (x : List ℕ). Lies x (back_of o) b.rest w.end) (sym around_is) (subst (λ (j : ℕ). Lies text j b.rest w.end) (sym back_is) b.lies);
+            following = subst (λ (x : List ℕ). Lies x (back_of o) b.rest w.end) (sym around_is) (subst (λ (j : ℕ). Lies text j b.rest w.end) (sym back_is) b.lies);
           },
           subst (λ (x : List ℕ). Framed x C w.frames b.arounds) (sym around_is) b.framed,
         )
@@ -292,7 +292,7 @@ module _ (F : Facts) (C : Context) where
 
         -- or a step, and nothing after it
         pub step_opened : (inner : Levels → List ℕ → Step (Unit {0})) → v.end ≡ at
-            → (run F C t (inner (levels_left F C (most_open - (length b.arounds + 1))) (star_of C star)) >>- λ r. ends F C (around ∷ b.arounds) r.1) ≡ given → Behind F C inside v at inner t given
+            → (run F C t (inner (levels_left F C (most_open - (length b.arounds + 1))) (star_of C star)) >>- λ r. ends F C (around ∷ b.arounds) r.1) ≡ given → Following F C inside v at inner t given
         step_opened inner end_is gives = record {
           rest = tree.none;
           arounds = around ∷ b.arounds;
@@ -305,7 +305,7 @@ module _ (F : Facts) (C : Context) where
 
     -- an X for a switch that is hit
     module _ (each : Each) (switch size : ℕ) (p : Pattern) (items : Items) (fits : HitFits text C each switch p items) (long : size ≡ length (matching p).name)
-        (b : Behind F C text w each.end (λ levels star. hit_step F C p items levels switch >> each_from F C p items levels (switch + 1)) s given) where
+        (b : Following F C text w each.end (λ levels star. hit_step F C p items levels switch >> each_from F C p items levels (switch + 1)) s given) where
       abbrev k : Unit {0} × Machine → Answer (Unit {0} × Machine)
       k r = onward F C w.star b.rest b.arounds r.1
 
@@ -338,7 +338,7 @@ module _ (F : Facts) (C : Context) where
           arounds = o.others;
           lies =
               subst (λ (k : ℕ). Lies (text_around text frame.opened) (back_of frame.opened) o.around.rest k) (sym end_is)
-              (subst (λ (x : Frame). Lies (text_around text x.opened) (back_of x.opened) o.around.rest x.end) f o.fits.behind);
+              (subst (λ (x : Frame). Lies (text_around text x.opened) (back_of x.opened) o.around.rest x.end) f o.fits.following);
           framed = subst (λ fs. Framed (text_around text frame.opened) C fs o.others) (sym frames_is) o.framed;
           same =
               ap (λ star. closing F C (levels_in F C o.others) (star_of C star) frame.opened o.around.pattern o.around.items o.around.kept s >>- λ r. onward F C star o.around.rest o.others r.1) star_is

@@ -201,7 +201,7 @@ words_moved run atoms atom e = rw e refl
 pub bare_ends : (run atoms : List Atom) → list_any opens_word run ≡ false → words_after run (Break ∷ atoms) ≡ words_after [] atoms
 bare_ends run atoms e = rw e refl
 
-pub word_ends : (run atoms : List Atom) → list_any opens_word run ≡ true → words_after run (Break ∷ atoms) ≡ record { atoms = run; behind = atoms } ∷ words_after [] atoms
+pub word_ends : (run atoms : List Atom) → list_any opens_word run ≡ true → words_after run (Break ∷ atoms) ≡ record { atoms = run; following = atoms } ∷ words_after [] atoms
 word_ends run atoms e = rw e refl
 
 module _ (F : Facts) (C : Context) where
@@ -234,9 +234,9 @@ pub data Course (F : Facts) (C : Context) : List Atom → Cut → List Atom → 
   moves : {run atoms : List Atom} {c d : Cut} (atom : Atom) → ends_word atom ≡ false → Course F C (run ++ atom ∷ []) (moved c atom) atoms d → Course F C run c (atom ∷ atoms) d
   breaks_bare : {run atoms : List Atom} {c d : Cut} → list_any opens_word run ≡ false → Course F C [] (bare c) atoms d → Course F C run c (Break ∷ atoms) d
   pipes_bare : {run atoms : List Atom} {c d : Cut} → list_any opens_word run ≡ false → Course F C [] (pipe_ended (bare c)) atoms d → Course F C run c (Piped ∷ atoms) d
-  breaks : {run atoms : List Atom} {c d : Cut} (name : List ℕ) → list_any opens_word run ≡ true → path F C (record { atoms = run; behind = atoms }) ≡ Is (Ok name)
+  breaks : {run atoms : List Atom} {c d : Cut} (name : List ℕ) → list_any opens_word run ≡ true → path F C (record { atoms = run; following = atoms }) ≡ Is (Ok name)
       → Course F C [] (with_word c (opened_by run) name) atoms d → Course F C run c (Break ∷ atoms) d
-  pipes : {run atoms : List Atom} {c d : Cut} (name : List ℕ) → list_any opens_word run ≡ true → path F C (record { atoms = run; behind = atoms }) ≡ Is (Ok name)
+  pipes : {run atoms : List Atom} {c d : Cut} (name : List ℕ) → list_any opens_word run ≡ true → path F C (record { atoms = run; following = atoms }) ≡ Is (Ok name)
       → Course F C [] (pipe_ended (with_word c (opened_by run) name)) atoms d → Course F C run c (Piped ∷ atoms) d
 
 module _ (F : Facts) (C : Context) where

@@ -26,34 +26,34 @@ same_size (node kind label span inner others) n =
     omega (arith, i, o, length-append (labels inner) (labels others), length-append (flat (n + 1) inner) (flat (n + 1 + length (flat (n + 1) inner)) others))
 
 module _ (tokens : List Token) (marks : List Label) where
-  first_part : (n : ℕ) (here : Token) (label : Label) (ts before behind : List Token) (ls front back : List Label) → tokens ≡ before ++ (here ∷ (ts ++ behind)) → marks ≡ front ++ (label ∷ (ls ++ back))
+  first_part : (n : ℕ) (here : Token) (label : Label) (ts before following : List Token) (ls front back : List Label) → tokens ≡ before ++ (here ∷ (ts ++ following)) → marks ≡ front ++ (label ∷ (ls ++ back))
       → length before ≡ n → length front ≡ n → n < here.next → Part tokens marks n here.kind label here.next
-  first_part n here label ts before behind ls front back t l b f g = record {
+  first_part n here label ts before following ls front back t l b f g = record {
     token = here;
-    there = ap (λ xs. slice_get xs n) t ∙ subst (λ (k : ℕ). slice_get (before ++ (here ∷ (ts ++ behind))) k ≡ Some here) b (slice_seam before here (ts ++ behind));
+    there = ap (λ xs. slice_get xs n) t ∙ subst (λ (k : ℕ). slice_get (before ++ (here ∷ (ts ++ following))) k ≡ Some here) b (slice_seam before here (ts ++ following));
     kind_is = refl;
     next_is = refl;
     label_is = ap (λ xs. get_or xs n no_label) l ∙ subst (λ (k : ℕ). get_or (front ++ (label ∷ (ls ++ back))) k no_label ≡ label) f (get_or-append_seam front label (ls ++ back) no_label);
     later = g;
   }
 
-  pub stand : (n : ℕ) (nodes : Nodes) (before behind : List Token) (front back : List Label) → tokens ≡ before ++ (flat n nodes ++ behind) → marks ≡ front ++ (labels nodes ++ back)
+  pub stand : (n : ℕ) (nodes : Nodes) (before following : List Token) (front back : List Label) → tokens ≡ before ++ (flat n nodes ++ following) → marks ≡ front ++ (labels nodes ++ back)
       → length before ≡ n → length front ≡ n → Stand tokens marks n nodes (n + length (flat n nodes))
-  stand n no_node before behind front back t l b f = omega arith
-  stand n (node kind label span inner others) before behind front back t l b f =
+  stand n no_node before following front back t l b f = omega arith
+  stand n (node kind label span inner others) before following front back t l b f =
       let next : ℕ = n + 1 + length (flat (n + 1) inner) in
       let here : Token = record { kind = kind; start = span.start; end = span.end; next = n + 1 + length (flat (n + 1) inner) } in
       let size : n + length (flat n (node kind label span inner others)) ≡ next + length (flat next others) = omega (arith, length-append (flat (n + 1) inner) (flat next others)) in (
         next,
-        first_part n here label (flat (n + 1) inner ++ flat next others) before behind (labels inner ++ labels others) front back t l b f (omega arith),
-        stand (n + 1) inner (before ++ (here ∷ [])) (flat next others ++ behind) (front ++ (label ∷ [])) (labels others ++ back)
-            (t ∙ ap (λ zs. before ++ (here ∷ zs)) (append_assoc (flat (n + 1) inner) (flat next others) behind) ∙ sym (append_assoc before (here ∷ []) (flat (n + 1) inner ++ (flat next others ++ behind))))
+        first_part n here label (flat (n + 1) inner ++ flat next others) before following (labels inner ++ labels others) front back t l b f (omega arith),
+        stand (n + 1) inner (before ++ (here ∷ [])) (flat next others ++ following) (front ++ (label ∷ [])) (labels others ++ back)
+            (t ∙ ap (λ zs. before ++ (here ∷ zs)) (append_assoc (flat (n + 1) inner) (flat next others) following) ∙ sym (append_assoc before (here ∷ []) (flat (n + 1) inner ++ (flat next others ++ following))))
             (l ∙ ap (λ zs. front ++ (label ∷ zs)) (append_assoc (labels inner) (labels others) back) ∙ sym (append_assoc front (label ∷ []) (labels inner ++ (labels others ++ back))))
             (omega (arith, b, length-append before (here ∷ [])))
             (omega (arith, f, length-append front (label ∷ []))),
         subst (λ (k : ℕ). Stand tokens marks next others k) (sym size)
-            (stand next others (before ++ (here ∷ flat (n + 1) inner)) behind (front ++ (label ∷ labels inner)) back
-            (t ∙ ap (λ zs. before ++ (here ∷ zs)) (append_assoc (flat (n + 1) inner) (flat next others) behind) ∙ sym (append_assoc before (here ∷ flat (n + 1) inner) (flat next others ++ behind)))
+            (stand next others (before ++ (here ∷ flat (n + 1) inner)) following (front ++ (label ∷ labels inner)) back
+            (t ∙ ap (λ zs. before ++ (here ∷ zs)) (append_assoc (flat (n + 1) inner) (flat next others) following) ∙ sym (append_assoc before (here ∷ flat (n + 1) inner) (flat next others ++ following)))
             (l ∙ ap (λ zs. front ++ (label ∷ zs)) (append_assoc (labels inner) (labels others) back) ∙ sym (append_assoc front (label ∷ labels inner) (labels others ++ back)))
             (omega (arith, b, length-append before (here ∷ flat (n + 1) inner)))
             (omega (arith, f, same_size inner (n + 1), length-append front (label ∷ labels inner)))),
@@ -106,16 +106,16 @@ pub record PartsLeft {X : Type 0} (nodes : X → Nodes) (text : List ℕ) (at en
   pub stands : Stands text at (nodes rest) end
   pub same : Same rest
 
--- a part that stands first, and what stands behind it
+-- a part that stands first, and what stands after it
 pub record First (text : List ℕ) (at : ℕ) (kind : TokenKind) (label : Label) (inner others : Nodes) (end : ℕ) : Type 0 where
   pub next : ℕ
   pub part : Part (tokens_of (tree_of text)) (labels_of (tree_of text)) at kind label next
   pub within : Stands text (at + 1) inner next
-  pub behind : Stands text next others end
+  pub following : Stands text next others end
 
 pub first_of : {text : List ℕ} {at : ℕ} {kind : TokenKind} {label : Label} {inner others : Nodes} {end : ℕ}
     → (next : ℕ) × Part (tokens_of (tree_of text)) (labels_of (tree_of text)) at kind label next × Stands text (at + 1) inner next × Stands text next others end → First text at kind label inner others end
-first_of (next, part, within, behind) = record { next = next; part = part; within = within; behind = behind }
+first_of (next, part, within, following) = record { next = next; part = part; within = within; following = following }
 
 -- by the token that is there
 module _ {text : List ℕ} {at : ℕ} {kind : TokenKind} {label : Label} {inner others : Nodes} {end : ℕ} (f : First text at kind label inner others end) (token : Token) (there : slice_get (tokens_of (tree_of text)) at ≡ Some token) where
@@ -128,8 +128,8 @@ module _ {text : List ℕ} {at : ℕ} {kind : TokenKind} {label : Label} {inner 
   pub stands_within : Stands text (at + 1) inner token.next
   stands_within = subst (λ (k : ℕ). Stands text (at + 1) inner k) (sym first_next) f.within
 
-  pub stands_behind : Stands text token.next others end
-  stands_behind = subst (λ (k : ℕ). Stands text k others end) (sym first_next) f.behind
+  pub stands_after : Stands text token.next others end
+  stands_after = subst (λ (k : ℕ). Stands text k others end) (sym first_next) f.following
 
 -- the token at the first place of parts that aren't at their end
 pub record Front (text : List ℕ) (at : ℕ) (nodes : Nodes) (end : ℕ) : Type 0 where
@@ -151,7 +151,7 @@ pub record Here (text : List ℕ) (at : ℕ) (token : Token) (end : ℕ) : Type 
   pub later : at < token.next
   pub in_parts : token.next ≤ end
   pub within : Spans text (at + 1) token.next
-  pub behind : Spans text token.next end
+  pub following : Spans text token.next end
 
 module _ (text : List ℕ) (at end : ℕ) (h : at < end) (token : Token) (e : slice_get (tokens_of (tree_of text)) at ≡ Some token) where
   pub here : Spans text at end → Here text at token end
@@ -160,9 +160,9 @@ module _ (text : List ℕ) (at end : ℕ) (h : at < end) (token : Token) (e : sl
       let n = first_next f.first token e in record {
         in_list = slice_get_within (tokens_of (tree_of text)) at token e;
         later = omega (arith, n, f.first.part.later);
-        in_parts = omega (arith, n, stand_grows _ _ f.first.next f.others end f.first.behind);
+        in_parts = omega (arith, n, stand_grows _ _ f.first.next f.others end f.first.following);
         within = record { nodes = f.inner; stands = stands_within f.first token e };
-        behind = record { nodes = f.others; stands = stands_behind f.first token e };
+        following = record { nodes = f.others; stands = stands_after f.first token e };
       }
 
   -- the parts after it are nearer to the end
@@ -176,7 +176,7 @@ module _ (text : List ℕ) (at end : ℕ) (h : at < end) (token : Token) (e : sl
         let test : is_test f.kind ≡ true = ap is_test (sym (first_kind f.first token e)) ∙ t in
         let n = first_next f.first token e in record {
           rest = f.others;
-          stands = stands_behind f.first token e;
+          stands = stands_after f.first token e;
           joins = λ x s.
               p.joins x (subst (λ (xs : Nodes). Stands text at xs x) (sym (ap tests_in f.is ∙ ap (λ b. if b then node f.kind f.label f.span f.inner (tests_in f.others) else no_node) test))
               (f.first.next, f.first.part, f.first.within, subst (λ (k : ℕ). Stands text k (tests_in f.others) x) n s));
@@ -195,7 +195,7 @@ module _ (text : List ℕ) (at end : ℕ) (h : at < end) (token : Token) (e : sl
 -- at the end nothing is left
 pub none_left : (text : List ℕ) (at end : ℕ) (nodes : Nodes) → end ≤ at → Stands text at nodes end → nodes ≡ no_node
 none_left text at end no_node h s = refl
-none_left text at end (node kind label span inner others) h (next, part, within, behind) = absurd (omega (arith, h, part.later, stand_grows _ _ next others end behind))
+none_left text at end (node kind label span inner others) h (next, part, within, following) = absurd (omega (arith, h, part.later, stand_grows _ _ next others end following))
 
 pub not_test : (kind : TokenKind) → (kind ≡ kinds.Test → ⊥) → is_test kind ≡ false
 not_test kinds.Test h = absurd (h refl)

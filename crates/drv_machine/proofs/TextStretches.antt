@@ -6,8 +6,8 @@ use Rattle.drv_machine.specs.Cutting.{all_taken, argument_words, file_words, not
 use Rattle.drv_machine.specs.Names.{base, is_word, language_of, stem, suffix_of}
 use Rattle.drv_machine.specs.Temps.{last_drawn, temp_name}
 use Rattle.drv_funcs.specs.Outcome as outcomes
-use Rattle.drv_machine.specs.Cuts.{Balanced, Bare, Enclosed, Failure, File, Filed, Stretch, Stretched, bounds_file, is_broken, open_after, open_behind, stretch_atoms}
-use Rattle.drv_machine.specs.Working.{◌>>-◌, ◌>>=◌, ◌>>◌, Answer, Atom, Break, End, FileFrom, FileTo, From, Goes, Levels, Marked, Open, Piped, Put, Refuses, Step, To, Waits, Without, Worked, World, behind, bytes, called, change, counted, known, follow, give, look, most_items, most_open, needs, opened, puts, refuse, whole_word, word_of, words}
+use Rattle.drv_machine.specs.Cuts.{Balanced, Bare, Enclosed, Failure, File, Filed, Stretch, Stretched, bounds_file, is_broken, open_after, open_following, stretch_atoms}
+use Rattle.drv_machine.specs.Working.{◌>>-◌, ◌>>=◌, ◌>>◌, Answer, Atom, Break, End, FileFrom, FileTo, From, Goes, Levels, Marked, Open, Piped, Put, Refuses, Step, To, Waits, Without, Worked, World, following, bytes, called, change, counted, known, follow, give, look, most_items, most_open, needs, opened, puts, refuse, whole_word, word_of, words}
 use Rattle.drv_machine.specs.declared.fault.MachineFault.{MachineFault}
 use Rattle.drv_machine.specs.declared.fault.MachineFault.TheVariants as fault
 use Rattle.drv_machine.specs.declared.machine.marking.Mark.TheVariants.{AsFile, AsOutput, AsRemoved, AsScript}
@@ -92,20 +92,20 @@ unfiled_bare (atom ∷ atoms) e =
 
 -- as many %W are open after them as before
 abbrev Even : List Atom → Type 0
-Even atoms = (count : ℕ) → open_behind atoms Failure count ≡ Some count
+Even atoms = (count : ℕ) → open_following atoms Failure count ≡ Some count
 
 -- no %W ends that is not open
 abbrev Begun : List Atom → Type 0
-Begun atoms = (count : ℕ) → is_some (open_behind atoms Failure count) ≡ true
+Begun atoms = (count : ℕ) → is_some (open_following atoms Failure count) ≡ true
 
 abbrev then_open : List Atom → Enclosed → Option ℕ → Option ℕ
-then_open atoms enclosed count = option_and_then (λ left. open_behind atoms enclosed left) count
+then_open atoms enclosed count = option_and_then (λ left. open_following atoms enclosed left) count
 
-open_append : (xs ys : List Atom) (enclosed : Enclosed) (count : ℕ) → open_behind (xs ++ ys) enclosed count ≡ then_open ys enclosed (open_behind xs enclosed count)
+open_append : (xs ys : List Atom) (enclosed : Enclosed) (count : ℕ) → open_following (xs ++ ys) enclosed count ≡ then_open ys enclosed (open_following xs enclosed count)
 open_append [] ys enclosed count = refl
 open_append (x ∷ xs) ys enclosed count = by (open_after x enclosed count) (λ left. open_append xs ys enclosed left)
   where
-    by : (after : Option ℕ) → ((left : ℕ) → open_behind (xs ++ ys) enclosed left ≡ then_open ys enclosed (open_behind xs enclosed left))
+    by : (after : Option ℕ) → ((left : ℕ) → open_following (xs ++ ys) enclosed left ≡ then_open ys enclosed (open_following xs enclosed left))
         → then_open (xs ++ ys) enclosed after ≡ then_open ys enclosed (then_open xs enclosed after)
     by None goes = refl
     by (Some left) goes = goes left
@@ -142,16 +142,16 @@ opens_no_file FileFrom count e = absurd cc
 opens_no_file FileTo count e = absurd cc
 opens_no_file _ count e = refl
 
-unfiled_open : (atoms : List Atom) (count : ℕ) → Unfiled atoms → open_behind atoms File count ≡ Some count
+unfiled_open : (atoms : List Atom) (count : ℕ) → Unfiled atoms → open_following atoms File count ≡ Some count
 unfiled_open [] count e = refl
 unfiled_open (atom ∷ atoms) count e =
     let each = first_bare (bounds_file atom) (list_any bounds_file atoms) e in
     ap (then_open atoms File) (opens_no_file atom count each.0) ∙ unfiled_open atoms count each.1
 
-file_open : (atoms : List Atom) → Unfiled atoms → open_behind (stretch_atoms (Filed atoms)) File 0 ≡ Some 0
+file_open : (atoms : List Atom) → Unfiled atoms → open_following (stretch_atoms (Filed atoms)) File 0 ≡ Some 0
 file_open atoms e = open_append atoms (Break ∷ FileTo ∷ []) File 1 ∙ ap (then_open (Break ∷ FileTo ∷ []) File) (unfiled_open atoms 1 e)
 
-stretches_open : (stretches : List Stretch) → list_any is_broken stretches ≡ false → open_behind (flat_map stretch_atoms stretches) File 0 ≡ Some 0
+stretches_open : (stretches : List Stretch) → list_any is_broken stretches ≡ false → open_following (flat_map stretch_atoms stretches) File 0 ≡ Some 0
 stretches_open [] e = refl
 stretches_open (Bare atom ∷ stretches) e =
     let each = first_bare (bounds_file atom) (list_any is_broken stretches) e in
@@ -169,19 +169,19 @@ Shaped false atoms = Stretched atoms
 abbrev Fits : Bool → List Atom → Type 0
 Fits b atoms = Shaped b atoms × Even atoms
 
-shaped_open : (b : Bool) (atoms : List Atom) → Shaped b atoms → open_behind atoms File 0 ≡ Some 0
+shaped_open : (b : Bool) (atoms : List Atom) → Shaped b atoms → open_following atoms File 0 ≡ Some 0
 shaped_open true atoms e = unfiled_open atoms 0 e
-shaped_open false atoms e = ap (λ (zs : List Atom). open_behind zs File 0) (sym e.same) ∙ stretches_open e.stretches e.whole
+shaped_open false atoms e = ap (λ (zs : List Atom). open_following zs File 0) (sym e.same) ∙ stretches_open e.stretches e.whole
 
 -- atoms up to where work stops
 abbrev Halted : Bool → List Atom → Type 0
 Halted true atoms = Unfiled atoms
-Halted false atoms = is_some (open_behind atoms File 0) ≡ true
+Halted false atoms = is_some (open_following atoms File 0) ≡ true
 
 abbrev Stops : Bool → List Atom → Type 0
 Stops b atoms = Halted b atoms × Begun atoms
 
-halted_open : (b : Bool) (atoms : List Atom) → Halted b atoms → is_some (open_behind atoms File 0) ≡ true
+halted_open : (b : Bool) (atoms : List Atom) → Halted b atoms → is_some (open_following atoms File 0) ≡ true
 halted_open true atoms e = ap is_some (unfiled_open atoms 0 e)
 halted_open false atoms e = e
 
@@ -248,7 +248,7 @@ WellDone b (Waits atoms) = Stops b atoms
 pub record Well {X : Type 0} (step : Step X) : Type 0 where
   pub stays : (w : World) (b : Bool) → w.is_in_file ≡ b → WellDone b (step w)
 
-after_well : {X : Type 0} (b : Bool) (atoms : List Atom) (work : Worked X) → Fits b atoms → WellDone b work → WellDone b (behind atoms work)
+after_well : {X : Type 0} (b : Bool) (atoms : List Atom) (work : Worked X) → Fits b atoms → WellDone b work → WellDone b (following atoms work)
 after_well b atoms (Goes others x v) e f = (fits_append b atoms others e f.0, f.1)
 after_well b atoms (Refuses others fault) e f = stops_append b atoms others e f
 after_well b atoms (Waits others) e f = stops_append b atoms others e f
@@ -310,7 +310,7 @@ opened_well (deeper ∷ inside) part e goes = goes deeper inside e.0 e.1
 failure_well : (step : Step (Unit {0})) → Well step → Well (puts (From ∷ []) >> step >> puts (Break ∷ To ∷ []))
 failure_well step e = record { stays = λ w b i. by b (step w) (e.stays w b i) }
   where
-    by : (b : Bool) (work : Worked (Unit {0})) → WellDone b work → WellDone b (follow (behind (From ∷ []) work) (λ u. puts (Break ∷ To ∷ [])))
+    by : (b : Bool) (work : Worked (Unit {0})) → WellDone b work → WellDone b (follow (following (From ∷ []) work) (λ u. puts (Break ∷ To ∷ [])))
     by b (Goes atoms u v) done = (fits_failure b atoms done.0, done.1)
     by b (Refuses atoms fault) done = stops_failure b atoms done
     by b (Waits atoms) done = stops_failure b atoms done
@@ -406,14 +406,14 @@ module _ (F : Facts) (C : Context) where
 
   named_well : (items : Option Items) (levels : Levels) → WellLevels levels → Well (named F C items levels)
   named_well None levels e = puts_well [] refl
-  named_well (Some items) levels e = opened_well levels (λ deeper inside. deeper items) e (λ deeper inside goes behind. goes items)
+  named_well (Some items) levels e = opened_well levels (λ deeper inside. deeper items) e (λ deeper inside goes following. goes items)
 
   each_well : (p : Pattern) (X : List ℕ → Levels → Step (Unit {0})) (levels : Levels) → WellLevels levels → ((rest : List ℕ) (inside : Levels) → WellLevels inside → Well (X rest inside)) → (is : List ℕ) → Well (each_hit F C p X levels is)
   each_well p X levels e goes [] = puts_well [] refl
   each_well p X levels e goes (i ∷ is) =
       let rest : List ℕ = drop (length (matching p).name) (name_at (names C) i) in
       then_well (look_well (λ w. is_hit (names C) w.hidden (matching p) i)) (λ hit. then_well
-      (if_well hit (then_well (opened_well levels (λ deeper inside. X rest inside) e (λ deeper inside d behind. goes rest inside behind)) (λ u. puts_well (Break ∷ word_of (argument C i)) (word_bare (argument C i)))) (puts_well [] refl))
+      (if_well hit (then_well (opened_well levels (λ deeper inside. X rest inside) e (λ deeper inside d following. goes rest inside following)) (λ u. puts_well (Break ∷ word_of (argument C i)) (word_bare (argument C i)))) (puts_well [] refl))
       (λ u. each_well p X levels e goes is))
 
   worked_well : (found : Option Asked) (own : Bool) (X : List ℕ → Levels → Step (Unit {0})) (levels : Levels) (star : List ℕ) (others : Step (Unit {0})) → WellLevels levels
@@ -461,15 +461,15 @@ module _ (F : Facts) (C : Context) where
     item_well (BuiltinText name) levels star e = named_well (tree_named F C name) levels e
     item_well (Hide p) levels star e = change_well (λ w. record w { hidden = hidden_by (matching p) (names C) w.hidden }) (λ w. refl)
     item_well (Function name items) levels star e =
-        opened_well levels (λ deeper inside. arguments F C (items_step F C items inside star) >>= value_step F C name) e (λ deeper inside d behind. then_well (arguments_well (items_step F C items inside star) (items_well items inside star behind)) (λ args. value_well name args))
+        opened_well levels (λ deeper inside. arguments F C (items_step F C items inside star) >>= value_step F C name) e (λ deeper inside d following. then_well (arguments_well (items_step F C items inside star) (items_well items inside star following)) (λ args. value_well name args))
     item_well (Braces brace) levels star e = brace_well brace levels star e
     item_well Star levels star e = bytes_well star
     item_well (FailureFile brace) levels star e =
         opened_well levels (λ deeper inside. puts (From ∷ []) >> brace_step F C brace inside star >> puts (Break ∷ To ∷ [])) e
-        (λ deeper inside d behind. failure_well (brace_step F C brace inside star) (brace_well brace inside star behind))
+        (λ deeper inside d following. failure_well (brace_step F C brace inside star) (brace_well brace inside star following))
     item_well (ArgumentsFile brace) levels star e =
         opened_well levels (λ deeper inside. look (starts_file F C) >>= λ starts. if starts then file_step F C (brace_step F C brace inside star) else brace_step F C brace inside star) e
-        (λ deeper inside d behind. chosen_well (brace_step F C brace inside star) (brace_well brace inside star behind))
+        (λ deeper inside d following. chosen_well (brace_step F C brace inside star) (brace_well brace inside star following))
 
     items_well : (items : Items) (levels : Levels) (star : List ℕ) → WellLevels levels → Well (items_step F C items levels star)
     items_well none levels star e = puts_well [] refl
@@ -497,7 +497,7 @@ module _ (F : Facts) (C : Context) where
     truth_well (HasSuffix word) levels star e = give_well (is_word word (suffix_of C.input))
     truth_well (HasLanguage word) levels star e = give_well (is_word word (language_of C.input))
     truth_well (HasResult name items) levels star e =
-        opened_well levels (λ deeper inside. arguments F C (items_step F C items inside star) >>= has_value F C name) e (λ deeper inside d behind. then_well (arguments_well (items_step F C items inside star) (items_well items inside star behind)) (λ args. has_well name args))
+        opened_well levels (λ deeper inside. arguments F C (items_step F C items inside star) >>= has_value F C name) e (λ deeper inside d following. then_well (arguments_well (items_step F C items inside star) (items_well items inside star following)) (λ args. has_well name args))
 
   levels_well : (n : ℕ) → WellLevels (levels_left F C n)
   levels_well zero = tt
@@ -514,11 +514,11 @@ module _ (F : Facts) (C : Context) where
   pub are_stretched : (items : Items) (xs : List Atom) (w : World) → atoms F C items ≡ Goes xs tt w → Stretched xs
   are_stretched items xs w e = goes_stretched (atoms F C items) xs w ((text_well items most_open).stays (start F C) false refl) e
 
-  goes_as : (b : Bool) (atoms : List Atom) → Fits b atoms → (enclosed : Enclosed) → open_behind atoms enclosed 0 ≡ Some 0
+  goes_as : (b : Bool) (atoms : List Atom) → Fits b atoms → (enclosed : Enclosed) → open_following atoms enclosed 0 ≡ Some 0
   goes_as b atoms e Failure = e.1 0
   goes_as b atoms e File = shaped_open b atoms e.0
 
-  stops_as : (b : Bool) (atoms : List Atom) → Stops b atoms → (enclosed : Enclosed) → is_some (open_behind atoms enclosed 0) ≡ true
+  stops_as : (b : Bool) (atoms : List Atom) → Stops b atoms → (enclosed : Enclosed) → is_some (open_following atoms enclosed 0) ≡ true
   stops_as b atoms e Failure = e.1 0
   stops_as b atoms e File = halted_open b atoms e.0
 

@@ -1,4 +1,4 @@
-use Rattle.drv_machine.proofs.Standing.{First, PartsLeft, first_of, stand_grows, stands_behind}
+use Rattle.drv_machine.proofs.Standing.{First, PartsLeft, first_of, stand_grows, stands_after}
 use Rattle.drv_machine.proofs.Steps.{then_err, then_ok}
 use Rattle.drv_machine.specs.Atoms.{first_true, judged, truth, turned}
 use Rattle.drv_machine.specs.Code.ByKind.{AskedTest, TrueTest, asked_step, is_call}
@@ -50,7 +50,7 @@ front_test text at (tree.test span negated asked others) end h s = record { span
 
 pub no_tests_left : (text : List ℕ) (at : ℕ) (tests : Tests) (end : ℕ) → end ≤ at → Stands text at (test_nodes tests) end → tests ≡ tree.no_test
 no_tests_left text at tree.no_test end h s = refl
-no_tests_left text at (tree.test span negated asked others) end h (next, part, within, behind) = absurd (omega (arith, h, part.later, stand_grows _ _ next (test_nodes others) end behind))
+no_tests_left text at (tree.test span negated asked others) end h (next, part, within, following) = absurd (omega (arith, h, part.later, stand_grows _ _ next (test_nodes others) end following))
 
 module _ (F : Facts) (C : Context) (s u : Machine) (span : Span) (negated : Bool) (asked : Asked) (others : Tests) (levels : Levels) (star : List ℕ) (plain : is_call (test_label negated asked) ≡ false) where
   test_answers : (holds : Bool) → run F C s (asked_step C (test_label negated asked)) ≡ Is (Ok (holds, u)) → run F C s (first_true F C (tree.test span negated asked others) levels star) ≡ run F C u (judged F C negated asked others levels star holds)
@@ -112,7 +112,7 @@ module _ (F : Facts) (C : Context) (text : List ℕ) (s v : Machine) (at end : �
         next = f.first.next;
         part = subst (λ (a : Asked). Part (tokens_of (tree_of text)) (labels_of (tree_of text)) at kinds.Test (test_label f.negated a) f.first.next) r.2 f.first.part;
         within = subst (λ (a : Asked). Stands text (at + 1) (asked_nodes a) f.first.next) r.2 f.first.within;
-        behind = f.first.behind;
+        following = f.first.following;
         gives = from_rest f ∙ ap (λ (a : Asked). run F C v (first_true F C (tree.test f.span f.negated a f.others) levels star)) r.2;
       }
 
@@ -131,7 +131,7 @@ module _ (F : Facts) (C : Context) (text : List ℕ) (s v : Machine) (at end : �
   found_false plain u holds negated n e t token there =
       let f = front_test text at left.rest end h left.stands in record {
         rest = f.others;
-        stands = stands_behind f.first token there;
+        stands = stands_after f.first token there;
         same = sym (from_rest f ∙ test_is_false F C v u f.span f.negated f.asked f.others levels star (plain_at f false plain) holds (asks_at f (Is (Ok (holds, u))) e) (turned_at f holds negated false n t));
       }
 

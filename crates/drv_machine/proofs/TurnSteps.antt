@@ -7,7 +7,7 @@ use Rattle.drv_machine.specs.Code.ByKind.{Means, kind_step}
 use Rattle.drv_machine.specs.Context.{Context}
 use Rattle.drv_machine.specs.Code.Running.{Machine, run}
 use Rattle.drv_machine.specs.Code.Standing.{Spans, Stands}
-use Rattle.drv_machine.specs.Code.Walking.{After, AtItem, Behind, HasFrames, Kept, Lain, Left, Lies, OpenedFits, Went, back_of, closing, ends, levels_in, onward, star_of, text_around}
+use Rattle.drv_machine.specs.Code.Walking.{After, AtItem, Following, HasFrames, Kept, Lain, Left, Lies, OpenedFits, Went, back_of, closing, ends, levels_in, onward, star_of, text_around}
 use Rattle.drv_machine.specs.Working.{◌>>-◌, Answer, Levels, Step, bytes, counted, most_open}
 use Rattle.drv_machine.specs.declared.fault.MachineFault.TheVariants.{Memory}
 use Rattle.drv_machine.specs.declared.fault.MachineFault.{MachineFault}
@@ -66,9 +66,9 @@ module _ (text : List ℕ) (w : Walk) (item : AtItem text w) (token : Token) (th
     turn_uncounted fault stopped = count_stops F C text w s given left front fault stopped
 
     module _ (u : Machine) (e : run F C s counted ≡ Is (Ok (tt, u))) where
-      pub counted_item : Behind F C text w token.next (λ levels star. item_step F C front.item levels star) u given
+      pub counted_item : Following F C text w token.next (λ levels star. item_step F C front.item levels star) u given
       counted_item =
-          subst (λ (k : ℕ). Behind F C text w k (λ levels star. item_step F C front.item levels star) u given) (sym (next_at text w.at token (kind_of front.item) (label_of front.item) front.next there front.part))
+          subst (λ (k : ℕ). Following F C text w k (λ levels star. item_step F C front.item levels star) u given) (sym (next_at text w.at token (kind_of front.item) (label_of front.item) front.next there front.part))
           (after_item F C text w s given left front u e)
 
       -- an item that opens no part
@@ -95,19 +95,19 @@ module _ (text : List ℕ) (w : Walk) (item : AtItem text w) (token : Token) (th
       -- a named text, from the place after it
       text_after : (name : List ℕ) → name ≡ (label_at (tree_of text) w.at).word
           → item_step F C front.item (levels_in F C counted_item.arounds) (star_of C w.star) ≡ named F C (tree_named F C (label_at (tree_of text) w.at).word) (levels_in F C counted_item.arounds)
-          → Behind F C text (record w { at = token.next }) token.next (λ levels star. named F C (tree_named F C name) levels) u given
+          → Following F C text (record w { at = token.next }) token.next (λ levels star. named F C (tree_named F C name) levels) u given
       text_after name is step =
-          subst (λ (n : List ℕ). Behind F C text (record w { at = token.next }) token.next (λ levels star. named F C (tree_named F C n) levels) u given) (sym is)
+          subst (λ (n : List ℕ). Following F C text (record w { at = token.next }) token.next (λ levels star. named F C (tree_named F C n) levels) u given) (sym is)
           (after_in F C text w (record w { at = token.next }) token.next (λ levels star. named F C (tree_named F C (label_at (tree_of text) w.at).word) levels) u given refl refl refl
           (same_step F C text w u given token.next (λ levels star. item_step F C front.item levels star) counted_item (λ levels star. named F C (tree_named F C (label_at (tree_of text) w.at).word) levels) u (ap (run F C u) step)))
 
       pub turn_text : token.kind ≡ kinds.NamedText → (name : List ℕ) → name ≡ (label_at (tree_of text) w.at).word
-          → Behind F C text (record w { at = token.next }) token.next (λ levels star. named F C (tree_named F C name) levels) u given
+          → Following F C text (record w { at = token.next }) token.next (λ levels star. named F C (tree_named F C name) levels) u given
       turn_text k name is =
           text_after name is (text_there F C text w.at front.next (levels_in F C counted_item.arounds) (star_of C w.star) front.item front.part front.within token there k)
 
       pub turn_builtin : token.kind ≡ kinds.BuiltinText → (name : List ℕ) → name ≡ (label_at (tree_of text) w.at).word
-          → Behind F C text (record w { at = token.next }) token.next (λ levels star. named F C (tree_named F C name) levels) u given
+          → Following F C text (record w { at = token.next }) token.next (λ levels star. named F C (tree_named F C name) levels) u given
       turn_builtin k name is =
           text_after name is (builtin_there F C text w.at front.next (levels_in F C counted_item.arounds) (star_of C w.star) front.item front.part front.within token there k)
 
@@ -121,33 +121,33 @@ module _ (text : List ℕ) (w : Walk) (item : AtItem text w) (token : Token) (th
 
       -- a %W
       pub turn_failure : token.kind ≡ kinds.FailureFile → (P : Type 0)
-          → ((brace : Brace) → Stands text (w.at + 1) (brace_nodes brace) token.next → Behind F C text w token.next (λ levels star. item_step F C (tree.FailureFile brace) levels star) u given → P) → P
+          → ((brace : Brace) → Stands text (w.at + 1) (brace_nodes brace) token.next → Following F C text w token.next (λ levels star. item_step F C (tree.FailureFile brace) levels star) u given → P) → P
       turn_failure k P opening =
           let f = failure_item front.item (sym item_kind ∙ k) in
           opening f.0 (subst (λ (x : Item). Stands text (w.at + 1) (inner_nodes x) token.next) f.1 inside_there)
-          (subst (λ (x : Item). Behind F C text w token.next (λ levels star. item_step F C x levels star) u given) f.1 counted_item)
+          (subst (λ (x : Item). Following F C text w token.next (λ levels star. item_step F C x levels star) u given) f.1 counted_item)
 
       -- a %@
       pub turn_filed : token.kind ≡ kinds.ArgumentsFile → (P : Type 0)
-          → ((brace : Brace) → Stands text (w.at + 1) (brace_nodes brace) token.next → Behind F C text w token.next (λ levels star. item_step F C (tree.ArgumentsFile brace) levels star) u given → P) → P
+          → ((brace : Brace) → Stands text (w.at + 1) (brace_nodes brace) token.next → Following F C text w token.next (λ levels star. item_step F C (tree.ArgumentsFile brace) levels star) u given → P) → P
       turn_filed k P opening =
           let f = filed_item front.item (sym item_kind ∙ k) in
           opening f.0 (subst (λ (x : Item). Stands text (w.at + 1) (inner_nodes x) token.next) f.1 inside_there)
-          (subst (λ (x : Item). Behind F C text w token.next (λ levels star. item_step F C x levels star) u given) f.1 counted_item)
+          (subst (λ (x : Item). Following F C text w token.next (λ levels star. item_step F C x levels star) u given) f.1 counted_item)
 
       -- a function
       pub turn_function : token.kind ≡ kinds.Function → (P : Type 0)
           → ((name : List ℕ) (items : Items) → (label_at (tree_of text) w.at).word ≡ name → Stands text (w.at + 1) (nodes_of items) token.next
-          → Behind F C text w token.next (λ levels star. item_step F C (tree.Function name items) levels star) u given → P) → P
+          → Following F C text w token.next (λ levels star. item_step F C (tree.Function name items) levels star) u given → P) → P
       turn_function k P opening =
           let f = function_item front.item (sym item_kind ∙ k) in
           opening f.0 f.1 (ap (λ (l : Label). l.word) front.part.label_is ∙ ap (λ (x : Item). (label_of x).word) f.2)
           (subst (λ (x : Item). Stands text (w.at + 1) (inner_nodes x) token.next) f.2 inside_there)
-          (subst (λ (x : Item). Behind F C text w token.next (λ levels star. item_step F C x levels star) u given) f.2 counted_item)
+          (subst (λ (x : Item). Following F C text w token.next (λ levels star. item_step F C x levels star) u given) f.2 counted_item)
 
       -- a brace with alternatives
       pub turn_choose : token.kind ≡ kinds.Choose → (P : Type 0)
-          → ((choices : Choices) → Stands text (w.at + 1) (choice_nodes choices) token.next → Behind F C text w token.next (λ levels star. choices_step F C choices levels star) u given → P) → P
+          → ((choices : Choices) → Stands text (w.at + 1) (choice_nodes choices) token.next → Following F C text w token.next (λ levels star. choices_step F C choices levels star) u given → P) → P
       turn_choose k P chosen =
           let ch = choices_there F C text w.at front.next (levels_in F C counted_item.arounds) (star_of C w.star) front.item front.part front.within token there k in
           chosen ch.0 ch.1
@@ -168,8 +168,8 @@ module _ (text : List ℕ) (w : Walk) (h : w.end ≤ w.at) (frame : Frame) (oute
     pub closed : (v : Walk) → v.end ≡ frame.end → v.star ≡ frame.star → v.frames ≡ outer → (P : Type 0)
         → ((p : Pattern) (items : Items) (kept : Kept) → OpenedFits text C frame.opened p items kept
         → After F C (text_around text frame.opened) v (back_of frame.opened) (λ levels star t. closing F C levels star frame.opened p items kept t) s given → P) → P
-    closed v e f g P behind =
-        behind inner.around.pattern inner.around.items inner.around.kept opened_fits (closes F C text w s given left h frame outer inner v e f g)
+    closed v e f g P following =
+        following inner.around.pattern inner.around.items inner.around.kept opened_fits (closes F C text w s given left h frame outer inner v e f g)
 
 -- the walk is at its end
 pub walk_ended : (F : Facts) (C : Context) (text : List ℕ) (w : Walk) (s : Machine) (given : Answer (Unit {0} × Machine)) → w.end ≤ w.at → length w.frames ≡ 0 → Left F C text w s given → given ≡ Is (Ok (tt, s))

@@ -161,7 +161,7 @@ module _ (F : Facts) (C : Context) where
   -- what stands in a %@ that makes a file: its words are those of the file, and then the file is named
   abbrev pub filed : Worked (Unit {0}) → Worked (Unit {0})
   filed (Goes atoms u v) =
-      behind (Break ∷ FileFrom ∷ atoms ++ Break ∷ FileTo ∷ []) ((needs (file_words F C atoms) >>= named_file) (record v { is_in_file = false }))
+      following (Break ∷ FileFrom ∷ atoms ++ Break ∷ FileTo ∷ []) ((needs (file_words F C atoms) >>= named_file) (record v { is_in_file = false }))
   filed (Refuses atoms fault) = Refuses (Break ∷ FileFrom ∷ atoms) fault
   filed (Waits atoms) = Waits (Break ∷ FileFrom ∷ atoms)
 

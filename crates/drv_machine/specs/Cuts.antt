@@ -51,12 +51,12 @@ is_bar atom = false
 -- atoms between two places where a word ends, and what stands after them
 pub record Run : Type 0 where
   pub atoms : List Atom
-  pub behind : List Atom
+  pub following : List Atom
 
 -- the runs that end; these atoms stand before, since a word ended
 abbrev pub runs : List Atom → List Atom → List Run
 runs before [] = []
-runs before (atom ∷ atoms) = if ends_word atom then record { atoms = before; behind = atoms } ∷ runs [] atoms else runs (before ++ atom ∷ []) atoms
+runs before (atom ∷ atoms) = if ends_word atom then record { atoms = before; following = atoms } ∷ runs [] atoms else runs (before ++ atom ∷ []) atoms
 
 -- a run is a word where one is open in it
 abbrev pub is_word : Run → Bool
@@ -75,7 +75,7 @@ is_barred (atom ∷ atoms) = if opens_word atom then list_any is_bar atoms else 
 
 -- the output: the last word that is marked as one and begins after the last %V
 abbrev pub may_be_output : Run → Bool
-may_be_output word = list_any is_output word.atoms && not (is_barred (word.atoms ++ word.behind))
+may_be_output word = list_any is_output word.atoms && not (is_barred (word.atoms ++ word.following))
 
 abbrev pub last_of : {X : Type 0} → List X → Option X
 last_of [] = None
@@ -208,16 +208,16 @@ word_of run = if is_word run then Word run ∷ [] else []
 -- the commands that end; this run and these pieces stand before
 abbrev pub commands : List Atom → List Piece → List Atom → List (List Piece)
 commands run pieces [] = []
-commands run pieces (Break ∷ atoms) = commands [] (pieces ++ word_of (record { atoms = run; behind = atoms })) atoms
-commands run pieces (Piped ∷ atoms) = commands [] ((pieces ++ word_of (record { atoms = run; behind = atoms })) ++ Pipe ∷ []) atoms
+commands run pieces (Break ∷ atoms) = commands [] (pieces ++ word_of (record { atoms = run; following = atoms })) atoms
+commands run pieces (Piped ∷ atoms) = commands [] ((pieces ++ word_of (record { atoms = run; following = atoms })) ++ Pipe ∷ []) atoms
 commands run pieces (End ∷ atoms) = pieces ∷ commands (run ++ End ∷ []) [] atoms
 commands run pieces (atom ∷ atoms) = commands (run ++ atom ∷ []) (pieces ++ part_of atom) atoms
 
 -- the command that has not ended
 abbrev pub open_command : List Atom → List Piece → List Atom → List Piece
 open_command run pieces [] = pieces
-open_command run pieces (Break ∷ atoms) = open_command [] (pieces ++ word_of (record { atoms = run; behind = atoms })) atoms
-open_command run pieces (Piped ∷ atoms) = open_command [] ((pieces ++ word_of (record { atoms = run; behind = atoms })) ++ Pipe ∷ []) atoms
+open_command run pieces (Break ∷ atoms) = open_command [] (pieces ++ word_of (record { atoms = run; following = atoms })) atoms
+open_command run pieces (Piped ∷ atoms) = open_command [] ((pieces ++ word_of (record { atoms = run; following = atoms })) ++ Pipe ∷ []) atoms
 open_command run pieces (End ∷ atoms) = open_command (run ++ End ∷ []) [] atoms
 open_command run pieces (atom ∷ atoms) = open_command (run ++ atom ∷ []) (pieces ++ part_of atom) atoms
 
@@ -303,15 +303,15 @@ open_after FileTo File (suc count) = Some count
 open_after atom enclosed count = Some count
 
 -- and after a list
-abbrev pub open_behind : List Atom → Enclosed → ℕ → Option ℕ
-open_behind [] enclosed count = Some count
-open_behind (atom ∷ atoms) enclosed count = option_and_then (λ left. open_behind atoms enclosed left) (open_after atom enclosed count)
+abbrev pub open_following : List Atom → Enclosed → ℕ → Option ℕ
+open_following [] enclosed count = Some count
+open_following (atom ∷ atoms) enclosed count = option_and_then (λ left. open_following atoms enclosed left) (open_after atom enclosed count)
 
 -- None ends that is not open, and no file begins in another. Where work goes to its end, none is left open.
 abbrev pub Balanced : {X : Type 0} → Worked X → Type 0
-Balanced (Goes atoms x w) = (enclosed : Enclosed) → open_behind atoms enclosed 0 ≡ Some 0
-Balanced (Refuses atoms fault) = (enclosed : Enclosed) → is_some (open_behind atoms enclosed 0) ≡ true
-Balanced (Waits atoms) = (enclosed : Enclosed) → is_some (open_behind atoms enclosed 0) ≡ true
+Balanced (Goes atoms x w) = (enclosed : Enclosed) → open_following atoms enclosed 0 ≡ Some 0
+Balanced (Refuses atoms fault) = (enclosed : Enclosed) → is_some (open_following atoms enclosed 0) ≡ true
+Balanced (Waits atoms) = (enclosed : Enclosed) → is_some (open_following atoms enclosed 0) ≡ true
 
 module _ (F : Facts) (C : Context) where
   -- the words of a command, and whether a pipe stands in it

@@ -29,7 +29,7 @@ pub record Cut : Type 0 where
   pub barred : Bool  -- the open word began before a %V
   pub line : CutLine  -- that is open
   pub lines : List NamedLine  -- that have ended
-  pub stray : Bool  -- a pipe stood without a word before it, or something stood behind one
+  pub stray : Bool  -- a pipe stood without a word before it, or something stood after one
   pub removed : List (List ℕ)
   pub on_failure : List (List ℕ)
   pub output : Option (List ℕ)

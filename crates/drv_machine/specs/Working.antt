@@ -24,8 +24,8 @@ pub data Atom : Type 0 where
   Without : Atom  -- no output, unless a later word is marked as one
   From : Atom  -- %W begins
   To : Atom  -- %W ends: the last word that ended in it is a failure file
-  FileFrom : Atom  -- the words behind it are those of a file
-  FileTo : Atom  -- and those behind this are the command's again
+  FileFrom : Atom  -- the words after it are those of a file
+  FileTo : Atom  -- and those after this are the command's again
 
 -- what working a text changes as it goes
 pub record World : Type 0 where
@@ -83,13 +83,13 @@ pub data Worked (X : Type 0) : Type 0 where
 abbrev pub Step : Type 0 → Type 0
 Step X = World → Worked X
 
-abbrev pub behind : {X : Type 0} → List Atom → Worked X → Worked X
-behind atoms (Goes others x w) = Goes (atoms ++ others) x w
-behind atoms (Refuses others fault) = Refuses (atoms ++ others) fault
-behind atoms (Waits others) = Waits (atoms ++ others)
+abbrev pub following : {X : Type 0} → List Atom → Worked X → Worked X
+following atoms (Goes others x w) = Goes (atoms ++ others) x w
+following atoms (Refuses others fault) = Refuses (atoms ++ others) fault
+following atoms (Waits others) = Waits (atoms ++ others)
 
 abbrev pub follow : {X Y : Type 0} → Worked X → (X → Step Y) → Worked Y
-follow (Goes atoms x w) next = behind atoms (next x w)
+follow (Goes atoms x w) next = following atoms (next x w)
 follow (Refuses atoms fault) next = Refuses atoms fault
 follow (Waits atoms) next = Waits atoms
 

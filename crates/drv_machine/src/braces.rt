@@ -51,7 +51,7 @@ fn enter_alternative(
         (others : Step (Unit {0})) (given : Answer (Unit {0} × running.Machine))
         → own ≡ has_star items → label_at (tree_of text.now) each.test ≡ test_label negated asked
         → Stands text.now each.start (nodes_of items) each.end
-        → Behind F context.now text.now walk.old each.end
+        → Following F context.now text.now walk.old each.end
         (λ levels star. worked F context.now (Some asked) (has_star items)
         (λ rest inside. items_step F context.now items inside rest) levels star others)
         machine.now given → Went F context.now text.now walk.new machine.now given result }
@@ -81,7 +81,7 @@ pub(crate) fn answer(
     requires sized { length machine.old.world.hidden ≡ length context.now.switches }
     ensures does { (F : Facts) (items : tree.Items) (kept : Kept)
         (given : Answer (Unit {0} × running.Machine)) → AskFits text.now asking items kept
-        → Behind F context.now text.now walk.old asking.end
+        → Following F context.now text.now walk.old asking.end
         (λ levels star. decided_on F context.now items kept levels star holds) machine.old given
         → Went F context.now text.now walk.new machine.new given result }
     ensures lighter { OnOk result (weight (length context.now.switches) walk.new.frames
@@ -132,7 +132,7 @@ pub(crate) fn choose(
     ensures does { (F : Facts) (choices : tree.Choices)
         (given : Answer (Unit {0} × running.Machine))
         → Stands text.now start (choice_nodes choices) end
-        → Behind F context.now text.now walk.old end
+        → Following F context.now text.now walk.old end
         (λ levels star. choices_step F context.now choices levels star) machine.old given
         → Went F context.now text.now walk.new machine.new given result }
     ensures sized { length machine.new.world.hidden ≡ length machine.old.world.hidden }

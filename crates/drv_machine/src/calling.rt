@@ -4,7 +4,7 @@ ghost use Rattle.drv_machine.specs.Atoms.{item_step};
 ghost use Rattle.drv_machine.specs.Context as specs;
 ghost use Rattle.drv_machine.specs.Code.Running as running;
 ghost use Rattle.drv_machine.specs.Code.Standing.{Stands};
-ghost use Rattle.drv_machine.specs.Code.Walking.{AskFits, Behind, Kept, Went, tested_on, weight};
+ghost use Rattle.drv_machine.specs.Code.Walking.{AskFits, Following, Kept, Went, tested_on, weight};
 ghost use Rattle.drv_machine.specs.Working.{Answer};
 ghost use Rattle.drv_syntax.specs.Labels.{label_at, nodes_of};
 ghost use Rattle.drv_syntax.specs.Parsed.{tree_of};
@@ -34,7 +34,7 @@ pub(crate) fn open_call(
         (items : tree.Items) (given : Answer (Unit {0} × running.Machine))
         → at < length (tokens_of (tree_of text)) → (label_at (tree_of text) at).word ≡ name
         → Stands text (at + 1) (nodes_of items) next
-        → Behind F C text walk.old next (λ levels star. item_step F C
+        → Following F C text walk.old next (λ levels star. item_step F C
         (tree.Function name items) levels star) machine.old given
         → Went F C text walk.new machine.new given result }
     ensures same { machine.new.world ≡ machine.old.world }
@@ -69,7 +69,7 @@ pub(crate) fn open_test(
     ensures does { (F : Facts) (C : specs.Context) (text : List ℕ) (items arguments : tree.Items)
         (kept : Kept) (given : Answer (Unit {0} × running.Machine)) → AskFits text asking items kept
         → Stands text (asking.test + 1) (nodes_of arguments) asking.from
-        → Behind F C text walk.old asking.end
+        → Following F C text walk.old asking.end
         (λ levels star. tested_on F C arguments items kept levels star) machine.old given
         → Went F C text walk.new machine.new given result }
     ensures lighter { (n : ℕ) → OnOk result

@@ -4,7 +4,7 @@ ghost use Rattle.drv_machine.specs.Atoms.{atoms, items_step, levels_left};
 ghost use Rattle.drv_machine.specs.Context as specs;
 ghost use Rattle.drv_machine.specs.Cuts.{Balanced, Failure, File, Stretch, Stretched, begins_file};
 ghost use Rattle.drv_machine.specs.Cuts.{bounds_file, each, failure_files, has_stray_pipe, if_any};
-ghost use Rattle.drv_machine.specs.Cuts.{is_broken, line_of, lines, open_behind, open_command};
+ghost use Rattle.drv_machine.specs.Cuts.{is_broken, line_of, lines, open_following, open_command};
 ghost use Rattle.drv_machine.specs.Cuts.{output, path, path_of, removed, stretch_atoms, texts};
 ghost use Rattle.drv_machine.specs.Cuts.{whether, without_file, words};
 ghost use Rattle.drv_machine.specs.Cutting.{Cut, all_taken, argument_words, file_words};
@@ -39,10 +39,10 @@ pub fn cut_law()
     ensures found { (F : Facts) (C : specs.Context) (atoms : List Atom)
         → whether (all_taken F C nothing_cut atoms) ≡ whether (each (path F C) (words atoms)) }
     ensures inside { (F : Facts) (C : specs.Context) (atoms : List Atom) (c : Cut) (n : ℕ)
-        → all_taken F C nothing_cut atoms ≡ Is (Ok c) → open_behind atoms Failure 0 ≡ Some n
+        → all_taken F C nothing_cut atoms ≡ Is (Ok c) → open_following atoms Failure 0 ≡ Some n
         → length c.inside ≡ n }
     ensures outer { (F : Facts) (C : specs.Context) (atoms : List Atom) (c : Cut) (n : ℕ)
-        → all_taken F C nothing_cut atoms ≡ Is (Ok c) → open_behind atoms File 0 ≡ Some n
+        → all_taken F C nothing_cut atoms ≡ Is (Ok c) → open_following atoms File 0 ≡ Some n
         → length (option_to_list c.outer) ≡ n }
 {}
 

@@ -5,7 +5,7 @@ ghost use Rattle.drv_machine.specs.Atoms.{brace_step, item_step};
 ghost use Rattle.drv_machine.specs.Context as specs;
 ghost use Rattle.drv_machine.specs.Code.Running as running;
 ghost use Rattle.drv_machine.specs.Code.Standing.{Spans, Stands};
-ghost use Rattle.drv_machine.specs.Code.Walking.{Behind, Chooses, Emits, Reaches, Went};
+ghost use Rattle.drv_machine.specs.Code.Walking.{Following, Chooses, Emits, Reaches, Went};
 ghost use Rattle.drv_machine.specs.Working.{Answer};
 ghost use Rattle.drv_syntax.specs.Labels.{brace_nodes};
 ghost use Rattle.drv_syntax.specs.Tree as tree;
@@ -57,7 +57,7 @@ pub(crate) fn work_brace<S: System>(
     ensures does { (F : Facts) → Extends outside.new.facts.now F
         → (brace : tree.Brace) (given : Answer (Unit {0} × running.Machine))
         → Stands text.now start (brace_nodes brace) end
-        → Behind F context.now text.now walk.old end
+        → Following F context.now text.now walk.old end
         (λ levels star. brace_step F context.now brace levels star) machine.old given
         → Went F context.now text.now walk.new machine.new given result }
     ensures sized { length machine.new.world.hidden ≡ length machine.old.world.hidden }
@@ -78,7 +78,7 @@ pub(crate) fn work_brace<S: System>(
 fn open_failure(end: usize, walk: &mut Walk<'_>, machine: &mut Machine) -> Result<(), MachineFault>
     ensures does { (F : Facts) (C : specs.Context) (text : List ℕ) (brace : tree.Brace)
         (given : Answer (Unit {0} × running.Machine))
-        → Behind F C text walk.old end (λ levels star. item_step F C
+        → Following F C text walk.old end (λ levels star. item_step F C
         (tree.FailureFile brace) levels star) machine.old given
         → Reaches F C text walk.new end (λ levels star. brace_step F C brace levels star)
         machine.new given result }
@@ -112,7 +112,7 @@ pub(crate) fn work_failure<S: System>(
     ensures does { (F : Facts) → Extends outside.new.facts.now F
         → (brace : tree.Brace) (given : Answer (Unit {0} × running.Machine))
         → Stands text.now start (brace_nodes brace) end
-        → Behind F context.now text.now walk.old end
+        → Following F context.now text.now walk.old end
         (λ levels star. item_step F context.now (tree.FailureFile brace) levels star) machine.old
         given → Went F context.now text.now walk.new machine.new given result }
     ensures sized { length machine.new.world.hidden ≡ length machine.old.world.hidden }

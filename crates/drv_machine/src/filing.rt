@@ -4,7 +4,7 @@ ghost use Rattle.drv_machine.specs.Code.Asked.{Asked};
 ghost use Rattle.drv_machine.specs.Atoms.{brace_step, item_step, starts_file};
 ghost use Rattle.drv_machine.specs.Code.Running as running;
 ghost use Rattle.drv_machine.specs.Code.Standing.{Spans, Stands};
-ghost use Rattle.drv_machine.specs.Code.Walking.{Behind, Reaches, Went};
+ghost use Rattle.drv_machine.specs.Code.Walking.{Following, Reaches, Went};
 ghost use Rattle.drv_machine.specs.Working.{Answer, most_open};
 ghost use Rattle.drv_syntax.specs.Labels.{brace_nodes};
 ghost use Rattle.drv_syntax.specs.Tree as tree;
@@ -71,7 +71,7 @@ fn open_filed<S: System>(
     ensures asks { Asked S.events outside.old outside.new }
     ensures does { (F : Facts) → Extends outside.new.facts.now F
         → (text : List ℕ) (brace : tree.Brace) (given : Answer (Unit {0} × running.Machine))
-        → Behind F context.now text walk.old end
+        → Following F context.now text walk.old end
         (λ levels star. item_step F context.now (tree.ArgumentsFile brace) levels star) machine.old
         given → Reaches F context.now text walk.new end
         (λ levels star. brace_step F context.now brace levels star) machine.new given result }
@@ -103,7 +103,7 @@ pub(crate) fn work_filed<S: System>(
     ensures does { (F : Facts) → Extends outside.new.facts.now F
         → (brace : tree.Brace) (given : Answer (Unit {0} × running.Machine))
         → Stands text.now start (brace_nodes brace) end
-        → Behind F context.now text.now walk.old end
+        → Following F context.now text.now walk.old end
         (λ levels star. item_step F context.now (tree.ArgumentsFile brace) levels star) machine.old
         given → Went F context.now text.now walk.new machine.new given result }
     ensures sized { length machine.new.world.hidden ≡ length machine.old.world.hidden }

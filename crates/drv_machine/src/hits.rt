@@ -6,7 +6,7 @@ ghost use Rattle.drv_machine.specs.Context as specs;
 ghost use Rattle.drv_machine.specs.Code.ByKind.{labelled};
 ghost use Rattle.drv_machine.specs.Code.Running as running;
 ghost use Rattle.drv_machine.specs.Code.Standing.{Stands};
-ghost use Rattle.drv_machine.specs.Code.Walking.{Behind, HitFits, NextHit, Went, each_from};
+ghost use Rattle.drv_machine.specs.Code.Walking.{Following, HitFits, NextHit, Went, each_from};
 ghost use Rattle.drv_machine.specs.Code.Walking.{from_hit, hit_end, weight};
 ghost use Rattle.drv_machine.specs.Working.{Answer, Levels};
 ghost use Rattle.drv_syntax.specs.Labels.{label_at, nodes_of};
@@ -46,7 +46,7 @@ fn open_hit(each: Each, switch: usize, size: usize, walk: &mut Walk<'_>) -> Resu
     ensures does { (F : Facts) (C : specs.Context) (text : List ℕ) (p : tree.Pattern)
         (items : tree.Items) (s : running.Machine) (given : Answer (Unit {0} × running.Machine))
         → HitFits text C each switch p items → size ≡ length (matching p).name
-        → Behind F C text walk.old each.end
+        → Following F C text walk.old each.end
         (λ levels star. from_hit F C p items levels switch) s given
         → Went F C text walk.new s given result }
     ensures lighter { (n : ℕ) → OnOk result
@@ -79,7 +79,7 @@ pub(crate) fn enter_next(
         (given : Answer (Unit {0} × running.Machine))
         → labelled (label_at (tree_of text.now) each.test) ≡ matching p
         → Stands text.now each.start (nodes_of items) each.end
-        → Behind F context.now text.now walk.old each.end
+        → Following F context.now text.now walk.old each.end
         (λ levels star. each_from F context.now p items levels from) machine.now given
         → Went F context.now text.now walk.new machine.now given result }
     ensures lighter { OnOk result (weight (length context.now.switches) walk.new.frames
@@ -117,7 +117,7 @@ pub(crate) fn close_hit<S: System>(
     ensures does { (F : Facts) → Extends outside.new.facts.now F
         → (p : tree.Pattern) (items : tree.Items) (given : Answer (Unit {0} × running.Machine))
         → HitFits text.now context.now each switch p items
-        → Behind F context.now text.now walk.old each.end
+        → Following F context.now text.now walk.old each.end
         (λ levels star. hit_end F context.now p items levels switch) machine.old given
         → Went F context.now text.now walk.new machine.new given result }
     ensures lighter { OnOk result (weight (length context.now.switches) walk.new.frames

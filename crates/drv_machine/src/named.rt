@@ -2,7 +2,7 @@
 
 ghost use Rattle.drv_machine.specs.Atoms.{named, tree_named};
 ghost use Rattle.drv_machine.specs.Code.Running as running;
-ghost use Rattle.drv_machine.specs.Code.Walking.{Behind, Went};
+ghost use Rattle.drv_machine.specs.Code.Walking.{Following, Went};
 ghost use Rattle.drv_machine.specs.Working.{Answer};
 ghost use Rattle.drv_system.specs.Facts.{Facts};
 
@@ -19,7 +19,7 @@ pub(crate) fn open_text<'w>(
     walk: &mut Walk<'w>,
 ) -> Result<(), MachineFault>
     ensures { (F : Facts) (s : running.Machine) (given : Answer (Unit {0} × running.Machine))
-        → Behind F context.now walk.old.text.now walk.old walk.old.at
+        → Following F context.now walk.old.text.now walk.old walk.old.at
         (λ levels star. named F context.now (tree_named F context.now name.now) levels) s given
         → Went F context.now walk.new.text.now walk.new s given result }
 {

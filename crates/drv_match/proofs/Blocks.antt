@@ -165,7 +165,7 @@ block_found names order pattern start end low high first second = record {
   within = high;
   before = λ k d from to. before_named pattern (name_at names (get_or order k d)) (first.0 k d from to);
   named = λ k d from to. alone _ _ (first.1 k d from (omega (arith, high, to))) (second.0 k d (omega arith) to);
-  behind = λ k d from to. neither _ _ (second.1 k d from to);
+  following = λ k d from to. neither _ _ (second.1 k d from to);
 }
   where
     rises : start ≤ end

@@ -24,14 +24,14 @@ use Rattle.std.specs.declared.cmp.Ordering.TheVariants.{Less, Equal, Greater}
 -- two tests that answer alike have the same last name
 pub last_same : (f g : List ℕ → Bool) (names : List (List ℕ)) (place : ℕ) → ((name : List ℕ) → f name ≡ g name) → IsLast g names place → IsLast f names place
 last_same f g names place same last = record {
-  none_after = λ i behind within. same (name_at names i) ∙ last.none_after i behind within;
+  none_after = λ i following within. same (name_at names i) ∙ last.none_after i following within;
   within = last.within;
   passes = λ some. same (name_at names place) ∙ last.passes some;
 }
 
 pub no_last : (f : List ℕ → Bool) (names : List (List ℕ)) → ((name : List ℕ) → f name ≡ false) → IsLast f names 0
 no_last f names none = record {
-  none_after = λ i behind within. none (name_at names i);
+  none_after = λ i following within. none (name_at names i);
   within = λ some. absurd (omega (arith, some));
   passes = λ some. absurd (omega (arith, some));
 }
@@ -57,7 +57,7 @@ last_either f g names one other place is last last' = by (nat_le one other) refl
         let low : one ≤ other = grind (arith, nat_tests) in
         let here : place ≡ other = omega (arith, is, low) in
         rw here (record {
-          none_after = λ i behind within. both_no _ _ (last.none_after i (omega (arith, behind, low)) within) (last'.none_after i behind within);
+          none_after = λ i following within. both_no _ _ (last.none_after i (omega (arith, following, low)) within) (last'.none_after i following within);
           within = last'.within;
           passes = λ some. or_right _ _ (last'.passes some);
         })
@@ -65,7 +65,7 @@ last_either f g names one other place is last last' = by (nat_le one other) refl
         let low : other < one = grind (arith, nat_tests) in
         let here : place ≡ one = omega (arith, is, low) in
         rw here (record {
-          none_after = λ i behind within. both_no _ _ (last.none_after i behind within) (last'.none_after i (omega (arith, behind, low)) within);
+          none_after = λ i following within. both_no _ _ (last.none_after i following within) (last'.none_after i (omega (arith, following, low)) within);
           within = last.within;
           passes = λ some. or_left _ _ (last.passes some);
         })
@@ -159,7 +159,7 @@ below_end names order name end k point within same = by (nat_le end k) refl
 -- where there is none up to the end, there is none
 pub named_none : (names : List (List ℕ)) (order : List ℕ) (name : List ℕ) (end : ℕ) → IsOrder names order → IsPartitionPoint (λ i. is_upto names name i ≡ true) (λ i. is_upto names name i ≡ false) order end → end ≡ 0 → IsLast (pointwise nat_eq name) names 0
 named_none names order name end o point is = record {
-  none_after = λ i behind within. by i within (pointwise nat_eq name (name_at names i)) refl;
+  none_after = λ i following within. by i within (pointwise nat_eq name (name_at names i)) refl;
   within = λ some. absurd (omega (arith, some));
   passes = λ some. absurd (omega (arith, some));
 }
@@ -199,16 +199,16 @@ named_last names order name end place o high point some is = by (pointwise nat_e
 
     by : (t : Bool) → pointwise nat_eq (name_at names place) name ≡ t → IsLast (pointwise nat_eq name) names (if t then place else 0)
     by true e = record {
-      none_after = λ i behind within. behind_it i behind within (pointwise nat_eq name (name_at names i)) refl;
+      none_after = λ i following within. following_it i following within (pointwise nat_eq name (name_at names i)) refl;
       within = λ positive. rw is (in_range names order o (end - 1) 0 (omega (arith, some, high)));
       passes = λ positive. nat_list_eq_equiv.symm name (name_at names place) ∙ e;
     }
       where
-        behind_it : (i : ℕ) → place < i → i < length names → (u : Bool) → pointwise nat_eq name (name_at names i) ≡ u → u ≡ false
-        behind_it i behind within false e' = refl
-        behind_it i behind within true e' = absurd (omega (arith, behind, (upper i within e').1))
+        following_it : (i : ℕ) → place < i → i < length names → (u : Bool) → pointwise nat_eq name (name_at names i) ≡ u → u ≡ false
+        following_it i following within false e' = refl
+        following_it i following within true e' = absurd (omega (arith, following, (upper i within e').1))
     by false e = record {
-      none_after = λ i behind within. nowhere i within (pointwise nat_eq name (name_at names i)) refl;
+      none_after = λ i following within. nowhere i within (pointwise nat_eq name (name_at names i)) refl;
       within = λ positive. absurd (omega (arith, positive));
       passes = λ positive. absurd (omega (arith, positive));
     }

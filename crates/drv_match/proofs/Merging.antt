@@ -62,10 +62,10 @@ module _ (names : List (List ℕ)) (hidden : List Bool) where
   pub any_within : (patterns : List Pattern) (places : List ℕ) → places ≡ any_hits names hidden patterns → All (λ i. i < length names) places
   any_within patterns places is = rw is (below (is_any_hit names hidden patterns) (length names))
 
-  -- the first that hits something, and others that are left behind it
+  -- the first that hits something, and others that are left after it
   pub front_same : (left patterns : List Pattern) (first : Pattern) (others rest : List Pattern) → SameHits names hidden left patterns → left ≡ first ∷ rest → SameHits names hidden others rest → SameHits names hidden (first ∷ others) patterns
-  front_same left patterns first others rest same is behind = λ i within.
-      ap (λ t. is_hit names hidden first i || t) (behind i within) ∙ ap (λ ps. is_any_hit names hidden ps i) (sym is) ∙ same i within
+  front_same left patterns first others rest same is following = λ i within.
+      ap (λ t. is_hit names hidden first i || t) (following i within) ∙ ap (λ ps. is_any_hit names hidden ps i) (sym is) ∙ same i within
 
   -- what none of the others hits is what the first hits
   pub first_alone : (first : Pattern) (others none : List Pattern) → none ≡ [] → SameHits names hidden none others → hits names hidden first ≡ any_hits names hidden (first ∷ others)

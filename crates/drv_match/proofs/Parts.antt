@@ -23,18 +23,18 @@ use Rattle.std.specs.List.Sorted.{IsNonDecreasing, IsPermutation}
 record IsPart (test : ℕ → Bool) (xs : List ℕ) (start end : ℕ) : Type 0 where
   before : AllWithin (λ x. test x ≡ false) xs 0 start
   inside : AllWithin (λ x. test x ≡ true) xs start end
-  behind : AllWithin (λ x. test x ≡ false) xs end (length xs)
+  following : AllWithin (λ x. test x ≡ false) xs end (length xs)
 
 part_filter : (test other : ℕ → Bool) (xs : List ℕ) (start end : ℕ) → start ≤ end → end ≤ length xs → IsPart test xs start end → filter (λ x. test x && other x) xs ≡ filter other (take (end - start) (drop start xs))
 part_filter test other [] zero zero low high p = refl
 part_filter test other [] zero (suc end) low high p = absurd (omega (arith, high))
 part_filter test other [] (suc start) end low high p = absurd (omega (arith, low, high))
 part_filter test other (x ∷ xs) zero zero low high p =
-    let no : test x ≡ false = p.behind 0 0 (omega arith) (omega arith) in
+    let no : test x ≡ false = p.following 0 0 (omega arith) (omega arith) in
     let rest : IsPart test xs 0 0 = record {
       before = λ k d from to. absurd (omega (arith, to));
       inside = λ k d from to. absurd (omega (arith, to));
-      behind = λ k d from to. p.behind (suc k) d (omega arith) (omega (arith, to));
+      following = λ k d from to. p.following (suc k) d (omega arith) (omega (arith, to));
     } in
     rw no (part_filter test other xs 0 0 (omega arith) (omega arith) rest)
 part_filter test other (x ∷ xs) zero (suc end) low high p =
@@ -42,7 +42,7 @@ part_filter test other (x ∷ xs) zero (suc end) low high p =
     let rest : IsPart test xs 0 end = record {
       before = λ k d from to. absurd (omega (arith, to));
       inside = λ k d from to. p.inside (suc k) d (omega arith) (omega (arith, to));
-      behind = λ k d from to. p.behind (suc k) d (omega (arith, from)) (omega (arith, to));
+      following = λ k d from to. p.following (suc k) d (omega (arith, from)) (omega (arith, to));
     } in
     let size : suc end - 0 ≡ suc (end - 0) = omega arith in
     rw (yes, part_filter test other xs 0 end (omega arith) (omega (arith, high)) rest, size) refl
@@ -52,7 +52,7 @@ part_filter test other (x ∷ xs) (suc start) (suc end) low high p =
     let rest : IsPart test xs start end = record {
       before = λ k d from to. p.before (suc k) d (omega arith) (omega (arith, to));
       inside = λ k d from to. p.inside (suc k) d (omega (arith, from)) (omega (arith, to));
-      behind = λ k d from to. p.behind (suc k) d (omega (arith, from)) (omega (arith, to));
+      following = λ k d from to. p.following (suc k) d (omega (arith, from)) (omega (arith, to));
     } in
     let size : suc end - suc start ≡ end - start = omega arith in
     rw (no, size) (part_filter test other xs start end (omega (arith, low)) (omega (arith, high)) rest)
@@ -83,7 +83,7 @@ named_first names hidden pattern i = by (not (get_or hidden i false)) (is_named 
     by false false v = refl
 
 as_part : (names : List (List ℕ)) (order : List ℕ) (pattern : Pattern) (start end : ℕ) → IsBlock names order pattern start end → IsPart (λ i. is_named pattern (name_at names i)) order start end
-as_part names order pattern start end b = record { before = b.before; inside = b.named; behind = b.behind }
+as_part names order pattern start end b = record { before = b.before; inside = b.named; following = b.following }
 
 -- the hits of an order are those of the block
 pub order_hits : (names : List (List ℕ)) (order : List ℕ) (hidden : List Bool) (pattern : Pattern) (start end : ℕ) → IsBlock names order pattern start end → filter (is_hit names hidden pattern) order ≡ filter (counts names hidden (is_broad pattern)) (take (end - start) (drop start order))

@@ -70,7 +70,7 @@ all_named (suc (suc (suc (suc zero)))) d low high = refl
 all_named (suc (suc (suc (suc (suc k))))) d low high = absurd (omega (arith, high))
 
 starred_block : IsBlock line places (starred (codes "m")) 2 5
-starred_block = record { ascends = omega arith; within = omega arith; before = levels_before; named = all_named; behind = λ k d low high. absurd (omega (arith, low, high)) }
+starred_block = record { ascends = omega arith; within = omega arith; before = levels_before; named = all_named; following = λ k d low high. absurd (omega (arith, low, high)) }
 
 levels_before_one : AllWithin (λ i. is_named (named (codes "m")) (name_at line i) ≡ false) places 0 2
 levels_before_one zero d low high = refl
@@ -92,7 +92,7 @@ longer_after (suc (suc (suc (suc zero)))) d low high = refl
 longer_after (suc (suc (suc (suc (suc k))))) d low high = absurd (omega (arith, high))
 
 named_block : IsBlock line places (named (codes "m")) 2 3
-named_block = record { ascends = omega arith; within = omega arith; before = levels_before_one; named = one_named; behind = longer_after }
+named_block = record { ascends = omega arith; within = omega arith; before = levels_before_one; named = one_named; following = longer_after }
 
 -- No switches: no pattern hits any.
 

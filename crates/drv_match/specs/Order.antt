@@ -25,4 +25,4 @@ pub record IsBlock (names : List (List ℕ)) (order : List ℕ) (pattern : Patte
   pub within : end ≤ length order
   pub before : AllWithin (λ i. is_named pattern (name_at names i) ≡ false) order 0 start
   pub named : AllWithin (λ i. is_named pattern (name_at names i) ≡ true) order start end
-  pub behind : AllWithin (λ i. is_named pattern (name_at names i) ≡ false) order end (length order)
+  pub following : AllWithin (λ i. is_named pattern (name_at names i) ≡ false) order end (length order)

@@ -15,14 +15,14 @@ Pair = List ℕ × List ℕ
 abbrev or_else : Bool → List ℕ → Option (List ℕ) → Option (List ℕ)
 or_else fits text others = if fits then Some text else others
 
-behind_one : (first last : Bool) (text behind : List ℕ) (others : Option (List ℕ)) → or_before (or_else last behind others) first text ≡ or_else last behind (or_before others first text)
-behind_one first true text behind others = refl
-behind_one first false text behind others = refl
+following_one : (first last : Bool) (text following : List ℕ) (others : Option (List ℕ)) → or_before (or_else last following others) first text ≡ or_else last following (or_before others first text)
+following_one first true text following others = refl
+following_one first false text following others = refl
 
 after_all : (fits : List ℕ → Bool) (pairs : List Pair) (last : Pair) → last_text fits (pairs ++ last ∷ []) ≡ or_else (fits last.0) last.1 (last_text fits pairs)
 after_all fits [] last = refl
 after_all fits (pair ∷ pairs) last =
-    ap (λ others. or_before others (fits pair.0) pair.1) (after_all fits pairs last) ∙ behind_one (fits pair.0) (fits last.0) pair.1 last.1 (last_text fits pairs)
+    ap (λ others. or_before others (fits pair.0) pair.1) (after_all fits pairs last) ∙ following_one (fits pair.0) (fits last.0) pair.1 last.1 (last_text fits pairs)
 
 -- one pair more
 one_more : (fits : List ℕ → Bool) (pairs : List Pair) (n : ℕ) (pair : Pair) → n < length pairs → pair ≡ get_or pairs n pair

@@ -187,10 +187,10 @@ source_refused F place source text g C fault is refused =
 -- the link, once the context has its outputs
 pub link_set : (g : Progress) (C D : Context) (outputs left none : List (List ℕ)) → C ≡ record g.context { input = None } → D ≡ record C { outputs = outputs }
     → outputs ≡ g.outputs → left ≡ none → none ≡ [] → for_link g ≡ record g { context = D; outputs = left }
-link_set g C D outputs left none first second are behind empty =
+link_set g C D outputs left none first second are following empty =
     ap (λ list. record g { context = record g.context { input = None; outputs = list }; outputs = [] }) (sym are)
     ∙ ap (λ (E : Context). record g { context = record E { outputs = outputs }; outputs = [] }) (sym first)
-    ∙ ap (λ (E : Context). record g { context = E; outputs = [] }) (sym second) ∙ ap (λ list. record g { context = D; outputs = list }) (sym empty ∙ sym behind)
+    ∙ ap (λ (E : Context). record g { context = E; outputs = [] }) (sym second) ∙ ap (λ list. record g { context = D; outputs = list }) (sym empty ∙ sym following)
 
 pub link_done : (F : Facts) (text : List ℕ) (g after : Progress) (job : Job) (link : Option Job) → worked F text (for_link g) ≡ Is (Ok (job, after)) → link ≡ with_command job
     → with_text F (Some text) g ≡ Is (Ok (link, after))

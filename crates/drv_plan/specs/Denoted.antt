@@ -140,7 +140,7 @@ with_link F set g = if length g.outputs == 0 then Is (Ok (None, g)) else with_te
 
 -- a word between two texts
 abbrev pub between : List ℕ → List ℕ → List ℕ → List ℕ
-between before behind word = before ++ word ++ behind
+between before after word = before ++ word ++ after
 
 -- without a link each file that is the linker's is told
 abbrev pub unused : Option Job → List (List ℕ) → List (List ℕ)

@@ -15,14 +15,14 @@ const UNUSED_FRONT: &[u8] = b"warning: ";
 const UNUSED_END: &[u8] = b": linker input file unused because linking not done";
 
 /// A word between two texts, in one allocation.
-fn between(alloc: Global, before: &[u8], behind: &[u8], word: &[u8]) -> Result<Word, AllocError>
-    ensures { IfOk result (λ text. text ≡ between before.now behind.now word.now) }
+fn between(alloc: Global, before: &[u8], after: &[u8], word: &[u8]) -> Result<Word, AllocError>
+    ensures { IfOk result (λ text. text ≡ between before.now after.now word.now) }
 {
-    let room = (before.len() + behind.len()).saturating_add(word.len());
+    let room = (before.len() + after.len()).saturating_add(word.len());
     let mut text = Vec::with_capacity(alloc, room)?;
     text.extend_from_slice(before)?;
     text.extend_from_slice(word)?;
-    text.extend_from_slice(behind)?;
+    text.extend_from_slice(after)?;
     Ok(Word::from_vec(text))
 }
 
@@ -31,13 +31,13 @@ fn push_all(
     alloc: Global,
     list: &mut Listing<Word>,
     before: &[u8],
-    behind: &[u8],
+    after: &[u8],
     words: &[Word],
 ) -> Result<(), AllocError>
-    ensures { OnOk result (list.new ≡ list.old ++ map (between before.now behind.now) words.now) }
+    ensures { OnOk result (list.new ≡ list.old ++ map (between before.now after.now) words.now) }
 {
     for word in words {
-        list.push(between(alloc, before, behind, word.as_bytes())?)?;
+        list.push(between(alloc, before, after, word.as_bytes())?)?;
     }
     Ok(())
 }

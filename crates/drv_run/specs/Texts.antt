@@ -23,7 +23,7 @@ use Rattle.std.specs.Prelude.{◌++◌, List, codes, decimal, ℕ}
 
 -- a word between the bytes before and after it
 abbrev pub around : List ℕ → List ℕ → List ℕ → List ℕ
-around before word behind = before ++ word ++ behind
+around before word after = before ++ word ++ after
 
 abbrev pub args_text : ArgsFault → List ℕ
 args_text args_fault.Memory = codes "out of memory"

@@ -38,7 +38,7 @@ fn is_c99(args: &[Word]) -> bool
 /// The front that is selected, and the arguments after what selects it. It takes no memory.
 fn cut_front(args: Listing<Word>) -> (Front, Listing<Word>)
     ensures front { is_of_c99 result.0 ≡ is_c99 args }
-    ensures behind { result.1 ≡ after_c99 args }
+    ensures following { result.1 ≡ after_c99 args }
 {
     if is_c99(args.as_slice()) {
         let mut words = args.into_vec();

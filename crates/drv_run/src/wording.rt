@@ -22,12 +22,12 @@ use std::alloc::{AllocError, Global};
 const MEMORY: &[u8] = b"out of memory";
 
 /// Adds a word between two texts.
-fn push_around(line: &mut Word, before: &[u8], word: &Word, behind: &[u8]) -> Result<(), AllocError>
-    ensures { OnOk result (line.new ≡ line.old ++ around before.now word.now behind.now) }
+fn push_around(line: &mut Word, before: &[u8], word: &Word, after: &[u8]) -> Result<(), AllocError>
+    ensures { OnOk result (line.new ≡ line.old ++ around before.now word.now after.now) }
 {
     line.extend_from_slice(before)?;
     line.extend_from_slice(word.as_bytes())?;
-    line.extend_from_slice(behind)
+    line.extend_from_slice(after)
 }
 
 /// Adds two texts.

@@ -16,10 +16,10 @@ prefix_asked F dir prefix kind bare known is = rw (bare, known, is) refl
 abbrev pub after_prefixes : List (List ℕ) → Known (List (List ℕ)) → Known (List (List ℕ))
 after_prefixes done others = others >>= λ prefixes. Is (done ++ prefixes)
 
-behind_more : (done after : List (List ℕ)) (prefix : List ℕ) (others : Known (List (List ℕ))) → after ≡ done ++ prefix ∷ []
+following_more : (done after : List (List ℕ)) (prefix : List ℕ) (others : Known (List (List ℕ))) → after ≡ done ++ prefix ∷ []
     → after_prefixes after others ≡ after_prefixes done (others >>= λ prefixes. Is (prefix ∷ prefixes))
-behind_more done after prefix Unasked is = refl
-behind_more done after prefix (Is prefixes) is = rw (is, append_assoc) refl
+following_more done after prefix Unasked is = refl
+following_more done after prefix (Is prefixes) is = rw (is, append_assoc) refl
 
 -- one prefix more
 pub prefix_more : (F : Facts) (dirs : List (List ℕ)) (i : ℕ) (dir prefix : List ℕ) (done after : List (List ℕ))
@@ -27,7 +27,7 @@ pub prefix_more : (F : Facts) (dirs : List (List ℕ)) (i : ℕ) (dir prefix : L
     → after_prefixes done (given_of F (drop i dirs)) ≡ given_of F dirs
     → after_prefixes after (given_of F (drop (i + 1) dirs)) ≡ given_of F dirs
 prefix_more F dirs i dir prefix done after below here is grown so_far =
-    behind_more done after prefix (given_of F (drop (i + 1) dirs)) grown
+    following_more done after prefix (given_of F (drop (i + 1) dirs)) grown
     ∙ ap (after_prefixes done) (sym (
     ap (given_of F) (drop_more dirs i dir below ∙ ap (λ d. d ∷ drop (i + 1) dirs) (sym here))
     ∙ ap (λ known. known >>= λ p. given_of F (drop (i + 1) dirs) >>= λ ps. Is (p ∷ ps)) is))

@@ -28,12 +28,12 @@ options_by F folder folders others (Some kind) later = rw later (by (options_for
     by Unasked second = refl
     by (Is options) second = after_append (option_for folder kind) options second
 
-behind_none : (others : Known (List (List ℕ))) → after_options [] others ≡ others
-behind_none Unasked = refl
-behind_none (Is options) = refl
+following_none : (others : Known (List (List ℕ))) → after_options [] others ≡ others
+following_none Unasked = refl
+following_none (Is options) = refl
 
 pub options-append : (F : Facts) (folders others : List (List ℕ)) → options_for F (folders ++ others) ≡ (options_for F folders >>= λ options. after_options options (options_for F others))
-options-append F [] others = sym (behind_none (options_for F others))
+options-append F [] others = sym (following_none (options_for F others))
 options-append F (folder ∷ folders) others = options_by F folder folders others (kind_of F folder) (options-append F folders others)
 
 -- the options of some folders more

@@ -81,9 +81,9 @@ begun n b line text lines begins read cut true keys is key =
 begun n b line text lines begins read cut false true is key =
     (by_keyword n (percent ∷ text) (words_of (percent ∷ text)) ∷ (read (n + 1)).0, keyword (begins ∙ ap (λ c. c ∷ text) (eqb-true b percent key)) (read (n + 1)).1)
 begun n b line text lines begins read cut false false is key =
-    let behind = cut.read (n + 1 + length cut.body) in
-    let directives : List Directive = by_colon n (b ∷ text) cut.body (position is_colon (b ∷ text)) ∷ behind.0 in
-    (directives, subst (λ ls. Reads n (line ∷ ls) directives) cut.parts (entry cut.body begins is key cut.full cut.ends behind.1))
+    let following = cut.read (n + 1 + length cut.body) in
+    let directives : List Directive = by_colon n (b ∷ text) cut.body (position is_colon (b ∷ text)) ∷ following.0 in
+    (directives, subst (λ ls. Reads n (line ∷ ls) directives) cut.parts (entry cut.body begins is key cut.full cut.ends following.1))
 
 full_read : (n : ℕ) (line : List ℕ) (lines : List (List ℕ)) → is_empty_line line ≡ false → AreRead lines → Cut lines → (directives : List Directive) × Reads n (line ∷ lines) directives
 full_read n line lines is read cut = by (without_front is_blank line) refl
@@ -97,18 +97,18 @@ are_read [] = (λ n. ([], no_lines), record { body = []; rest = []; parts = refl
 are_read (line ∷ lines) = by (is_empty_line line) refl (are_read lines)
   where
     by : (e : Bool) → is_empty_line line ≡ e → AreRead lines × Cut lines → AreRead (line ∷ lines) × Cut (line ∷ lines)
-    by true is behind =
-        let read : AreRead (line ∷ lines) = λ n. ((behind.0 (n + 1)).0, empty is (behind.0 (n + 1)).1) in
+    by true is following =
+        let read : AreRead (line ∷ lines) = λ n. ((following.0 (n + 1)).0, empty is (following.0 (n + 1)).1) in
         (read, record { body = []; rest = line ∷ lines; parts = refl; full = refl; ends = at_empty is; read = read })
-    by false is behind = (
-      λ n. full_read n line lines is behind.0 behind.1,
+    by false is following = (
+      λ n. full_read n line lines is following.0 following.1,
       record {
-        body = line ∷ behind.1.body;
-        rest = behind.1.rest;
-        parts = ap (λ ls. line ∷ ls) behind.1.parts;
-        full = ap (λ e. not e && list_all is_full_line behind.1.body) is ∙ behind.1.full;
-        ends = behind.1.ends;
-        read = behind.1.read;
+        body = line ∷ following.1.body;
+        rest = following.1.rest;
+        parts = ap (λ ls. line ∷ ls) following.1.parts;
+        full = ap (λ e. not e && list_all is_full_line following.1.body) is ∙ following.1.full;
+        ends = following.1.ends;
+        read = following.1.read;
       },
     )
 

@@ -21,12 +21,12 @@ use Rattle.std.specs.Prelude.{None, Option, Some, get_or, slice_index}
 -- Directives read from slices of a settled text.
 
 -- a line, and what stands after it
-pub lines_cut : (line : List ℕ) (behind : Option (List ℕ)) → list_all (λ b. not (ends_line b)) line ≡ true → lines_of (line ++ bytes_from behind) ≡ line ∷ lines_from behind
+pub lines_cut : (line : List ℕ) (following : Option (List ℕ)) → list_all (λ b. not (ends_line b)) line ≡ true → lines_of (line ++ bytes_from following) ≡ line ∷ lines_from following
 lines_cut line None is = ap lines_of (append-nil line) ∙ one_piece line [] is
 lines_cut line (Some text) is = pieces_then line [] text ∙ ap (λ ls. ls ++ lines_of text) (one_piece line [] is)
 
-pub lines_are : (text line : List ℕ) (behind : Option (List ℕ)) → text ≡ line ++ bytes_from behind → list_all (λ b. not (ends_line b)) line ≡ true → lines_of text ≡ line ∷ lines_from behind
-lines_are text line behind whole is = ap lines_of whole ∙ lines_cut line behind is
+pub lines_are : (text line : List ℕ) (following : Option (List ℕ)) → text ≡ line ++ bytes_from following → list_all (λ b. not (ends_line b)) line ≡ true → lines_of text ≡ line ∷ lines_from following
+lines_are text line following whole is = ap lines_of whole ∙ lines_cut line following is
 
 -- where no line of a body comes next
 pub body_over : (line : List ℕ) (lines : List (List ℕ)) → is_empty_line line ≡ true → body_lines (line ∷ lines) ≡ []
@@ -102,9 +102,9 @@ tail_is text line rest bytes whole h =
 clean_end : (line rest : List ℕ) → list_all (λ b. not (ends_line b)) line ≡ true → Ends line rest → list_all (λ b. not (ends_line b)) rest ≡ true
 clean_end line rest is h = and_second (list_all (λ b. not (ends_line b)) h.0) _ (sym (list_all-append (λ b. not (ends_line b)) h.0 rest) ∙ ap (list_all (λ b. not (ends_line b))) (sym h.1) ∙ is)
 
-pub tail_lines : (tail line rest : List ℕ) (behind : Option (List ℕ)) → tail ≡ rest ++ bytes_from behind → list_all (λ b. not (ends_line b)) line ≡ true → Ends line rest
-    → lines_of tail ≡ rest ∷ lines_from behind
-tail_lines tail line rest behind is clean h = lines_are tail rest behind is (clean_end line rest clean h)
+pub tail_lines : (tail line rest : List ℕ) (following : Option (List ℕ)) → tail ≡ rest ++ bytes_from following → list_all (λ b. not (ends_line b)) line ≡ true → Ends line rest
+    → lines_of tail ≡ rest ∷ lines_from following
+tail_lines tail line rest following is clean h = lines_are tail rest following is (clean_end line rest clean h)
 
 -- what stands after the blanks at the front of a text is no empty line
 full_front : (text : List ℕ) → has_byte (without_front is_blank text) ≡ true → is_empty_line (without_front is_blank text) ≡ false
@@ -149,27 +149,27 @@ start_other : (n : ℕ) (start : List ℕ) (lines : List (List ℕ)) → is_pass
 start_other n [] lines is key = absurd cc
 start_other n (b ∷ start) lines is key = rw is (rw key refl)
 
-module _ (n : ℕ) (text line start : List ℕ) (behind : Option (List ℕ)) (whole : text ≡ line ++ bytes_from behind) (clean : list_all (λ b. not (ends_line b)) line ≡ true)
+module _ (n : ℕ) (text line start : List ℕ) (following : Option (List ℕ)) (whole : text ≡ line ++ bytes_from following) (clean : list_all (λ b. not (ends_line b)) line ≡ true)
     (is : start ≡ without_front is_blank line) where
-  by_start : (s : Start) → start_of n start (lines_from behind) ≡ s → read_lines false n (lines_of text) ≡ directive_in s ++ read_lines (opens_body s) (n + 1) (lines_from behind)
+  by_start : (s : Start) → start_of n start (lines_from following) ≡ s → read_lines false n (lines_of text) ≡ directive_in s ++ read_lines (opens_body s) (n + 1) (lines_from following)
   by_start s starts =
-      ap (read_lines false n) (lines_are text line behind whole clean) ∙ line_begins n line (lines_from behind)
-      ∙ ap (λ s'. directive_in s' ++ read_lines (opens_body s') (n + 1) (lines_from behind)) (ap (λ l. start_of n l (lines_from behind)) (sym is) ∙ starts)
+      ap (read_lines false n) (lines_are text line following whole clean) ∙ line_begins n line (lines_from following)
+      ∙ ap (λ s'. directive_in s' ++ read_lines (opens_body s') (n + 1) (lines_from following)) (ap (λ l. start_of n l (lines_from following)) (sym is) ∙ starts)
 
-  pub begins_none : is_passed start ≡ true → read_lines false n (lines_of text) ≡ read_lines false (n + 1) (lines_from behind)
-  begins_none passed = by_start Passed (start_passed n start (lines_from behind) passed)
+  pub begins_none : is_passed start ≡ true → read_lines false n (lines_of text) ≡ read_lines false (n + 1) (lines_from following)
+  begins_none passed = by_start Passed (start_passed n start (lines_from following) passed)
 
   pub begins_keyword : (directive : Directive) → is_passed start ≡ false → is_keyword start ≡ true → directive ≡ by_keyword n start (words_of start)
-      → read_lines false n (lines_of text) ≡ directive ∷ read_lines false (n + 1) (lines_from behind)
+      → read_lines false n (lines_of text) ≡ directive ∷ read_lines false (n + 1) (lines_from following)
   begins_keyword directive passed key same =
-      by_start (Alone (by_keyword n start (words_of start))) (start_keyword n start (lines_from behind) passed key) ∙ ap (λ d. d ∷ read_lines false (n + 1) (lines_from behind)) (sym same)
+      by_start (Alone (by_keyword n start (words_of start))) (start_keyword n start (lines_from following) passed key) ∙ ap (λ d. d ∷ read_lines false (n + 1) (lines_from following)) (sym same)
 
   pub begins_body : (directives left : List Directive) → is_passed start ≡ false → is_keyword start ≡ false
-      → directives ≡ by_colon n start (lines_from behind) (position is_colon start) ∷ [] → read_lines true (n + 1) (lines_from behind) ≡ left
+      → directives ≡ by_colon n start (lines_from following) (position is_colon start) ∷ [] → read_lines true (n + 1) (lines_from following) ≡ left
       → read_lines false n (lines_of text) ≡ directives ++ left
   begins_body directives left passed key same rest =
-      by_start (WithBody (by_colon n start (lines_from behind) (position is_colon start))) (start_other n start (lines_from behind) passed key)
-      ∙ ap (λ l. by_colon n start (lines_from behind) (position is_colon start) ∷ l) rest ∙ ap (λ ds. ds ++ left) (sym same)
+      by_start (WithBody (by_colon n start (lines_from following) (position is_colon start))) (start_other n start (lines_from following) passed key)
+      ∙ ap (λ l. by_colon n start (lines_from following) (position is_colon start) ∷ l) rest ∙ ap (λ ds. ds ++ left) (sym same)
 
 -- where the colon stands
 same_not : (n : ℕ) → nat_lt n n ≡ false

@@ -63,7 +63,7 @@ pub(crate) fn without_blanks(text: &[u8]) -> &[u8]
     ensures within { length result.now ≤ length text.now }
 {
     let stays = first_solid(text).unwrap_or(text.len());
-    behind(text, stays)
+    following(text, stays)
 }
 
 /// A text without the white space at its front.
@@ -71,7 +71,7 @@ pub(crate) fn without_white(text: &[u8]) -> &[u8]
     ensures { result.now ≡ without_front is_white text.now }
 {
     let stays = first_black(text).unwrap_or(text.len());
-    behind(text, stays)
+    following(text, stays)
 }
 
 /// A text without its first byte.
@@ -85,7 +85,7 @@ pub(crate) fn without_first(text: &[u8]) -> &[u8]
 }
 
 /// A text after so many bytes.
-pub(crate) fn behind(text: &[u8], count: usize) -> &[u8]
+pub(crate) fn following(text: &[u8], count: usize) -> &[u8]
     ensures { result.now ≡ drop count text.now }
 {
     if count <= text.len() {

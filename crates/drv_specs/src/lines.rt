@@ -10,7 +10,7 @@ ghost use Rattle.std.specs.Option.{option_map};
 ghost use Rattle.std.specs.Prelude.{◌≡◌, ◌<◌, ◌≤◌, ◌^◌, ◌+◌, ◌∷◌, ◌++◌, [], IfNone, IfSome, drop};
 ghost use Rattle.std.specs.Prelude.{false, length, not, take, true, ℕ};
 
-use crate::bytes::{behind, has_byte, is_empty_line, without_blanks};
+use crate::bytes::{following, has_byte, is_empty_line, without_blanks};
 use bstr::ByteSlice;
 
 /// The lines of a text that are left: what the first begins, if there is one, and its number.
@@ -31,7 +31,7 @@ pub(crate) struct Body<'a> {
 #[tactic(auto, using(crate::proofs::Found::line_found, crate::proofs::Found::line_clean, crate::proofs::Found::line_alone))]
 pub(crate) fn cut_line(text: &[u8]) -> (&[u8], Option<&[u8]>)
     ensures whole { text.now
-        ≡ result.0.now ++ bytes_from (option_map (λ behind. behind.now) result.1) }
+        ≡ result.0.now ++ bytes_from (option_map (λ following. following.now) result.1) }
     ensures line { list_all (λ b. not (ends_line b)) result.0.now ≡ true }
 {
     match text.find_byte(b'\n') {
@@ -56,7 +56,7 @@ fn full_line<'a>(lines: Lines<'a>) -> Option<(&'a [u8], Lines<'a>)>
     let Some(text) = lines.text else {
         return None;
     };
-    let (line, behind) = cut_line(text);
+    let (line, following) = cut_line(text);
     if is_empty_line(line) {
         return None;
     }
@@ -64,7 +64,7 @@ fn full_line<'a>(lines: Lines<'a>) -> Option<(&'a [u8], Lines<'a>)>
     Some((
         line,
         Lines {
-            text: behind,
+            text: following,
             number,
         },
     ))
@@ -94,9 +94,9 @@ pub(crate) fn cut_body<'a>(lines: Lines<'a>) -> Body<'a>
 {
     let mut left = lines;
     let mut size = 0;
-    while let Some((line, behind)) = full_line(left) {
+    while let Some((line, following)) = full_line(left) {
         size += 1 + line.len();
-        left = behind;
+        left = following;
     }
     Body {
         text: front(lines.text, size),
@@ -114,7 +114,7 @@ pub(crate) fn next_word(text: &[u8]) -> Option<(&[u8], &[u8])>
         return None;
     }
     match text.find_byteset(b" \t") {
-        Some(at) => Some((&text[..at], behind(text, at))),
+        Some(at) => Some((&text[..at], following(text, at))),
         None => Some((text, &[])),
     }
 }

@@ -9,7 +9,7 @@ ghost use Rattle.std.specs.List.{list_all, position};
 ghost use Rattle.std.specs.Prelude.{◌≡◌, ◌<◌, ◌≤◌, ◌^◌, ◌+◌, ◌-◌, ◌∷◌, ◌++◌, [], IfNone, false};
 ghost use Rattle.std.specs.Prelude.{length, not, true};
 
-use crate::bytes::{behind, has_byte, trimmed, without_blanks, without_last};
+use crate::bytes::{following, has_byte, trimmed, without_blanks, without_last};
 use crate::directive::{Directive, IfMissing};
 use crate::lines::{Lines, cut_body, cut_line, next_word};
 use bstr::ByteSlice;
@@ -71,7 +71,7 @@ fn by_keyword<'a>(number: usize, line: &'a [u8]) -> Directive<'a>
     if word == b"%rename".as_slice() {
         return renamed(number, words);
     }
-    let rest = trimmed(behind(line, word.len()));
+    let rest = trimmed(following(line, word.len()));
     if word == b"%include".as_slice() {
         return included(number, IfMissing::Refuse, rest);
     }
@@ -101,7 +101,7 @@ fn body_start<'a>(text: &'a [u8], line: &[u8], value: &[u8], lines: Lines<'a>) -
         return lines;
     }
     Lines {
-        text: Some(behind(text, line.len() - rest.len())),
+        text: Some(following(text, line.len() - rest.len())),
         number: lines.number - 1,
     }
 }
@@ -128,7 +128,7 @@ fn with_colon<'a>(text: &'a [u8], line: &[u8], start: &'a [u8], lines: Lines<'a>
             left: cut_body(lines).left,
         };
     };
-    let value = behind(start, at + 1);
+    let value = following(start, at + 1);
     let body = cut_body(body_start(text, line, value, lines));
     Begun {
         directive: Some(by_key(&start[..at], body.text)),
@@ -158,9 +158,9 @@ fn begin<'a>(number: usize, text: &'a [u8]) -> Begun<'a>
     ensures room { result.left.number + size_left result.left ≤ number + 1 + length text.now }
     ensures fewer { size_left result.left ≤ length text.now }
 {
-    let (line, behind) = cut_line(text);
+    let (line, following) = cut_line(text);
     let left = Lines {
-        text: behind,
+        text: following,
         number: number + 1,
     };
     let start = without_blanks(line);

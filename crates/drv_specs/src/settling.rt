@@ -6,7 +6,7 @@ ghost use Rattle.drv_specs.specs.Code.Slices.{settled_onto};
 ghost use Rattle.std.specs.List.{ends_with};
 ghost use Rattle.std.specs.Prelude.{◌≡◌, ◌∷◌, [], IfOk, OnOk, nat_eq};
 
-use crate::bytes::behind;
+use crate::bytes::following;
 use bstr::ByteSlice;
 use std::alloc::{AllocError, Global};
 
@@ -43,7 +43,7 @@ pub(crate) fn settled(alloc: Global, text: &[u8]) -> Result<Vec<u8>, AllocError>
     while let Some(at) = rest.find_byteset(b"\r\n") {
         left.extend_from_slice(&rest[..at])?;
         settle_onto(&mut left, rest[at])?;
-        rest = behind(rest, at + 1);
+        rest = following(rest, at + 1);
     }
     left.extend_from_slice(rest)?;
     Ok(left)

@@ -7,7 +7,7 @@ use Rattle.drv_syntax.specs.Code.Turns.{after_pattern}
 use Rattle.drv_syntax.specs.Labels.{no_label}
 use Rattle.drv_syntax.specs.declared.directives.BraceKind.TheVariants as braces
 use Rattle.drv_syntax.specs.declared.directives.BraceKind.{BraceKind}
-use Rattle.drv_syntax.specs.declared.reader.stages.Behind.TheVariants as behinds
+use Rattle.drv_syntax.specs.declared.reader.stages.Operand.TheVariants as operands
 use Rattle.drv_syntax.specs.declared.reader.stages.HeadForm.TheVariants as forms
 use Rattle.drv_syntax.specs.declared.reader.stages.HeadStage.TheVariants as places
 use Rattle.drv_syntax.specs.declared.reader.stages.Stage.TheVariants.{Braces}
@@ -48,7 +48,7 @@ closed_tokens kind ts at n end =
 -- the braces end after the pattern
 module _ (kind : BraceKind) (v : ReaderState) (at n end : ℕ) (starred : Bool) (word : List ℕ) where
   abbrev filled : List Token → ReaderState
-  filled ts = after_item v.context (end + 1) (record v { tokens = ts; labels = (v.labels ++ no_label ∷ []) ++ after_pattern (behinds.Switch n end false starred) word ∷ [] })
+  filled ts = after_item v.context (end + 1) (record v { tokens = ts; labels = (v.labels ++ no_label ∷ []) ++ after_pattern (operands.Switch n end false starred) word ∷ [] })
 
   filled_is : walked (filled (slice_set ((v.tokens ++ opened kind at ∷ []) ++ pattern n end (length (v.tokens ++ opened kind at ∷ []) + 1) ∷ []) (length v.tokens) (emitted kind at (end + 1) (length ((v.tokens ++ opened kind at ∷ []) ++ pattern n end (length (v.tokens ++ opened kind at ∷ []) + 1) ∷ [])))))
       ≡ walked (with_filled kind at n end starred word v)
@@ -98,14 +98,14 @@ module _ (kind : BraceKind) (v u : ReaderState) (at k n : ℕ) (text word : List
       last : (k + 1 + 1 ≤ length text) × (pass (open_braces at kind v) n text ≡ pass u (n + (k + 1 + 1)) (drop (k + 1 + 1) text))
       last = run_steps (open_braces at kind v) starred n (k + 1) 125 text inside (sym end) first.1 u (ended ∙ d)
 
--- a colon behind it
+-- a colon after it
 pub word_asks : (v u : ReaderState) (at k n : ℕ) (text word : List ℕ) → (is_word (get_or text 0 0) && not (is_mark (get_or text 0 0))) ≡ true → k ≡ prefix_len is_word text → word ≡ take k text
     → k < length text → get_or text k 0 ≡ 58 → walked (with_asked at n (n + k) false word v) ≡ walked u
     → (k + 1 ≤ length text) × (pass (open_braces at braces.InPlace v) n text ≡ pass u (n + (k + 1)) (drop (k + 1) text))
 word_asks v u at k n text word begins size is inside end d =
     run_steps (open_braces at braces.InPlace v) (worded braces.InPlace v u at k n text word begins size is) n k 58 text inside (sym end) (word_taken braces.InPlace v u at k n text word begins size is) u d
 
--- a ! before the word, and a colon behind it
+-- a ! before the word, and a colon after it
 module _ (v u : ReaderState) (at k n : ℕ) (text rest word : List ℕ) (some : 0 < length text) (mark : get_or text 0 0 ≡ 33) (is_rest : rest ≡ drop 1 text)
     (begins : (is_word (get_or rest 0 0) && not (is_mark (get_or rest 0 0))) ≡ true) (size : k ≡ prefix_len is_word rest) (is : word ≡ take k rest) where
   abbrev marked : ReaderState

@@ -45,7 +45,7 @@ head c past at kind cs before = choosing (list c past) at kind cs before
 -- what goes on from a colon or a bar after tests
 abbrev Then : List Waiting → Here → ℕ → BraceKind → Choices → Tests → ℕ → List ℕ → List Waiting → (ℕ → Place) → List ℕ → Type 0
 Then ws here at kind cs all size end vs q rest = (m : ℕ) (middle : Tests) (patterns : Option (List (Span × Pattern))) → At size m end
-    → Leads ws (o.BehindTest (choosing here at kind cs middle) patterns (Some all) false) m end vs q rest
+    → Leads ws (o.AfterTest (choosing here at kind cs middle) patterns (Some all) false) m end vs q rest
 
 -- a ! or none, and what the test asks
 pub sign_read : {size : ℕ} {u v w : List ℕ} {negated : Bool} {ws : List Waiting} (h : Head) (asked : Asked) → IsSign u negated v
@@ -87,7 +87,7 @@ mutual
   item_read {size} {c} (s.directive {b} {text} e d) ws past n a = goes refl (directive_read b e refl d ws past n (n + 1) (omega arith))
 
   directive_read : {size : ℕ} {c : ListContext} {f : Directive} {text rest : List ℕ} {item : Item} (b : ℕ) → is_allowed c.in_arguments b ≡ true → directive_of b ≡ f → IsDirective size c f text item rest
-      → (ws : List Waiting) (past : Items) (at n : ℕ) → At size n (b ∷ text) → Leads ws (o.BehindPercent (list c past) at) n (b ∷ text) ws (λ m. o.AtItem (placed (list c past) at m item)) rest
+      → (ws : List Waiting) (past : Items) (at n : ℕ) → At size n (b ∷ text) → Leads ws (o.AfterPercent (list c past) at) n (b ∷ text) ws (λ m. o.AtItem (placed (list c past) at m item)) rest
   directive_read b e f s.whole ws past at n a = one (rw (e, f) refl)
   directive_read b e f s.named ws past at n a = one (rw (e, f) refl)
   directive_read {c = c} b e f (s.temp_name {kind} q) ws past at n a = goes (rw (e, f) refl) (suffix_read ws (list c past) at kind (n + 1) q)
@@ -96,7 +96,7 @@ mutual
   directive_read {c = c} b e f (s.named_text q h) ws past at n a = goes (rw (e, f) refl) (and_then (name_text ws (list c past) at [] (n + 1) q h) (λ m g. one refl))
   directive_read {c = c} b e f (s.hide q) ws past at n a = goes (rw (e, f) refl) (hide_read ws (list c past) at (n + 1) q)
   directive_read {c = c} b e f (s.star g) ws past at n a =
-      let h : turn (o.BehindPercent (list c past) at) n b ≡ o.turn_star (list c past) at (n + 1) c.owner = rw (e, f) refl in
+      let h : turn (o.AfterPercent (list c past) at) n b ≡ o.turn_star (list c past) at (n + 1) c.owner = rw (e, f) refl in
       one (h ∙ ap (o.turn_star (list c past) at (n + 1)) g)
   directive_read {size} {c} b e f (s.function (s.call {text} {name} {rest} {arguments} lv fn d)) ws past at n a =
       goes (rw (e, f, lv) refl) (and_then (name_read at (o.FunctionName (list c past) at) (λ w. Opens (list_in (in_arguments c)) (WaitsCall (list c past) at w)) (λ w k x. refl) ws [] name (n + 1) text fn)
@@ -175,7 +175,7 @@ mutual
       (tests_read ds e ws past at kind cs (join_tests before (test (span i j) negated asked no_test)) (o.TestDue (head c past at kind cs (join_tests before (test (span i j) negated asked no_test))))
       (due_space (head c past at kind cs (join_tests before (test (span i j) negated asked no_test))))
       (due_asks (head c past at kind cs (join_tests before (test (span i j) negated asked no_test)))) (λ _. refl) (z + 1) (omega (arith, b, g, h))
-      (λ m middle patterns r. subst (λ (y : Tests). Leads ws (o.BehindTest (choosing (list c past) at kind cs middle) patterns (Some y) false) m end vs q last)
+      (λ m middle patterns r. subst (λ (y : Tests). Leads ws (o.AfterTest (choosing (list c past) at kind cs middle) patterns (Some y) false) m end vs q last)
       (sym (join_tests_assoc before (test (span i j) negated asked no_test) tests)) (k m middle patterns r))))))
 
   pub asked_leads : {size : ℕ} {c c' : ListContext} {v w : List ℕ} {asked : Asked} {p : Place} {n start : ℕ} {negated : Bool} → IsAsked size c' v asked w → in_braces c ≡ c' → (ws : List Waiting) (past : Items)

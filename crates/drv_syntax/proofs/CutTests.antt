@@ -118,13 +118,13 @@ module _ (size : ℕ) (K : Outside) (ending : (c : ListContext) (all : Items) (r
   -- after a test
 
   colon_cut : (h : Head) (ps : Option (List (Span × Pattern))) (ts : Option Tests) (bare : Bool) (n : ℕ) (text : List ℕ) → At size n (58 ∷ text) → CutAfter size K 58 text (o.turn_colon h ts bare n)
-      → Wanted size K (o.BehindTest h ps ts bare) (58 ∷ text) ⊎ Cut size (o.BehindTest h ps ts bare) (58 ∷ text)
+      → Wanted size K (o.AfterTest h ps ts bare) (58 ∷ text) ⊎ Cut size (o.AfterTest h ps ts bare) (58 ∷ text)
   colon_cut h ps None bare n text a g = absurd g
   colon_cut h ps (Some tests) bare n text a g = by (opened_list size K ending (WaitsX (with_tests h tests) n) (in_x (in_braces h.here.context) tests) text g)
     where
       by : WantsList size (Inside size K (WaitsX (with_tests h tests) n)) (record { context = in_x (in_braces h.here.context) tests; done = none }) text
           ⊎ InsideCut size (WaitsX (with_tests h tests) n) (in_x (in_braces h.here.context) tests) text
-          → Wanted size K (o.BehindTest h ps (Some tests) bare) (58 ∷ text) ⊎ Cut size (o.BehindTest h ps (Some tests) bare) (58 ∷ text)
+          → Wanted size K (o.AfterTest h ps (Some tests) bare) (58 ∷ text) ⊎ Cut size (o.AfterTest h ps (Some tests) bare) (58 ∷ text)
       by (inl l) = inl (after_row size K h ps (Some tests) bare n 58 text a l)
       by (inr c) = inr (λ f. inr (inl (
         no_test,
@@ -142,17 +142,17 @@ module _ (size : ℕ) (K : Outside) (ending : (c : ListContext) (all : Items) (r
   brace_none h (Some ps) n b text g = absurd g
   brace_none h None n b text g = absurd g
 
-  and_cut : (h : Head) (ps : Option (List (Span × Pattern))) (ts : Option Tests) (bare : Bool) (b : ℕ) (text : List ℕ) → b ≡ 38 → CutAfter size K b text (o.turn_and h ps) → Cut size (o.BehindTest h ps ts bare) (b ∷ text)
+  and_cut : (h : Head) (ps : Option (List (Span × Pattern))) (ts : Option Tests) (bare : Bool) (b : ℕ) (text : List ℕ) → b ≡ 38 → CutAfter size K b text (o.turn_and h ps) → Cut size (o.AfterTest h ps ts bare) (b ∷ text)
   and_cut h (Some ps) ts bare b text e g f = rw e (inl (inr (text, s.no_space, g f.0)))
   and_cut h None ts bare b text e g f = absurd g
 
   bars_cut : (h : Head) (ps : Option (List (Span × Pattern))) (ts : Option Tests) (bare : Bool) (b : ℕ) (text : List ℕ) → b ≡ 124 → CutAfter size K b text (o.turn_bar h ts bare)
-      → Cut size (o.BehindTest h ps ts bare) (b ∷ text)
+      → Cut size (o.AfterTest h ps ts bare) (b ∷ text)
   bars_cut h ps (Some tests) bare b text e g f = rw e (inr (bar_cut h tests text f.1.1 (g f.1.0)))
   bars_cut h ps None bare b text e g f = absurd g
 
   pub after_cut_row : (h : Head) (ps : Option (List (Span × Pattern))) (ts : Option Tests) (bare : Bool) (n b : ℕ) (text : List ℕ) → At size n (b ∷ text)
-      → CutAfter size K b text (o.turn_after h ps ts bare n b) → Wanted size K (o.BehindTest h ps ts bare) (b ∷ text) ⊎ Cut size (o.BehindTest h ps ts bare) (b ∷ text)
+      → CutAfter size K b text (o.turn_after h ps ts bare n b) → Wanted size K (o.AfterTest h ps ts bare) (b ∷ text) ⊎ Cut size (o.AfterTest h ps ts bare) (b ∷ text)
   after_cut_row h ps ts bare n b text a g =
       when (CutAfter size K b text) (is_white b) _ _ g (λ e g. inr (λ f. space_cut size h b text ps ts e (g f))) (λ e1 g.
       when (CutAfter size K b text) (b == 125) _ _ g (λ e g. brace_none h ps n b text g) (λ e2 g.
@@ -194,8 +194,8 @@ module _ (size : ℕ) (K : Outside) (ending : (c : ListContext) (all : Items) (r
       (after_cut_row h (emitted h begun n negated (pattern word false)) (tested h begun n negated (HasSwitch (pattern word false))) false n b text a g))))
     where
       by : (b == 92) ≡ false → is_word b ≡ false → (b == 42) ≡ false
-          → Wanted size K (o.BehindTest h (emitted h begun n negated (pattern word false)) (tested h begun n negated (HasSwitch (pattern word false))) false) (b ∷ text)
-          ⊎ Cut size (o.BehindTest h (emitted h begun n negated (pattern word false)) (tested h begun n negated (HasSwitch (pattern word false))) false) (b ∷ text)
+          → Wanted size K (o.AfterTest h (emitted h begun n negated (pattern word false)) (tested h begun n negated (HasSwitch (pattern word false))) false) (b ∷ text)
+          ⊎ Cut size (o.AfterTest h (emitted h begun n negated (pattern word false)) (tested h begun n negated (HasSwitch (pattern word false))) false) (b ∷ text)
           → Wanted size K (o.TestWord h begun negated word) (b ∷ text) ⊎ Cut size (o.TestWord h begun negated word) (b ∷ text)
       by e1 e2 e3 (inl g) = inl (
         pattern (word ++ []) false,
@@ -259,8 +259,8 @@ module _ (size : ℕ) (K : Outside) (ending : (c : ListContext) (all : Items) (r
       (after_cut_row h (emitted h begun n negated (pattern (mark ∷ word) false)) (tested h begun n negated (o.marked mark word)) false n b text a g))))
     where
       by : (b == 92) ≡ false → is_word b ≡ false → (b == 42) ≡ false
-          → Wanted size K (o.BehindTest h (emitted h begun n negated (pattern (mark ∷ word) false)) (tested h begun n negated (o.marked mark word)) false) (b ∷ text)
-          ⊎ Cut size (o.BehindTest h (emitted h begun n negated (pattern (mark ∷ word) false)) (tested h begun n negated (o.marked mark word)) false) (b ∷ text)
+          → Wanted size K (o.AfterTest h (emitted h begun n negated (pattern (mark ∷ word) false)) (tested h begun n negated (o.marked mark word)) false) (b ∷ text)
+          ⊎ Cut size (o.AfterTest h (emitted h begun n negated (pattern (mark ∷ word) false)) (tested h begun n negated (o.marked mark word)) false) (b ∷ text)
           → Wanted size K (o.MarkedWord h begun negated mark word) (b ∷ text) ⊎ Cut size (o.MarkedWord h begun negated mark word) (b ∷ text)
       by e1 e2 e3 (inl g) = inl (
         [],

@@ -107,10 +107,10 @@ module _ (size : ℕ) where
       ⊎ starred_cut h begun negated mark [] text))
 
   abbrev pub call_cut : ListContext → List ℕ → List ℕ → (List ℕ → Items → List ℕ → Type 0) → Type 0
-  call_cut c name text behind =
+  call_cut c name text following =
       (is_function_front (name ++ text) ≡ true)
       ⊎ ((others : List ℕ) × (mid : List ℕ) × (text ≡ others ++ 40 ∷ mid) × (is_function (name ++ others) ≡ true)
-      × (AreFrontItems size (in_arguments c) mid ⊎ ((arguments : Items) × (rest : List ℕ) × AreItems size (in_arguments c) mid arguments (41 ∷ rest) × behind (name ++ others) arguments rest)))
+      × (AreFrontItems size (in_arguments c) mid ⊎ ((arguments : Items) × (rest : List ℕ) × AreItems size (in_arguments c) mid arguments (41 ∷ rest) × following (name ++ others) arguments rest)))
 
   abbrev pub test_call_cut : Head → ℕ → Bool → List ℕ → List ℕ → Type 0
   test_call_cut h begun negated name text =
@@ -122,8 +122,8 @@ module _ (size : ℕ) where
 
   abbrev pub Cut : Place → List ℕ → Type 0
   Cut (o.AtItem here) text = ⊥
-  Cut (o.BehindBackslash here back) text = text ≡ []
-  Cut (o.BehindPercent here at) text = CutsItem size here.context (37 ∷ text)
+  Cut (o.AfterBackslash here back) text = text ≡ []
+  Cut (o.AfterPercent here at) text = CutsItem size here.context (37 ∷ text)
   Cut (o.SuffixStart here at kind) text = text ≡ 37 ∷ []
   Cut (o.SuffixRun here at kind suffix) text = ⊥
   Cut (o.SuffixPercent here at kind percent) text = text ≡ []
@@ -149,7 +149,7 @@ module _ (size : ℕ) where
   Cut (o.MarkedEscape h begun negated mark word) text = Fine h negated → next_cut text (λ b rest. marked_cut h begun negated mark (word ++ b ∷ []) rest)
   Cut (o.TestPercent h begun negated at) text = h.patterns ≡ [] → (text ≡ []) ⊎ ((rest : List ℕ) × (text ≡ 58 ∷ rest) × test_call_cut h begun negated [] rest)
   Cut (o.TestFunction h begun negated at name) text = h.patterns ≡ [] → is_function_front name ≡ true → test_call_cut h begun negated name text
-  Cut (o.BehindTest h ps ts bare) text = Possible h ps ts → some_after h ps ts text
+  Cut (o.AfterTest h ps ts bare) text = Possible h ps ts → some_after h ps ts text
 
 -- around a list for whose end a directive waits: the text ends in the list, or the directive goes on after it
 abbrev pub Beyond : ℕ → Outside → Waiting → Outside
@@ -169,7 +169,7 @@ InsideCut size w c text =
     ⊎ ((items : Items) × (b : ℕ) × (rest : List ℕ) × (q : Place) × (k : ℕ) × AreItems size c text items (b ∷ rest) × (is_end c.kind b ≡ true) × At size k (b ∷ rest) × (resume w items k b ≡ On q)
     × Cut size q rest)
 
--- what is left behind a byte that does this, where the text ends in the directive that the byte stands in
+-- what is left after a byte that does this, where the text ends in the directive that the byte stands in
 abbrev pub CutAfter : ℕ → Outside → ℕ → List ℕ → Turn → Type 0
 CutAfter size K b text (o.Goes q) = Cut size q text
 CutAfter size K b text (o.Opens q w) = Wanted size (Beyond size K w) q text ⊎ Cut size q text

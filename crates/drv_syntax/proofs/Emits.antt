@@ -38,14 +38,14 @@ marked_or_not (b ∷ rest) = by (is_mark b) refl
     by false e = inl (s.at_byte e)
 
 -- white space or none, and then a byte
-spaced : {ws : List Waiting} {p behind : Place} {q : ℕ → Place} {m c : ℕ} {text end rest : List ℕ} → ((b : ℕ) → is_white b ≡ true → turn p m b ≡ Goes behind) → turn p m c ≡ Goes (q (m + 1))
-    → ((others : List ℕ) → AreSpaces others (c ∷ rest) → Leads ws behind (m + 1) others ws q rest) → AreSpaces text end → end ≡ c ∷ rest → Leads ws p m text ws q rest
+spaced : {ws : List Waiting} {p following : Place} {q : ℕ → Place} {m c : ℕ} {text end rest : List ℕ} → ((b : ℕ) → is_white b ≡ true → turn p m b ≡ Goes following) → turn p m c ≡ Goes (q (m + 1))
+    → ((others : List ℕ) → AreSpaces others (c ∷ rest) → Leads ws following (m + 1) others ws q rest) → AreSpaces text end → end ≡ c ∷ rest → Leads ws p m text ws q rest
 spaced blank byte k s.no_space e = rw e (one byte)
 spaced blank byte k (s.space {b} {text = others} f q) e = goes (blank b f) (k others (rw e at q))
 
 -- white space up to the end
-spaced_end : {place : ℕ} {ws : List Waiting} {p behind : Place} {m : ℕ} {text end : List ℕ} → IsTreeOrCut place (o.finish p m) → ((b : ℕ) → is_white b ≡ true → turn p m b ≡ Goes behind)
-    → ((others : List ℕ) → AreSpaces others [] → IsFrontFrom place ws behind (m + 1) others) → AreSpaces text end → end ≡ [] → IsFrontFrom place ws p m text
+spaced_end : {place : ℕ} {ws : List Waiting} {p following : Place} {m : ℕ} {text end : List ℕ} → IsTreeOrCut place (o.finish p m) → ((b : ℕ) → is_white b ≡ true → turn p m b ≡ Goes following)
+    → ((others : List ℕ) → AreSpaces others [] → IsFrontFrom place ws following (m + 1) others) → AreSpaces text end → end ≡ [] → IsFrontFrom place ws p m text
 spaced_end {ws = ws} {p} {m = m} g blank k s.no_space e = rw e (ended ws p m g)
 spaced_end g blank k (s.space {b} {text = others} f q) e = on (blank b f) (k others (rw e at q))
 
@@ -63,9 +63,9 @@ module _ (ws : List Waiting) (here : Here) (at : ℕ) (kind : BraceKind) where
   abbrev pub at_mark : ℕ → ℕ → Place
   at_mark start mark = o.TestMark head start false mark
 
-  pub mark_blank : (start mark m b : ℕ) → is_white b ≡ true → turn (at_mark start mark) m b ≡ Goes (o.BehindTest head (Some (alone start mark m)) None true)
+  pub mark_blank : (start mark m b : ℕ) → is_white b ≡ true → turn (at_mark start mark) m b ≡ Goes (o.AfterTest head (Some (alone start mark m)) None true)
   mark_blank start mark m b e =
-      each (λ (x : ℕ). turn (at_mark start mark) m x ≡ Goes (o.BehindTest head (Some (alone start mark m)) None true)) (32 ∷ 9 ∷ 10 ∷ []) b e (refl, (refl, (refl, tt)))
+      each (λ (x : ℕ). turn (at_mark start mark) m x ≡ Goes (o.AfterTest head (Some (alone start mark m)) None true)) (32 ∷ 9 ∷ 10 ∷ []) b e (refl, (refl, (refl, tt)))
 
   mark_closing : (start mark m : ℕ) (text : List ℕ) → Closing ws (at_mark start mark) m text here at kind (alone start mark m)
   mark_closing start mark m text = record {
@@ -89,11 +89,11 @@ module _ (ws : List Waiting) (here : Here) (at : ℕ) (kind : BraceKind) where
   }
     where
       place : ℕ → Place
-      place m = o.BehindTest head (Some ((span n m, pattern (b ∷ c ∷ word) false) ∷ [])) (o.tested head n m false (o.marked b (c ∷ word))) false
+      place m = o.AfterTest head (Some ((span n m, pattern (b ∷ c ∷ word) false) ∷ [])) (o.tested head n m false (o.marked b (c ∷ word))) false
 
   -- after a mark, a word and a star
   abbrev pub starred : ℕ → ℕ → List ℕ → ℕ → Place
-  starred n b word m = o.BehindTest head (Some ((span n m, pattern (b ∷ word) true) ∷ [])) None false
+  starred n b word m = o.AfterTest head (Some ((span n m, pattern (b ∷ word) true) ∷ [])) None false
 
   pub starred_leads : (n b : ℕ) (text end word : List ℕ) → is_mark b ≡ true → IsQuoted is_word text word (42 ∷ end) → Leads ws (o.ChoiceStart head) n (b ∷ text) ws (starred n b word) end
   starred_leads n b text end [] e q = rw (no_word q refl) (goes (asks_mark (start_asks head n) b e) (one refl))

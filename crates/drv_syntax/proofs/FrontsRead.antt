@@ -95,7 +95,7 @@ tests_to : {size : ℕ} {c c' : ListContext} {text end : List ℕ} {tests : Test
     (before : Tests) (p : Place) → ((n b : ℕ) → is_white b ≡ true → turn p n b ≡ Goes p) → ((n : ℕ) → Asks p n (head c past at kind cs before) n false)
     → ((n : ℕ) → turn p n 33 ≡ Goes (o.TestNegated (head c past at kind cs before) n)) → (n : ℕ) → At size n text
     → ((m : ℕ) (middle : Tests) (patterns : Option (List (Span × Pattern))) → At size m end
-    → IsFrontFrom at ws (o.BehindTest (choosing (list c past) at kind cs middle) patterns (Some (join_tests before tests)) false) m end) → IsFrontFrom at ws p n text
+    → IsFrontFrom at ws (o.AfterTest (choosing (list c past) at kind cs middle) patterns (Some (join_tests before tests)) false) m end) → IsFrontFrom at ws p n text
 tests_to {size} {c} {text = text} (s.last_test {n = i} {m = j} {u = u} {w = w} {rest = rest} {negated = negated} {asked = asked} sp ai sign d aj sp') e ws past at kind cs before p blank asks bang n a k =
     onto (spaces_read ws p blank n sp) (λ x f.
     let b : At size x u = further size n x text u a f in
@@ -118,7 +118,7 @@ tests_to {size} {c} {text = text} {end} (s.next_test {n = i} {m = j} {u = u} {w 
     (tests_to ds e ws past at kind cs (join_tests before (test (span i j) negated asked no_test)) (o.TestDue (head c past at kind cs (join_tests before (test (span i j) negated asked no_test))))
     (due_space (head c past at kind cs (join_tests before (test (span i j) negated asked no_test))))
     (due_asks (head c past at kind cs (join_tests before (test (span i j) negated asked no_test)))) (λ _. refl) (z + 1) (omega (arith, b, g, h))
-    (λ m middle patterns r. subst (λ (y : Tests). IsFrontFrom at ws (o.BehindTest (choosing (list c past) at kind cs middle) patterns (Some y) false) m end)
+    (λ m middle patterns r. subst (λ (y : Tests). IsFrontFrom at ws (o.AfterTest (choosing (list c past) at kind cs middle) patterns (Some y) false) m end)
     (sym (join_tests_assoc before (test (span i j) negated asked no_test) tests)) (k m middle patterns r))))))
 
 cut_level : {size : ℕ} {c : ListContext} {text : List ℕ} → CutsBrace size c text → (c.levels == 0) ≡ false
@@ -157,12 +157,12 @@ mutual
 
   pub item_front : {size : ℕ} {c : ListContext} {text : List ℕ} → CutsItem size c text → (ws : List Waiting) (past : Items) (n : ℕ) → At size n text
       → IsFrontFrom (item_cut_place size n text) ws (at_item c past) n text
-  item_front {c = c} cuts.cut_escape ws past n a = on refl (ended ws (o.BehindBackslash (list c past) n) (n + 1) (inl refl))
-  item_front {c = c} cuts.cut_percent ws past n a = on refl (ended ws (o.BehindPercent (list c past) n) (n + 1) (inl refl))
+  item_front {c = c} cuts.cut_escape ws past n a = on refl (ended ws (o.AfterBackslash (list c past) n) (n + 1) (inl refl))
+  item_front {c = c} cuts.cut_percent ws past n a = on refl (ended ws (o.AfterPercent (list c past) n) (n + 1) (inl refl))
   item_front {c = c} (cuts.cut_directive {b} e d) ws past n a = on refl (directive_front b e refl d ws past n (n + 1) (omega (arith, a)))
 
   directive_front : {size : ℕ} {c : ListContext} {f : Directive} {text : List ℕ} (b : ℕ) → is_allowed c.in_arguments b ≡ true → directive_of b ≡ f → CutsDirective size c f text → (ws : List Waiting) (past : Items) (at n : ℕ)
-      → At size n (b ∷ text) → IsFrontFrom (cut_place size at f) ws (o.BehindPercent (list c past) at) n (b ∷ text)
+      → At size n (b ∷ text) → IsFrontFrom (cut_place size at f) ws (o.AfterPercent (list c past) at) n (b ∷ text)
   directive_front {size} {c} b e f (cuts.cut_suffix {kind = kind}) ws past at n a =
       on {q = o.SuffixStart (list c past) at kind} (rw (e, f) refl) (on refl (ended ws (o.SuffixPercent (list c past) at kind (n + 1)) (n + 1 + 1) (inl (ap Cut (last_place size (n + 1) (omega (arith, a)))))))
   directive_front {c = c} b e f cuts.cut_option ws past at n a = on {q = o.OptionOpen (list c past) at} (rw (e, f) refl) (ended ws (o.OptionOpen (list c past) at) (n + 1) (inl refl))

@@ -109,15 +109,15 @@ patterns_of h start end negated (HasLanguage word) = emitted h start end negated
 patterns_of h start end negated (HasResult name arguments) = None
 
 abbrev pub after_asked : Head → ℕ → ℕ → Bool → Asked → Place
-after_asked h start end negated asked = o.BehindTest h (patterns_of h start end negated asked) (tested h start end negated asked) false
+after_asked h start end negated asked = o.AfterTest h (patterns_of h start end negated asked) (tested h start end negated asked) false
 
 pub marked_read : {p : Place} {n start x : ℕ} {h : Head} {negated : Bool} {text word rest : List ℕ} (ws : List Waiting) (mark : ℕ) → is_mark mark ≡ true → Asks p n h start negated
     → IsQuoted is_word text (x ∷ word) rest → Stops (λ b. b == 42) rest
-    → Leads ws p n (mark ∷ text) ws (λ m. o.BehindTest h (emitted h start m negated (pattern (mark ∷ x ∷ word) false)) (tested h start m negated (o.marked mark (x ∷ word))) false) rest
+    → Leads ws p n (mark ∷ text) ws (λ m. o.AfterTest h (emitted h start m negated (pattern (mark ∷ x ∷ word) false)) (tested h start m negated (o.marked mark (x ∷ word))) false) rest
 marked_read {start = start} {x} {h} {negated} {word = word} {rest} ws mark e a q f =
     and_then (goes (asks_mark a mark e) (quoted_from (marked_word h start negated mark) ws (record { byte = λ c g k. rw (g, k) refl; escape = refl }) q))
     (λ m fits. same_run (alike ws (o.MarkedWord h start negated mark (x ∷ word))
-    (o.BehindTest h (emitted h start m negated (pattern (mark ∷ x ∷ word) false)) (tested h start m negated (o.marked mark (x ∷ word))) false) m rest refl
+    (o.AfterTest h (emitted h start m negated (pattern (mark ∷ x ∷ word) false)) (tested h start m negated (o.marked mark (x ∷ word))) false) m rest refl
     (λ c r k. rw (at_front c r (stops_at q) k, at_front c r (stops q) k, at_front c r f k) refl)))
 
 -- no star stands before white space and a byte that is none

@@ -19,7 +19,7 @@ pub spaces_read : {text rest : List ℕ} (ws : List Waiting) (p : Place) → ((n
 spaces_read ws p e n (s.no_space {rest}) = stays ws (λ _. p) n rest
 spaces_read ws p e n (s.space {b} f q) = goes (e n b f) (spaces_read ws p e (n + 1) q)
 
-pub after_space : (h : Head) (ps : Option (List (Span × Pattern))) (ts : Option Tests) (bare : Bool) (n b : ℕ) → is_white b ≡ true → turn (o.BehindTest h ps ts bare) n b ≡ Goes (o.BehindTest h ps ts bare)
+pub after_space : (h : Head) (ps : Option (List (Span × Pattern))) (ts : Option Tests) (bare : Bool) (n b : ℕ) → is_white b ≡ true → turn (o.AfterTest h ps ts bare) n b ≡ Goes (o.AfterTest h ps ts bare)
 after_space h ps ts bare n b e = rw e refl
 
 pub due_space : (h : Head) (n b : ℕ) → is_white b ≡ true → turn (o.TestDue h) n b ≡ Goes (o.TestDue h)
@@ -113,7 +113,7 @@ pub record Closing (ws : List Waiting) (p : Place) (n : ℕ) (text : List ℕ) (
   pub end : AreSpaces text [] → IsFrontFrom at ws p n text
 
 pub after_closing : (ws : List Waiting) (n : ℕ) (text : List ℕ) (here : Here) (at : ℕ) (kind : BraceKind) (before ps : List (Span × Pattern)) (ts : Option Tests) (bare : Bool)
-    → Closing ws (o.BehindTest (emitting here at kind before) (Some ps) ts bare) n text here at kind ps
+    → Closing ws (o.AfterTest (emitting here at kind before) (Some ps) ts bare) n text here at kind ps
 after_closing ws n text here at kind before ps ts bare = record {
   brace = λ q. and_then (spaces_read ws p (after_space h (Some ps) ts bare) n q) (λ m fits. one refl);
   and = λ q. and_then (spaces_read ws p (after_space h (Some ps) ts bare) n q) (λ m fits. one refl);
@@ -124,4 +124,4 @@ after_closing ws n text here at kind before ps ts bare = record {
     h = emitting here at kind before
 
     p : Place
-    p = o.BehindTest h (Some ps) ts bare
+    p = o.AfterTest h (Some ps) ts bare

@@ -8,7 +8,7 @@ use Rattle.drv_syntax.specs.declared.directives.BraceKind.{BraceKind}
 use Rattle.drv_syntax.specs.Outcome as o
 use Rattle.drv_syntax.specs.Outcome.{Head, Here, Place, Refused, emitted, emitted_by, fresh, turn}
 use Rattle.drv_syntax.specs.Refusals as r
-use Rattle.drv_syntax.specs.Refusals.{AWord, APattern, AnEnd, AtBar, AtFront, AtNext, BehindMark, Due, Empty, Order, PastMark, Refuses, ends_either, ends_pattern, ends_test, is_default, may_emit}
+use Rattle.drv_syntax.specs.Refusals.{AWord, APattern, AnEnd, AtBar, AtFront, AtNext, AfterMark, Due, Empty, Order, PastMark, Refuses, ends_either, ends_pattern, ends_test, is_default, may_emit}
 use Rattle.drv_syntax.specs.Spelling as s
 use Rattle.drv_syntax.specs.Spelling.{IsPattern}
 use Rattle.drv_syntax.specs.Tree.{Choices, Pattern, Span, Tests, choice, no_choice, no_test, pattern, test}
@@ -99,21 +99,21 @@ neither h ps ts bare n b sp f =
     rw (sp, z.0, (not_of 38 [] b z.1).0, x.0, y.0) refl
 
 module _ {size : ℕ} {rest : List ℕ} (h : Head) where
-  pub test_answers : (ps : Option (List (Span × Pattern))) (ts : Option Tests) (m : ℕ) → ps ≡ None → Answers size (AnEnd h.at ends_test) (o.BehindTest h ps ts false) m rest
+  pub test_answers : (ps : Option (List (Span × Pattern))) (ts : Option Tests) (m : ℕ) → ps ≡ None → Answers size (AnEnd h.at ends_test) (o.AfterTest h ps ts false) m rest
   test_answers ps ts m x b fault e (r.no_end sp f) =
       let y = not_of 58 (124 ∷ []) b f in
       ap (λ (z : Option (List (Span × Pattern))). o.turn_after h z ts false m b) x ∙ tests_only h ts m b sp y.0 (not_of 124 [] b y.1).0
 
-  pub pattern_answers : (ps : Option (List (Span × Pattern))) (ts : Option Tests) (m : ℕ) → ts ≡ None → Answers size (AnEnd h.at ends_pattern) (o.BehindTest h ps ts false) m rest
+  pub pattern_answers : (ps : Option (List (Span × Pattern))) (ts : Option Tests) (m : ℕ) → ts ≡ None → Answers size (AnEnd h.at ends_pattern) (o.AfterTest h ps ts false) m rest
   pattern_answers ps ts m x b fault e (r.no_end sp f) =
       let y = not_of 125 (38 ∷ []) b f in
       ap (λ (z : Option Tests). o.turn_after h ps z false m b) x ∙ patterns_only h ps m b sp y.0 (not_of 38 [] b y.1).0
 
-  pub either_answers : (ps : Option (List (Span × Pattern))) (ts : Option Tests) (m : ℕ) → Answers size (AnEnd h.at ends_either) (o.BehindTest h ps ts false) m rest
+  pub either_answers : (ps : Option (List (Span × Pattern))) (ts : Option Tests) (m : ℕ) → Answers size (AnEnd h.at ends_either) (o.AfterTest h ps ts false) m rest
   either_answers ps ts m b fault e (r.no_end sp f) = neither h ps ts false m b sp f
 
-  pub past_answers : (ps : List (Span × Pattern)) (m : ℕ) → Answers size (PastMark h.at) (o.BehindTest h (Some ps) None true) m rest
-  past_answers ps m b fault e (r.mark_is_no_test f) = each (λ (x : ℕ). turn (o.BehindTest h (Some ps) None true) m x ≡ Refused (EmptyTest h.at)) (58 ∷ 124 ∷ []) b f (refl, (refl, tt))
+  pub past_answers : (ps : List (Span × Pattern)) (m : ℕ) → Answers size (PastMark h.at) (o.AfterTest h (Some ps) None true) m rest
+  past_answers ps m b fault e (r.mark_is_no_test f) = each (λ (x : ℕ). turn (o.AfterTest h (Some ps) None true) m x ≡ Refused (EmptyTest h.at)) (58 ∷ 124 ∷ []) b f (refl, (refl, tt))
   past_answers ps m b fault e (r.no_end_past_mark sp f) = neither h (Some ps) None true m b sp f
 
   pub word_answers : (start : ℕ) (negated : Bool) (mark m : ℕ) → emitted h start m negated (pattern (mark ∷ []) false) ≡ None → Answers size (AWord h.at) (o.TestMark h start negated mark) m rest
@@ -131,7 +131,7 @@ module _ {size : ℕ} {rest : List ℕ} (h : Head) where
   due_answers m b fault e (r.no_pattern (b1, b2, b3) sp) = rw (sp, b1, b2, b3) refl
 
 pub mark_answers : {size : ℕ} {rest : List ℕ} (here : Here) (at : ℕ) (kind : BraceKind) (start mark m : ℕ) → IsPattern (mark ∷ rest) (pattern (mark ∷ []) false) rest
-    → Answers size (BehindMark at) (o.TestMark (fresh here at kind) start false mark) m rest
+    → Answers size (AfterMark at) (o.TestMark (fresh here at kind) start false mark) m rest
 mark_answers here at kind start mark m (s.unstarred q st) b fault e (r.mark_alone sp f) =
     let y = not_of 125 (38 ∷ []) b f in
     rw (at_front b [] (stops_at q) e, at_front b [] (stops q) e, at_front b [] st e, y.0, (not_of 38 [] b y.1).0, sp) refl

@@ -14,7 +14,7 @@ use Rattle.drv_syntax.specs.Contexts.{ListContext, Mixed, Nobody, Owner, in_argu
 use Rattle.drv_syntax.specs.Outcome as o
 use Rattle.drv_syntax.specs.Outcome.{Bad, Goes, Head, Here, Opens, Place, Refused, Turn, WaitsCall, WaitsTest, Waiting, list_in, read, run, turn}
 use Rattle.drv_syntax.specs.Refusals as r
-use Rattle.drv_syntax.specs.Refusals.{ATest, AWord, APattern, AnEnd, AnItem, BehindMark, Breaks, Due, IsNoFunction, IsRefused, NoMore, Order, PastMark, Refuses, nests}
+use Rattle.drv_syntax.specs.Refusals.{ATest, AWord, APattern, AnEnd, AnItem, AfterMark, Breaks, Due, IsNoFunction, IsRefused, NoMore, Order, PastMark, Refuses, nests}
 use Rattle.drv_syntax.specs.Spelling as s
 use Rattle.drv_syntax.specs.Spelling.{At, IsRun}
 use Rattle.drv_syntax.specs.Tree.{Items, none}
@@ -149,7 +149,7 @@ module _ (size : ℕ) (c : ListContext) (ws : List Waiting) (past : Items) (m : 
   broken b f (r.no_name g) e d a = (m + 1 + 1, rw (e, d, g) refl, omega (arith, a))
   broken b f (r.no_brace lv g) e d a = (m + 1 + 1, rw (e, d, lv, g) refl, omega (arith, a))
   broken b f (r.open_name {b = x} {name = name} q l g) e d a =
-      onto_given {p = at_item c past} (goes {p' = o.BehindPercent (list c past) m} {b = 37} refl (goes {p' = o.NameText (list c past) m []} {b = b} (rw (e, d) refl) (name_text ws (list c past) m [] (m + 1 + 1) q l)))
+      onto_given {p = at_item c past} (goes {p' = o.AfterPercent (list c past) m} {b = 37} refl (goes {p' = o.NameText (list c past) m []} {b = b} (rw (e, d) refl) (name_text ws (list c past) m [] (m + 1 + 1) q l)))
       (λ k h. given size ws (o.NameText (list c past) m name) k x (BadDirective m) (omega (arith, a, h))
       (name_stops (list c past) m name k x (at_front x [] (run_stops q) refl) g))
   broken b f (r.long_name q l) e d a =
@@ -220,7 +220,7 @@ reached_refused {size} (ATest c at order negated) x f = let y = x.is in let z = 
 reached_refused {ws = ws} {p} {n} {text} (AWord at) x (r.no_word {b = b} e g) = byte_given ws p n text x.is b refl (r.no_word e g)
 reached_refused {ws = ws} {p} {n} {text} (APattern at) x (r.no_pattern {b = b} e g) = byte_given ws p n text x.is b refl (r.no_pattern e g)
 reached_refused {ws = ws} {p} {n} {text} (AnEnd at ends) x (r.no_end {b = b} e g) = byte_given ws p n text x.is b refl (r.no_end e g)
-reached_refused {ws = ws} {p} {n} {text} (BehindMark at) x (r.mark_alone {b = b} e g) = byte_given ws p n text x.is b refl (r.mark_alone e g)
+reached_refused {ws = ws} {p} {n} {text} (AfterMark at) x (r.mark_alone {b = b} e g) = byte_given ws p n text x.is b refl (r.mark_alone e g)
 reached_refused {ws = ws} {p} {n} {text} (PastMark at) x (r.mark_is_no_test {b = b} e) = byte_given ws p n text x.is b refl (r.mark_is_no_test e)
 reached_refused {ws = ws} {p} {n} {text} (PastMark at) x (r.no_end_past_mark {b = b} e g) = byte_given ws p n text x.is b refl (r.no_end_past_mark e g)
 reached_refused {size} (NoMore at) x r.default_goes_on = let y = x.is in (y.0, y.2, omega (arith, y.1))

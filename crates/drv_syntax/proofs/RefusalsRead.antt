@@ -16,7 +16,7 @@ use Rattle.drv_syntax.specs.Contexts.{ListContext, in_arguments, in_braces, in_x
 use Rattle.drv_syntax.specs.Outcome as o
 use Rattle.drv_syntax.specs.Outcome.{Bad, Goes, Head, Here, Opens, Place, WaitsCall, WaitsTest, WaitsX, Waiting, emitted, fresh, join, join_choices, join_tests, list_in, read, run, tested, tested_by, turn}
 use Rattle.drv_syntax.specs.Refusals as r
-use Rattle.drv_syntax.specs.Refusals.{ATest, AWord, APattern, AnEnd, AnItem, AtBar, BehindMark, Due, NoMore, Order, PastMark, Reaches, ReachesAsked, ReachesBrace, ReachesChoices, ReachesEmits, ReachesIn, ReachesLater, ReachesPatterns, ReachesTests, ends_either, ends_pattern, ends_test, may_emit}
+use Rattle.drv_syntax.specs.Refusals.{ATest, AWord, APattern, AnEnd, AnItem, AtBar, AfterMark, Due, NoMore, Order, PastMark, Reaches, ReachesAsked, ReachesBrace, ReachesChoices, ReachesEmits, ReachesIn, ReachesLater, ReachesPatterns, ReachesTests, ends_either, ends_pattern, ends_test, may_emit}
 use Rattle.drv_syntax.specs.Spelling as s
 use Rattle.drv_syntax.specs.Spelling.{AreSpaces, AreTests, At, IsQuoted, IsSign, Stops, span}
 use Rattle.drv_syntax.specs.Tree.{Asked, Choices, HasLanguage, HasResult, HasSuffix, HasSwitch, Items, Pattern, Span, Tests, alternative, more, no_choice, no_test, none, pattern, test}
@@ -39,7 +39,7 @@ Reached size ws p n text (ATest c at order negated) rest =
 Reached size ws p n text (AWord at) rest = ReachedByte size ws p n text (AWord at) rest
 Reached size ws p n text (APattern at) rest = ReachedByte size ws p n text (APattern at) rest
 Reached size ws p n text (AnEnd at ends) rest = ReachedByte size ws p n text (AnEnd at ends) rest
-Reached size ws p n text (BehindMark at) rest = ReachedByte size ws p n text (BehindMark at) rest
+Reached size ws p n text (AfterMark at) rest = ReachedByte size ws p n text (AfterMark at) rest
 Reached size ws p n text (PastMark at) rest = ReachedByte size ws p n text (PastMark at) rest
 Reached size ws p n text (NoMore at) rest = (m : ℕ) × At size m rest × (run ws p n text ≡ Bad m (EmptyTest at))
 
@@ -50,7 +50,7 @@ moved size rest (ATest c at order negated) ws vs p q n m text mid e (us, x, k, h
 moved size rest (AWord at) ws vs p q n m text mid e (us, x, k, a, g, f) = (us, x, k, a, g, e ∙ f)
 moved size rest (APattern at) ws vs p q n m text mid e (us, x, k, a, g, f) = (us, x, k, a, g, e ∙ f)
 moved size rest (AnEnd at ends) ws vs p q n m text mid e (us, x, k, a, g, f) = (us, x, k, a, g, e ∙ f)
-moved size rest (BehindMark at) ws vs p q n m text mid e (us, x, k, a, g, f) = (us, x, k, a, g, e ∙ f)
+moved size rest (AfterMark at) ws vs p q n m text mid e (us, x, k, a, g, f) = (us, x, k, a, g, e ∙ f)
 moved size rest (PastMark at) ws vs p q n m text mid e (us, x, k, a, g, f) = (us, x, k, a, g, e ∙ f)
 moved size rest (NoMore at) ws vs p q n m text mid e (k, a, f) = (k, a, e ∙ f)
 
@@ -85,7 +85,7 @@ module _ (size : ℕ) (rest : List ℕ) where
       (before : Tests) (p : Place) → ((n b : ℕ) → is_white b ≡ true → turn p n b ≡ Goes p) → ((n : ℕ) → Asks p n (head c past at kind cs before) n false)
       → ((n : ℕ) → turn p n 33 ≡ Goes (o.TestNegated (head c past at kind cs before) n)) → (n : ℕ) → At size n text
       → ((m : ℕ) (middle : Tests) (patterns : Option (List (Span × Pattern))) → At size m end
-      → Comes size ws (o.BehindTest (choosing (list c past) at kind cs middle) patterns (Some (join_tests before tests)) false) m end due rest) → Comes size ws p n text due rest
+      → Comes size ws (o.AfterTest (choosing (list c past) at kind cs middle) patterns (Some (join_tests before tests)) false) m end due rest) → Comes size ws p n text due rest
   tests_to due {c} {text = text} (s.last_test {n = i} {m = j} {u = u} {w = w} {negated = negated} {asked = asked} sp ai sign d aj sp') e ws past at kind cs before p blank asks bang n a k =
       onto due (spaces_read ws p blank n sp) (λ x f.
       let b : At size x u = further size n x text u a f in
@@ -108,7 +108,7 @@ module _ (size : ℕ) (rest : List ℕ) where
       (tests_to due ds e ws past at kind cs (join_tests before (test (span i j) negated asked no_test)) (o.TestDue (head c past at kind cs (join_tests before (test (span i j) negated asked no_test))))
       (due_space (head c past at kind cs (join_tests before (test (span i j) negated asked no_test))))
       (due_asks (head c past at kind cs (join_tests before (test (span i j) negated asked no_test)))) (λ _. refl) (z + 1) (omega (arith, b, g, h))
-      (λ m middle patterns r. subst (λ (y : Tests). Comes size ws (o.BehindTest (choosing (list c past) at kind cs middle) patterns (Some y) false) m end due rest)
+      (λ m middle patterns r. subst (λ (y : Tests). Comes size ws (o.AfterTest (choosing (list c past) at kind cs middle) patterns (Some y) false) m end due rest)
       (sym (join_tests_assoc before (test (span i j) negated asked no_test) tests)) (k m middle patterns r))))))
 
 -- patterns
@@ -166,19 +166,19 @@ emits_reached {size} {at} {rest = rest} (r.starred_ends {mark = mark} {u = u} {v
       );
     })))
 emits_reached {size} {at} {rest = rest} (r.after_mark {mark = mark} sp e q) ws here kind n a =
-    onto size rest (BehindMark at) (spaces_read ws (o.ChoiceStart (fresh here at kind)) (start_space (fresh here at kind)) n sp) (λ k f.
-    on size rest (BehindMark at) (asks_mark (start_asks (fresh here at kind) k) mark e)
+    onto size rest (AfterMark at) (spaces_read ws (o.ChoiceStart (fresh here at kind)) (start_space (fresh here at kind)) n sp) (λ k f.
+    on size rest (AfterMark at) (asks_mark (start_asks (fresh here at kind) k) mark e)
     (record { is = (ws, o.TestMark (fresh here at kind) k false mark, k + 1, omega (arith, a, f), mark_answers here at kind k mark (k + 1) q, refl) }))
 emits_reached {size} {at} {rest = rest} (r.past_mark {mark = mark} {b} {u = u} sp e x sp') ws here kind n a =
     onto size rest (PastMark at) (spaces_read ws (o.ChoiceStart (fresh here at kind)) (start_space (fresh here at kind)) n sp) (λ k f.
     on size rest (PastMark at) (asks_mark (start_asks (fresh here at kind) k) mark e)
     (on size rest (PastMark at) (mark_blank ws here at kind k mark (k + 1) b x)
-    (onto size rest (PastMark at) (spaces_read ws (o.BehindTest (fresh here at kind) (Some (alone ws here at kind k mark (k + 1))) None true)
+    (onto size rest (PastMark at) (spaces_read ws (o.AfterTest (fresh here at kind) (Some (alone ws here at kind k mark (k + 1))) None true)
     (after_space (fresh here at kind) (Some (alone ws here at kind k mark (k + 1))) None true) (k + 1 + 1) sp')
     (λ m g. record {
       is = (
         ws,
-        o.BehindTest (fresh here at kind) (Some (alone ws here at kind k mark (k + 1))) None true,
+        o.AfterTest (fresh here at kind) (Some (alone ws here at kind k mark (k + 1))) None true,
         m,
         omega (arith, a, f, g),
         past_answers (fresh here at kind) (alone ws here at kind k mark (k + 1)) m,
@@ -234,12 +234,12 @@ module _ (size : ℕ) (c : ListContext) (ws : List Waiting) (past : Items) (at :
       }))
 
   -- after what may be a pattern and a test
-  either_ended : {v mid : List ℕ} {p : Place} {n : ℕ} (ps : ℕ → Option (List (Span × Pattern))) (ts : ℕ → Option Tests) → At size n v → Leads ws p n v ws (λ m. o.BehindTest h (ps m) (ts m) false) mid
+  either_ended : {v mid : List ℕ} {p : Place} {n : ℕ} (ps : ℕ → Option (List (Span × Pattern))) (ts : ℕ → Option Tests) → At size n v → Leads ws p n v ws (λ m. o.AfterTest h (ps m) (ts m) false) mid
       → AreSpaces mid rest → Comes size ws p n v (AnEnd at ends_either) rest
   either_ended ps ts a l sp =
       onto size rest (AnEnd at ends_either) l (λ k f.
-      onto size rest (AnEnd at ends_either) (spaces_read ws (o.BehindTest h (ps k) (ts k) false) (after_space h (ps k) (ts k) false) k sp)
-      (λ m g. record { is = (ws, o.BehindTest h (ps k) (ts k) false, m, omega (arith, a, f, g), either_answers h (ps k) (ts k) m, refl) }))
+      onto size rest (AnEnd at ends_either) (spaces_read ws (o.AfterTest h (ps k) (ts k) false) (after_space h (ps k) (ts k) false) k sp)
+      (λ m g. record { is = (ws, o.AfterTest h (ps k) (ts k) false, m, omega (arith, a, f, g), either_answers h (ps k) (ts k) m, refl) }))
 
   -- after a mark and a word, which is no pattern
   marked_ended : {u mid word : List ℕ} {p : Place} {n start : ℕ} {negated : Bool} (order : Order) (mark x : ℕ) (asked : Asked) → is_mark mark ≡ true → Stands order cs before → may_emit order negated ≡ false
@@ -286,11 +286,11 @@ mutual
       onto size rest due (item_read d ws past n a) (λ m g. list_reached f ws (join past (more (span n m) item none)) m (further size n m text mid a g))
   list_reached {size} {c} {rest = rest} {due} (r.in_directive {n = i} {b} {text} ai e d) ws past n a =
       on size rest due refl
-      (subst (λ (k : ℕ). Comes size ws (o.BehindPercent (list c past) k) (n + 1) (b ∷ text) due rest) (same_place size i n (37 ∷ b ∷ text) ai a)
+      (subst (λ (k : ℕ). Comes size ws (o.AfterPercent (list c past) k) (n + 1) (b ∷ text) due rest) (same_place size i n (37 ∷ b ∷ text) ai a)
       (directive_reached b e refl d ws past (n + 1) (omega (arith, a))))
 
   directive_reached : {size : ℕ} {c : ListContext} {f : Directive} {at : ℕ} {text rest : List ℕ} {due : Due} (b : ℕ) → is_allowed c.in_arguments b ≡ true → directive_of b ≡ f → ReachesIn size c at f text due rest
-      → (ws : List Waiting) (past : Items) (n : ℕ) → At size n (b ∷ text) → Comes size ws (o.BehindPercent (list c past) at) n (b ∷ text) due rest
+      → (ws : List Waiting) (past : Items) (n : ℕ) → At size n (b ∷ text) → Comes size ws (o.AfterPercent (list c past) at) n (b ∷ text) due rest
   directive_reached {size} {c} {at = at} {rest = rest} {due} b e f (r.in_call {text = text} name lv fn d) ws past n a =
       on size rest due (rw (e, f, lv) refl)
       (onto size rest due (name_read at (o.FunctionName (list c past) at) (λ w. Opens (list_in (in_arguments c)) (WaitsCall (list c past) at w)) (λ w k x. refl) ws [] name (n + 1) text fn)

@@ -169,13 +169,13 @@ module _ (text more : List ℕ) (old : Ended) (is : IsEnded text old) (short : l
   both_short : length (text ++ more) ≤ 1048576
   both_short = omega (arith, length-append text more, short)
 
-  behind : (rest : List ℕ) → goes_on old.ending rest ≡ true → pass started 0 (text ++ rest) ≡ pass (state old.walk) (length text) rest
-  behind rest on = is.1 rest on ∙ ap (λ (i : ℕ). pass (state old.walk) i rest) (omega arith)
+  following : (rest : List ℕ) → goes_on old.ending rest ≡ true → pass started 0 (text ++ rest) ≡ pass (state old.walk) (length text) rest
+  following rest on = is.1 rest on ∙ ap (λ (i : ℕ). pass (state old.walk) i rest) (omega arith)
 
   walk_both : walk started 0 (text ++ more) ≡ walk (state old.walk) (length text) more
   walk_both =
       walk_passes (text ++ more) started 0
-      ∙ ap (λ (r : Result ReaderState SyntaxFault). then_walk r (λ u. finish (0 + length (text ++ more)) u)) (behind more goes)
+      ∙ ap (λ (r : Result ReaderState SyntaxFault). then_walk r (λ u. finish (0 + length (text ++ more)) u)) (following more goes)
       ∙ ap (λ (i : ℕ). then_walk (pass (state old.walk) (length text) more) (λ u. finish i u)) (omega (arith, length-append text more))
       ∙ sym (walk_passes more (state old.walk) (length text))
 
@@ -191,7 +191,7 @@ module _ (text more : List ℕ) (old : Ended) (is : IsEnded text old) (short : l
     given_parts (text ++ more) (e.walk.tokens.items, e.walk.labels) both_short (ap parts_in (walk_both ∙ h)),
     λ rest on.
         ap (λ (t : List ℕ). pass started 0 t) (append_assoc text more rest)
-        ∙ behind (more ++ rest) (goes_further old.ending more rest goes)
+        ∙ following (more ++ rest) (goes_further old.ending more rest goes)
         ∙ follows rest on
         ∙ ap (λ (i : ℕ). pass (state e.walk) i rest) (omega (arith, length-append text more)),
     both_short,
@@ -201,7 +201,7 @@ module _ (text more : List ℕ) (old : Ended) (is : IsEnded text old) (short : l
     ),
   )
 
--- the same where the text is seen as this list, and the place behind it is this
+-- the same where the text is seen as this list, and the place after it is this
 module _ (text self more all : List ℕ) (n : ℕ) (old : Ended) (is : IsEnded text old) (seen : text ≡ self) (place : n ≡ length self) (short : length more ≤ 1048576 - n) (goes : goes_on old.ending more ≡ true) where
   here : n ≡ length text
   here = place ∙ ap (λ (t : List ℕ). length t) (sym seen)

@@ -56,7 +56,7 @@ module _ (size : ℕ) (K : Outside) where
       (λ x arguments rest. (m : ℕ) × At size m rest × Of (form_2 size K h rest) (tested h begun m negated (HasResult x arguments))) (λ g. g)
       (λ g.
       let r = arguments_closed size K (WaitsTest h begun negated name) (in_braces h.here.context) text g in
-      let p : o.BehindTest h None (tested h begun (r.2 + 1) negated (HasResult name r.0)) false ≡ r.3 = on_same _ _ r.6 in
+      let p : o.AfterTest h None (tested h begun (r.2 + 1) negated (HasResult name r.0)) false ≡ r.3 = on_same _ _ r.6 in
       (r.0, r.1, r.4, (r.2 + 1, r.5, right (subst (λ (x : Place). Wanted size K x r.1) (sym p) r.7)))) g
     where
       right : {A : Type 0} → ⊥ ⊎ A → A

@@ -246,26 +246,26 @@ pub turn_takes : (v x u : ReaderState) (n b taken : ℕ) (text : List ℕ) → s
 turn_takes v x u n b taken text h g = ap (λ (r : Result ReaderState SyntaxFault). then_walk r (λ y. pass y (n + 1) text)) h ∙ g
 
 -- a byte that stands for itself, and those after it that do
-pub run_takes : (v u : ReaderState) (n b : ℕ) (text behind run : List ℕ) (k : ℕ) → text ≡ b ∷ behind → v.stage ≡ at.List stages.Start → k ≡ prefix_len (runs v.context.kind) text → 0 < k → run ≡ take k text → k ≤ length text
-    → walked (with_plains n run v) ≡ walked u → (k - 1 ≤ length behind) × (pass v n (b ∷ behind) ≡ pass u (n + 1 + (k - 1)) (drop (k - 1) behind))
-run_takes v u n b text behind run k f h e positive g w d =
+pub run_takes : (v u : ReaderState) (n b : ℕ) (text following run : List ℕ) (k : ℕ) → text ≡ b ∷ following → v.stage ≡ at.List stages.Start → k ≡ prefix_len (runs v.context.kind) text → 0 < k → run ≡ take k text → k ≤ length text
+    → walked (with_plains n run v) ≡ walked u → (k - 1 ≤ length following) × (pass v n (b ∷ following) ≡ pass u (n + 1 + (k - 1)) (drop (k - 1) following))
+run_takes v u n b text following run k f h e positive g w d =
     by k positive (omega (arith, w, ap (λ (xs : List ℕ). length xs) f))
     (ap (λ (t : List ℕ). pass v n t) (sym f) ∙ plains_take v u k n text run h e positive g w d ∙ ap (λ (t : List ℕ). pass u (n + k) (drop k t)) f)
   where
-    by : (k : ℕ) → 0 < k → k ≤ 1 + length behind → pass v n (b ∷ behind) ≡ pass u (n + k) (drop k (b ∷ behind))
-        → (k - 1 ≤ length behind) × (pass v n (b ∷ behind) ≡ pass u (n + 1 + (k - 1)) (drop (k - 1) behind))
+    by : (k : ℕ) → 0 < k → k ≤ 1 + length following → pass v n (b ∷ following) ≡ pass u (n + k) (drop k (b ∷ following))
+        → (k - 1 ≤ length following) × (pass v n (b ∷ following) ≡ pass u (n + 1 + (k - 1)) (drop (k - 1) following))
     by zero positive l x = absurd (omega (arith, positive))
     by (suc j) positive l x =
         let less : suc j - 1 ≡ j = omega arith in
-        (omega (arith, l), x ∙ ap (λ (i : ℕ). pass u i (drop j behind)) (omega arith) ∙ ap (λ (z : ℕ). pass u (n + 1 + z) (drop z behind)) (sym less))
+        (omega (arith, l), x ∙ ap (λ (i : ℕ). pass u i (drop j following)) (omega arith) ∙ ap (λ (z : ℕ). pass u (n + 1 + z) (drop z following)) (sym less))
 
 -- the %, and those after it
 pub percent_walk : (v : ReaderState) (n : ℕ) (text : List ℕ) → v.stage ≡ at.List stages.Start → pass v n (37 ∷ text) ≡ pass (at_stage (at.List (stages.Percent n)) v) (n + 1) text
 percent_walk v n text h = rw h refl
 
-pub percent_takes : (v u : ReaderState) (n taken : ℕ) (behind : List ℕ) → v.stage ≡ at.List stages.Start → 1 ≤ length behind
-    → Turns (n + 1) (get_or behind 0 0) (take (length behind - 1) (drop 1 behind)) (at_stage (at.List (stages.Percent n)) v) u (Ok taken)
-    → (taken + 1 ≤ length behind) × (pass v n (37 ∷ behind) ≡ pass u (n + 1 + (taken + 1)) (drop (taken + 1) behind))
+pub percent_takes : (v u : ReaderState) (n taken : ℕ) (following : List ℕ) → v.stage ≡ at.List stages.Start → 1 ≤ length following
+    → Turns (n + 1) (get_or following 0 0) (take (length following - 1) (drop 1 following)) (at_stage (at.List (stages.Percent n)) v) u (Ok taken)
+    → (taken + 1 ≤ length following) × (pass v n (37 ∷ following) ≡ pass u (n + 1 + (taken + 1)) (drop (taken + 1) following))
 percent_takes v u n taken [] h some e = absurd (omega (arith, some))
 percent_takes v u n taken (b ∷ inside) h some e = (
   omega (arith, e.0, ap (λ (xs : List ℕ). length xs) whole),

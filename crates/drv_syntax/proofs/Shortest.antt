@@ -26,8 +26,8 @@ cut at = inr (at, refl)
 
 finishes : (p : Place) (n : ℕ) → IsFront (finish p n)
 finishes (o.AtItem here) n = got _
-finishes (o.BehindBackslash here back) n = cut _
-finishes (o.BehindPercent here at) n = cut _
+finishes (o.AfterBackslash here back) n = cut _
+finishes (o.AfterPercent here at) n = cut _
 finishes (o.SuffixStart here at kind) n = got _
 finishes (o.SuffixRun here at kind suffix) n = got _
 finishes (o.SuffixPercent here at kind percent) n = cut _
@@ -53,7 +53,7 @@ finishes (o.MarkedWord h start negated mark word) n = cut _
 finishes (o.MarkedEscape h start negated mark word) n = cut _
 finishes (o.TestPercent h start negated at) n = cut _
 finishes (o.TestFunction h start negated at name) n = cut _
-finishes (o.BehindTest h patterns tests bare) n = cut _
+finishes (o.AfterTest h patterns tests bare) n = cut _
 
 pub ends : (ws : List Waiting) (p : Place) (n : ℕ) → IsFront (end_of ws p n)
 ends [] p n = finishes p n

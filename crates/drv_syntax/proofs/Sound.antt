@@ -95,8 +95,8 @@ module _ (size : ℕ) (K : Outside) where
   -- each place
   pub row : (p : Place) (n b : ℕ) (text : List ℕ) → At size n (b ∷ text) → After size K b text (turn p n b) → Wanted size K p (b ∷ text)
   row (o.AtItem here) n b text a g = item_row size K here n b text a g
-  row (o.BehindBackslash here back) n b text a g = (b, text, refl, ends_at size K here back (n + 1) text (Escape b) (one_byte size n b text a) g)
-  row (o.BehindPercent here at) n b text a g = percent_row here at n b text a g
+  row (o.AfterBackslash here back) n b text a g = (b, text, refl, ends_at size K here back (n + 1) text (Escape b) (one_byte size n b text a) g)
+  row (o.AfterPercent here at) n b text a g = percent_row here at n b text a g
   row (o.SuffixStart here at kind) n b text a g = suffix_row size K here at kind n b text a g
   row (o.SuffixRun here at kind suffix) n b text a g = suffix_run_row size K here at kind suffix n b text a g
   row (o.SuffixPercent here at kind percent) n b text a g = suffix_percent_row here at kind percent n b text a g
@@ -122,7 +122,7 @@ module _ (size : ℕ) (K : Outside) where
   row (o.MarkedEscape h begun negated mark word) n b text a g = (b, text, refl, g)
   row (o.TestPercent h begun negated at) n b text a g = when (After size K b text) (b == 58) _ _ g (λ e g. (b, text, refl, (same b 58 e, g))) (λ e g. absurd g)
   row (o.TestFunction h begun negated at name) n b text a g = test_function_row size K h begun negated at name n b text g
-  row (o.BehindTest h ps ts bare) n b text a g = after_row size K h ps ts bare n b text a g
+  row (o.AfterTest h ps ts bare) n b text a g = after_row size K h ps ts bare n b text a g
 
 -- the end of the text
 
@@ -138,8 +138,8 @@ module _ (size : ℕ) (out : Items) where
 
   finished : (p : Place) (n : ℕ) → At size n [] → finish p n ≡ Got out → Wanted size Done p []
   finished (o.AtItem here) n a e = no_more here (got _ _ e)
-  finished (o.BehindBackslash here back) n a e = absurd cc
-  finished (o.BehindPercent here at) n a e = absurd cc
+  finished (o.AfterBackslash here back) n a e = absurd cc
+  finished (o.AfterPercent here at) n a e = absurd cc
   finished (o.SuffixStart here at kind) n a e = ([], [], s.suffix_none, ends_at size Done here at n [] (TempName kind []) a (no_more (placed here at n (TempName kind [])) (got _ _ e)))
   finished (o.SuffixRun here at kind suffix) n a e = (
     [],
@@ -185,7 +185,7 @@ module _ (size : ℕ) (out : Items) where
   finished (o.MarkedEscape h begun negated mark word) n a e = absurd cc
   finished (o.TestPercent h begun negated at) n a e = absurd cc
   finished (o.TestFunction h begun negated at name) n a e = absurd cc
-  finished (o.BehindTest h ps ts bare) n a e = absurd cc
+  finished (o.AfterTest h ps ts bare) n a e = absurd cc
 
 module _ (size : ℕ) (out : Items) (b : ℕ) (text : List ℕ)
     (IH : (ws : List Waiting) (p : Place) (n : ℕ) → At size n text → run ws p n text ≡ Got out → Wanted size (Around size ws out) p text) where

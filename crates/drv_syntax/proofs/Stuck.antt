@@ -8,7 +8,7 @@ use Rattle.drv_syntax.specs.declared.fault.SyntaxFault.TheVariants.{BadDirective
 use Rattle.drv_syntax.specs.Contexts.{ListContext, Top, in_arguments, in_braces, in_x, is_end}
 use Rattle.drv_syntax.specs.Outcome as o
 use Rattle.drv_syntax.specs.Outcome.{Head, Not, On, Place, Turn, Waiting, emitted, fresh, join_tests, resume, tested}
-use Rattle.drv_syntax.specs.Refusals.{AWord, AnEnd, AtBar, AtFront, AtNext, BehindMark, Breaks, Due, Empty, IsNoFunction, Order, PastMark, Reaches, ReachesAsked, ReachesEmits, ReachesLater, ReachesPatterns, ReachesTests, Refuses, ends_either, ends_pattern, ends_test}
+use Rattle.drv_syntax.specs.Refusals.{AWord, AnEnd, AtBar, AtFront, AtNext, AfterMark, Breaks, Due, Empty, IsNoFunction, Order, PastMark, Reaches, ReachesAsked, ReachesEmits, ReachesLater, ReachesPatterns, ReachesTests, Refuses, ends_either, ends_pattern, ends_test}
 use Rattle.drv_syntax.specs.Spelling.{AreItems, AreSpaces, AreTests, At, IsAsked, IsQuoted, IsRun, Stops}
 use Rattle.drv_syntax.specs.Tree.{Asked, Choices, HasResult, HasSwitch, Items, Pattern, Span, Tests, choice, no_choice, no_test, pattern, test}
 use Rattle.std.proofs.Common.{◌≡◌, ◌≤◌, ◌++◌, ◌⊎◌, Bool, false, true, List, [], ◌∷◌, length, ℕ}
@@ -124,7 +124,7 @@ module _ (size : ℕ) (F : SyntaxFault) where
   marked_stuck h begun negated mark word text = (run : List ℕ) × (mid : List ℕ) × IsQuoted is_word text run mid × marked_after h begun negated mark (word ++ run) mid
 
   abbrev pub alone_stuck : ℕ → List ℕ → Type 0
-  alone_stuck n text = Refuses size (BehindMark n) text F ⊎ ((b : ℕ) × (rest : List ℕ) × (text ≡ b ∷ rest) × (is_white b ≡ true) × end_stuck (PastMark n) rest)
+  alone_stuck n text = Refuses size (AfterMark n) text F ⊎ ((b : ℕ) × (rest : List ℕ) × (text ≡ b ∷ rest) × (is_white b ≡ true) × end_stuck (PastMark n) rest)
 
   abbrev pub mark_stuck : Head → ℕ → Bool → ℕ → List ℕ → Type 0
   mark_stuck h begun negated mark text =
@@ -136,10 +136,10 @@ module _ (size : ℕ) (F : SyntaxFault) where
 
   -- after a front of a function's name, whose % has this place
   abbrev pub call_stuck : ℕ → ListContext → List ℕ → List ℕ → (List ℕ → Items → List ℕ → Type 0) → Type 0
-  call_stuck at c name text behind =
+  call_stuck at c name text following =
       (IsNoFunction (name ++ text) × (UnknownFunction at ≡ F))
       ⊎ ((others : List ℕ) × (mid : List ℕ) × (text ≡ others ++ 40 ∷ mid) × (is_function (name ++ others) ≡ true)
-      × (list_stuck (in_arguments c) mid ⊎ ((arguments : Items) × (rest : List ℕ) × AreItems size (in_arguments c) mid arguments (41 ∷ rest) × behind (name ++ others) arguments rest)))
+      × (list_stuck (in_arguments c) mid ⊎ ((arguments : Items) × (rest : List ℕ) × AreItems size (in_arguments c) mid arguments (41 ∷ rest) × following (name ++ others) arguments rest)))
 
   -- after a function in a test
   abbrev pub result_stuck : Head → ℕ → Bool → List ℕ → Items → List ℕ → Type 0
@@ -158,8 +158,8 @@ module _ (size : ℕ) (F : SyntaxFault) where
 
   abbrev pub Stuck : Place → List ℕ → Type 0
   Stuck (o.AtItem here) text = ⊥
-  Stuck (o.BehindBackslash here back) text = ⊥
-  Stuck (o.BehindPercent here at) text = At size at (37 ∷ text) → list_stuck here.context (37 ∷ text)
+  Stuck (o.AfterBackslash here back) text = ⊥
+  Stuck (o.AfterPercent here at) text = At size at (37 ∷ text) → list_stuck here.context (37 ∷ text)
   Stuck (o.SuffixStart here at kind) text = ⊥
   Stuck (o.SuffixRun here at kind suffix) text = ⊥
   Stuck (o.SuffixPercent here at kind percent) text = ⊥
@@ -187,7 +187,7 @@ module _ (size : ℕ) (F : SyntaxFault) where
   Stuck (o.TestPercent h begun negated at) text =
       h.patterns ≡ [] → ((b : ℕ) × (text ≡ b ∷ []) × ((b == 58) ≡ false) × (BadDirective at ≡ F)) ⊎ ((rest : List ℕ) × (text ≡ 58 ∷ rest) × test_call_stuck h begun negated at [] rest)
   Stuck (o.TestFunction h begun negated at name) text = h.patterns ≡ [] → is_function_front name ≡ true → test_call_stuck h begun negated at name text
-  Stuck (o.BehindTest h ps ts bare) text = Possible h ps ts × (bare ≡ true → There ps) → some_stuck h ps ts bare text
+  Stuck (o.AfterTest h ps ts bare) text = Possible h ps ts × (bare ≡ true → There ps) → some_stuck h ps ts bare text
 
   -- around a list for whose end a directive waits: the text ends in the list, or at its end, or the directive goes on after it
   abbrev pub Beyond : Outside → Waiting → Outside
@@ -208,7 +208,7 @@ module _ (size : ℕ) (F : SyntaxFault) where
       ⊎ ((items : Items) × (b : ℕ) × (rest : List ℕ) × (k : ℕ) × AreItems size c text items (b ∷ rest) × (is_end c.kind b ≡ true) × At size k (b ∷ rest)
       × (((q : Place) × (resume w items k b ≡ On q) × Stuck q rest) ⊎ ((resume w items k b ≡ Not F) × (rest ≡ []))))
 
-  -- what is left behind a byte that does this, where the text ends in the directive that the byte stands in
+  -- what is left after a byte that does this, where the text ends in the directive that the byte stands in
   abbrev pub StuckAfter : Outside → ℕ → List ℕ → Turn → Type 0
   StuckAfter K b text (o.Goes q) = Stuck q text
   StuckAfter K b text (o.Opens q w) = Wanted size (Beyond K w) q text ⊎ Stuck q text

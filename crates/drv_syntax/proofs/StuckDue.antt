@@ -16,7 +16,7 @@ use Rattle.drv_syntax.specs.Contexts.{ListContext, in_arguments, in_braces, in_x
 use Rattle.drv_syntax.specs.Outcome as o
 use Rattle.drv_syntax.specs.Outcome.{Head, Not, On, Opens, Place, WaitsTest, WaitsX, emitted, emitted_by, join_tests, list_in, tested, tested_by, turn, with_tests}
 use Rattle.drv_syntax.specs.Refusals as r
-use Rattle.drv_syntax.specs.Refusals.{APattern, ATest, AWord, AnEnd, AtBar, AtFront, AtNext, BehindMark, Due, NoMore, Order, PastMark, ReachesAsked, ReachesChoices, ReachesEmits, ReachesLater, ReachesPatterns, ReachesTests, Refuses, ends_either, ends_pattern, ends_test, is_default, may_emit}
+use Rattle.drv_syntax.specs.Refusals.{APattern, ATest, AWord, AnEnd, AtBar, AtFront, AtNext, AfterMark, Due, NoMore, Order, PastMark, ReachesAsked, ReachesChoices, ReachesEmits, ReachesLater, ReachesPatterns, ReachesTests, Refuses, ends_either, ends_pattern, ends_test, is_default, may_emit}
 use Rattle.drv_syntax.specs.Spelling as s
 use Rattle.drv_syntax.specs.Spelling.{AreItems, AreSpaces, At, IsAsked, IsPattern, IsQuoted, IsSign, Stops, span}
 use Rattle.drv_syntax.specs.Tree.{Choices, HasResult, HasSwitch, Items, Pattern, Span, Tests, choice, no_choice, no_test, none, pattern, test}
@@ -173,17 +173,17 @@ module _ (size : ℕ) (F : SyntaxFault) (h : Head) where
           subst (Refuses size (AnEnd h.at ends_test) mid) y (subst (λ (v : List ℕ). Refuses size (AnEnd h.at ends_test) v (BadDirective h.at)) (sym f) (r.no_end refl refl)),
         )
     from_mark (inr (inl (m, q, f, g))) =
-        by (emitted_there begun m negated (pattern (b ∷ []) false) (after_patterns size F h.at text ⊎ (Refuses size (BehindMark h.at) text F
+        by (emitted_there begun m negated (pattern (b ∷ []) false) (after_patterns size F h.at text ⊎ (Refuses size (AfterMark h.at) text F
         ⊎ ((x : ℕ) × (rest : List ℕ) × (text ≡ x ∷ rest) × (is_white x ≡ true) × end_stuck size F (PastMark h.at) rest))) g)
       where
         alone : IsPattern (b ∷ text) (pattern (b ∷ []) false) text
         alone = s.unstarred (marked_quoted q) f
 
-        by : Bare h × (negated ≡ false) × (after_patterns size F h.at text ⊎ (Refuses size (BehindMark h.at) text F
+        by : Bare h × (negated ≡ false) × (after_patterns size F h.at text ⊎ (Refuses size (AfterMark h.at) text F
             ⊎ ((x : ℕ) × (rest : List ℕ) × (text ≡ x ∷ rest) × (is_white x ≡ true) × end_stuck size F (PastMark h.at) rest)))
             → asked_stuck size F h begun negated (b ∷ text)
         by (x, y, inl v) = inr (inr (x, y, emits_from (b ∷ text) text (pattern (b ∷ []) false) alone v))
-        by (x, y, inr (inl v)) = inr (inr (x, y, (BehindMark h.at, text, r.after_mark s.no_space e alone, v)))
+        by (x, y, inr (inl v)) = inr (inr (x, y, (AfterMark h.at, text, r.after_mark s.no_space e alone, v)))
         by (x, y, inr (inr (v, rest, i, j, (end, d, w)))) =
             inr (inr (x, y, (PastMark h.at, end, subst (λ (u : List ℕ). ReachesEmits h.at (b ∷ u) (PastMark h.at) end) (sym i) (r.past_mark s.no_space e j d), w)))
     from_mark (inr (inr (inl (rest, m, f, g)))) = from_star [] text (subst (λ (u : List ℕ). IsQuoted is_word u [] u) (sym f) (s.quoted_stop refl refl)) (rest, m, f, g)

@@ -25,8 +25,8 @@ module _ (size : ℕ) (F : SyntaxFault) (K : Outside) (ending : (c : ListContext
   -- each place
   stuck_row : (p : Place) (n b : ℕ) (text : List ℕ) → At size n (b ∷ text) → StuckAfter size F K b text (turn p n b) → Wanted size K p (b ∷ text) ⊎ Stuck size F p (b ∷ text)
   stuck_row (o.AtItem here) n b text a g = inl (item_stuck_row size F K ending here n b text a g)
-  stuck_row (o.BehindBackslash here back) n b text a g = absurd g
-  stuck_row (o.BehindPercent here at) n b text a g = inr (λ x. percent_stuck_row size F K ending here at n b text x g)
+  stuck_row (o.AfterBackslash here back) n b text a g = absurd g
+  stuck_row (o.AfterPercent here at) n b text a g = inr (λ x. percent_stuck_row size F K ending here at n b text x g)
   stuck_row (o.SuffixStart here at kind) n b text a g = inl (suffix_stuck_row size F K ending here at kind n b text a g)
   stuck_row (o.SuffixRun here at kind suffix) n b text a g = inl (suffix_run_stuck_row size F K ending here at kind suffix n b text a g)
   stuck_row (o.SuffixPercent here at kind percent) n b text a g = inl (suffix_percent_stuck_row size F K ending here at kind percent n b text g)
@@ -57,7 +57,7 @@ module _ (size : ℕ) (F : SyntaxFault) (K : Outside) (ending : (c : ListContext
       when (StuckAfter size F K b text) (b == 58) _ _ g (λ e g. inr (λ z. inr (text, ap (λ (x : ℕ). x ∷ text) (same b 58 e), g z refl)))
       (λ e g. inr (λ z. inl (b, ap (λ (x : List ℕ). b ∷ x) g.1, e, g.0)))
   stuck_row (o.TestFunction h begun negated at name) n b text a g = test_function_stuck_row size F K ending h begun negated at name n b text g
-  stuck_row (o.BehindTest h ps ts bare) n b text a g = after_stuck_row size F K ending h ps ts bare n b text a g
+  stuck_row (o.AfterTest h ps ts bare) n b text a g = after_stuck_row size F K ending h ps ts bare n b text a g
 
 -- a list in an item of which the text ends
 around_ends : (size : ℕ) (F : SyntaxFault) (ws : List Waiting) (c : ListContext) (all : Items) (rest : List ℕ) → list_stuck size F c rest → StuckAround size F ws c all rest

@@ -116,16 +116,16 @@ module _ (size : ℕ) (F : SyntaxFault) where
 module _ (size : ℕ) (F : SyntaxFault) (K : Outside) (ending : (c : ListContext) (all : Items) (rest : List ℕ) → list_stuck size F c rest → K c all rest) where
   -- after a test
 
-  abbrev Behind : Head → Option (List (Span × Pattern)) → Option Tests → Bool → List ℕ → Type 0
-  Behind h ps ts bare text = Wanted size K (o.BehindTest h ps ts bare) text ⊎ Stuck size F (o.BehindTest h ps ts bare) text
+  abbrev Operand : Head → Option (List (Span × Pattern)) → Option Tests → Bool → List ℕ → Type 0
+  Operand h ps ts bare text = Wanted size K (o.AfterTest h ps ts bare) text ⊎ Stuck size F (o.AfterTest h ps ts bare) text
 
   colon_stuck : (h : Head) (ps : Option (List (Span × Pattern))) (ts : Option Tests) (bare : Bool) (n : ℕ) (text : List ℕ) → At size n (58 ∷ text) → StuckAfter size F K 58 text (o.turn_colon h ts bare n)
-      → Behind h ps ts bare (58 ∷ text)
+      → Operand h ps ts bare (58 ∷ text)
   colon_stuck h ps None bare n text a g = inr (λ f. inr (inr (no_test_end size F h ps bare 58 text refl refl refl g f.0)))
   colon_stuck h ps (Some tests) bare n text a g = by (opened_list size F K ending (WaitsX (with_tests h tests) n) (in_x (in_braces h.here.context) tests) text g)
     where
       by : WantsList size (Inside size K (WaitsX (with_tests h tests) n)) (record { context = in_x (in_braces h.here.context) tests; done = none }) text
-          ⊎ InsideStuck size F (WaitsX (with_tests h tests) n) (in_x (in_braces h.here.context) tests) text → Behind h ps (Some tests) bare (58 ∷ text)
+          ⊎ InsideStuck size F (WaitsX (with_tests h tests) n) (in_x (in_braces h.here.context) tests) text → Operand h ps (Some tests) bare (58 ∷ text)
       by (inl l) = inl (after_row size K h ps (Some tests) bare n 58 text a l)
       by (inr c) = inr (λ f. inr (inl (inl (
         no_test,
@@ -140,17 +140,17 @@ module _ (size : ℕ) (F : SyntaxFault) (K : Outside) (ending : (c : ListContext
   bar_stuck h tests text t (inr (x, p)) = absurd (subst Tested x.1 t)
 
   bars_stuck : (h : Head) (ps : Option (List (Span × Pattern))) (ts : Option Tests) (bare : Bool) (text : List ℕ) → StuckAfter size F K 124 text (o.turn_bar h ts bare)
-      → Stuck size F (o.BehindTest h ps ts bare) (124 ∷ text)
+      → Stuck size F (o.AfterTest h ps ts bare) (124 ∷ text)
   bars_stuck h ps (Some tests) bare text g f = inr (inl (bar_stuck h tests text f.0.1.1 (g f.0.1)))
   bars_stuck h ps None bare text g f = inr (inr (no_test_end size F h ps bare 124 text refl refl refl g f.0))
 
   brace_part : (h : Head) (ps : Option (List (Span × Pattern))) (ts : Option Tests) (bare : Bool) (n : ℕ) (text : List ℕ) → StuckAfter size F K 125 text (o.turn_brace h ps n)
-      → Stuck size F (o.BehindTest h ps ts bare) (125 ∷ text)
+      → Stuck size F (o.AfterTest h ps ts bare) (125 ∷ text)
   brace_part h (Some ps) ts bare n text g f = absurd g
   brace_part h None ts bare n text g f = inr (inr (no_pattern_end size F h ts bare 125 text refl refl g f.1))
 
   and_part : (h : Head) (ps : Option (List (Span × Pattern))) (ts : Option Tests) (bare : Bool) (text : List ℕ) → StuckAfter size F K 38 text (o.turn_and h ps)
-      → Stuck size F (o.BehindTest h ps ts bare) (38 ∷ text)
+      → Stuck size F (o.AfterTest h ps ts bare) (38 ∷ text)
   and_part h (Some ps) ts bare text g f = inl (text, s.no_space, g f.0.0)
   and_part h None ts bare text g f = inr (inr (no_pattern_end size F h ts bare 38 text refl refl g f.1))
 
@@ -159,18 +159,18 @@ module _ (size : ℕ) (F : SyntaxFault) (K : Outside) (ending : (c : ListContext
   at_byte b x text t P e g k = subst P (sym (same b x e)) (k (subst (λ (y : ℕ). StuckAfter size F K y text t) (same b x e) g))
 
   pub after_stuck_row : (h : Head) (ps : Option (List (Span × Pattern))) (ts : Option Tests) (bare : Bool) (n b : ℕ) (text : List ℕ) → At size n (b ∷ text)
-      → StuckAfter size F K b text (o.turn_after h ps ts bare n b) → Behind h ps ts bare (b ∷ text)
+      → StuckAfter size F K b text (o.turn_after h ps ts bare n b) → Operand h ps ts bare (b ∷ text)
   after_stuck_row h ps ts bare n b text a g =
       when (StuckAfter size F K b text) (is_white b) _ _ g (λ e g. inr (λ f. space_stuck size F h b text ps ts bare e (g f))) (λ e1 g.
       when (StuckAfter size F K b text) (b == 125) _ _ g
-      (λ e g. inr (at_byte b 125 text (o.turn_brace h ps n) (λ (y : ℕ). Stuck size F (o.BehindTest h ps ts bare) (y ∷ text)) e g (λ x. brace_part h ps ts bare n text x))) (λ e2 g.
+      (λ e g. inr (at_byte b 125 text (o.turn_brace h ps n) (λ (y : ℕ). Stuck size F (o.AfterTest h ps ts bare) (y ∷ text)) e g (λ x. brace_part h ps ts bare n text x))) (λ e2 g.
       when (StuckAfter size F K b text) (b == 38) _ _ g
-      (λ e g. inr (at_byte b 38 text (o.turn_and h ps) (λ (y : ℕ). Stuck size F (o.BehindTest h ps ts bare) (y ∷ text)) e g (λ x. and_part h ps ts bare text x))) (λ e3 g.
+      (λ e g. inr (at_byte b 38 text (o.turn_and h ps) (λ (y : ℕ). Stuck size F (o.AfterTest h ps ts bare) (y ∷ text)) e g (λ x. and_part h ps ts bare text x))) (λ e3 g.
       when (StuckAfter size F K b text) (b == 58) _ _ g
-      (λ e g. at_byte b 58 text (o.turn_colon h ts bare n) (λ (y : ℕ). Behind h ps ts bare (y ∷ text)) e g
+      (λ e g. at_byte b 58 text (o.turn_colon h ts bare n) (λ (y : ℕ). Operand h ps ts bare (y ∷ text)) e g
       (λ x. colon_stuck h ps ts bare n text (subst (λ (y : ℕ). At size n (y ∷ text)) (same b 58 e) a) x)) (λ e4 g.
       when (StuckAfter size F K b text) (b == 124) _ _ g
-      (λ e g. inr (at_byte b 124 text (o.turn_bar h ts bare) (λ (y : ℕ). Stuck size F (o.BehindTest h ps ts bare) (y ∷ text)) e g (λ x. bars_stuck h ps ts bare text x)))
+      (λ e g. inr (at_byte b 124 text (o.turn_bar h ts bare) (λ (y : ℕ). Stuck size F (o.AfterTest h ps ts bare) (y ∷ text)) e g (λ x. bars_stuck h ps ts bare text x)))
       (λ e5 g. inr (λ f. inr (inr (no_end size F h ps ts bare b text e1 e2 e3 e4 e5 g))))))))
 
   -- words
@@ -202,7 +202,7 @@ module _ (size : ℕ) (F : SyntaxFault) (K : Outside) (ending : (c : ListContext
       (after_stuck_row h (emitted h begun n negated (pattern word false)) (tested h begun n negated (HasSwitch (pattern word false))) false n b text a g))))
     where
       by : (b == 92) ≡ false → is_word b ≡ false → (b == 42) ≡ false
-          → Behind h (emitted h begun n negated (pattern word false)) (tested h begun n negated (HasSwitch (pattern word false))) false (b ∷ text)
+          → Operand h (emitted h begun n negated (pattern word false)) (tested h begun n negated (HasSwitch (pattern word false))) false (b ∷ text)
           → Wanted size K (o.TestWord h begun negated word) (b ∷ text) ⊎ Stuck size F (o.TestWord h begun negated word) (b ∷ text)
       by e1 e2 e3 (inl g) = inl (
         pattern (word ++ []) false,
@@ -271,7 +271,7 @@ module _ (size : ℕ) (F : SyntaxFault) (K : Outside) (ending : (c : ListContext
       (after_stuck_row h (emitted h begun n negated (pattern (mark ∷ word) false)) (tested h begun n negated (o.marked mark word)) false n b text a g))))
     where
       by : (b == 92) ≡ false → is_word b ≡ false → (b == 42) ≡ false
-          → Behind h (emitted h begun n negated (pattern (mark ∷ word) false)) (tested h begun n negated (o.marked mark word)) false (b ∷ text)
+          → Operand h (emitted h begun n negated (pattern (mark ∷ word) false)) (tested h begun n negated (o.marked mark word)) false (b ∷ text)
           → Wanted size K (o.MarkedWord h begun negated mark word) (b ∷ text) ⊎ Stuck size F (o.MarkedWord h begun negated mark word) (b ∷ text)
       by e1 e2 e3 (inl g) = inl (
         [],
@@ -299,8 +299,8 @@ module _ (size : ℕ) (F : SyntaxFault) (K : Outside) (ending : (c : ListContext
   past_space h ps b text e (inr (inl g)) = absurd g
   past_space h ps b text e (inr (inr g)) = inr (inr (b, text, refl, e, g))
 
-  alone_here : (h : Head) (b : ℕ) (text : List ℕ) → is_white b ≡ false → (b == 125) ≡ false → (b == 38) ≡ false → (EmptyTest h.at ≡ F) × (text ≡ []) → Refuses size (r.BehindMark h.at) (b ∷ text) F
-  alone_here h b text sp x y g = refused_there size F (r.BehindMark h.at) b text (EmptyTest h.at) g (r.mark_alone sp (rw (x, y) refl))
+  alone_here : (h : Head) (b : ℕ) (text : List ℕ) → is_white b ≡ false → (b == 125) ≡ false → (b == 38) ≡ false → (EmptyTest h.at ≡ F) × (text ≡ []) → Refuses size (r.AfterMark h.at) (b ∷ text) F
+  alone_here h b text sp x y g = refused_there size F (r.AfterMark h.at) b text (EmptyTest h.at) g (r.mark_alone sp (rw (x, y) refl))
 
   bare_stuck : (h : Head) (ps starred : Option (List (Span × Pattern))) (n b : ℕ) (text : List ℕ) → Any (λ xs. Bare h × Filled xs) ps → Any (λ xs. Bare h × Filled xs) starred → (There ps → There starred)
       → StuckAfter size F K b text (o.turn_bare h ps starred n b) → AloneOr h text b ps starred

@@ -6,7 +6,7 @@ use Rattle.drv_syntax.specs.Code.Steps.{ReaderState, act_head, at_stage, form_at
 use Rattle.drv_syntax.specs.Code.Turns.{after_action, chooses, emits}
 use Rattle.drv_syntax.specs.declared.fault.SyntaxFault.TheVariants.{BadDirective, Memory}
 use Rattle.drv_syntax.specs.declared.fault.SyntaxFault.{SyntaxFault}
-use Rattle.drv_syntax.specs.declared.reader.stages.Behind.TheVariants as behinds
+use Rattle.drv_syntax.specs.declared.reader.stages.Operand.TheVariants as operands
 use Rattle.drv_syntax.specs.declared.reader.stages.HeadForm.{HeadForm}
 use Rattle.drv_syntax.specs.declared.reader.stages.Head.{Head}
 use Rattle.drv_syntax.specs.declared.reader.stages.HeadStage.TheVariants as places
@@ -51,7 +51,7 @@ step_fails v u n (b ∷ text) r fault l e (inr h) = reads_fault v u n (b ∷ tex
 
 -- a star after the word
 abbrev pub after_star : Head → HeadForm → ℕ → Bool → ℕ → ReaderState → ReaderState
-after_star head form start negated n v = at_stage (at.Braces head form (places.BehindTest (behinds.Switch start (n + 1) negated true))) v
+after_star head form start negated n v = at_stage (at.Braces head form (places.AfterTest (operands.Switch start (n + 1) negated true))) v
 
 pub star_takes : (v : ReaderState) (head : Head) (form : HeadForm) (start : ℕ) (negated : Bool) (n : ℕ) (text : List ℕ) → v.stage ≡ at.Braces head form (places.TestWord start negated) → 0 < length text
     → get_or text 0 0 ≡ 42 → pass v n text ≡ pass (after_star head form start negated n v) (n + 1) (drop 1 text)
@@ -69,22 +69,22 @@ stuck true x y found fault again h = absurd cc
 stuck false x y found fault again h = h
 
 star_refused : (v : ReaderState) (head : Head) (form : HeadForm) (start : ℕ) (negated : Bool) (word : List ℕ) (n b : ℕ) (text : List ℕ) (fault : SyntaxFault) (t : Bool) → (b == 125) ≡ t → (b == 125 || b == 58) ≡ true
-    → act_head head form (after_action head.part.start (behinds.Switch start (n + 1) negated true) b) (n + 1) b (with_word word v) ≡ Err fault
+    → act_head head form (after_action head.part.start (operands.Switch start (n + 1) negated true) b) (n + 1) b (with_word word v) ≡ Err fault
     → pass (in_word head form start negated word v) n (42 ∷ b ∷ text) ≡ Err fault
 star_refused v head form start negated word n b text fault true e g h = subst
-    (λ (x : ℕ). act_head head form (after_action head.part.start (behinds.Switch start (n + 1) negated true) x) (n + 1) x (with_word word v) ≡ Err fault → pass (in_word head form start negated word v) n (42 ∷ x ∷ text) ≡ Err fault)
+    (λ (x : ℕ). act_head head form (after_action head.part.start (operands.Switch start (n + 1) negated true) x) (n + 1) x (with_word word v) ≡ Err fault → pass (in_word head form start negated word v) n (42 ∷ x ∷ text) ≡ Err fault)
     (sym (same b 125 e))
     (stuck (emits form negated) _ _ (BadDirective head.part.start) fault (λ x. pass x (n + 1 + 1) text))
     h
 star_refused v head form start negated word n b text fault false e g h = subst
-    (λ (x : ℕ). act_head head form (after_action head.part.start (behinds.Switch start (n + 1) negated true) x) (n + 1) x (with_word word v) ≡ Err fault → pass (in_word head form start negated word v) n (42 ∷ x ∷ text) ≡ Err fault)
+    (λ (x : ℕ). act_head head form (after_action head.part.start (operands.Switch start (n + 1) negated true) x) (n + 1) x (with_word word v) ≡ Err fault → pass (in_word head form start negated word v) n (42 ∷ x ∷ text) ≡ Err fault)
     (sym (same b 58 (let z : (false || b == 58) ≡ true = ap (λ (t : Bool). t || b == 58) (sym e) ∙ g in z)))
     (stuck (chooses form) _ _ (BadDirective head.part.start) fault (λ x. pass x (n + 1 + 1) text))
     h
 
 pub star_fails : (v u : ReaderState) (head : Head) (form : HeadForm) (start : ℕ) (negated : Bool) (word : List ℕ) (n : ℕ) (text : List ℕ) (r : Result ℕ SyntaxFault) (fault : SyntaxFault) → 2 ≤ length text
     → get_or text 0 0 ≡ 42 → (get_or text 1 0 == 125 || get_or text 1 0 == 58) ≡ true → IsErrAnd r (λ e. e ≡ fault)
-    → (fault ≡ Memory) ⊎ (act_head head form (after_action head.part.start (behinds.Switch start (n + 1) negated true) (get_or text 1 0)) (n + 1) (get_or text 1 0) (with_word word v) ≡ Err fault)
+    → (fault ≡ Memory) ⊎ (act_head head form (after_action head.part.start (operands.Switch start (n + 1) negated true) (get_or text 1 0)) (n + 1) (get_or text 1 0) (with_word word v) ≡ Err fault)
     → Reads n text (in_word head form start negated word v) u r
 star_fails v u head form start negated word n text r fault l s e is (inl h) = reads_fault (in_word head form start negated word v) u n text r fault is (inl h)
 star_fails v u head form start negated word n [] r fault l s e is (inr h) = absurd (omega (arith, l))

@@ -26,8 +26,8 @@ module _ (size : ℕ) (K : Outside) (ending : (c : ListContext) (all : Items) (r
   -- each place
   cut_row : (p : Place) (n b : ℕ) (text : List ℕ) → At size n (b ∷ text) → CutAfter size K b text (turn p n b) → Wanted size K p (b ∷ text) ⊎ Cut size p (b ∷ text)
   cut_row (o.AtItem here) n b text a g = inl (item_cut_row size K ending here n b text g)
-  cut_row (o.BehindBackslash here back) n b text a g = absurd g
-  cut_row (o.BehindPercent here at) n b text a g = inr (percent_cut_row size K ending here at n b text g)
+  cut_row (o.AfterBackslash here back) n b text a g = absurd g
+  cut_row (o.AfterPercent here at) n b text a g = inr (percent_cut_row size K ending here at n b text g)
   cut_row (o.SuffixStart here at kind) n b text a g = suffix_cut_row size K ending here at kind n b text a g
   cut_row (o.SuffixRun here at kind suffix) n b text a g = inl (suffix_run_cut_row size K ending here at kind suffix n b text a g)
   cut_row (o.SuffixPercent here at kind percent) n b text a g = inl (suffix_percent_cut_row size K ending here at kind percent n b text g)
@@ -54,7 +54,7 @@ module _ (size : ℕ) (K : Outside) (ending : (c : ListContext) (all : Items) (r
   cut_row (o.TestPercent h begun negated at) n b text a g =
       when (CutAfter size K b text) (b == 58) _ _ g (λ e g. inr (λ z. inr (text, ap (λ (x : ℕ). x ∷ text) (same b 58 e), g z refl))) (λ e g. absurd g)
   cut_row (o.TestFunction h begun negated at name) n b text a g = test_function_cut_row size K ending h begun negated at name n b text g
-  cut_row (o.BehindTest h ps ts bare) n b text a g = after_cut_row size K ending h ps ts bare n b text a g
+  cut_row (o.AfterTest h ps ts bare) n b text a g = after_cut_row size K ending h ps ts bare n b text a g
 
   -- the end of the text
 
@@ -66,8 +66,8 @@ module _ (size : ℕ) (K : Outside) (ending : (c : ListContext) (all : Items) (r
 
   ended : (p : Place) (n : ℕ) → At size n [] → Wanted size K p [] ⊎ Cut size p []
   ended (o.AtItem here) n a = inl (list_cut size K ending here [] cuts.items_end)
-  ended (o.BehindBackslash here back) n a = inr refl
-  ended (o.BehindPercent here at) n a = inr cuts.cut_percent
+  ended (o.AfterBackslash here back) n a = inr refl
+  ended (o.AfterPercent here at) n a = inr cuts.cut_percent
   ended (o.SuffixStart here at kind) n a =
       inl ([], [], s.suffix_none, ends_at size K here at n [] (TempName kind []) a (list_cut size K ending (placed here at n (TempName kind [])) [] cuts.items_end))
   ended (o.SuffixRun here at kind suffix) n a = inl (
@@ -100,7 +100,7 @@ module _ (size : ℕ) (K : Outside) (ending : (c : ListContext) (all : Items) (r
   ended (o.MarkedEscape h begun negated mark word) n a = inr (λ f. inl refl)
   ended (o.TestPercent h begun negated at) n a = inr (λ z. inl refl)
   ended (o.TestFunction h begun negated at name) n a = inr (λ z f. inl (ap is_function_front (append-nil name) ∙ f))
-  ended (o.BehindTest h ps ts bare) n a = inr (λ f. any_after h ps ts f)
+  ended (o.AfterTest h ps ts bare) n a = inr (λ f. any_after h ps ts f)
 
 -- a list that ends with the text
 around_ends : (size : ℕ) (ws : List Waiting) (c : ListContext) (all : Items) (rest : List ℕ) → AreFrontItems size c rest → FrontAround size ws c all rest

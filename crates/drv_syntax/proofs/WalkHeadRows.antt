@@ -6,8 +6,8 @@ use Rattle.drv_syntax.specs.Tree.{Asked, Choices, Item, Items, Pattern, Span, Te
 use Rattle.drv_syntax.specs.Code.Turns as w
 use Rattle.drv_syntax.specs.Code.Turns.{single_kind, single_label, list_turn, start_action, percent_action, head_action, choice_action}
 use Rattle.drv_syntax.specs.Code.Steps.{form_at}
-use Rattle.drv_syntax.specs.declared.reader.stages.Behind.TheVariants as behinds
-use Rattle.drv_syntax.specs.declared.reader.stages.Behind.{Behind}
+use Rattle.drv_syntax.specs.declared.reader.stages.Operand.TheVariants as operands
+use Rattle.drv_syntax.specs.declared.reader.stages.Operand.{Operand}
 use Rattle.drv_syntax.specs.declared.reader.stages.ListContext.{ListContext}
 use Rattle.drv_syntax.specs.declared.reader.stages.HeadForm.{HeadForm}
 use Rattle.drv_syntax.specs.declared.reader.stages.Head.{Head}
@@ -21,9 +21,9 @@ use Rattle.drv_syntax.proofs.WalkMeaning.{either, headed, Fits, fits_fresh, fits
 
 -- The table of the code in braces is that of the places.
 
-pub after_row : (h : o.Head) (word : List ℕ) (n b : ℕ) (behind : Behind)
-    → meant_head h word n b (w.after_action h.at behind b) ≡ o.turn_after h (patterns_of behind word h) (tests_of behind word h) (is_bare behind) n b
-after_row h word n b behind =
+pub after_row : (h : o.Head) (word : List ℕ) (n b : ℕ) (operand : Operand)
+    → meant_head h word n b (w.after_action h.at operand b) ≡ o.turn_after h (patterns_of operand word h) (tests_of operand word h) (is_bare operand) n b
+after_row h word n b operand =
     either F (bytes.is_white b) refl (either F (b == 125) refl (either F (b == 38) refl (either F (b == 58) refl (either F (b == 124) refl refl))))
   where
     F : HeadAction → Turn
@@ -31,7 +31,7 @@ after_row h word n b behind =
 
 pub word_row : (h : o.Head) (start : ℕ) (negated : Bool) (word : List ℕ) (n b : ℕ) → meant_head h word n b (w.word_action h.at start negated n b) ≡ o.turn_word h start negated word n b
 word_row h start negated word n b =
-    either F (b == 92) refl (either F (bytes.is_word b) refl (either F (b == 42) refl (after_row h word n b (behinds.Switch start n negated false))))
+    either F (b == 92) refl (either F (bytes.is_word b) refl (either F (b == 42) refl (after_row h word n b (operands.Switch start n negated false))))
   where
     F : HeadAction → Turn
     F a = meant_head h word n b a
@@ -97,7 +97,7 @@ mark_row k before head form choices tests patterns fits start negated mark word 
 pub star_mark_row : (k : ListContext) (before : Items) (head : Head) (form : HeadForm) (choices : Choices) (tests : Tests) (patterns : List (Span × Pattern)) → Fits form choices tests patterns
     → (start : ℕ) (negated : Bool) (mark : ℕ) (word : List ℕ) (n b : ℕ)
     → meant_head (headed k before head choices tests patterns) word n b
-    (if w.emits form negated then heads.Keeps (places.BehindTest (behinds.StarredMark start (n + 1) negated mark)) else w.bad head.part.start)
+    (if w.emits form negated then heads.Keeps (places.AfterTest (operands.StarredMark start (n + 1) negated mark)) else w.bad head.part.start)
     ≡ o.turn_starred_mark (headed k before head choices tests patterns) (o.emitted (headed k before head choices tests patterns) start (n + 1) negated (tree.pattern (mark ∷ word) true))
 star_mark_row k before head form choices tests patterns fits_fresh start true mark word n b = refl
 star_mark_row k before head form choices tests patterns fits_fresh start false mark word n b = refl
@@ -115,7 +115,7 @@ marked_row k before head form choices tests patterns fits start negated mark wor
     either F (b == 92) refl
     (either F (bytes.is_word b) refl
     (either F (b == 42) (star_mark_row k before head form choices tests patterns fits start negated mark word n b)
-    (after_row (headed k before head choices tests patterns) word n b (behinds.Marked start n negated mark))))
+    (after_row (headed k before head choices tests patterns) word n b (operands.Marked start n negated mark))))
   where
     F : HeadAction → Turn
     F a = meant_head (headed k before head choices tests patterns) word n b a
@@ -139,7 +139,7 @@ head_row (places.TestPercent start negated at) k before head form choices tests 
     either (λ a. meant_head (headed k before head choices tests patterns) word n b a) (b == 58) refl refl
 head_row (places.TestFunction start negated at) k before head form choices tests patterns fits word n b =
     test_call_row (headed k before head choices tests patterns) start negated at word n b
-head_row (places.BehindTest behind) k before head form choices tests patterns fits word n b = after_row (headed k before head choices tests patterns) word n b behind
+head_row (places.AfterTest operand) k before head form choices tests patterns fits word n b = after_row (headed k before head choices tests patterns) word n b operand
 
 pub choice_row : (later : Bool) (k : ListContext) (before : Items) (head : Head) (choices : Choices) (tests : Tests) (patterns : List (Span × Pattern))
     → Fits (form_at later) choices tests patterns → (word : List ℕ) (n b : ℕ)

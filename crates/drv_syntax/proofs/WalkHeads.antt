@@ -105,22 +105,22 @@ head_action_leads (heads.Clears next) stage k {fs} {ws} before kind at choices t
 head_action_leads (heads.Begins next) stage k {fs} {ws} before kind at choices tests patterns word kept trail n b held h = (ws, (_, (shows_head next k before kind at choices tests patterns (b ∷ []) kept trail held h, λ again. refl)))
 head_action_leads (heads.Adds next) stage k {fs} {ws} before kind at choices tests patterns word kept trail n b held h = (ws, (_, (shows_head next k before kind at choices tests patterns (word ++ b ∷ []) kept trail held h, λ again. refl)))
 head_action_leads (heads.OpensTest start negated) stage k before kind at choices tests patterns word kept trail n b held h = opens_leads stage k before kind at choices tests patterns word kept trail start negated n held h
-head_action_leads (heads.Ends behind) stage k {fs} {ws} before kind at choices tests patterns word kept trail n b held h =
-    subst (λ (z : Option (List (Span × Pattern))). Leads (s.act_ends (the_head ws before kind at) (form_for ws (hd ws k before kind at choices tests patterns)) behind n (hw stage k fs ws before kind at choices tests patterns word kept trail))
+head_action_leads (heads.Ends operand) stage k {fs} {ws} before kind at choices tests patterns word kept trail n b held h =
+    subst (λ (z : Option (List (Span × Pattern))). Leads (s.act_ends (the_head ws before kind at) (form_for ws (hd ws k before kind at choices tests patterns)) operand n (hw stage k fs ws before kind at choices tests patterns word kept trail))
     (λ again. after (o.turn_brace (hd ws k before kind at choices tests patterns) z n) ws again n))
-    (sym (patterns_are ws k before kind at choices tests patterns held behind word)) (ends_leads stage k before kind at choices tests patterns word kept trail behind n held h)
-head_action_leads (heads.Joins behind) stage k {fs} {ws} before kind at choices tests patterns word kept trail n b held h =
-    subst (λ (z : Option (List (Span × Pattern))). Leads (s.act_joins (the_head ws before kind at) (form_for ws (hd ws k before kind at choices tests patterns)) behind (hw stage k fs ws before kind at choices tests patterns word kept trail))
+    (sym (patterns_are ws k before kind at choices tests patterns held operand word)) (ends_leads stage k before kind at choices tests patterns word kept trail operand n held h)
+head_action_leads (heads.Joins operand) stage k {fs} {ws} before kind at choices tests patterns word kept trail n b held h =
+    subst (λ (z : Option (List (Span × Pattern))). Leads (s.act_joins (the_head ws before kind at) (form_for ws (hd ws k before kind at choices tests patterns)) operand (hw stage k fs ws before kind at choices tests patterns word kept trail))
     (λ again. after (o.turn_and (hd ws k before kind at choices tests patterns) z) ws again n))
-    (sym (patterns_are ws k before kind at choices tests patterns held behind word)) (joins_leads stage k before kind at choices tests patterns word kept trail behind n held h)
-head_action_leads (heads.Asks behind) stage k {fs} {ws} before kind at choices tests patterns word kept trail n b held h =
-    subst (λ (z : Option Tests). Leads (s.act_asks (the_head ws before kind at) (form_for ws (hd ws k before kind at choices tests patterns)) behind n (hw stage k fs ws before kind at choices tests patterns word kept trail))
-    (λ again. after (o.turn_colon (hd ws k before kind at choices tests patterns) z (is_bare behind) n) ws again n))
-    (sym (tests_are (hd ws k before kind at choices tests patterns) behind word)) (asks_leads stage k before kind at choices tests patterns word kept trail behind n held h)
-head_action_leads (heads.Bars behind) stage k {fs} {ws} before kind at choices tests patterns word kept trail n b held h =
-    subst (λ (z : Option Tests). Leads (s.act_bars (the_head ws before kind at) (form_for ws (hd ws k before kind at choices tests patterns)) behind (hw stage k fs ws before kind at choices tests patterns word kept trail))
-    (λ again. after (o.turn_bar (hd ws k before kind at choices tests patterns) z (is_bare behind)) ws again n))
-    (sym (tests_are (hd ws k before kind at choices tests patterns) behind word)) (bars_leads stage k before kind at choices tests patterns word kept trail behind n held h)
+    (sym (patterns_are ws k before kind at choices tests patterns held operand word)) (joins_leads stage k before kind at choices tests patterns word kept trail operand n held h)
+head_action_leads (heads.Asks operand) stage k {fs} {ws} before kind at choices tests patterns word kept trail n b held h =
+    subst (λ (z : Option Tests). Leads (s.act_asks (the_head ws before kind at) (form_for ws (hd ws k before kind at choices tests patterns)) operand n (hw stage k fs ws before kind at choices tests patterns word kept trail))
+    (λ again. after (o.turn_colon (hd ws k before kind at choices tests patterns) z (is_bare operand) n) ws again n))
+    (sym (tests_are (hd ws k before kind at choices tests patterns) operand word)) (asks_leads stage k before kind at choices tests patterns word kept trail operand n held h)
+head_action_leads (heads.Bars operand) stage k {fs} {ws} before kind at choices tests patterns word kept trail n b held h =
+    subst (λ (z : Option Tests). Leads (s.act_bars (the_head ws before kind at) (form_for ws (hd ws k before kind at choices tests patterns)) operand (hw stage k fs ws before kind at choices tests patterns word kept trail))
+    (λ again. after (o.turn_bar (hd ws k before kind at choices tests patterns) z (is_bare operand)) ws again n))
+    (sym (tests_are (hd ws k before kind at choices tests patterns) operand word)) (bars_leads stage k before kind at choices tests patterns word kept trail operand n held h)
 head_action_leads (heads.Refused fault) stage k before kind at choices tests patterns word kept trail n b held h = λ again. refl
 
 pub fits_for : (ws : List o.Waiting) (k : ListContext) (before : Items) (kind : BraceKind) (at : ℕ) (choices : Choices) (tests : Tests) (patterns : List (Span × Pattern)) → Held choices tests patterns
@@ -187,7 +187,7 @@ either_leads false a b x y ws n p q = q
 pub result_leads : (k : ListContext) {fs : List Suspended} {ws : List o.Waiting} (before : Items) (kind : BraceKind) (at : ℕ) (choices : Choices) (tests : Tests) (patterns : List (Span × Pattern))
     (r : Span) (negated : Bool) (asked : Asked) (others : Tests) (word : List ℕ) (kept trail : ℕ) (n b : ℕ) → c.all_starred (tree.test r negated asked others) ≡ false → Waits fs ws
     → Leads (s.step (hw (staged.Result (the_head ws before kind at) (the_part ws (hd ws k before kind at choices (tree.test r negated asked others) patterns) 0) (unpatterned patterns)) k fs ws before kind at choices (tree.test r negated asked others) patterns word kept trail) n b)
-    (λ again. after (turn (o.BehindTest (hd ws k before kind at choices tests patterns) None (o.tested_by patterns (tree.test r negated asked others)) false) n b) ws again n)
+    (λ again. after (turn (o.AfterTest (hd ws k before kind at choices tests patterns) None (o.tested_by patterns (tree.test r negated asked others)) false) n b) ws again n)
 result_leads k {fs} {ws} before kind at choices tests [] r negated asked others word kept trail n b e h =
     either_leads (bytes.is_white b) _ _ _ _ ws n (ws, (_, (shows_result k before kind at choices tests [] r negated asked others word kept trail e h, λ again. refl)))
     (either_leads (b == 125) _ _ _ _ ws n (λ again. refl)

@@ -169,10 +169,10 @@ pub shows_test : (k : ListContext) {fs : List Suspended} {ws : List o.Waiting} (
     → Shows (made (staged.Result (the_head ws before kind at) (the_part ws (hd ws k before kind at choices tests patterns) start) (unpatterned patterns)) k fs
     (all (has_star items || head_star ws (hd ws k before kind at choices tests patterns)) (choice_level (hd ws k before kind at choices tests patterns) start ∷ brace_level ws (hd ws k before kind at choices tests patterns) ∷ levels_of ws)
     (both (test_nodes tests) (node kinds.Test (w.called_label negated name) (span start end) (nodes_of items) no_node))) [] 0 0) ws
-    (o.BehindTest (hd ws k before kind at choices tests patterns) None (o.tested_by patterns (join_tests tests (tree.test (span start end) negated (tree.HasResult name items) tree.no_test))) false)
+    (o.AfterTest (hd ws k before kind at choices tests patterns) None (o.tested_by patterns (join_tests tests (tree.test (span start end) negated (tree.HasResult name items) tree.no_test))) false)
 shows_test k {fs} {ws} before kind at choices tree.no_test patterns start end negated name items h =
     subst (λ (z : Bool). Shows (made (staged.Result (the_head ws before kind at) (the_part ws hh 0) (unpatterned patterns)) k fs (all z (choice_level hh 0 ∷ brace_level ws hh ∷ levels_of ws) (test_nodes t)) [] 0 0) ws
-    (o.BehindTest (hd ws k before kind at choices tree.no_test patterns) None (o.tested_by patterns t) false))
+    (o.AfterTest (hd ws k before kind at choices tree.no_test patterns) None (o.tested_by patterns t) false))
     (test_star tree.no_test (span start end) negated (tree.HasResult name items) (choices_have_star choices || list_star ws before))
     (shows_result k before kind at choices tree.no_test patterns (span start end) negated (tree.HasResult name items) tree.no_test [] 0 0 (result_unstarred (span start end) negated name items) h)
   where
@@ -183,7 +183,7 @@ shows_test k {fs} {ws} before kind at choices tree.no_test patterns start end ne
     hh = hd ws k before kind at choices (tree.test (span start end) negated (tree.HasResult name items) tree.no_test) patterns
 shows_test k {fs} {ws} before kind at choices (tree.test r signed asked ts) patterns start end negated name items h =
     subst (λ (z : Parts). Shows (made (staged.Result (the_head ws before kind at) (the_part ws hh 0) (unpatterned patterns)) k fs z [] 0 0) ws
-    (o.BehindTest (hd ws k before kind at choices (tree.test r signed asked ts) patterns) None (o.tested_by patterns t) false))
+    (o.AfterTest (hd ws k before kind at choices (tree.test r signed asked ts) patterns) None (o.tested_by patterns t) false))
     (ap (λ z. all (head_star ws hh) (choice_level hh 0 ∷ brace_level ws hh ∷ levels_of ws) z) (tests_join (tree.test r signed asked ts) (tree.test (span start end) negated (tree.HasResult name items) tree.no_test))
     ∙ ap (λ z. all z (choice_level hh 0 ∷ brace_level ws hh ∷ levels_of ws) (both (test_nodes (tree.test r signed asked ts)) (test_nodes (tree.test (span start end) negated (tree.HasResult name items) tree.no_test))))
     (test_star (tree.test r signed asked ts) (span start end) negated (tree.HasResult name items) (choices_have_star choices || list_star ws before)))
@@ -304,7 +304,7 @@ close_leads stage k' items word n b (waits_test {fs = fs} {ws = ws} k before kin
     _,
     (
       subst (λ (z : Parts). Shows (made (staged.Result (the_head ws before kind at) (the_part ws hh start) (unpatterned patterns)) k fs z [] 0 0) ws
-          (o.BehindTest hh None (o.tested_by patterns (join_tests tests (tree.test (span start (n + 1)) negated (tree.HasResult name items) tree.no_test))) false))
+          (o.AfterTest hh None (o.tested_by patterns (join_tests tests (tree.test (span start (n + 1)) negated (tree.HasResult name items) tree.no_test))) false))
           (sym (all_close (has_star items || head_star ws hh) (choice_level hh start ∷ brace_level ws hh ∷ levels_of ws) (test_nodes tests) (nodes_of items) kinds.Test kinds.Test (w.called_label negated name) start (n + 1)))
           (shows_test k before kind at choices tests patterns start (n + 1) negated name items h),
       λ again. refl,

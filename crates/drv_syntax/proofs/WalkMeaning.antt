@@ -10,8 +10,8 @@ use Rattle.drv_syntax.specs.Tree.{Asked, Choices, Item, Items, Pattern, Span, Te
 use Rattle.drv_syntax.specs.Code.Turns as w
 use Rattle.drv_syntax.specs.Code.Turns.{single_kind, single_label, list_turn, start_action, percent_action, head_action, choice_action}
 use Rattle.drv_syntax.specs.Code.Steps.{is_white_single}
-use Rattle.drv_syntax.specs.declared.reader.stages.Behind.TheVariants as behinds
-use Rattle.drv_syntax.specs.declared.reader.stages.Behind.{Behind}
+use Rattle.drv_syntax.specs.declared.reader.stages.Operand.TheVariants as operands
+use Rattle.drv_syntax.specs.declared.reader.stages.Operand.{Operand}
 use Rattle.drv_syntax.specs.declared.reader.stages.ListContext.{ListContext}
 use Rattle.drv_syntax.specs.declared.reader.stages.HeadForm.TheVariants as forms
 use Rattle.drv_syntax.specs.declared.reader.stages.HeadForm.{HeadForm}
@@ -137,8 +137,8 @@ single_white singles.Star w = refl
 
 abbrev pub list_place : ListStage → List ℕ → Here → Place
 list_place stages.Start word h = o.AtItem h
-list_place (stages.Backslash back) word h = o.BehindBackslash h back
-list_place (stages.Percent at) word h = o.BehindPercent h at
+list_place (stages.Backslash back) word h = o.AfterBackslash h back
+list_place (stages.Percent at) word h = o.AfterPercent h at
 list_place (stages.SuffixStart at kind) word h = o.SuffixStart h at kind
 list_place (stages.SuffixRun at kind) word h = o.SuffixRun h at kind word
 list_place (stages.SuffixPercent at kind percent) word h = o.SuffixPercent h at kind percent
@@ -198,23 +198,23 @@ pub data Fits : HeadForm → Choices → Tests → List (Span × Pattern) → Ty
   fits_tests : {part : Open} {starred : Bool} {choices : Choices} {s : Span} {negated : Bool} {asked : Asked} {tests : Tests} → c.all_starred (tree.test s negated asked tests) ≡ starred
       → Fits (forms.Tests part starred) choices (tree.test s negated asked tests) []
 
-abbrev pub patterns_of : Behind → List ℕ → o.Head → Option (List (Span × Pattern))
-patterns_of (behinds.Switch start end negated starred) word h = o.emitted h start end negated (tree.pattern word starred)
-patterns_of (behinds.Marked start end negated mark) word h = o.emitted h start end negated (tree.pattern (mark ∷ word) false)
-patterns_of (behinds.StarredMark start end negated mark) word h = o.emitted h start end negated (tree.pattern (mark ∷ word) true)
-patterns_of (behinds.Bare start end negated mark) word h = o.emitted h start end negated (tree.pattern (mark ∷ []) false)
+abbrev pub patterns_of : Operand → List ℕ → o.Head → Option (List (Span × Pattern))
+patterns_of (operands.Switch start end negated starred) word h = o.emitted h start end negated (tree.pattern word starred)
+patterns_of (operands.Marked start end negated mark) word h = o.emitted h start end negated (tree.pattern (mark ∷ word) false)
+patterns_of (operands.StarredMark start end negated mark) word h = o.emitted h start end negated (tree.pattern (mark ∷ word) true)
+patterns_of (operands.Bare start end negated mark) word h = o.emitted h start end negated (tree.pattern (mark ∷ []) false)
 
-abbrev pub tests_of : Behind → List ℕ → o.Head → Option Tests
-tests_of (behinds.Switch start end negated starred) word h = o.tested h start end negated (tree.HasSwitch (tree.pattern word starred))
-tests_of (behinds.Marked start end negated mark) word h = o.tested h start end negated (o.marked mark word)
-tests_of (behinds.StarredMark start end negated mark) word h = None
-tests_of (behinds.Bare start end negated mark) word h = None
+abbrev pub tests_of : Operand → List ℕ → o.Head → Option Tests
+tests_of (operands.Switch start end negated starred) word h = o.tested h start end negated (tree.HasSwitch (tree.pattern word starred))
+tests_of (operands.Marked start end negated mark) word h = o.tested h start end negated (o.marked mark word)
+tests_of (operands.StarredMark start end negated mark) word h = None
+tests_of (operands.Bare start end negated mark) word h = None
 
-abbrev pub is_bare : Behind → Bool
-is_bare (behinds.Switch start end negated starred) = false
-is_bare (behinds.Marked start end negated mark) = false
-is_bare (behinds.StarredMark start end negated mark) = false
-is_bare (behinds.Bare start end negated mark) = true
+abbrev pub is_bare : Operand → Bool
+is_bare (operands.Switch start end negated starred) = false
+is_bare (operands.Marked start end negated mark) = false
+is_bare (operands.StarredMark start end negated mark) = false
+is_bare (operands.Bare start end negated mark) = true
 
 abbrev pub head_place : HeadStage → List ℕ → o.Head → Place
 head_place places.TestDue word h = o.TestDue h
@@ -227,7 +227,7 @@ head_place (places.MarkedWord start negated mark) word h = o.MarkedWord h start 
 head_place (places.MarkedEscape start negated mark) word h = o.MarkedEscape h start negated mark word
 head_place (places.TestPercent start negated at) word h = o.TestPercent h start negated at
 head_place (places.TestFunction start negated at) word h = o.TestFunction h start negated at word
-head_place (places.BehindTest behind) word h = o.BehindTest h (patterns_of behind word h) (tests_of behind word h) (is_bare behind)
+head_place (places.AfterTest operand) word h = o.AfterTest h (patterns_of operand word h) (tests_of operand word h) (is_bare operand)
 
 abbrev pub meant_head : o.Head → List ℕ → ℕ → ℕ → HeadAction → Turn
 meant_head h word n b (heads.Keeps stage) = o.Goes (head_place stage word h)
@@ -235,10 +235,10 @@ meant_head h word n b (heads.Clears stage) = o.Goes (head_place stage [] h)
 meant_head h word n b (heads.Begins stage) = o.Goes (head_place stage (b ∷ []) h)
 meant_head h word n b (heads.Adds stage) = o.Goes (head_place stage (word ++ b ∷ []) h)
 meant_head h word n b (heads.OpensTest start negated) = o.Opens (o.list_in (c.in_arguments (c.in_braces h.here.context))) (o.WaitsTest h start negated word)
-meant_head h word n b (heads.Ends behind) = o.turn_brace h (patterns_of behind word h) n
-meant_head h word n b (heads.Joins behind) = o.turn_and h (patterns_of behind word h)
-meant_head h word n b (heads.Asks behind) = o.turn_colon h (tests_of behind word h) (is_bare behind) n
-meant_head h word n b (heads.Bars behind) = o.turn_bar h (tests_of behind word h) (is_bare behind)
+meant_head h word n b (heads.Ends operand) = o.turn_brace h (patterns_of operand word h) n
+meant_head h word n b (heads.Joins operand) = o.turn_and h (patterns_of operand word h)
+meant_head h word n b (heads.Asks operand) = o.turn_colon h (tests_of operand word h) (is_bare operand) n
+meant_head h word n b (heads.Bars operand) = o.turn_bar h (tests_of operand word h) (is_bare operand)
 meant_head h word n b (heads.Refused fault) = o.Refused fault
 
 abbrev pub meant_choice : o.Head → List ℕ → ℕ → ℕ → ChoiceAction → Turn

@@ -126,7 +126,7 @@ head_end (places.MarkedWord start negated mark) word h n = refl
 head_end (places.MarkedEscape start negated mark) word h n = refl
 head_end (places.TestPercent start negated at) word h n = refl
 head_end (places.TestFunction start negated at) word h n = refl
-head_end (places.BehindTest behind) word h n = refl
+head_end (places.AfterTest operand) word h n = refl
 
 pub finish_is : (v : ReaderState) (ws : List o.Waiting) (place : Place) (n : ℕ) → Shows v ws place → Same (s.finish n v) (o.end_of ws place n)
 finish_is v ws place n (shows_list stage k {fs = fs} before word h) = ended_by n v place fs ws (outer_is fs ws h) (λ top. list_end stage k fs ws before word n top)

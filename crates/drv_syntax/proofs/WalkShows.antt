@@ -160,7 +160,7 @@ pub data Shows : ReaderState → List o.Waiting → Place → Type 0 where
       (r : Span) (negated : Bool) (asked : Asked) (others : Tests) (word : List ℕ) (kept trail : ℕ) → c.all_starred (tree.test r negated asked others) ≡ false → Waits fs ws
       → Shows (made (staged.Result (the_head ws before kind at) (the_part ws (hd ws k before kind at choices (tree.test r negated asked others) patterns) 0) (unpatterned patterns)) k fs
       (head_parts ws (hd ws k before kind at choices (tree.test r negated asked others) patterns)) word kept trail) ws
-      (o.BehindTest (hd ws k before kind at choices tests patterns) None (o.tested_by patterns (tree.test r negated asked others)) false)
+      (o.AfterTest (hd ws k before kind at choices tests patterns) None (o.tested_by patterns (tree.test r negated asked others)) false)
 
 -- what a step of the code comes to, against what the byte leads to
 abbrev pub Leads : Result ReaderState SyntaxFault → ((List o.Waiting → Place → Out) → Out) → Type 0

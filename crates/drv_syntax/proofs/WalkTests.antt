@@ -10,8 +10,8 @@ use Rattle.drv_syntax.specs.Code.Steps as s
 use Rattle.drv_syntax.specs.Code.Steps.{ReaderState, open_token}
 use Rattle.drv_syntax.specs.declared.fault.SyntaxFault.TheVariants.{BadDirective, EmptyTest}
 use Rattle.drv_syntax.specs.declared.fault.SyntaxFault.{SyntaxFault}
-use Rattle.drv_syntax.specs.declared.reader.stages.Behind.TheVariants as behinds
-use Rattle.drv_syntax.specs.declared.reader.stages.Behind.{Behind}
+use Rattle.drv_syntax.specs.declared.reader.stages.Operand.TheVariants as operands
+use Rattle.drv_syntax.specs.declared.reader.stages.Operand.{Operand}
 use Rattle.drv_syntax.specs.declared.directives.BraceKind.{BraceKind}
 use Rattle.drv_syntax.specs.declared.reader.stages.ListContext.{ListContext}
 use Rattle.drv_syntax.specs.declared.reader.stages.HeadForm.TheVariants as forms
@@ -49,26 +49,26 @@ emitted_is ws k before kind at choices tests patterns held_later start end negat
 emitted_is ws k before kind at choices tests patterns (held_tests {choices = tree.no_choice}) start end negated p = refl
 emitted_is ws k before kind at choices tests patterns (held_tests {choices = tree.choice r ts items others}) start end negated p = refl
 
-abbrev pub pattern_by : Behind → List ℕ → Pattern
-pattern_by (behinds.Switch start end negated starred) word = tree.pattern word starred
-pattern_by (behinds.Marked start end negated mark) word = tree.pattern (mark ∷ word) false
-pattern_by (behinds.StarredMark start end negated mark) word = tree.pattern (mark ∷ word) true
-pattern_by (behinds.Bare start end negated mark) word = tree.pattern (mark ∷ []) false
+abbrev pub pattern_by : Operand → List ℕ → Pattern
+pattern_by (operands.Switch start end negated starred) word = tree.pattern word starred
+pattern_by (operands.Marked start end negated mark) word = tree.pattern (mark ∷ word) false
+pattern_by (operands.StarredMark start end negated mark) word = tree.pattern (mark ∷ word) true
+pattern_by (operands.Bare start end negated mark) word = tree.pattern (mark ∷ []) false
 
-pub by_pattern : (behind : Behind) (word : List ℕ) → w.after_pattern behind word ≡ pattern_label (pattern_by behind word)
-by_pattern (behinds.Switch start end negated starred) word = refl
-by_pattern (behinds.Marked start end negated mark) word = refl
-by_pattern (behinds.StarredMark start end negated mark) word = refl
-by_pattern (behinds.Bare start end negated mark) word = refl
+pub by_pattern : (operand : Operand) (word : List ℕ) → w.after_pattern operand word ≡ pattern_label (pattern_by operand word)
+by_pattern (operands.Switch start end negated starred) word = refl
+by_pattern (operands.Marked start end negated mark) word = refl
+by_pattern (operands.StarredMark start end negated mark) word = refl
+by_pattern (operands.Bare start end negated mark) word = refl
 
 pub patterns_are : (ws : List o.Waiting) (k : ListContext) (before : Items) (kind : BraceKind) (at : ℕ) (choices : Choices) (tests : Tests) (patterns : List (Span × Pattern)) → Held choices tests patterns
-    → (behind : Behind) (word : List ℕ)
-    → patterns_of behind word (hd ws k before kind at choices tests patterns)
-    ≡ (if w.emits (form_for ws (hd ws k before kind at choices tests patterns)) (s.negates behind) then Some (patterns ++ (span (s.first_of behind) (s.last_of behind), pattern_by behind word) ∷ []) else None)
-patterns_are ws k before kind at choices tests patterns h (behinds.Switch start end negated starred) word = emitted_is ws k before kind at choices tests patterns h start end negated _
-patterns_are ws k before kind at choices tests patterns h (behinds.Marked start end negated mark) word = emitted_is ws k before kind at choices tests patterns h start end negated _
-patterns_are ws k before kind at choices tests patterns h (behinds.StarredMark start end negated mark) word = emitted_is ws k before kind at choices tests patterns h start end negated _
-patterns_are ws k before kind at choices tests patterns h (behinds.Bare start end negated mark) word = emitted_is ws k before kind at choices tests patterns h start end negated _
+    → (operand : Operand) (word : List ℕ)
+    → patterns_of operand word (hd ws k before kind at choices tests patterns)
+    ≡ (if w.emits (form_for ws (hd ws k before kind at choices tests patterns)) (s.negates operand) then Some (patterns ++ (span (s.first_of operand) (s.last_of operand), pattern_by operand word) ∷ []) else None)
+patterns_are ws k before kind at choices tests patterns h (operands.Switch start end negated starred) word = emitted_is ws k before kind at choices tests patterns h start end negated _
+patterns_are ws k before kind at choices tests patterns h (operands.Marked start end negated mark) word = emitted_is ws k before kind at choices tests patterns h start end negated _
+patterns_are ws k before kind at choices tests patterns h (operands.StarredMark start end negated mark) word = emitted_is ws k before kind at choices tests patterns h start end negated _
+patterns_are ws k before kind at choices tests patterns h (operands.Bare start end negated mark) word = emitted_is ws k before kind at choices tests patterns h start end negated _
 
 -- one pattern more
 pub pattern_parts : (ws : List o.Waiting) (k : ListContext) (before : Items) (kind : BraceKind) (at : ℕ) (patterns : List (Span × Pattern)) (start end : ℕ) (p : Pattern) (label : Label) → label ≡ pattern_label p
@@ -95,85 +95,85 @@ form_more ws k before kind at [] p = refl
 form_more ws k before kind at (q ∷ patterns) p = refl
 
 pub ends_on : (stage : Stage) (k : ListContext) {fs : List Suspended} {ws : List o.Waiting} (before : Items) (kind : BraceKind) (at : ℕ) (patterns : List (Span × Pattern))
-    (word : List ℕ) (kept trail : ℕ) (behind : Behind) (n : ℕ) (p : Pattern) → w.after_pattern behind word ≡ pattern_label p → Waits fs ws
-    → Shows (s.close_braces (the_head ws before kind at) true (n + 1) k (s.with_pattern behind (hw stage k fs ws before kind at tree.no_choice tree.no_test patterns word kept trail))) ws
-    (o.AtItem (o.emitted_item (hd ws k before kind at tree.no_choice tree.no_test patterns) (n + 1) (patterns ++ (span (s.first_of behind) (s.last_of behind), p) ∷ [])))
-ends_on stage k {fs} {ws} before kind at patterns word kept trail behind n p e h =
+    (word : List ℕ) (kept trail : ℕ) (operand : Operand) (n : ℕ) (p : Pattern) → w.after_pattern operand word ≡ pattern_label p → Waits fs ws
+    → Shows (s.close_braces (the_head ws before kind at) true (n + 1) k (s.with_pattern operand (hw stage k fs ws before kind at tree.no_choice tree.no_test patterns word kept trail))) ws
+    (o.AtItem (o.emitted_item (hd ws k before kind at tree.no_choice tree.no_test patterns) (n + 1) (patterns ++ (span (s.first_of operand) (s.last_of operand), p) ∷ [])))
+ends_on stage k {fs} {ws} before kind at patterns word kept trail operand n p e h =
     subst (λ (z : Parts). Shows (placed_walk k fs (ended (length (list_parts ws before).tokens) (s.brace_token kind true) at (n + 1) z) (n + 1)) ws
-    (o.AtItem (o.emitted_item (hd ws k before kind at tree.no_choice tree.no_test patterns) (n + 1) (patterns ++ (span (s.first_of behind) (s.last_of behind), p) ∷ []))))
-    (sym (pattern_parts ws k before kind at patterns (s.first_of behind) (s.last_of behind) p (w.after_pattern behind word) e))
-    (shows_emit k before kind at (n + 1) (patterns ++ (span (s.first_of behind) (s.last_of behind), p) ∷ []) h)
+    (o.AtItem (o.emitted_item (hd ws k before kind at tree.no_choice tree.no_test patterns) (n + 1) (patterns ++ (span (s.first_of operand) (s.last_of operand), p) ∷ []))))
+    (sym (pattern_parts ws k before kind at patterns (s.first_of operand) (s.last_of operand) p (w.after_pattern operand word) e))
+    (shows_emit k before kind at (n + 1) (patterns ++ (span (s.first_of operand) (s.last_of operand), p) ∷ []) h)
 
 pub joins_on : (stage : Stage) (k : ListContext) {fs : List Suspended} {ws : List o.Waiting} (before : Items) (kind : BraceKind) (at : ℕ) (patterns : List (Span × Pattern))
-    (word : List ℕ) (kept trail : ℕ) (behind : Behind) (p : Pattern) → w.after_pattern behind word ≡ pattern_label p → Waits fs ws
-    → Shows (s.at_stage (staged.Braces (the_head ws before kind at) forms.Patterns places.PatternDue) (s.with_pattern behind (hw stage k fs ws before kind at tree.no_choice tree.no_test patterns word kept trail))) ws
-    (o.PatternDue (hd ws k before kind at tree.no_choice tree.no_test (patterns ++ (span (s.first_of behind) (s.last_of behind), p) ∷ [])))
-joins_on stage k {fs} {ws} before kind at patterns word kept trail behind p e h =
+    (word : List ℕ) (kept trail : ℕ) (operand : Operand) (p : Pattern) → w.after_pattern operand word ≡ pattern_label p → Waits fs ws
+    → Shows (s.at_stage (staged.Braces (the_head ws before kind at) forms.Patterns places.PatternDue) (s.with_pattern operand (hw stage k fs ws before kind at tree.no_choice tree.no_test patterns word kept trail))) ws
+    (o.PatternDue (hd ws k before kind at tree.no_choice tree.no_test (patterns ++ (span (s.first_of operand) (s.last_of operand), p) ∷ [])))
+joins_on stage k {fs} {ws} before kind at patterns word kept trail operand p e h =
     subst (λ (z : Parts). Shows (made (staged.Braces (the_head ws before kind at) forms.Patterns places.PatternDue) k fs z word kept trail) ws (o.PatternDue (hd ws k before kind at tree.no_choice tree.no_test ps)))
-    (sym (pattern_parts ws k before kind at patterns (s.first_of behind) (s.last_of behind) p (w.after_pattern behind word) e))
+    (sym (pattern_parts ws k before kind at patterns (s.first_of operand) (s.last_of operand) p (w.after_pattern operand word) e))
     (subst (λ (f : HeadForm). Shows (made (staged.Braces (the_head ws before kind at) f places.PatternDue) k fs (brace_parts ws (hd ws k before kind at tree.no_choice tree.no_test ps)) word kept trail) ws
     (o.PatternDue (hd ws k before kind at tree.no_choice tree.no_test ps)))
-    (form_more ws k before kind at patterns (span (s.first_of behind) (s.last_of behind), p))
+    (form_more ws k before kind at patterns (span (s.first_of operand) (s.last_of operand), p))
     (shows_head places.PatternDue k before kind at tree.no_choice tree.no_test ps word kept trail (held_more patterns _) h))
   where
     ps : List (Span × Pattern)
-    ps = patterns ++ (span (s.first_of behind) (s.last_of behind), p) ∷ []
+    ps = patterns ++ (span (s.first_of operand) (s.last_of operand), p) ∷ []
 
 pub ends_leads : (stage : Stage) (k : ListContext) {fs : List Suspended} {ws : List o.Waiting} (before : Items) (kind : BraceKind) (at : ℕ) (choices : Choices) (tests : Tests) (patterns : List (Span × Pattern))
-    (word : List ℕ) (kept trail : ℕ) (behind : Behind) (n : ℕ) → Held choices tests patterns → Waits fs ws
-    → Leads (s.act_ends (the_head ws before kind at) (form_for ws (hd ws k before kind at choices tests patterns)) behind n (hw stage k fs ws before kind at choices tests patterns word kept trail))
+    (word : List ℕ) (kept trail : ℕ) (operand : Operand) (n : ℕ) → Held choices tests patterns → Waits fs ws
+    → Leads (s.act_ends (the_head ws before kind at) (form_for ws (hd ws k before kind at choices tests patterns)) operand n (hw stage k fs ws before kind at choices tests patterns word kept trail))
     (λ again. after (o.turn_brace (hd ws k before kind at choices tests patterns)
-    (if w.emits (form_for ws (hd ws k before kind at choices tests patterns)) (s.negates behind) then Some (patterns ++ (span (s.first_of behind) (s.last_of behind), pattern_by behind word) ∷ []) else None) n) ws again n)
-ends_leads stage k {fs} {ws} before kind at choices tests patterns word kept trail behind n held_fresh h = by (s.negates behind)
+    (if w.emits (form_for ws (hd ws k before kind at choices tests patterns)) (s.negates operand) then Some (patterns ++ (span (s.first_of operand) (s.last_of operand), pattern_by operand word) ∷ []) else None) n) ws again n)
+ends_leads stage k {fs} {ws} before kind at choices tests patterns word kept trail operand n held_fresh h = by (s.negates operand)
   where
-    by : (t : Bool) → Leads (if not t then Ok (s.close_braces (the_head ws before kind at) true (n + 1) k (s.with_pattern behind (hw stage k fs ws before kind at tree.no_choice tree.no_test [] word kept trail))) else Err (BadDirective at))
-        (λ again. after (o.turn_brace (hd ws k before kind at tree.no_choice tree.no_test []) (if not t then Some ((span (s.first_of behind) (s.last_of behind), pattern_by behind word) ∷ []) else None) n) ws again n)
+    by : (t : Bool) → Leads (if not t then Ok (s.close_braces (the_head ws before kind at) true (n + 1) k (s.with_pattern operand (hw stage k fs ws before kind at tree.no_choice tree.no_test [] word kept trail))) else Err (BadDirective at))
+        (λ again. after (o.turn_brace (hd ws k before kind at tree.no_choice tree.no_test []) (if not t then Some ((span (s.first_of operand) (s.last_of operand), pattern_by operand word) ∷ []) else None) n) ws again n)
     by true = λ again. refl
-    by false = (ws, (_, (ends_on stage k before kind at [] word kept trail behind n (pattern_by behind word) (by_pattern behind word) h, λ again. refl)))
-ends_leads stage k {fs} {ws} before kind at choices tests patterns word kept trail behind n (held_patterns {p = q} {patterns = qs}) h = by (s.negates behind)
+    by false = (ws, (_, (ends_on stage k before kind at [] word kept trail operand n (pattern_by operand word) (by_pattern operand word) h, λ again. refl)))
+ends_leads stage k {fs} {ws} before kind at choices tests patterns word kept trail operand n (held_patterns {p = q} {patterns = qs}) h = by (s.negates operand)
   where
-    by : (t : Bool) → Leads (if not t then Ok (s.close_braces (the_head ws before kind at) true (n + 1) k (s.with_pattern behind (hw stage k fs ws before kind at tree.no_choice tree.no_test (q ∷ qs) word kept trail))) else Err (BadDirective at))
-        (λ again. after (o.turn_brace (hd ws k before kind at tree.no_choice tree.no_test (q ∷ qs)) (if not t then Some ((q ∷ qs) ++ (span (s.first_of behind) (s.last_of behind), pattern_by behind word) ∷ []) else None) n) ws again n)
+    by : (t : Bool) → Leads (if not t then Ok (s.close_braces (the_head ws before kind at) true (n + 1) k (s.with_pattern operand (hw stage k fs ws before kind at tree.no_choice tree.no_test (q ∷ qs) word kept trail))) else Err (BadDirective at))
+        (λ again. after (o.turn_brace (hd ws k before kind at tree.no_choice tree.no_test (q ∷ qs)) (if not t then Some ((q ∷ qs) ++ (span (s.first_of operand) (s.last_of operand), pattern_by operand word) ∷ []) else None) n) ws again n)
     by true = λ again. refl
-    by false = (ws, (_, (ends_on stage k before kind at (q ∷ qs) word kept trail behind n (pattern_by behind word) (by_pattern behind word) h, λ again. refl)))
-ends_leads stage k before kind at choices tests patterns word kept trail behind n held_later h = λ again. refl
-ends_leads stage k before kind at choices tests patterns word kept trail behind n held_tests h = λ again. refl
+    by false = (ws, (_, (ends_on stage k before kind at (q ∷ qs) word kept trail operand n (pattern_by operand word) (by_pattern operand word) h, λ again. refl)))
+ends_leads stage k before kind at choices tests patterns word kept trail operand n held_later h = λ again. refl
+ends_leads stage k before kind at choices tests patterns word kept trail operand n held_tests h = λ again. refl
 
 pub joins_leads : (stage : Stage) (k : ListContext) {fs : List Suspended} {ws : List o.Waiting} (before : Items) (kind : BraceKind) (at : ℕ) (choices : Choices) (tests : Tests) (patterns : List (Span × Pattern))
-    (word : List ℕ) (kept trail : ℕ) (behind : Behind) (n : ℕ) → Held choices tests patterns → Waits fs ws
-    → Leads (s.act_joins (the_head ws before kind at) (form_for ws (hd ws k before kind at choices tests patterns)) behind (hw stage k fs ws before kind at choices tests patterns word kept trail))
+    (word : List ℕ) (kept trail : ℕ) (operand : Operand) (n : ℕ) → Held choices tests patterns → Waits fs ws
+    → Leads (s.act_joins (the_head ws before kind at) (form_for ws (hd ws k before kind at choices tests patterns)) operand (hw stage k fs ws before kind at choices tests patterns word kept trail))
     (λ again. after (o.turn_and (hd ws k before kind at choices tests patterns)
-    (if w.emits (form_for ws (hd ws k before kind at choices tests patterns)) (s.negates behind) then Some (patterns ++ (span (s.first_of behind) (s.last_of behind), pattern_by behind word) ∷ []) else None)) ws again n)
-joins_leads stage k {fs} {ws} before kind at choices tests patterns word kept trail behind n held_fresh h = by (s.negates behind)
+    (if w.emits (form_for ws (hd ws k before kind at choices tests patterns)) (s.negates operand) then Some (patterns ++ (span (s.first_of operand) (s.last_of operand), pattern_by operand word) ∷ []) else None)) ws again n)
+joins_leads stage k {fs} {ws} before kind at choices tests patterns word kept trail operand n held_fresh h = by (s.negates operand)
   where
-    by : (t : Bool) → Leads (if not t then Ok (s.at_stage (staged.Braces (the_head ws before kind at) forms.Patterns places.PatternDue) (s.with_pattern behind (hw stage k fs ws before kind at tree.no_choice tree.no_test [] word kept trail))) else Err (BadDirective at))
-        (λ again. after (o.turn_and (hd ws k before kind at tree.no_choice tree.no_test []) (if not t then Some ((span (s.first_of behind) (s.last_of behind), pattern_by behind word) ∷ []) else None)) ws again n)
+    by : (t : Bool) → Leads (if not t then Ok (s.at_stage (staged.Braces (the_head ws before kind at) forms.Patterns places.PatternDue) (s.with_pattern operand (hw stage k fs ws before kind at tree.no_choice tree.no_test [] word kept trail))) else Err (BadDirective at))
+        (λ again. after (o.turn_and (hd ws k before kind at tree.no_choice tree.no_test []) (if not t then Some ((span (s.first_of operand) (s.last_of operand), pattern_by operand word) ∷ []) else None)) ws again n)
     by true = λ again. refl
-    by false = (ws, (_, (joins_on stage k before kind at [] word kept trail behind (pattern_by behind word) (by_pattern behind word) h, λ again. refl)))
-joins_leads stage k {fs} {ws} before kind at choices tests patterns word kept trail behind n (held_patterns {p = q} {patterns = qs}) h = by (s.negates behind)
+    by false = (ws, (_, (joins_on stage k before kind at [] word kept trail operand (pattern_by operand word) (by_pattern operand word) h, λ again. refl)))
+joins_leads stage k {fs} {ws} before kind at choices tests patterns word kept trail operand n (held_patterns {p = q} {patterns = qs}) h = by (s.negates operand)
   where
-    by : (t : Bool) → Leads (if not t then Ok (s.at_stage (staged.Braces (the_head ws before kind at) forms.Patterns places.PatternDue) (s.with_pattern behind (hw stage k fs ws before kind at tree.no_choice tree.no_test (q ∷ qs) word kept trail))) else Err (BadDirective at))
-        (λ again. after (o.turn_and (hd ws k before kind at tree.no_choice tree.no_test (q ∷ qs)) (if not t then Some ((q ∷ qs) ++ (span (s.first_of behind) (s.last_of behind), pattern_by behind word) ∷ []) else None)) ws again n)
+    by : (t : Bool) → Leads (if not t then Ok (s.at_stage (staged.Braces (the_head ws before kind at) forms.Patterns places.PatternDue) (s.with_pattern operand (hw stage k fs ws before kind at tree.no_choice tree.no_test (q ∷ qs) word kept trail))) else Err (BadDirective at))
+        (λ again. after (o.turn_and (hd ws k before kind at tree.no_choice tree.no_test (q ∷ qs)) (if not t then Some ((q ∷ qs) ++ (span (s.first_of operand) (s.last_of operand), pattern_by operand word) ∷ []) else None)) ws again n)
     by true = λ again. refl
-    by false = (ws, (_, (joins_on stage k before kind at (q ∷ qs) word kept trail behind (pattern_by behind word) (by_pattern behind word) h, λ again. refl)))
-joins_leads stage k before kind at choices tests patterns word kept trail behind n held_later h = λ again. refl
-joins_leads stage k before kind at choices tests patterns word kept trail behind n held_tests h = λ again. refl
+    by false = (ws, (_, (joins_on stage k before kind at (q ∷ qs) word kept trail operand (pattern_by operand word) (by_pattern operand word) h, λ again. refl)))
+joins_leads stage k before kind at choices tests patterns word kept trail operand n held_later h = λ again. refl
+joins_leads stage k before kind at choices tests patterns word kept trail operand n held_tests h = λ again. refl
 
 -- one test more
-abbrev pub asked_by : Behind → List ℕ → Asked
-asked_by (behinds.Switch start end negated starred) word = tree.HasSwitch (tree.pattern word starred)
-asked_by (behinds.Marked start end negated mark) word = o.marked mark word
-asked_by (behinds.StarredMark start end negated mark) word = o.marked mark word
-asked_by (behinds.Bare start end negated mark) word = o.marked mark word
+abbrev pub asked_by : Operand → List ℕ → Asked
+asked_by (operands.Switch start end negated starred) word = tree.HasSwitch (tree.pattern word starred)
+asked_by (operands.Marked start end negated mark) word = o.marked mark word
+asked_by (operands.StarredMark start end negated mark) word = o.marked mark word
+asked_by (operands.Bare start end negated mark) word = o.marked mark word
 
-abbrev pub test_by : Behind → List ℕ → Tests
-test_by behind word = tree.test (span (s.first_of behind) (s.last_of behind)) (s.negates behind) (asked_by behind word) tree.no_test
+abbrev pub test_by : Operand → List ℕ → Tests
+test_by operand word = tree.test (span (s.first_of operand) (s.last_of operand)) (s.negates operand) (asked_by operand word) tree.no_test
 
-pub tests_are : (h : o.Head) (behind : Behind) (word : List ℕ) → tests_of behind word h ≡ (if s.tests behind then o.tested_by h.patterns (join_tests h.tests (test_by behind word)) else None)
-tests_are h (behinds.Switch start end negated starred) word = refl
-tests_are h (behinds.Marked start end negated mark) word = refl
-tests_are h (behinds.StarredMark start end negated mark) word = refl
-tests_are h (behinds.Bare start end negated mark) word = refl
+pub tests_are : (h : o.Head) (operand : Operand) (word : List ℕ) → tests_of operand word h ≡ (if s.tests operand then o.tested_by h.patterns (join_tests h.tests (test_by operand word)) else None)
+tests_are h (operands.Switch start end negated starred) word = refl
+tests_are h (operands.Marked start end negated mark) word = refl
+tests_are h (operands.StarredMark start end negated mark) word = refl
+tests_are h (operands.Bare start end negated mark) word = refl
 
 pub marked_nodes : (r : Span) (mark : ℕ) (word : List ℕ) (negated : Bool)
     → test_nodes (tree.test r negated (o.marked mark word) tree.no_test) ≡ node kinds.Test (part_label word false negated (w.mark_asks mark)) r no_node no_node
@@ -184,11 +184,11 @@ marked_nodes r mark word negated = by (mark == 46)
     by true = refl
     by false = refl
 
-pub by_nodes : (behind : Behind) (word : List ℕ) → test_nodes (test_by behind word) ≡ node kinds.Test (w.after_test behind word) (span (s.first_of behind) (s.last_of behind)) no_node no_node
-by_nodes (behinds.Switch start end negated starred) word = refl
-by_nodes (behinds.Marked start end negated mark) word = marked_nodes (span start end) mark word negated
-by_nodes (behinds.StarredMark start end negated mark) word = marked_nodes (span start end) mark word negated
-by_nodes (behinds.Bare start end negated mark) word = marked_nodes (span start end) mark word negated
+pub by_nodes : (operand : Operand) (word : List ℕ) → test_nodes (test_by operand word) ≡ node kinds.Test (w.after_test operand word) (span (s.first_of operand) (s.last_of operand)) no_node no_node
+by_nodes (operands.Switch start end negated starred) word = refl
+by_nodes (operands.Marked start end negated mark) word = marked_nodes (span start end) mark word negated
+by_nodes (operands.StarredMark start end negated mark) word = marked_nodes (span start end) mark word negated
+by_nodes (operands.Bare start end negated mark) word = marked_nodes (span start end) mark word negated
 
 pub marked_stars : (r : Span) (mark : ℕ) (word : List ℕ) (negated : Bool) → c.all_starred (tree.test r negated (o.marked mark word) tree.no_test) ≡ false
 marked_stars r mark word true = refl
@@ -198,52 +198,52 @@ marked_stars r mark word false = by (mark == 46)
     by true = refl
     by false = refl
 
-pub by_stars : (behind : Behind) (word : List ℕ) → c.all_starred (test_by behind word) ≡ s.starred_of behind
-by_stars (behinds.Switch start end true starred) word = refl
-by_stars (behinds.Switch start end false true) word = refl
-by_stars (behinds.Switch start end false false) word = refl
-by_stars (behinds.Marked start end negated mark) word = marked_stars (span start end) mark word negated
-by_stars (behinds.StarredMark start end negated mark) word = marked_stars (span start end) mark word negated
-by_stars (behinds.Bare start end negated mark) word = marked_stars (span start end) mark word negated
+pub by_stars : (operand : Operand) (word : List ℕ) → c.all_starred (test_by operand word) ≡ s.starred_of operand
+by_stars (operands.Switch start end true starred) word = refl
+by_stars (operands.Switch start end false true) word = refl
+by_stars (operands.Switch start end false false) word = refl
+by_stars (operands.Marked start end negated mark) word = marked_stars (span start end) mark word negated
+by_stars (operands.StarredMark start end negated mark) word = marked_stars (span start end) mark word negated
+by_stars (operands.Bare start end negated mark) word = marked_stars (span start end) mark word negated
 
-asked_star : (behind : Behind) (word : List ℕ) → asked_has_star (asked_by behind word) ≡ false
-asked_star (behinds.Switch start end negated starred) word = refl
-asked_star (behinds.Marked start end negated mark) word = marked_star mark word
-asked_star (behinds.StarredMark start end negated mark) word = marked_star mark word
-asked_star (behinds.Bare start end negated mark) word = marked_star mark word
+asked_star : (operand : Operand) (word : List ℕ) → asked_has_star (asked_by operand word) ≡ false
+asked_star (operands.Switch start end negated starred) word = refl
+asked_star (operands.Marked start end negated mark) word = marked_star mark word
+asked_star (operands.StarredMark start end negated mark) word = marked_star mark word
+asked_star (operands.Bare start end negated mark) word = marked_star mark word
 
-by_star : (tests : Tests) (behind : Behind) (word : List ℕ) (others : Bool) → (tests_have_star (join_tests tests (test_by behind word)) || others) ≡ (tests_have_star tests || others)
-by_star tests behind word others =
-    test_star tests (span (s.first_of behind) (s.last_of behind)) (s.negates behind) (asked_by behind word) others ∙ ap (λ z. z || (tests_have_star tests || others)) (asked_star behind word)
+by_star : (tests : Tests) (operand : Operand) (word : List ℕ) (others : Bool) → (tests_have_star (join_tests tests (test_by operand word)) || others) ≡ (tests_have_star tests || others)
+by_star tests operand word others =
+    test_star tests (span (s.first_of operand) (s.last_of operand)) (s.negates operand) (asked_by operand word) others ∙ ap (λ z. z || (tests_have_star tests || others)) (asked_star operand word)
 
-pub with_test_is : (stage : Stage) (k : ListContext) (fs : List Suspended) (ws : List o.Waiting) (before : Items) (kind : BraceKind) (at : ℕ) (choices : Choices) (word : List ℕ) (kept trail : ℕ) (behind : Behind)
-    → s.with_label (w.after_test behind word) (s.with_leaf kinds.Test (s.first_of behind) (s.last_of behind) (s.open_alternative (s.first_of behind) (hw stage k fs ws before kind at choices tree.no_test [] word kept trail)))
-    ≡ hw stage k fs ws before kind at choices (test_by behind word) [] word kept trail
-with_test_is stage k fs ws before kind at choices word kept trail behind =
-    ap (λ z. made stage k fs (leafed kinds.Test (w.after_test behind word) (s.first_of behind) (s.last_of behind) z) word kept trail)
-    (all_open (head_star ws h) (brace_level ws h ∷ levels_of ws) (held h) kinds.Alternative no_label (s.first_of behind))
+pub with_test_is : (stage : Stage) (k : ListContext) (fs : List Suspended) (ws : List o.Waiting) (before : Items) (kind : BraceKind) (at : ℕ) (choices : Choices) (word : List ℕ) (kept trail : ℕ) (operand : Operand)
+    → s.with_label (w.after_test operand word) (s.with_leaf kinds.Test (s.first_of operand) (s.last_of operand) (s.open_alternative (s.first_of operand) (hw stage k fs ws before kind at choices tree.no_test [] word kept trail)))
+    ≡ hw stage k fs ws before kind at choices (test_by operand word) [] word kept trail
+with_test_is stage k fs ws before kind at choices word kept trail operand =
+    ap (λ z. made stage k fs (leafed kinds.Test (w.after_test operand word) (s.first_of operand) (s.last_of operand) z) word kept trail)
+    (all_open (head_star ws h) (brace_level ws h ∷ levels_of ws) (held h) kinds.Alternative no_label (s.first_of operand))
     ∙ ap (λ z. made stage k fs z word kept trail)
-    (all_leaf (head_star ws h) (choice_level t 0 ∷ brace_level ws h ∷ levels_of ws) no_node kinds.Test (w.after_test behind word) (s.first_of behind) (s.last_of behind)
-    ∙ ap (λ z. all (head_star ws h) (choice_level t 0 ∷ brace_level ws h ∷ levels_of ws) z) (sym (by_nodes behind word))
-    ∙ ap (λ z. all z (choice_level t 0 ∷ brace_level ws h ∷ levels_of ws) (test_nodes (test_by behind word))) (sym (by_star tree.no_test behind word (choices_have_star choices || list_star ws before))))
+    (all_leaf (head_star ws h) (choice_level t 0 ∷ brace_level ws h ∷ levels_of ws) no_node kinds.Test (w.after_test operand word) (s.first_of operand) (s.last_of operand)
+    ∙ ap (λ z. all (head_star ws h) (choice_level t 0 ∷ brace_level ws h ∷ levels_of ws) z) (sym (by_nodes operand word))
+    ∙ ap (λ z. all z (choice_level t 0 ∷ brace_level ws h ∷ levels_of ws) (test_nodes (test_by operand word))) (sym (by_star tree.no_test operand word (choices_have_star choices || list_star ws before))))
   where
     h : o.Head
     h = hd ws k before kind at choices tree.no_test []
 
     t : o.Head
-    t = hd ws k before kind at choices (test_by behind word) []
+    t = hd ws k before kind at choices (test_by operand word) []
 
 pub more_test_is : (stage : Stage) (k : ListContext) (fs : List Suspended) (ws : List o.Waiting) (before : Items) (kind : BraceKind) (at : ℕ) (choices : Choices)
-    (r : Span) (negated : Bool) (asked : Asked) (others : Tests) (word : List ℕ) (kept trail : ℕ) (behind : Behind)
-    → s.with_label (w.after_test behind word) (s.with_leaf kinds.Test (s.first_of behind) (s.last_of behind) (hw stage k fs ws before kind at choices (tree.test r negated asked others) [] word kept trail))
-    ≡ hw stage k fs ws before kind at choices (tree.test r negated asked (join_tests others (test_by behind word))) [] word kept trail
-more_test_is stage k fs ws before kind at choices r negated asked others word kept trail behind =
+    (r : Span) (negated : Bool) (asked : Asked) (others : Tests) (word : List ℕ) (kept trail : ℕ) (operand : Operand)
+    → s.with_label (w.after_test operand word) (s.with_leaf kinds.Test (s.first_of operand) (s.last_of operand) (hw stage k fs ws before kind at choices (tree.test r negated asked others) [] word kept trail))
+    ≡ hw stage k fs ws before kind at choices (tree.test r negated asked (join_tests others (test_by operand word))) [] word kept trail
+more_test_is stage k fs ws before kind at choices r negated asked others word kept trail operand =
     ap (λ z. made stage k fs z word kept trail)
-    (all_leaf (head_star ws h) (choice_level h 0 ∷ brace_level ws h ∷ levels_of ws) (test_nodes (tree.test r negated asked others)) kinds.Test (w.after_test behind word) (s.first_of behind) (s.last_of behind)
+    (all_leaf (head_star ws h) (choice_level h 0 ∷ brace_level ws h ∷ levels_of ws) (test_nodes (tree.test r negated asked others)) kinds.Test (w.after_test operand word) (s.first_of operand) (s.last_of operand)
     ∙ ap (λ z. all (head_star ws h) (choice_level h 0 ∷ brace_level ws h ∷ levels_of ws) z)
-    (ap (λ z. both (test_nodes (tree.test r negated asked others)) z) (sym (by_nodes behind word)) ∙ sym (tests_join (tree.test r negated asked others) (test_by behind word)))
-    ∙ ap (λ z. all z (choice_level h 0 ∷ brace_level ws h ∷ levels_of ws) (test_nodes (join_tests (tree.test r negated asked others) (test_by behind word))))
-    (sym (by_star (tree.test r negated asked others) behind word (choices_have_star choices || list_star ws before))))
+    (ap (λ z. both (test_nodes (tree.test r negated asked others)) z) (sym (by_nodes operand word)) ∙ sym (tests_join (tree.test r negated asked others) (test_by operand word)))
+    ∙ ap (λ z. all z (choice_level h 0 ∷ brace_level ws h ∷ levels_of ws) (test_nodes (join_tests (tree.test r negated asked others) (test_by operand word))))
+    (sym (by_star (tree.test r negated asked others) operand word (choices_have_star choices || list_star ws before))))
   where
     h : o.Head
     h = hd ws k before kind at choices (tree.test r negated asked others) []
@@ -313,11 +313,11 @@ bars_good stage k {fs} {ws} before kind at choices tests r negated asked others 
     hh : o.Head
     hh = hd ws k before kind at choices (tree.test r negated asked others) []
 
-pub untested_is : (at : ℕ) (behind : Behind) → s.untested at behind ≡ (if is_bare behind then EmptyTest at else BadDirective at)
-untested_is at (behinds.Switch start end negated starred) = refl
-untested_is at (behinds.Marked start end negated mark) = refl
-untested_is at (behinds.StarredMark start end negated mark) = refl
-untested_is at (behinds.Bare start end negated mark) = refl
+pub untested_is : (at : ℕ) (operand : Operand) → s.untested at operand ≡ (if is_bare operand then EmptyTest at else BadDirective at)
+untested_is at (operands.Switch start end negated starred) = refl
+untested_is at (operands.Marked start end negated mark) = refl
+untested_is at (operands.StarredMark start end negated mark) = refl
+untested_is at (operands.Bare start end negated mark) = refl
 
 pub refused_leads : (ws : List o.Waiting) (n : ℕ) (fault other : SyntaxFault) → fault ≡ other → Leads (Err fault) (λ again. after (o.Refused other) ws again n)
 refused_leads ws n fault other e = λ again. ap (λ z. fails z) (sym e)
@@ -326,83 +326,83 @@ refused_leads ws n fault other e = λ again. ap (λ z. fails z) (sym e)
     fails z = Err z
 
 pub asks_leads : (stage : Stage) (k : ListContext) {fs : List Suspended} {ws : List o.Waiting} (before : Items) (kind : BraceKind) (at : ℕ) (choices : Choices) (tests : Tests) (patterns : List (Span × Pattern))
-    (word : List ℕ) (kept trail : ℕ) (behind : Behind) (n : ℕ) → Held choices tests patterns → Waits fs ws
-    → Leads (s.act_asks (the_head ws before kind at) (form_for ws (hd ws k before kind at choices tests patterns)) behind n (hw stage k fs ws before kind at choices tests patterns word kept trail))
-    (λ again. after (o.turn_colon (hd ws k before kind at choices tests patterns) (if s.tests behind then o.tested_by patterns (join_tests tests (test_by behind word)) else None) (is_bare behind) n) ws again n)
-asks_leads stage k {fs} {ws} before kind at choices tests patterns word kept trail behind n held_fresh h = by (s.tests behind)
+    (word : List ℕ) (kept trail : ℕ) (operand : Operand) (n : ℕ) → Held choices tests patterns → Waits fs ws
+    → Leads (s.act_asks (the_head ws before kind at) (form_for ws (hd ws k before kind at choices tests patterns)) operand n (hw stage k fs ws before kind at choices tests patterns word kept trail))
+    (λ again. after (o.turn_colon (hd ws k before kind at choices tests patterns) (if s.tests operand then o.tested_by patterns (join_tests tests (test_by operand word)) else None) (is_bare operand) n) ws again n)
+asks_leads stage k {fs} {ws} before kind at choices tests patterns word kept trail operand n held_fresh h = by (s.tests operand)
   where
     v : ReaderState
-    v = s.with_label (w.after_test behind word) (s.with_leaf kinds.Test (s.first_of behind) (s.last_of behind) (s.open_alternative (s.first_of behind) (hw stage k fs ws before kind at tree.no_choice tree.no_test [] word kept trail)))
+    v = s.with_label (w.after_test operand word) (s.with_leaf kinds.Test (s.first_of operand) (s.last_of operand) (s.open_alternative (s.first_of operand) (hw stage k fs ws before kind at tree.no_choice tree.no_test [] word kept trail)))
 
-    by : (t : Bool) → Leads (if t && true then Ok (s.ask (the_head ws before kind at) (the_part ws (hd ws k before kind at tree.no_choice (test_by behind word) []) 0) true (s.starred_of behind) n v) else Err (s.untested at behind))
-        (λ again. after (o.turn_colon (hd ws k before kind at tree.no_choice tree.no_test []) (if t then Some (test_by behind word) else None) (is_bare behind) n) ws again n)
-    by true = asks_good stage k before kind at tree.no_choice tree.no_test _ _ _ tree.no_test word kept trail n (s.starred_of behind) (is_bare behind) v (with_test_is stage k fs ws before kind at tree.no_choice word kept trail behind) (by_stars behind word) h
-    by false = refused_leads ws n _ _ (untested_is at behind)
-asks_leads stage k {fs} {ws} before kind at choices tests patterns word kept trail behind n (held_later {r = q} {tests = ts} {items = xs} {choices = cs}) h = by (s.tests behind)
+    by : (t : Bool) → Leads (if t && true then Ok (s.ask (the_head ws before kind at) (the_part ws (hd ws k before kind at tree.no_choice (test_by operand word) []) 0) true (s.starred_of operand) n v) else Err (s.untested at operand))
+        (λ again. after (o.turn_colon (hd ws k before kind at tree.no_choice tree.no_test []) (if t then Some (test_by operand word) else None) (is_bare operand) n) ws again n)
+    by true = asks_good stage k before kind at tree.no_choice tree.no_test _ _ _ tree.no_test word kept trail n (s.starred_of operand) (is_bare operand) v (with_test_is stage k fs ws before kind at tree.no_choice word kept trail operand) (by_stars operand word) h
+    by false = refused_leads ws n _ _ (untested_is at operand)
+asks_leads stage k {fs} {ws} before kind at choices tests patterns word kept trail operand n (held_later {r = q} {tests = ts} {items = xs} {choices = cs}) h = by (s.tests operand)
   where
     v : ReaderState
-    v = s.with_label (w.after_test behind word) (s.with_leaf kinds.Test (s.first_of behind) (s.last_of behind) (s.open_alternative (s.first_of behind) (hw stage k fs ws before kind at (tree.choice q ts xs cs) tree.no_test [] word kept trail)))
+    v = s.with_label (w.after_test operand word) (s.with_leaf kinds.Test (s.first_of operand) (s.last_of operand) (s.open_alternative (s.first_of operand) (hw stage k fs ws before kind at (tree.choice q ts xs cs) tree.no_test [] word kept trail)))
 
-    by : (t : Bool) → Leads (if t && true then Ok (s.ask (the_head ws before kind at) (the_part ws (hd ws k before kind at (tree.choice q ts xs cs) (test_by behind word) []) 0) true (s.starred_of behind) n v) else Err (s.untested at behind))
-        (λ again. after (o.turn_colon (hd ws k before kind at (tree.choice q ts xs cs) tree.no_test []) (if t then Some (test_by behind word) else None) (is_bare behind) n) ws again n)
-    by true = asks_good stage k before kind at (tree.choice q ts xs cs) tree.no_test _ _ _ tree.no_test word kept trail n (s.starred_of behind) (is_bare behind) v (with_test_is stage k fs ws before kind at (tree.choice q ts xs cs) word kept trail behind) (by_stars behind word) h
-    by false = refused_leads ws n _ _ (untested_is at behind)
-asks_leads stage k {fs} {ws} before kind at choices tests patterns word kept trail behind n (held_tests {choices = cs} {r = q} {negated = sign} {asked = a} {tests = ts}) h = by (s.tests behind)
+    by : (t : Bool) → Leads (if t && true then Ok (s.ask (the_head ws before kind at) (the_part ws (hd ws k before kind at (tree.choice q ts xs cs) (test_by operand word) []) 0) true (s.starred_of operand) n v) else Err (s.untested at operand))
+        (λ again. after (o.turn_colon (hd ws k before kind at (tree.choice q ts xs cs) tree.no_test []) (if t then Some (test_by operand word) else None) (is_bare operand) n) ws again n)
+    by true = asks_good stage k before kind at (tree.choice q ts xs cs) tree.no_test _ _ _ tree.no_test word kept trail n (s.starred_of operand) (is_bare operand) v (with_test_is stage k fs ws before kind at (tree.choice q ts xs cs) word kept trail operand) (by_stars operand word) h
+    by false = refused_leads ws n _ _ (untested_is at operand)
+asks_leads stage k {fs} {ws} before kind at choices tests patterns word kept trail operand n (held_tests {choices = cs} {r = q} {negated = sign} {asked = a} {tests = ts}) h = by (s.tests operand)
   where
     v : ReaderState
-    v = s.with_label (w.after_test behind word) (s.with_leaf kinds.Test (s.first_of behind) (s.last_of behind) (hw stage k fs ws before kind at cs (tree.test q sign a ts) [] word kept trail))
+    v = s.with_label (w.after_test operand word) (s.with_leaf kinds.Test (s.first_of operand) (s.last_of operand) (hw stage k fs ws before kind at cs (tree.test q sign a ts) [] word kept trail))
 
-    by : (t : Bool) → Leads (if t && true then Ok (s.ask (the_head ws before kind at) (the_part ws (hd ws k before kind at cs (tree.test q sign a ts) []) 0) true (c.all_starred (tree.test q sign a ts) && s.starred_of behind) n v) else Err (s.untested at behind))
-        (λ again. after (o.turn_colon (hd ws k before kind at cs (tree.test q sign a ts) []) (if t then Some (tree.test q sign a (join_tests ts (test_by behind word))) else None) (is_bare behind) n) ws again n)
+    by : (t : Bool) → Leads (if t && true then Ok (s.ask (the_head ws before kind at) (the_part ws (hd ws k before kind at cs (tree.test q sign a ts) []) 0) true (c.all_starred (tree.test q sign a ts) && s.starred_of operand) n v) else Err (s.untested at operand))
+        (λ again. after (o.turn_colon (hd ws k before kind at cs (tree.test q sign a ts) []) (if t then Some (tree.test q sign a (join_tests ts (test_by operand word))) else None) (is_bare operand) n) ws again n)
     by true =
-        asks_good stage k before kind at cs (tree.test q sign a ts) q sign a (join_tests ts (test_by behind word)) word kept trail n _ (is_bare behind) v
-        (more_test_is stage k fs ws before kind at cs q sign a ts word kept trail behind)
-        (starred_join (tree.test q sign a ts) (test_by behind word) ∙ ap (λ z. c.all_starred (tree.test q sign a ts) && z) (by_stars behind word)) h
-    by false = refused_leads ws n _ _ (untested_is at behind)
-asks_leads stage k {fs} {ws} before kind at choices tests patterns word kept trail behind n (held_patterns {p = q} {patterns = qs}) h = by (s.tests behind) _
+        asks_good stage k before kind at cs (tree.test q sign a ts) q sign a (join_tests ts (test_by operand word)) word kept trail n _ (is_bare operand) v
+        (more_test_is stage k fs ws before kind at cs q sign a ts word kept trail operand)
+        (starred_join (tree.test q sign a ts) (test_by operand word) ∙ ap (λ z. c.all_starred (tree.test q sign a ts) && z) (by_stars operand word)) h
+    by false = refused_leads ws n _ _ (untested_is at operand)
+asks_leads stage k {fs} {ws} before kind at choices tests patterns word kept trail operand n (held_patterns {p = q} {patterns = qs}) h = by (s.tests operand) _
   where
-    by : (t : Bool) (v : ReaderState) → Leads (if t && false then Ok v else Err (s.untested at behind))
-        (λ again. after (o.turn_colon (hd ws k before kind at tree.no_choice tree.no_test (q ∷ qs)) (if t then None else None) (is_bare behind) n) ws again n)
-    by true v = refused_leads ws n _ _ (untested_is at behind)
-    by false v = refused_leads ws n _ _ (untested_is at behind)
+    by : (t : Bool) (v : ReaderState) → Leads (if t && false then Ok v else Err (s.untested at operand))
+        (λ again. after (o.turn_colon (hd ws k before kind at tree.no_choice tree.no_test (q ∷ qs)) (if t then None else None) (is_bare operand) n) ws again n)
+    by true v = refused_leads ws n _ _ (untested_is at operand)
+    by false v = refused_leads ws n _ _ (untested_is at operand)
 
 pub bars_leads : (stage : Stage) (k : ListContext) {fs : List Suspended} {ws : List o.Waiting} (before : Items) (kind : BraceKind) (at : ℕ) (choices : Choices) (tests : Tests) (patterns : List (Span × Pattern))
-    (word : List ℕ) (kept trail : ℕ) (behind : Behind) (n : ℕ) → Held choices tests patterns → Waits fs ws
-    → Leads (s.act_bars (the_head ws before kind at) (form_for ws (hd ws k before kind at choices tests patterns)) behind (hw stage k fs ws before kind at choices tests patterns word kept trail))
-    (λ again. after (o.turn_bar (hd ws k before kind at choices tests patterns) (if s.tests behind then o.tested_by patterns (join_tests tests (test_by behind word)) else None) (is_bare behind)) ws again n)
-bars_leads stage k {fs} {ws} before kind at choices tests patterns word kept trail behind n held_fresh h = by (s.tests behind)
+    (word : List ℕ) (kept trail : ℕ) (operand : Operand) (n : ℕ) → Held choices tests patterns → Waits fs ws
+    → Leads (s.act_bars (the_head ws before kind at) (form_for ws (hd ws k before kind at choices tests patterns)) operand (hw stage k fs ws before kind at choices tests patterns word kept trail))
+    (λ again. after (o.turn_bar (hd ws k before kind at choices tests patterns) (if s.tests operand then o.tested_by patterns (join_tests tests (test_by operand word)) else None) (is_bare operand)) ws again n)
+bars_leads stage k {fs} {ws} before kind at choices tests patterns word kept trail operand n held_fresh h = by (s.tests operand)
   where
     v : ReaderState
-    v = s.with_label (w.after_test behind word) (s.with_leaf kinds.Test (s.first_of behind) (s.last_of behind) (s.open_alternative (s.first_of behind) (hw stage k fs ws before kind at tree.no_choice tree.no_test [] word kept trail)))
+    v = s.with_label (w.after_test operand word) (s.with_leaf kinds.Test (s.first_of operand) (s.last_of operand) (s.open_alternative (s.first_of operand) (hw stage k fs ws before kind at tree.no_choice tree.no_test [] word kept trail)))
 
-    by : (t : Bool) → Leads (if t && true then Ok (s.at_stage (staged.Braces (the_head ws before kind at) (forms.Tests (the_part ws (hd ws k before kind at tree.no_choice (test_by behind word) []) 0) (s.starred_of behind)) places.TestDue) v) else Err (s.untested at behind))
-        (λ again. after (o.turn_bar (hd ws k before kind at tree.no_choice tree.no_test []) (if t then Some (test_by behind word) else None) (is_bare behind)) ws again n)
-    by true = bars_good stage k before kind at tree.no_choice tree.no_test _ _ _ tree.no_test word kept trail n (s.starred_of behind) (is_bare behind) v (with_test_is stage k fs ws before kind at tree.no_choice word kept trail behind) (by_stars behind word) h
-    by false = refused_leads ws n _ _ (untested_is at behind)
-bars_leads stage k {fs} {ws} before kind at choices tests patterns word kept trail behind n (held_later {r = q} {tests = ts} {items = xs} {choices = cs}) h = by (s.tests behind)
+    by : (t : Bool) → Leads (if t && true then Ok (s.at_stage (staged.Braces (the_head ws before kind at) (forms.Tests (the_part ws (hd ws k before kind at tree.no_choice (test_by operand word) []) 0) (s.starred_of operand)) places.TestDue) v) else Err (s.untested at operand))
+        (λ again. after (o.turn_bar (hd ws k before kind at tree.no_choice tree.no_test []) (if t then Some (test_by operand word) else None) (is_bare operand)) ws again n)
+    by true = bars_good stage k before kind at tree.no_choice tree.no_test _ _ _ tree.no_test word kept trail n (s.starred_of operand) (is_bare operand) v (with_test_is stage k fs ws before kind at tree.no_choice word kept trail operand) (by_stars operand word) h
+    by false = refused_leads ws n _ _ (untested_is at operand)
+bars_leads stage k {fs} {ws} before kind at choices tests patterns word kept trail operand n (held_later {r = q} {tests = ts} {items = xs} {choices = cs}) h = by (s.tests operand)
   where
     v : ReaderState
-    v = s.with_label (w.after_test behind word) (s.with_leaf kinds.Test (s.first_of behind) (s.last_of behind) (s.open_alternative (s.first_of behind) (hw stage k fs ws before kind at (tree.choice q ts xs cs) tree.no_test [] word kept trail)))
+    v = s.with_label (w.after_test operand word) (s.with_leaf kinds.Test (s.first_of operand) (s.last_of operand) (s.open_alternative (s.first_of operand) (hw stage k fs ws before kind at (tree.choice q ts xs cs) tree.no_test [] word kept trail)))
 
-    by : (t : Bool) → Leads (if t && true then Ok (s.at_stage (staged.Braces (the_head ws before kind at) (forms.Tests (the_part ws (hd ws k before kind at (tree.choice q ts xs cs) (test_by behind word) []) 0) (s.starred_of behind)) places.TestDue) v) else Err (s.untested at behind))
-        (λ again. after (o.turn_bar (hd ws k before kind at (tree.choice q ts xs cs) tree.no_test []) (if t then Some (test_by behind word) else None) (is_bare behind)) ws again n)
-    by true = bars_good stage k before kind at (tree.choice q ts xs cs) tree.no_test _ _ _ tree.no_test word kept trail n (s.starred_of behind) (is_bare behind) v (with_test_is stage k fs ws before kind at (tree.choice q ts xs cs) word kept trail behind) (by_stars behind word) h
-    by false = refused_leads ws n _ _ (untested_is at behind)
-bars_leads stage k {fs} {ws} before kind at choices tests patterns word kept trail behind n (held_tests {choices = cs} {r = q} {negated = sign} {asked = a} {tests = ts}) h = by (s.tests behind)
+    by : (t : Bool) → Leads (if t && true then Ok (s.at_stage (staged.Braces (the_head ws before kind at) (forms.Tests (the_part ws (hd ws k before kind at (tree.choice q ts xs cs) (test_by operand word) []) 0) (s.starred_of operand)) places.TestDue) v) else Err (s.untested at operand))
+        (λ again. after (o.turn_bar (hd ws k before kind at (tree.choice q ts xs cs) tree.no_test []) (if t then Some (test_by operand word) else None) (is_bare operand)) ws again n)
+    by true = bars_good stage k before kind at (tree.choice q ts xs cs) tree.no_test _ _ _ tree.no_test word kept trail n (s.starred_of operand) (is_bare operand) v (with_test_is stage k fs ws before kind at (tree.choice q ts xs cs) word kept trail operand) (by_stars operand word) h
+    by false = refused_leads ws n _ _ (untested_is at operand)
+bars_leads stage k {fs} {ws} before kind at choices tests patterns word kept trail operand n (held_tests {choices = cs} {r = q} {negated = sign} {asked = a} {tests = ts}) h = by (s.tests operand)
   where
     v : ReaderState
-    v = s.with_label (w.after_test behind word) (s.with_leaf kinds.Test (s.first_of behind) (s.last_of behind) (hw stage k fs ws before kind at cs (tree.test q sign a ts) [] word kept trail))
+    v = s.with_label (w.after_test operand word) (s.with_leaf kinds.Test (s.first_of operand) (s.last_of operand) (hw stage k fs ws before kind at cs (tree.test q sign a ts) [] word kept trail))
 
-    by : (t : Bool) → Leads (if t && true then Ok (s.at_stage (staged.Braces (the_head ws before kind at) (forms.Tests (the_part ws (hd ws k before kind at cs (tree.test q sign a ts) []) 0) (c.all_starred (tree.test q sign a ts) && s.starred_of behind)) places.TestDue) v) else Err (s.untested at behind))
-        (λ again. after (o.turn_bar (hd ws k before kind at cs (tree.test q sign a ts) []) (if t then Some (tree.test q sign a (join_tests ts (test_by behind word))) else None) (is_bare behind)) ws again n)
+    by : (t : Bool) → Leads (if t && true then Ok (s.at_stage (staged.Braces (the_head ws before kind at) (forms.Tests (the_part ws (hd ws k before kind at cs (tree.test q sign a ts) []) 0) (c.all_starred (tree.test q sign a ts) && s.starred_of operand)) places.TestDue) v) else Err (s.untested at operand))
+        (λ again. after (o.turn_bar (hd ws k before kind at cs (tree.test q sign a ts) []) (if t then Some (tree.test q sign a (join_tests ts (test_by operand word))) else None) (is_bare operand)) ws again n)
     by true =
-        bars_good stage k before kind at cs (tree.test q sign a ts) q sign a (join_tests ts (test_by behind word)) word kept trail n _ (is_bare behind) v
-        (more_test_is stage k fs ws before kind at cs q sign a ts word kept trail behind)
-        (starred_join (tree.test q sign a ts) (test_by behind word) ∙ ap (λ z. c.all_starred (tree.test q sign a ts) && z) (by_stars behind word)) h
-    by false = refused_leads ws n _ _ (untested_is at behind)
-bars_leads stage k {fs} {ws} before kind at choices tests patterns word kept trail behind n (held_patterns {p = q} {patterns = qs}) h = by (s.tests behind) _
+        bars_good stage k before kind at cs (tree.test q sign a ts) q sign a (join_tests ts (test_by operand word)) word kept trail n _ (is_bare operand) v
+        (more_test_is stage k fs ws before kind at cs q sign a ts word kept trail operand)
+        (starred_join (tree.test q sign a ts) (test_by operand word) ∙ ap (λ z. c.all_starred (tree.test q sign a ts) && z) (by_stars operand word)) h
+    by false = refused_leads ws n _ _ (untested_is at operand)
+bars_leads stage k {fs} {ws} before kind at choices tests patterns word kept trail operand n (held_patterns {p = q} {patterns = qs}) h = by (s.tests operand) _
   where
-    by : (t : Bool) (v : ReaderState) → Leads (if t && false then Ok v else Err (s.untested at behind))
-        (λ again. after (o.turn_bar (hd ws k before kind at tree.no_choice tree.no_test (q ∷ qs)) (if t then None else None) (is_bare behind)) ws again n)
-    by true v = refused_leads ws n _ _ (untested_is at behind)
-    by false v = refused_leads ws n _ _ (untested_is at behind)
+    by : (t : Bool) (v : ReaderState) → Leads (if t && false then Ok v else Err (s.untested at operand))
+        (λ again. after (o.turn_bar (hd ws k before kind at tree.no_choice tree.no_test (q ∷ qs)) (if t then None else None) (is_bare operand)) ws again n)
+    by true v = refused_leads ws n _ _ (untested_is at operand)
+    by false v = refused_leads ws n _ _ (untested_is at operand)

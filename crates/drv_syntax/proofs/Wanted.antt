@@ -127,8 +127,8 @@ module _ (size : ℕ) (K : Outside) where
 
   -- after a front of a function's name
   abbrev pub call_rest : ListContext → List ℕ → List ℕ → (List ℕ → Items → List ℕ → Type 0) → Type 0
-  call_rest c name text behind = (others : List ℕ) × (mid : List ℕ) × (arguments : Items) × (rest : List ℕ) × (text ≡ others ++ 40 ∷ mid) × (is_function (name ++ others) ≡ true)
-      × AreItems size (in_arguments c) mid arguments (41 ∷ rest) × behind (name ++ others) arguments rest
+  call_rest c name text following = (others : List ℕ) × (mid : List ℕ) × (arguments : Items) × (rest : List ℕ) × (text ≡ others ++ 40 ∷ mid) × (is_function (name ++ others) ≡ true)
+      × AreItems size (in_arguments c) mid arguments (41 ∷ rest) × following (name ++ others) arguments rest
 
   abbrev pub test_call : Head → ℕ → Bool → List ℕ → List ℕ → Type 0
   test_call h begun negated name text =
@@ -161,8 +161,8 @@ module _ (size : ℕ) (K : Outside) where
 
   abbrev pub Wanted : Place → List ℕ → Type 0
   Wanted (o.AtItem here) text = WantsList size K here text
-  Wanted (o.BehindBackslash here back) text = next_byte text (λ b rest. Ended size K here back (Escape b) rest)
-  Wanted (o.BehindPercent here at) text = percent_rest here at text
+  Wanted (o.AfterBackslash here back) text = next_byte text (λ b rest. Ended size K here back (Escape b) rest)
+  Wanted (o.AfterPercent here at) text = percent_rest here at text
   Wanted (o.SuffixStart here at kind) text = suffix_rest here at kind text
   Wanted (o.SuffixRun here at kind suffix) text = (run : List ℕ) × (rest : List ℕ) × IsRun is_suffix text run rest × Ended size K here at (TempName kind (suffix ++ run)) rest
   Wanted (o.SuffixPercent here at kind percent) text = At size percent (37 ∷ text) → suffix_rest here at kind (37 ∷ text)
@@ -188,7 +188,7 @@ module _ (size : ℕ) (K : Outside) where
   Wanted (o.MarkedEscape h begun negated mark word) text = next_byte text (λ b rest. marked_rest h begun negated mark (word ++ b ∷ []) rest)
   Wanted (o.TestPercent h begun negated at) text = next_byte text (λ b rest. (b ≡ 58) × test_call h begun negated [] rest)
   Wanted (o.TestFunction h begun negated at name) text = test_call h begun negated name text
-  Wanted (o.BehindTest h patterns tests bare) text = after_test h patterns tests text
+  Wanted (o.AfterTest h patterns tests bare) text = after_test h patterns tests text
 
 -- around a list for whose end a directive waits
 abbrev pub Inside : ℕ → Outside → Waiting → Outside

@@ -12,7 +12,7 @@ use Rattle.std.specs.Prelude.{Bool, false, List, [], ◌∷◌, ◌++◌, get_or
 
 pub record Label : Type 0 where
   pub word : List ℕ  -- what it names, without escapes
-  pub starred : Bool  -- a star stands behind the word
+  pub starred : Bool  -- a star stands after the word
   pub negated : Bool  -- a ! stands before it
   pub asks : TestKind  -- what a test asks
   pub holds_star : Bool  -- the X of an alternative has a %* of its own

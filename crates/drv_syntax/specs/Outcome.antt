@@ -75,34 +75,34 @@ chosen_item h end choices = placed h.here h.at end (braced h.kind (Choose choice
 -- where the next byte stands. `at` is the place of a %, `back` of a backslash, `start` of a test or a pattern
 pub data Place : Type 0 where
   AtItem : Here → Place  -- where an item begins
-  BehindBackslash : Here → ℕ → Place  -- back
-  BehindPercent : Here → ℕ → Place  -- at
-  SuffixStart : Here → ℕ → TempKind → Place  -- behind %g: at
+  AfterBackslash : Here → ℕ → Place  -- back
+  AfterPercent : Here → ℕ → Place  -- at
+  SuffixStart : Here → ℕ → TempKind → Place  -- after %g: at
   SuffixRun : Here → ℕ → TempKind → List ℕ → Place
-  SuffixPercent : Here → ℕ → TempKind → ℕ → Place  -- behind %g%: at, and the place of the second %
-  OptionOpen : Here → ℕ → Place  -- behind %x: at
+  SuffixPercent : Here → ℕ → TempKind → ℕ → Place  -- after %g%: at, and the place of the second %
+  OptionOpen : Here → ℕ → Place  -- after %x: at
   OptionText : Here → ℕ → List ℕ → Place
   OptionEscape : Here → ℕ → List ℕ → Place
-  SayingText : Here → ℕ → SayKind → List ℕ → Place  -- behind %e: at
+  SayingText : Here → ℕ → SayKind → List ℕ → Place  -- after %e: at
   SayingEscape : Here → ℕ → SayKind → List ℕ → ℕ → Place  -- at, back
-  NameText : Here → ℕ → List ℕ → Place  -- behind %(: at
-  HideStart : Here → ℕ → Place  -- behind %<: at
+  NameText : Here → ℕ → List ℕ → Place  -- after %(: at
+  HideStart : Here → ℕ → Place  -- after %<: at
   HideWord : Here → ℕ → List ℕ → Place
   HideEscape : Here → ℕ → List ℕ → Place
-  FunctionName : Here → ℕ → List ℕ → Place  -- behind %:: at
-  BraceOpen : Here → ℕ → BraceKind → Place  -- behind %W: at
+  FunctionName : Here → ℕ → List ℕ → Place  -- after %:: at
+  BraceOpen : Here → ℕ → BraceKind → Place  -- after %W: at
   ChoiceStart : Head → Place  -- where an alternative begins
-  TestDue : Head → Place  -- behind |
-  TestNegated : Head → ℕ → Place  -- behind !: start
-  PatternDue : Head → Place  -- behind &
+  TestDue : Head → Place  -- after |
+  TestNegated : Head → ℕ → Place  -- after !: start
+  PatternDue : Head → Place  -- after &
   TestWord : Head → ℕ → Bool → List ℕ → Place  -- in a word: start, with a !
   TestWordEscape : Head → ℕ → Bool → List ℕ → Place
-  TestMark : Head → ℕ → Bool → ℕ → Place  -- behind the . or , that begins a test
+  TestMark : Head → ℕ → Bool → ℕ → Place  -- after the . or , that begins a test
   MarkedWord : Head → ℕ → Bool → ℕ → List ℕ → Place
   MarkedEscape : Head → ℕ → Bool → ℕ → List ℕ → Place
   TestPercent : Head → ℕ → Bool → ℕ → Place  -- start, with a !, at
   TestFunction : Head → ℕ → Bool → ℕ → List ℕ → Place
-  BehindTest : Head → Option (List (Span × Pattern)) → Option Tests → Bool → Place  -- behind a test: the patterns so far if they can be that, the tests so far if they can, and whether a . or , stands alone there
+  AfterTest : Head → Option (List (Span × Pattern)) → Option Tests → Bool → Place  -- after a test: the patterns so far if they can be that, the tests so far if they can, and whether a . or , stands alone there
 
 -- a directive that waits for the end of a list in it
 pub data Waiting : Type 0 where
@@ -124,8 +124,8 @@ then_item here start end item = Goes (AtItem (placed here start end item))
 -- where an item begins: n is the place of the byte b
 abbrev pub turn_item : Here → ℕ → ℕ → Turn
 turn_item here n b =
-    if b == ascii.backslash then Goes (BehindBackslash here n)
-    else if b == ascii.percent then Goes (BehindPercent here n)
+    if b == ascii.backslash then Goes (AfterBackslash here n)
+    else if b == ascii.percent then Goes (AfterPercent here n)
     else if is_end here.context.kind b then Closes here.done b
     else if is_blank b then then_item here n (n + 1) Blank
     else if b == ascii.newline then then_item here n (n + 1) (newline_in here.context.in_arguments)
@@ -237,7 +237,7 @@ turn_and h None = Refused (BadDirective h.at)
 
 abbrev pub turn_after : Head → Option (List (Span × Pattern)) → Option Tests → Bool → ℕ → ℕ → Turn
 turn_after h patterns tests bare n b =
-    if is_white b then Goes (BehindTest h patterns tests bare)
+    if is_white b then Goes (AfterTest h patterns tests bare)
     else if b == ascii.closing_brace then turn_brace h patterns n
     else if b == ascii.ampersand then turn_and h patterns
     else if b == ascii.colon then turn_colon h tests bare n
@@ -264,7 +264,7 @@ tested h start end negated asked = tested_by h.patterns (join_tests h.tests (tes
 
 -- after a pattern that ends at this place
 abbrev pub after_pattern : Head → ℕ → ℕ → Bool → Pattern → Place
-after_pattern h start end negated p = BehindTest h (emitted h start end negated p) (tested h start end negated (HasSwitch p)) false
+after_pattern h start end negated p = AfterTest h (emitted h start end negated p) (tested h start end negated (HasSwitch p)) false
 
 abbrev pub turn_word : Head → ℕ → Bool → List ℕ → ℕ → ℕ → Turn
 turn_word h start negated word n b =
@@ -280,10 +280,10 @@ marked mark word = if mark == ascii.period then HasSuffix word else HasLanguage 
 abbrev pub turn_bare : Head → Option (List (Span × Pattern)) → Option (List (Span × Pattern)) → ℕ → ℕ → Turn
 turn_bare h None starred n b = Refused (EmptyTest h.at)
 turn_bare h (Some patterns) starred n b =
-    if b == ascii.asterisk then Goes (BehindTest h starred None false)
+    if b == ascii.asterisk then Goes (AfterTest h starred None false)
     else if b == ascii.closing_brace then turn_brace h (Some patterns) n
     else if b == ascii.ampersand then turn_and h (Some patterns)
-    else if is_white b then Goes (BehindTest h (Some patterns) None true)
+    else if is_white b then Goes (AfterTest h (Some patterns) None true)
     else Refused (EmptyTest h.at)
 
 abbrev pub turn_mark : Head → ℕ → Bool → ℕ → ℕ → ℕ → Turn
@@ -293,7 +293,7 @@ turn_mark h start negated mark n b =
     else turn_bare h (emitted h start n negated (pattern (mark ∷ []) false)) (emitted h start (n + 1) negated (pattern (mark ∷ []) true)) n b
 
 abbrev pub turn_starred_mark : Head → Option (List (Span × Pattern)) → Turn
-turn_starred_mark h (Some patterns) = Goes (BehindTest h (Some patterns) None false)
+turn_starred_mark h (Some patterns) = Goes (AfterTest h (Some patterns) None false)
 turn_starred_mark h None = Refused (BadDirective h.at)
 
 abbrev pub turn_marked_word : Head → ℕ → Bool → ℕ → List ℕ → ℕ → ℕ → Turn
@@ -331,8 +331,8 @@ turn_start h (choice s tests items choices) n b = if b == ascii.colon then turn_
 
 abbrev pub turn : Place → ℕ → ℕ → Turn
 turn (AtItem here) n b = turn_item here n b
-turn (BehindBackslash here back) n b = then_item here back (n + 1) (Escape b)
-turn (BehindPercent here at) n b = turn_percent here at n b
+turn (AfterBackslash here back) n b = then_item here back (n + 1) (Escape b)
+turn (AfterPercent here at) n b = turn_percent here at n b
 turn (SuffixStart here at kind) n b = turn_suffix here at kind n b
 turn (SuffixRun here at kind suffix) n b = turn_suffix_run here at kind suffix n b
 turn (SuffixPercent here at kind percent) n b = turn_suffix_percent here at kind percent n b
@@ -359,7 +359,7 @@ turn (MarkedEscape h start negated mark word) n b = Goes (MarkedWord h start neg
 turn (TestPercent h start negated at) n b = if b == ascii.colon then Goes (TestFunction h start negated at []) else Refused (BadDirective at)
 turn (TestFunction h start negated at name) n b =
     turn_function at name b (Opens (list_in (in_arguments (in_braces h.here.context))) (WaitsTest h start negated name)) (TestFunction h start negated at (name ++ b ∷ []))
-turn (BehindTest h patterns tests bare) n b = turn_after h patterns tests bare n b
+turn (AfterTest h patterns tests bare) n b = turn_after h patterns tests bare n b
 
 -- how a directive goes on after the list in it, and after the byte b at the place n that ended it
 pub data Resumed : Type 0 where
@@ -374,7 +374,7 @@ resume_x h colon (test s negated asked tests) items n b =
 abbrev pub resume : Waiting → Items → ℕ → ℕ → Resumed
 resume (WaitsX h colon) items n b = resume_x h colon h.tests items n b
 resume (WaitsCall here at name) items n b = On (AtItem (placed here at (n + 1) (Function name items)))
-resume (WaitsTest h start negated name) items n b = On (BehindTest h None (tested h start (n + 1) negated (HasResult name items)) false)
+resume (WaitsTest h start negated name) items n b = On (AfterTest h None (tested h start (n + 1) negated (HasResult name items)) false)
 
 -- what a text gives: its tree; that it is cut short, with the place of the outermost open directive or of the last
 -- backslash; or the place of the first byte that doesn't fit, and the fault
@@ -386,8 +386,8 @@ pub data Out : Type 0 where
 -- where the text ends, of this size, and no directive waits
 abbrev pub finish : Place → ℕ → Out
 finish (AtItem here) n = Got here.done
-finish (BehindBackslash here back) n = Cut back
-finish (BehindPercent here at) n = Cut at
+finish (AfterBackslash here back) n = Cut back
+finish (AfterPercent here at) n = Cut at
 finish (SuffixStart here at kind) n = Got (placed here at n (TempName kind [])).done
 finish (SuffixRun here at kind suffix) n = Got (placed here at n (TempName kind suffix)).done
 finish (SuffixPercent here at kind percent) n = Cut percent
@@ -413,7 +413,7 @@ finish (MarkedWord h start negated mark word) n = Cut h.at
 finish (MarkedEscape h start negated mark word) n = Cut h.at
 finish (TestPercent h start negated at) n = Cut h.at
 finish (TestFunction h start negated at name) n = Cut h.at
-finish (BehindTest h patterns tests bare) n = Cut h.at
+finish (AfterTest h patterns tests bare) n = Cut h.at
 
 abbrev pub place_of : Waiting → ℕ
 place_of (WaitsX h colon) = h.at

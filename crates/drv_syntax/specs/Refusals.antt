@@ -18,7 +18,7 @@ use Rattle.std.specs.Prelude.{◌≡◌, ◌≤◌, ◌==◌, Bool, false, true,
 pub data Order : Type 0 where
   AtFront : Order  -- at their front: they may be patterns
   AtNext : Order  -- at the front of a later alternative, which may be the default
-  AtBar : Order  -- behind a bar
+  AtBar : Order  -- after a bar
 
 -- at a test there, with a ! or without, the braces may still be patterns
 abbrev pub may_emit : Order → Bool → Bool
@@ -38,12 +38,12 @@ is_default AtBar negated b = false
 pub data Due : Type 0 where
   AnItem : ListContext → Due  -- an item, in a list with this context
   ATest : ListContext → ℕ → Order → Bool → Due  -- what a test asks, with a ! or without; this is the context inside the braces
-  AWord : ℕ → Due  -- the word behind the . or , of a test
-  APattern : ℕ → Due  -- a pattern, behind &
-  AnEnd : ℕ → List ℕ → Due  -- one of these bytes, behind a test or a pattern
-  BehindMark : ℕ → Due  -- right behind a . or , that may be a pattern
-  PastMark : ℕ → Due  -- behind such a mark and white space
-  NoMore : ℕ → Due  -- the end of the braces, behind the X of a default
+  AWord : ℕ → Due  -- the word after the . or , of a test
+  APattern : ℕ → Due  -- a pattern, after &
+  AnEnd : ℕ → List ℕ → Due  -- one of these bytes, after a test or a pattern
+  AfterMark : ℕ → Due  -- right after a . or , that may be a pattern
+  PastMark : ℕ → Due  -- after such a mark and white space
+  NoMore : ℕ → Due  -- the end of the braces, after the X of a default
 
 -- what may stand after a test, after a pattern, and after what may be either
 abbrev pub ends_test : List ℕ
@@ -65,7 +65,7 @@ pub data ReachesPatterns (n : ℕ) : List ℕ → Due → List ℕ → Type 0 wh
 pub data ReachesEmits (n : ℕ) : List ℕ → Due → List ℕ → Type 0 where
   starred_ends : {mark : ℕ} {t u v word rest : List ℕ} → AreSpaces t (mark ∷ u) → is_mark mark ≡ true → IsPattern (mark ∷ u) (pattern word true) v → AreSpaces v rest
       → ReachesEmits n t (AnEnd n ends_pattern) rest
-  after_mark : {mark : ℕ} {t rest : List ℕ} → AreSpaces t (mark ∷ rest) → is_mark mark ≡ true → IsPattern (mark ∷ rest) (pattern (mark ∷ []) false) rest → ReachesEmits n t (BehindMark n) rest
+  after_mark : {mark : ℕ} {t rest : List ℕ} → AreSpaces t (mark ∷ rest) → is_mark mark ≡ true → IsPattern (mark ∷ rest) (pattern (mark ∷ []) false) rest → ReachesEmits n t (AfterMark n) rest
   past_mark : {mark b : ℕ} {t u rest : List ℕ} → AreSpaces t (mark ∷ b ∷ u) → is_mark mark ≡ true → is_white b ≡ true → AreSpaces u rest → ReachesEmits n t (PastMark n) rest
   after_first : {t u v w rest : List ℕ} {p : Pattern} {due : Due} → AreSpaces t u → IsPattern u p v → AreSpaces v (ascii.ampersand ∷ w) → ReachesPatterns n w due rest → ReachesEmits n t due rest
 
@@ -177,7 +177,7 @@ pub data Refuses (size : ℕ) : Due → List ℕ → SyntaxFault → Type 0 wher
       → Refuses size (ATest c at order negated) (b ∷ []) (EmptyTest at)
   no_word : {at b : ℕ} → (b == ascii.backslash) ≡ false → is_word b ≡ false → Refuses size (AWord at) (b ∷ []) (EmptyTest at)
   no_pattern : {at b : ℕ} → Empty b → is_white b ≡ false → Refuses size (APattern at) (b ∷ []) (EmptyTest at)
-  mark_alone : {at b : ℕ} → is_white b ≡ false → is_of ends_pattern b ≡ false → Refuses size (BehindMark at) (b ∷ []) (EmptyTest at)
+  mark_alone : {at b : ℕ} → is_white b ≡ false → is_of ends_pattern b ≡ false → Refuses size (AfterMark at) (b ∷ []) (EmptyTest at)
   mark_is_no_test : {at b : ℕ} → is_of ends_test b ≡ true → Refuses size (PastMark at) (b ∷ []) (EmptyTest at)
   -- a default that is not last
   default_goes_on : {at : ℕ} → Refuses size (NoMore at) (ascii.semicolon ∷ []) (EmptyTest at)

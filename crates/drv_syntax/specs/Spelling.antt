@@ -14,7 +14,7 @@ use Rattle.drv_syntax.specs.declared.token.TempKind.{TempKind}
 use Rattle.std.specs.Prelude.{◌≡◌, ◌≤◌, ◌+◌, ◌==◌, Bool, false, true, List, [], ◌∷◌, ◌++◌, length, codes, ℕ}
 
 -- The grammar of spec texts (GCC manual, "Spec Files"; what that leaves open is this project's profile). A family
--- says of a text what stands at its front, and what is left behind it.
+-- says of a text what stands at its front, and what is left after it.
 
 -- the text doesn't begin with such a byte
 pub data Stops (f : ℕ → Bool) : List ℕ → Type 0 where

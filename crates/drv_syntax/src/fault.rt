@@ -23,7 +23,7 @@ pub enum SyntaxFault {
     #[error("%* outside of braces")]
     StarOutside(usize),
     /// A `%*` whose alternative has a test that is no starred pattern, or no test.
-    #[error("%* behind a condition that is no starred pattern")]
+    #[error("%* after a condition that is no starred pattern")]
     MixedStar(usize),
     /// More than 64 braces and arguments stand in one another.
     #[error("more than 64 braces and arguments in one another")]

@@ -36,8 +36,8 @@ beside : (events events' : List Event) (event : Event) → events' ≡ events ++
 beside events events' event is none =
     ap run_of is ∙ run_of-append events (event ∷ []) ∙ ap (λ rest. run_of events ++ rest) none ∙ append-nil (run_of events)
 
-behind : (events events' : List Event) (step : Step) (a : Answer) → events' ≡ events ++ made step a ∷ [] → run_of events' ≡ run_of events ++ record { step = step; answer = a } ∷ []
-behind events events' step a is = ap run_of is ∙ run_of-append events (made step a ∷ [])
+following : (events events' : List Event) (step : Step) (a : Answer) → events' ≡ events ++ made step a ∷ [] → run_of events' ≡ run_of events ++ record { step = step; answer = a } ∷ []
+following events events' step a is = ap run_of is ∙ run_of-append events (made step a ∷ [])
 
 one_more : (n m : ℕ) (events events' : List Event) (event : Event) → events' ≡ events ++ event ∷ [] → n ≤ length events → m ≤ n + 1 → m ≤ length events'
 one_more n m events events' event is few le =
@@ -72,7 +72,7 @@ holds_beside {events = events} {events' = events'} event holds is none same_n sa
 pub numbered_after : {n m : ℕ} {events events' : List Event} (step : Step) (a : Answer) → Numbered n events → events' ≡ events ++ made step a ∷ []
     → n ≤ m → m ≤ n + 1 → IsBelow m a → Numbered m events'
 numbered_after {n} {m} {events} {events'} step a numbered is le ge last = record {
-  below = subst (λ run. AreBelow m run) (sym (behind events events' step a is))
+  below = subst (λ run. AreBelow m run) (sym (following events events' step a is))
       (below_more n m (run_of events) (record { step = step; answer = a }) le numbered.below last);
   few = one_more n m events events' (made step a) is numbered.few ge;
 }
@@ -82,7 +82,7 @@ pub holds_after : {n m : ℕ} {p q : Bool} {events events' : List Event} (step :
 holds_after {events = events} {events' = events'} step a holds is le ge last pipe = record {
   numbered = numbered_after step a holds.numbered is le ge last;
   pipe = pipe ∙ ap (λ pending. pending_with pending step a) holds.pipe
-      ∙ sym (pending-append (run_of events) (record { step = step; answer = a })) ∙ ap pipe_pending (sym (behind events events' step a is));
+      ∙ sym (pending-append (run_of events) (record { step = step; answer = a })) ∙ ap pipe_pending (sym (following events events' step a is));
 }
 
 -- a child that was started takes the next number
@@ -108,7 +108,7 @@ pub holds_step : {n m : ℕ} {p q : Bool} {events events' : List Event} (step : 
 holds_step {events = events} {events' = events'} step a holds is same last pipe = record {
   numbered = numbered_step step a holds.numbered is same last;
   pipe = pipe ∙ ap (λ pending. pending_with pending step a) holds.pipe
-      ∙ sym (pending-append (run_of events) (record { step = step; answer = a })) ∙ ap pipe_pending (sym (behind events events' step a is));
+      ∙ sym (pending-append (run_of events) (record { step = step; answer = a })) ∙ ap pipe_pending (sym (following events events' step a is));
 }
 
 -- the next number

@@ -34,7 +34,7 @@ name_at plan (place.OnFailure k i) = slice_get (job_at plan k).on_failure i
 
 -- the line that tells of a step that failed
 abbrev pub line_of : List ℕ → Option (List ℕ) → List ℕ → List ℕ
-line_of before name behind = codes "gdrv: " ++ before ++ unwrap_or name [] ++ behind ++ newline ∷ []
+line_of before name after = codes "gdrv: " ++ before ++ unwrap_or name [] ++ after ++ newline ∷ []
 
 abbrev pub note_line : Plan → Note → List ℕ
 note_line plan (note.NotClaimed p) = line_of (codes "cannot claim ") (name_at plan p) []

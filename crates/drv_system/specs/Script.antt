@@ -85,8 +85,8 @@ abbrev pub front : Script → Option Answer
 front script = slice_get script.answers 0
 
 -- the script after a call: an answer that was taken is gone
-abbrev pub behind : {X : Type 0} → Option X → Script → Script
-behind taken script = if is_some taken then record script { answers = drop 1 script.answers } else script
+abbrev pub following : {X : Type 0} → Option X → Script → Script
+following taken script = if is_some taken then record script { answers = drop 1 script.answers } else script
 
 abbrev pub scripted_claim : Script → ClaimAnswer
 scripted_claim script = unwrap_or (claim_in (front script)) claim.Claimed

@@ -23,15 +23,15 @@ fn line_of(
     alloc: Global,
     before: &[u8],
     name: Option<&Word>,
-    behind: &[u8],
+    after: &[u8],
 ) -> Result<Word, AllocError>
     ensures { IfOk result (λ line. line
-        ≡ line_of before.now (option_copied name.entry) behind.now) }
+        ≡ line_of before.now (option_copied name.entry) after.now) }
 {
     let mut line = Word::from_bytes(alloc, b"gdrv: ")?;
     line.extend_from_slice(before)?;
     line.extend_from_slice(bytes_of(name))?;
-    line.extend_from_slice(behind)?;
+    line.extend_from_slice(after)?;
     line.push(b'\n')?;
     Ok(line)
 }

@@ -2,7 +2,7 @@
 
 ghost use Rattle.drv_system.specs.Limit.{IsWithinLimit};
 ghost use Rattle.drv_system.specs.Running.{is_told, made, run_of};
-ghost use Rattle.drv_system.specs.Script.{behind, children_after, claim_in, front, read_as};
+ghost use Rattle.drv_system.specs.Script.{following, children_after, claim_in, front, read_as};
 ghost use Rattle.drv_system.specs.Script.{removal_in, script_children, scripted_claim};
 ghost use Rattle.drv_system.specs.Script.{scripted_kind, scripted_read, scripted_removal};
 ghost use Rattle.drv_system.specs.Script.{scripted_start, scripted_telling, scripted_variable};
@@ -246,7 +246,7 @@ impl System for ScriptSystem {
         ensures room { self.old.spare_events ≤ self.new.spare_events + 1 }
         ensures answer { result ≡ scripted_claim self.old.script }
         ensures script { self.new.script
-            ≡ behind (claim_in (front self.old.script)) self.old.script }
+            ≡ following (claim_in (front self.old.script)) self.old.script }
         ensures started { self.new.children ≡ self.old.children }
     {
         let _asked = plan;
@@ -270,7 +270,7 @@ impl System for ScriptSystem {
         ensures room { self.old.spare_events ≤ self.new.spare_events + 1 }
         ensures answer { result ≡ scripted_start self.old.children self.old.script }
         ensures script { self.new.script
-            ≡ behind (start_in (front self.old.script)) self.old.script }
+            ≡ following (start_in (front self.old.script)) self.old.script }
         ensures started { self.new.children ≡ children_after self.old.children result }
     {
         let _asked = plan;
@@ -312,7 +312,7 @@ impl System for ScriptSystem {
         ensures room { self.old.spare_events ≤ self.new.spare_events + 1 }
         ensures answer { result ≡ scripted_wait self.old.script }
         ensures script { self.new.script
-            ≡ behind (wait_in (front self.old.script)) self.old.script }
+            ≡ following (wait_in (front self.old.script)) self.old.script }
         ensures started { self.new.children ≡ self.old.children }
     {
         let given = wait_in(front_of(self.answers.as_slice(), self.taken));
@@ -348,7 +348,7 @@ impl System for ScriptSystem {
         ensures room { self.old.spare_events ≤ self.new.spare_events + 1 }
         ensures answer { result ≡ scripted_removal self.old.script }
         ensures script { self.new.script
-            ≡ behind (removal_in (front self.old.script)) self.old.script }
+            ≡ following (removal_in (front self.old.script)) self.old.script }
         ensures started { self.new.children ≡ self.old.children }
     {
         let _asked = plan;

@@ -109,10 +109,10 @@ any_run text words (Some word) some = run_taken text words word
 
 after_run : (s : Splitter) (text run rest : List ℕ) (count : ℕ) → is_outside s ≡ true → count ≡ plain_length text → 0 < count
     → run ≡ take count text → rest ≡ drop count text → words_of (outside s.words (Some (open_word s.word ++ run))) rest ≡ words_of s text
-after_run s text run rest count is counted some front behind =
+after_run s text run rest count is counted some front following =
     let n : 0 < plain_length text = let P : ℕ → Type 0 = λ m. 0 < m in subst P counted some in
     let first : run ≡ take (plain_length text) text = front ∙ ap (λ m. take m text) counted in
-    let second : rest ≡ drop (plain_length text) text = behind ∙ ap (λ m. drop m text) counted in
+    let second : rest ≡ drop (plain_length text) text = following ∙ ap (λ m. drop m text) counted in
     ap (λ r. words_of (outside s.words (Some (open_word s.word ++ r))) rest) first
     ∙ ap (words_of (outside s.words (Some (open_word s.word ++ take (plain_length text) text)))) second
     ∙ any_run text s.words s.word n ∙ ap (λ t. words_of t text) (sym (outside_is s is))
@@ -120,9 +120,9 @@ after_run s text run rest count is counted some front behind =
 -- the word goes on after a run
 pub run_goes : (s after : Splitter) (text run rest : List ℕ) (count : ℕ) → is_outside s ≡ true → count ≡ plain_length text → 0 < count
     → run ≡ take count text → rest ≡ drop count text → after ≡ with_bytes s run → words_of after rest ≡ words_of s text
-run_goes s after text run rest count is counted some front behind taken =
+run_goes s after text run rest count is counted some front following taken =
     ap (λ a. words_of a rest) (taken ∙ ap (λ (t : Splitter). record t { word = Some (open_word s.word ++ run) }) (outside_is s is))
-    ∙ after_run s text run rest count is counted some front behind
+    ∙ after_run s text run rest count is counted some front following
 
 no_word : (word : Option (List ℕ)) (none : Bool) → is_some word ≡ not none → none ≡ true → word ≡ None
 no_word None none e is = refl
@@ -135,15 +135,15 @@ pub word_goes : (s : Splitter) (text run word rest : List ℕ) (words : List (Li
     → words ≡ s.words ++ word ∷ [] → word ≡ run
     → words_of (record s { words = words }) (take (length rest - 1) (drop 1 rest)) ≡ words_of s text
 word_goes s text run word [] words count space none is counted some front back long tests space_is holds closed added copied = absurd (none_there long)
-word_goes s text run word (byte ∷ behind) words count space none is counted some front back long tests space_is holds closed added copied =
+word_goes s text run word (byte ∷ following) words count space none is counted some front back long tests space_is holds closed added copied =
     let here : is_space byte ≡ true = sym tests ∙ space_is in
     let empty : s.word ≡ None = no_word s.word none holds closed in
-    let e : length (byte ∷ behind) - 1 ≡ length behind = omega arith in
-    let left : take (length (byte ∷ behind) - 1) behind ≡ behind = ap (λ n. take n behind) e ∙ take-length behind in
-    let over : words_of (outside (s.words ++ run ∷ []) None) behind ≡ words_of (outside s.words (Some run)) (byte ∷ behind) = rw here refl in
+    let e : length (byte ∷ following) - 1 ≡ length following = omega arith in
+    let left : take (length (byte ∷ following) - 1) following ≡ following = ap (λ n. take n following) e ∙ take-length following in
+    let over : words_of (outside (s.words ++ run ∷ []) None) following ≡ words_of (outside s.words (Some run)) (byte ∷ following) = rw here refl in
     ap (words_of (record s { words = words })) left
-    ∙ ap (λ (t : Splitter). words_of (record t { words = words }) behind) (outside_is s is)
-    ∙ ap (λ held. words_of (outside words held) behind) empty
-    ∙ ap (λ ws. words_of (outside ws None) behind) (added ∙ ap (λ w. s.words ++ w ∷ []) copied)
-    ∙ over ∙ ap (λ held. words_of (outside s.words (Some (open_word held ++ run))) (byte ∷ behind)) (sym empty)
-    ∙ after_run s text run (byte ∷ behind) count is counted some front back
+    ∙ ap (λ (t : Splitter). words_of (record t { words = words }) following) (outside_is s is)
+    ∙ ap (λ held. words_of (outside words held) following) empty
+    ∙ ap (λ ws. words_of (outside ws None) following) (added ∙ ap (λ w. s.words ++ w ∷ []) copied)
+    ∙ over ∙ ap (λ held. words_of (outside s.words (Some (open_word held ++ run))) (byte ∷ following)) (sym empty)
+    ∙ after_run s text run (byte ∷ following) count is counted some front back

@@ -1,5 +1,5 @@
 use Rattle.drv_words.specs.Response.{ArePieces, EndsWord, IsPiece, IsRun, Splits, SplitsOnto, at_end, at_space, backslash, escaped, is_quote, is_space, more, no_more, nothing, one_word, plain, quoted, run_backslash, run_closed, run_escaped, run_plain, run_unclosed, space}
-use Rattle.drv_words.specs.Code.Splitter.{behind, open_word, words_of}
+use Rattle.drv_words.specs.Code.Splitter.{following, open_word, words_of}
 use Rattle.drv_words.specs.declared.response.Splitter.{Splitter}
 use Rattle.std.proofs.Common.{◌≡◌, ◌||◌, ◌==◌, Bool, false, true, List, [], ◌∷◌, ◌++◌, None, Option, Some, refl, sym, subst, ap, ◌∙◌, append_assoc, ℕ}
 use Rattle.std.proofs.Math.Seq.{append_snoc}
@@ -96,7 +96,7 @@ record Goes (text : List ℕ) : Type 0 where
   splits : Splits text words
   went : Went text
   ran : (mark : ℕ) → Ran mark text
-  behind : Begun (92 ∷ text)
+  following : Begun (92 ∷ text)
   ran_after : (mark : ℕ) → Ran mark (92 ∷ text)
 
 begun_goes : {text : List ℕ} → Begun text → Went text
@@ -110,7 +110,7 @@ begins : (b : ℕ) (text : List ℕ) → is_space b ≡ false → Goes text → 
 begins b text s goes = by (b == 92) refl (is_quote b) refl
   where
     by : (slash : Bool) → (b == 92) ≡ slash → (quote : Bool) → is_quote b ≡ quote → Begun (b ∷ text)
-    by true e quote f = let P : ℕ → Type 0 = λ c. Begun (c ∷ text) in subst P (sym (eqb-true b 92 e)) goes.behind
+    by true e quote f = let P : ℕ → Type 0 = λ c. Begun (c ∷ text) in subst P (sym (eqb-true b 92 e)) goes.following
     by false e true f =
         let ran : Ran b text = goes.ran b in
         record { bytes = ran.bytes; mid = ran.mid; word = ran.went.word; rest = ran.went.rest; words = ran.went.words; piece = quoted f ran.run; pieces = ran.went.pieces; others = ran.went.others }
@@ -138,7 +138,7 @@ goes_on [] = record {
   splits = nothing;
   went = at_the_end;
   ran = λ mark. record { bytes = []; mid = []; run = run_unclosed; went = at_the_end };
-  behind = record { bytes = []; mid = []; word = []; rest = []; words = []; piece = backslash; pieces = no_more at_end; others = nothing };
+  following = record { bytes = []; mid = []; word = []; rest = []; words = []; piece = backslash; pieces = no_more at_end; others = nothing };
   ran_after = λ mark. record { bytes = []; mid = []; run = run_backslash; went = at_the_end };
 }
 goes_on (b ∷ text) = by (is_space b) refl (goes_on text)
@@ -155,7 +155,7 @@ goes_on (b ∷ text) = by (is_space b) refl (goes_on text)
       splits = space s goes.splits;
       went = record { word = []; rest = b ∷ text; words = goes.words; pieces = no_more (at_space s); others = space s goes.splits };
       ran = runs b text goes;
-      behind = escape goes;
+      following = escape goes;
       ran_after = run_escape goes;
     }
     by false s goes =
@@ -165,23 +165,23 @@ goes_on (b ∷ text) = by (is_space b) refl (goes_on text)
           splits = begun_splits begun;
           went = begun_goes begun;
           ran = runs b text goes;
-          behind = escape goes;
+          following = escape goes;
           ran_after = run_escape goes;
         }
 
 -- what the splitter gives is in the grammar, and nothing else is
-pub split_is_onto : (text : List ℕ) (words all : List (List ℕ)) → all ≡ words_of (behind words) text → SplitsOnto text words all
+pub split_is_onto : (text : List ℕ) (words all : List (List ℕ)) → all ≡ words_of (following words) text → SplitsOnto text words all
 split_is_onto text words all e =
     let goes : Goes text = goes_on text in
     (goes.words, e ∙ splits_split goes.splits words, goes.splits)
 
-pub split_is_grammar : (text : List ℕ) (none words : List (List ℕ)) → none ≡ [] → words ≡ words_of (behind none) text → Splits text words
+pub split_is_grammar : (text : List ℕ) (none words : List (List ℕ)) → none ≡ [] → words ≡ words_of (following none) text → Splits text words
 split_is_grammar text none words empty e =
     let goes : Goes text = goes_on text in
     let P : List (List ℕ) → Type 0 = λ ws. Splits text ws in
     subst P (sym (e ∙ splits_split goes.splits none ∙ ap (λ front. front ++ goes.words) empty)) goes.splits
 
-pub split_is_only : (text : List ℕ) (none words : List (List ℕ)) → none ≡ [] → words ≡ words_of (behind none) text
+pub split_is_only : (text : List ℕ) (none words : List (List ℕ)) → none ≡ [] → words ≡ words_of (following none) text
     → (others : List (List ℕ)) → Splits text others → words ≡ others
 split_is_only text none words empty e others splits = e ∙ splits_split splits none ∙ ap (λ front. front ++ others) empty
 

@@ -46,7 +46,7 @@ pub data Splits : List ℕ → List (List ℕ) → Type 0 where
   space : {b : ℕ} {rest : List ℕ} {words : List (List ℕ)} → is_space b ≡ true → Splits rest words → Splits (b ∷ rest) words
   one_word : {text bytes mid word rest : List ℕ} {words : List (List ℕ)} → IsPiece text bytes mid → ArePieces mid word rest → Splits rest words → Splits text ((bytes ++ word) ∷ words)
 
--- the words of a text, put behind others
+-- the words of a text, put after others
 abbrev pub SplitsOnto : List ℕ → List (List ℕ) → List (List ℕ) → Type 0
 SplitsOnto text words all = (more : List (List ℕ)) × (all ≡ words ++ more) × Splits text more
 

@@ -2,7 +2,7 @@
 
 ghost use Rattle.drv_words.specs.Response.{Splits, SplitsOnto, is_marked, is_quote, is_space};
 ghost use Rattle.drv_words.specs.Response.{marked, response, response_text};
-ghost use Rattle.drv_words.specs.Code.Splitter.{behind, ended, is_outside, opened, plain_length};
+ghost use Rattle.drv_words.specs.Code.Splitter.{following, ended, is_outside, opened, plain_length};
 ghost use Rattle.drv_words.specs.Code.Splitter.{plain_step, quoted_step, step, with_byte};
 ghost use Rattle.drv_words.specs.Code.Splitter.{with_bytes, words_of};
 ghost use Rattle.std.specs.List.{position};
@@ -74,9 +74,9 @@ struct Splitter {
 }
 
 impl Splitter {
-    /// A splitter that puts its words behind these.
+    /// A splitter that puts its words after these.
     fn new(words: Listing<Word>) -> Splitter
-        ensures { result ≡ behind words }
+        ensures { result ≡ following words }
     {
         Splitter {
             words,
@@ -200,9 +200,9 @@ impl Splitter {
     {
         let (run, rest) = text.split_at(count);
         match rest {
-            [byte, behind @ ..] if is_space_byte(*byte) && self.word.is_none() => {
+            [byte, following @ ..] if is_space_byte(*byte) && self.word.is_none() => {
                 self.words.push(Word::from_bytes(alloc, run)?)?;
-                Ok(behind)
+                Ok(following)
             }
             _ => {
                 self.push_run(alloc, run)?;
@@ -236,9 +236,9 @@ fn room_for(text: &[u8]) -> usize
     (text.len() / BYTES_A_WORD + 1).min(MOST_ROOM)
 }
 
-/// Splits a whole text, and puts its words behind others.
+/// Splits a whole text, and puts its words after others.
 fn split_text(alloc: Global, words: Listing<Word>, text: &[u8]) -> Result<Listing<Word>, AllocError>
-    ensures { IfOk result (λ all. all ≡ words_of (behind words) text.now) }
+    ensures { IfOk result (λ all. all ≡ words_of (following words) text.now) }
 {
     let mut splitter = Splitter::new(words);
     splitter.words.reserve(room_for(text))?;

@@ -12,7 +12,7 @@ abbrev pub error_line : List ℕ → List ℕ → List ℕ
 error_line name text = name ++ codes ": error: " ++ text ++ codes "\n"
 
 abbrev pub quoted : List ℕ → List ℕ → List ℕ → List ℕ
-quoted before word behind = before ++ word ++ behind
+quoted before word after = before ++ word ++ after
 
 -- an option without its argument
 abbrev pub is : List ℕ → List ℕ → Bool

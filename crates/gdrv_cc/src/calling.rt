@@ -34,11 +34,11 @@ pub fn last_part(path: &[u8]) -> &[u8]
 {
     let mut part = path;
     let mut left = path;
-    while let [byte, behind @ ..] = left {
+    while let [byte, following @ ..] = left {
         if *byte == b'/' {
-            part = behind;
+            part = following;
         }
-        left = behind;
+        left = following;
     }
     part
 }

@@ -13,12 +13,12 @@ use drv_words::Word;
 use std::alloc::{AllocError, Global};
 
 /// Adds three texts.
-fn add(text: &mut Word, before: &[u8], word: &[u8], behind: &[u8]) -> Result<(), AllocError>
-    ensures { OnOk result (text.new ≡ text.old ++ quoted before.now word.now behind.now) }
+fn add(text: &mut Word, before: &[u8], word: &[u8], after: &[u8]) -> Result<(), AllocError>
+    ensures { OnOk result (text.new ≡ text.old ++ quoted before.now word.now after.now) }
 {
     text.extend_from_slice(before)?;
     text.extend_from_slice(word)?;
-    text.extend_from_slice(behind)
+    text.extend_from_slice(after)
 }
 
 /// A line of three texts after the program's name.
@@ -27,14 +27,14 @@ pub fn error_line(
     name: &[u8],
     before: &[u8],
     word: &[u8],
-    behind: &[u8],
+    after: &[u8],
 ) -> Result<Word, AllocError>
     ensures { IfOk result (λ line. line ≡ error_line name.now
-        (quoted before.now word.now behind.now)) }
+        (quoted before.now word.now after.now)) }
 {
     let mut line = Word::from_bytes(alloc, name)?;
     line.extend_from_slice(b": error: ")?;
-    add(&mut line, before, word, behind)?;
+    add(&mut line, before, word, after)?;
     line.push(b'\n')?;
     Ok(line)
 }
@@ -143,14 +143,14 @@ fn add_line(
     name: &[u8],
     before: &[u8],
     word: &[u8],
-    behind: &[u8],
+    after: &[u8],
 ) -> Result<(), AllocError>
     ensures { OnOk result (text.new ≡ text.old
-        ++ error_line name.now (quoted before.now word.now behind.now)) }
+        ++ error_line name.now (quoted before.now word.now after.now)) }
 {
     text.extend_from_slice(name)?;
     text.extend_from_slice(b": error: ")?;
-    add(text, before, word, behind)?;
+    add(text, before, word, after)?;
     text.push(b'\n')
 }
 
@@ -192,7 +192,7 @@ fn file_said(path: &[u8]) -> &[u8]
     ensures { result.now ≡ file_said path.now }
 {
     match path {
-        [b'@', behind @ ..] => behind,
+        [b'@', following @ ..] => following,
         _ => path,
     }
 }

@@ -15,7 +15,7 @@ last_after d (x ∷ xs) = refl
 
 -- What stands after the last `-o`, as far as a walk has come.
 
-pub none_named : (behind : Option (Option (List ℕ))) → file_named (option_or behind (Some None)) ≡ file_named behind
+pub none_named : (following : Option (Option (List ℕ))) → file_named (option_or following (Some None)) ≡ file_named following
 none_named None = refl
 none_named (Some path) = refl
 

@@ -29,20 +29,20 @@ fn is_output_option(word: &Word) -> bool
     word.as_bytes() == b"-o".as_slice()
 }
 
-/// The file behind the last `-o`; none for standard output, which `-`, or nothing after it, stands
+/// The file after the last `-o`; none for standard output, which `-`, or nothing after it, stands
 /// for too.
 #[tactic(auto, using(crate::proofs::Calls::none_named, crate::proofs::Calls::later_counts, crate::proofs::Calls::nothing_here))]
 pub fn output_file(words: &[Word]) -> Option<&Word>
     ensures { option_copied result ≡ output_file words.now }
 {
     let operands = operands(words);
-    let mut behind = None;
+    let mut following = None;
     for (index, word) in operands.iter().enumerate() {
         if is_output_option(word) {
-            behind = operands.get(index + 1);
+            following = operands.get(index + 1);
         }
     }
-    match behind {
+    match following {
         Some(path) if path.as_bytes() != b"-".as_slice() => Some(path),
         _ => None,
     }

@@ -14,7 +14,7 @@ IsReplaced F word words words' (Ok None) = (replacement_of F word ≡ Is Itself)
 IsReplaced F word words words' (Ok (Some start)) = (start ≡ length words) × ((text : List ℕ) × (replacement_of F word ≡ Is (Text text)) × SplitsOnto text words words')
 IsReplaced F word words words' (Err fault) = (fault ≡ Memory) ⊎ ((path : List ℕ) × (replacement_of F word ≡ Is (Large path)) × (fault ≡ ResponseTooLarge path))
 
--- The words of a file are put behind those that stay, where none of them names a file, or on the stack, the first on top.
+-- The words of a file are put after those that stay, where none of them names a file, or on the stack, the first on top.
 abbrev pub IsPut : List (List ℕ) → List (List ℕ) → List (List ℕ) → List (List ℕ) → List (List ℕ) → Type 0
 IsPut inner stack stack' words words' =
     ((list_any (λ word. is_some (file_named word)) inner ≡ false) × (stack' ≡ stack) × (words' ≡ words ++ inner))

@@ -54,7 +54,7 @@ asked_step C label = by label.asks
     by asks.Switch = look (λ w. nat_lt 0 (length (hits (names C) w.hidden (labelled label))))
     by asks.Suffix = give (is_word label.word (suffix_of C.input))
     by asks.Language = give (is_word label.word (language_of C.input))
-    by asks.Result = give false  -- a function is answered behind its arguments
+    by asks.Result = give false  -- a function is answered after its arguments
 
 -- what the braces of this kind mean, whose parts stand from one place up to another
 abbrev pub Means : Facts → Context → List ℕ → TokenKind → ℕ → ℕ → Levels → List ℕ → Step (Unit {0}) → Type 0
@@ -87,7 +87,7 @@ pub record AskedTest (F : Facts) (C : Context) (text : List ℕ) (end : ℕ) (s 
   pub next : ℕ
   pub part : Part (tokens_of (tree_of text)) (labels_of (tree_of text)) at kinds.Test (test_label negated (HasResult name arguments)) next
   pub within : Stands text (at + 1) (nodes_of arguments) next
-  pub behind : Stands text next (test_nodes others) end
+  pub following : Stands text next (test_nodes others) end
   pub gives : run F C s (first_true F C tests levels star)
       ≡ run F C t (truth F C (HasResult name arguments) levels star >>= judged F C negated (HasResult name arguments) others levels star)
 

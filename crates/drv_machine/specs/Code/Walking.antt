@@ -122,7 +122,7 @@ text_around text (Asks places outer) = text
 
 pub record Fits (text : List ℕ) (C : Context) (a : Around) : Type 0 where
   pub opened : OpenedFits text C a.frame.opened a.pattern a.items a.kept
-  pub behind : Lies (text_around text a.frame.opened) (back_of a.frame.opened) a.rest a.frame.end
+  pub following : Lies (text_around text a.frame.opened) (back_of a.frame.opened) a.rest a.frame.end
 
 -- the open parts, the innermost first, which lies in this text
 abbrev pub Framed : List ℕ → Context → List Frame → List Around → Type 0
@@ -241,7 +241,7 @@ module _ (F : Facts) (C : Context) where
     pub same : onward w.star rest arounds s ≡ given
 
   -- a step, and then what is left from a place on, give this
-  pub record Behind (text : List ℕ) (w : Walk) (at : ℕ) (step : Levels → List ℕ → Step (Unit {0})) (s : Machine) (given : Answer (Unit {0} × Machine)) : Type 0 where
+  pub record Following (text : List ℕ) (w : Walk) (at : ℕ) (step : Levels → List ℕ → Step (Unit {0})) (s : Machine) (given : Answer (Unit {0} × Machine)) : Type 0 where
     pub rest : Items
     pub arounds : List Around
     pub lies : Lies text at rest w.end
@@ -263,7 +263,7 @@ module _ (F : Facts) (C : Context) where
 
   -- a part was opened, and a step stands in it before a place; or the refusal is given
   abbrev pub Reaches : List ℕ → Walk → ℕ → (Levels → List ℕ → Step (Unit {0})) → Machine → Answer (Unit {0} × Machine) → Result (Unit {0}) MachineFault → Type 0
-  Reaches text w at step s given (Ok u) = Behind text w at step s given
+  Reaches text w at step s given (Ok u) = Following text w at step s given
   Reaches text w at step s given (Err fault) = (fault ≡ Memory) ⊎ (given ≡ Is (Err fault))
 
   -- open parts were closed: an item is left, or the walk is at its end

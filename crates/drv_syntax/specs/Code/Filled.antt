@@ -2,7 +2,7 @@ use Rattle.drv_syntax.specs.Code.Steps.{ReaderState, after_item, brace_token, wi
 use Rattle.drv_syntax.specs.Code.Turns.{after_pattern}
 use Rattle.drv_syntax.specs.Labels.{no_label}
 use Rattle.drv_syntax.specs.declared.directives.BraceKind.{BraceKind}
-use Rattle.drv_syntax.specs.declared.reader.stages.Behind.TheVariants as behinds
+use Rattle.drv_syntax.specs.declared.reader.stages.Operand.TheVariants as operands
 use Rattle.drv_syntax.specs.declared.token.TokenKind.TheVariants as kinds
 use Rattle.std.specs.Prelude.{◌+◌, Bool, false, true, List, [], ◌∷◌, ◌++◌, length, ℕ}
 
@@ -12,7 +12,7 @@ use Rattle.std.specs.Prelude.{◌+◌, Bool, false, true, List, [], ◌∷◌, �
 abbrev pub with_filled : BraceKind → ℕ → ℕ → ℕ → Bool → List ℕ → ReaderState → ReaderState
 with_filled kind at start end starred word w =
     after_item w.context (end + 1)
-    (with_label (after_pattern (behinds.Switch start end false starred) word)
+    (with_label (after_pattern (operands.Switch start end false starred) word)
     (with_leaf kinds.Pattern start end
     (with_label no_label
     (record w { tokens = w.tokens ++ record { kind = brace_token kind true; start = at; end = end + 1; next = length w.tokens + 2 } ∷ [] }))))

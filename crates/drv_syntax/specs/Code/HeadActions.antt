@@ -1,5 +1,5 @@
 use Rattle.drv_syntax.specs.declared.fault.SyntaxFault.{SyntaxFault}
-use Rattle.drv_syntax.specs.declared.reader.stages.Behind.{Behind}
+use Rattle.drv_syntax.specs.declared.reader.stages.Operand.{Operand}
 use Rattle.drv_syntax.specs.declared.reader.stages.HeadStage.{HeadStage}
 use Rattle.std.specs.Prelude.{Bool, ℕ}
 
@@ -11,10 +11,10 @@ pub data HeadAction : Type 0 where
   Begins : HeadStage → HeadAction  -- a word begins with the byte
   Adds : HeadStage → HeadAction  -- the byte goes to the word's end
   OpensTest : ℕ → Bool → HeadAction  -- a function's arguments are opened in the test that starts here, with a ! or without
-  Ends : Behind → HeadAction  -- } behind a pattern
-  Joins : Behind → HeadAction  -- & behind a pattern
-  Asks : Behind → HeadAction  -- : behind a test
-  Bars : Behind → HeadAction  -- | behind a test
+  Ends : Operand → HeadAction  -- } after a pattern
+  Joins : Operand → HeadAction  -- & after a pattern
+  Asks : Operand → HeadAction  -- : after a test
+  Bars : Operand → HeadAction  -- | after a test
   Refused : SyntaxFault → HeadAction  -- the byte doesn't fit
 
 -- where an alternative begins

@@ -22,8 +22,8 @@ parts_in (Err fault) = Err fault
 
 -- a turn takes the byte b at the place n and so many of those after it: what is left comes to the same, or to this fault
 abbrev pub Turns : ℕ → ℕ → List ℕ → ReaderState → ReaderState → Result ℕ SyntaxFault → Type 0
-Turns n b behind old new (Ok taken) = (taken ≤ length behind) × (pass old n (b ∷ behind) ≡ pass new (n + 1 + taken) (drop taken behind))
-Turns n b behind old new (Err fault) = (fault ≡ Memory) ⊎ (pass old n (b ∷ behind) ≡ Err fault)
+Turns n b following old new (Ok taken) = (taken ≤ length following) × (pass old n (b ∷ following) ≡ pass new (n + 1 + taken) (drop taken following))
+Turns n b following old new (Err fault) = (fault ≡ Memory) ⊎ (pass old n (b ∷ following) ≡ Err fault)
 
 -- a text is read on from the place n: so many of its first bytes are taken, and what is left comes to the same, or to this fault
 abbrev pub Reads : ℕ → List ℕ → ReaderState → ReaderState → Result ℕ SyntaxFault → Type 0

@@ -5,8 +5,8 @@ use Rattle.drv_syntax.specs.Code.Marks.{byte_labels}
 use Rattle.drv_syntax.specs.Code.Turns.{after_pattern, after_test, called_label, chooses, choice_action, emits, head_action, single_kind, single_label, list_turn, percent_action, start_action, taken_word}
 use Rattle.drv_syntax.specs.declared.fault.SyntaxFault.TheVariants.{BadDirective, EmptyTest, Unclosed}
 use Rattle.drv_syntax.specs.declared.fault.SyntaxFault.{SyntaxFault}
-use Rattle.drv_syntax.specs.declared.reader.stages.Behind.TheVariants as behinds
-use Rattle.drv_syntax.specs.declared.reader.stages.Behind.{Behind}
+use Rattle.drv_syntax.specs.declared.reader.stages.Operand.TheVariants as operands
+use Rattle.drv_syntax.specs.declared.reader.stages.Operand.{Operand}
 use Rattle.drv_syntax.specs.declared.directives.BraceKind.TheVariants as braces
 use Rattle.drv_syntax.specs.declared.directives.BraceKind.{BraceKind}
 use Rattle.drv_syntax.specs.declared.reader.stages.ListContext.{ListContext}
@@ -211,50 +211,50 @@ abbrev pub open_test : Head → HeadForm → ℕ → Bool → ReaderState → Re
 open_test head form start negated w = enter_test head (alternative_of form start w) (chooses form) start negated (with_alternative form start w)
 
 -- what stands after a test
-abbrev pub first_of : Behind → ℕ
-first_of (behinds.Switch start end negated starred) = start
-first_of (behinds.Marked start end negated mark) = start
-first_of (behinds.StarredMark start end negated mark) = start
-first_of (behinds.Bare start end negated mark) = start
+abbrev pub first_of : Operand → ℕ
+first_of (operands.Switch start end negated starred) = start
+first_of (operands.Marked start end negated mark) = start
+first_of (operands.StarredMark start end negated mark) = start
+first_of (operands.Bare start end negated mark) = start
 
-abbrev pub last_of : Behind → ℕ
-last_of (behinds.Switch start end negated starred) = end
-last_of (behinds.Marked start end negated mark) = end
-last_of (behinds.StarredMark start end negated mark) = end
-last_of (behinds.Bare start end negated mark) = end
+abbrev pub last_of : Operand → ℕ
+last_of (operands.Switch start end negated starred) = end
+last_of (operands.Marked start end negated mark) = end
+last_of (operands.StarredMark start end negated mark) = end
+last_of (operands.Bare start end negated mark) = end
 
-abbrev pub negates : Behind → Bool
-negates (behinds.Switch start end negated starred) = negated
-negates (behinds.Marked start end negated mark) = negated
-negates (behinds.StarredMark start end negated mark) = negated
-negates (behinds.Bare start end negated mark) = negated
+abbrev pub negates : Operand → Bool
+negates (operands.Switch start end negated starred) = negated
+negates (operands.Marked start end negated mark) = negated
+negates (operands.StarredMark start end negated mark) = negated
+negates (operands.Bare start end negated mark) = negated
 
 -- it can be a test
-abbrev pub tests : Behind → Bool
-tests (behinds.Switch start end negated starred) = true
-tests (behinds.Marked start end negated mark) = true
-tests (behinds.StarredMark start end negated mark) = false
-tests (behinds.Bare start end negated mark) = false
+abbrev pub tests : Operand → Bool
+tests (operands.Switch start end negated starred) = true
+tests (operands.Marked start end negated mark) = true
+tests (operands.StarredMark start end negated mark) = false
+tests (operands.Bare start end negated mark) = false
 
 -- it is a starred pattern without !
-abbrev pub starred_of : Behind → Bool
-starred_of (behinds.Switch start end negated starred) = if negated then false else starred
-starred_of (behinds.Marked start end negated mark) = false
-starred_of (behinds.StarredMark start end negated mark) = false
-starred_of (behinds.Bare start end negated mark) = false
+abbrev pub starred_of : Operand → Bool
+starred_of (operands.Switch start end negated starred) = if negated then false else starred
+starred_of (operands.Marked start end negated mark) = false
+starred_of (operands.StarredMark start end negated mark) = false
+starred_of (operands.Bare start end negated mark) = false
 
-abbrev pub untested : ℕ → Behind → SyntaxFault
-untested at (behinds.Switch start end negated starred) = BadDirective at
-untested at (behinds.Marked start end negated mark) = BadDirective at
-untested at (behinds.StarredMark start end negated mark) = BadDirective at
-untested at (behinds.Bare start end negated mark) = EmptyTest at
+abbrev pub untested : ℕ → Operand → SyntaxFault
+untested at (operands.Switch start end negated starred) = BadDirective at
+untested at (operands.Marked start end negated mark) = BadDirective at
+untested at (operands.StarredMark start end negated mark) = BadDirective at
+untested at (operands.Bare start end negated mark) = EmptyTest at
 
-abbrev pub with_pattern : Behind → ReaderState → ReaderState
-with_pattern behind w = with_label (after_pattern behind w.word) (with_leaf kinds.Pattern (first_of behind) (last_of behind) w)
+abbrev pub with_pattern : Operand → ReaderState → ReaderState
+with_pattern operand w = with_label (after_pattern operand w.word) (with_leaf kinds.Pattern (first_of operand) (last_of operand) w)
 
-abbrev pub with_test : HeadForm → Behind → ReaderState → ReaderState
-with_test form behind w =
-    with_label (after_test behind w.word) (with_leaf kinds.Test (first_of behind) (last_of behind) (with_alternative form (first_of behind) w))
+abbrev pub with_test : HeadForm → Operand → ReaderState → ReaderState
+with_test form operand w =
+    with_label (after_test operand w.word) (with_leaf kinds.Test (first_of operand) (last_of operand) (with_alternative form (first_of operand) w))
 
 -- at the braces' end
 abbrev pub close_braces : Head → Bool → ℕ → ListContext → ReaderState → ReaderState
@@ -269,32 +269,32 @@ ask head part tested starred colon w =
 
 -- the X of the first alternative opens, whose one test so far is the word that was read
 abbrev pub ask_word : Head → ℕ → ℕ → Bool → ReaderState → ReaderState
-ask_word head start end negated w = ask head (next_open w start) true false end (with_test forms.Fresh (behinds.Switch start end negated false) w)
+ask_word head start end negated w = ask head (next_open w start) true false end (with_test forms.Fresh (operands.Switch start end negated false) w)
 
 -- braces in place whose first test is this word, which a colon ends
 abbrev pub with_asked : ℕ → ℕ → ℕ → Bool → List ℕ → ReaderState → ReaderState
 with_asked at start end negated word w =
     ask_word (record { kind = braces.InPlace; part = next_open w at }) start end negated (with_word word (open_braces at braces.InPlace w))
 
-abbrev pub act_ends : Head → HeadForm → Behind → ℕ → ReaderState → Result ReaderState SyntaxFault
-act_ends head form behind n w =
-    if emits form (negates behind) then Ok (close_braces head true (n + 1) w.context (with_pattern behind w)) else Err (BadDirective head.part.start)
+abbrev pub act_ends : Head → HeadForm → Operand → ℕ → ReaderState → Result ReaderState SyntaxFault
+act_ends head form operand n w =
+    if emits form (negates operand) then Ok (close_braces head true (n + 1) w.context (with_pattern operand w)) else Err (BadDirective head.part.start)
 
-abbrev pub act_joins : Head → HeadForm → Behind → ReaderState → Result ReaderState SyntaxFault
-act_joins head form behind w =
-    if emits form (negates behind) then Ok (at_stage (at.Braces head forms.Patterns places.PatternDue) (with_pattern behind w)) else Err (BadDirective head.part.start)
+abbrev pub act_joins : Head → HeadForm → Operand → ReaderState → Result ReaderState SyntaxFault
+act_joins head form operand w =
+    if emits form (negates operand) then Ok (at_stage (at.Braces head forms.Patterns places.PatternDue) (with_pattern operand w)) else Err (BadDirective head.part.start)
 
-abbrev pub act_asks : Head → HeadForm → Behind → ℕ → ReaderState → Result ReaderState SyntaxFault
-act_asks head form behind n w =
-    if tests behind && chooses form
-    then Ok (ask head (alternative_of form (first_of behind) w) true (stars form && starred_of behind) n (with_test form behind w))
-    else Err (untested head.part.start behind)
+abbrev pub act_asks : Head → HeadForm → Operand → ℕ → ReaderState → Result ReaderState SyntaxFault
+act_asks head form operand n w =
+    if tests operand && chooses form
+    then Ok (ask head (alternative_of form (first_of operand) w) true (stars form && starred_of operand) n (with_test form operand w))
+    else Err (untested head.part.start operand)
 
-abbrev pub act_bars : Head → HeadForm → Behind → ReaderState → Result ReaderState SyntaxFault
-act_bars head form behind w =
-    if tests behind && chooses form
-    then Ok (at_stage (at.Braces head (forms.Tests (alternative_of form (first_of behind) w) (stars form && starred_of behind)) places.TestDue) (with_test form behind w))
-    else Err (untested head.part.start behind)
+abbrev pub act_bars : Head → HeadForm → Operand → ReaderState → Result ReaderState SyntaxFault
+act_bars head form operand w =
+    if tests operand && chooses form
+    then Ok (at_stage (at.Braces head (forms.Tests (alternative_of form (first_of operand) w) (stars form && starred_of operand)) places.TestDue) (with_test form operand w))
+    else Err (untested head.part.start operand)
 
 -- in braces: n is the place of the byte b
 abbrev pub act_head : Head → HeadForm → HeadAction → ℕ → ℕ → ReaderState → Result ReaderState SyntaxFault
@@ -303,10 +303,10 @@ act_head head form (heads.Clears stage) n b w = Ok (at_stage (at.Braces head for
 act_head head form (heads.Begins stage) n b w = Ok (at_stage (at.Braces head form stage) (with_word (b ∷ []) w))
 act_head head form (heads.Adds stage) n b w = Ok (at_stage (at.Braces head form stage) (with_word (w.word ++ b ∷ []) w))
 act_head head form (heads.OpensTest start negated) n b w = Ok (open_test head form start negated w)
-act_head head form (heads.Ends behind) n b w = act_ends head form behind n w
-act_head head form (heads.Joins behind) n b w = act_joins head form behind w
-act_head head form (heads.Asks behind) n b w = act_asks head form behind n w
-act_head head form (heads.Bars behind) n b w = act_bars head form behind w
+act_head head form (heads.Ends operand) n b w = act_ends head form operand n w
+act_head head form (heads.Joins operand) n b w = act_joins head form operand w
+act_head head form (heads.Asks operand) n b w = act_asks head form operand n w
+act_head head form (heads.Bars operand) n b w = act_bars head form operand w
 act_head head form (heads.Refused fault) n b w = Err fault
 
 -- the innermost list ends with the byte b at the place n

@@ -4,8 +4,8 @@ use Rattle.drv_syntax.specs.Directives.{directive_of, is_allowed, text_of}
 use Rattle.drv_syntax.specs.Labels.{Label, no_label, part_label, pattern_label, word_label}
 use Rattle.drv_syntax.specs.Tree.{pattern}
 use Rattle.drv_syntax.specs.declared.fault.SyntaxFault.TheVariants.{BadDirective, EmptyTest, MixedStar, StarOutside, TooNested, UnknownFunction}
-use Rattle.drv_syntax.specs.declared.reader.stages.Behind.TheVariants as behinds
-use Rattle.drv_syntax.specs.declared.reader.stages.Behind.{Behind}
+use Rattle.drv_syntax.specs.declared.reader.stages.Operand.TheVariants as operands
+use Rattle.drv_syntax.specs.declared.reader.stages.Operand.{Operand}
 use Rattle.drv_syntax.specs.declared.directives.BraceKind.TheVariants as braces
 use Rattle.drv_syntax.specs.declared.reader.stages.ListContext.{ListContext}
 use Rattle.drv_syntax.specs.declared.reader.stages.HeadForm.TheVariants as forms
@@ -76,20 +76,20 @@ single_label (singles.Hide starred) word = pattern_label (pattern word starred)
 single_label _ word = no_label
 
 -- the label of a pattern, and of a test, with this word
-abbrev pub after_pattern : Behind → List ℕ → Label
-after_pattern (behinds.Switch start end negated starred) word = pattern_label (pattern word starred)
-after_pattern (behinds.Marked start end negated mark) word = pattern_label (pattern (mark ∷ word) false)
-after_pattern (behinds.StarredMark start end negated mark) word = pattern_label (pattern (mark ∷ word) true)
-after_pattern (behinds.Bare start end negated mark) word = pattern_label (pattern (mark ∷ []) false)
+abbrev pub after_pattern : Operand → List ℕ → Label
+after_pattern (operands.Switch start end negated starred) word = pattern_label (pattern word starred)
+after_pattern (operands.Marked start end negated mark) word = pattern_label (pattern (mark ∷ word) false)
+after_pattern (operands.StarredMark start end negated mark) word = pattern_label (pattern (mark ∷ word) true)
+after_pattern (operands.Bare start end negated mark) word = pattern_label (pattern (mark ∷ []) false)
 
 abbrev pub mark_asks : ℕ → TestKind
 mark_asks mark = if mark == ascii.period then asking.Suffix else asking.Language
 
-abbrev pub after_test : Behind → List ℕ → Label
-after_test (behinds.Switch start end negated starred) word = part_label word starred negated asking.Switch
-after_test (behinds.Marked start end negated mark) word = part_label word false negated (mark_asks mark)
-after_test (behinds.StarredMark start end negated mark) word = part_label word false negated (mark_asks mark)
-after_test (behinds.Bare start end negated mark) word = part_label word false negated (mark_asks mark)
+abbrev pub after_test : Operand → List ℕ → Label
+after_test (operands.Switch start end negated starred) word = part_label word starred negated asking.Switch
+after_test (operands.Marked start end negated mark) word = part_label word false negated (mark_asks mark)
+after_test (operands.StarredMark start end negated mark) word = part_label word false negated (mark_asks mark)
+after_test (operands.Bare start end negated mark) word = part_label word false negated (mark_asks mark)
 
 -- the label of a test of a function
 abbrev pub called_label : Bool → List ℕ → Label
@@ -105,8 +105,8 @@ abbrev pub does : ListAction → ListTurn
 does action = record { first = None; then = action }
 
 -- an item ends before the byte
-abbrev pub behind : Single → Taken → ℕ → ℕ → ListAction → ListTurn
-behind single taken start end action = record { first = Some (part single taken start end); then = action }
+abbrev pub part_then : Single → Taken → ℕ → ℕ → ListAction → ListTurn
+part_then single taken start end action = record { first = Some (part single taken start end); then = action }
 
 abbrev pub refused : ℕ → ListAction
 refused at = acts.Refused (BadDirective at)
@@ -166,15 +166,15 @@ abbrev pub suffix_start : ListContext → ℕ → TempKind → ℕ → ℕ → L
 suffix_start c at kind n b =
     if is_suffix b then does (acts.Begins (stages.SuffixRun at kind))
     else if b == ascii.percent then does (acts.Keeps (stages.SuffixPercent at kind n))
-    else behind (singles.TempName kind) takes.Nothing at n (start_action c n b)
+    else part_then (singles.TempName kind) takes.Nothing at n (start_action c n b)
 
 abbrev pub suffix_run : ListContext → ℕ → TempKind → ℕ → ℕ → ListTurn
-suffix_run c at kind n b = if is_suffix b then does (acts.Adds (stages.SuffixRun at kind)) else behind (singles.TempName kind) takes.Word at n (start_action c n b)
+suffix_run c at kind n b = if is_suffix b then does (acts.Adds (stages.SuffixRun at kind)) else part_then (singles.TempName kind) takes.Word at n (start_action c n b)
 
 abbrev pub suffix_percent : ListContext → ℕ → TempKind → ℕ → ℕ → ℕ → ListTurn
 suffix_percent c at kind percent n b =
     if b == ascii.capital_o then does (item (singles.TempName kind) takes.Object at (n + 1))
-    else behind (singles.TempName kind) takes.Nothing at percent (percent_action c percent n b)
+    else part_then (singles.TempName kind) takes.Nothing at percent (percent_action c percent n b)
 
 abbrev pub option_action : ℕ → List ℕ → ℕ → ℕ → ListAction
 option_action at word n b =
@@ -187,7 +187,7 @@ saying_turn c at kind n b =
     if b == ascii.backslash then does (acts.Keeps (stages.SayingEscape at kind n))
     else if says c.kind b then does (acts.Adds (stages.SayingText at kind))
     else if b == ascii.newline then does (item (singles.Said kind) takes.Word at (n + 1))
-    else behind (singles.Said kind) takes.Word at n (start_action c n b)
+    else part_then (singles.Said kind) takes.Word at n (start_action c n b)
 
 abbrev pub name_action : ℕ → List ℕ → ℕ → ℕ → ListAction
 name_action at word n b =
@@ -207,7 +207,7 @@ hide_word c at n b =
     if b == ascii.backslash then does (acts.Keeps (stages.HideEscape at))
     else if is_word b then does (acts.Adds (stages.HideWord at))
     else if b == ascii.asterisk then does (item (singles.Hide true) takes.Word at (n + 1))
-    else behind (singles.Hide false) takes.Word at n (start_action c n b)
+    else part_then (singles.Hide false) takes.Word at n (start_action c n b)
 
 abbrev pub call_action : ℕ → List ℕ → ℕ → ListAction
 call_action at name b =
@@ -254,28 +254,28 @@ chooses forms.Patterns = false
 chooses forms.Later = true
 chooses (forms.Tests part starred) = true
 
-abbrev pub after_action : ℕ → Behind → ℕ → HeadAction
-after_action at behind b =
-    if is_white b then heads.Keeps (places.BehindTest behind)
-    else if b == ascii.closing_brace then heads.Ends behind
-    else if b == ascii.ampersand then heads.Joins behind
-    else if b == ascii.colon then heads.Asks behind
-    else if b == ascii.bar then heads.Bars behind
+abbrev pub after_action : ℕ → Operand → ℕ → HeadAction
+after_action at operand b =
+    if is_white b then heads.Keeps (places.AfterTest operand)
+    else if b == ascii.closing_brace then heads.Ends operand
+    else if b == ascii.ampersand then heads.Joins operand
+    else if b == ascii.colon then heads.Asks operand
+    else if b == ascii.bar then heads.Bars operand
     else bad at
 
 abbrev pub word_action : ℕ → ℕ → Bool → ℕ → ℕ → HeadAction
 word_action at start negated n b =
     if b == ascii.backslash then heads.Keeps (places.TestWordEscape start negated)
     else if is_word b then heads.Adds (places.TestWord start negated)
-    else if b == ascii.asterisk then heads.Keeps (places.BehindTest (behinds.Switch start (n + 1) negated true))
-    else after_action at (behinds.Switch start n negated false) b
+    else if b == ascii.asterisk then heads.Keeps (places.AfterTest (operands.Switch start (n + 1) negated true))
+    else after_action at (operands.Switch start n negated false) b
 
 abbrev pub bare_action : ℕ → ℕ → Bool → ℕ → ℕ → ℕ → HeadAction
 bare_action at start negated mark n b =
-    if b == ascii.asterisk then heads.Clears (places.BehindTest (behinds.StarredMark start (n + 1) negated mark))
-    else if b == ascii.closing_brace then heads.Ends (behinds.Bare start n negated mark)
-    else if b == ascii.ampersand then heads.Joins (behinds.Bare start n negated mark)
-    else if is_white b then heads.Keeps (places.BehindTest (behinds.Bare start n negated mark))
+    if b == ascii.asterisk then heads.Clears (places.AfterTest (operands.StarredMark start (n + 1) negated mark))
+    else if b == ascii.closing_brace then heads.Ends (operands.Bare start n negated mark)
+    else if b == ascii.ampersand then heads.Joins (operands.Bare start n negated mark)
+    else if is_white b then heads.Keeps (places.AfterTest (operands.Bare start n negated mark))
     else empty at
 
 abbrev pub mark_action : ℕ → HeadForm → ℕ → Bool → ℕ → ℕ → ℕ → HeadAction
@@ -289,15 +289,15 @@ abbrev pub marked_action : ℕ → HeadForm → ℕ → Bool → ℕ → ℕ →
 marked_action at form start negated mark n b =
     if b == ascii.backslash then heads.Keeps (places.MarkedEscape start negated mark)
     else if is_word b then heads.Adds (places.MarkedWord start negated mark)
-    else if b == ascii.asterisk then (if emits form negated then heads.Keeps (places.BehindTest (behinds.StarredMark start (n + 1) negated mark)) else bad at)
-    else after_action at (behinds.Marked start n negated mark) b
+    else if b == ascii.asterisk then (if emits form negated then heads.Keeps (places.AfterTest (operands.StarredMark start (n + 1) negated mark)) else bad at)
+    else after_action at (operands.Marked start n negated mark) b
 
 abbrev pub asked_action : ℕ → ℕ → ℕ → Bool → ℕ → ℕ → HeadAction
 asked_action levels at start negated n b =
     if b == ascii.backslash then heads.Clears (places.TestWordEscape start negated)
     else if is_mark b then heads.Keeps (places.TestMark start negated b)
     else if is_word b then heads.Begins (places.TestWord start negated)
-    else if b == ascii.asterisk then heads.Clears (places.BehindTest (behinds.Switch start (n + 1) negated true))
+    else if b == ascii.asterisk then heads.Clears (places.AfterTest (operands.Switch start (n + 1) negated true))
     else if b == ascii.percent then (if levels - 1 == 0 then heads.Refused (TooNested n) else heads.Keeps (places.TestPercent start negated n))
     else empty at
 
@@ -309,7 +309,7 @@ pattern_action at n b =
     if is_white b then heads.Keeps places.PatternDue
     else if b == ascii.backslash then heads.Clears (places.TestWordEscape n false)
     else if is_word b then heads.Begins (places.TestWord n false)
-    else if b == ascii.asterisk then heads.Clears (places.BehindTest (behinds.Switch n (n + 1) false true))
+    else if b == ascii.asterisk then heads.Clears (places.AfterTest (operands.Switch n (n + 1) false true))
     else empty at
 
 abbrev pub test_call_action : ℕ → Bool → ℕ → List ℕ → ℕ → HeadAction
@@ -332,7 +332,7 @@ head_action (places.MarkedEscape start negated mark) levels at form word n b = h
 head_action (places.TestPercent start negated percent) levels at form word n b =
     if b == ascii.colon then heads.Clears (places.TestFunction start negated percent) else bad percent
 head_action (places.TestFunction start negated percent) levels at form word n b = test_call_action start negated percent word b
-head_action (places.BehindTest behind) levels at form word n b = after_action at behind b
+head_action (places.AfterTest operand) levels at form word n b = after_action at operand b
 
 -- where an alternative begins
 abbrev pub choice_action : Bool → ℕ → ℕ → ℕ → ℕ → ChoiceAction

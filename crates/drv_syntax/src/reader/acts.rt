@@ -14,7 +14,7 @@ use crate::reader::nesting::{
     lent_test, negates, starred_of, stars, tests, untested, with_pattern, with_test,
 };
 use crate::reader::stages::{
-    Behind, Head, HeadForm, HeadStage, ListContext, Open, Stage, Suspended,
+    Head, HeadForm, HeadStage, ListContext, Open, Operand, Stage, Suspended,
 };
 use crate::reader::state::ReaderState;
 use crate::token::TokenKind;
@@ -24,20 +24,20 @@ use crate::token::TokenKind;
 pub fn act_ends(
     head: Head,
     form: HeadForm,
-    behind: Behind,
+    operand: Operand,
     n: u32,
     w: &mut ReaderState,
 ) -> Result<(), SyntaxFault>
     requires room { length w.old.tokens.items < 2 ^ 31 }
     requires place { n < 2 ^ 31 }
     ensures does { Gives SyntaxFault.Memory (λ _. state w.new) result
-        (steps.act_ends head form behind n (state w.old)) }
+        (steps.act_ends head form operand n (state w.old)) }
     ensures fits { OnOk result (Fits w.old w.new) }
 {
-    if !emits(form, negates(behind)) {
+    if !emits(form, negates(operand)) {
         return Err(SyntaxFault::BadDirective(head.part.start as usize));
     }
-    with_pattern(behind, w)?;
+    with_pattern(operand, w)?;
     close_braces(head, true, n + 1, w.context, w);
     Ok(())
 }
@@ -46,18 +46,18 @@ pub fn act_ends(
 pub fn act_joins(
     head: Head,
     form: HeadForm,
-    behind: Behind,
+    operand: Operand,
     w: &mut ReaderState,
 ) -> Result<(), SyntaxFault>
     requires room { length w.old.tokens.items < 2 ^ 31 }
     ensures does { Gives SyntaxFault.Memory (λ _. state w.new) result
-        (steps.act_joins head form behind (state w.old)) }
+        (steps.act_joins head form operand (state w.old)) }
     ensures fits { OnOk result (Fits w.old w.new) }
 {
-    if !emits(form, negates(behind)) {
+    if !emits(form, negates(operand)) {
         return Err(SyntaxFault::BadDirective(head.part.start as usize));
     }
-    with_pattern(behind, w)?;
+    with_pattern(operand, w)?;
     w.stage = Stage::Braces {
         head,
         form: HeadForm::Patterns,
@@ -71,26 +71,26 @@ pub fn act_joins(
 pub fn act_asks(
     head: Head,
     form: HeadForm,
-    behind: Behind,
+    operand: Operand,
     n: u32,
     w: &mut ReaderState,
 ) -> Result<(), SyntaxFault>
     requires room { length w.old.tokens.items < 2 ^ 31 }
     requires place { n < 2 ^ 31 }
     ensures does { Gives SyntaxFault.Memory (λ _. state w.new) result
-        (steps.act_asks head form behind n (state w.old)) }
+        (steps.act_asks head form operand n (state w.old)) }
     ensures fits { OnOk result (Fits w.old w.new) }
 {
-    if !(tests(behind) && chooses(form)) {
-        return Err(untested(head.part.start, behind));
+    if !(tests(operand) && chooses(form)) {
+        return Err(untested(head.part.start, operand));
     }
-    let alternative = alternative_of(form, first_of(behind), w);
-    with_test(form, behind, w)?;
+    let alternative = alternative_of(form, first_of(operand), w);
+    with_test(form, operand, w)?;
     ask(
         head,
         alternative,
         true,
-        stars(form) && starred_of(behind),
+        stars(form) && starred_of(operand),
         n,
         w,
     )
@@ -100,24 +100,24 @@ pub fn act_asks(
 pub fn act_bars(
     head: Head,
     form: HeadForm,
-    behind: Behind,
+    operand: Operand,
     w: &mut ReaderState,
 ) -> Result<(), SyntaxFault>
     requires room { length w.old.tokens.items < 2 ^ 31 }
     ensures does { Gives SyntaxFault.Memory (λ _. state w.new) result
-        (steps.act_bars head form behind (state w.old)) }
+        (steps.act_bars head form operand (state w.old)) }
     ensures fits { OnOk result (Fits w.old w.new) }
 {
-    if !(tests(behind) && chooses(form)) {
-        return Err(untested(head.part.start, behind));
+    if !(tests(operand) && chooses(form)) {
+        return Err(untested(head.part.start, operand));
     }
-    let alternative = alternative_of(form, first_of(behind), w);
-    with_test(form, behind, w)?;
+    let alternative = alternative_of(form, first_of(operand), w);
+    with_test(form, operand, w)?;
     w.stage = Stage::Braces {
         head,
         form: HeadForm::Tests {
             alternative,
-            starred: stars(form) && starred_of(behind),
+            starred: stars(form) && starred_of(operand),
         },
         stage: HeadStage::TestDue,
     };
@@ -129,7 +129,7 @@ pub fn act_bars(
 fn ends_with(
     head: Head,
     form: HeadForm,
-    behind: Behind,
+    operand: Operand,
     word: &[u8],
     n: u32,
     w: &mut ReaderState,
@@ -137,13 +137,13 @@ fn ends_with(
     requires room { length w.old.tokens.items < 2 ^ 31 }
     requires place { n < 2 ^ 31 }
     ensures does { Gives SyntaxFault.Memory (λ _. state w.new) result
-        (steps.act_ends head form behind n (steps.with_word word.now (state w.old))) }
+        (steps.act_ends head form operand n (steps.with_word word.now (state w.old))) }
     ensures fits { OnOk result (Fits w.old w.new) }
 {
-    if !emits(form, negates(behind)) {
+    if !emits(form, negates(operand)) {
         return Err(SyntaxFault::BadDirective(head.part.start as usize));
     }
-    lent_pattern(behind, word, w)?;
+    lent_pattern(operand, word, w)?;
     close_braces(head, true, n + 1, w.context, w);
     Ok(())
 }
@@ -153,7 +153,7 @@ fn ends_with(
 fn asks_with(
     head: Head,
     form: HeadForm,
-    behind: Behind,
+    operand: Operand,
     word: &[u8],
     n: u32,
     w: &mut ReaderState,
@@ -161,19 +161,19 @@ fn asks_with(
     requires room { length w.old.tokens.items < 2 ^ 31 }
     requires place { n < 2 ^ 31 }
     ensures does { Gives SyntaxFault.Memory (λ _. state w.new) result
-        (steps.act_asks head form behind n (steps.with_word word.now (state w.old))) }
+        (steps.act_asks head form operand n (steps.with_word word.now (state w.old))) }
     ensures fits { OnOk result (Fits w.old w.new) }
 {
-    if !(tests(behind) && chooses(form)) {
-        return Err(untested(head.part.start, behind));
+    if !(tests(operand) && chooses(form)) {
+        return Err(untested(head.part.start, operand));
     }
-    let alternative = alternative_of(form, first_of(behind), w);
-    lent_test(form, behind, word, w)?;
+    let alternative = alternative_of(form, first_of(operand), w);
+    lent_test(form, operand, word, w)?;
     ask(
         head,
         alternative,
         true,
-        stars(form) && starred_of(behind),
+        stars(form) && starred_of(operand),
         n,
         w,
     )
@@ -184,7 +184,7 @@ fn asks_with(
 pub fn act_lent(
     head: Head,
     form: HeadForm,
-    behind: Behind,
+    operand: Operand,
     word: &[u8],
     n: u32,
     b: u8,
@@ -194,14 +194,14 @@ pub fn act_lent(
     requires room { length w.old.tokens.items < 2 ^ 31 }
     requires place { n < 2 ^ 31 }
     ensures does { Gives SyntaxFault.Memory (λ _. state w.new) result
-        (steps.act_head head form (turns.after_action head.part.start behind b) n b
+        (steps.act_head head form (turns.after_action head.part.start operand b) n b
         (steps.with_word word.now (state w.old))) }
     ensures fits { OnOk result (Fits w.old w.new) }
 {
     if b == b'}' {
-        ends_with(head, form, behind, word, n, w)
+        ends_with(head, form, operand, word, n, w)
     } else {
-        asks_with(head, form, behind, word, n, w)
+        asks_with(head, form, operand, word, n, w)
     }
 }
 

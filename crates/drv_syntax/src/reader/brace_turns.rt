@@ -105,16 +105,16 @@ fn negation_turn(at: u32, n: u32, inside: &[u8], w: &mut ReaderState) -> Result<
         ≤ length w.old.tokens.items + 4 * (taken + 1)) }
     ensures trail { IfOk result (λ taken. w.new.trailing ≤ w.old.trailing + 4 * (taken + 1)) }
 {
-    let behind = &inside[1..];
-    if behind.is_empty() || !begins_word(behind[0]) {
+    let following = &inside[1..];
+    if following.is_empty() || !begins_word(following[0]) {
         return opened_turn(BraceKind::InPlace, at, n, inside, w);
     }
-    let size = word_length(behind);
-    if size == behind.len() || behind[size] != b':' {
+    let size = word_length(following);
+    if size == following.len() || following[size] != b':' {
         return opened_turn(BraceKind::InPlace, at, n, inside, w);
     }
     let end = n + 1 + size as u32;
-    with_asked(at, n, end, true, front(behind, size), w)?;
+    with_asked(at, n, end, true, front(following, size), w)?;
     Ok(size + 2)
 }
 

@@ -11,7 +11,7 @@ use crate::reader::acts::{act_asks, act_bars, act_ends, act_joins};
 use crate::reader::bytes::{is_function, is_function_front, is_mark, is_white, is_word};
 use crate::reader::edits::{add, begin, clear, keep, next_open};
 use crate::reader::nesting::{ask, emits, open_alternative, open_test};
-use crate::reader::stages::{Behind, Head, HeadForm, HeadStage, Stage};
+use crate::reader::stages::{Head, HeadForm, HeadStage, Operand, Stage};
 use crate::reader::state::ReaderState;
 
 fn bad(at: u32) -> Result<(), SyntaxFault>
@@ -38,7 +38,7 @@ pub fn at(head: Head, form: HeadForm, stage: HeadStage) -> Stage
 pub fn after_test(
     head: Head,
     form: HeadForm,
-    behind: Behind,
+    operand: Operand,
     n: u32,
     b: u8,
     w: &mut ReaderState,
@@ -46,19 +46,19 @@ pub fn after_test(
     requires room { length w.old.tokens.items < 2 ^ 31 }
     requires place { n < 2 ^ 31 }
     ensures does { Gives SyntaxFault.Memory (λ _. state w.new) result
-        (steps.act_head head form (turns.after_action head.part.start behind b) n b (state w.old)) }
+        (steps.act_head head form (turns.after_action head.part.start operand b) n b (state w.old)) }
     ensures fits { OnOk result (Fits w.old w.new) }
 {
     if is_white(b) {
-        keep(at(head, form, HeadStage::BehindTest(behind)), w)
+        keep(at(head, form, HeadStage::AfterTest(operand)), w)
     } else if b == b'}' {
-        act_ends(head, form, behind, n, w)
+        act_ends(head, form, operand, n, w)
     } else if b == b'&' {
-        act_joins(head, form, behind, w)
+        act_joins(head, form, operand, w)
     } else if b == b':' {
-        act_asks(head, form, behind, n, w)
+        act_asks(head, form, operand, n, w)
     } else if b == b'|' {
-        act_bars(head, form, behind, w)
+        act_bars(head, form, operand, w)
     } else {
         bad(head.part.start)
     }
@@ -90,21 +90,21 @@ pub fn test_word(
     } else if is_word(b) {
         add(at(head, form, HeadStage::TestWord { start, negated }), b, w)
     } else if b == b'*' {
-        let behind = Behind::Switch {
+        let operand = Operand::Switch {
             start,
             end: n + 1,
             negated,
             starred: true,
         };
-        keep(at(head, form, HeadStage::BehindTest(behind)), w)
+        keep(at(head, form, HeadStage::AfterTest(operand)), w)
     } else {
-        let behind = Behind::Switch {
+        let operand = Operand::Switch {
             start,
             end: n,
             negated,
             starred: false,
         };
-        after_test(head, form, behind, n, b, w)
+        after_test(head, form, operand, n, b, w)
     }
 }
 
@@ -126,26 +126,26 @@ fn bare_mark(
         (state w.old)) }
     ensures fits { OnOk result (Fits w.old w.new) }
 {
-    let bare = Behind::Bare {
+    let bare = Operand::Bare {
         start,
         end: n,
         negated,
         mark,
     };
     if b == b'*' {
-        let behind = Behind::StarredMark {
+        let operand = Operand::StarredMark {
             start,
             end: n + 1,
             negated,
             mark,
         };
-        clear(at(head, form, HeadStage::BehindTest(behind)), w)
+        clear(at(head, form, HeadStage::AfterTest(operand)), w)
     } else if b == b'}' {
         act_ends(head, form, bare, n, w)
     } else if b == b'&' {
         act_joins(head, form, bare, w)
     } else if is_white(b) {
-        keep(at(head, form, HeadStage::BehindTest(bare)), w)
+        keep(at(head, form, HeadStage::AfterTest(bare)), w)
     } else {
         empty(head.part.start)
     }
@@ -223,21 +223,21 @@ fn marked_word(
         };
         add(at(head, form, stage), b, w)
     } else if b != b'*' {
-        let behind = Behind::Marked {
+        let operand = Operand::Marked {
             start,
             end: n,
             negated,
             mark,
         };
-        after_test(head, form, behind, n, b, w)
+        after_test(head, form, operand, n, b, w)
     } else if emits(form, negated) {
-        let behind = Behind::StarredMark {
+        let operand = Operand::StarredMark {
             start,
             end: n + 1,
             negated,
             mark,
         };
-        keep(at(head, form, HeadStage::BehindTest(behind)), w)
+        keep(at(head, form, HeadStage::AfterTest(operand)), w)
     } else {
         bad(head.part.start)
     }
@@ -275,13 +275,13 @@ fn asked(
     } else if is_word(b) {
         begin(at(head, form, HeadStage::TestWord { start, negated }), b, w)
     } else if b == b'*' {
-        let behind = Behind::Switch {
+        let operand = Operand::Switch {
             start,
             end: n + 1,
             negated,
             starred: true,
         };
-        clear(at(head, form, HeadStage::BehindTest(behind)), w)
+        clear(at(head, form, HeadStage::AfterTest(operand)), w)
     } else if b != b'%' {
         empty(head.part.start)
     } else if w.context.levels.saturating_sub(1) == 0 {
@@ -338,13 +338,13 @@ fn pattern_due(
     } else if is_word(b) {
         begin(at(head, form, HeadStage::TestWord { start, negated }), b, w)
     } else if b == b'*' {
-        let behind = Behind::Switch {
+        let operand = Operand::Switch {
             start,
             end: n + 1,
             negated,
             starred: true,
         };
-        clear(at(head, form, HeadStage::BehindTest(behind)), w)
+        clear(at(head, form, HeadStage::AfterTest(operand)), w)
     } else {
         empty(head.part.start)
     }
@@ -459,7 +459,7 @@ pub fn head_step(
             negated,
             percent,
         } => test_function(head, form, start, negated, percent, n, b, w),
-        HeadStage::BehindTest(behind) => after_test(head, form, behind, n, b, w),
+        HeadStage::AfterTest(operand) => after_test(head, form, operand, n, b, w),
     }
 }
 

@@ -10,7 +10,7 @@ use crate::directives::BuiltinName;
 use crate::fault::SyntaxFault;
 use crate::labels::Labels;
 use crate::reader::actions::{Single, Taken};
-use crate::reader::stages::Behind;
+use crate::reader::stages::Operand;
 use crate::token::TestKind;
 
 fn builtin_word(name: BuiltinName) -> &'static [u8]
@@ -69,15 +69,15 @@ pub fn name_single(single: Single, word: &[u8], labels: &mut Labels) -> Result<(
 
 /// A pattern, with this word.
 #[inline(always)]
-pub fn name_pattern(behind: Behind, word: &[u8], labels: &mut Labels) -> Result<(), SyntaxFault>
+pub fn name_pattern(operand: Operand, word: &[u8], labels: &mut Labels) -> Result<(), SyntaxFault>
     ensures { Gives SyntaxFault.Memory (λ _. labels.new) result
-        (Ok (labels.old ++ walk.after_pattern behind word.now ∷ [])) }
+        (Ok (labels.old ++ walk.after_pattern operand word.now ∷ [])) }
 {
-    match behind {
-        Behind::Switch { starred, .. } => labels.push(word, starred, false, TestKind::Switch),
-        Behind::Marked { mark, .. } => labels.push_marked(mark, word, false),
-        Behind::StarredMark { mark, .. } => labels.push_marked(mark, word, true),
-        Behind::Bare { mark, .. } => labels.push_byte(mark),
+    match operand {
+        Operand::Switch { starred, .. } => labels.push(word, starred, false, TestKind::Switch),
+        Operand::Marked { mark, .. } => labels.push_marked(mark, word, false),
+        Operand::StarredMark { mark, .. } => labels.push_marked(mark, word, true),
+        Operand::Bare { mark, .. } => labels.push_byte(mark),
     }
 }
 
@@ -93,19 +93,19 @@ fn mark_asks(mark: u8) -> TestKind
 
 /// A test that asks no function, with this word.
 #[inline(always)]
-pub fn name_test(behind: Behind, word: &[u8], labels: &mut Labels) -> Result<(), SyntaxFault>
+pub fn name_test(operand: Operand, word: &[u8], labels: &mut Labels) -> Result<(), SyntaxFault>
     ensures { Gives SyntaxFault.Memory (λ _. labels.new) result
-        (Ok (labels.old ++ walk.after_test behind word.now ∷ [])) }
+        (Ok (labels.old ++ walk.after_test operand word.now ∷ [])) }
 {
-    match behind {
-        Behind::Switch {
+    match operand {
+        Operand::Switch {
             negated,
             starred,
             ..
         } => labels.push(word, starred, negated, TestKind::Switch),
-        Behind::Marked { negated, mark, .. }
-        | Behind::StarredMark { negated, mark, .. }
-        | Behind::Bare { negated, mark, .. } => labels.push(word, false, negated, mark_asks(mark)),
+        Operand::Marked { negated, mark, .. }
+        | Operand::StarredMark { negated, mark, .. }
+        | Operand::Bare { negated, mark, .. } => labels.push(word, false, negated, mark_asks(mark)),
     }
 }
 

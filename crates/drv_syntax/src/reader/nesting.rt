@@ -11,7 +11,7 @@ use crate::fault::SyntaxFault;
 use crate::reader::edits::{close_token, next_open, with_leaf, with_token};
 use crate::reader::naming::{name_call, name_pattern, name_test, name_word};
 use crate::reader::stages::{
-    Behind, Head, HeadForm, ListContext, ListKind, ListStage, Open, Stage, StarOwner, Suspended,
+    Head, HeadForm, ListContext, ListKind, ListStage, Open, Operand, Stage, StarOwner, Suspended,
 };
 use crate::reader::state::ReaderState;
 use crate::token::TokenKind;
@@ -234,56 +234,56 @@ pub fn open_test(
 }
 
 /// Where it begins.
-pub fn first_of(behind: Behind) -> u32
-    ensures { result ≡ steps.first_of behind }
+pub fn first_of(operand: Operand) -> u32
+    ensures { result ≡ steps.first_of operand }
 {
-    match behind {
-        Behind::Switch { start, .. } => start,
-        Behind::Marked { start, .. } => start,
-        Behind::StarredMark { start, .. } => start,
-        Behind::Bare { start, .. } => start,
+    match operand {
+        Operand::Switch { start, .. } => start,
+        Operand::Marked { start, .. } => start,
+        Operand::StarredMark { start, .. } => start,
+        Operand::Bare { start, .. } => start,
     }
 }
 
-fn last_of(behind: Behind) -> u32
-    ensures { result ≡ steps.last_of behind }
+fn last_of(operand: Operand) -> u32
+    ensures { result ≡ steps.last_of operand }
 {
-    match behind {
-        Behind::Switch { end, .. } => end,
-        Behind::Marked { end, .. } => end,
-        Behind::StarredMark { end, .. } => end,
-        Behind::Bare { end, .. } => end,
+    match operand {
+        Operand::Switch { end, .. } => end,
+        Operand::Marked { end, .. } => end,
+        Operand::StarredMark { end, .. } => end,
+        Operand::Bare { end, .. } => end,
     }
 }
 
 /// It has a `!`.
-pub fn negates(behind: Behind) -> bool
-    ensures { result ≡ steps.negates behind }
+pub fn negates(operand: Operand) -> bool
+    ensures { result ≡ steps.negates operand }
 {
-    match behind {
-        Behind::Switch { negated, .. } => negated,
-        Behind::Marked { negated, .. } => negated,
-        Behind::StarredMark { negated, .. } => negated,
-        Behind::Bare { negated, .. } => negated,
+    match operand {
+        Operand::Switch { negated, .. } => negated,
+        Operand::Marked { negated, .. } => negated,
+        Operand::StarredMark { negated, .. } => negated,
+        Operand::Bare { negated, .. } => negated,
     }
 }
 
 /// It can be a test.
-pub fn tests(behind: Behind) -> bool
-    ensures { result ≡ steps.tests behind }
+pub fn tests(operand: Operand) -> bool
+    ensures { result ≡ steps.tests operand }
 {
-    match behind {
-        Behind::Switch { .. } | Behind::Marked { .. } => true,
-        Behind::StarredMark { .. } | Behind::Bare { .. } => false,
+    match operand {
+        Operand::Switch { .. } | Operand::Marked { .. } => true,
+        Operand::StarredMark { .. } | Operand::Bare { .. } => false,
     }
 }
 
 /// It is a starred pattern without `!`.
-pub fn starred_of(behind: Behind) -> bool
-    ensures { result ≡ steps.starred_of behind }
+pub fn starred_of(operand: Operand) -> bool
+    ensures { result ≡ steps.starred_of operand }
 {
-    match behind {
-        Behind::Switch {
+    match operand {
+        Operand::Switch {
             negated,
             starred,
             ..
@@ -293,72 +293,72 @@ pub fn starred_of(behind: Behind) -> bool
 }
 
 /// Why it can be no test.
-pub fn untested(at: u32, behind: Behind) -> SyntaxFault
-    ensures { result ≡ steps.untested at behind }
+pub fn untested(at: u32, operand: Operand) -> SyntaxFault
+    ensures { result ≡ steps.untested at operand }
 {
-    match behind {
-        Behind::Bare { .. } => SyntaxFault::EmptyTest(at as usize),
+    match operand {
+        Operand::Bare { .. } => SyntaxFault::EmptyTest(at as usize),
         _ => SyntaxFault::BadDirective(at as usize),
     }
 }
 
 /// The pattern.
 #[inline(always)]
-pub fn with_pattern(behind: Behind, w: &mut ReaderState) -> Result<(), SyntaxFault>
+pub fn with_pattern(operand: Operand, w: &mut ReaderState) -> Result<(), SyntaxFault>
     requires { length w.old.tokens.items < 2 ^ 31 }
     ensures does { Gives SyntaxFault.Memory (λ _. state w.new) result
-        (Ok (steps.with_pattern behind (state w.old))) }
+        (Ok (steps.with_pattern operand (state w.old))) }
     ensures size { OnOk result (length w.new.tokens.items ≤ length w.old.tokens.items + 1) }
     ensures trail { OnOk result (w.new.trailing ≤ w.old.trailing) }
 {
-    with_leaf(TokenKind::Pattern, first_of(behind), last_of(behind), w)?;
-    name_pattern(behind, &w.word, &mut w.labels)
+    with_leaf(TokenKind::Pattern, first_of(operand), last_of(operand), w)?;
+    name_pattern(operand, &w.word, &mut w.labels)
 }
 
 /// The pattern, whose word is this one. It stays what it was.
 #[inline(always)]
-pub fn lent_pattern(behind: Behind, word: &[u8], w: &mut ReaderState) -> Result<(), SyntaxFault>
+pub fn lent_pattern(operand: Operand, word: &[u8], w: &mut ReaderState) -> Result<(), SyntaxFault>
     requires { length w.old.tokens.items < 2 ^ 31 }
     ensures does { Gives SyntaxFault.Memory (λ _. steps.with_word word.now (state w.new)) result
-        (Ok (steps.with_pattern behind (steps.with_word word.now (state w.old)))) }
+        (Ok (steps.with_pattern operand (steps.with_word word.now (state w.old)))) }
     ensures size { OnOk result (length w.new.tokens.items ≤ length w.old.tokens.items + 1) }
     ensures trail { OnOk result (w.new.trailing ≤ w.old.trailing) }
 {
-    with_leaf(TokenKind::Pattern, first_of(behind), last_of(behind), w)?;
-    name_pattern(behind, word, &mut w.labels)
+    with_leaf(TokenKind::Pattern, first_of(operand), last_of(operand), w)?;
+    name_pattern(operand, word, &mut w.labels)
 }
 
 /// The test, whose word is this one, in its alternative.
 #[inline(always)]
 pub fn lent_test(
     form: HeadForm,
-    behind: Behind,
+    operand: Operand,
     word: &[u8],
     w: &mut ReaderState,
 ) -> Result<(), SyntaxFault>
     requires { length w.old.tokens.items < 2 ^ 31 }
     ensures does { Gives SyntaxFault.Memory (λ _. steps.with_word word.now (state w.new)) result
-        (Ok (steps.with_test form behind (steps.with_word word.now (state w.old)))) }
+        (Ok (steps.with_test form operand (steps.with_word word.now (state w.old)))) }
     ensures size { OnOk result (length w.new.tokens.items ≤ length w.old.tokens.items + 2) }
     ensures trail { OnOk result (w.new.trailing ≤ w.old.trailing) }
 {
-    with_alternative(form, first_of(behind), w)?;
-    with_leaf(TokenKind::Test, first_of(behind), last_of(behind), w)?;
-    name_test(behind, word, &mut w.labels)
+    with_alternative(form, first_of(operand), w)?;
+    with_leaf(TokenKind::Test, first_of(operand), last_of(operand), w)?;
+    name_test(operand, word, &mut w.labels)
 }
 
 /// The test, in its alternative.
 #[inline(always)]
-pub fn with_test(form: HeadForm, behind: Behind, w: &mut ReaderState) -> Result<(), SyntaxFault>
+pub fn with_test(form: HeadForm, operand: Operand, w: &mut ReaderState) -> Result<(), SyntaxFault>
     requires { length w.old.tokens.items < 2 ^ 31 }
     ensures does { Gives SyntaxFault.Memory (λ _. state w.new) result
-        (Ok (steps.with_test form behind (state w.old))) }
+        (Ok (steps.with_test form operand (state w.old))) }
     ensures size { OnOk result (length w.new.tokens.items ≤ length w.old.tokens.items + 2) }
     ensures trail { OnOk result (w.new.trailing ≤ w.old.trailing) }
 {
-    with_alternative(form, first_of(behind), w)?;
-    with_leaf(TokenKind::Test, first_of(behind), last_of(behind), w)?;
-    name_test(behind, &w.word, &mut w.labels)
+    with_alternative(form, first_of(operand), w)?;
+    with_leaf(TokenKind::Test, first_of(operand), last_of(operand), w)?;
+    name_test(operand, &w.word, &mut w.labels)
 }
 
 /// The braces end here.

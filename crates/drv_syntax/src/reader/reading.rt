@@ -169,9 +169,9 @@ fn read(start: u32, text: &[u8], w: &mut ReaderState) -> Result<(), SyntaxFault>
 {
     let mut n = start;
     let mut left = text;
-    while let [b, behind @ ..] = left {
-        let taken = turn(n, *b, left, behind, w)?;
-        left = &behind[taken..];
+    while let [b, following @ ..] = left {
+        let taken = turn(n, *b, left, following, w)?;
+        left = &following[taken..];
         n += 1 + taken as u32;
     }
     Ok(())

@@ -148,9 +148,9 @@ pub enum HeadForm {
     Tests { alternative: Open, starred: bool },
 }
 
-/// What stands after a test or a pattern, by its start, its end, and whether it has a `!`.
+/// A test or a pattern that was read, by its start, its end, and whether it has a `!`.
 #[derive(Clone, Copy)]
-pub enum Behind {
+pub enum Operand {
     /// A word, with a star or without.
     Switch {
         start: u32,
@@ -233,7 +233,7 @@ pub enum HeadStage {
         percent: u32,
     },
     /// After a test or a pattern.
-    BehindTest(Behind),
+    AfterTest(Operand),
 }
 
 /// Where the next byte stands.

@@ -11,7 +11,7 @@ use crate::reader::acts::act_lent;
 use crate::reader::bytes::{begins_word, ends_word};
 use crate::reader::head_steps::{after_test, at, test_word};
 use crate::reader::runs::{extend, front, word_length};
-use crate::reader::stages::{Behind, Head, HeadForm, HeadStage, Stage};
+use crate::reader::stages::{Head, HeadForm, HeadStage, Operand, Stage};
 use crate::reader::state::ReaderState;
 
 /// After the word of a test: what ends it, with the byte after a star.
@@ -41,14 +41,14 @@ fn word_end(
         test_word(head, form, start, negated, n, text[0], w)?;
         return Ok(1);
     }
-    let behind = Behind::Switch {
+    let operand = Operand::Switch {
         start,
         end: n + 1,
         negated,
         starred: true,
     };
-    w.stage = at(head, form, HeadStage::BehindTest(behind));
-    after_test(head, form, behind, n + 1, text[1], w)?;
+    w.stage = at(head, form, HeadStage::AfterTest(operand));
+    after_test(head, form, operand, n + 1, text[1], w)?;
     Ok(2)
 }
 
@@ -136,23 +136,23 @@ fn lent_end(
 {
     match text {
         [b'*', b, ..] if ends_word(*b) => {
-            let behind = Behind::Switch {
+            let operand = Operand::Switch {
                 start,
                 end: n + 1,
                 negated,
                 starred: true,
             };
-            act_lent(head, form, behind, word, n + 1, *b, w)?;
+            act_lent(head, form, operand, word, n + 1, *b, w)?;
             Ok(2)
         }
         [b, ..] if ends_word(*b) => {
-            let behind = Behind::Switch {
+            let operand = Operand::Switch {
                 start,
                 end: n,
                 negated,
                 starred: false,
             };
-            act_lent(head, form, behind, word, n, *b, w)?;
+            act_lent(head, form, operand, word, n, *b, w)?;
             Ok(1)
         }
         _ => put_end(head, form, start, negated, word, n, text, w),

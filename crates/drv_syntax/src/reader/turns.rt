@@ -202,34 +202,34 @@ pub fn run(n: u32, text: &[u8], w: &mut ReaderState) -> Result<usize, SyntaxFaul
 /// What the byte at this place and those that go on as it did make of the state: how many of those
 /// after it.
 #[inline(never)]
-fn byte_turn(n: u32, b: u8, behind: &[u8], w: &mut ReaderState) -> Result<usize, SyntaxFault>
+fn byte_turn(n: u32, b: u8, following: &[u8], w: &mut ReaderState) -> Result<usize, SyntaxFault>
     requires room { length w.old.tokens.items < 2 ^ 28 }
-    requires place { n + 1 + length behind.now < 2 ^ 30 }
+    requires place { n + 1 + length following.now < 2 ^ 30 }
     requires trail { w.old.trailing < 2 ^ 28 }
-    ensures does { Turns n b behind.now (state w.old) (state w.new) result }
+    ensures does { Turns n b following.now (state w.old) (state w.new) result }
     ensures size { IfOk result (λ taken. length w.new.tokens.items
         ≤ length w.old.tokens.items + 4 * (taken + 1)) }
     ensures trail { IfOk result (λ taken. w.new.trailing ≤ w.old.trailing + 4 * (taken + 1)) }
 {
     step(n, b, w)?;
-    let taken = run(n + 1, behind, w)?;
+    let taken = run(n + 1, following, w)?;
     Ok(taken)
 }
 
 /// The `%` of an item at this place, and what goes on after it: how many bytes of that.
 #[inline(always)]
-fn percent_turn(n: u32, behind: &[u8], w: &mut ReaderState) -> Result<usize, SyntaxFault>
+fn percent_turn(n: u32, following: &[u8], w: &mut ReaderState) -> Result<usize, SyntaxFault>
     requires here { w.old.stage ≡ Stage.List ListStage.Start }
     requires room { length w.old.tokens.items < 2 ^ 28 }
-    requires place { n + 1 + length behind.now < 2 ^ 30 }
+    requires place { n + 1 + length following.now < 2 ^ 30 }
     requires trail { w.old.trailing < 2 ^ 28 }
-    ensures does { Turns n ascii.percent behind.now (state w.old) (state w.new) result }
+    ensures does { Turns n ascii.percent following.now (state w.old) (state w.new) result }
     ensures size { IfOk result (λ taken. length w.new.tokens.items
         ≤ length w.old.tokens.items + 4 * (taken + 1)) }
     ensures trail { IfOk result (λ taken. w.new.trailing ≤ w.old.trailing + 4 * (taken + 1)) }
 {
     w.stage = Stage::List(ListStage::Percent { at: n });
-    match behind {
+    match following {
         [b, inside @ ..] => {
             let place = n + 1;
             percent(n, place, *b, w)?;
@@ -242,17 +242,17 @@ fn percent_turn(n: u32, behind: &[u8], w: &mut ReaderState) -> Result<usize, Syn
 
 /// The same, with the name of a text or the first word of braces in the same turn.
 #[inline(always)]
-fn directive_turn(n: u32, behind: &[u8], w: &mut ReaderState) -> Result<usize, SyntaxFault>
+fn directive_turn(n: u32, following: &[u8], w: &mut ReaderState) -> Result<usize, SyntaxFault>
     requires here { w.old.stage ≡ Stage.List ListStage.Start }
     requires room { length w.old.tokens.items < 2 ^ 28 }
-    requires place { n + 1 + length behind.now < 2 ^ 30 }
+    requires place { n + 1 + length following.now < 2 ^ 30 }
     requires trail { w.old.trailing < 2 ^ 28 }
-    ensures does { Turns n ascii.percent behind.now (state w.old) (state w.new) result }
+    ensures does { Turns n ascii.percent following.now (state w.old) (state w.new) result }
     ensures size { IfOk result (λ taken. length w.new.tokens.items
         ≤ length w.old.tokens.items + 4 * (taken + 1)) }
     ensures trail { IfOk result (λ taken. w.new.trailing ≤ w.old.trailing + 4 * (taken + 1)) }
 {
-    match behind {
+    match following {
         [b'{', inside @ ..] if w.context.levels != 0 => {
             let place = n + 1;
             let taken = braces_turn(n, place + 1, inside, w)?;
@@ -268,19 +268,19 @@ fn directive_turn(n: u32, behind: &[u8], w: &mut ReaderState) -> Result<usize, S
             let taken = marked_turn(kind, n, n + 3, inside, w)?;
             Ok(taken + 2)
         }
-        _ => percent_turn(n, behind, w),
+        _ => percent_turn(n, following, w),
     }
 }
 
 /// Where an item begins, at a byte that does not stand for itself: what it and those that go on
 /// after it make of the state: how many of those after it.
 #[inline(always)]
-fn first_turn(n: u32, b: u8, behind: &[u8], w: &mut ReaderState) -> Result<usize, SyntaxFault>
+fn first_turn(n: u32, b: u8, following: &[u8], w: &mut ReaderState) -> Result<usize, SyntaxFault>
     requires here { w.old.stage ≡ Stage.List ListStage.Start }
     requires room { length w.old.tokens.items < 2 ^ 28 }
-    requires place { n + 1 + length behind.now < 2 ^ 30 }
+    requires place { n + 1 + length following.now < 2 ^ 30 }
     requires trail { w.old.trailing < 2 ^ 28 }
-    ensures does { Turns n b behind.now (state w.old) (state w.new) result }
+    ensures does { Turns n b following.now (state w.old) (state w.new) result }
     ensures size { IfOk result (λ taken. length w.new.tokens.items
         ≤ length w.old.tokens.items + 4 * (taken + 1)) }
     ensures trail { IfOk result (λ taken. w.new.trailing ≤ w.old.trailing + 4 * (taken + 1)) }
@@ -289,7 +289,7 @@ fn first_turn(n: u32, b: u8, behind: &[u8], w: &mut ReaderState) -> Result<usize
     if b != b';' {
         return Ok(0);
     }
-    let taken = run(n + 1, behind, w)?;
+    let taken = run(n + 1, following, w)?;
     Ok(taken)
 }
 
@@ -300,30 +300,30 @@ fn start_turn(
     n: u32,
     b: u8,
     text: &[u8],
-    behind: &[u8],
+    following: &[u8],
     w: &mut ReaderState,
 ) -> Result<usize, SyntaxFault>
     requires here { w.old.stage ≡ Stage.List ListStage.Start }
-    requires text { text.now ≡ b ∷ behind.now }
-    requires longer { length text.now ≡ 1 + length behind.now }
+    requires text { text.now ≡ b ∷ following.now }
+    requires longer { length text.now ≡ 1 + length following.now }
     requires room { length w.old.tokens.items < 2 ^ 28 }
-    requires place { n + 1 + length behind.now < 2 ^ 30 }
+    requires place { n + 1 + length following.now < 2 ^ 30 }
     requires trail { w.old.trailing < 2 ^ 28 }
-    ensures does { Turns n b behind.now (state w.old) (state w.new) result }
+    ensures does { Turns n b following.now (state w.old) (state w.new) result }
     ensures size { IfOk result (λ taken. length w.new.tokens.items
         ≤ length w.old.tokens.items + 4 * (taken + 1)) }
     ensures trail { IfOk result (λ taken. w.new.trailing ≤ w.old.trailing + 4 * (taken + 1)) }
 {
     if is_blank(b) {
         with_blank(n, w)?;
-        if begins_directive(behind) {
+        if begins_directive(following) {
             return Ok(0);
         }
-        return plain_turn(n + 1, behind, w);
+        return plain_turn(n + 1, following, w);
     }
     let size = run_length(w.context.kind, text);
     if size == 0 {
-        return first_turn(n, b, behind, w);
+        return first_turn(n, b, following, w);
     }
     with_plains(n, front(text, size), w)?;
     Ok(size - 1)
@@ -336,22 +336,22 @@ pub fn turn(
     n: u32,
     b: u8,
     text: &[u8],
-    behind: &[u8],
+    following: &[u8],
     w: &mut ReaderState,
 ) -> Result<usize, SyntaxFault>
-    requires text { text.now ≡ b ∷ behind.now }
-    requires longer { length text.now ≡ 1 + length behind.now }
+    requires text { text.now ≡ b ∷ following.now }
+    requires longer { length text.now ≡ 1 + length following.now }
     requires room { length w.old.tokens.items < 2 ^ 28 }
-    requires place { n + 1 + length behind.now < 2 ^ 30 }
+    requires place { n + 1 + length following.now < 2 ^ 30 }
     requires trail { w.old.trailing < 2 ^ 28 }
-    ensures does { Turns n b behind.now (state w.old) (state w.new) result }
+    ensures does { Turns n b following.now (state w.old) (state w.new) result }
     ensures size { IfOk result (λ taken. length w.new.tokens.items
         ≤ length w.old.tokens.items + 4 * (taken + 1)) }
     ensures trail { IfOk result (λ taken. w.new.trailing ≤ w.old.trailing + 4 * (taken + 1)) }
 {
     match w.stage {
-        Stage::List(ListStage::Start) if b == b'%' => directive_turn(n, behind, w),
-        Stage::List(ListStage::Start) => start_turn(n, b, text, behind, w),
-        _ => byte_turn(n, b, behind, w),
+        Stage::List(ListStage::Start) if b == b'%' => directive_turn(n, following, w),
+        Stage::List(ListStage::Start) => start_turn(n, b, text, following, w),
+        _ => byte_turn(n, b, following, w),
     }
 }

@@ -7,9 +7,9 @@ use Rattle.std.specs.Prelude.{◌&&◌, ◌==◌, Bool, List, [], ◌∷◌, ◌
 -- A splitter of response text, byte by byte or by runs of plain bytes. Private clauses alone cite it: what `split` answers is said by
 -- the grammar `Splits`.
 
--- at the start of a text, whose words are put behind others
-abbrev pub behind : List (List ℕ) → Splitter
-behind words = record { words = words; word = None; quote = None; escaped = false }
+-- at the start of a text, whose words are put after others
+abbrev pub following : List (List ℕ) → Splitter
+following words = record { words = words; word = None; quote = None; escaped = false }
 
 -- the bytes of the word so far
 abbrev pub open_word : Option (List ℕ) → List ℕ

@@ -20,7 +20,7 @@ loop-left-preserved-in_ok-add_option-in-Joined c =
 pub loop-left-preserved-in-Wants : goal.loop-left-preserved-in-Wants
 loop-left-preserved-in-Wants c =
     wants_next c.loop-left.left.now c.word-item.result c.as_bytes-bytes.result.now c.argument-item.result c.as_bytes.result.now c.in-Wants.option c.loop-left.part c.loop-left.front c.add_option-in-Wants.new.self _
-    c.in-len1-up.len_at_least c.word-item.is c.as_bytes-bytes.ensures c.in-Wants.ensures c.in-len1-up-behind.len_at_least c.argument-item.is c.as_bytes.ensures c.in_ok-add_option-in-Wants.ensures c.loop-left.invariant
+    c.in-len1-up.len_at_least c.word-item.is c.as_bytes-bytes.ensures c.in-Wants.ensures c.in-len1-up-following.len_at_least c.argument-item.is c.as_bytes.ensures c.in_ok-add_option-in-Wants.ensures c.loop-left.invariant
 
 pub loop-left-preserved : goal.loop-left-preserved
 loop-left-preserved c =
@@ -35,7 +35,7 @@ returns-in_err-add_option-in-Joined c =
 pub returns-in_err-add_option-in-Wants : goal.returns-in_err-add_option-in-Wants
 returns-in_err-add_option-in-Wants c =
     wants_gives c.loop-left.left.now c.word-item.result c.as_bytes-bytes.result.now c.argument-item.result c.as_bytes.result.now c.in-Wants.option c.loop-left.part c.loop-left.front c.in_err-add_option-in-Wants.field-0.0 _ c.from_residual-in_err-add_option-in-Wants.result _
-    c.in-len1-up.len_at_least c.word-item.is c.as_bytes-bytes.ensures c.in-Wants.ensures c.in-len1-up-behind.len_at_least c.argument-item.is c.as_bytes.ensures c.in_err-add_option-in-Wants.ensures c.from_residual-in_err-add_option-in-Wants.ensures.1 c.loop-left.invariant
+    c.in-len1-up.len_at_least c.word-item.is c.as_bytes-bytes.ensures c.in-Wants.ensures c.in-len1-up-following.len_at_least c.argument-item.is c.as_bytes.ensures c.in_err-add_option-in-Wants.ensures c.from_residual-in_err-add_option-in-Wants.ensures.1 c.loop-left.invariant
 
 pub returns-in_err-add_flag-in-Flag : goal.returns-in_err-add_flag-in-Flag
 returns-in_err-add_flag-in-Flag c = memory_goes _ c.from_residual.result _ c.from_residual.ensures.1

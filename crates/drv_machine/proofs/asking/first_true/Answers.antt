@@ -48,7 +48,7 @@ pub loop-at-preserved : goal.loop-at-preserved
 loop-at-preserved c =
     let h = here c.args.text.now c.loop-at.at c.args.end c.loop-at-test.true c.token_at-at.result c.token_at-at.ensures c.loop-at.invariant.spans in record {
       low = omega (arith, c.loop-at.invariant.low, h.later);
-      spans = (here c.args.text.now c.loop-at.at c.args.end c.loop-at-test.true c.token_at-at.result c.token_at-at.ensures c.loop-at.invariant.spans).behind;
+      spans = (here c.args.text.now c.loop-at.at c.args.end c.loop-at-test.true c.token_at-at.result c.token_at-at.ensures c.loop-at.invariant.spans).following;
       left = λ F tests levels star s.
           found_false F c.args.context.now c.args.text.now c.args.machine.now c.args.machine.now c.loop-at.at c.args.end c.loop-at-test.true tests levels star
           (c.loop-at.invariant.left F tests levels star s) (sym c.is_call.ensures ∙ c.if-is_call.false) c.args.machine.now c.truth.result c.negated.result c.negated.ensures (c.truth.ensures F)

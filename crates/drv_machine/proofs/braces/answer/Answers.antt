@@ -27,23 +27,23 @@ returns-then-holds-negated-clause-does c F items kept given fits b =
 
 pub returns-in-True-clause-does : goal.returns-in-True-clause-does
 returns-in-True-clause-does c F items kept given fits b =
-    let behind = answer_false F c.args.context.now c.args.text.now c.args.walk.now items kept given c.args.asking fits c.args.holds c.args.machine.now b (negated_kept kept.negated kept.asked c.args.text.now c.args.asking.test c.args.holds c.negated.result false c.negated.ensures fits.label_is c.if-holds-negated.false) in
-    later_true F c.args.context.now c.args.text.now c.args.walk.now items kept given c.args.asking fits c.args.holds c.args.machine.now b behind c.args.machine.now c.in-True.test (λ levels star. subst (λ (f : Judged). Found F c.args.context.now c.args.text.now c.args.asking.start c.args.machine.now c.args.machine.now (Ok f) kept.tests levels star) c.in-True.is (c.first_true.ensures.does F kept.tests levels star fits.tests_stand))
+    let following = answer_false F c.args.context.now c.args.text.now c.args.walk.now items kept given c.args.asking fits c.args.holds c.args.machine.now b (negated_kept kept.negated kept.asked c.args.text.now c.args.asking.test c.args.holds c.negated.result false c.negated.ensures fits.label_is c.if-holds-negated.false) in
+    later_true F c.args.context.now c.args.text.now c.args.walk.now items kept given c.args.asking fits c.args.holds c.args.machine.now b following c.args.machine.now c.in-True.test (λ levels star. subst (λ (f : Judged). Found F c.args.context.now c.args.text.now c.args.asking.start c.args.machine.now c.args.machine.now (Ok f) kept.tests levels star) c.in-True.is (c.first_true.ensures.does F kept.tests levels star fits.tests_stand))
     (Went F c.args.context.now c.args.text.now c.enter_alternative-in-True.new.walk c.args.machine.now given c.enter_alternative-in-True.result)
     (λ negated asked others label stands. c.enter_alternative-in-True.ensures.does F negated asked items others given fits.own_is label fits.items_stand stands)
 
 pub returns-in-Asks-clause-does : goal.returns-in-Asks-clause-does
 returns-in-Asks-clause-does c F items kept given fits b =
-    let behind = answer_false F c.args.context.now c.args.text.now c.args.walk.now items kept given c.args.asking fits c.args.holds c.args.machine.now b (negated_kept kept.negated kept.asked c.args.text.now c.args.asking.test c.args.holds c.negated.result false c.negated.ensures fits.label_is c.if-holds-negated.false) in
-    later_asks F c.args.context.now c.args.text.now c.args.walk.now items kept given c.args.asking fits c.args.holds c.args.machine.now b behind c.args.machine.now c.in-Asks.test c.token_at.result c.token_at.ensures (λ levels star. subst (λ (f : Judged). Found F c.args.context.now c.args.text.now c.args.asking.start c.args.machine.now c.args.machine.now (Ok f) kept.tests levels star) c.in-Asks.is (c.first_true.ensures.does F kept.tests levels star fits.tests_stand))
+    let following = answer_false F c.args.context.now c.args.text.now c.args.walk.now items kept given c.args.asking fits c.args.holds c.args.machine.now b (negated_kept kept.negated kept.asked c.args.text.now c.args.asking.test c.args.holds c.negated.result false c.negated.ensures fits.label_is c.if-holds-negated.false) in
+    later_asks F c.args.context.now c.args.text.now c.args.walk.now items kept given c.args.asking fits c.args.holds c.args.machine.now b following c.args.machine.now c.in-Asks.test c.token_at.result c.token_at.ensures (λ levels star. subst (λ (f : Judged). Found F c.args.context.now c.args.text.now c.args.asking.start c.args.machine.now c.args.machine.now (Ok f) kept.tests levels star) c.in-Asks.is (c.first_true.ensures.does F kept.tests levels star fits.tests_stand))
     (Went F c.args.context.now c.args.text.now c.open_test.new.walk c.open_test.new.machine given c.open_test.result)
     (λ arguments later others stands after. c.open_test.ensures.does F c.args.context.now c.args.text.now items arguments later given others stands after)
 
 pub returns-in-Neither-clause-does : goal.returns-in-Neither-clause-does
 returns-in-Neither-clause-does c F items kept given fits b =
-    let behind = answer_false F c.args.context.now c.args.text.now c.args.walk.now items kept given c.args.asking fits c.args.holds c.args.machine.now b (negated_kept kept.negated kept.asked c.args.text.now c.args.asking.test c.args.holds c.negated.result false c.negated.ensures fits.label_is c.if-holds-negated.false) in
+    let following = answer_false F c.args.context.now c.args.text.now c.args.walk.now items kept given c.args.asking fits c.args.holds c.args.machine.now b (negated_kept kept.negated kept.asked c.args.text.now c.args.asking.test c.args.holds c.negated.result false c.negated.ensures fits.label_is c.if-holds-negated.false) in
     c.choose.ensures.does F kept.choices given fits.choices_stand
-    (none_later F c.args.context.now c.args.text.now c.args.walk.now items kept given c.args.asking fits c.args.holds c.args.machine.now b behind c.args.machine.now (λ levels star. subst (λ (f : Judged). Found F c.args.context.now c.args.text.now c.args.asking.start c.args.machine.now c.args.machine.now (Ok f) kept.tests levels star) c.in-Neither.is (c.first_true.ensures.does F kept.tests levels star fits.tests_stand)))
+    (none_later F c.args.context.now c.args.text.now c.args.walk.now items kept given c.args.asking fits c.args.holds c.args.machine.now b following c.args.machine.now (λ levels star. subst (λ (f : Judged). Found F c.args.context.now c.args.text.now c.args.asking.start c.args.machine.now c.args.machine.now (Ok f) kept.tests levels star) c.in-Neither.is (c.first_true.ensures.does F kept.tests levels star fits.tests_stand)))
 
 pub open_test-requires : goal.open_test-requires
 open_test-requires c =

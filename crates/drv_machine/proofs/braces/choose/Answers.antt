@@ -6,7 +6,7 @@ use Rattle.drv_machine.proofs.braces.choose.Goals as goal
 use Rattle.drv_machine.specs.Atoms.{found_step, items_step, judged, worked}
 use Rattle.drv_machine.specs.Code.ByKind.{Found, Within}
 use Rattle.drv_machine.specs.Code.Standing.{tests_in}
-use Rattle.drv_machine.specs.Code.Walking.{Behind, Left, Went, arguments_of, weight}
+use Rattle.drv_machine.specs.Code.Walking.{Following, Left, Went, arguments_of, weight}
 use Rattle.drv_machine.specs.Working.{◌>>=◌}
 use Rattle.drv_machine.specs.declared.asking.Judged.{Judged}
 use Rattle.drv_machine.specs.declared.walk.Walk.{Walk}
@@ -46,10 +46,10 @@ returns-in-True-clause-does c F choices given s b =
     (λ tests levels star stands.
     subst (λ (found : Judged). Found F c.args.context.now c.args.text.now c.tests_end-items.result c.loop-at.machine c.loop-at.machine (Ok found) tests levels star) c.in-True.is
     (c.first_true.ensures.does F tests levels star stands))
-    (λ negated asked items others owns label stands behind.
+    (λ negated asked items others owns label stands following.
     c.enter_alternative.ensures.does F negated asked items others given (c.holds_star-own.ensures ∙ owns) label stands
-    (subst (λ (v : Walk). Behind F c.args.context.now c.args.text.now v c.token_at-next.result.next (λ levels star. worked F c.args.context.now (Some asked) (has_star items) (λ rest inside. items_step F c.args.context.now items inside rest) levels star others) c.loop-at.machine given)
-    (sym c.loop-at.invariant.walk) behind))
+    (subst (λ (v : Walk). Following F c.args.context.now c.args.text.now v c.token_at-next.result.next (λ levels star. worked F c.args.context.now (Some asked) (has_star items) (λ rest inside. items_step F c.args.context.now items inside rest) levels star others) c.loop-at.machine given)
+    (sym c.loop-at.invariant.walk) following))
 
 pub token_at-requires : goal.token_at-requires
 token_at-requires c =
@@ -71,11 +71,11 @@ returns-in-Asks-clause-does c F choices given s b =
     (λ tests levels star stands.
     subst (λ (found : Judged). Found F c.args.context.now c.args.text.now c.tests_end-items.result c.loop-at.machine c.loop-at.machine (Ok found) tests levels star) c.in-Asks.is
     (c.first_true.ensures.does F tests levels star stands))
-    (λ items arguments kept fits stands behind.
+    (λ items arguments kept fits stands following.
     c.open_test.ensures.does F c.args.context.now c.args.text.now items arguments kept given fits stands
-    (subst (λ (v : Walk). Behind F c.args.context.now c.args.text.now v c.args.end
+    (subst (λ (v : Walk). Following F c.args.context.now c.args.text.now v c.args.end
     (λ levels star. arguments_of F c.args.context.now arguments kept.name levels star >>= judged F c.args.context.now kept.negated kept.asked kept.tests levels star >>= found_step F c.args.context.now items kept.choices levels star)
-    c.loop-at.machine given) (sym c.loop-at.invariant.walk) behind))
+    c.loop-at.machine given) (sym c.loop-at.invariant.walk) following))
 
 pub loop-at-smaller : goal.loop-at-smaller
 loop-at-smaller c = nearer c.args.text.now c.loop-at.at c.args.end c.loop-at-test.true c.token_at-next.result c.token_at-next.ensures c.loop-at.invariant.spans
@@ -85,7 +85,7 @@ loop-at-preserved c =
     let h = here c.args.text.now c.loop-at.at c.args.end c.loop-at-test.true c.token_at-next.result c.token_at-next.ensures c.loop-at.invariant.spans in record {
       low = omega (arith, c.loop-at.invariant.low, h.later);
       walk = c.loop-at.invariant.walk;
-      spans = (here c.args.text.now c.loop-at.at c.args.end c.loop-at-test.true c.token_at-next.result c.token_at-next.ensures c.loop-at.invariant.spans).behind;
+      spans = (here c.args.text.now c.loop-at.at c.args.end c.loop-at-test.true c.token_at-next.result c.token_at-next.ensures c.loop-at.invariant.spans).following;
       sized = c.loop-at.invariant.sized;
       uncounted = c.loop-at.invariant.uncounted;
       same_text = c.loop-at.invariant.same_text;

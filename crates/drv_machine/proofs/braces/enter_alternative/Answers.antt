@@ -6,7 +6,7 @@ pub returns-then-is_for_each-clause-does : goal.returns-then-is_for_each-clause-
 returns-then-is_for_each-clause-does c F negated asked items others given owns label stands b =
     each_entered F c.args.context.now c.args.text.now c.args.walk.now c.args.machine.now c.args.each.test c.args.each.start c.args.each.end negated asked items others given label stands b c.args.own owns c.is_for_each.result c.is_for_each.ensures c.if-is_for_each.true
     (Went F c.args.context.now c.args.text.now c.enter_next.new.walk c.args.machine.now given c.enter_next.result)
-    (λ p is behind. c.enter_next.ensures.does F p items given is stands behind)
+    (λ p is following. c.enter_next.ensures.does F p items given is stands following)
 
 pub returns-clause-does : goal.returns-clause-does
 returns-clause-does c F negated asked items others given owns label stands b =

@@ -14,7 +14,7 @@ loop-at-smaller c = nearer c.args.text.now c.loop-at.at c.args.end c.loop-at-tes
 
 pub loop-at-preserved : goal.loop-at-preserved
 loop-at-preserved c = record {
-  spans = (here c.args.text.now c.loop-at.at c.args.end c.loop-at-test.true c.token_at-at.result c.token_at-at.ensures c.loop-at.invariant.spans).behind;
+  spans = (here c.args.text.now c.loop-at.at c.args.end c.loop-at-test.true c.token_at-at.result c.token_at-at.ensures c.loop-at.invariant.spans).following;
   left = λ patterns s.
       patterns_step c.args.text.now c.loop-at.at c.args.end c.loop-at-test.true c.token_at-at.result c.token_at-at.ensures c.loop-at.patterns c.push.new.self c.pattern_at.result
       c.pattern_at.ensures c.in_ok-push.ensures.ok patterns (c.loop-at.invariant.left patterns s);

@@ -12,7 +12,7 @@ loop-at-smaller c = nearer c.args.tree.now c.loop-at.at c.args.end c.loop-at-tes
 
 pub loop-at-preserved : goal.loop-at-preserved
 loop-at-preserved c = record {
-  spans = (here c.args.tree.now c.loop-at.at c.args.end c.loop-at-test.true c.token_at-token.result c.token_at-token.ensures c.loop-at.invariant.spans).behind;
+  spans = (here c.args.tree.now c.loop-at.at c.args.end c.loop-at-test.true c.token_at-token.result c.token_at-token.ensures c.loop-at.invariant.spans).following;
   passed = λ nodes s.
       passed_step c.args.tree.now c.loop-at.at c.args.end c.loop-at-test.true c.token_at-token.result c.token_at-token.ensures c.args.start nodes (c.loop-at.invariant.passed nodes s)
       (ap is_test c.in-Test.is);

@@ -51,7 +51,7 @@ returns-in_err-close-clause-does g c F e given left =
     F c.args.context.now c.loop-walk.machine given (c.loop-walk.invariant.left F (extends_before c.close.ensures.asks e) given left)
     (record c.loop-walk.walk { end = c.in-Some.frame.end; star = c.in-Some.frame.star; frames = c.pop.new.self }) refl refl refl
     ((c.in_err-close.field-0.0 ≡ Memory) ⊎ (given ≡ Is (Err c.in_err-close.field-0.0)))
-    (λ p items kept fits behind. c.in_err-close.ensures.does F e p items kept given fits behind) in
+    (λ p items kept fits following. c.in_err-close.ensures.does F e p items kept given fits following) in
     let f = c.from_residual.ensures in
     search rules
 
@@ -64,8 +64,8 @@ skip-requires-in-loop-walk g c =
     (as_left c.close.new.outside.facts.now c.args.context.now c.loop-walk.walk.text.now c.loop-walk.walk c.loop-walk.machine c.loop-walk.invariant.lain c.loop-walk.invariant.framed)
     (record c.loop-walk.walk { end = c.in-Some.frame.end; star = c.in-Some.frame.star; frames = c.pop.new.self }) refl refl refl
     (Left c.close.new.outside.facts.now c.args.context.now c.close.new.walk.text.now c.close.new.walk c.close.new.machine (given_of c.close.new.outside.facts.now c.args.context.now c.loop-walk.walk.text.now c.loop-walk.walk c.loop-walk.machine c.loop-walk.invariant.lain c.loop-walk.invariant.framed))
-    (λ p items kept fits behind. c.in_ok-close.ensures.does c.close.new.outside.facts.now (extends_refl c.close.new.outside.facts.now) p items kept
-    (given_of c.close.new.outside.facts.now c.args.context.now c.loop-walk.walk.text.now c.loop-walk.walk c.loop-walk.machine c.loop-walk.invariant.lain c.loop-walk.invariant.framed) fits behind) in
+    (λ p items kept fits following. c.in_ok-close.ensures.does c.close.new.outside.facts.now (extends_refl c.close.new.outside.facts.now) p items kept
+    (given_of c.close.new.outside.facts.now c.args.context.now c.loop-walk.walk.text.now c.loop-walk.walk c.loop-walk.machine c.loop-walk.invariant.lain c.loop-walk.invariant.framed) fits following) in
     record { rest = left.rest; lies = left.lies }
 
 pub loop-walk-smaller : goal.loop-walk-smaller
@@ -87,8 +87,8 @@ loop-walk-preserved g c =
     (as_left c.close.new.outside.facts.now c.args.context.now c.loop-walk.walk.text.now c.loop-walk.walk c.loop-walk.machine c.loop-walk.invariant.lain c.loop-walk.invariant.framed)
     (record c.loop-walk.walk { end = c.in-Some.frame.end; star = c.in-Some.frame.star; frames = c.pop.new.self }) refl refl refl
     (Left c.close.new.outside.facts.now c.args.context.now c.close.new.walk.text.now c.close.new.walk c.close.new.machine (given_of c.close.new.outside.facts.now c.args.context.now c.loop-walk.walk.text.now c.loop-walk.walk c.loop-walk.machine c.loop-walk.invariant.lain c.loop-walk.invariant.framed))
-    (λ p items kept fits behind. c.in_ok-close.ensures.does c.close.new.outside.facts.now (extends_refl c.close.new.outside.facts.now) p items kept
-    (given_of c.close.new.outside.facts.now c.args.context.now c.loop-walk.walk.text.now c.loop-walk.walk c.loop-walk.machine c.loop-walk.invariant.lain c.loop-walk.invariant.framed) fits behind))) in record {
+    (λ p items kept fits following. c.in_ok-close.ensures.does c.close.new.outside.facts.now (extends_refl c.close.new.outside.facts.now) p items kept
+    (given_of c.close.new.outside.facts.now c.args.context.now c.loop-walk.walk.text.now c.loop-walk.walk c.loop-walk.machine c.loop-walk.invariant.lain c.loop-walk.invariant.framed) fits following))) in record {
       asks = asked_further c.loop-walk.invariant.asks c.close.ensures.asks;
       lain = record { rest = after.rest; lies = after.lies };
       framed = record { arounds = after.arounds; framed = after.framed };
@@ -103,7 +103,7 @@ loop-walk-preserved g c =
           F c.args.context.now c.loop-walk.machine given (c.loop-walk.invariant.left F (extends_before c.close.ensures.asks e) given left)
           (record c.loop-walk.walk { end = c.in-Some.frame.end; star = c.in-Some.frame.star; frames = c.pop.new.self }) refl refl refl
           (Left F c.args.context.now c.close.new.walk.text.now c.close.new.walk c.close.new.machine given)
-          (λ p items kept fits behind. c.in_ok-close.ensures.does F e p items kept given fits behind)));
+          (λ p items kept fits following. c.in_ok-close.ensures.does F e p items kept given fits following)));
     }
 
 pub returns-clause-reached : goal.returns-clause-reached

@@ -57,7 +57,7 @@ returns-in-Choose-clause-does g c F e given left =
     went_in F c.args.context.now c.args.walk.now.text.now c.choose.new.walk.text.now c.choose.new.walk c.choose.new.machine given c.choose.result c.choose.ensures.same_text
     (turn_choose c.args.walk.now.text.now c.args.walk.now c.requires.at_item c.token_at-token.result c.token_at-token.ensures F c.args.context.now c.args.machine.now given left c.count.new.self
     (c.in_ok-count.ensures.does F c.args.context.now) c.in-Choose.is _
-    (λ choices stands behind. c.choose.ensures.does F choices given stands behind))
+    (λ choices stands following. c.choose.ensures.does F choices given stands following))
 
 pub returns-in_default-clause-does : goal.returns-in_default-clause-does
 returns-in_default-clause-does g c F e given left =
@@ -86,19 +86,19 @@ returns-in-FailureFile-clause-does g c F e given left =
     went_in F c.args.context.now c.args.walk.now.text.now c.work_failure.new.walk.text.now c.work_failure.new.walk c.work_failure.new.machine given c.work_failure.result c.work_failure.ensures.same_text
     (turn_failure c.args.walk.now.text.now c.args.walk.now c.requires.at_item c.token_at-token.result c.token_at-token.ensures F c.args.context.now c.args.machine.now given left c.count.new.self
     (c.in_ok-count.ensures.does F c.args.context.now) c.in-FailureFile.is _
-    (λ brace stands behind. c.work_failure.ensures.does F e brace given stands behind))
+    (λ brace stands following. c.work_failure.ensures.does F e brace given stands following))
 
 pub returns-in-Function-clause-does : goal.returns-in-Function-clause-does
 returns-in-Function-clause-does g c F e given left =
     went_in F c.args.context.now c.args.walk.now.text.now c.open_call.new.walk.text.now c.open_call.new.walk c.open_call.new.machine given c.open_call.result c.open_call.ensures.same_text
     (turn_function c.args.walk.now.text.now c.args.walk.now c.requires.at_item c.token_at-token.result c.token_at-token.ensures F c.args.context.now c.args.machine.now given left c.count.new.self
     (c.in_ok-count.ensures.does F c.args.context.now) c.in-Function.is _
-    (λ name items word stands behind.
-    c.open_call.ensures.does F c.args.context.now c.args.walk.now.text.now name items given (at_place c.args.walk.now.text.now c.args.walk.now c.requires.lain c.requires.at_item) word stands behind))
+    (λ name items word stands following.
+    c.open_call.ensures.does F c.args.context.now c.args.walk.now.text.now name items given (at_place c.args.walk.now.text.now c.args.walk.now c.requires.lain c.requires.at_item) word stands following))
 
 pub returns-in-ArgumentsFile-clause-does : goal.returns-in-ArgumentsFile-clause-does
 returns-in-ArgumentsFile-clause-does g c F e given left =
     went_in F c.args.context.now c.args.walk.now.text.now c.work_filed.new.walk.text.now c.work_filed.new.walk c.work_filed.new.machine given c.work_filed.result c.work_filed.ensures.same_text
     (turn_filed c.args.walk.now.text.now c.args.walk.now c.requires.at_item c.token_at-token.result c.token_at-token.ensures F c.args.context.now c.args.machine.now given left c.count.new.self
     (c.in_ok-count.ensures.does F c.args.context.now) c.in-ArgumentsFile.is _
-    (λ brace stands behind. c.work_filed.ensures.does F e brace given stands behind))
+    (λ brace stands following. c.work_filed.ensures.does F e brace given stands following))

@@ -1,5 +1,5 @@
 use Rattle.drv_core.specs.Run.{IfMake}
-use Rattle.drv_run.proofs.Behind.{can_after, executed, fits_after}
+use Rattle.drv_run.proofs.Following.{can_after, executed, fits_after}
 use Rattle.drv_run.proofs.executing.execute.Goals as goal
 use Rattle.drv_run.specs.Code.Making.{CanMake}
 use Rattle.drv_system.specs.Running.{run_of}

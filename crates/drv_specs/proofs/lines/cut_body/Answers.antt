@@ -11,16 +11,16 @@ use Rattle.std.proofs.lemmas.List.{append-nil}
 pub loop-line-preserved : goal.loop-line-preserved
 loop-line-preserved c =
     let rest = c.loop-line.invariant.rest ∙ c.in-Some.ensures.bytes in
-    let size : size_left c.loop-line.left ≡ length (newline ∷ c.in-Some.line.now) + size_left c.in-Some.behind = ap length c.in-Some.ensures.bytes ∙ length-append (newline ∷ c.in-Some.line.now) (bytes_from (text_left c.in-Some.behind)) in
+    let size : size_left c.loop-line.left ≡ length (newline ∷ c.in-Some.line.now) + size_left c.in-Some.following = ap length c.in-Some.ensures.bytes ∙ length-append (newline ∷ c.in-Some.line.now) (bytes_from (text_left c.in-Some.following)) in
     record {
-      body = body_size (bytes_from (text_left c.args.lines)) (bytes_from (text_left c.in-Some.behind)) c.in-Some.line.now c.loop-line.size (lines_left c.in-Some.behind) (lines_left c.args.lines) rest c.in-Some.ensures.full
+      body = body_size (bytes_from (text_left c.args.lines)) (bytes_from (text_left c.in-Some.following)) c.in-Some.line.now c.loop-line.size (lines_left c.in-Some.following) (lines_left c.args.lines) rest c.in-Some.ensures.full
           (ap (λ ls. take c.loop-line.size (bytes_from (text_left c.args.lines)) ++ flat_map (λ l. newline ∷ l) (body_lines ls)) (sym c.in-Some.ensures.lines) ∙ c.loop-line.invariant.body);
-      rest = body_rest (bytes_from (text_left c.args.lines)) (bytes_from (text_left c.in-Some.behind)) c.in-Some.line.now c.loop-line.size rest;
+      rest = body_rest (bytes_from (text_left c.args.lines)) (bytes_from (text_left c.in-Some.following)) c.in-Some.line.now c.loop-line.size rest;
       within = omega (arith, size, c.loop-line.invariant.within);
       lines =
           c.loop-line.invariant.lines ∙ ap (read_lines true c.loop-line.left.number) c.in-Some.ensures.lines
-          ∙ inside_next c.in-Some.line.now (lines_left c.in-Some.behind) c.loop-line.left.number c.in-Some.ensures.full
-          ∙ ap (λ n. read_lines true n (lines_left c.in-Some.behind)) (sym c.in-Some.ensures.number);
+          ∙ inside_next c.in-Some.line.now (lines_left c.in-Some.following) c.loop-line.left.number c.in-Some.ensures.full
+          ∙ ap (λ n. read_lines true n (lines_left c.in-Some.following)) (sym c.in-Some.ensures.number);
       room = omega (arith, size, c.in-Some.ensures.number, c.loop-line.invariant.room);
     }
 

@@ -1,9 +1,9 @@
 use Rattle.drv_words.proofs.Splitting.{split_is_onto}
-use Rattle.drv_words.specs.Code.Splitter.{behind, words_of}
+use Rattle.drv_words.specs.Code.Splitter.{following, words_of}
 use Rattle.std.proofs.Common.{◌∙◌, ap}
 use Rattle.drv_words.proofs.response.split_onto.Goals as goal
 
 pub returns : goal.returns
 returns c =
     split_is_onto c.args.text.now c.args.words.now c.in_ok-words.field-0
-    (c.in_ok-words.ensures ∙ ap (λ words. words_of (behind words) c.args.text.now) c.replace-others.ensures.value)
+    (c.in_ok-words.ensures ∙ ap (λ words. words_of (following words) c.args.text.now) c.replace-others.ensures.value)

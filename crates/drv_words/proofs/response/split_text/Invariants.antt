@@ -1,9 +1,9 @@
 use Rattle.std.proofs.Common.{◌≡◌, length}
-use Rattle.drv_words.specs.Code.Splitter.{behind, words_of}
+use Rattle.drv_words.specs.Code.Splitter.{following, words_of}
 use Rattle.drv_words.proofs.response.split_text.Given as goal
 
 abbrev pub decreases-loop-left : goal.decreases-loop-left
 decreases-loop-left l = length l.left
 
 abbrev pub invariant-loop-left : goal.invariant-loop-left
-invariant-loop-left l = words_of l.splitter l.left ≡ words_of (behind l.fn.words) l.text
+invariant-loop-left l = words_of l.splitter l.left ≡ words_of (following l.fn.words) l.text

@@ -8,8 +8,8 @@ use Rattle.std.proofs.Common.{◌+◌, ◌-◌, drop, get_or, length, take}
 
 pub returns-in_ok-taken-in-len1-up-clause-does : goal.returns-in_ok-taken-in-len1-up-clause-does
 returns-in_ok-taken-in-len1-up-clause-does c =
-    percent_takes (state c.args.w.now) (state c.run.new.w) c.args.n c.in_ok-taken-in-len1-up.taken c.args.behind.now c.requires.here c.in-len1-up.len_at_least (
+    percent_takes (state c.args.w.now) (state c.run.new.w) c.args.n c.in_ok-taken-in-len1-up.taken c.args.following.now c.requires.here c.in-len1-up.len_at_least (
       c.in_ok-taken-in-len1-up.ensures.does.0,
-      turn_takes (at_stage (at.List (stages.Percent c.args.n)) (state c.args.w.now)) (state c.percent.new.w) (state c.run.new.w) (c.args.n + 1) (get_or c.args.behind.now 0 0) c.in_ok-taken-in-len1-up.taken
-          (take (length c.args.behind.now - 1) (drop 1 c.args.behind.now)) c.in_ok-percent-in-len1-up.ensures.does c.in_ok-taken-in-len1-up.ensures.does.1,
+      turn_takes (at_stage (at.List (stages.Percent c.args.n)) (state c.args.w.now)) (state c.percent.new.w) (state c.run.new.w) (c.args.n + 1) (get_or c.args.following.now 0 0) c.in_ok-taken-in-len1-up.taken
+          (take (length c.args.following.now - 1) (drop 1 c.args.following.now)) c.in_ok-percent-in-len1-up.ensures.does c.in_ok-taken-in-len1-up.ensures.does.1,
     )

@@ -3,7 +3,7 @@ use Rattle.drv_core.proofs.Between.{between_owned, fate_at}
 use Rattle.drv_core.proofs.Courses.{FilledPlan}
 use Rattle.drv_core.proofs.Ends.{end_files}
 use Rattle.drv_core.proofs.Exact.{end_only, same_lane, whole_at}
-use Rattle.drv_core.proofs.ExactEnd.{after_is, after_owned, behind_sources, ran_story, source_after, tagged, tries, tries_are, tries_owned}
+use Rattle.drv_core.proofs.ExactEnd.{after_is, after_owned, following_sources, ran_story, source_after, tagged, tries, tries_are, tries_owned}
 use Rattle.drv_core.proofs.Fates.{fate_replays}
 use Rattle.drv_core.proofs.Lanes.{AllOwned, end_owned, open_owned, path_owned, story_owned, tag}
 use Rattle.drv_core.proofs.Linked.{Ending, Linking}
@@ -26,7 +26,7 @@ use Rattle.std.proofs.Common.{◌≡◌, ◌<◌, ◌∙◌, Bool, false, List, 
 -- After the sources no story goes on.
 
 -- the sources that ran, and blocks of the link and of the removals at the end
-pub record Behind (plan : Plan) (N : ℕ) (E : List RunEvent) : Type 0 where
+pub record Following (plan : Plan) (N : ℕ) (E : List RunEvent) : Type 0 where
   pub sources : List RunEvent
   pub ran : Ran plan.jobs N sources
   pub own : List Block
@@ -35,11 +35,11 @@ pub record Behind (plan : Plan) (N : ℕ) (E : List RunEvent) : Type 0 where
   pub last_owned : AllOwned (length plan.jobs) (tag (suc (length plan.jobs)) last)
   pub events : E ≡ sources ++ (events_of own ++ events_of last)
 
-pub none_goes_on : (plan : Plan) (N : ℕ) (E : List RunEvent) → FilledPlan plan → Behind plan N E → BetweenBlocks plan N E → ⊥
+pub none_goes_on : (plan : Plan) (N : ℕ) (E : List RunEvent) → FilledPlan plan → Following plan N E → BetweenBlocks plan N E → ⊥
 none_goes_on plan N E filled z b = clash (b.left b.some) b.some_left (sym (fate_at plan N E b b.some b.some_is).left_is ∙ ap left (sym ended))
   where
     told : events_of (of b.some b.blocks) ≡ events_of (story b.some (get_or plan.jobs b.some no_job) (get_or z.ran.run.answers b.some no_answers))
-    told = same_lane (length plan.jobs) b.some b.blocks (behind_sources plan N z.sources z.ran z.own z.last) (between_owned plan N E b) (after_owned plan N z.sources z.ran z.own z.last z.own_owned z.last_owned) (sym b.events ∙ z.events ∙ after_is plan N z.sources z.ran z.own z.last)
+    told = same_lane (length plan.jobs) b.some b.blocks (following_sources plan N z.sources z.ran z.own z.last) (between_owned plan N E b) (after_owned plan N z.sources z.ran z.own z.last z.own_owned z.last_owned) (sym b.events ∙ z.events ∙ after_is plan N z.sources z.ran z.own z.last)
         ∙ ap (λ l. events_of l) (source_after plan N z.sources z.ran z.own z.last b.some b.some_is ∙ ran_story plan N z.sources z.ran b.some b.some_is)
 
     ended : Ended ≡ (fate_at plan N E b b.some b.some_is).t
@@ -47,7 +47,7 @@ none_goes_on plan N E filled z b = clash (b.left b.some) b.some_left (sym (fate_
         (story_replays b.some (get_or plan.jobs b.some no_job) (get_or z.ran.run.answers b.some no_answers) (filled.jobs b.some) (whole_at plan.jobs z.ran.run.answers z.ran.run.all b.some b.some_is))
         (subst (λ F. Replays b.some (get_or plan.jobs b.some no_job) (begin (get_or plan.jobs b.some no_job)) F (fate_at plan N E b b.some b.some_is).t) told (fate_replays b.some (get_or plan.jobs b.some no_job) (of b.some b.blocks) (b.left b.some) (b.waits b.some) (filled.jobs b.some) (fate_at plan N E b b.some b.some_is)))
 
-pub after_linking : (plan : Plan) (N most : ℕ) (job : Job) (s : Stage) (E : List RunEvent) → Linking plan N most job s E → Behind plan N E
+pub after_linking : (plan : Plan) (N most : ℕ) (job : Job) (s : Stage) (E : List RunEvent) → Linking plan N most job s E → Following plan N E
 after_linking plan N most job s E k = record {
   sources = k.sources;
   ran = k.ran;
@@ -59,7 +59,7 @@ after_linking plan N most job s E k = record {
       ∙ sym (append-nil (events_of (k.alone.blocks ++ open_of (length plan.jobs) job s ∷ []))));
 }
 
-after_last : (plan : Plan) (N i : ℕ) (failed : Bool) (E : List RunEvent) (e : Ending plan N i failed E) → AllOwned (length plan.jobs) (tag (suc (length plan.jobs)) (end_removals (end_files plan N i failed E e) e.removing.rs ++ tries (end_files plan N i failed E e) i failed)) → Behind plan N E
+after_last : (plan : Plan) (N i : ℕ) (failed : Bool) (E : List RunEvent) (e : Ending plan N i failed E) → AllOwned (length plan.jobs) (tag (suc (length plan.jobs)) (end_removals (end_files plan N i failed E e) e.removing.rs ++ tries (end_files plan N i failed E e) i failed)) → Following plan N E
 after_last plan N i failed E e owned = record {
   sources = e.sources;
   ran = e.ran;
@@ -70,9 +70,9 @@ after_last plan N i failed E e owned = record {
   events = e.split ∙ ap (λ l. e.sources ++ (l ++ e.last)) e.link.events ∙ ap (λ l. e.sources ++ (events_of (story (length plan.jobs) (link_run plan.link e.ran.run.answers) e.link.a) ++ l)) (e.removing.events ∙ tries_are (end_files plan N i failed E e) e.removing.rs i failed);
 }
 
-pub after_ending : (plan : Plan) (N i : ℕ) (failed : Bool) (E : List RunEvent) (e : Ending plan N i failed E) → i < length (end_files plan N i failed E e) → Behind plan N E
+pub after_ending : (plan : Plan) (N i : ℕ) (failed : Bool) (E : List RunEvent) (e : Ending plan N i failed E) → i < length (end_files plan N i failed E e) → Following plan N E
 after_ending plan N i failed E e lt = after_last plan N i failed E e (tries_owned (length plan.jobs) (end_files plan N i failed E e) e.removing.rs i failed (end_only plan (answers e.ran.run.answers e.link.a [])) lt)
 
-pub after_done : (plan : Plan) (N i : ℕ) (E : List RunEvent) → Ending plan N i false E → Behind plan N E
+pub after_done : (plan : Plan) (N i : ℕ) (E : List RunEvent) → Ending plan N i false E → Following plan N E
 after_done plan N i E e = after_last plan N i false E e (subst (λ bs. AllOwned (length plan.jobs) (tag (suc (length plan.jobs)) bs)) (sym (append-nil (end_removals (end_files plan N i false E e) e.removing.rs)))
     (end_owned (length plan.jobs) (end_files plan N i false E e) e.removing.rs (end_only plan (answers e.ran.run.answers e.link.a []))))
