@@ -2,44 +2,21 @@ use Rattle.drv_cc.specs.Items.{is_among, same}
 use Rattle.drv_cc.specs.Kept.{has, is_file_part, last_argument}
 use Rattle.drv_cc.specs.Table.{texts}
 use Rattle.drv_cc.specs.declared.item.Item.{Item}
-use Rattle.drv_words.specs.Bytes.{period, slash}
+use Rattle.drv_words.specs.Bytes.{period}
+use Rattle.drv_words.specs.FileNames.{base, parted, stem}
 use Rattle.std.specs.List.{filter}
-use Rattle.std.specs.Prelude.{◌==◌, ◌&&◌, ◌||◌, Bool, List, [], ◌∷◌, ◌++◌, ◌-◌, None, Option, Some, codes, drop, false, if◌then◌else◌, length, map, nat_lt, not, take, true, ℕ}
+use Rattle.std.specs.Prelude.{◌&&◌, ◌||◌, Bool, List, [], ◌∷◌, ◌++◌, ◌-◌, None, Option, Some, codes, drop, false, if◌then◌else◌, length, map, nat_lt, not, take, true, ℕ}
 
 -- The names of side files (GCC manual, "Overall Options", -dumpdir, -dumpbase; "Preprocessor Options", -MD; "Developer Options",
 -- -save-temps).
 
 -- Parts of a name.
 
--- the bytes before the last one of a kind, and those after it, if there is one
-abbrev pub parted : ℕ → List ℕ → Option (List ℕ × List ℕ)
-parted mark [] = None
-parted mark (b ∷ bs) = by (parted mark bs)
-  where
-    by : Option (List ℕ × List ℕ) → Option (List ℕ × List ℕ)
-    by (Some parts) = Some (b ∷ parts.0, parts.1)
-    by None = if b == mark then Some ([], bs) else None
-
--- what stands after the last slash of a name, and its folder with that slash
-abbrev pub base : List ℕ → List ℕ
-base name = by (parted slash name)
-  where
-    by : Option (List ℕ × List ℕ) → List ℕ
-    by None = name
-    by (Some parts) = parts.1
-
+-- a name's folder with its slash
 abbrev pub folder : List ℕ → List ℕ
 folder name = take (length name - length (base name)) name
 
--- what stands before the last period of a base name, where that doesn't count in first place, and the suffix with its period
-abbrev pub stem : List ℕ → List ℕ
-stem name = by (parted period (base name))
-  where
-    by : Option (List ℕ × List ℕ) → List ℕ
-    by None = base name
-    by (Some ([], rest)) = base name
-    by (Some (b ∷ bs, rest)) = b ∷ bs
-
+-- its last suffix with the period, which doesn't count in first place
 abbrev pub suffix : List ℕ → List ℕ
 suffix name = drop (length (stem name)) (base name)
 

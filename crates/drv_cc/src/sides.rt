@@ -14,10 +14,10 @@ ghost use Rattle.std.specs.Prelude.{◌≡◌, ◌∷◌, ◌++◌, [], IfOk, On
 use crate::classes::is;
 use crate::item::Item;
 use crate::keeping::{has, last_argument};
-use crate::names::{base, folder, parted, stem, suffix};
+use crate::names::{folder, suffix};
 use crate::sources::{Kinds, has_source, only_file, only_source};
 use crate::words::{add_joined, add_parts};
-use drv_words::{Listing, Word};
+use drv_words::{Listing, Word, base, parted, stem};
 use std::alloc::{AllocError, Global};
 
 /// Whether the driver stops before the link.

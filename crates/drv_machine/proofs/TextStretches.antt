@@ -3,7 +3,7 @@ use Rattle.drv_funcs.specs.Functions.{function_of}
 use Rattle.drv_machine.specs.Atoms.{added, filed, places, start, arguments, atoms, brace_step, broken_word, call_step, called_step, choices_step, draw, draw_with, drawn_or_new, each_hit, emitted, file_step, first_true, has_value, input_name, item_step, items_step, leaf_step, levels_left, matching, name_step, named, named_file, noted, outputs_step, starts_file, switch_atoms, temp_step, tree_named, truth, turned, value_step, worked, words_of}
 use Rattle.drv_machine.specs.Context.{Context, Source, argument, names, site_of}
 use Rattle.drv_machine.specs.Cutting.{all_taken, argument_words, file_words, nothing_cut}
-use Rattle.drv_machine.specs.Names.{base, is_word, language_of, stem, suffix_of}
+use Rattle.drv_machine.specs.Names.{is_word, language_of, suffix_of}
 use Rattle.drv_machine.specs.Temps.{last_drawn, temp_name}
 use Rattle.drv_funcs.specs.Outcome as outcomes
 use Rattle.drv_machine.specs.Cuts.{Balanced, Bare, Enclosed, Failure, File, Filed, Stretch, Stretched, bounds_file, is_broken, open_after, open_following, stretch_atoms}
@@ -25,6 +25,7 @@ use Rattle.drv_syntax.specs.declared.token.TempKind.{TempKind}
 use Rattle.drv_system.specs.Facts.{Facts}
 use Rattle.drv_system.specs.Known.{Is, Unasked}
 use Rattle.drv_words.specs.Bytes.{at_sign, hyphen, percent}
+use Rattle.drv_words.specs.FileNames.{base, stem}
 use Rattle.drv_words.specs.Response.{response_text}
 use Rattle.std.proofs.Common.{◌≡◌, ◌∙◌, ◌++◌, ◌||◌, Bool, List, [], ◌∷◌, None, Err, Ok, Option, Some, ap, append-nil, false, map, refl, subst, suc, sym, true, zero, ℕ}
 use Rattle.std.proofs.lemmas.Grind.{flat_map-append}

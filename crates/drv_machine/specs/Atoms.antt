@@ -4,8 +4,8 @@ use Rattle.drv_funcs.specs.declared.function.Function.{Function as Func}
 use Rattle.drv_machine.specs.Context.{Context, Source, argument, names, site_of, text_named}
 use Rattle.drv_machine.specs.Cutting.{all_taken, argument_words, file_words, nothing_cut}
 use Rattle.drv_machine.specs.Temps.{last_drawn, temp_name}
-use Rattle.drv_machine.specs.Names.{base, is_word, language_of, stem, suffix_of}
-use Rattle.drv_machine.specs.Working.{◌>>-◌, ◌>>=◌, ◌>>◌, Atom, Break, End, FileFrom, FileTo, From, Goes, Levels, Marked, Piped, Put, Refuses, Step, To, Waits, Without, Worked, World, behind, bytes, called, change, counted, give, is_among, known, look, most_open, needs, nothing, opened, puts, refuse, word_of, words}
+use Rattle.drv_machine.specs.Names.{is_word, language_of, suffix_of}
+use Rattle.drv_machine.specs.Working.{◌>>-◌, ◌>>=◌, ◌>>◌, Atom, Break, End, FileFrom, FileTo, From, Goes, Levels, Marked, Piped, Put, Refuses, Step, To, Waits, Without, Worked, World, following, bytes, called, change, counted, give, is_among, known, look, most_open, needs, nothing, opened, puts, refuse, word_of, words}
 use Rattle.drv_machine.specs.declared.fault.MachineFault.TheVariants as fault
 use Rattle.drv_machine.specs.declared.fault.MachineFault.TheVariants.{NoInput, NotInLink}
 use Rattle.drv_machine.specs.declared.machine.marking.Mark.TheVariants.{AsFile, AsOutput, AsRemoved, AsScript}
@@ -25,6 +25,7 @@ use Rattle.drv_syntax.specs.declared.token.Leaf.{Leaf}
 use Rattle.drv_system.specs.Facts.{Facts}
 use Rattle.drv_system.specs.Known.{Is, Unasked}
 use Rattle.drv_words.specs.Bytes.{at_sign, hyphen, percent}
+use Rattle.drv_words.specs.FileNames.{base, stem}
 use Rattle.drv_words.specs.Response.{response_text}
 use Rattle.std.specs.List.{filter, flat_map, list_any, range_with_len}
 use Rattle.std.specs.Option.{unwrap_or}

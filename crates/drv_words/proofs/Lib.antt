@@ -1,3 +1,4 @@
+pub mod LastOfAKind
 pub mod ReadBack
 pub mod Responding
 pub mod Runs

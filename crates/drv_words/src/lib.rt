@@ -2,6 +2,7 @@
 #![tactic(auto)]
 
 mod answers;
+mod file_names;
 mod line_end;
 mod listing;
 mod plan;
@@ -13,6 +14,7 @@ mod steps;
 mod word;
 
 pub use answers::{Answer, ClaimAnswer, NotStarted, RemoveAnswer, StartAnswer, WaitAnswer};
+pub use file_names::{base, parted, stem, suffixed};
 pub use listing::Listing;
 pub use plan::{Command, Group, Job, Plan, PlanLine, Temp};
 pub use printing::{plan_lines, render, render_plan};

@@ -1,4 +1,4 @@
-use Rattle.drv_cc.specs.SideFiles.{parted}
+use Rattle.drv_words.specs.FileNames.{parted}
 use Rattle.std.proofs.Common.{append-nil, arith, ◌≡◌, ◌∙◌, ◌++◌, ◌==◌, ◌+◌, ◌-◌, ◌<◌, ◌≤◌, ◌≢◌, Bool, List, [], ◌∷◌, None, Some, ap, drop, eqb-true, false, get_or, length, refl, suc, sym, take, true, ℕ}
 use Rattle.std.proofs.lemmas.Bool.Decides.{nat_tests}
 use Rattle.std.proofs.lemmas.List.{drop_more, get_or-drop, length-drop, take-append-drop, take_all}
@@ -13,9 +13,9 @@ equal : (a b : ℕ) → a ≡ b → (a == b) ≡ true
 equal a b same = grind (arith, nat_tests)
 
 -- and whatever stands before
-parted_after : (mark : ℕ) (front name before behind : List ℕ) → parted mark name ≡ Some (before, behind) → parted mark (front ++ name) ≡ Some (front ++ before, behind)
-parted_after mark [] name before behind is = is
-parted_after mark (b ∷ front) name before behind is = rw (parted_after mark front name before behind is) refl
+parted_after : (mark : ℕ) (front name before following : List ℕ) → parted mark name ≡ Some (before, following) → parted mark (front ++ name) ≡ Some (front ++ before, following)
+parted_after mark [] name before following is = is
+parted_after mark (b ∷ front) name before following is = rw (parted_after mark front name before following is) refl
 
 -- it stands nowhere
 pub parted_nowhere : (mark : ℕ) (name : List ℕ) → ((k : ℕ) → k < length name → get_or name k 0 ≢ mark) → parted mark name ≡ None
@@ -37,7 +37,7 @@ parted_at mark i name within is none =
     ∙ sym (parted_after mark (take i name) (drop i name) [] (drop (i + 1) name) here)
     ∙ ap (parted mark) (take-append-drop i name)
 
--- behind this place it stands nowhere
-pub nowhere_behind : (mark i : ℕ) (name : List ℕ) → ((k : ℕ) → i + 1 ≤ k → k < length name → get_or name k 0 ≢ mark) → parted mark (drop (i + 1) name) ≡ None
-nowhere_behind mark i name none = parted_nowhere mark (drop (i + 1) name) (λ k within same.
+-- after this place it stands nowhere
+pub nowhere_after : (mark i : ℕ) (name : List ℕ) → ((k : ℕ) → i + 1 ≤ k → k < length name → get_or name k 0 ≢ mark) → parted mark (drop (i + 1) name) ≡ None
+nowhere_after mark i name none = parted_nowhere mark (drop (i + 1) name) (λ k within same.
     none (i + 1 + k) (omega arith) (omega (arith, within, length-drop (i + 1) name)) (sym (get_or-drop (i + 1) name k 0) ∙ same))

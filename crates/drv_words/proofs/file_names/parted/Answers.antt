@@ -1,0 +1,11 @@
+use Rattle.drv_words.proofs.LastOfAKind.{nowhere_after, parted_at, parted_nowhere}
+use Rattle.drv_words.proofs.file_names.parted.Goals as goal
+use Rattle.std.proofs.Common.{rules, sym}
+
+pub returns-in-Some : goal.returns-in-Some
+returns-in-Some c =
+    let name = c.args.name.now in
+    parted_at c.args.mark c.in-Some.at name (search rules) (search rules) (nowhere_after c.args.mark c.in-Some.at name (search rules))
+
+pub returns-in-None : goal.returns-in-None
+returns-in-None c = sym (parted_nowhere c.args.mark c.args.name.now (search rules))

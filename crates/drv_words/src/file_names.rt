@@ -1,0 +1,47 @@
+//! The parts of a file's name. No part takes memory.
+
+ghost use Rattle.drv_words.specs.FileNames.{base, parted, stem, suffixed};
+ghost use Rattle.std.specs.Option.{option_map};
+ghost use Rattle.std.specs.Prelude.{◌≡◌};
+
+/// The bytes before the last one of a kind, and those after it, if there is one.
+pub fn parted(mark: u8, name: &[u8]) -> Option<(&[u8], &[u8])>
+    ensures { option_map (λ parts. (parts.0.now, parts.1.now)) result ≡ parted mark name.now }
+{
+    match name.iter().rposition(|byte| *byte == mark) {
+        Some(at) => Some((&name[..at], &name[at + 1..])),
+        None => None,
+    }
+}
+
+/// A name without its folder: what stands after its last slash.
+pub fn base(name: &[u8]) -> &[u8]
+    ensures { result.now ≡ base name.now }
+{
+    match parted(b'/', name) {
+        Some((_, file)) => file,
+        None => name,
+    }
+}
+
+/// What stands before the last period of a name without its folder, and after it; a period in first
+/// place doesn't count.
+pub fn suffixed(name: &[u8]) -> Option<(&[u8], &[u8])>
+    ensures { option_map (λ parts. (parts.0.now, parts.1.now)) result ≡ suffixed name.now }
+{
+    let (stem, suffix) = parted(b'.', base(name))?;
+    if stem.is_empty() {
+        return None;
+    }
+    Some((stem, suffix))
+}
+
+/// A name without its folder and its suffix.
+pub fn stem(name: &[u8]) -> &[u8]
+    ensures { result.now ≡ stem name.now }
+{
+    match suffixed(name) {
+        Some((stem, _)) => stem,
+        None => base(name),
+    }
+}
