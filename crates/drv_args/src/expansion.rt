@@ -3,12 +3,13 @@
 ghost use Rattle.drv_args.specs.Expansion.{Expands, file_named};
 ghost use Rattle.drv_args.specs.Code.Replacing.{IsPut, IsReplaced};
 ghost use Rattle.drv_system.specs.Asking.{Asks, Extends};
+ghost use Rattle.drv_system.specs.Code.Asked.{Asked};
 ghost use Rattle.drv_system.specs.Facts.{Facts};
 ghost use Rattle.std.specs.List.{list_any};
 ghost use Rattle.std.specs.Prelude.{◌≡◌, ◌++◌, IfOk, OnOk, drop, is_some, reverse, take};
 
 use crate::{ArgsFault, Expanded};
-use drv_system::{FactTable, ReadAnswer, System};
+use drv_system::{FactTable, Outside, ReadAnswer, System};
 use drv_words::{Listing, Word, split_onto};
 use std::alloc::{AllocError, Global};
 
@@ -26,24 +27,23 @@ fn named_file(alloc: Global, word: &Word) -> Result<Option<Word>, AllocError>
 }
 
 /// Replaces a word by those of the response file that it names, if that can be read: they are put
-/// behind the words that stay. Where the first of them stands there.
-#[tactic(auto, using(drv_system::proofs::Asking::asks_then))]
+/// after the words that stay. Where the first of them stands there.
+#[tactic(auto, using(drv_system::proofs::AskedCalls::asked_further))]
 fn replace_word<S: System>(
     alloc: Global,
     word: &Word,
-    sys: &mut S,
-    facts: &mut FactTable,
+    outside: &mut Outside<'_, S>,
     words: &mut Listing<Word>,
 ) -> Result<Option<usize>, ArgsFault>
-    ensures asks { Asks (S.events sys.old) (S.events sys.new) facts.old facts.new }
-    ensures replaces { (F : Facts) → Extends facts.new F
+    ensures asks { Asked S.events outside.old outside.new }
+    ensures replaces { (F : Facts) → Extends outside.new.facts.now F
         → IsReplaced F word.now words.old words.new result }
 {
     let Some(path) = named_file(alloc, word)? else {
         return Ok(None);
     };
-    facts.read(sys, &path)?;
-    match facts.read_answer(&path) {
+    outside.facts.read(outside.sys, &path)?;
+    match outside.facts.read_answer(&path) {
         ReadAnswer::Read(text) => {
             let start = words.len();
             split_onto(alloc, words, text.as_bytes())?;
@@ -105,22 +105,21 @@ fn put_words(
 }
 
 /// Replaces each argument that names a file.
-#[tactic(auto, using(drv_system::proofs::Asking::asks_then))]
+#[tactic(auto, using(drv_system::proofs::AskedCalls::asked_further))]
 fn expand_all<S: System>(
     alloc: Global,
     args: Listing<Word>,
-    sys: &mut S,
-    facts: &mut FactTable,
+    outside: &mut Outside<'_, S>,
 ) -> Result<Expanded, ArgsFault>
-    ensures asks { Asks (S.events sys.old) (S.events sys.new) facts.old facts.new }
-    ensures expands { (F : Facts) → Extends facts.new F → Expands F 2000 args result }
+    ensures asks { Asked S.events outside.old outside.new }
+    ensures expands { (F : Facts) → Extends outside.new.facts.now F → Expands F 2000 args result }
 {
     let mut stack = args.into_vec();
     stack.reverse();
     let mut words = Listing::new(alloc);
     let mut left = MOST_FILES;
     while let Some(word) = stack.pop() {
-        match replace_word(alloc, &word, sys, facts, &mut words)? {
+        match replace_word(alloc, &word, outside, &mut words)? {
             None => words.push(word)?,
             Some(_) if left == 0 => return Err(ArgsFault::TooManyFiles),
             Some(start) => {
@@ -151,7 +150,7 @@ pub fn expand<S: System>(
     ensures expands { (F : Facts) → Extends facts.new F → Expands F 2000 args result }
 {
     if name_files(args.as_slice()) {
-        return expand_all(alloc, args, sys, facts);
+        return expand_all(alloc, args, &mut Outside { sys, facts });
     }
     Ok(Expanded {
         words: args,

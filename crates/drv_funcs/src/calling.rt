@@ -2,6 +2,7 @@
 
 ghost use Rattle.drv_funcs.specs.Outcome.{called};
 ghost use Rattle.drv_system.specs.Asking.{Asks, Extends};
+ghost use Rattle.drv_system.specs.Code.Asked.{Asked};
 ghost use Rattle.drv_system.specs.Facts.{Facts};
 ghost use Rattle.drv_system.specs.Gives.{GivesKnown};
 ghost use Rattle.std.specs.Prelude.{◌≡◌, OnErr, length};
@@ -11,7 +12,7 @@ use crate::existing::{getenv, if_exists, if_exists_else, if_exists_then_else};
 use crate::outputs::{remove_outfile, replace_outfile};
 use crate::{FuncsFault, Function, Site};
 use drv_match::{Hidden, Switches};
-use drv_system::{FactTable, System};
+use drv_system::{FactTable, Outside, System};
 use drv_words::{Listing, Word};
 use std::alloc::Global;
 
@@ -42,11 +43,12 @@ pub fn call<S: System>(
         (called F switches.now hidden.now site function args.now outputs.old) }
     ensures err { OnErr result (outputs.new ≡ outputs.old) }
 {
+    let outside = &mut Outside { sys, facts };
     match function {
-        Function::Getenv => getenv(args, sys, facts),
-        Function::IfExists => if_exists(args, sys, facts),
-        Function::IfExistsElse => if_exists_else(args, sys, facts),
-        Function::IfExistsThenElse => if_exists_then_else(args, sys, facts),
+        Function::Getenv => getenv(args, outside),
+        Function::IfExists => if_exists(args, outside),
+        Function::IfExistsElse => if_exists_else(args, outside),
+        Function::IfExistsThenElse => if_exists_then_else(args, outside),
         Function::ReplaceOutfile => {
             replace_outfile(alloc, args, site, outputs)?;
             Ok(None)

@@ -3,30 +3,30 @@
 ghost use Rattle.drv_funcs.specs.Outcome.{exists, getenv, if_exists, if_exists_else};
 ghost use Rattle.drv_funcs.specs.Outcome.{if_exists_then_else, is_missing};
 ghost use Rattle.drv_funcs.specs.Code.Telling.{Tells};
-ghost use Rattle.drv_system.specs.Asking.{Asks, Extends};
+ghost use Rattle.drv_system.specs.Asking.{Extends};
+ghost use Rattle.drv_system.specs.Code.Asked.{Asked};
 ghost use Rattle.drv_system.specs.Facts.{Facts};
 ghost use Rattle.drv_system.specs.Known.{Is};
 ghost use Rattle.std.specs.Prelude.{◌≡◌, IfOk};
 
 use crate::{FuncsFault, Function};
-use drv_system::{FactTable, PathKind, System};
+use drv_system::{Outside, PathKind, System};
 use drv_words::Word;
 use std::alloc::AllocError;
 
 /// The value of the variable that the first argument names, and the second argument after it.
 pub fn getenv<S: System>(
     args: &[Word],
-    sys: &mut S,
-    facts: &mut FactTable,
+    outside: &mut Outside<'_, S>,
 ) -> Result<Option<Word>, FuncsFault>
-    ensures asks { Asks (S.events sys.old) (S.events sys.new) facts.old facts.new }
-    ensures gives { Tells facts.new result (λ F. getenv F args.now) }
+    ensures asks { Asked S.events outside.old outside.new }
+    ensures gives { Tells outside.new result (λ F. getenv F args.now) }
 {
     let [name, string] = args else {
         return Err(FuncsFault::WrongCount(Function::Getenv));
     };
-    facts.variable(sys, name)?;
-    match facts.variable_answer(name) {
+    outside.facts.variable(outside.sys, name)?;
+    match outside.facts.variable_answer(name) {
         Some(value) => {
             let mut word = value.clone()?;
             word.extend_from_slice(string.as_bytes())?;
@@ -39,16 +39,15 @@ pub fn getenv<S: System>(
 /// The path, if it is there.
 pub fn if_exists<S: System>(
     args: &[Word],
-    sys: &mut S,
-    facts: &mut FactTable,
+    outside: &mut Outside<'_, S>,
 ) -> Result<Option<Word>, FuncsFault>
-    ensures asks { Asks (S.events sys.old) (S.events sys.new) facts.old facts.new }
-    ensures gives { Tells facts.new result (λ F. if_exists F args.now) }
+    ensures asks { Asked S.events outside.old outside.new }
+    ensures gives { Tells outside.new result (λ F. if_exists F args.now) }
 {
     let [path] = args else {
         return Err(FuncsFault::WrongCount(Function::IfExists));
     };
-    if exists(path, sys, facts)? {
+    if exists(path, outside)? {
         return Ok(Some(path.clone()?));
     }
     Ok(None)
@@ -57,16 +56,15 @@ pub fn if_exists<S: System>(
 /// The path, if it is there, or else the other word.
 pub fn if_exists_else<S: System>(
     args: &[Word],
-    sys: &mut S,
-    facts: &mut FactTable,
+    outside: &mut Outside<'_, S>,
 ) -> Result<Option<Word>, FuncsFault>
-    ensures asks { Asks (S.events sys.old) (S.events sys.new) facts.old facts.new }
-    ensures gives { Tells facts.new result (λ F. if_exists_else F args.now) }
+    ensures asks { Asked S.events outside.old outside.new }
+    ensures gives { Tells outside.new result (λ F. if_exists_else F args.now) }
 {
     let [path, other] = args else {
         return Err(FuncsFault::WrongCount(Function::IfExistsElse));
     };
-    if exists(path, sys, facts)? {
+    if exists(path, outside)? {
         return Ok(Some(path.clone()?));
     }
     Ok(Some(other.clone()?))
@@ -75,21 +73,20 @@ pub fn if_exists_else<S: System>(
 /// One word if the path is there, else another one, or nothing.
 pub fn if_exists_then_else<S: System>(
     args: &[Word],
-    sys: &mut S,
-    facts: &mut FactTable,
+    outside: &mut Outside<'_, S>,
 ) -> Result<Option<Word>, FuncsFault>
-    ensures asks { Asks (S.events sys.old) (S.events sys.new) facts.old facts.new }
-    ensures gives { Tells facts.new result (λ F. if_exists_then_else F args.now) }
+    ensures asks { Asked S.events outside.old outside.new }
+    ensures gives { Tells outside.new result (λ F. if_exists_then_else F args.now) }
 {
     match args {
         [path, first] => {
-            if exists(path, sys, facts)? {
+            if exists(path, outside)? {
                 return Ok(Some(first.clone()?));
             }
             Ok(None)
         }
         [path, first, second] => {
-            if exists(path, sys, facts)? {
+            if exists(path, outside)? {
                 return Ok(Some(first.clone()?));
             }
             Ok(Some(second.clone()?))
@@ -99,15 +96,15 @@ pub fn if_exists_then_else<S: System>(
 }
 
 /// Whether a path begins with a slash and something has it.
-fn exists<S: System>(path: &Word, sys: &mut S, facts: &mut FactTable) -> Result<bool, AllocError>
-    ensures asks { Asks (S.events sys.old) (S.events sys.new) facts.old facts.new }
-    ensures tells { (F : Facts) → Extends facts.new F
+fn exists<S: System>(path: &Word, outside: &mut Outside<'_, S>) -> Result<bool, AllocError>
+    ensures asks { Asked S.events outside.old outside.new }
+    ensures tells { (F : Facts) → Extends outside.new.facts.now F
         → IfOk result (λ there. exists F path.now ≡ Is there) }
 {
     if !path.as_bytes().starts_with(b"/") {
         return Ok(false);
     }
-    let kind = facts.kind(sys, path)?;
+    let kind = outside.facts.kind(outside.sys, path)?;
     Ok(!is_missing(kind))
 }
 

@@ -1,5 +1,4 @@
 pub mod Arguments
-pub mod AskedCalls
 pub mod ChoiceSteps
 pub mod ChoiceTurns
 pub mod CutFailures
@@ -31,7 +30,6 @@ pub mod NamedTexts
 pub mod Onward
 pub mod Opened
 pub mod Outputs
-pub mod Parts
 pub mod Rows
 pub mod Runs
 pub mod Settling

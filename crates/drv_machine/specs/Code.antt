@@ -1,5 +1,4 @@
 -- How the code goes over its input, step by step: what stands between the code and the definitions. No public contract rests on these.
-pub mod Asked
 pub mod ByKind
 pub mod Grouping
 pub mod Held

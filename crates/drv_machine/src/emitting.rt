@@ -1,6 +1,6 @@
 //! Switches put as they stand on the line.
 
-ghost use Rattle.drv_machine.specs.Code.Asked.{Asked};
+ghost use Rattle.drv_system.specs.Code.Asked.{Asked};
 ghost use Rattle.drv_machine.specs.Atoms.{emitted, matching};
 ghost use Rattle.drv_machine.specs.Code.ByKind.{put_at};
 ghost use Rattle.drv_machine.specs.Code.Running.{run};
@@ -14,12 +14,11 @@ ghost use Rattle.drv_system.specs.Gives.{GivesKnown};
 ghost use Rattle.std.specs.Prelude.{◌≡◌, ◌<◌, All, IfOk, List, OnOk, length, map};
 
 use crate::machine::Machine;
-use crate::outside::Outside;
 use crate::places::{pattern_at, token_at};
 use crate::{Context, MachineFault};
 use drv_match::Pattern;
 use drv_syntax::SpecTree;
-use drv_system::System;
+use drv_system::{Outside, System};
 use drv_words::Listing;
 use std::alloc::{AllocError, Global};
 
@@ -99,7 +98,7 @@ fn put_all<S: System>(
 }
 
 /// Puts each switch that one of the patterns hits which stand from one place up to another.
-#[tactic(auto, using(crate::proofs::AskedCalls::asked_none))]
+#[tactic(auto, using(drv_system::proofs::AskedCalls::asked_none))]
 pub(crate) fn emit<S: System>(
     text: &SpecTree,
     context: &Context<'_>,

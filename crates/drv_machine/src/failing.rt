@@ -1,6 +1,6 @@
 //! `%W{..}`: its last word is a failure file.
 
-ghost use Rattle.drv_machine.specs.Code.Asked.{Asked};
+ghost use Rattle.drv_system.specs.Code.Asked.{Asked};
 ghost use Rattle.drv_machine.specs.Atoms.{brace_step, item_step};
 ghost use Rattle.drv_machine.specs.Context as specs;
 ghost use Rattle.drv_machine.specs.Code.Running as running;
@@ -16,12 +16,11 @@ ghost use Rattle.std.specs.Prelude.{◌≡◌, IsFalse, IsTrue, List, OnOk, leng
 use crate::braces::choose;
 use crate::emitting::emit;
 use crate::machine::Machine;
-use crate::outside::Outside;
 use crate::places::token_at;
 use crate::walk::{Frame, Opened, Walk};
 use crate::{Context, MachineFault};
 use drv_syntax::{SpecTree, TokenKind};
-use drv_system::System;
+use drv_system::{Outside, System};
 
 /// Whether patterns stand from one place up to another, and no alternatives.
 fn has_patterns(text: &SpecTree, start: usize, end: usize) -> bool
@@ -41,7 +40,7 @@ fn has_patterns(text: &SpecTree, start: usize, end: usize) -> bool
 }
 
 /// What stands in braces from one place up to another is worked, or reached.
-#[tactic(auto, using(crate::proofs::AskedCalls::asked_none))]
+#[tactic(auto, using(drv_system::proofs::AskedCalls::asked_none))]
 pub(crate) fn work_brace<S: System>(
     text: &SpecTree,
     context: &Context<'_>,
@@ -96,7 +95,7 @@ fn open_failure(end: usize, walk: &mut Walk<'_>, machine: &mut Machine) -> Resul
 
 /// A `%W` is opened, and what stands in it from one place up to another is worked, or reached.
 #[inline(never)]
-#[tactic(auto, using(crate::proofs::AskedCalls::asked_none))]
+#[tactic(auto, using(drv_system::proofs::AskedCalls::asked_none))]
 pub(crate) fn work_failure<S: System>(
     text: &SpecTree,
     context: &Context<'_>,

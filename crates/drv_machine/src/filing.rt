@@ -1,6 +1,6 @@
 //! `%@{..}`: an open part, whose words go to a file where words of the line come from one.
 
-ghost use Rattle.drv_machine.specs.Code.Asked.{Asked};
+ghost use Rattle.drv_system.specs.Code.Asked.{Asked};
 ghost use Rattle.drv_machine.specs.Atoms.{brace_step, item_step, starts_file};
 ghost use Rattle.drv_machine.specs.Code.Running as running;
 ghost use Rattle.drv_machine.specs.Code.Standing.{Spans, Stands};
@@ -14,11 +14,10 @@ ghost use Rattle.std.specs.Prelude.{◌≡◌, ◌⊎◌, ◌<◌, ◌∷◌, �
 
 use crate::failing::work_brace;
 use crate::machine::Machine;
-use crate::outside::Outside;
 use crate::walk::{Frame, Opened, Walk};
 use crate::{Context, MachineFault};
 use drv_syntax::SpecTree;
-use drv_system::System;
+use drv_system::{Outside, System};
 
 /// Whether a `%@` makes a file here.
 fn starts_file(context: &Context<'_>, machine: &Machine) -> bool
@@ -60,7 +59,7 @@ fn open_part<'w>(opened: Opened<'w>, end: usize, walk: &mut Walk<'w>) -> Result<
 ///
 /// # Errors
 /// `SpecTooDeep` where 64 parts are open.
-#[tactic(auto, using(crate::proofs::AskedCalls::asked_none))]
+#[tactic(auto, using(drv_system::proofs::AskedCalls::asked_none))]
 fn open_filed<S: System>(
     end: usize,
     context: &Context<'_>,

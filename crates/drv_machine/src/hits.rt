@@ -1,6 +1,6 @@
 //! An X that is worked for each hit.
 
-ghost use Rattle.drv_machine.specs.Code.Asked.{Asked};
+ghost use Rattle.drv_system.specs.Code.Asked.{Asked};
 ghost use Rattle.drv_machine.specs.Atoms.{matching};
 ghost use Rattle.drv_machine.specs.Context as specs;
 ghost use Rattle.drv_machine.specs.Code.ByKind.{labelled};
@@ -18,13 +18,12 @@ ghost use Rattle.drv_system.specs.Facts.{Facts};
 ghost use Rattle.std.specs.Prelude.{◌≡◌, ◌+◌, ◌-◌, ◌<◌, ◌≤◌, IfSome, List, OnOk, length, ℕ};
 
 use crate::machine::Machine;
-use crate::outside::Outside;
 use crate::places::pattern_at;
 use crate::walk::{Each, Frame, Opened, Rest, Walk};
 use crate::{Context, MachineFault};
 use drv_match::Pattern;
 use drv_syntax::SpecTree;
-use drv_system::System;
+use drv_system::{Outside, System};
 
 /// The next switch from a place on that a pattern hits, if one does.
 fn next_hit(
@@ -100,7 +99,7 @@ pub(crate) fn enter_next(
 /// A working of an X for a hit ends: the switch's argument is put, and X is opened for the next
 /// one.
 #[inline(never)]
-#[tactic(auto, using(crate::proofs::AskedCalls::asked_further))]
+#[tactic(auto, using(drv_system::proofs::AskedCalls::asked_further))]
 pub(crate) fn close_hit<S: System>(
     text: &SpecTree,
     context: &Context<'_>,

@@ -1,6 +1,6 @@
 //! Items of a text that open no part.
 
-ghost use Rattle.drv_machine.specs.Code.Asked.{Asked};
+ghost use Rattle.drv_system.specs.Code.Asked.{Asked};
 ghost use Rattle.drv_machine.specs.Atoms.{input_name, leaf_step};
 ghost use Rattle.drv_machine.specs.Code.ByKind.{Means, hide_step, kind_step};
 ghost use Rattle.drv_machine.specs.Context as specs;
@@ -21,14 +21,12 @@ ghost use Rattle.std.specs.Prelude.{◌≡◌, ◌+◌, ◌<◌, Ok, OnOk, lengt
 
 use crate::emitting::emit;
 use crate::machine::{Machine, Mark};
-use crate::names::{base, stem};
-use crate::outside::Outside;
 use crate::places::pattern_at;
 use crate::walk::{Rest, star_of};
 use crate::{Context, MachineFault};
 use drv_syntax::{Leaf, SpecTree, Token, TokenKind};
-use drv_system::System;
-use drv_words::Word;
+use drv_system::{Outside, System};
+use drv_words::{Word, base, stem};
 use std::alloc::Global;
 
 /// The name of the input; the link has none.
@@ -65,7 +63,7 @@ fn user_error(alloc: Global, text: &[u8]) -> Result<(), MachineFault>
 }
 
 /// Works a directive that is whole with its byte.
-#[tactic(auto, using(crate::proofs::AskedCalls::asked_none))]
+#[tactic(auto, using(drv_system::proofs::AskedCalls::asked_none))]
 fn work_leaf<S: System>(
     leaf: Leaf,
     context: &Context<'_>,
@@ -117,7 +115,7 @@ fn work_leaf<S: System>(
 /// Works the item at a place, which is this token, and opens no part and has no alternatives;
 /// `star` is what `%*` stands for.
 #[inline(never)]
-#[tactic(auto, using(crate::proofs::AskedCalls::asked_none))]
+#[tactic(auto, using(drv_system::proofs::AskedCalls::asked_none))]
 pub(crate) fn work_item<S: System>(
     text: &SpecTree,
     context: &Context<'_>,

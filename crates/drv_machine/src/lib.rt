@@ -17,7 +17,6 @@ mod machine;
 mod named;
 mod names;
 mod outcome;
-mod outside;
 mod places;
 mod stack;
 mod turns;

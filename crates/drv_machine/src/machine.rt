@@ -1,6 +1,6 @@
 //! What working a text holds: what is cut so far, the hidden switches, and the count of items.
 
-ghost use Rattle.drv_machine.specs.Code.Asked.{Asked};
+ghost use Rattle.drv_system.specs.Code.Asked.{Asked};
 ghost use Rattle.drv_machine.specs.Atoms.{switch_atoms};
 ghost use Rattle.drv_machine.specs.Context as specs;
 ghost use Rattle.drv_machine.specs.Context.{argument, names};
@@ -26,11 +26,10 @@ mod marking;
 mod naming;
 mod whole_words;
 
-use crate::outside::Outside;
 use crate::{Context, MachineFault};
 pub(crate) use cutter::Cutter;
 use drv_match::{Hidden, Pattern, Switches};
-use drv_system::System;
+use drv_system::{Outside, System};
 use drv_words::{Listing, Word};
 pub(crate) use finishing::outcome_of;
 use indexed::IndexedWords;
@@ -299,7 +298,7 @@ impl Machine {
     }
 
     /// The open word and its command end; a command without a word is dropped.
-    #[tactic(auto, using(crate::proofs::AskedCalls::asked_further))]
+    #[tactic(auto, using(drv_system::proofs::AskedCalls::asked_further))]
     pub(crate) fn end_line<S: System>(
         &mut self,
         context: &Context<'_>,
@@ -318,7 +317,7 @@ impl Machine {
 
     /// The open word ends, and its command with a pipe. Whether pipes stand right is judged after
     /// the whole text.
-    #[tactic(auto, using(crate::proofs::AskedCalls::asked_further))]
+    #[tactic(auto, using(drv_system::proofs::AskedCalls::asked_further))]
     pub(crate) fn pipe<S: System>(
         &mut self,
         context: &Context<'_>,
@@ -363,7 +362,7 @@ impl Machine {
 
     /// The switch at a place as it stands on the line, its first `-` and its argument included; it
     /// ends the word that it stands in.
-    #[tactic(auto, using(crate::proofs::AskedCalls::asked_further))]
+    #[tactic(auto, using(drv_system::proofs::AskedCalls::asked_further))]
     pub(crate) fn put_switch<S: System>(
         &mut self,
         context: &Context<'_>,

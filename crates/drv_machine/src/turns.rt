@@ -1,6 +1,6 @@
 //! One turn works one item.
 
-ghost use Rattle.drv_machine.specs.Code.Asked.{Asked};
+ghost use Rattle.drv_system.specs.Code.Asked.{Asked};
 ghost use Rattle.drv_machine.specs.Atoms.{items_step, levels_left};
 ghost use Rattle.drv_machine.specs.Code.Running as running;
 ghost use Rattle.drv_machine.specs.Code.Running.{run};
@@ -24,12 +24,11 @@ use crate::hits::close_hit;
 use crate::items::work_item;
 use crate::machine::{Cutter, Machine};
 use crate::named::open_text;
-use crate::outside::Outside;
 use crate::places::token_at;
 use crate::walk::{Asking, Frame, Opened, Walk};
 use crate::{Context, MachineFault};
 use drv_syntax::{SpecTree, TokenKind};
-use drv_system::System;
+use drv_system::{Outside, System};
 
 /// The arguments of the function that a test asks end: the test is judged by what the function
 /// says. It is out of line, so that the end of other parts has no room for that.
@@ -67,7 +66,7 @@ fn close_test<S: System>(
 
 /// The innermost open part ends: what it was opened for is done, or done once more, in the part
 /// around it.
-#[tactic(auto, using(crate::proofs::AskedCalls::asked_none, crate::proofs::AskedCalls::asked_further))]
+#[tactic(auto, using(drv_system::proofs::AskedCalls::asked_none, drv_system::proofs::AskedCalls::asked_further))]
 fn close<'w, S: System>(
     context: &Context<'_>,
     frame: Frame<'w>,
@@ -168,7 +167,7 @@ fn settle<S: System>(
 }
 
 /// Works the item that is reached.
-#[tactic(auto, using(crate::proofs::AskedCalls::asked_none))]
+#[tactic(auto, using(drv_system::proofs::AskedCalls::asked_none))]
 fn turn<'w, S: System>(
     context: &'w Context<'_>,
     walk: &mut Walk<'w>,

@@ -1,6 +1,6 @@
 //! A spec text worked.
 
-ghost use Rattle.drv_machine.specs.Code.Asked.{Asked};
+ghost use Rattle.drv_system.specs.Code.Asked.{Asked};
 ghost use Rattle.drv_machine.specs.Atoms.{whole_text};
 ghost use Rattle.drv_machine.specs.Outcome.{finished, outcome};
 ghost use Rattle.drv_machine.specs.Code.Running.{run};
@@ -12,11 +12,10 @@ ghost use Rattle.drv_system.specs.Gives.{GivesKnown};
 ghost use Rattle.std.specs.Prelude.{◌≡◌, length};
 
 use crate::machine::{Machine, outcome_of};
-use crate::outside::Outside;
 use crate::turns::work_text;
 use crate::{Context, MachineFault, Outcome};
 use drv_syntax::SpecTree;
-use drv_system::{FactTable, System};
+use drv_system::{FactTable, Outside, System};
 use std::alloc::Global;
 
 /// Works the whole text, whose end ends its last command.

@@ -4,6 +4,7 @@ ghost use Rattle.drv_machine.specs.declared.fault.MachineFault.TheVariants as ma
 ghost use Rattle.drv_plan.specs.Denoted.{denoted, finished, plan_of, planned, then_by};
 ghost use Rattle.drv_plan.specs.Denoted.{with_command, with_inputs, with_link, with_text};
 ghost use Rattle.drv_system.specs.Asking.{Asks, Extends};
+ghost use Rattle.drv_system.specs.Code.Asked.{Asked};
 ghost use Rattle.drv_system.specs.Facts.{Facts};
 ghost use Rattle.drv_system.specs.Gives.{GivesKnown};
 ghost use Rattle.std.specs.Prelude.{◌≡◌, ◌==◌, ◌≢◌, IfErr, IfOk, Some, length};
@@ -17,7 +18,7 @@ use drv_machine::Context;
 use drv_search::Prefixes;
 use drv_specs::SpecSet;
 use drv_syntax::SpecTree;
-use drv_system::{FactTable, System};
+use drv_system::{FactTable, Outside, System};
 use drv_words::{Job, Listing, Plan, Word};
 use std::alloc::{AllocError, Global};
 use std::mem;
@@ -48,16 +49,15 @@ fn link_with<S: System>(
     alloc: Global,
     text: &SpecTree,
     progress: &mut Progress<'_>,
-    sys: &mut S,
-    facts: &mut FactTable,
+    outside: &mut Outside<'_, S>,
 ) -> Result<Option<Job>, PlanFault>
-    ensures asks { Asks (S.events sys.old) (S.events sys.new) facts.old facts.new }
-    ensures works { (F : Facts) → Extends facts.new F
+    ensures asks { Asked S.events outside.old outside.new }
+    ensures works { (F : Facts) → Extends outside.new.facts.now F
         → GivesKnown PlanFault.Memory (λ link. (link, progress.new)) result
         (with_text F (Some text.now) progress.old) }
     ensures apart { IfErr result (λ fault. fault ≢ PlanFault.Machine machine.Memory) }
 {
-    let job = progress.work_link(alloc, text, sys, facts)?;
+    let job = progress.work_link(alloc, text, outside)?;
     Ok(with_command(job))
 }
 
@@ -66,11 +66,10 @@ fn link_of<S: System>(
     alloc: Global,
     set: &SpecSet,
     progress: &mut Progress<'_>,
-    sys: &mut S,
-    facts: &mut FactTable,
+    outside: &mut Outside<'_, S>,
 ) -> Result<Option<Job>, PlanFault>
-    ensures asks { Asks (S.events sys.old) (S.events sys.new) facts.old facts.new }
-    ensures works { (F : Facts) → Extends facts.new F
+    ensures asks { Asked S.events outside.old outside.new }
+    ensures works { (F : Facts) → Extends outside.new.facts.now F
         → GivesKnown PlanFault.Memory (λ link. (link, progress.new)) result
         (with_link F set.now progress.old) }
     ensures apart { IfErr result (λ fault. fault ≢ PlanFault.Machine machine.Memory) }
@@ -79,7 +78,7 @@ fn link_of<S: System>(
         return Ok(None);
     }
     match set.tree(LINK_COMMAND) {
-        Some(text) => link_with(alloc, text, progress, sys, facts),
+        Some(text) => link_with(alloc, text, progress, outside),
         None => Ok(None),
     }
 }
@@ -105,36 +104,34 @@ fn finish<S: System>(
     alloc: Global,
     set: &SpecSet,
     progress: &mut Progress<'_>,
-    sys: &mut S,
-    facts: &mut FactTable,
+    outside: &mut Outside<'_, S>,
 ) -> Result<Plan, PlanFault>
-    ensures asks { Asks (S.events sys.old) (S.events sys.new) facts.old facts.new }
-    ensures works { (F : Facts) → Extends facts.new F
+    ensures asks { Asked S.events outside.old outside.new }
+    ensures works { (F : Facts) → Extends outside.new.facts.now F
         → GivesKnown PlanFault.Memory (λ plan. plan) result (finished F set.now progress.old) }
     ensures apart { IfErr result (λ fault. fault ≢ PlanFault.Machine machine.Memory) }
 {
-    let link = link_of(alloc, set, progress, sys, facts)?;
+    let link = link_of(alloc, set, progress, outside)?;
     Ok(plan_of(alloc, link, progress)?)
 }
 
 /// The plan of inputs, after what was worked before them.
-#[tactic(auto, using(drv_system::proofs::Asking::asks_then))]
+#[tactic(auto, using(drv_system::proofs::AskedCalls::asked_further))]
 fn plan_inputs<'a, S: System>(
     alloc: Global,
     set: &'a SpecSet,
     inputs: &'a [Input],
     progress: &mut Progress<'a>,
-    sys: &mut S,
-    facts: &mut FactTable,
+    outside: &mut Outside<'_, S>,
 ) -> Result<Plan, PlanFault>
-    ensures asks { Asks (S.events sys.old) (S.events sys.new) facts.old facts.new }
-    ensures works { (F : Facts) → Extends facts.new F
+    ensures asks { Asked S.events outside.old outside.new }
+    ensures works { (F : Facts) → Extends outside.new.facts.now F
         → GivesKnown PlanFault.Memory (λ plan. plan) result
         (then_by (with_inputs F set.now 0 inputs.now progress.old) (λ g. finished F set.now g)) }
     ensures apart { IfErr result (λ fault. fault ≢ PlanFault.Machine machine.Memory) }
 {
-    add_inputs(alloc, set, inputs, progress, sys, facts)?;
-    finish(alloc, set, progress, sys, facts)
+    add_inputs(alloc, set, inputs, progress, outside)?;
+    finish(alloc, set, progress, outside)
 }
 
 /// The plan of inputs, in this context.
@@ -143,17 +140,16 @@ fn planned<'a, S: System>(
     set: &'a SpecSet,
     inputs: &'a [Input],
     context: Context<'a>,
-    sys: &mut S,
-    facts: &mut FactTable,
+    outside: &mut Outside<'_, S>,
 ) -> Result<Plan, PlanFault>
-    ensures asks { Asks (S.events sys.old) (S.events sys.new) facts.old facts.new }
-    ensures works { (F : Facts) → Extends facts.new F
+    ensures asks { Asked S.events outside.old outside.new }
+    ensures works { (F : Facts) → Extends outside.new.facts.now F
         → GivesKnown PlanFault.Memory (λ plan. plan) result
         (planned F set.now inputs.now context.entry) }
     ensures apart { IfErr result (λ fault. fault ≢ PlanFault.Machine machine.Memory) }
 {
     let mut progress = Progress::new(alloc, context, inputs.len())?;
-    plan_inputs(alloc, set, inputs, &mut progress, sys, facts)
+    plan_inputs(alloc, set, inputs, &mut progress, outside)
 }
 
 /// The plan of a line over its specs: each source worked with the text of its language, in the
@@ -180,5 +176,11 @@ pub fn plan<S: System>(
 {
     let prefixes = Prefixes::new(alloc, line.settings.prefixes.as_slice(), sys, facts)?;
     let context = Context::new(alloc, line, set, &prefixes, seed)?;
-    planned(alloc, set, line.inputs.as_slice(), context, sys, facts)
+    planned(
+        alloc,
+        set,
+        line.inputs.as_slice(),
+        context,
+        &mut Outside { sys, facts },
+    )
 }

@@ -3,7 +3,8 @@
 ghost use Rattle.drv_machine.specs.declared.fault.MachineFault.TheVariants as machine;
 ghost use Rattle.drv_plan.specs.Denoted.{begun, after_job, after_object, after_text, after_word};
 ghost use Rattle.drv_plan.specs.Denoted.{for_link, of_source, output_list, with_source, worked};
-ghost use Rattle.drv_system.specs.Asking.{Asks, Extends};
+ghost use Rattle.drv_system.specs.Asking.{Extends};
+ghost use Rattle.drv_system.specs.Code.Asked.{Asked};
 ghost use Rattle.drv_system.specs.Facts.{Facts};
 ghost use Rattle.drv_system.specs.Gives.{GivesKnown};
 ghost use Rattle.std.specs.Prelude.{◌≡◌, ◌≢◌, ◌++◌, IfErr, IfOk, OnOk};
@@ -11,7 +12,7 @@ ghost use Rattle.std.specs.Prelude.{◌≡◌, ◌≢◌, ◌++◌, IfErr, IfOk,
 use crate::PlanFault;
 use drv_machine::{Context, Outcome, Source, run};
 use drv_syntax::SpecTree;
-use drv_system::{FactTable, System};
+use drv_system::{Outside, System};
 use drv_words::{Job, Listing, Word};
 use std::alloc::{AllocError, Global};
 use std::mem;
@@ -132,16 +133,15 @@ impl<'a> Progress<'a> {
         &mut self,
         alloc: Global,
         text: &SpecTree,
-        sys: &mut S,
-        facts: &mut FactTable,
+        outside: &mut Outside<'_, S>,
     ) -> Result<Job, PlanFault>
-        ensures asks { Asks (S.events sys.old) (S.events sys.new) facts.old facts.new }
-        ensures works { (F : Facts) → Extends facts.new F
+        ensures asks { Asked S.events outside.old outside.new }
+        ensures works { (F : Facts) → Extends outside.new.facts.now F
             → GivesKnown PlanFault.Memory (λ job. (job, self.new)) result
             (worked F text.now self.old) }
         ensures apart { IfErr result (λ fault. fault ≢ PlanFault.Machine machine.Memory) }
     {
-        let mut done = run(alloc, text, &self.context, sys, facts)?;
+        let mut done = run(alloc, text, &self.context, outside.sys, outside.facts)?;
         self.go_on(alloc, &mut done)?;
         Ok(into_job(done))
     }
@@ -156,17 +156,16 @@ impl<'a> Progress<'a> {
         place: usize,
         source: Source<'a>,
         text: &SpecTree,
-        sys: &mut S,
-        facts: &mut FactTable,
+        outside: &mut Outside<'_, S>,
     ) -> Result<(), PlanFault>
-        ensures asks { Asks (S.events sys.old) (S.events sys.new) facts.old facts.new }
-        ensures works { (F : Facts) → Extends facts.new F
+        ensures asks { Asked S.events outside.old outside.new }
+        ensures works { (F : Facts) → Extends outside.new.facts.now F
             → GivesKnown PlanFault.Memory (λ _. self.new) result
             (with_source F place source.entry text.now self.old) }
         ensures apart { IfErr result (λ fault. fault ≢ PlanFault.Machine machine.Memory) }
     {
         self.context.set_input(Some(source));
-        let job = self.work(alloc, text, sys, facts)?;
+        let job = self.work(alloc, text, outside)?;
         self.add_job(of_source(place, job))?;
         Ok(())
     }
@@ -179,11 +178,10 @@ impl<'a> Progress<'a> {
         &mut self,
         alloc: Global,
         text: &SpecTree,
-        sys: &mut S,
-        facts: &mut FactTable,
+        outside: &mut Outside<'_, S>,
     ) -> Result<Job, PlanFault>
-        ensures asks { Asks (S.events sys.old) (S.events sys.new) facts.old facts.new }
-        ensures works { (F : Facts) → Extends facts.new F
+        ensures asks { Asked S.events outside.old outside.new }
+        ensures works { (F : Facts) → Extends outside.new.facts.now F
             → GivesKnown PlanFault.Memory (λ job. (job, self.new)) result
             (worked F text.now (for_link self.old)) }
         ensures apart { IfErr result (λ fault. fault ≢ PlanFault.Machine machine.Memory) }
@@ -191,6 +189,6 @@ impl<'a> Progress<'a> {
         let outputs = mem::replace(&mut self.outputs, Listing::new(alloc));
         self.context.set_input(None);
         self.context.set_outputs(outputs);
-        self.work(alloc, text, sys, facts)
+        self.work(alloc, text, outside)
     }
 }

@@ -2,7 +2,8 @@
 
 ghost use Rattle.drv_machine.specs.declared.fault.MachineFault.TheVariants as machine;
 ghost use Rattle.drv_plan.specs.Denoted.{with_file, with_input, with_inputs};
-ghost use Rattle.drv_system.specs.Asking.{Asks, Extends};
+ghost use Rattle.drv_system.specs.Asking.{Extends};
+ghost use Rattle.drv_system.specs.Code.Asked.{Asked};
 ghost use Rattle.drv_system.specs.Facts.{Facts};
 ghost use Rattle.drv_system.specs.Gives.{GivesKnown};
 ghost use Rattle.std.specs.Prelude.{◌≡◌, ◌≢◌, IfErr, Ok};
@@ -13,7 +14,7 @@ use crate::progress::Progress;
 use drv_args::Input;
 use drv_machine::Source;
 use drv_specs::SpecSet;
-use drv_system::{FactTable, System};
+use drv_system::{Outside, System};
 use drv_words::Word;
 use std::alloc::Global;
 
@@ -34,11 +35,10 @@ fn add_file<'a, S: System>(
     name: &'a Word,
     chosen: Option<Chosen<'a>>,
     progress: &mut Progress<'a>,
-    sys: &mut S,
-    facts: &mut FactTable,
+    outside: &mut Outside<'_, S>,
 ) -> Result<(), PlanFault>
-    ensures asks { Asks (S.events sys.old) (S.events sys.new) facts.old facts.new }
-    ensures works { (F : Facts) → Extends facts.new F
+    ensures asks { Asked S.events outside.old outside.new }
+    ensures works { (F : Facts) → Extends outside.new.facts.now F
         → GivesKnown PlanFault.Memory (λ _. progress.new) result
         (with_file F place name.now (Ok chosen.entry) progress.old) }
     ensures apart { IfErr result (λ fault. fault ≢ PlanFault.Machine machine.Memory) }
@@ -48,7 +48,7 @@ fn add_file<'a, S: System>(
         return Ok(());
     };
     let source = source_of(name, &chosen);
-    progress.add_source(alloc, place, source, chosen.tree, sys, facts)
+    progress.add_source(alloc, place, source, chosen.tree, outside)
 }
 
 /// An input: a file in its language, or a word of the link, which has none.
@@ -58,18 +58,17 @@ fn add_input<'a, S: System>(
     place: usize,
     input: &'a Input,
     progress: &mut Progress<'a>,
-    sys: &mut S,
-    facts: &mut FactTable,
+    outside: &mut Outside<'_, S>,
 ) -> Result<(), PlanFault>
-    ensures asks { Asks (S.events sys.old) (S.events sys.new) facts.old facts.new }
-    ensures works { (F : Facts) → Extends facts.new F
+    ensures asks { Asked S.events outside.old outside.new }
+    ensures works { (F : Facts) → Extends outside.new.facts.now F
         → GivesKnown PlanFault.Memory (λ _. progress.new) result
         (with_input F set.now place input.now progress.old) }
     ensures apart { IfErr result (λ fault. fault ≢ PlanFault.Machine machine.Memory) }
 {
     let chosen = language(alloc, input, set)?;
     match input {
-        Input::File { name, .. } => add_file(alloc, place, name, chosen, progress, sys, facts),
+        Input::File { name, .. } => add_file(alloc, place, name, chosen, progress, outside),
         Input::Library(word) => {
             progress.add_word(word)?;
             Ok(())
@@ -86,23 +85,22 @@ fn add_input<'a, S: System>(
 /// # Errors
 /// The first refusal in the order of the inputs: of a file's language, or the machine's of its
 /// text.
-#[tactic(auto, using(drv_system::proofs::Asking::asks_then))]
+#[tactic(auto, using(drv_system::proofs::AskedCalls::asked_further))]
 pub(crate) fn add_inputs<'a, S: System>(
     alloc: Global,
     set: &'a SpecSet,
     inputs: &'a [Input],
     progress: &mut Progress<'a>,
-    sys: &mut S,
-    facts: &mut FactTable,
+    outside: &mut Outside<'_, S>,
 ) -> Result<(), PlanFault>
-    ensures asks { Asks (S.events sys.old) (S.events sys.new) facts.old facts.new }
-    ensures works { (F : Facts) → Extends facts.new F
+    ensures asks { Asked S.events outside.old outside.new }
+    ensures works { (F : Facts) → Extends outside.new.facts.now F
         → GivesKnown PlanFault.Memory (λ _. progress.new) result
         (with_inputs F set.now 0 inputs.now progress.old) }
     ensures apart { IfErr result (λ fault. fault ≢ PlanFault.Machine machine.Memory) }
 {
     for (place, input) in inputs.iter().enumerate() {
-        add_input(alloc, set, place, input, progress, sys, facts)?;
+        add_input(alloc, set, place, input, progress, outside)?;
     }
     Ok(())
 }

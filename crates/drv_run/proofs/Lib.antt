@@ -1,7 +1,7 @@
-pub mod Behind
 mod Choices
 pub mod Endings
 mod Files
+pub mod Following
 mod LineWords
 mod OneEnding
 mod Refusals

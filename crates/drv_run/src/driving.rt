@@ -13,7 +13,7 @@ use crate::ending::Ending;
 use crate::executing::execute;
 use crate::telling::{announce, say_plan, status_of};
 use crate::work::{Manner, Work};
-use drv_system::{FactTable, System};
+use drv_system::{FactTable, Outside, System};
 use drv_words::{Listing, Plan, Word};
 use std::alloc::{AllocError, Global};
 
@@ -88,8 +88,8 @@ pub fn drive<S: System>(alloc: Global, sys: &mut S, args: Listing<Word>, seed: u
     ensures drove { Drove (S.events sys.old) (S.events sys.new) args seed result }
     ensures apart { IsApart result }
 {
-    let mut facts = FactTable::new(alloc);
-    match work_of(alloc, args, seed, sys, &mut facts) {
+    let facts = &mut FactTable::new(alloc);
+    match work_of(alloc, args, seed, &mut Outside { sys, facts }) {
         Ok(work) => ending_of(alloc, sys, &work),
         Err(ending) => ending,
     }

@@ -4,7 +4,8 @@ ghost use Rattle.drv_c99.specs.declared.fault.C99Fault.TheVariants as c99_fault;
 ghost use Rattle.drv_run.specs.Drives.{IsApart, after_c99, fronted, is_c99};
 ghost use Rattle.drv_run.specs.Code.Fronting.{is_of_c99};
 ghost use Rattle.drv_run.specs.Code.Wording.{GivesWords};
-ghost use Rattle.drv_system.specs.Asking.{Asks, Extends};
+ghost use Rattle.drv_system.specs.Asking.{Extends};
+ghost use Rattle.drv_system.specs.Code.Asked.{Asked};
 ghost use Rattle.drv_system.specs.Facts.{Facts};
 ghost use Rattle.drv_words.specs.Gives.{Gives};
 ghost use Rattle.std.specs.Prelude.{◌≡◌, IfErr};
@@ -12,7 +13,7 @@ ghost use Rattle.std.specs.Prelude.{◌≡◌, IfErr};
 use crate::ending::Ending;
 use drv_args::{Expanded, expand};
 use drv_c99::C99Fault;
-use drv_system::{FactTable, System};
+use drv_system::{Outside, System};
 use drv_words::{Listing, Word};
 use std::alloc::Global;
 
@@ -67,19 +68,18 @@ fn fronted(alloc: Global, selected: Front, expanded: Expanded) -> Result<Expande
 ///
 /// # Errors
 /// The refusal of the response files, or of `c99`.
-#[tactic(auto, using(drv_system::proofs::Asking::asks_then))]
+#[tactic(auto, using(drv_system::proofs::AskedCalls::asked_further))]
 pub(crate) fn words_of<S: System>(
     alloc: Global,
     args: Listing<Word>,
-    sys: &mut S,
-    facts: &mut FactTable,
+    outside: &mut Outside<'_, S>,
 ) -> Result<Expanded, Ending>
-    ensures asks { Asks (S.events sys.old) (S.events sys.new) facts.old facts.new }
-    ensures gives { (F : Facts) → Extends facts.new F → GivesWords F args result }
+    ensures asks { Asked S.events outside.old outside.new }
+    ensures gives { (F : Facts) → Extends outside.new.facts.now F → GivesWords F args result }
     ensures apart { IfErr result (λ ending. IsApart ending) }
 {
-    let (selected, behind) = cut_front(args);
-    let expanded = expand(alloc, behind, sys, facts)?;
+    let (selected, following) = cut_front(args);
+    let expanded = expand(alloc, following, outside.sys, outside.facts)?;
     let words = fronted(alloc, selected, expanded)?;
     Ok(words)
 }

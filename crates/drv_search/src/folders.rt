@@ -4,6 +4,7 @@ ghost use Rattle.drv_search.specs.Search.{folder_options, folders_under, is_dir,
 ghost use Rattle.drv_search.specs.Search.{options_for, without_slash};
 ghost use Rattle.drv_search.specs.Code.Telling.{TellsMore};
 ghost use Rattle.drv_system.specs.Asking.{Asks, Extends};
+ghost use Rattle.drv_system.specs.Code.Asked.{Asked};
 ghost use Rattle.drv_system.specs.Facts.{Facts};
 ghost use Rattle.drv_system.specs.Known.{Is};
 ghost use Rattle.std.specs.List.{flat_map};
@@ -11,7 +12,7 @@ ghost use Rattle.std.specs.Prelude.{◌≡◌, ◌∷◌, ◌++◌, [], IfOk, co
 
 use crate::Prefixes;
 use crate::prefixes::{ends_with_slash, machine_folder_under};
-use drv_system::{FactTable, PathKind, System};
+use drv_system::{FactTable, Outside, PathKind, System};
 use drv_words::{Listing, Word};
 use std::alloc::{AllocError, Global};
 
@@ -46,14 +47,13 @@ fn push_if_folder<S: System>(
     alloc: Global,
     options: &mut Listing<Word>,
     path: &Word,
-    sys: &mut S,
-    facts: &mut FactTable,
+    outside: &mut Outside<'_, S>,
 ) -> Result<(), AllocError>
-    ensures asks { Asks (S.events sys.old) (S.events sys.new) facts.old facts.new }
-    ensures option { TellsMore facts.new result (λ F. options_for F (path.now ∷ []))
+    ensures asks { Asked S.events outside.old outside.new }
+    ensures option { TellsMore outside.new result (λ F. options_for F (path.now ∷ []))
         options.old options.new }
 {
-    let kind = facts.kind(sys, path)?;
+    let kind = outside.facts.kind(outside.sys, path)?;
     if !is_dir(kind) {
         return Ok(());
     }
@@ -66,15 +66,14 @@ fn push_option<S: System>(
     alloc: Global,
     options: &mut Listing<Word>,
     path: &[u8],
-    sys: &mut S,
-    facts: &mut FactTable,
+    outside: &mut Outside<'_, S>,
 ) -> Result<(), AllocError>
-    ensures asks { Asks (S.events sys.old) (S.events sys.new) facts.old facts.new }
-    ensures option { TellsMore facts.new result (λ F. options_for F (without_slash path.now ∷ []))
+    ensures asks { Asked S.events outside.old outside.new }
+    ensures option { TellsMore outside.new result (λ F. options_for F (without_slash path.now ∷ []))
         options.old options.new }
 {
     let folder = Word::from_bytes(alloc, without_slash(path))?;
-    push_if_folder(alloc, options, &folder, sys, facts)
+    push_if_folder(alloc, options, &folder, outside)
 }
 
 /// Adds the option for the machine's folder under a prefix.
@@ -82,53 +81,50 @@ fn push_machine_option<S: System>(
     alloc: Global,
     options: &mut Listing<Word>,
     prefix: &[u8],
-    sys: &mut S,
-    facts: &mut FactTable,
+    outside: &mut Outside<'_, S>,
 ) -> Result<(), AllocError>
-    ensures asks { Asks (S.events sys.old) (S.events sys.new) facts.old facts.new }
-    ensures option { TellsMore facts.new result
+    ensures asks { Asked S.events outside.old outside.new }
+    ensures option { TellsMore outside.new result
         (λ F. options_for F (without_slash (prefix.now ++ machine_folder) ∷ []))
         options.old options.new }
 {
     let machine = machine_folder_under(alloc, prefix)?;
-    push_option(alloc, options, machine.as_bytes(), sys, facts)
+    push_option(alloc, options, machine.as_bytes(), outside)
 }
 
 /// Adds the options for the folders under a prefix.
-#[tactic(auto, using(drv_system::proofs::Asking::asks_then))]
+#[tactic(auto, using(drv_system::proofs::AskedCalls::asked_further))]
 fn push_options<S: System>(
     alloc: Global,
     options: &mut Listing<Word>,
     prefix: &[u8],
-    sys: &mut S,
-    facts: &mut FactTable,
+    outside: &mut Outside<'_, S>,
 ) -> Result<(), AllocError>
-    ensures asks { Asks (S.events sys.old) (S.events sys.new) facts.old facts.new }
-    ensures options { TellsMore facts.new result (λ F. options_for F (folders_under prefix.now))
+    ensures asks { Asked S.events outside.old outside.new }
+    ensures options { TellsMore outside.new result (λ F. options_for F (folders_under prefix.now))
         options.old options.new }
 {
-    push_machine_option(alloc, options, prefix, sys, facts)?;
+    push_machine_option(alloc, options, prefix, outside)?;
     if !ends_with_slash(prefix) {
         return Ok(());
     }
-    push_option(alloc, options, prefix, sys, facts)
+    push_option(alloc, options, prefix, outside)
 }
 
 /// Adds the options for the folders under prefixes.
-#[tactic(auto, using(drv_system::proofs::Asking::asks_then, crate::proofs::Options::all_added))]
+#[tactic(auto, using(drv_system::proofs::AskedCalls::asked_further, crate::proofs::Options::all_added))]
 fn push_all<S: System>(
     alloc: Global,
     options: &mut Listing<Word>,
     prefixes: &[Word],
-    sys: &mut S,
-    facts: &mut FactTable,
+    outside: &mut Outside<'_, S>,
 ) -> Result<(), AllocError>
-    ensures asks { Asks (S.events sys.old) (S.events sys.new) facts.old facts.new }
-    ensures options { TellsMore facts.new result
+    ensures asks { Asked S.events outside.old outside.new }
+    ensures options { TellsMore outside.new result
         (λ F. options_for F (flat_map folders_under prefixes.now)) options.old options.new }
 {
     for prefix in prefixes {
-        push_options(alloc, options, prefix.as_bytes(), sys, facts)?;
+        push_options(alloc, options, prefix.as_bytes(), outside)?;
     }
     Ok(())
 }
@@ -148,6 +144,6 @@ pub fn dir_options<S: System>(
 {
     let mut options = Listing::new(alloc);
     let libraries = prefixes.libraries.as_slice();
-    push_all(alloc, &mut options, libraries, sys, facts)?;
+    push_all(alloc, &mut options, libraries, &mut Outside { sys, facts })?;
     Ok(options)
 }

@@ -5,11 +5,12 @@ ghost use Rattle.drv_search.specs.Search.{library_folders, machine_folder, prefi
 ghost use Rattle.drv_search.specs.Search.{program_folders};
 ghost use Rattle.drv_search.specs.Code.Telling.{Tells};
 ghost use Rattle.drv_system.specs.Asking.{Asks, Extends};
+ghost use Rattle.drv_system.specs.Code.Asked.{Asked};
 ghost use Rattle.drv_system.specs.Facts.{Facts};
 ghost use Rattle.drv_system.specs.Known.{Is};
 ghost use Rattle.std.specs.Prelude.{◌≡◌, ◌++◌, IfOk, OnOk, map};
 
-use drv_system::{FactTable, PathKind, System};
+use drv_system::{FactTable, Outside, PathKind, System};
 use drv_words::{Listing, Word};
 use std::alloc::{AllocError, Global};
 
@@ -63,31 +64,30 @@ fn as_prefix(dir: &Word, kind: PathKind) -> Result<Word, AllocError>
 }
 
 /// The prefix that an argument of `-B` stands for.
-fn prefix_of<S: System>(dir: &Word, sys: &mut S, facts: &mut FactTable) -> Result<Word, AllocError>
-    ensures asks { Asks (S.events sys.old) (S.events sys.new) facts.old facts.new }
-    ensures prefix { Tells facts.new result (λ F. prefix_of F dir.now) }
+fn prefix_of<S: System>(dir: &Word, outside: &mut Outside<'_, S>) -> Result<Word, AllocError>
+    ensures asks { Asked S.events outside.old outside.new }
+    ensures prefix { Tells outside.new result (λ F. prefix_of F dir.now) }
 {
     if is_prefix(dir.as_bytes()) {
         return dir.clone();
     }
-    let kind = facts.kind(sys, dir)?;
+    let kind = outside.facts.kind(outside.sys, dir)?;
     as_prefix(dir, kind)
 }
 
 /// The prefixes that the arguments of `-B` stand for.
-#[tactic(auto, using(drv_system::proofs::Asking::asks_then))]
+#[tactic(auto, using(drv_system::proofs::AskedCalls::asked_further))]
 fn given_prefixes<S: System>(
     alloc: Global,
     dirs: &[Word],
-    sys: &mut S,
-    facts: &mut FactTable,
+    outside: &mut Outside<'_, S>,
 ) -> Result<Listing<Word>, AllocError>
-    ensures asks { Asks (S.events sys.old) (S.events sys.new) facts.old facts.new }
-    ensures given { Tells facts.new result (λ F. given_of F dirs.now) }
+    ensures asks { Asked S.events outside.old outside.new }
+    ensures given { Tells outside.new result (λ F. given_of F dirs.now) }
 {
     let mut given = Listing::new(alloc);
     for dir in dirs {
-        given.push(prefix_of(dir, sys, facts)?)?;
+        given.push(prefix_of(dir, outside)?)?;
     }
     Ok(given)
 }
@@ -137,7 +137,7 @@ impl Prefixes {
         ensures prefixes { (F : Facts) → Extends facts.new F
             → IfOk result (λ made. prefixes_of F dirs.now ≡ Is made) }
     {
-        let given = given_prefixes(alloc, dirs, sys, facts)?;
+        let given = given_prefixes(alloc, dirs, &mut Outside { sys, facts })?;
         let programs = with_folders(alloc, given.as_slice(), program_folders())?;
         let libraries = with_folders(alloc, given.as_slice(), library_folders())?;
         Ok(Prefixes {

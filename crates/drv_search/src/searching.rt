@@ -6,6 +6,7 @@ ghost use Rattle.drv_search.specs.Search.{program_found, script_found};
 ghost use Rattle.drv_search.specs.Code.Telling.{Tells};
 ghost use Rattle.drv_search.specs.declared.fault.SearchFault.TheVariants as fault;
 ghost use Rattle.drv_system.specs.Asking.{Asks, Extends};
+ghost use Rattle.drv_system.specs.Code.Asked.{Asked};
 ghost use Rattle.drv_system.specs.Facts.{Facts};
 ghost use Rattle.drv_system.specs.Gives.{GivesKnown};
 ghost use Rattle.drv_system.specs.Known.{Is};
@@ -15,7 +16,7 @@ ghost use Rattle.std.specs.Prelude.{◌≡◌, ◌==◌, ◌∷◌, ◌++◌, []
 
 use crate::prefixes::machine_folder_under;
 use crate::{Prefixes, SearchFault};
-use drv_system::{FactTable, PathKind, System};
+use drv_system::{FactTable, Outside, PathKind, System};
 use drv_words::Word;
 use std::alloc::{AllocError, Global};
 
@@ -45,15 +46,11 @@ fn is_plain(kind: PathKind) -> bool
 }
 
 /// The path, if it is that of a plain file.
-fn plain_at<S: System>(
-    path: Word,
-    sys: &mut S,
-    facts: &mut FactTable,
-) -> Result<Option<Word>, AllocError>
-    ensures asks { Asks (S.events sys.old) (S.events sys.new) facts.old facts.new }
-    ensures hit { Tells facts.new result (λ F. found F (path ∷ [])) }
+fn plain_at<S: System>(path: Word, outside: &mut Outside<'_, S>) -> Result<Option<Word>, AllocError>
+    ensures asks { Asked S.events outside.old outside.new }
+    ensures hit { Tells outside.new result (λ F. found F (path ∷ [])) }
 {
-    let kind = facts.kind(sys, &path)?;
+    let kind = outside.facts.kind(outside.sys, &path)?;
     Ok(if is_plain(kind) { Some(path) } else { None })
 }
 
@@ -62,15 +59,14 @@ fn machine_hit<S: System>(
     alloc: Global,
     prefix: &[u8],
     name: &[u8],
-    sys: &mut S,
-    facts: &mut FactTable,
+    outside: &mut Outside<'_, S>,
 ) -> Result<Option<Word>, AllocError>
-    ensures asks { Asks (S.events sys.old) (S.events sys.new) facts.old facts.new }
-    ensures hit { Tells facts.new result
+    ensures asks { Asked S.events outside.old outside.new }
+    ensures hit { Tells outside.new result
         (λ F. found F ((prefix.now ++ machine_folder ++ name.now) ∷ [])) }
 {
     let path = machine_path(alloc, prefix, name)?;
-    plain_at(path, sys, facts)
+    plain_at(path, outside)
 }
 
 /// What is found in a prefix itself.
@@ -78,48 +74,45 @@ fn bare_hit<S: System>(
     alloc: Global,
     prefix: &[u8],
     name: &[u8],
-    sys: &mut S,
-    facts: &mut FactTable,
+    outside: &mut Outside<'_, S>,
 ) -> Result<Option<Word>, AllocError>
-    ensures asks { Asks (S.events sys.old) (S.events sys.new) facts.old facts.new }
-    ensures hit { Tells facts.new result (λ F. found F ((prefix.now ++ name.now) ∷ [])) }
+    ensures asks { Asked S.events outside.old outside.new }
+    ensures hit { Tells outside.new result (λ F. found F ((prefix.now ++ name.now) ∷ [])) }
 {
     let path = bare_path(alloc, prefix, name)?;
-    plain_at(path, sys, facts)
+    plain_at(path, outside)
 }
 
 /// What is found under one prefix: in the machine's folder, or else in the prefix itself.
-#[tactic(auto, using(drv_system::proofs::Asking::asks_then))]
+#[tactic(auto, using(drv_system::proofs::AskedCalls::asked_further))]
 fn found_under<S: System>(
     alloc: Global,
     prefix: &[u8],
     name: &[u8],
-    sys: &mut S,
-    facts: &mut FactTable,
+    outside: &mut Outside<'_, S>,
 ) -> Result<Option<Word>, AllocError>
-    ensures asks { Asks (S.events sys.old) (S.events sys.new) facts.old facts.new }
-    ensures hit { Tells facts.new result (λ F. found F (candidates_under name.now prefix.now)) }
+    ensures asks { Asked S.events outside.old outside.new }
+    ensures hit { Tells outside.new result (λ F. found F (candidates_under name.now prefix.now)) }
 {
-    if let Some(hit) = machine_hit(alloc, prefix, name, sys, facts)? {
+    if let Some(hit) = machine_hit(alloc, prefix, name, outside)? {
         return Ok(Some(hit));
     }
-    bare_hit(alloc, prefix, name, sys, facts)
+    bare_hit(alloc, prefix, name, outside)
 }
 
 /// What is found under prefixes. After the first hit nothing is asked.
-#[tactic(auto, using(drv_system::proofs::Asking::asks_then))]
+#[tactic(auto, using(drv_system::proofs::AskedCalls::asked_further))]
 fn search<S: System>(
     alloc: Global,
     prefixes: &[Word],
     name: &[u8],
-    sys: &mut S,
-    facts: &mut FactTable,
+    outside: &mut Outside<'_, S>,
 ) -> Result<Option<Word>, AllocError>
-    ensures asks { Asks (S.events sys.old) (S.events sys.new) facts.old facts.new }
-    ensures hit { Tells facts.new result (λ F. found F (candidates prefixes.now name.now)) }
+    ensures asks { Asked S.events outside.old outside.new }
+    ensures hit { Tells outside.new result (λ F. found F (candidates prefixes.now name.now)) }
 {
     for prefix in prefixes {
-        if let Some(hit) = found_under(alloc, prefix.as_bytes(), name, sys, facts)? {
+        if let Some(hit) = found_under(alloc, prefix.as_bytes(), name, outside)? {
             return Ok(Some(hit));
         }
     }
@@ -145,16 +138,15 @@ fn found_or_name<S: System>(
     alloc: Global,
     prefixes: &[Word],
     name: &Word,
-    sys: &mut S,
-    facts: &mut FactTable,
+    outside: &mut Outside<'_, S>,
 ) -> Result<Word, AllocError>
-    ensures asks { Asks (S.events sys.old) (S.events sys.new) facts.old facts.new }
-    ensures path { Tells facts.new result (λ F. found_or_name F prefixes.now name.now) }
+    ensures asks { Asked S.events outside.old outside.new }
+    ensures path { Tells outside.new result (λ F. found_or_name F prefixes.now name.now) }
 {
     if !is_searched(name.as_bytes()) {
         return name.clone();
     }
-    match search(alloc, prefixes, name.as_bytes(), sys, facts)? {
+    match search(alloc, prefixes, name.as_bytes(), outside)? {
         Some(path) => Ok(path),
         None => name.clone(),
     }
@@ -174,7 +166,8 @@ pub fn find_program<S: System>(
     ensures path { (F : Facts) → Extends facts.new F
         → IfOk result (λ path. program_found F prefixes.now name.now ≡ Is path) }
 {
-    found_or_name(alloc, prefixes.programs.as_slice(), name, sys, facts)
+    let outside = &mut Outside { sys, facts };
+    found_or_name(alloc, prefixes.programs.as_slice(), name, outside)
 }
 
 /// The file of that name, of the linker or of specs: the first plain file among its places. A name
@@ -191,7 +184,8 @@ pub fn find_file<S: System>(
     ensures path { (F : Facts) → Extends facts.new F
         → IfOk result (λ path. file_found F prefixes.now name.now ≡ Is path) }
 {
-    found_or_name(alloc, prefixes.libraries.as_slice(), name, sys, facts)
+    let outside = &mut Outside { sys, facts };
+    found_or_name(alloc, prefixes.libraries.as_slice(), name, outside)
 }
 
 /// The linker script of that name: one with a slash if it is a plain file, any other where it is
@@ -210,16 +204,12 @@ pub fn find_script<S: System>(
     ensures path { (F : Facts) → Extends facts.new F
         → GivesKnown fault.Memory (λ path. path) result (script_found F prefixes.now name.now) }
 {
+    let outside = &mut Outside { sys, facts };
     let hit = if has_slash(name.as_bytes()) {
-        plain_at(name.clone()?, sys, facts)?
+        plain_at(name.clone()?, outside)?
     } else {
-        search(
-            alloc,
-            prefixes.libraries.as_slice(),
-            name.as_bytes(),
-            sys,
-            facts,
-        )?
+        let libraries = prefixes.libraries.as_slice();
+        search(alloc, libraries, name.as_bytes(), outside)?
     };
     match hit {
         Some(path) => Ok(path),

@@ -6,6 +6,7 @@ ghost use Rattle.drv_specs.specs.Loading.{worked};
 ghost use Rattle.drv_specs.specs.Code.Slices.{IsSettled, read_left, settled_file};
 ghost use Rattle.drv_specs.specs.declared.fault.SpecsFault.TheVariants as fault;
 ghost use Rattle.drv_system.specs.Asking.{Asks, Extends};
+ghost use Rattle.drv_system.specs.Code.Asked.{Asked};
 ghost use Rattle.drv_system.specs.Facts.{Facts};
 ghost use Rattle.drv_system.specs.Gives.{GivesKnown};
 ghost use Rattle.drv_words.specs.Gives.{Gives};
@@ -17,7 +18,7 @@ use crate::reading::Reader;
 use crate::settling::settled;
 use crate::{SpecSet, SpecsFault};
 use drv_search::{Prefixes, find_file};
-use drv_system::{FactTable, ReadAnswer, System};
+use drv_system::{FactTable, Outside, ReadAnswer, System};
 use drv_words::Word;
 use std::alloc::Global;
 
@@ -53,35 +54,33 @@ fn file_text<S: System>(
     if_missing: IfMissing,
     name: &[u8],
     prefixes: &Prefixes,
-    sys: &mut S,
-    facts: &mut FactTable,
+    outside: &mut Outside<'_, S>,
 ) -> Result<Vec<u8>, SpecsFault>
-    ensures asks { Asks (S.events sys.old) (S.events sys.new) facts.old facts.new }
-    ensures text { (F : Facts) → Extends facts.new F
+    ensures asks { Asked S.events outside.old outside.new }
+    ensures text { (F : Facts) → Extends outside.new.facts.now F
         → GivesKnown fault.Memory (λ left. left.items) result
         (settled_file F prefixes.now if_missing name.now) }
 {
     let name = Word::from_bytes(alloc, name)?;
-    let path = find_file(alloc, prefixes, &name, sys, facts)?;
-    facts.read(sys, &path)?;
-    let answer = facts.read_answer(&path);
+    let path = find_file(alloc, prefixes, &name, outside.sys, outside.facts)?;
+    outside.facts.read(outside.sys, &path)?;
+    let answer = outside.facts.read_answer(&path);
     text_read(alloc, if_missing, path, answer)
 }
 
 /// Carries out the directives of a settled text, in which so many more files may stand in one
 /// another.
-#[tactic(auto, using(drv_system::proofs::Asking::asks_then))]
+#[tactic(auto, using(drv_system::proofs::AskedCalls::asked_further))]
 fn carry_out<S: System>(
     entries: &mut Entries,
     files: &mut usize,
     levels: usize,
     text: &[u8],
     prefixes: &Prefixes,
-    sys: &mut S,
-    facts: &mut FactTable,
+    outside: &mut Outside<'_, S>,
 ) -> Result<(), SpecsFault>
-    ensures asks { Asks (S.events sys.old) (S.events sys.new) facts.old facts.new }
-    ensures carried { (F : Facts) → Extends facts.new F
+    ensures asks { Asked S.events outside.old outside.new }
+    ensures carried { (F : Facts) → Extends outside.new.facts.now F
         → GivesKnown fault.Memory (λ _. record { set = entries.new; files = files.new }) result
         (all_carried (including F prefixes.now levels)
         (record { set = entries.old; files = files.old }) (read_settled text.now)) }
@@ -97,15 +96,14 @@ fn carry_out<S: System>(
                     return Err(SpecsFault::TooManyIncludes);
                 }
                 *files -= 1;
-                let text = file_text(entries.alloc(), if_missing, file, prefixes, sys, facts)?;
+                let text = file_text(entries.alloc(), if_missing, file, prefixes, outside)?;
                 carry_out(
                     entries,
                     files,
                     levels - 1,
                     text.as_slice(),
                     prefixes,
-                    sys,
-                    facts,
+                    outside,
                 )?;
             }
             other => entries.change(other)?,
@@ -116,47 +114,45 @@ fn carry_out<S: System>(
 
 /// A copy of entries, on which the directives of a settled text are carried out, in which so many
 /// more files may be read.
-#[tactic(auto, using(drv_system::proofs::Asking::asks_then))]
+#[tactic(auto, using(drv_system::proofs::AskedCalls::asked_further))]
 fn draft_of<S: System>(
     entries: &Entries,
     files: usize,
     text: &[u8],
     prefixes: &Prefixes,
-    sys: &mut S,
-    facts: &mut FactTable,
+    outside: &mut Outside<'_, S>,
 ) -> Result<Entries, SpecsFault>
-    ensures asks { Asks (S.events sys.old) (S.events sys.new) facts.old facts.new }
-    ensures works { (F : Facts) → Extends facts.new F
+    ensures asks { Asked S.events outside.old outside.new }
+    ensures works { (F : Facts) → Extends outside.new.facts.now F
         → GivesKnown fault.Memory (λ draft. draft) result
         (worked F prefixes.now entries.now files (read_settled text.now)) }
 {
     let mut draft = entries.copied()?;
     let mut files = files;
     let levels = MOST_LEVELS - 1;
-    carry_out(&mut draft, &mut files, levels, text, prefixes, sys, facts)?;
+    carry_out(&mut draft, &mut files, levels, text, prefixes, outside)?;
     Ok(draft)
 }
 
 impl SpecSet {
     /// Carries out the directives of a settled text, in which so many more files may be read, on a
     /// copy that then takes the place of the set.
-    #[tactic(auto, using(drv_system::proofs::Asking::asks_then))]
+    #[tactic(auto, using(drv_system::proofs::AskedCalls::asked_further))]
     fn work<S: System>(
         &mut self,
         files: usize,
         text: &[u8],
         prefixes: &Prefixes,
-        sys: &mut S,
-        facts: &mut FactTable,
+        outside: &mut Outside<'_, S>,
     ) -> Result<(), SpecsFault>
         requires { IsSettled text.now }
-        ensures asks { Asks (S.events sys.old) (S.events sys.new) facts.old facts.new }
-        ensures works { (F : Facts) → Extends facts.new F
+        ensures asks { Asked S.events outside.old outside.new }
+        ensures works { (F : Facts) → Extends outside.new.facts.now F
             → GivesKnown fault.Memory (λ _. self.new) result
             (worked F prefixes.now self.old files (read_settled text.now)) }
         ensures kept { OnErr result (self.new ≡ self.old) }
     {
-        let draft = draft_of(&self.entries, files, text, prefixes, sys, facts)?;
+        let draft = draft_of(&self.entries, files, text, prefixes, outside)?;
         self.entries = draft;
         Ok(())
     }
@@ -183,7 +179,8 @@ impl SpecSet {
         ensures kept { OnErr result (self.new ≡ self.old) }
     {
         let text = settled(self.entries.alloc(), text)?;
-        self.work(MOST_FILES, text.as_slice(), prefixes, sys, facts)
+        let outside = &mut Outside { sys, facts };
+        self.work(MOST_FILES, text.as_slice(), prefixes, outside)
     }
 
     /// Carries out the directives of the file of this name, found as libraries are. After an error
@@ -205,15 +202,9 @@ impl SpecSet {
             (file_loaded F prefixes.now self.old name.now) }
         ensures kept { OnErr result (self.new ≡ self.old) }
     {
-        let name = name.as_bytes();
-        let text = file_text(
-            self.entries.alloc(),
-            IfMissing::Refuse,
-            name,
-            prefixes,
-            sys,
-            facts,
-        )?;
-        self.work(MOST_FILES - 1, text.as_slice(), prefixes, sys, facts)
+        let outside = &mut Outside { sys, facts };
+        let alloc = self.entries.alloc();
+        let text = file_text(alloc, IfMissing::Refuse, name.as_bytes(), prefixes, outside)?;
+        self.work(MOST_FILES - 1, text.as_slice(), prefixes, outside)
     }
 }

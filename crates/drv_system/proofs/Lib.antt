@@ -1,4 +1,5 @@
 pub mod AnswerMaps
+pub mod AskedCalls
 pub mod Asking
 pub mod Consulting
 pub mod FirstAnswers

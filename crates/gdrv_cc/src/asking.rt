@@ -8,7 +8,7 @@ use crate::texts::{error_line, unwritten};
 use drv_args::expand;
 use drv_cc::Surroundings;
 use drv_search::{Prefixes, find_file};
-use drv_system::{FactTable, HostSystem, PathKind, ReadAnswer, System, arguments};
+use drv_system::{FactTable, HostSystem, Outside, PathKind, ReadAnswer, System, arguments};
 use drv_words::{Listing, Word};
 use std::alloc::{AllocError, Global};
 use std::env::current_exe;
@@ -45,8 +45,7 @@ fn refuse_unread(
     alloc: Global,
     name: &[u8],
     word: &[u8],
-    sys: &mut HostSystem,
-    facts: &mut FactTable,
+    outside: &mut Outside<'_, HostSystem>,
 ) -> Result<(), Outcome> {
     let [b'@', path @ ..] = word else {
         return Ok(());
@@ -55,8 +54,8 @@ fn refuse_unread(
         return Ok(());
     }
     let path = Word::from_bytes(alloc, path)?;
-    facts.read(sys, &path)?;
-    if !matches!(facts.read_answer(&path), ReadAnswer::Failed) {
+    outside.facts.read(outside.sys, &path)?;
+    if !matches!(outside.facts.read_answer(&path), ReadAnswer::Failed) {
         return Ok(());
     }
     let path = path.as_bytes();
@@ -70,16 +69,11 @@ fn expanded(
     args: Listing<Word>,
     sys: &mut HostSystem,
 ) -> Result<Listing<Word>, Outcome> {
-    let mut facts = FactTable::new(alloc);
-    let words = expand(alloc, args, sys, &mut facts)?.words;
+    let facts = &mut FactTable::new(alloc);
+    let words = expand(alloc, args, sys, facts)?.words;
+    let outside = &mut Outside { sys, facts };
     for word in words.as_slice() {
-        refuse_unread(
-            alloc,
-            calling.name.as_bytes(),
-            word.as_bytes(),
-            sys,
-            &mut facts,
-        )?;
+        refuse_unread(alloc, calling.name.as_bytes(), word.as_bytes(), outside)?;
     }
     Ok(words)
 }
@@ -237,14 +231,13 @@ fn add_names(
     alloc: Global,
     name: &[u8],
     prefixes: &Prefixes,
-    sys: &mut HostSystem,
-    facts: &mut FactTable,
+    outside: &mut Outside<'_, HostSystem>,
     named: &mut Listing<Word>,
 ) -> Result<(), AllocError> {
     let name = Word::from_bytes(alloc, name)?;
-    let path = find_file(alloc, prefixes, &name, sys, facts)?;
-    facts.read(sys, &path)?;
-    if let ReadAnswer::Read(text) = facts.read_answer(&path) {
+    let path = find_file(alloc, prefixes, &name, outside.sys, outside.facts)?;
+    outside.facts.read(outside.sys, &path)?;
+    if let ReadAnswer::Read(text) = outside.facts.read_answer(&path) {
         for name in names_in(alloc, text.as_bytes())?.as_slice() {
             named.push(name.clone()?)?;
         }
@@ -258,13 +251,14 @@ pub fn switches_named(
     words: &[Word],
     sys: &mut HostSystem,
 ) -> Result<Listing<Word>, AllocError> {
-    let mut facts = FactTable::new(alloc);
+    let facts = &mut FactTable::new(alloc);
     let folders = prefix_folders(alloc, words)?;
-    let prefixes = Prefixes::new(alloc, folders.as_slice(), sys, &mut facts)?;
+    let prefixes = Prefixes::new(alloc, folders.as_slice(), sys, facts)?;
+    let outside = &mut Outside { sys, facts };
     let mut named = Listing::new(alloc);
     for word in words {
         if let Some(name) = word.as_bytes().strip_prefix(b"-specs=".as_slice()) {
-            add_names(alloc, name, &prefixes, sys, &mut facts, &mut named)?;
+            add_names(alloc, name, &prefixes, outside, &mut named)?;
         }
     }
     Ok(named)

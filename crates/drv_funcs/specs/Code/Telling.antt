@@ -4,8 +4,9 @@ use Rattle.drv_system.specs.Asking.{Extends}
 use Rattle.drv_system.specs.Facts.{Facts}
 use Rattle.drv_system.specs.Gives.{GivesKnown}
 use Rattle.drv_system.specs.Known.{Known}
+use Rattle.drv_system.specs.declared.outside.Outside.{Outside}
 use Rattle.std.specs.Prelude.{Result}
 
--- What a call gives that left these facts, by any that go on from them. Private clauses alone cite it.
-abbrev pub Tells : {X : Type 0} → Facts → Result X FuncsFault → (Facts → Known (Result X FuncsFault)) → Type 0
-Tells known result defined = (F : Facts) → Extends known F → GivesKnown Memory (λ x. x) result (defined F)
+-- What a call gives that left this outside, by any facts that go on from those it knows. Private clauses alone cite it.
+abbrev pub Tells : {S X : Type 0} → Outside S → Result X FuncsFault → (Facts → Known (Result X FuncsFault)) → Type 0
+Tells left result defined = (F : Facts) → Extends left.facts.now F → GivesKnown Memory (λ x. x) result (defined F)

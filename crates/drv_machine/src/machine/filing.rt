@@ -1,6 +1,6 @@
 //! `%@{..}`: its words are those of a file, whose name stands for them.
 
-ghost use Rattle.drv_machine.specs.Code.Asked.{Asked};
+ghost use Rattle.drv_system.specs.Code.Asked.{Asked};
 ghost use Rattle.drv_machine.specs.Atoms.{named_file};
 ghost use Rattle.drv_machine.specs.Cutting.{words_in_file};
 ghost use Rattle.drv_machine.specs.Code.Running.{run};
@@ -11,9 +11,8 @@ ghost use Rattle.drv_system.specs.Gives.{GivesKnown};
 ghost use Rattle.std.specs.Prelude.{◌≡◌, OnOk, length};
 
 use super::{CutLine, Drawing, Machine};
-use crate::outside::Outside;
 use crate::{Context, MachineFault};
-use drv_system::System;
+use drv_system::{Outside, System};
 use drv_words::{Listing, Word, respond_text};
 use std::mem;
 
@@ -36,7 +35,7 @@ impl Machine {
     }
 
     /// The open word ends, and the words after it are those of a file.
-    #[tactic(auto, using(crate::proofs::AskedCalls::asked_further))]
+    #[tactic(auto, using(drv_system::proofs::AskedCalls::asked_further))]
     pub(crate) fn begin_file<S: System>(
         &mut self,
         context: &Context<'_>,

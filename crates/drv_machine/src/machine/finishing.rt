@@ -1,6 +1,6 @@
 //! What stands after the whole text: pipes judged, and the commands as a job.
 
-ghost use Rattle.drv_machine.specs.Code.Asked.{Asked};
+ghost use Rattle.drv_system.specs.Code.Asked.{Asked};
 ghost use Rattle.drv_machine.specs.Cutting as cutting;
 ghost use Rattle.drv_machine.specs.Code.Grouping.{grouped};
 ghost use Rattle.drv_machine.specs.Code.Held.{made};
@@ -15,10 +15,9 @@ ghost use Rattle.std.specs.Prelude.{◌≡◌, ◌&&◌, ◌||◌, ◌∷◌, �
 ghost use Rattle.std.specs.Prelude.{map, nat_lt};
 
 use super::{Drawn, IndexedWords, Machine, NamedLine};
-use crate::outside::Outside;
 use crate::{Context, MachineFault, Outcome};
 use drv_search::find_program;
-use drv_system::System;
+use drv_system::{Outside, System};
 use drv_words::{Command, Group, Job, Listing, Temp, Word};
 use std::alloc::{AllocError, Global};
 use std::mem;
@@ -32,7 +31,7 @@ const MOST_PIPED: usize = 16;
 /// # Errors
 /// `StrayPipe` where a pipe is not at the end of a command with a word, or no further command
 /// follows it; `PipeTooLong` where more than 16 commands form one pipe.
-#[tactic(auto, using(crate::proofs::AskedCalls::asked_none))]
+#[tactic(auto, using(drv_system::proofs::AskedCalls::asked_none))]
 pub(crate) fn outcome_of<S: System>(
     machine: &mut Machine,
     context: &Context<'_>,
@@ -66,7 +65,7 @@ fn options_of(machine: &mut Machine) -> Listing<Word>
 }
 
 /// The job of a machine's text. Words are moved out of the machine.
-#[tactic(auto, using(crate::proofs::AskedCalls::asked_none))]
+#[tactic(auto, using(drv_system::proofs::AskedCalls::asked_none))]
 fn job_of<S: System>(
     machine: &mut Machine,
     context: &Context<'_>,
@@ -161,7 +160,7 @@ fn has_long_pipe(groups: &[Group]) -> bool
 
 /// The groups of commands: with `-pipe` piped commands form one, otherwise each command is one.
 /// Want of memory is the only error.
-#[tactic(auto, using(crate::proofs::AskedCalls::asked_none, crate::proofs::AskedCalls::asked_further))]
+#[tactic(auto, using(drv_system::proofs::AskedCalls::asked_none, drv_system::proofs::AskedCalls::asked_further))]
 fn groups_of<S: System>(
     alloc: Global,
     lines: Listing<NamedLine>,
@@ -183,7 +182,7 @@ fn groups_of<S: System>(
 
 /// The command of one line more goes after those of the group that is begun, which then goes after
 /// those that have ended, unless the next one is joined to it. Want of memory is the only error.
-#[tactic(auto, using(crate::proofs::AskedCalls::asked_none))]
+#[tactic(auto, using(drv_system::proofs::AskedCalls::asked_none))]
 fn add_line<S: System>(
     alloc: Global,
     ended: &mut Listing<Group>,
@@ -225,7 +224,7 @@ fn push_group(groups: &mut Listing<Group>, commands: Vec<Command>) -> Result<(),
 }
 
 /// The command of a line, whose program is looked for. Want of memory is the only error.
-#[tactic(auto, using(crate::proofs::AskedCalls::asked_none))]
+#[tactic(auto, using(drv_system::proofs::AskedCalls::asked_none))]
 fn command_of<S: System>(
     alloc: Global,
     line: NamedLine,

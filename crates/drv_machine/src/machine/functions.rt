@@ -1,6 +1,6 @@
 //! Functions, called with the words of their arguments.
 
-ghost use Rattle.drv_machine.specs.Code.Asked.{Asked};
+ghost use Rattle.drv_system.specs.Code.Asked.{Asked};
 ghost use Rattle.drv_machine.specs.Atoms.{call_step, has_value, value_step};
 ghost use Rattle.drv_machine.specs.Code.Running.{run};
 ghost use Rattle.drv_machine.specs.Code.Walking.{after_arguments};
@@ -10,10 +10,9 @@ ghost use Rattle.drv_system.specs.Gives.{GivesKnown};
 ghost use Rattle.std.specs.Prelude.{◌≡◌, OnOk, length};
 
 use super::{Cutter, Machine};
-use crate::outside::Outside;
 use crate::{Context, MachineFault};
 use drv_funcs::{Function, call};
-use drv_system::System;
+use drv_system::{Outside, System};
 use drv_words::Word;
 
 impl Machine {
@@ -22,7 +21,7 @@ impl Machine {
     ///
     /// # Errors
     /// `Funcs` where the function is refused.
-    #[tactic(auto, using(crate::proofs::AskedCalls::asked_none))]
+    #[tactic(auto, using(drv_system::proofs::AskedCalls::asked_none))]
     fn call<S: System>(
         &mut self,
         name: &[u8],
@@ -81,7 +80,7 @@ impl Machine {
     /// Arguments have been cut, and what was cut before them goes on: the function's value is put,
     /// if it has one.
     #[inline(never)]
-    #[tactic(auto, using(crate::proofs::AskedCalls::asked_further))]
+    #[tactic(auto, using(drv_system::proofs::AskedCalls::asked_further))]
     pub(crate) fn put_value<S: System>(
         &mut self,
         name: &[u8],
@@ -107,7 +106,7 @@ impl Machine {
     /// Arguments have been cut, and what was cut before them goes on: whether the function has a
     /// value.
     #[inline(never)]
-    #[tactic(auto, using(crate::proofs::AskedCalls::asked_further))]
+    #[tactic(auto, using(drv_system::proofs::AskedCalls::asked_further))]
     pub(crate) fn has_value<S: System>(
         &mut self,
         name: &[u8],

@@ -1,6 +1,6 @@
 //! Lists that are put word by word, or that grow.
 
-ghost use Rattle.drv_machine.specs.Code.Asked.{Asked};
+ghost use Rattle.drv_system.specs.Code.Asked.{Asked};
 ghost use Rattle.drv_machine.specs.Atoms.{added, broken_word, folders_step, noted, options_step};
 ghost use Rattle.drv_machine.specs.Atoms.{outputs_step};
 ghost use Rattle.drv_machine.specs.Context as specs;
@@ -14,10 +14,9 @@ ghost use Rattle.drv_system.specs.Known.{Is};
 ghost use Rattle.std.specs.Prelude.{◌≡◌, ◌∷◌, ◌++◌, [], IfOk, OnOk, flat_map, length};
 
 use super::Machine;
-use crate::outside::Outside;
 use crate::{Context, MachineFault};
 use drv_search::dir_options;
-use drv_system::System;
+use drv_system::{Outside, System};
 use drv_words::{Listing, Word};
 use std::alloc::{AllocError, Global};
 use std::mem;
@@ -47,7 +46,7 @@ pub(crate) fn is_among(list: &[Word], word: &[u8]) -> bool
 
 impl Machine {
     /// A whole word is put, with an opening before it and a break after it.
-    #[tactic(auto, using(crate::proofs::AskedCalls::asked_further))]
+    #[tactic(auto, using(drv_system::proofs::AskedCalls::asked_further))]
     fn put_word<S: System>(
         &mut self,
         word: &[u8],
@@ -66,7 +65,7 @@ impl Machine {
     }
 
     /// Bytes are put, with a break after them.
-    #[tactic(auto, using(crate::proofs::AskedCalls::asked_further))]
+    #[tactic(auto, using(drv_system::proofs::AskedCalls::asked_further))]
     pub(crate) fn put_broken<S: System>(
         &mut self,
         word: &[u8],
@@ -85,7 +84,7 @@ impl Machine {
     }
 
     /// Whole words are put.
-    #[tactic(auto, using(crate::proofs::AskedCalls::asked_none))]
+    #[tactic(auto, using(drv_system::proofs::AskedCalls::asked_none))]
     pub(crate) fn put_words<S: System>(
         &mut self,
         list: &[Word],
@@ -123,7 +122,7 @@ impl Machine {
     }
 
     /// Whole words are put after a break.
-    #[tactic(auto, using(crate::proofs::AskedCalls::asked_none))]
+    #[tactic(auto, using(drv_system::proofs::AskedCalls::asked_none))]
     fn put_apart<S: System>(
         &mut self,
         list: &[Word],
@@ -163,7 +162,7 @@ impl Machine {
     ///
     /// # Errors
     /// `NotInLink` in a text other than the link's.
-    #[tactic(auto, using(crate::proofs::AskedCalls::asked_none))]
+    #[tactic(auto, using(drv_system::proofs::AskedCalls::asked_none))]
     pub(crate) fn put_outputs<S: System>(
         &mut self,
         context: &Context<'_>,
@@ -186,7 +185,7 @@ impl Machine {
     }
 
     /// Lists of bytes are put, with a break after each.
-    #[tactic(auto, using(crate::proofs::AskedCalls::asked_none))]
+    #[tactic(auto, using(drv_system::proofs::AskedCalls::asked_none))]
     fn put_all_broken<S: System>(
         &mut self,
         list: &[Word],
@@ -207,7 +206,7 @@ impl Machine {
     }
 
     /// The options for the folders of libraries are put.
-    #[tactic(auto, using(crate::proofs::AskedCalls::asked_further))]
+    #[tactic(auto, using(drv_system::proofs::AskedCalls::asked_further))]
     pub(crate) fn put_folders<S: System>(
         &mut self,
         context: &Context<'_>,

@@ -1,6 +1,6 @@
 //! Marks of words, and what the end of a word does.
 
-ghost use Rattle.drv_machine.specs.Code.Asked.{Asked};
+ghost use Rattle.drv_system.specs.Code.Asked.{Asked};
 ghost use Rattle.drv_machine.specs.Context as specs;
 ghost use Rattle.drv_machine.specs.Cutting.{found_file, found_script, marked, no_marks};
 ghost use Rattle.drv_machine.specs.Cutting.{script_option, word_done};
@@ -15,10 +15,9 @@ ghost use Rattle.std.specs.Prelude.{◌≡◌, ◌∷◌, ◌++◌, ◌&&◌, []
 ghost use Rattle.std.specs.Prelude.{if◌then◌else◌, length, map, not};
 
 use super::Machine;
-use crate::outside::Outside;
 use crate::{Context, MachineFault};
 use drv_search::{find_file, find_script};
-use drv_system::System;
+use drv_system::{Outside, System};
 use drv_words::Word;
 use std::alloc::AllocError;
 
@@ -266,7 +265,7 @@ impl Machine {
     ///
     /// # Errors
     /// `Search` where a linker script isn't found.
-    #[tactic(auto, using(crate::proofs::AskedCalls::asked_none))]
+    #[tactic(auto, using(drv_system::proofs::AskedCalls::asked_none))]
     pub(crate) fn end_word<S: System>(
         &mut self,
         context: &Context<'_>,
@@ -321,7 +320,7 @@ impl Machine {
 
     /// The open word ends, and with it the innermost `%W`.
     #[inline(never)]
-    #[tactic(auto, using(crate::proofs::AskedCalls::asked_further))]
+    #[tactic(auto, using(drv_system::proofs::AskedCalls::asked_further))]
     pub(crate) fn end_failure<S: System>(
         &mut self,
         context: &Context<'_>,

@@ -1,6 +1,6 @@
 //! Names of temporaries.
 
-ghost use Rattle.drv_machine.specs.Code.Asked.{Asked};
+ghost use Rattle.drv_system.specs.Code.Asked.{Asked};
 ghost use Rattle.drv_machine.specs.Atoms.{draw, draw_with, drawn_or_new, name_step, new_name_step};
 ghost use Rattle.drv_machine.specs.Atoms.{temp_step};
 ghost use Rattle.drv_machine.specs.Code.Running.{run};
@@ -14,10 +14,9 @@ ghost use Rattle.std.specs.Option.{option_copied, option_map};
 ghost use Rattle.std.specs.Prelude.{◌≡◌, ◌<◌, ◌++◌, IfOk, OnOk, length};
 
 use super::Machine;
-use crate::outside::Outside;
 use crate::{Context, MachineFault};
 use drv_syntax::TempKind;
-use drv_system::System;
+use drv_system::{Outside, System};
 use drv_words::Word;
 use itoa::Buffer;
 use std::alloc::{AllocError, Global};
@@ -192,7 +191,7 @@ impl Machine {
     }
 
     /// The last name that was drawn so with this suffix, or else a new one.
-    #[tactic(auto, using(crate::proofs::AskedCalls::asked_none))]
+    #[tactic(auto, using(drv_system::proofs::AskedCalls::asked_none))]
     fn drawn_or_new<S: System>(
         &mut self,
         drawing: Drawing,
@@ -252,7 +251,7 @@ impl Machine {
 
     /// The name of a temporary with this suffix is put; where commands are piped, `-` or nothing
     /// may stand for it.
-    #[tactic(auto, using(crate::proofs::AskedCalls::asked_none))]
+    #[tactic(auto, using(drv_system::proofs::AskedCalls::asked_none))]
     pub(crate) fn put_temp<S: System>(
         &mut self,
         kind: TempKind,

@@ -1,23 +1,23 @@
 use Rattle.drv_args.proofs.Expanding.{end_goes, expands_memory, expands_refused, itself_goes, large_refused, many_refused, put_goes}
-use Rattle.drv_system.proofs.Asking.{asks_extends, asks_then, extends_then}
 use Rattle.drv_args.specs.Code.Replacing.{IsReplaced}
+use Rattle.drv_system.proofs.AskedCalls.{asked_further, extends_before}
 use Rattle.std.proofs.Common.{◌≡◌, ◌-◌, ◌∷◌, ◌++◌, ◌∙◌, [], ap, length, Ok, Option, arith, inr, refl, subst, ℕ}
 use Rattle.std.proofs.lemmas.List.{nil_from_length}
 use Rattle.drv_args.proofs.expansion.expand_all.Goals as goal
 
 pub returns-in_err-replace_word-clause-expands : goal.returns-in_err-replace_word-clause-expands
 returns-in_err-replace_word-clause-expands g c F e =
-    let goes = c.loop-word.invariant.goes F (extends_then (asks_extends c.replace_word.ensures.asks) e) in
+    let goes = c.loop-word.invariant.goes F (extends_before c.replace_word.ensures.asks e) in
     expands_refused F c.args.args c.in_err-replace_word.field-0.0 c.from_residual.result c.from_residual.ensures.1
     (large_refused F c.loop-word.left c.loop-word.stack.items c.pop.new.self.items c.in-Some.word c.loop-word.words c.replace_word.new.words c.args.args c.in_err-replace_word.field-0.0 c.in-Some.ensures.items (c.in_err-replace_word.ensures.replaces F e) goes)
 
 pub loop-word-preserved-in-Continue-branch-3 : goal.loop-word-preserved-in-Continue-branch-3
 loop-word-preserved-in-Continue-branch-3 g c = record {
-  asks = asks_then c.loop-word.invariant.asks c.replace_word.ensures.asks;
+  asks = asked_further c.loop-word.invariant.asks c.replace_word.ensures.asks;
   goes = λ F e.
       let replaces = subst (λ (o : Option ℕ). IsReplaced F c.in-Some.word c.loop-word.words c.replace_word.new.words (Ok o)) c.in-None.is (c.in_ok-replace_word.ensures.replaces F e) in
       itself_goes F c.loop-word.left c.loop-word.stack.items c.pop.new.self.items c.in-Some.word c.loop-word.words c.push.new.self c.args.args
-      c.in-Some.ensures.items (c.in_ok-push-in-None.ensures.ok ∙ ap (λ words. words ++ c.in-Some.word ∷ []) replaces.1) replaces.0 (c.loop-word.invariant.goes F (extends_then (asks_extends c.replace_word.ensures.asks) e));
+      c.in-Some.ensures.items (c.in_ok-push-in-None.ensures.ok ∙ ap (λ words. words ++ c.in-Some.word ∷ []) replaces.1) replaces.0 (c.loop-word.invariant.goes F (extends_before c.replace_word.ensures.asks e));
   bound = c.loop-word.invariant.bound;
 }
 
@@ -25,15 +25,15 @@ pub returns-in-Some-2-clause-expands : goal.returns-in-Some-2-clause-expands
 returns-in-Some-2-clause-expands g c F e =
     let replaces = subst (λ (o : Option ℕ). IsReplaced F c.in-Some.word c.loop-word.words c.replace_word.new.words (Ok o)) c.in-Some-2.is (c.in_ok-replace_word.ensures.replaces F e) in
     inr (many_refused F c.loop-word.left c.loop-word.stack.items c.pop.new.self.items c.in-Some.word c.loop-word.words c.replace_word.new.words c.args.args
-    c.in-Some.ensures.items c.if-left-eq0.true replaces.1 (c.loop-word.invariant.goes F (extends_then (asks_extends c.replace_word.ensures.asks) e)))
+    c.in-Some.ensures.items c.if-left-eq0.true replaces.1 (c.loop-word.invariant.goes F (extends_before c.replace_word.ensures.asks e)))
 
 pub loop-word-preserved : goal.loop-word-preserved
 loop-word-preserved g c = record {
-  asks = asks_then c.loop-word.invariant.asks c.replace_word.ensures.asks;
+  asks = asked_further c.loop-word.invariant.asks c.replace_word.ensures.asks;
   goes = λ F e.
       let replaces = subst (λ (o : Option ℕ). IsReplaced F c.in-Some.word c.loop-word.words c.replace_word.new.words (Ok o)) c.in-Some-2.is (c.in_ok-replace_word.ensures.replaces F e) in
       put_goes F c.loop-word.left (c.loop-word.left - 1) c.in-Some-2.field-0 c.loop-word.stack.items c.pop.new.self.items c.put_words.new.stack.items c.in-Some.word c.loop-word.words c.replace_word.new.words c.put_words.new.words c.args.args
-      c.in-Some.ensures.items (omega arith) replaces c.in_ok-put_words-in-Some-2-2.ensures (c.loop-word.invariant.goes F (extends_then (asks_extends c.replace_word.ensures.asks) e));
+      c.in-Some.ensures.items (omega arith) replaces c.in_ok-put_words-in-Some-2-2.ensures (c.loop-word.invariant.goes F (extends_before c.replace_word.ensures.asks e));
   bound = omega arith;
 }
 
@@ -44,19 +44,19 @@ returns-clause-expands g c F e =
     (c.loop-word.left, end_goes F c.loop-word.left c.loop-word.stack.items c.loop-word.words c.args.args empty (c.loop-word.invariant.goes F e), refl)
 
 pub returns-in_err-replace_word-clause-asks : goal.returns-in_err-replace_word-clause-asks
-returns-in_err-replace_word-clause-asks g c = asks_then c.loop-word.invariant.asks c.replace_word.ensures.asks
+returns-in_err-replace_word-clause-asks g c = asked_further c.loop-word.invariant.asks c.replace_word.ensures.asks
 
 pub returns-in_err-push-in-None-clause-asks : goal.returns-in_err-push-in-None-clause-asks
-returns-in_err-push-in-None-clause-asks g c = asks_then c.loop-word.invariant.asks c.replace_word.ensures.asks
+returns-in_err-push-in-None-clause-asks g c = asked_further c.loop-word.invariant.asks c.replace_word.ensures.asks
 
 pub returns-in_err-push-in-None-clause-expands : goal.returns-in_err-push-in-None-clause-expands
 returns-in_err-push-in-None-clause-expands g c F e = expands_memory F c.args.args _ c.from_residual-in_err-push-in-None.ensures.1
 
 pub returns-in-Some-2-clause-asks : goal.returns-in-Some-2-clause-asks
-returns-in-Some-2-clause-asks g c = asks_then c.loop-word.invariant.asks c.replace_word.ensures.asks
+returns-in-Some-2-clause-asks g c = asked_further c.loop-word.invariant.asks c.replace_word.ensures.asks
 
 pub returns-in_err-put_words-in-Some-2-2-clause-asks : goal.returns-in_err-put_words-in-Some-2-2-clause-asks
-returns-in_err-put_words-in-Some-2-2-clause-asks g c = asks_then c.loop-word.invariant.asks c.replace_word.ensures.asks
+returns-in_err-put_words-in-Some-2-2-clause-asks g c = asked_further c.loop-word.invariant.asks c.replace_word.ensures.asks
 
 pub returns-in_err-put_words-in-Some-2-2-clause-expands : goal.returns-in_err-put_words-in-Some-2-2-clause-expands
 returns-in_err-put_words-in-Some-2-2-clause-expands g c F e = expands_memory F c.args.args _ c.from_residual-in_err-put_words-in-Some-2-2.ensures.1

@@ -1,13 +1,14 @@
 use Rattle.drv_args.proofs.Expanding.{GoesOn}
-use Rattle.drv_system.specs.Asking.{Asks, Extends}
+use Rattle.drv_system.specs.Asking.{Extends}
+use Rattle.drv_system.specs.Code.Asked.{Asked}
 use Rattle.drv_system.specs.Facts.{Facts}
 use Rattle.std.proofs.Common.{◌≤◌, ◌+◌, ◌*◌, ◌^◌, reverse, vec_len}
 use Rattle.drv_args.proofs.expansion.expand_all.Given as goal
 
 abbrev pub invariant-loop-word : goal.invariant-loop-word
 invariant-loop-word g l = record {
-  asks : Asks (g.S.System.events l.fn.sys) (g.S.System.events l.sys) l.fn.facts l.facts;
-  goes : (F : Facts) → Extends l.facts F → GoesOn F l.left (reverse l.stack.items) l.words l.fn.args;
+  asks : Asked g.S.System.events l.fn.outside l.outside;
+  goes : (F : Facts) → Extends l.outside.facts.now F → GoesOn F l.left (reverse l.stack.items) l.words l.fn.args;
   bound : l.left ≤ 2000;
 }
 

@@ -1,4 +1,3 @@
-use Rattle.drv_machine.proofs.AskedCalls.{asked_further, extends_before}
 use Rattle.drv_machine.proofs.EmitSteps.{put_fails, put_one, put_world}
 use Rattle.drv_machine.proofs.Steps.{fails_as}
 use Rattle.drv_machine.proofs.emitting.put_switches.Goals as goal
@@ -6,6 +5,7 @@ use Rattle.drv_machine.specs.Atoms.{switch_atoms}
 use Rattle.drv_machine.specs.Code.ByKind.{put_at}
 use Rattle.drv_machine.specs.Code.Running.{run}
 use Rattle.drv_machine.specs.Working.{puts}
+use Rattle.drv_system.proofs.AskedCalls.{asked_further, extends_before}
 use Rattle.drv_system.proofs.Asking.{extends_refl}
 use Rattle.std.proofs.Common.{arith, get_or, length, rules, sym, ◌<◌, ◌∙◌}
 use Rattle.std.proofs.lemmas.List.Elements.{All-get_or}

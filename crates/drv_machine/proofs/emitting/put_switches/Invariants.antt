@@ -1,9 +1,9 @@
-use Rattle.drv_machine.specs.Code.Asked.{Asked}
-use Rattle.drv_machine.specs.Code.ByKind.{put_at}
 use Rattle.drv_machine.proofs.emitting.put_switches.Given as goal
+use Rattle.drv_machine.specs.Code.ByKind.{put_at}
 use Rattle.drv_machine.specs.Code.Running.{run}
 use Rattle.drv_machine.specs.Working.{puts}
 use Rattle.drv_system.specs.Asking.{Extends}
+use Rattle.drv_system.specs.Code.Asked.{Asked}
 use Rattle.drv_system.specs.Facts.{Facts}
 use Rattle.std.proofs.Common.{◌≡◌, drop}
 

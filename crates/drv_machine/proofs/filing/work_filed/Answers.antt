@@ -1,5 +1,5 @@
-use Rattle.drv_machine.proofs.AskedCalls.{asked_further, extends_before}
 use Rattle.drv_machine.proofs.filing.work_filed.Goals as goal
+use Rattle.drv_system.proofs.AskedCalls.{asked_further, extends_before}
 use Rattle.std.proofs.Common.{rules}
 
 pub returns-in_err-open_filed-clause-does : goal.returns-in_err-open_filed-clause-does

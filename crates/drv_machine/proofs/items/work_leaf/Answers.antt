@@ -2,10 +2,10 @@ use Rattle.drv_machine.proofs.items.work_leaf.Goals as goal
 use Rattle.drv_machine.proofs.Steps.{gives_as, then_ok}
 use Rattle.drv_machine.proofs.WorkSteps.{by_leaf, leaf_unnamed}
 use Rattle.drv_machine.specs.Atoms.{input_name}
-use Rattle.drv_machine.specs.Names.{base, stem}
 use Rattle.drv_machine.specs.Code.Running.{run}
 use Rattle.drv_machine.specs.Working.{bytes}
 use Rattle.drv_syntax.specs.declared.token.Leaf.TheVariants as leaves
+use Rattle.drv_words.specs.FileNames.{base, stem}
 use Rattle.std.proofs.Common.{ap, refl, rules, sym, ◌∙◌}
 
 pub returns-in_err-input_name-in-InputName-clause-does : goal.returns-in_err-input_name-in-InputName-clause-does

@@ -1,4 +1,3 @@
-use Rattle.drv_machine.proofs.AskedCalls.{asked_further, asked_none, extends_before}
 use Rattle.drv_machine.proofs.Onward.{left_in, weight_one}
 use Rattle.drv_machine.proofs.TurnSteps.{as_left, can_close, closed, given_of, item_in, none_popped, walk_ended}
 use Rattle.drv_machine.proofs.turns.settle.Goals as goal
@@ -6,6 +5,7 @@ use Rattle.drv_machine.specs.Code.Walking.{Left, weight}
 use Rattle.drv_machine.specs.declared.fault.MachineFault.TheVariants.{Memory}
 use Rattle.drv_machine.specs.declared.walk.Frame.{Frame}
 use Rattle.drv_machine.specs.declared.walk.Walk.{Walk}
+use Rattle.drv_system.proofs.AskedCalls.{asked_further, asked_none, extends_before}
 use Rattle.drv_system.proofs.Asking.{extends_refl}
 use Rattle.drv_system.specs.Facts.{no_facts}
 use Rattle.drv_system.specs.Known.{Is}

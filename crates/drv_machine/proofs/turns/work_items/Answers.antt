@@ -1,7 +1,7 @@
-use Rattle.drv_machine.proofs.AskedCalls.{asked_further, asked_none, extends_before}
 use Rattle.drv_machine.proofs.Settling.{settled_more, settled_none}
 use Rattle.drv_machine.proofs.TurnSteps.{as_left, framed_of, given_of, lain_of}
 use Rattle.drv_machine.proofs.turns.work_items.Goals as goal
+use Rattle.drv_system.proofs.AskedCalls.{asked_further, asked_none, extends_before}
 use Rattle.drv_system.proofs.Asking.{extends_refl}
 use Rattle.std.proofs.Common.{arith, rules, ◌∙◌}
 

@@ -1,9 +1,9 @@
 use Rattle.drv_machine.proofs.turns.work_items.Given as goal
-use Rattle.drv_machine.specs.Code.Asked.{Asked}
 use Rattle.drv_machine.specs.Code.Running.{Machine}
 use Rattle.drv_machine.specs.Code.Walking.{HasFrames, Lain, Left}
 use Rattle.drv_machine.specs.Working.{Answer}
 use Rattle.drv_system.specs.Asking.{Extends}
+use Rattle.drv_system.specs.Code.Asked.{Asked}
 use Rattle.drv_system.specs.Facts.{Facts}
 use Rattle.std.proofs.Common.{length, ◌-◌, ◌≡◌}
 

@@ -1,12 +1,12 @@
-use Rattle.drv_machine.proofs.AskedCalls.{asked_further, extends_before}
 use Rattle.drv_machine.proofs.Steps.{fails_as}
 use Rattle.drv_machine.proofs.whole.finish.Goals as goal
 use Rattle.drv_machine.specs.Atoms.{whole_text}
-use Rattle.drv_machine.specs.Outcome.{finished}
 use Rattle.drv_machine.specs.Code.Running.{Machine, run}
+use Rattle.drv_machine.specs.Outcome.{finished}
 use Rattle.drv_machine.specs.Working.{◌>>-◌, Answer}
 use Rattle.drv_machine.specs.declared.fault.MachineFault.TheVariants.{Memory}
 use Rattle.drv_syntax.specs.Parsed.{tree_of}
+use Rattle.drv_system.proofs.AskedCalls.{asked_further, extends_before}
 use Rattle.drv_system.specs.Gives.{GivesKnown}
 use Rattle.std.proofs.Common.{ap, rules, subst, sym}
 

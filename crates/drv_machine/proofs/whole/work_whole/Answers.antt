@@ -1,10 +1,10 @@
-use Rattle.drv_machine.proofs.AskedCalls.{asked_further, extends_before}
 use Rattle.drv_machine.proofs.Steps.{then_fails, then_ok}
 use Rattle.drv_machine.proofs.whole.work_whole.Goals as goal
 use Rattle.drv_machine.specs.Atoms.{items_step, levels_left}
 use Rattle.drv_machine.specs.Working.{Break, End, most_open, puts}
 use Rattle.drv_machine.specs.declared.fault.MachineFault.TheVariants.{Memory}
 use Rattle.drv_syntax.specs.Parsed.{tree_of}
+use Rattle.drv_system.proofs.AskedCalls.{asked_further, extends_before}
 use Rattle.drv_system.specs.Gives.{GivesKnown}
 use Rattle.std.proofs.Common.{[], rules, subst, sym, ◌∷◌}
 

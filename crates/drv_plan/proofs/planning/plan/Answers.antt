@@ -1,11 +1,14 @@
 use Rattle.drv_plan.proofs.Steps.{given_alike, prefixes_first}
 use Rattle.drv_plan.proofs.planning.plan.Goals as goal
 use Rattle.drv_plan.specs.Denoted.{denoted, planned}
-use Rattle.drv_system.proofs.Asking.{asks_extends, extends_then}
+use Rattle.drv_system.proofs.AskedCalls.{extends_before}
+use Rattle.drv_system.specs.Asking.{Extends}
+use Rattle.std.proofs.Common.{rules}
 
 pub returns-clause-plans : goal.returns-clause-plans
 returns-clause-plans g c F e =
+    let known : Extends c.planned.new.outside.facts.now F = search rules in
     given_alike _ c.planned.result (planned F c.args.set.now c.as_slice-2.result.now c.in_ok-context.context) (denoted F c.args.line.now c.args.set.now c.args.seed)
     (prefixes_first F c.args.line.now c.args.set.now c.args.seed c.as_slice.result.now c.as_slice-2.result.now c.in_ok-prefixes.prefixes c.in_ok-context.context
-    c.as_slice.ensures c.as_slice-2.ensures (c.in_ok-prefixes.ensures.prefixes F (extends_then (asks_extends c.planned.ensures.asks) e)) c.in_ok-context.ensures)
-    (c.planned.ensures.works F e)
+    c.as_slice.ensures c.as_slice-2.ensures (c.in_ok-prefixes.ensures.prefixes F (extends_before c.planned.ensures.asks known)) c.in_ok-context.ensures)
+    (c.planned.ensures.works F known)

@@ -1,7 +1,7 @@
 use Rattle.drv_plan.proofs.Steps.{given_alike, inputs_refused, inputs_worked, refusal_given}
 use Rattle.drv_plan.proofs.planning.plan_inputs.Goals as goal
 use Rattle.drv_plan.specs.Denoted.{finished, then_by, with_inputs}
-use Rattle.drv_system.proofs.Asking.{asks_extends, extends_then}
+use Rattle.drv_system.proofs.AskedCalls.{extends_before}
 
 pub returns-in_err-add_inputs-clause-works : goal.returns-in_err-add_inputs-clause-works
 returns-in_err-add_inputs-clause-works g c F e =
@@ -11,5 +11,5 @@ returns-in_err-add_inputs-clause-works g c F e =
 pub returns-clause-works : goal.returns-clause-works
 returns-clause-works g c F e =
     given_alike _ c.finish.result (finished F c.args.set.now c.add_inputs.new.progress) (then_by (with_inputs F c.args.set.now 0 c.args.inputs.now c.args.progress.now) (λ g'. finished F c.args.set.now g'))
-    (inputs_worked F c.args.set.now c.args.inputs.now c.args.progress.now c.add_inputs.new.progress (c.in_ok-add_inputs.ensures.works F (extends_then (asks_extends c.finish.ensures.asks) e)))
+    (inputs_worked F c.args.set.now c.args.inputs.now c.args.progress.now c.add_inputs.new.progress (c.in_ok-add_inputs.ensures.works F (extends_before c.finish.ensures.asks e)))
     (c.finish.ensures.works F e)

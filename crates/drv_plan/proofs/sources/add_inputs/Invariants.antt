@@ -1,11 +1,12 @@
 use Rattle.drv_plan.proofs.sources.add_inputs.Given as goal
 use Rattle.drv_plan.specs.Denoted.{with_inputs}
-use Rattle.drv_system.specs.Asking.{Asks, Extends}
+use Rattle.drv_system.specs.Asking.{Extends}
+use Rattle.drv_system.specs.Code.Asked.{Asked}
 use Rattle.drv_system.specs.Facts.{Facts}
 use Rattle.std.proofs.Common.{◌≡◌, drop}
 
 abbrev pub invariant-loop-place : goal.invariant-loop-place
 invariant-loop-place g l = record {
-  asks : Asks (g.S.System.events l.fn.sys) (g.S.System.events l.sys) l.fn.facts l.facts;
-  rest : (F : Facts) → Extends l.facts F → with_inputs F l.set l.place (drop l.place l.inputs) l.progress ≡ with_inputs F l.set 0 l.inputs l.fn.progress;
+  asks : Asked g.S.System.events l.fn.outside l.outside;
+  rest : (F : Facts) → Extends l.outside.facts.now F → with_inputs F l.set l.place (drop l.place l.inputs) l.progress ≡ with_inputs F l.set 0 l.inputs l.fn.progress;
 }

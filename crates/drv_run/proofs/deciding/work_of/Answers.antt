@@ -1,6 +1,6 @@
 use Rattle.drv_run.proofs.Steps.{reading_ends, words_end}
+use Rattle.drv_system.proofs.AskedCalls.{extends_before}
 use Rattle.drv_run.proofs.deciding.work_of.Goals as goal
-use Rattle.drv_system.proofs.Asking.{asks_extends, extends_then}
 
 pub returns-in_err-words-clause-comes : goal.returns-in_err-words-clause-comes
 returns-in_err-words-clause-comes g c F e =
@@ -16,4 +16,4 @@ work_of_line-requires g c = c.in_ok-line.ensures.jobs
 
 pub returns-clause-comes : goal.returns-clause-comes
 returns-clause-comes g c F e =
-    c.work_of_line.ensures.comes F e c.args.args c.in_ok-words.words (c.in_ok-words.ensures.gives F (extends_then (asks_extends c.work_of_line.ensures.asks) e)) c.in_ok-line.ensures.line
+    c.work_of_line.ensures.comes F e c.args.args c.in_ok-words.words (c.in_ok-words.ensures.gives F (extends_before c.work_of_line.ensures.asks e)) c.in_ok-line.ensures.line

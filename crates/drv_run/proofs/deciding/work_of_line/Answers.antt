@@ -1,6 +1,6 @@
 use Rattle.drv_run.proofs.Steps.{line_comes, loading_ends}
+use Rattle.drv_system.proofs.AskedCalls.{extends_before}
 use Rattle.drv_run.proofs.deciding.work_of_line.Goals as goal
-use Rattle.drv_system.proofs.Asking.{asks_extends, extends_then}
 
 pub returns-in_err-set-clause-comes : goal.returns-in_err-set-clause-comes
 returns-in_err-set-clause-comes g c F e args words gives reads =
@@ -9,4 +9,4 @@ returns-in_err-set-clause-comes g c F e args words gives reads =
 pub returns-clause-comes : goal.returns-clause-comes
 returns-clause-comes g c F e args words gives reads =
     line_comes F args c.args.seed words c.args.line.now c.in_ok-set.set c.work_with_specs.result gives reads
-    (c.in_ok-set.ensures.loads F (extends_then (asks_extends c.work_with_specs.ensures.asks) e)) (c.work_with_specs.ensures.comes F e)
+    (c.in_ok-set.ensures.loads F (extends_before c.work_with_specs.ensures.asks e)) (c.work_with_specs.ensures.comes F e)

@@ -1,6 +1,6 @@
 use Rattle.drv_search.proofs.Options.{one_folder, two_folders}
+use Rattle.drv_system.proofs.AskedCalls.{extends_before}
 use Rattle.drv_search.proofs.folders.push_options.Goals as goal
-use Rattle.drv_system.proofs.Asking.{asks_extends, extends_then}
 use Rattle.std.proofs.Common.{◌∙◌, sym}
 
 pub returns-then-not-ends_with_slash-clause-options : goal.returns-then-not-ends_with_slash-clause-options
@@ -12,4 +12,4 @@ pub returns-clause-options : goal.returns-clause-options
 returns-clause-options g c F e =
     two_folders F c.args.prefix.now c.args.options.now c.push_machine_option.new.options c.push_option.new.options c.push_option.result
     (sym c.ends_with_slash.ensures ∙ c.if-not-ends_with_slash.false)
-    (c.in_ok-push_machine_option.ensures.option F (extends_then (asks_extends c.push_option.ensures.asks) e)) (c.push_option.ensures.option F e)
+    (c.in_ok-push_machine_option.ensures.option F (extends_before c.push_option.ensures.asks e)) (c.push_option.ensures.option F e)

@@ -3,7 +3,7 @@ use Rattle.drv_specs.proofs.loading.+carry_out.Goals as goal
 use Rattle.drv_specs.specs.Directives.{Include, read_settled}
 use Rattle.drv_specs.specs.Loading.{all_carried, including}
 use Rattle.drv_specs.specs.Code.Slices.{shown}
-use Rattle.drv_system.proofs.Asking.{asks_extends, asks_then, extends_then}
+use Rattle.drv_system.proofs.AskedCalls.{asked_further, extends_before}
 use Rattle.std.proofs.Common.{◌-◌, ap, arith, inr, refl}
 
 pub returns-then-levels-eq0-clause-asks : goal.returns-then-levels-eq0-clause-asks
@@ -13,10 +13,10 @@ pub returns-then-files-eq0-clause-asks : goal.returns-then-files-eq0-clause-asks
 returns-then-files-eq0-clause-asks g n c = c.loop-directive.invariant.asks
 
 pub returns-in_err-text-in-Include-clause-asks : goal.returns-in_err-text-in-Include-clause-asks
-returns-in_err-text-in-Include-clause-asks g n c = asks_then c.loop-directive.invariant.asks c.file_text.ensures.asks
+returns-in_err-text-in-Include-clause-asks g n c = asked_further c.loop-directive.invariant.asks c.file_text.ensures.asks
 
 pub returns-in_err-carry_out-in-Include-clause-asks : goal.returns-in_err-carry_out-in-Include-clause-asks
-returns-in_err-carry_out-in-Include-clause-asks g n c = asks_then c.loop-directive.invariant.asks (asks_then c.file_text.ensures.asks c.carry_out.ensures.asks)
+returns-in_err-carry_out-in-Include-clause-asks g n c = asked_further c.loop-directive.invariant.asks (asked_further c.file_text.ensures.asks c.carry_out.ensures.asks)
 
 pub returns-then-levels-eq0-clause-carried : goal.returns-then-levels-eq0-clause-carried
 returns-then-levels-eq0-clause-carried g n c F e =
@@ -37,7 +37,7 @@ returns-in_err-text-in-Include-clause-carried g n c F e =
     c.from_residual.ensures.1
     (unread_refused F c.args.prefixes.now c.loop-directive.entries c.loop-directive.files c.args.levels c.loop-directive.reader c.next.new.self c.in-Include.if_missing c.in-Include.file.now
     (all_carried (including F c.args.prefixes.now c.args.levels) (record { set = c.args.entries.now; files = c.args.files.now }) (read_settled c.args.text.now))
-    (taken c.loop-directive.reader c.next.new.self c.next.result c.in-Some.directive (Include c.in-Include.if_missing c.in-Include.file.now) c.next.ensures.directives c.in-Some.is (ap shown c.in-Include.is)) (c.loop-directive.invariant.rest F (extends_then (asks_extends c.file_text.ensures.asks) e))
+    (taken c.loop-directive.reader c.next.new.self c.next.result c.in-Some.directive (Include c.in-Include.if_missing c.in-Include.file.now) c.next.ensures.directives c.in-Some.is (ap shown c.in-Include.is)) (c.loop-directive.invariant.rest F (extends_before c.file_text.ensures.asks e))
     (c.args.levels - 1) (c.loop-directive.files - 1) (omega arith) (omega arith) c.in_err-text-in-Include.field-0.0 (c.in_err-text-in-Include.ensures.text F e))
 
 pub returns-in_err-carry_out-in-Include-clause-carried : goal.returns-in_err-carry_out-in-Include-clause-carried
@@ -47,19 +47,19 @@ returns-in_err-carry_out-in-Include-clause-carried g n c F e =
     c.from_residual-in_err-carry_out-in-Include.ensures.1
     (worked_refused F c.args.prefixes.now c.loop-directive.entries c.loop-directive.files c.args.levels c.loop-directive.reader c.next.new.self c.in-Include.if_missing c.in-Include.file.now
     (all_carried (including F c.args.prefixes.now c.args.levels) (record { set = c.args.entries.now; files = c.args.files.now }) (read_settled c.args.text.now))
-    (taken c.loop-directive.reader c.next.new.self c.next.result c.in-Some.directive (Include c.in-Include.if_missing c.in-Include.file.now) c.next.ensures.directives c.in-Some.is (ap shown c.in-Include.is)) (c.loop-directive.invariant.rest F (extends_then (asks_extends c.file_text.ensures.asks) (extends_then (asks_extends c.carry_out.ensures.asks) e)))
+    (taken c.loop-directive.reader c.next.new.self c.next.result c.in-Some.directive (Include c.in-Include.if_missing c.in-Include.file.now) c.next.ensures.directives c.in-Some.is (ap shown c.in-Include.is)) (c.loop-directive.invariant.rest F (extends_before (asked_further c.file_text.ensures.asks c.carry_out.ensures.asks) e))
     (c.args.levels - 1) (c.loop-directive.files - 1) (omega arith) (omega arith) c.in_ok-text-in-Include.text.items c.as_slice.result.now c.in_err-carry_out-in-Include.field-0.0
-    (c.in_ok-text-in-Include.ensures.text F (extends_then (asks_extends c.carry_out.ensures.asks) e)) c.as_slice.ensures.value (c.in_err-carry_out-in-Include.ensures.carried F e))
+    (c.in_ok-text-in-Include.ensures.text F (extends_before c.carry_out.ensures.asks e)) c.as_slice.ensures.value (c.in_err-carry_out-in-Include.ensures.carried F e))
 
 pub loop-directive-preserved-in-Include : goal.loop-directive-preserved-in-Include
 loop-directive-preserved-in-Include g n c = record {
-  asks = asks_then c.loop-directive.invariant.asks (asks_then c.file_text.ensures.asks c.carry_out.ensures.asks);
+  asks = asked_further c.loop-directive.invariant.asks (asked_further c.file_text.ensures.asks c.carry_out.ensures.asks);
   rest = λ F e.
       worked_more F c.args.prefixes.now c.loop-directive.entries c.loop-directive.files c.args.levels c.loop-directive.reader c.next.new.self c.in-Include.if_missing c.in-Include.file.now
       (all_carried (including F c.args.prefixes.now c.args.levels) (record { set = c.args.entries.now; files = c.args.files.now }) (read_settled c.args.text.now))
-      (taken c.loop-directive.reader c.next.new.self c.next.result c.in-Some.directive (Include c.in-Include.if_missing c.in-Include.file.now) c.next.ensures.directives c.in-Some.is (ap shown c.in-Include.is)) (c.loop-directive.invariant.rest F (extends_then (asks_extends c.file_text.ensures.asks) (extends_then (asks_extends c.carry_out.ensures.asks) e)))
+      (taken c.loop-directive.reader c.next.new.self c.next.result c.in-Some.directive (Include c.in-Include.if_missing c.in-Include.file.now) c.next.ensures.directives c.in-Some.is (ap shown c.in-Include.is)) (c.loop-directive.invariant.rest F (extends_before (asked_further c.file_text.ensures.asks c.carry_out.ensures.asks) e))
       (c.args.levels - 1) (c.loop-directive.files - 1) (omega arith) (omega arith) c.in_ok-text-in-Include.text.items c.as_slice.result.now (record { set = c.carry_out.new.entries; files = c.carry_out.new.files })
-      (c.in_ok-text-in-Include.ensures.text F (extends_then (asks_extends c.carry_out.ensures.asks) e)) c.as_slice.ensures.value (c.in_ok-carry_out-in-Include.ensures.carried F e);
+      (c.in_ok-text-in-Include.ensures.text F (extends_before c.carry_out.ensures.asks e)) c.as_slice.ensures.value (c.in_ok-carry_out-in-Include.ensures.carried F e);
 }
 
 pub loop-directive-preserved : goal.loop-directive-preserved

@@ -1,14 +1,15 @@
 use Rattle.drv_specs.specs.Directives.{read_settled}
 use Rattle.drv_specs.specs.Loading.{all_carried, including}
-use Rattle.drv_system.specs.Asking.{Asks, Extends}
+use Rattle.drv_system.specs.Asking.{Extends}
+use Rattle.drv_system.specs.Code.Asked.{Asked}
 use Rattle.drv_system.specs.Facts.{Facts}
 use Rattle.std.proofs.Common.{◌≡◌, length}
 use Rattle.drv_specs.proofs.loading.+carry_out.Given as goal
 
 abbrev pub invariant-loop-directive : goal.invariant-loop-directive
 invariant-loop-directive g l = record {
-  asks : Asks (g.S.System.events l.fn.sys) (g.S.System.events l.sys) l.fn.facts l.facts;
-  rest : (F : Facts) → Extends l.facts F
+  asks : Asked g.S.System.events l.fn.outside l.outside;
+  rest : (F : Facts) → Extends l.outside.facts.now F
       → all_carried (including F l.prefixes l.levels) (record { set = l.entries; files = l.files }) l.reader
       ≡ all_carried (including F l.prefixes l.levels) (record { set = l.fn.entries; files = l.fn.files }) (read_settled l.text);
 }

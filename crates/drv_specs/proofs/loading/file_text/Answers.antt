@@ -1,17 +1,17 @@
 use Rattle.drv_specs.proofs.Carrying.{text_given}
 use Rattle.drv_specs.proofs.loading.file_text.Goals as goal
 use Rattle.drv_search.specs.Search.{file_found}
-use Rattle.std.proofs.Common.{◌∙◌, ap, sym}
 use Rattle.drv_system.proofs.Asking.{asks_extends, asks_then, extends_then}
+use Rattle.std.proofs.Common.{◌∙◌, ap, refl, sym}
 
 pub returns-in_err-path-clause-asks : goal.returns-in_err-path-clause-asks
-returns-in_err-path-clause-asks g c = c.find_file.ensures.asks
+returns-in_err-path-clause-asks g c = record { asks = c.find_file.ensures.asks; same_sys = refl; same_facts = refl }
 
 pub returns-in_err-read-clause-asks : goal.returns-in_err-read-clause-asks
-returns-in_err-read-clause-asks g c = asks_then c.find_file.ensures.asks c.read.ensures.asks
+returns-in_err-read-clause-asks g c = record { asks = asks_then c.find_file.ensures.asks c.read.ensures.asks; same_sys = refl; same_facts = refl }
 
 pub returns-clause-asks : goal.returns-clause-asks
-returns-clause-asks g c = asks_then c.find_file.ensures.asks c.read.ensures.asks
+returns-clause-asks g c = record { asks = asks_then c.find_file.ensures.asks c.read.ensures.asks; same_sys = refl; same_facts = refl }
 
 pub returns-clause-text : goal.returns-clause-text
 returns-clause-text g c F e =

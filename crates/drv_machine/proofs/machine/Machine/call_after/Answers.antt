@@ -1,10 +1,10 @@
 use Rattle.drv_machine.proofs.Arguments.{after_fails, after_is}
-use Rattle.drv_machine.proofs.AskedCalls.{asked_further, extends_before}
 use Rattle.drv_machine.proofs.machine.Machine.call_after.Goals as goal
 use Rattle.drv_machine.specs.Atoms.{call_step}
-use Rattle.drv_machine.specs.Cutting.{Cut}
 use Rattle.drv_machine.specs.Code.Running.{run}
+use Rattle.drv_machine.specs.Cutting.{Cut}
 use Rattle.drv_machine.specs.declared.fault.MachineFault.TheVariants.{Memory}
+use Rattle.drv_system.proofs.AskedCalls.{asked_further, extends_before}
 use Rattle.drv_system.specs.Gives.{GivesKnown}
 use Rattle.std.proofs.Common.{ap, rules, subst, ◌≡◌, ◌∙◌}
 

@@ -1,7 +1,7 @@
-use Rattle.drv_machine.proofs.AskedCalls.{asked_further, extends_before}
 use Rattle.drv_machine.proofs.Files.{file_ends, no_end}
 use Rattle.drv_machine.proofs.Steps.{gives_as}
 use Rattle.drv_machine.proofs.machine.Machine.end_file.Goals as goal
+use Rattle.drv_system.proofs.AskedCalls.{asked_further, extends_before}
 use Rattle.std.proofs.Common.{rules, ◌∙◌}
 
 pub returns-in_err-end_word-clause-does : goal.returns-in_err-end_word-clause-does

@@ -1,9 +1,9 @@
 use Rattle.drv_machine.proofs.machine.Machine.put_all_broken.Given as goal
-use Rattle.drv_machine.specs.Code.Asked.{Asked}
 use Rattle.drv_machine.specs.Atoms.{broken_word}
 use Rattle.drv_machine.specs.Code.Running.{run}
 use Rattle.drv_machine.specs.Working.{puts}
 use Rattle.drv_system.specs.Asking.{Extends}
+use Rattle.drv_system.specs.Code.Asked.{Asked}
 use Rattle.drv_system.specs.Facts.{Facts}
 use Rattle.std.proofs.Common.{drop, flat_map, length, ◌≡◌}
 

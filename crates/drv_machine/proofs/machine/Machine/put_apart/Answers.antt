@@ -1,7 +1,7 @@
-use Rattle.drv_machine.proofs.AskedCalls.{asked_further, extends_before}
 use Rattle.drv_machine.proofs.Cutter.{put_last}
 use Rattle.drv_machine.proofs.machine.Machine.put_apart.Goals as goal
 use Rattle.drv_machine.specs.Working.{Break, words}
+use Rattle.drv_system.proofs.AskedCalls.{asked_further, extends_before}
 use Rattle.std.proofs.Common.{[], ◌∷◌}
 
 pub returns-clause-does : goal.returns-clause-does

@@ -1,8 +1,8 @@
-use Rattle.drv_machine.proofs.AskedCalls.{asked_further, extends_before}
 use Rattle.drv_machine.proofs.Cutter.{argument_none, argument_open, put_failed, put_last, whole_failed, whole_last}
 use Rattle.drv_machine.proofs.machine.Machine.put_argument.Goals as goal
 use Rattle.drv_machine.specs.Context.{argument}
 use Rattle.drv_machine.specs.Working.{Break, Put, word_of}
+use Rattle.drv_system.proofs.AskedCalls.{asked_further, extends_before}
 use Rattle.std.proofs.Common.{◌∙◌, Some, [], ◌∷◌, ap, map, rules, sym}
 
 pub returns-in_err-end_word-clause-does : goal.returns-in_err-end_word-clause-does

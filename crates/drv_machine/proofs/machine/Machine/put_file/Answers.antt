@@ -1,8 +1,8 @@
-use Rattle.drv_machine.proofs.AskedCalls.{asked_further, extends_before}
 use Rattle.drv_machine.proofs.Cutter.{put_failed, put_last, whole_failed, whole_last}
 use Rattle.drv_machine.proofs.Files.{file_drawn, none_filed, not_drawn}
 use Rattle.drv_machine.proofs.machine.Machine.put_file.Goals as goal
 use Rattle.drv_machine.specs.Working.{Break, Put}
+use Rattle.drv_system.proofs.AskedCalls.{asked_further, extends_before}
 use Rattle.drv_words.specs.Bytes.{at_sign}
 use Rattle.std.proofs.Common.{[], map, refl, rules, sym, ◌++◌, ◌∙◌, ◌∷◌}
 

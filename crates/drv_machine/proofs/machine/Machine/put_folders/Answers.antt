@@ -1,4 +1,3 @@
-use Rattle.drv_machine.proofs.AskedCalls.{extends_before}
 use Rattle.drv_machine.proofs.Lists.{folders_known}
 use Rattle.drv_machine.proofs.Steps.{gives_as, then_ok}
 use Rattle.drv_machine.proofs.machine.Machine.put_folders.Goals as goal
@@ -6,6 +5,7 @@ use Rattle.drv_machine.specs.Atoms.{broken_word}
 use Rattle.drv_machine.specs.Code.Running.{run}
 use Rattle.drv_machine.specs.Working.{known, needs, puts}
 use Rattle.drv_search.specs.Search.{folder_options}
+use Rattle.drv_system.proofs.AskedCalls.{extends_before}
 use Rattle.std.proofs.Common.{ap, sym, ◌∙◌}
 use Rattle.std.specs.List.{flat_map}
 

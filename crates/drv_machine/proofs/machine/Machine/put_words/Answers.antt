@@ -1,10 +1,10 @@
-use Rattle.drv_machine.proofs.AskedCalls.{asked_further, extends_before}
 use Rattle.drv_machine.proofs.Lists.{next_failed, next_put}
 use Rattle.drv_machine.proofs.Steps.{fails_as}
 use Rattle.drv_machine.proofs.machine.Machine.put_words.Goals as goal
-use Rattle.drv_machine.specs.Working.{whole_word}
 use Rattle.drv_machine.specs.Code.Running.{run}
 use Rattle.drv_machine.specs.Working.{puts}
+use Rattle.drv_machine.specs.Working.{whole_word}
+use Rattle.drv_system.proofs.AskedCalls.{asked_further, extends_before}
 use Rattle.std.proofs.Common.{arith, rules, sym, ◌∙◌}
 use Rattle.std.specs.List.{flat_map}
 

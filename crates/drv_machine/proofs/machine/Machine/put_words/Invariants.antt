@@ -1,8 +1,8 @@
 use Rattle.drv_machine.proofs.machine.Machine.put_words.Given as goal
-use Rattle.drv_machine.specs.Code.Asked.{Asked}
 use Rattle.drv_machine.specs.Code.Running.{run}
 use Rattle.drv_machine.specs.Working.{puts, words}
 use Rattle.drv_system.specs.Asking.{Extends}
+use Rattle.drv_system.specs.Code.Asked.{Asked}
 use Rattle.drv_system.specs.Facts.{Facts}
 use Rattle.std.proofs.Common.{drop, length, ◌≡◌}
 

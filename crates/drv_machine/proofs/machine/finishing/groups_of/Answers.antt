@@ -1,11 +1,11 @@
-use Rattle.drv_machine.proofs.AskedCalls.{asked_further, asked_none, extends_before}
 use Rattle.drv_machine.proofs.Finished.{all_grouped, grouped_none}
 use Rattle.drv_machine.proofs.machine.finishing.groups_of.Goals as goal
 use Rattle.drv_machine.specs.Outcome.{groups}
+use Rattle.drv_system.proofs.AskedCalls.{asked_further, asked_none, extends_before}
+use Rattle.std.proofs.Common.{arith, [], ◌∷◌, ◌≡◌, ◌∙◌, ap, append-nil, append_assoc, rules, sym}
 use Rattle.std.proofs.lemmas.Iterator.Adapters.{YieldsList-from_vec}
 use Rattle.std.proofs.lemmas.Iterator.Consumers.{YieldsList-end}
 use Rattle.std.proofs.lemmas.List.{map-id}
-use Rattle.std.proofs.Common.{arith, [], ◌∷◌, ◌≡◌, ◌∙◌, ap, append-nil, append_assoc, rules, sym}
 
 pub loop-line-init : goal.loop-line-init
 loop-line-init g c = record { asks = asked_none c.args.outside.now; made = λ F e rest. grouped_none c.new-groups.result c.new-begun.result.items (groups F c.args.context.now rest) c.new-groups.ensures (search rules) }

@@ -1,9 +1,9 @@
 use Rattle.drv_machine.proofs.machine.finishing.groups_of.Given as goal
-use Rattle.drv_machine.specs.Code.Asked.{Asked}
-use Rattle.drv_machine.specs.Cutting.{NamedLine}
 use Rattle.drv_machine.specs.Code.Grouping.{grouped}
+use Rattle.drv_machine.specs.Cutting.{NamedLine}
 use Rattle.drv_machine.specs.Outcome.{groups}
 use Rattle.drv_system.specs.Asking.{Extends}
+use Rattle.drv_system.specs.Code.Asked.{Asked}
 use Rattle.drv_system.specs.Facts.{Facts}
 use Rattle.std.proofs.Common.{List, ◌≡◌, ◌++◌}
 

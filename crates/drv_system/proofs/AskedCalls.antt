@@ -1,5 +1,5 @@
-use Rattle.drv_machine.specs.Code.Asked.{Asked}
-use Rattle.drv_machine.specs.declared.outside.Outside.{Outside}
+use Rattle.drv_system.specs.Code.Asked.{Asked}
+use Rattle.drv_system.specs.declared.outside.Outside.{Outside}
 use Rattle.drv_system.proofs.Asking.{asks_extends, asks_nothing, asks_then, extends_then}
 use Rattle.drv_system.specs.Asking.{Extends}
 use Rattle.drv_system.specs.Facts.{Facts}

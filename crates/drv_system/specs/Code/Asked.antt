@@ -1,4 +1,4 @@
-use Rattle.drv_machine.specs.declared.outside.Outside.{Outside}
+use Rattle.drv_system.specs.declared.outside.Outside.{Outside}
 use Rattle.drv_system.specs.Asking.{Asks}
 use Rattle.drv_system.specs.declared.event.Event.{Event}
 use Rattle.std.specs.Prelude.{◌≡◌, List}
