@@ -1,13 +1,13 @@
 //! What is added to a line.
 
+ghost use Rattle.drv_cc.specs.Code.Looking.{words_for};
 ghost use Rattle.drv_cc.specs.Front.{added, all_prefixes, folder_words, folders, is_piped};
-ghost use Rattle.drv_cc.specs.Front.{is_several, library_words, named_folder, needs_threads};
-ghost use Rattle.drv_cc.specs.Front.{pipe_words, prefix_words, program_words, thread_words};
-ghost use Rattle.drv_cc.specs.Front.{unpiped};
+ghost use Rattle.drv_cc.specs.Front.{is_several, named_folder, needs_threads, pipe_words};
+ghost use Rattle.drv_cc.specs.Front.{prefix_words, program_words, thread_words, unpiped};
 ghost use Rattle.drv_cc.specs.Items.{is_among};
 ghost use Rattle.std.specs.List.{flat_map, list_any};
 ghost use Rattle.std.specs.Option.{option_map};
-ghost use Rattle.std.specs.Prelude.{◌≡◌, ◌++◌, OnOk, Some};
+ghost use Rattle.std.specs.Prelude.{◌≡◌, ◌++◌, OnOk};
 
 use crate::Surroundings;
 use crate::checks::add_check_words;
@@ -60,40 +60,52 @@ fn named_folder(folder: &[u8]) -> &[u8]
     if folder.is_empty() { b"./" } else { folder }
 }
 
-/// Adds a folder as a prefix.
-fn add_prefix(alloc: Global, folder: &[u8], words: &mut Listing<Word>) -> Result<(), AllocError>
-    ensures { OnOk result (words.new ≡ words.old ++ prefix_words (named_folder folder.now)) }
-{
-    add_word(alloc, words, b"-B")?;
-    add_word(alloc, words, named_folder(folder))
+/// What is looked for in the folders of a path.
+#[derive(Clone, Copy)]
+enum LookedFor {
+    /// Programs: each folder is a prefix.
+    Programs,
+    /// Libraries.
+    Libraries,
 }
 
-/// Adds a folder of libraries.
-fn add_library(alloc: Global, folder: &[u8], words: &mut Listing<Word>) -> Result<(), AllocError>
-    ensures { OnOk result (words.new ≡ words.old ++ library_words (named_folder folder.now)) }
+/// Adds the words for a folder of a path.
+fn add_folder(
+    alloc: Global,
+    looked_for: LookedFor,
+    folder: &[u8],
+    words: &mut Listing<Word>,
+) -> Result<(), AllocError>
+    ensures { OnOk result
+        (words.new ≡ words.old ++ words_for looked_for (named_folder folder.now)) }
 {
-    add_joined(alloc, words, b"--gdrv-lib=", named_folder(folder))?;
-    Ok(())
-}
-
-/// Adds a prefix for each folder of `COMPILER_PATH`.
-fn add_prefixes(alloc: Global, path: &[u8], words: &mut Listing<Word>) -> Result<(), AllocError>
-    ensures { OnOk result (words.new
-        ≡ words.old ++ flat_map prefix_words (folders (Some path.now))) }
-{
-    for folder in path.split(|byte| *byte == b':') {
-        add_prefix(alloc, folder, words)?;
+    match looked_for {
+        LookedFor::Programs => {
+            add_word(alloc, words, b"-B")?;
+            add_word(alloc, words, named_folder(folder))
+        }
+        LookedFor::Libraries => {
+            add_joined(alloc, words, b"--gdrv-lib=", named_folder(folder))?;
+            Ok(())
+        }
     }
-    Ok(())
 }
 
-/// Adds a word for each folder of `LIBRARY_PATH`.
-fn add_libraries(alloc: Global, path: &[u8], words: &mut Listing<Word>) -> Result<(), AllocError>
-    ensures { OnOk result (words.new
-        ≡ words.old ++ flat_map library_words (folders (Some path.now))) }
+/// Adds the words for each folder of a path, if that is set.
+fn add_path(
+    alloc: Global,
+    looked_for: LookedFor,
+    path: &Option<Word>,
+    words: &mut Listing<Word>,
+) -> Result<(), AllocError>
+    ensures { OnOk result
+        (words.new ≡ words.old ++ flat_map (words_for looked_for) (folders path.now)) }
 {
-    for folder in path.split(|byte| *byte == b':') {
-        add_library(alloc, folder, words)?;
+    let Some(path) = path else {
+        return Ok(());
+    };
+    for folder in path.as_bytes().split(|byte| *byte == b':') {
+        add_folder(alloc, looked_for, folder, words)?;
     }
     Ok(())
 }
@@ -113,20 +125,6 @@ fn add_own_prefixes(
     Ok(())
 }
 
-/// Adds a prefix for each folder of `COMPILER_PATH`, if that is set.
-fn add_path_prefixes(
-    alloc: Global,
-    path: &Option<Word>,
-    words: &mut Listing<Word>,
-) -> Result<(), AllocError>
-    ensures { OnOk result (words.new ≡ words.old ++ flat_map prefix_words (folders path.now)) }
-{
-    match path {
-        Some(path) => add_prefixes(alloc, path.as_bytes(), words),
-        None => Ok(()),
-    }
-}
-
 /// Adds all folders of programs after those of the line.
 fn add_all_prefixes(
     alloc: Global,
@@ -135,7 +133,7 @@ fn add_all_prefixes(
 ) -> Result<(), AllocError>
     ensures { OnOk result (words.new ≡ words.old ++ all_prefixes around.now) }
 {
-    add_path_prefixes(alloc, &around.compiler_path, words)?;
+    add_path(alloc, LookedFor::Programs, &around.compiler_path, words)?;
     add_own_prefixes(alloc, around.folders.as_slice(), words)?;
     add_word(alloc, words, b"--gdrv-dirs")
 }
@@ -166,10 +164,7 @@ fn add_folder_words(
     ensures { OnOk result (words.new ≡ words.old ++ folder_words around.now items.now) }
 {
     add_program_words(alloc, around, items, words)?;
-    match &around.library_path {
-        Some(path) => add_libraries(alloc, path.as_bytes(), words),
-        None => Ok(()),
-    }
+    add_path(alloc, LookedFor::Libraries, &around.library_path, words)
 }
 
 /// Whether an option speaks against pipes, or has them already (GCC manual, "Overall Options",

@@ -209,13 +209,18 @@ const SECTIONS: [Section; 52] = [
     section!(Next, Separate, Switch, b"-aux-info -Tbss -Tdata -Ttext"),
     section!(Next, Separate, Piece, b"-Xassembler -Xpreprocessor"),
     section!(Next, Separate, Library, b"-Xlinker"),
-    section!(Behind, Separate, Switch, b"--assert=>-A --define-macro=>-D"),
-    section!(Behind, Joined, Switch, b"--dump=>-d"),
-    section!(Behind, Separate, Switch, b"--entry=>-e --force-link=>-u"),
-    section!(Behind, Separate, Piece, b"--for-assembler=>-Xassembler"),
-    section!(Behind, Separate, Library, b"--for-linker=>-Xlinker"),
     section!(
-        Behind,
+        Attached,
+        Separate,
+        Switch,
+        b"--assert=>-A --define-macro=>-D"
+    ),
+    section!(Attached, Joined, Switch, b"--dump=>-d"),
+    section!(Attached, Separate, Switch, b"--entry=>-e --force-link=>-u"),
+    section!(Attached, Separate, Piece, b"--for-assembler=>-Xassembler"),
+    section!(Attached, Separate, Library, b"--for-linker=>-Xlinker"),
+    section!(
+        Attached,
         Separate,
         Switch,
         b"--imacros=>-imacros --include=>-include --include-directory=>-I \
@@ -245,10 +250,15 @@ const SECTIONS: [Section; 52] = [
         Refused,
         b"-time= -fcompare-debug= --output-pch="
     ),
-    section!(Behind, Joined, Switch, b"-specs= --specs=>-specs= --param="),
-    section!(Behind, Separate, Switch, b"-aux-info=>-aux-info"),
     section!(
-        Behind,
+        Attached,
+        Joined,
+        Switch,
+        b"-specs= --specs=>-specs= --param="
+    ),
+    section!(Attached, Separate, Switch, b"-aux-info=>-aux-info"),
+    section!(
+        Attached,
         Joined,
         Switch,
         b"-Tbss= -Tdata= -Ttext= -std= -march= -mtune= -mcpu= -fsanitize= -fno-sanitize= \
