@@ -221,6 +221,20 @@ pub fault_there : (m : ReaderState) (stage : Stage) (n b : ℕ) (fault : SyntaxF
 fault_there m stage n b fault h (inl e) = inl e
 fault_there m stage n b fault h (inr e) = inr (step_there m stage n b (Err fault) h e)
 
+-- a run of bytes that go to the word, and the byte that ends it, at the same stage
+module _ (v m : ReaderState) (word : List ℕ) (stage : Stage) (n k : ℕ) (text : List ℕ) (here : v.stage ≡ stage) (grown : walked (with_word word v) ≡ walked m)
+    (inside : k < length text) (taken : pass v n text ≡ pass m (n + k) (drop k text)) where
+  pub end_steps : (u : ReaderState) → step_at stage (n + k) (get_or text k 0) m ≡ Ok u → (k + 1 ≤ length text) × (pass v n text ≡ pass u (n + (k + 1)) (drop (k + 1) text))
+  end_steps u e =
+      run_steps v m n k (get_or text k 0) text inside refl taken u
+      (step_there m stage (n + k) (get_or text k 0) (Ok u) (same_stage v m word stage here grown) e)
+
+  pub end_fails : (u : ReaderState) (r : Result ℕ SyntaxFault) (fault : SyntaxFault) → IsErrAnd r (λ e. e ≡ fault)
+      → (fault ≡ Memory) ⊎ (step_at stage (n + k) (get_or text k 0) m ≡ Err fault) → Reads n text v u r
+  end_fails u r fault is e =
+      run_fails v m n k (get_or text k 0) text inside refl taken u r fault is
+      (fault_there m stage (n + k) (get_or text k 0) fault (same_stage v m word stage here grown) e)
+
 -- the name of a text that a parenthesis ends
 pub named_takes : (v u : ReaderState) (start k n : ℕ) (text name : List ℕ) → v.stage ≡ at.List (stages.NameText start) → v.word ≡ [] → k ≡ prefix_len is_name_byte text → 0 < k → k ≤ 255 → k < length text
     → get_or text k 0 ≡ 41 → name ≡ take k text → walked (with_part (part singles.NamedText takes.Word start (n + k + 1)) (with_word name v)) ≡ walked u

@@ -1,9 +1,9 @@
-use Rattle.drv_syntax.proofs.Runs.{fault_there, run_fails, run_steps, same_stage, step_there, name_takes}
+use Rattle.drv_syntax.proofs.Runs.{end_fails, end_steps, name_takes}
 use Rattle.drv_syntax.proofs.reader.turns.name_turn.Goals as goal
 use Rattle.drv_syntax.specs.Code.States.{state}
 use Rattle.drv_syntax.specs.declared.reader.stages.ListStage.TheVariants as stages
 use Rattle.drv_syntax.specs.declared.reader.stages.Stage.TheVariants as at
-use Rattle.std.proofs.Common.{arith, get_or, ◌+◌, refl}
+use Rattle.std.proofs.Common.{arith}
 
 pub returns-then-size-text-clause-does : goal.returns-then-size-text-clause-does
 returns-then-size-text-clause-does c = (
@@ -14,22 +14,14 @@ returns-then-size-text-clause-does c = (
 
 pub returns-in_err-name_text-clause-does : goal.returns-in_err-name_text-clause-does
 returns-in_err-name_text-clause-does c =
-    run_fails (state c.args.w.now) (state c.extend.new.w) c.args.n c.name_length-size.result (get_or c.args.text.now c.name_length-size.result 0) c.args.text.now
-    (omega (arith, c.name_length-size.ensures.within, c.if-size-text.false)) refl
-    (name_takes (state c.args.w.now) (state c.extend.new.w) c.args.at c.name_length-size.result c.args.n c.args.text.now c.requires.here c.name_length-size.ensures.run
+    end_fails (state c.args.w.now) (state c.extend.new.w) _ (at.List (stages.NameText c.args.at)) c.args.n c.name_length-size.result c.args.text.now c.requires.here c.in_ok-extend.ensures.does
+    (omega (arith, c.name_length-size.ensures.within, c.if-size-text.false)) (name_takes (state c.args.w.now) (state c.extend.new.w) c.args.at c.name_length-size.result c.args.n c.args.text.now c.requires.here c.name_length-size.ensures.run
     (omega (arith, c.if-len-gt255.false, c.if-size-len.false, c.len.ensures, c.len-else-len-gt255.ensures)) c.in_ok-extend.ensures.does)
-    (state c.name_text.new.w) c.from_residual-in_err-name_text.result c.in_err-name_text.field-0.0 c.from_residual-in_err-name_text.ensures.1
-    (fault_there (state c.extend.new.w) (at.List (stages.NameText c.args.at)) (c.args.n + c.name_length-size.result) (get_or c.args.text.now c.name_length-size.result 0) c.in_err-name_text.field-0.0
-    (same_stage (state c.args.w.now) (state c.extend.new.w) _ (at.List (stages.NameText c.args.at)) c.requires.here c.in_ok-extend.ensures.does)
-    c.in_err-name_text.ensures.does)
+    (state c.name_text.new.w) c.from_residual-in_err-name_text.result c.in_err-name_text.field-0.0 c.from_residual-in_err-name_text.ensures.1 c.in_err-name_text.ensures.does
 
 pub returns-clause-does : goal.returns-clause-does
 returns-clause-does c =
-    run_steps (state c.args.w.now) (state c.extend.new.w) c.args.n c.name_length-size.result (get_or c.args.text.now c.name_length-size.result 0) c.args.text.now
-    (omega (arith, c.name_length-size.ensures.within, c.if-size-text.false)) refl
-    (name_takes (state c.args.w.now) (state c.extend.new.w) c.args.at c.name_length-size.result c.args.n c.args.text.now c.requires.here c.name_length-size.ensures.run
+    end_steps (state c.args.w.now) (state c.extend.new.w) _ (at.List (stages.NameText c.args.at)) c.args.n c.name_length-size.result c.args.text.now c.requires.here c.in_ok-extend.ensures.does
+    (omega (arith, c.name_length-size.ensures.within, c.if-size-text.false)) (name_takes (state c.args.w.now) (state c.extend.new.w) c.args.at c.name_length-size.result c.args.n c.args.text.now c.requires.here c.name_length-size.ensures.run
     (omega (arith, c.if-len-gt255.false, c.if-size-len.false, c.len.ensures, c.len-else-len-gt255.ensures)) c.in_ok-extend.ensures.does)
-    (state c.name_text.new.w)
-    (step_there (state c.extend.new.w) (at.List (stages.NameText c.args.at)) (c.args.n + c.name_length-size.result) (get_or c.args.text.now c.name_length-size.result 0) _
-    (same_stage (state c.args.w.now) (state c.extend.new.w) _ (at.List (stages.NameText c.args.at)) c.requires.here c.in_ok-extend.ensures.does)
-    c.in_ok-name_text.ensures.does)
+    (state c.name_text.new.w) c.in_ok-name_text.ensures.does

@@ -1,29 +1,21 @@
-use Rattle.drv_syntax.proofs.Runs.{fault_there, run_fails, run_steps, same_stage, step_there, said_takes}
+use Rattle.drv_syntax.proofs.Runs.{end_fails, end_steps, said_takes}
 use Rattle.drv_syntax.proofs.reader.turns.saying_turn.Goals as goal
 use Rattle.drv_syntax.specs.Code.States.{state}
 use Rattle.drv_syntax.specs.declared.reader.stages.ListStage.TheVariants as stages
 use Rattle.drv_syntax.specs.declared.reader.stages.Stage.TheVariants as at
-use Rattle.std.proofs.Common.{arith, get_or, ◌+◌, refl}
+use Rattle.std.proofs.Common.{arith}
 
 pub returns-then-size-text-clause-does : goal.returns-then-size-text-clause-does
 returns-then-size-text-clause-does c = (c.said_length-size.ensures.within, said_takes (state c.args.w.now) (state c.extend.new.w) c.args.at c.args.kind c.said_length-size.result c.args.n c.args.text.now c.requires.here c.said_length-size.ensures.run c.in_ok-extend.ensures.does)
 
 pub returns-in_err-saying_text-clause-does : goal.returns-in_err-saying_text-clause-does
 returns-in_err-saying_text-clause-does c =
-    run_fails (state c.args.w.now) (state c.extend.new.w) c.args.n c.said_length-size.result (get_or c.args.text.now c.said_length-size.result 0) c.args.text.now
-    (omega (arith, c.said_length-size.ensures.within, c.if-size-text.false)) refl
-    (said_takes (state c.args.w.now) (state c.extend.new.w) c.args.at c.args.kind c.said_length-size.result c.args.n c.args.text.now c.requires.here c.said_length-size.ensures.run c.in_ok-extend.ensures.does)
-    (state c.saying_text.new.w) c.from_residual-in_err-saying_text.result c.in_err-saying_text.field-0.0 c.from_residual-in_err-saying_text.ensures.1
-    (fault_there (state c.extend.new.w) (at.List (stages.SayingText c.args.at c.args.kind)) (c.args.n + c.said_length-size.result) (get_or c.args.text.now c.said_length-size.result 0) c.in_err-saying_text.field-0.0
-    (same_stage (state c.args.w.now) (state c.extend.new.w) _ (at.List (stages.SayingText c.args.at c.args.kind)) c.requires.here c.in_ok-extend.ensures.does)
-    c.in_err-saying_text.ensures.does)
+    end_fails (state c.args.w.now) (state c.extend.new.w) _ (at.List (stages.SayingText c.args.at c.args.kind)) c.args.n c.said_length-size.result c.args.text.now c.requires.here c.in_ok-extend.ensures.does
+    (omega (arith, c.said_length-size.ensures.within, c.if-size-text.false)) (said_takes (state c.args.w.now) (state c.extend.new.w) c.args.at c.args.kind c.said_length-size.result c.args.n c.args.text.now c.requires.here c.said_length-size.ensures.run c.in_ok-extend.ensures.does)
+    (state c.saying_text.new.w) c.from_residual-in_err-saying_text.result c.in_err-saying_text.field-0.0 c.from_residual-in_err-saying_text.ensures.1 c.in_err-saying_text.ensures.does
 
 pub returns-clause-does : goal.returns-clause-does
 returns-clause-does c =
-    run_steps (state c.args.w.now) (state c.extend.new.w) c.args.n c.said_length-size.result (get_or c.args.text.now c.said_length-size.result 0) c.args.text.now
-    (omega (arith, c.said_length-size.ensures.within, c.if-size-text.false)) refl
-    (said_takes (state c.args.w.now) (state c.extend.new.w) c.args.at c.args.kind c.said_length-size.result c.args.n c.args.text.now c.requires.here c.said_length-size.ensures.run c.in_ok-extend.ensures.does)
-    (state c.saying_text.new.w)
-    (step_there (state c.extend.new.w) (at.List (stages.SayingText c.args.at c.args.kind)) (c.args.n + c.said_length-size.result) (get_or c.args.text.now c.said_length-size.result 0) _
-    (same_stage (state c.args.w.now) (state c.extend.new.w) _ (at.List (stages.SayingText c.args.at c.args.kind)) c.requires.here c.in_ok-extend.ensures.does)
-    c.in_ok-saying_text.ensures.does)
+    end_steps (state c.args.w.now) (state c.extend.new.w) _ (at.List (stages.SayingText c.args.at c.args.kind)) c.args.n c.said_length-size.result c.args.text.now c.requires.here c.in_ok-extend.ensures.does
+    (omega (arith, c.said_length-size.ensures.within, c.if-size-text.false)) (said_takes (state c.args.w.now) (state c.extend.new.w) c.args.at c.args.kind c.said_length-size.result c.args.n c.args.text.now c.requires.here c.said_length-size.ensures.run c.in_ok-extend.ensures.does)
+    (state c.saying_text.new.w) c.in_ok-saying_text.ensures.does

@@ -1,29 +1,21 @@
-use Rattle.drv_syntax.proofs.Runs.{fault_there, run_fails, run_steps, same_stage, step_there, suffix_takes}
+use Rattle.drv_syntax.proofs.Runs.{end_fails, end_steps, suffix_takes}
 use Rattle.drv_syntax.proofs.reader.turns.suffix_turn.Goals as goal
 use Rattle.drv_syntax.specs.Code.States.{state}
 use Rattle.drv_syntax.specs.declared.reader.stages.ListStage.TheVariants as stages
 use Rattle.drv_syntax.specs.declared.reader.stages.Stage.TheVariants as at
-use Rattle.std.proofs.Common.{arith, get_or, ◌+◌, refl}
+use Rattle.std.proofs.Common.{arith}
 
 pub returns-then-size-text-clause-does : goal.returns-then-size-text-clause-does
 returns-then-size-text-clause-does c = (c.suffix_length-size.ensures.within, suffix_takes (state c.args.w.now) (state c.extend.new.w) c.args.at c.args.kind c.suffix_length-size.result c.args.n c.args.text.now c.requires.here c.suffix_length-size.ensures.run c.in_ok-extend.ensures.does)
 
 pub returns-in_err-suffix_run-clause-does : goal.returns-in_err-suffix_run-clause-does
 returns-in_err-suffix_run-clause-does c =
-    run_fails (state c.args.w.now) (state c.extend.new.w) c.args.n c.suffix_length-size.result (get_or c.args.text.now c.suffix_length-size.result 0) c.args.text.now
-    (omega (arith, c.suffix_length-size.ensures.within, c.if-size-text.false)) refl
-    (suffix_takes (state c.args.w.now) (state c.extend.new.w) c.args.at c.args.kind c.suffix_length-size.result c.args.n c.args.text.now c.requires.here c.suffix_length-size.ensures.run c.in_ok-extend.ensures.does)
-    (state c.suffix_run.new.w) c.from_residual-in_err-suffix_run.result c.in_err-suffix_run.field-0.0 c.from_residual-in_err-suffix_run.ensures.1
-    (fault_there (state c.extend.new.w) (at.List (stages.SuffixRun c.args.at c.args.kind)) (c.args.n + c.suffix_length-size.result) (get_or c.args.text.now c.suffix_length-size.result 0) c.in_err-suffix_run.field-0.0
-    (same_stage (state c.args.w.now) (state c.extend.new.w) _ (at.List (stages.SuffixRun c.args.at c.args.kind)) c.requires.here c.in_ok-extend.ensures.does)
-    c.in_err-suffix_run.ensures.does)
+    end_fails (state c.args.w.now) (state c.extend.new.w) _ (at.List (stages.SuffixRun c.args.at c.args.kind)) c.args.n c.suffix_length-size.result c.args.text.now c.requires.here c.in_ok-extend.ensures.does
+    (omega (arith, c.suffix_length-size.ensures.within, c.if-size-text.false)) (suffix_takes (state c.args.w.now) (state c.extend.new.w) c.args.at c.args.kind c.suffix_length-size.result c.args.n c.args.text.now c.requires.here c.suffix_length-size.ensures.run c.in_ok-extend.ensures.does)
+    (state c.suffix_run.new.w) c.from_residual-in_err-suffix_run.result c.in_err-suffix_run.field-0.0 c.from_residual-in_err-suffix_run.ensures.1 c.in_err-suffix_run.ensures.does
 
 pub returns-clause-does : goal.returns-clause-does
 returns-clause-does c =
-    run_steps (state c.args.w.now) (state c.extend.new.w) c.args.n c.suffix_length-size.result (get_or c.args.text.now c.suffix_length-size.result 0) c.args.text.now
-    (omega (arith, c.suffix_length-size.ensures.within, c.if-size-text.false)) refl
-    (suffix_takes (state c.args.w.now) (state c.extend.new.w) c.args.at c.args.kind c.suffix_length-size.result c.args.n c.args.text.now c.requires.here c.suffix_length-size.ensures.run c.in_ok-extend.ensures.does)
-    (state c.suffix_run.new.w)
-    (step_there (state c.extend.new.w) (at.List (stages.SuffixRun c.args.at c.args.kind)) (c.args.n + c.suffix_length-size.result) (get_or c.args.text.now c.suffix_length-size.result 0) _
-    (same_stage (state c.args.w.now) (state c.extend.new.w) _ (at.List (stages.SuffixRun c.args.at c.args.kind)) c.requires.here c.in_ok-extend.ensures.does)
-    c.in_ok-suffix_run.ensures.does)
+    end_steps (state c.args.w.now) (state c.extend.new.w) _ (at.List (stages.SuffixRun c.args.at c.args.kind)) c.args.n c.suffix_length-size.result c.args.text.now c.requires.here c.in_ok-extend.ensures.does
+    (omega (arith, c.suffix_length-size.ensures.within, c.if-size-text.false)) (suffix_takes (state c.args.w.now) (state c.extend.new.w) c.args.at c.args.kind c.suffix_length-size.result c.args.n c.args.text.now c.requires.here c.suffix_length-size.ensures.run c.in_ok-extend.ensures.does)
+    (state c.suffix_run.new.w) c.in_ok-suffix_run.ensures.does
