@@ -11,7 +11,7 @@ use Rattle.drv_core.specs.Code.Fleet.{Fleet, Worker, busy, chosen, closed, ended
 use Rattle.drv_core.specs.Code.Machine.{Ended, Stage, after, asks, base, begin, inside, is_kind, left, open_of}
 use Rattle.drv_core.specs.Outcomes.{none}
 use Rattle.drv_core.specs.Story.{Block, event}
-use Rattle.drv_core.specs.Windowed.{SourceBlock, count, has, of}
+use Rattle.drv_core.specs.Windowed.{SourceBlock, count, has}
 use Rattle.drv_words.specs.Places.{no_job}
 use Rattle.drv_words.specs.declared.answers.Answer.{Answer}
 use Rattle.drv_words.specs.declared.plan.Job.{Job}

@@ -1,6 +1,5 @@
 pub mod Able
 pub mod Alone
-pub mod Behind
 pub mod Between
 pub mod Blocks
 pub mod Bound
@@ -23,6 +22,7 @@ pub mod Finish
 pub mod First
 pub mod Fleets
 pub mod Flights
+pub mod Following
 pub mod Follows
 pub mod Going
 pub mod Lanes

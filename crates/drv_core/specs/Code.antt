@@ -8,6 +8,7 @@ pub mod LeftoverView
 pub mod Leftovers
 pub mod Machine
 pub mod Numbering
+pub mod NumberingView
 pub mod Position
 pub mod PositionView
 pub mod Reached

@@ -1,20 +1,18 @@
 //! The files that may be left at the end of a run: the temporaries and the marked files of the jobs
 //! that make calls.
 
-ghost use Rattle.drv_core.specs.Code.LeftoverView.{left_of, lefts_of, remains_of};
-ghost use Rattle.drv_core.specs.Code.Leftovers.{all_files, files_from, job_files, temp_files};
-ghost use Rattle.drv_core.specs.Code.Numbering.{Noted, lefts, number_in, numbered_too};
-ghost use Rattle.drv_core.specs.Outcomes.{File, marked_files};
 ghost use Rattle.drv_core.specs.Code.Counting.{counting, fresh_remains, noting, noting_claim};
 ghost use Rattle.drv_core.specs.Code.Counting.{place_at};
+ghost use Rattle.drv_core.specs.Code.LeftoverView.{left_of, lefts_of, remains_of};
+ghost use Rattle.drv_core.specs.Code.Leftovers.{all_files};
+ghost use Rattle.drv_core.specs.Code.Numbering.{lefts};
 ghost use Rattle.drv_core.specs.Code.Remains.{is_due, is_left, passing, seeking, sought};
 ghost use Rattle.std.specs.List.{position};
-ghost use Rattle.std.specs.Prelude.{◌≡◌, ◌-◌, ◌++◌, ◌∷◌, ◌<◌, ◌≤◌, ◌^◌, [], IfOk, List, OnOk, drop};
-ghost use Rattle.std.specs.Prelude.{false, get_or, length, unwrap_or, ℕ};
+ghost use Rattle.std.specs.Prelude.{◌≡◌, ◌-◌, ◌<◌, ◌≤◌, ◌^◌, [], IfOk, drop, false, get_or, length, ℕ};
 
-use drv_words::{Answer, ClaimAnswer, Job, Place, Plan, Step, Word};
+use crate::numbering::files_of;
+use drv_words::{Answer, ClaimAnswer, Place, Plan, Step};
 use std::alloc::{AllocError, Global};
-use std::collections::HashMap;
 
 /// A temporary or a marked file.
 #[derive(Clone, Copy)]
@@ -39,140 +37,6 @@ pub(crate) struct Leftovers {
     pub(crate) is_linked: bool,
     /// The number of the file that is removed next, or of none.
     pub(crate) at: usize,
-}
-
-/// The number of a path, or a new one.
-fn number_of(known: &HashMap<&Word, usize>, path: &Word, new: usize) -> usize
-    ensures { result ≡ unwrap_or (number_in known.now.entries (λ k. k.now) path.now) new }
-{
-    match known.get(&path) {
-        Some(first) => *first,
-        None => new,
-    }
-}
-
-/// A path that has no number yet gets the next.
-fn note_path<'p>(
-    known: &mut HashMap<&'p Word, usize>,
-    path: &'p Word,
-    first: usize,
-    number: usize,
-) -> Result<(), AllocError>
-    ensures { OnOk result ((p : List ℕ) → number_in known.new.entries (λ k. k.now) p
-        ≡ numbered_too path.now first number (number_in known.old.entries (λ k. k.now)) p) }
-{
-    if first == number {
-        known.insert(path, number)?;
-        return Ok(());
-    }
-    Ok(())
-}
-
-/// One file more, with the number of the first of its path.
-fn add_file<'p>(
-    files: &mut Vec<Leftover>,
-    known: &mut HashMap<&'p Word, usize>,
-    place: Place,
-    path: &'p Word,
-) -> Result<(), AllocError>
-    ensures { (before : List File)
-        → Noted before (lefts_of files.old.items) (number_in known.old.entries (λ k. k.now))
-        → OnOk result (Noted (before ++ record { place = place; path = path.now } ∷ [])
-        (lefts_of files.new.items) (number_in known.new.entries (λ k. k.now))) }
-{
-    let number = files.len();
-    let first = number_of(known, path, number);
-    note_path(known, path, first, number)?;
-    files.push(Leftover { place, first })?;
-    Ok(())
-}
-
-/// The temporaries of a job.
-fn add_temps<'p>(
-    files: &mut Vec<Leftover>,
-    known: &mut HashMap<&'p Word, usize>,
-    number: usize,
-    job: &'p Job,
-) -> Result<(), AllocError>
-    ensures { (before : List File)
-        → Noted before (lefts_of files.old.items) (number_in known.old.entries (λ k. k.now))
-        → OnOk result (Noted (before ++ temp_files number 0 job.now.temps)
-        (lefts_of files.new.items) (number_in known.new.entries (λ k. k.now))) }
-{
-    for (index, temp) in job.temps.as_slice().iter().enumerate() {
-        add_file(files, known, Place::Temp { job: number, index }, &temp.path)?;
-    }
-    Ok(())
-}
-
-/// The marked files of a job.
-fn add_marked<'p>(
-    files: &mut Vec<Leftover>,
-    known: &mut HashMap<&'p Word, usize>,
-    number: usize,
-    job: &'p Job,
-) -> Result<(), AllocError>
-    ensures { (before : List File)
-        → Noted before (lefts_of files.old.items) (number_in known.old.entries (λ k. k.now))
-        → OnOk result (Noted (before ++ marked_files number 0 job.now.marked)
-        (lefts_of files.new.items) (number_in known.new.entries (λ k. k.now))) }
-{
-    for (index, path) in job.marked.as_slice().iter().enumerate() {
-        add_file(files, known, Place::Marked { job: number, index }, path)?;
-    }
-    Ok(())
-}
-
-/// The files of a job that makes calls.
-fn add_job<'p>(
-    files: &mut Vec<Leftover>,
-    known: &mut HashMap<&'p Word, usize>,
-    number: usize,
-    job: &'p Job,
-) -> Result<(), AllocError>
-    ensures { (before : List File)
-        → Noted before (lefts_of files.old.items) (number_in known.old.entries (λ k. k.now))
-        → OnOk result (Noted (before ++ job_files number job.now)
-        (lefts_of files.new.items) (number_in known.new.entries (λ k. k.now))) }
-{
-    if job.groups.as_slice().is_empty() {
-        return Ok(());
-    }
-    add_temps(files, known, number, job)?;
-    add_marked(files, known, number, job)
-}
-
-/// The files of the sources.
-fn add_sources<'p>(
-    files: &mut Vec<Leftover>,
-    known: &mut HashMap<&'p Word, usize>,
-    jobs: &'p [Job],
-) -> Result<(), AllocError>
-    ensures { (before : List File)
-        → Noted before (lefts_of files.old.items) (number_in known.old.entries (λ k. k.now))
-        → OnOk result (Noted (before ++ files_from 0 jobs.now)
-        (lefts_of files.new.items) (number_in known.new.entries (λ k. k.now))) }
-{
-    for (number, job) in jobs.iter().enumerate() {
-        add_job(files, known, number, job)?;
-    }
-    Ok(())
-}
-
-/// The files of all jobs.
-fn files_of(alloc: Global, plan: &Plan) -> Result<Vec<Leftover>, AllocError>
-    ensures { IfOk result (λ files. lefts_of files.items ≡ lefts [] (all_files plan.now)) }
-{
-    let mut files = Vec::new(alloc);
-    let mut known = HashMap::new(alloc);
-    add_sources(&mut files, &mut known, plan.jobs.as_slice())?;
-    match &plan.link {
-        Some(link) => {
-            add_job(&mut files, &mut known, plan.jobs.len(), link)?;
-            Ok(files)
-        }
-        None => Ok(files),
-    }
 }
 
 impl Leftovers {

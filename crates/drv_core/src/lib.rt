@@ -8,6 +8,7 @@ mod flight;
 mod law;
 mod leftovers;
 mod needed;
+mod numbering;
 mod run;
 mod source;
 mod work;

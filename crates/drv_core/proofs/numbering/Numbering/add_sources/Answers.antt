@@ -1,5 +1,5 @@
 use Rattle.drv_core.proofs.Notes.{noting_all, noting_next, noting_starts}
-use Rattle.drv_core.proofs.leftovers.add_sources.Goals as goal
+use Rattle.drv_core.proofs.numbering.Numbering.add_sources.Goals as goal
 use Rattle.drv_core.specs.Code.Leftovers.{files_from, job_files}
 use Rattle.std.proofs.Common.{refl}
 
