@@ -79,8 +79,8 @@ class Crates:
 
 
 def taken(source, to):
-    """Links a file that rt replaces and doesn't write into, and copies any other."""
-    return os.link(source, to) if source.endswith((".rt", ".antt", ".oantt")) else shutil.copy2(source, to)
+    """Links a file that rt replaces and doesn't write into, and copies any other. (A library's checked.a has up to 300 MB.)"""
+    return os.link(source, to) if source.endswith((".rt", ".antt", ".oantt", ".json", ".a")) else shutil.copy2(source, to)
 
 
 class Room:
@@ -194,6 +194,12 @@ def chains(tasks):
     return found
 
 
+def given(future):
+    """What a task gave; of one that broke off, why it did."""
+    broken = future.exception()
+    return Proof(f"it broke off: {repr(broken)[:400]}\n", 0) if broken else future.result()
+
+
 def in_lanes(tasks, begun, ended):
     """Does tasks side by side, those of the longest chain first, and tells whether all were done. That of the longest chain has one job
     more and one for each lane that stands idle, where memory allows. `begun` is told each task, and `ended` each with what it gave;
@@ -217,7 +223,7 @@ def in_lanes(tasks, begun, ended):
             for future in wait(running, return_when=FIRST_COMPLETED).done:
                 it, _ = running.pop(future)
                 done.add(it.name)
-                goes_on = ended(it, future.result()) and goes_on
+                goes_on = ended(it, given(future)) and goes_on
 
 
 class Clock:

@@ -21,6 +21,9 @@ class Verdict:
     text: str
 
 
+UNTRIED = Verdict(False, "NOT TRIED, since a crate is not proved as it stands, or a check broke off")
+
+
 class Trial:
     """The edits of a crate, each with its verdict once it was tried."""
 
@@ -119,6 +122,6 @@ def tried(root, names):
 
     with crates.held(proved):
         in_lanes(tasks, lambda task: None, ended)
-    told = {it: trial.told.get(it, Verdict(False, "NOT TRIED, since a crate is not proved as it stands")) for trial in trials for it in trial.edits}
+    told = {it: trial.told.get(it, UNTRIED) for trial in trials for it in trial.edits}
     told = {it: replace(verdict, text=f"of {', '.join(it.calls)}: {verdict.text}" if it.calls else verdict.text) for it, verdict in told.items()}
     return {os.path.relpath(it.path, f"{crates.root}/tests/edits"): verdict for it, verdict in told.items()}
