@@ -155,7 +155,13 @@ run_words around items = flat_map words_of items ++ added around items
 
 abbrev pub run_of : Surroundings → List Item → Answer
 run_of around items =
-    Run (record { words = run_words around items; inputs = inputs items; children = children around items; stages = stages items })
+    Run (record {
+      words = run_words around items;
+      inputs = inputs items;
+      output = last_argument (codes "-o") items;
+      children = children around items;
+      stages = stages items;
+    })
 
 abbrev pub refused_or_run : Surroundings → List Item → List Refusal → Answer
 refused_or_run around items faults = if nat_lt 0 (length faults) then Refuse faults else run_of around (kept items)

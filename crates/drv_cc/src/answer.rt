@@ -43,6 +43,8 @@ pub struct Call {
     pub words: Listing<Word>,
     /// The files that the line names, in its order; `-` is none.
     pub inputs: Listing<Word>,
+    /// The argument of the last `-o`, if there is one.
+    pub output: Option<Word>,
     /// The variables that are set for the driver's children.
     pub children: Listing<Variable>,
     /// The stages of the line.

@@ -2,14 +2,14 @@
 
 ghost use Rattle.drv_cc.specs.Front.{answer_of, front_of, refused_or_run, run_of, run_words};
 ghost use Rattle.drv_cc.specs.Items.{words_of};
-ghost use Rattle.drv_cc.specs.Kept.{kept, refusals};
+ghost use Rattle.drv_cc.specs.Kept.{kept, last_argument, refusals};
 ghost use Rattle.std.specs.List.{flat_map};
-ghost use Rattle.std.specs.Prelude.{◌≡◌, ◌++◌, IfOk, OnOk};
+ghost use Rattle.std.specs.Prelude.{◌≡◌, ◌++◌, IfOk, OnOk, codes};
 
 use crate::adding::add_words;
 use crate::item::Item;
 use crate::judging::refusals;
-use crate::keeping::{is_asked, kept};
+use crate::keeping::{is_asked, kept, last_argument};
 use crate::quoting::children;
 use crate::reading::items_of;
 use crate::sources::inputs;
@@ -42,16 +42,28 @@ fn run_words(
     Ok(words)
 }
 
+/// The file that a line names for its output, if it names one (GCC manual, "Overall Options", -o).
+fn output(alloc: Global, items: &[Item]) -> Result<Option<Word>, AllocError>
+    ensures { IfOk result (λ output. output ≡ last_argument (codes "-o") items.now) }
+{
+    match last_argument(items, b"-o") {
+        Some(path) => Ok(Some(Word::from_bytes(alloc, path)?)),
+        None => Ok(None),
+    }
+}
+
 /// The call of a line whose items these are.
 fn call_of(alloc: Global, around: &Surroundings, items: &[Item]) -> Result<Answer, AllocError>
     ensures { IfOk result (λ answer. answer ≡ run_of around.now items.now) }
 {
     let words = run_words(alloc, around, items)?;
     let inputs = inputs(alloc, items)?;
+    let output = output(alloc, items)?;
     let children = children(alloc, around, items)?;
     Ok(Answer::Run(Call {
         words,
         inputs,
+        output,
         children,
         stages: stages(items),
     }))

@@ -17,7 +17,7 @@ last_part path = last_from path path
 abbrev pub folder : List ℕ → List ℕ
 folder path = take (length path - length (last_part path)) path
 
--- the name of a machine before -gdrv-cc
+-- the name of a machine before -gdrv-cc or -gdrv-gcc
 abbrev pub not_empty : List ℕ → Option (List ℕ)
 not_empty [] = None
 not_empty (b ∷ bs) = Some (b ∷ bs)
@@ -30,8 +30,12 @@ abbrev pub and_not_empty : Option (List ℕ) → Option (List ℕ)
 and_not_empty None = None
 and_not_empty (Some name) = not_empty name
 
+abbrev pub or_before : List ℕ → List ℕ → Option (List ℕ) → Option (List ℕ)
+or_before ending name None = before_ending ending name
+or_before ending name (Some stem) = Some stem
+
 abbrev pub machine_of : List ℕ → Option (List ℕ)
-machine_of name = and_not_empty (before_ending (codes "-gdrv-cc") name)
+machine_of name = and_not_empty (or_before (codes "-gdrv-gcc") name (before_ending (codes "-gdrv-cc") name))
 
 abbrev pub is_c99 : List ℕ → Bool
 is_c99 name = pointwise nat_eq name (codes "c99") || pointwise nat_eq name (codes "c99-gdrv")

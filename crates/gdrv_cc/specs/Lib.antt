@@ -3,3 +3,4 @@ pub mod Compilers
 pub mod Endings
 pub mod Places
 pub mod Texts
+pub mod Written

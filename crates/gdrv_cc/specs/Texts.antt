@@ -67,6 +67,11 @@ file_said (b ∷ path) = if b == at_sign then path else b ∷ path
 abbrev pub absent_text : List ℕ → List ℕ → List ℕ
 absent_text name path = error_line name (file_said path ++ codes ": No such file or directory")
 
+-- an output that is an input (GCC, "gcc.cc", process_command)
+abbrev pub overwritten_text : List ℕ → List ℕ → List ℕ
+overwritten_text name output =
+    name ++ codes ": fatal error: input file '" ++ output ++ codes "' is the same as output file\ncompilation terminated.\n"
+
 -- the command that writes the spec file of a machine
 abbrev pub writing : List ℕ → List ℕ → List ℕ
 writing specs machine = codes "'write_specs -o " ++ specs ++ codes " " ++ machine ++ codes "' writes it"

@@ -5,6 +5,7 @@ use crate::compilers::{names_in, values};
 use crate::outcome::Outcome;
 use crate::places::{beside, companion, given};
 use crate::texts::{error_line, unwritten};
+use crate::written::whole_lines;
 use drv_args::expand;
 use drv_cc::Surroundings;
 use drv_search::{Prefixes, find_file};
@@ -155,18 +156,48 @@ pub fn find_specs(
     Err(Outcome::Told(without_specs(rt.alloc(), calling, other.or(own))?))
 }
 
-/// The text of the file of this ending beside a spec file; empty where it can't be read.
+/// The text of a plain file; empty where it can't be read.
+fn plain_text(alloc: Global, path: &Word, sys: &mut HostSystem) -> Result<Word, AllocError> {
+    if sys.kind(path)? == PathKind::Plain
+        && let ReadAnswer::Read(text) = sys.read_file(path)?
+    {
+        return Ok(text);
+    }
+    Ok(Word::empty(alloc))
+}
+
+/// The lines before the mark of a file that `write_specs` wrote.
+///
+/// # Errors
+/// The refusal of a file that is missing or damaged.
+pub fn written_text(
+    alloc: Global,
+    calling: &Calling,
+    specs: &[u8],
+    path: &Word,
+    sys: &mut HostSystem,
+) -> Result<Word, Outcome> {
+    let text = plain_text(alloc, path, sys)?;
+    if let Some(lines) = whole_lines(text.as_bytes()) {
+        return Ok(Word::from_bytes(alloc, lines)?);
+    }
+    let name = calling.name.as_bytes();
+    let machine = calling.machine.as_bytes();
+    let path = path.as_bytes();
+    let before = b"missing or damaged file '";
+    Err(Outcome::Told(unwritten(alloc, name, before, path, specs, machine)?))
+}
+
+/// The lines of the file of this ending beside a spec file.
 fn companion_text(
     alloc: Global,
+    calling: &Calling,
     specs: &Word,
     ending: &[u8],
     sys: &mut HostSystem,
-) -> Result<Word, AllocError> {
+) -> Result<Word, Outcome> {
     let path = companion(alloc, specs.as_bytes(), ending)?;
-    match sys.read_file(&path)? {
-        ReadAnswer::Read(text) => Ok(text),
-        _ => Ok(Word::empty(alloc)),
-    }
+    written_text(alloc, calling, specs.as_bytes(), &path, sys)
 }
 
 /// The refusal of a spec file beside which no compiler is named.
@@ -190,7 +221,7 @@ pub fn surroundings(
     specs: &Word,
     sys: &mut HostSystem,
 ) -> Result<Surroundings, Outcome> {
-    let text = companion_text(alloc, specs, b".gcc", sys)?;
+    let text = companion_text(alloc, calling, specs, b".gcc", sys)?;
     let compilers = values(alloc, b"compiler ", text.as_bytes())?;
     let [compiler, ..] = compilers.as_slice() else {
         return Err(Outcome::Told(without_compiler(alloc, calling, specs)?));
@@ -206,11 +237,12 @@ pub fn surroundings(
 /// The names of the compiler's options.
 pub fn known_options(
     alloc: Global,
+    calling: &Calling,
     specs: &Word,
     sys: &mut HostSystem,
-) -> Result<Listing<Word>, AllocError> {
-    let text = companion_text(alloc, specs, b".options", sys)?;
-    values(alloc, b"", text.as_bytes())
+) -> Result<Listing<Word>, Outcome> {
+    let text = companion_text(alloc, calling, specs, b".options", sys)?;
+    Ok(values(alloc, b"", text.as_bytes())?)
 }
 
 /// The folders that are looked in for files of the driver's words: after each `-B`.

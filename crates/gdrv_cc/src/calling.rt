@@ -1,9 +1,9 @@
 //! By which name the program was called.
 
 ghost use Rattle.gdrv_cc.specs.Calling.{before_ending, calling_of, folder, for_machine, is_c99};
-ghost use Rattle.gdrv_cc.specs.Calling.{last_from, last_part, machine_of, named};
+ghost use Rattle.gdrv_cc.specs.Calling.{last_from, last_part, machine_of, named, or_before};
 ghost use Rattle.std.specs.Option.{option_copied, option_map};
-ghost use Rattle.std.specs.Prelude.{◌≡◌, IfOk};
+ghost use Rattle.std.specs.Prelude.{◌≡◌, IfOk, codes};
 
 use drv_words::Word;
 use std::alloc::{AllocError, Global};
@@ -57,11 +57,22 @@ pub fn before_ending<'a>(ending: &[u8], name: &'a [u8]) -> Option<&'a [u8]>
     name.strip_suffix(ending)
 }
 
+/// What stands before the endings of this program's names, if a name ends so.
+fn before_program(name: &[u8]) -> Option<&[u8]>
+    ensures { option_copied result ≡ or_before (codes "-gdrv-gcc") name.now
+        (before_ending (codes "-gdrv-cc") name.now) }
+{
+    match before_ending(b"-gdrv-cc", name) {
+        Some(machine) => Some(machine),
+        None => before_ending(b"-gdrv-gcc", name),
+    }
+}
+
 /// The machine that the program's name begins with, if it names one.
 fn machine_of(name: &[u8]) -> Option<&[u8]>
     ensures { option_copied result ≡ machine_of name.now }
 {
-    match before_ending(b"-gdrv-cc", name) {
+    match before_program(name) {
         Some(machine) if !machine.is_empty() => Some(machine),
         _ => None,
     }

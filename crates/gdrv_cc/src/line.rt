@@ -80,11 +80,12 @@ fn answer_with(
 /// them.
 pub fn answer_of(
     alloc: Global,
+    calling: &Calling,
     specs: &Word,
     around: &Surroundings,
     words: &[Word],
     sys: &mut HostSystem,
-) -> Result<Answer, AllocError>
+) -> Result<Answer, Outcome>
     ensures { IfOk result (λ answer. (known : List (List ℕ)) × (named : List (List ℕ))
         × (answer ≡ front_of known named around.now words.now)) }
 {
@@ -92,8 +93,9 @@ pub fn answer_of(
     if !has_unknown(&answer) {
         return Ok(answer);
     }
-    let known = known_options(alloc, specs, sys)?;
-    answer_with(alloc, known.as_slice(), around, words, sys)
+    let known = known_options(alloc, calling, specs, sys)?;
+    let answer = answer_with(alloc, known.as_slice(), around, words, sys)?;
+    Ok(answer)
 }
 
 /// Adds what is told of a refusal, with the option that was meant, if one is near.

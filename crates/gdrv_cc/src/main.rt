@@ -14,6 +14,7 @@ mod outcome;
 mod places;
 mod running;
 mod texts;
+mod written;
 
 use asking::{
     argument_fault, find_specs, known_options, line_words, refuse_variable, surroundings,
@@ -52,7 +53,7 @@ fn act(
     match answer {
         Answer::Ask => ask(rt, calling, specs, &around.compiler),
         Answer::Refuse(refusals) => {
-            let known = known_options(rt.alloc(), specs, sys)?;
+            let known = known_options(rt.alloc(), calling, specs, sys)?;
             Ok(refused(rt.alloc(), calling, &known, refusals.as_slice())?)
         }
         Answer::Run(line) => {
@@ -71,7 +72,7 @@ fn take(
     sys: &mut HostSystem,
 ) -> Result<Outcome, Outcome> {
     let around = surroundings(rt.alloc(), calling, specs, sys)?;
-    let answer = answer_of(rt.alloc(), specs, &around, words, sys)?;
+    let answer = answer_of(rt.alloc(), calling, specs, &around, words, sys)?;
     act(rt, calling, specs, &around, answer, sys)
 }
 

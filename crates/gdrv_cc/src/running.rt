@@ -2,16 +2,18 @@
 
 ghost use Rattle.std.specs.Prelude.{◌≡◌, ◌∷◌, ◌++◌, [], IfOk, codes};
 
-use crate::asking::own_arguments;
+use crate::asking::{own_arguments, written_text};
 use crate::calling::Calling;
 use crate::outcome::{Outcome, answered};
 use crate::places::{texts_for, texts_or};
-use crate::texts::{add_absent, hint, unwritten};
+use crate::texts::{add_absent, hint, overwritten, unwritten};
 use drv_cc::{Call, Stages, Variable};
 use drv_run::{Ending, drive};
 use drv_system::{Event, HostSystem, PathKind, System, call, clock_seed, complain};
 use drv_words::{Answer, Command, Listing, NotStarted, RunEvent, StartAnswer, Word};
 use std::alloc::{AllocError, Global};
+use std::io::ErrorKind;
+use std::{fs, str};
 
 /// Has the compiler answer this process's line, and ends as that ends.
 pub fn ask(
@@ -57,6 +59,43 @@ fn refuse_absent(
         return Ok(());
     }
     Err(Outcome::Told(text))
+}
+
+/// The path of the file that a name leads to, if there is one.
+fn resolved(rt: &HostRuntime, name: &Word) -> Result<Option<Word>, AllocError> {
+    let Some(path) = str::from_utf8(name.as_bytes()).ok() else {
+        return Ok(None);
+    };
+    match fs::canonicalize(rt, path) {
+        Ok(path) => Ok(Some(Word::from_bytes(rt.alloc(), path.as_str().as_bytes())?)),
+        Err(e) if e.kind() == ErrorKind::OutOfMemory => Err(AllocError),
+        Err(_) => Ok(None),
+    }
+}
+
+/// Whether some input leads to the file at this path.
+fn is_input(rt: &HostRuntime, inputs: &[Word], path: &Word) -> Result<bool, AllocError> {
+    for input in inputs {
+        if let Some(found) = resolved(rt, input)?
+            && found.as_bytes() == path.as_bytes()
+        {
+            return Ok(true);
+        }
+    }
+    Ok(false)
+}
+
+/// Refuses an output that is an input, by whatever path (GCC, "gcc.cc", process_command).
+fn refuse_overwriting(rt: &HostRuntime, name: &[u8], line: &Call) -> Result<(), Outcome> {
+    let Some(output) = &line.output else {
+        return Ok(());
+    };
+    match resolved(rt, output)? {
+        Some(path) if is_input(rt, line.inputs.as_slice(), &path)? => {
+            Err(Outcome::Told(overwritten(rt.alloc(), name, output.as_bytes())?))
+        }
+        _ => Ok(()),
+    }
 }
 
 /// The words of the driver's call: the spec file, that a front stands before it, and the words of
@@ -117,17 +156,22 @@ fn drive_words(
 }
 
 /// The driver's words for a line, with the file that has the texts for it.
+///
+/// # Errors
+/// The refusal of a file that is damaged.
 fn words_for(
     alloc: Global,
+    calling: &Calling,
     specs: &Word,
     words: Listing<Word>,
     stages: Stages,
     sys: &mut HostSystem,
-) -> Result<Listing<Word>, AllocError> {
+) -> Result<Listing<Word>, Outcome> {
     let path = texts_for(alloc, specs.as_bytes(), words.as_slice(), stages)?;
     let kind = sys.kind(&path)?;
-    let texts = texts_or(specs.as_bytes(), path.as_bytes(), kind);
-    driver_words(alloc, texts, words)
+    let texts = Word::from_bytes(alloc, texts_or(specs.as_bytes(), path.as_bytes(), kind))?;
+    let _lines = written_text(alloc, calling, specs.as_bytes(), &texts, sys)?;
+    Ok(driver_words(alloc, texts.as_bytes(), words)?)
 }
 
 /// Carries out a line, where its inputs are there.
@@ -144,6 +188,7 @@ pub fn run(
         line.inputs.as_slice(),
         sys,
     )?;
+    refuse_overwriting(rt, calling.name.as_bytes(), &line)?;
     let hint = hint(
         rt.alloc(),
         calling.name.as_bytes(),
@@ -151,7 +196,7 @@ pub fn run(
         calling.machine.as_bytes(),
         line.words.as_slice(),
     )?;
-    let words = words_for(rt.alloc(), specs, line.words, line.stages, sys)?;
+    let words = words_for(rt.alloc(), calling, specs, line.words, line.stages, sys)?;
     let ending = drive_words(rt, words, line.children.as_slice(), &hint)?;
     Ok(Outcome::Ended(ending))
 }

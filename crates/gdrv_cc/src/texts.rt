@@ -1,7 +1,8 @@
 //! What the user is told.
 
 ghost use Rattle.gdrv_cc.specs.Texts.{absent_text, error_line, file_said, gone_text, hint_text};
-ghost use Rattle.gdrv_cc.specs.Texts.{lacking, meant, names_specs, quoted, refusal_text};
+ghost use Rattle.gdrv_cc.specs.Texts.{lacking, meant, names_specs, overwritten_text, quoted};
+ghost use Rattle.gdrv_cc.specs.Texts.{refusal_text};
 ghost use Rattle.gdrv_cc.specs.Texts.{takes_file, takes_goal, takes_macro, takes_path};
 ghost use Rattle.gdrv_cc.specs.Texts.{unknown_text, unworked_text, unwritten_text, writing};
 ghost use Rattle.std.specs.List.{list_any};
@@ -208,6 +209,17 @@ pub fn add_absent(text: &mut Word, name: &[u8], path: &[u8]) -> Result<(), Alloc
         file_said(path),
         b": No such file or directory",
     )
+}
+
+/// What is told of an output that is an input.
+pub fn overwritten(alloc: Global, name: &[u8], output: &[u8]) -> Result<Word, AllocError>
+    ensures { IfOk result (λ text. text ≡ overwritten_text name.now output.now) }
+{
+    let mut text = Word::from_bytes(alloc, name)?;
+    text.extend_from_slice(b": fatal error: input file '")?;
+    text.extend_from_slice(output)?;
+    text.extend_from_slice(b"' is the same as output file\ncompilation terminated.\n")?;
+    Ok(text)
 }
 
 /// Adds the command that writes the spec file of a machine.
