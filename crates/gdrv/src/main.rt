@@ -5,8 +5,14 @@
 ghost use Rattle.drv_run.specs.Exits.{exit_status_of};
 ghost use Rattle.std.specs.Prelude.{◌≡◌};
 
+mod question;
+mod records;
+
 use drv_run::{Ending, drive, ending_text};
-use drv_system::{HostSystem, arguments, clock_seed, complain};
+use drv_system::{HostSystem, System, arguments, clock_seed, complain};
+use drv_words::{Listing, Word};
+use question::{Question, question_of};
+use records::{has_own_specs, tell_of_records};
 use std::io::{self, ErrorKind};
 use std::process::ExitCode;
 
@@ -37,15 +43,38 @@ fn without_arguments(rt: &HostRuntime, error: &io::Error) -> ExitCode
     ExitCode::from(1)
 }
 
+/// Answers a question, on standard output, and gives the exit status: 1 where it couldn't be
+/// written.
+fn answer(rt: &HostRuntime, asked: Question) -> ExitCode {
+    let stream = rt.stdout();
+    match asked.answer(&mut io::writer(&stream)) {
+        Ok(()) => ExitCode::from(0),
+        Err(_) => ExitCode::from(1),
+    }
+}
+
+/// A call of the driver with these arguments.
+fn call(rt: &HostRuntime, args: Listing<Word>) -> ExitCode {
+    let Ok(own) = rt.clone() else {
+        return finish(rt, &Ending::OutOfMemory);
+    };
+    let mut sys = HostSystem::new(own);
+    let has_own_specs = has_own_specs(args.as_slice());
+    let ending = drive(rt.alloc(), &mut sys, args, clock_seed(rt));
+    let status = finish(rt, &ending);
+    if !has_own_specs {
+        tell_of_records(rt, sys.journal());
+    }
+    status
+}
+
 fn main(rt: HostRuntime) -> ExitCode {
     let args = match arguments(&rt) {
         Ok(args) => args,
         Err(e) => return without_arguments(&rt, &e),
     };
-    let Ok(own) = rt.clone() else {
-        return finish(&rt, &Ending::OutOfMemory);
-    };
-    let mut sys = HostSystem::new(own);
-    let ending = drive(rt.alloc(), &mut sys, args, clock_seed(&rt));
-    finish(&rt, &ending)
+    match question_of(args.as_slice()) {
+        Some(asked) => answer(&rt, asked),
+        None => call(&rt, args),
+    }
 }
