@@ -298,7 +298,7 @@ fn kind_at(rt: &HostRuntime, path: &str) -> Result<PathKind, AllocError> {
 }
 
 /// The value of a variable, if it has one and that is text.
-fn value_of(rt: &HostRuntime, name: &str) -> Result<Option<Word>, AllocError> {
+pub(crate) fn value_of(rt: &HostRuntime, name: &str) -> Result<Option<Word>, AllocError> {
     match env::var(rt, name) {
         Ok(value) => Ok(Some(Word::from_vec(value.into_bytes()))),
         Err(VarError::OutOfMemory) => Err(AllocError),

@@ -3,7 +3,8 @@
 ghost use Rattle.drv_system.specs.Seed.{digit_of, joined, seed_named};
 ghost use Rattle.std.specs.Prelude.{◌≡◌, ◌<◌, IfSome};
 
-use std::env;
+use crate::host::value_of;
+use std::alloc::AllocError;
 use std::rt::Clock;
 
 /// The value of a hexadecimal digit.
@@ -41,14 +42,17 @@ fn seed_of(text: &[u8]) -> Option<u32>
 
 /// The seed of temporary names: the variable GDRV_SEED where it has eight hexadecimal digits,
 /// otherwise the low 32 bits of the clock's nanoseconds.
-pub fn clock_seed(rt: &HostRuntime) -> u32 {
-    if let Ok(digits) = env::var(rt, "GDRV_SEED")
+///
+/// # Errors
+/// `AllocError` where there is no memory for the variable's value.
+pub fn clock_seed(rt: &HostRuntime) -> Result<u32, AllocError> {
+    if let Some(digits) = value_of(rt, "GDRV_SEED")?
         && let Some(seed) = seed_of(digits.as_bytes())
     {
-        return seed;
+        return Ok(seed);
     }
     match rt.since_1970() {
-        Ok(now) => (now.as_nanos() % (1 << 32)) as u32,
-        Err(_) => 0,
+        Ok(now) => Ok((now.as_nanos() % (1 << 32)) as u32),
+        Err(_) => Ok(0),
     }
 }

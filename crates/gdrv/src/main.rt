@@ -13,6 +13,7 @@ use drv_system::{HostSystem, System, arguments, clock_seed, complain};
 use drv_words::{Listing, Word};
 use question::{Question, question_of};
 use records::{has_own_specs, tell_of_records};
+use std::alloc::AllocError;
 use std::io::{self, ErrorKind};
 use std::process::ExitCode;
 
@@ -53,19 +54,18 @@ fn answer(rt: &HostRuntime, asked: Question) -> ExitCode {
     }
 }
 
-/// A call of the driver with these arguments.
-fn call(rt: &HostRuntime, args: Listing<Word>) -> ExitCode {
-    let Ok(own) = rt.clone() else {
-        return finish(rt, &Ending::OutOfMemory);
-    };
-    let mut sys = HostSystem::new(own);
+/// Drives this process's call. On a terminal it says of a call by the built-in specs that nothing
+/// was compiled.
+fn call(rt: &HostRuntime, args: Listing<Word>) -> Result<ExitCode, AllocError> {
+    let seed = clock_seed(rt)?;
+    let mut sys = HostSystem::new(rt.clone()?);
     let has_own_specs = has_own_specs(args.as_slice());
-    let ending = drive(rt.alloc(), &mut sys, args, clock_seed(rt));
+    let ending = drive(rt.alloc(), &mut sys, args, seed);
     let status = finish(rt, &ending);
     if !has_own_specs {
         tell_of_records(rt, sys.journal());
     }
-    status
+    Ok(status)
 }
 
 fn main(rt: HostRuntime) -> ExitCode {
@@ -75,6 +75,9 @@ fn main(rt: HostRuntime) -> ExitCode {
     };
     match question_of(args.as_slice()) {
         Some(asked) => answer(&rt, asked),
-        None => call(&rt, args),
+        None => match call(&rt, args) {
+            Ok(status) => status,
+            Err(_) => finish(&rt, &Ending::OutOfMemory),
+        },
     }
 }

@@ -148,7 +148,7 @@ fn drive_words(
     hint: &Word,
 ) -> Result<Ending, AllocError> {
     let mut sys = system_with(rt, variables)?;
-    let ending = drive(rt.alloc(), &mut sys, words, clock_seed(rt));
+    let ending = drive(rt.alloc(), &mut sys, words, clock_seed(rt)?);
     if sys.journal().iter().any(is_absent) {
         complain(rt, hint.as_bytes());
     }
