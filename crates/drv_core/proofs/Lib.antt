@@ -10,6 +10,7 @@ pub mod Counted
 pub mod Courses
 pub mod Due
 pub mod DueFiles
+pub mod Each
 pub mod Ends
 pub mod Exact
 pub mod ExactEnd
@@ -41,7 +42,9 @@ pub mod PathNumbers
 pub mod Places
 pub mod Progress
 pub mod Removed
+pub mod RemovalRule
 pub mod Replay
+pub mod Reports
 pub mod Retrace
 pub mod Rooms
 pub mod Rows

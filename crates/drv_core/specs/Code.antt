@@ -1,4 +1,5 @@
--- How the code goes over its input, step by step: what stands between the code and the definitions. No public contract rests on these.
+-- How the code goes over its input, step by step: what stands between the code and the definitions. No clause of a public
+-- contract names these, but a `Run` is seen as `RunView` says, which rests on them.
 pub mod Counting
 pub mod Course
 pub mod Due

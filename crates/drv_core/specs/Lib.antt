@@ -1,9 +1,12 @@
 pub mod Choices
 pub mod Code
+pub mod Codes
 pub mod Filled
 pub mod Links
 pub mod Needed
 pub mod Outcomes
+pub mod Removals
+pub mod Reported
 pub mod Run
 pub mod Started
 pub mod Story

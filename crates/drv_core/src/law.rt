@@ -1,7 +1,10 @@
 //! Laws of whole runs.
 
+ghost use Rattle.drv_core.specs.Codes.{StatusIsOf};
 ghost use Rattle.drv_core.specs.Links.{FailsWhere, LinksWhere};
 ghost use Rattle.drv_core.specs.Outcomes.{Answers, link_run};
+ghost use Rattle.drv_core.specs.Removals.{RemovesByRule};
+ghost use Rattle.drv_core.specs.Reported.{Reported};
 ghost use Rattle.drv_core.specs.Started.{EachStartsFirst, StartsTheSame};
 ghost use Rattle.drv_core.specs.Waited.{WaitsForEach};
 ghost use Rattle.drv_core.specs.Windowed.{Rearranges, Windowed};
@@ -41,4 +44,27 @@ pub fn linking_law()
         → Windowed plan N o events → LinksWhere plan o events }
     ensures sources { (plan : Plan) (N : ℕ) (o : Answers) (events : List RunEvent)
         → Windowed plan N o events → FailsWhere plan o events }
+{}
+
+/// The law that in the events of a whole run each failure (of a claim, a start or a removal, and of
+/// a child that a signal ended or that was lost) is followed directly by its report, and that no
+/// other report is made.
+pub fn report_law()
+    ensures { (plan : Plan) (N : ℕ) (o : Answers) (events : List RunEvent)
+        → Windowed plan N o events → Reported events }
+{}
+
+/// The law that in the events of a whole run each job that failed with a command started removes
+/// its failure files, and no other job any; and that after all else the temporaries that were
+/// claimed and the marked files are removed, each path once, in the order of the plan.
+pub fn removal_law()
+    ensures { (plan : Plan) (N : ℕ) (o : Answers) (events : List RunEvent)
+        → Windowed plan N o events → RemovesByRule plan o events }
+{}
+
+/// The law that the status of a whole run is 0 where no answer of its events has another code, and
+/// else 1, or the greatest of these codes where codes are passed on. The link's events count.
+pub fn status_law()
+    ensures { (plan : Plan) (N : ℕ) (o : Answers) (events : List RunEvent)
+        → Windowed plan N o events → StatusIsOf o events }
 {}

@@ -15,6 +15,8 @@ mod work;
 
 pub use action::Action;
 pub use failure_status::FailureStatus;
-pub use law::{interleaving_law, linking_law, started_first, waiting_law};
+pub use law::{
+    interleaving_law, linking_law, removal_law, report_law, started_first, status_law, waiting_law,
+};
 pub use needed::events_needed;
 pub use run::Run;

@@ -1,0 +1,5 @@
+use Rattle.drv_core.proofs.RemovalRule.{removes_by_rule}
+use Rattle.drv_core.proofs.law.removal_law.Goals as goal
+
+pub returns : goal.returns
+returns c = removes_by_rule

@@ -1,0 +1,6 @@
+use Rattle.drv_core.proofs.Status.{status_is}
+use Rattle.drv_core.proofs.law.status_law.Goals as goal
+use Rattle.std.proofs.Common.{sym}
+
+pub returns : goal.returns
+returns c = λ plan N o events w failure. sym (status_is plan N o events failure w)

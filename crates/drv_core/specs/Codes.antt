@@ -1,0 +1,14 @@
+use Rattle.drv_core.specs.Outcomes.{Answers, answer_code, greatest, status_from, status_of}
+use Rattle.drv_core.specs.declared.failure_status.FailureStatus.{FailureStatus}
+use Rattle.drv_words.specs.declared.steps.RunEvent.{RunEvent}
+use Rattle.std.specs.Prelude.{◌≡◌, List, ℕ}
+
+-- The status over the events (POSIX c99, "Exit Status"; GCC manual, "Overall Options", -pass-exit-codes).
+
+-- the greatest code of the answers, 0 where none has another
+abbrev pub greatest_code : List RunEvent → ℕ
+greatest_code events = greatest (λ e. answer_code e.answer) events
+
+-- The status is 0 where that is 0, else 1, or that code where codes are passed on.
+abbrev pub StatusIsOf : Answers → List RunEvent → Type 0
+StatusIsOf o events = (failure : FailureStatus) → status_of failure o ≡ status_from failure (greatest_code events)
