@@ -6,3 +6,4 @@ mod PlanRows
 mod Refusals
 mod Reloaded
 mod Steps
+mod Told

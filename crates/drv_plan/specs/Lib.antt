@@ -1,3 +1,4 @@
 pub mod Code
 pub mod Denoted
 pub mod Languages
+pub mod Plans

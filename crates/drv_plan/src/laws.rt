@@ -1,13 +1,15 @@
-//! A law of the plan.
+//! Laws of the plan.
 
 ghost use Rattle.drv_args.specs.declared.line.Line.{Line};
 ghost use Rattle.drv_plan.specs.Denoted.{denoted};
+ghost use Rattle.drv_plan.specs.Plans.{IsPlanOf};
 ghost use Rattle.drv_search.specs.declared.prefixes.Prefixes.{Prefixes};
 ghost use Rattle.drv_specs.specs.Dumping.{Plain, dumped};
 ghost use Rattle.drv_specs.specs.Loading.{loaded};
 ghost use Rattle.drv_specs.specs.Sets.{Set};
 ghost use Rattle.drv_system.specs.Facts.{Facts};
 ghost use Rattle.drv_system.specs.Known.{Is};
+ghost use Rattle.drv_words.specs.declared.plan.Plan.{Plan};
 ghost use Rattle.std.specs.Prelude.{◌≡◌, Ok, ℕ};
 
 use drv_specs::SpecSet;
@@ -22,3 +24,11 @@ pub fn reload_law(set: &SpecSet)
 {
     set.reloads_over_itself();
 }
+
+/// The law that the plan of a line has, source by source in the order of the line, the job of the
+/// source's text, worked with the options and the numbers that the text before it leaves; the link
+/// over their outputs, last; and the notices of these texts in that order.
+pub fn plan_law()
+    ensures { (F : Facts) (line : Line) (set : Set) (seed : ℕ) (plan : Plan)
+        → denoted F line set seed ≡ Is (Ok plan) → IsPlanOf F line set seed plan }
+{}

@@ -11,5 +11,5 @@ mod sources;
 
 pub use fault::PlanFault;
 pub use languages::{Chosen, language};
-pub use laws::reload_law;
+pub use laws::{plan_law, reload_law};
 pub use planning::plan;
