@@ -1,4 +1,4 @@
-use Rattle.drv_core.proofs.Ends.{AtEnd, AtLink, Holds, HoldsAt, end_files, file_there, link_ends, most_of, removal_fails, removal_passes, report_passes, sources_end}
+use Rattle.drv_core.proofs.Ends.{AtDone, AtEnd, AtLink, Holds, HoldsAt, end_files, file_there, link_ends, most_of, removal_fails, removal_passes, report_passes, sources_end}
 use Rattle.drv_core.proofs.Finish.{ended as is_ended}
 use Rattle.drv_core.proofs.Flights.{made}
 use Rattle.drv_core.proofs.Linked.{Linking, end_begins, end_whole, link_begins, link_fewer, link_makes, link_starts, link_takes, sure_begins}
@@ -21,7 +21,7 @@ use Rattle.drv_core.specs.Windowed.{IsBeginning, IsWhole, count}
 use Rattle.drv_core.specs.Code.Reached.{between_blocks}
 use Rattle.drv_core.specs.declared.failure_status.FailureStatus.{FailureStatus}
 use Rattle.drv_words.specs.Places.{no_job}
-use Rattle.drv_words.specs.Stepping.{can_make}
+use Rattle.drv_words.specs.Stepping.{can_make, pipe_pending}
 use Rattle.drv_words.specs.declared.answers.Answer.{Answer}
 use Rattle.drv_words.specs.declared.answers.Answer.TheVariants as answer
 use Rattle.drv_words.specs.declared.answers.RemoveAnswer.{RemoveAnswer}
@@ -265,16 +265,24 @@ holds_bound plan N c h = by c.phase h
     by Report held = fewer (fewer_at_end plan N true c held)
     by Done held = held.bound
 
--- where nothing is asked for, the events are a whole run
-pub holds_whole : (plan : Plan) (N : ℕ) (c : Course) → Holds plan N c → asked_by plan c ≡ None → IsWhole plan N c.events
-holds_whole plan N c h is = by c.phase h is
+-- nothing is asked for at the end alone
+at_done : (plan : Plan) (N : ℕ) (c : Course) → Holds plan N c → asked_by plan c ≡ None → AtDone plan N c
+at_done plan N c h is = by c.phase h is
   where
-    by : (p : Phase) → HoldsAt plan N p c → asked_at plan p c ≡ None → IsWhole plan N c.events
+    by : (p : Phase) → HoldsAt plan N p c → asked_at plan p c ≡ None → AtDone plan N c
     by Sources held e = absurd (left_asks c.fleet.current (get_or plan.jobs c.fleet.current no_job) (stage_in c.fleet c.fleet.current) (ap left (held.going.at c.fleet.current) ∙ held.going.more) e)
     by Link held e = absurd (left_asks (length plan.jobs) (link_of plan.link) c.link held.more e)
     by Removals held e = absurd (none_asked (step.Remove (file_at (end_files plan N held.i false c.events held.ending) held.i).place) (sym (ap removes (sym (next_is_first plan N false c held)) ∙ e)))
     by Report held e = absurd (none_asked (step.Report (note.NotRemoved (file_at (end_files plan N held.i true c.events held.ending) held.i).place)) (sym (ap reports (sym (next_is_first plan N true c held)) ∙ e)))
-    by Done held e = end_whole plan N held.i c.events held.ending held.all
+    by Done held e = held
+
+-- where nothing is asked for, the events are a whole run
+pub holds_whole : (plan : Plan) (N : ℕ) (c : Course) → Holds plan N c → asked_by plan c ≡ None → IsWhole plan N c.events
+holds_whole plan N c h is = let d = at_done plan N c h is in end_whole plan N d.i c.events d.ending d.all
+
+-- and no pipe waits for its reader
+pub holds_closed : (plan : Plan) (N : ℕ) (c : Course) → Holds plan N c → asked_by plan c ≡ None → pipe_pending c.events ≡ false
+holds_closed plan N c h is = (at_done plan N c h is).pipe
 
 pub whole_status : (plan : Plan) (N : ℕ) (E : List RunEvent) (pass_codes : FailureStatus) → (w : IsWhole plan N E) → status_from pass_codes (run_code E) ≡ status_of pass_codes w.o
 whole_status plan N E pass_codes w = status_is plan N w.o E pass_codes w.windowed

@@ -54,6 +54,7 @@ pub record AtDone (plan : Plan) (N : ℕ) (c : Course) : Type 0 where
   pub i : ℕ
   pub ending : Ending plan N i false c.events
   pub all : i ≡ length (end_files plan N i false c.events ending)
+  pub pipe : pipe_pending c.events ≡ false
   pub bound : length c.events ≤ needed plan
 
 pub record AtLink (plan : Plan) (N : ℕ) (c : Course) : Type 0 where
@@ -82,6 +83,7 @@ removing_holds plan N i c due e is within pipe bound = by due is
       i = i;
       ending = e;
       all = (let len = length-drop i (end_files plan N i false c.events e) in let nothing : 0 ≡ length (drop i (end_files plan N i false c.events e)) = ap (λ (l : List File). length l) d in let w = within in omega (arith, len, nothing, w));
+      pipe = pipe;
       bound = omega (arith, bound);
     }
     by (f ∷ fs) d = record {

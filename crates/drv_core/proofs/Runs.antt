@@ -1,6 +1,6 @@
 use Rattle.drv_core.proofs.Chosen.{choice_below, choices_are, chosen_elsewhere, chosen_next, first_next}
 use Rattle.drv_core.proofs.First.{WorksFirst, fresh_first, moved_first}
-use Rattle.drv_core.proofs.Stands.{begins, bound, few, fewer, fits_kind, makes, ready, room_left, status_for, unfinished, whole}
+use Rattle.drv_core.proofs.Stands.{begins, bound, closed, few, fewer, fits_kind, makes, ready, room_left, status_for, unfinished, whole}
 use Rattle.drv_core.proofs.Window.{answer_stands, choice_stands, choosing_events, fresh_events, fresh_stands, moved_events}
 use Rattle.drv_core.specs.Choices.{BetweenBlocks, ChoicesAre, IsChoice, IsNextOf, IsOfFirst}
 use Rattle.drv_core.specs.Code.Course.{link_of}
@@ -20,11 +20,11 @@ use Rattle.drv_core.specs.declared.action.Action.{Action}
 use Rattle.drv_core.specs.declared.action.Action.TheVariants as action
 use Rattle.drv_core.specs.declared.work.RunState.{RunState}
 use Rattle.drv_core.specs.declared.failure_status.FailureStatus.{FailureStatus}
-use Rattle.drv_words.specs.Stepping.{can_make, fits}
+use Rattle.drv_words.specs.Stepping.{can_make, fits, pipe_pending}
 use Rattle.drv_words.specs.declared.answers.Answer.{Answer}
 use Rattle.drv_words.specs.declared.plan.Plan.{Plan}
 use Rattle.drv_words.specs.declared.steps.Step.{Step}
-use Rattle.std.proofs.Common.{◌≡◌, ◌<◌, ◌≤◌, ◌∙◌, [], ◌∷◌, ◌++◌, None, Option, Some, ap, get_or, length, refl, subst, sym, true, ℕ}
+use Rattle.std.proofs.Common.{◌≡◌, ◌<◌, ◌≤◌, ◌∙◌, [], ◌∷◌, ◌++◌, None, Option, Some, ap, false, get_or, length, refl, subst, sym, true, ℕ}
 use Rattle.std.specs.Vec.{vec_capacity}
 
 -- What is known of a run, from what its work stands on.
@@ -74,6 +74,7 @@ pub record Known (r : Run) (a : Action) : Type 0 where
   pub fewer : IfMake a (λ step. length r.events < needed r.plan)
   pub unfinished : IfMake a (λ step. IsWhole r.plan r.window r.events → ⊥)
   pub whole : IfDone a (λ status. IsWhole r.plan r.window r.events)
+  pub pipe : IfDone a (λ status. pipe_pending r.events ≡ false)
   pub status : IfDone a (λ status. (o : Answers) → Windowed r.plan r.window o r.events → status ≡ status_of r.pass_codes o)
 
 known_at : (plan : Plan) (pass_codes : FailureStatus) (p : Position) → Kept plan p.fleet.window p → Known (run_at plan pass_codes p) (run_at plan pass_codes p).action
@@ -91,6 +92,7 @@ known_at plan pass_codes p k = by (next_of plan p) refl
       fewer = tt;
       unfinished = tt;
       whole = whole plan N p k e;
+      pipe = closed plan N p k e;
       status = λ o w. status_for plan N p pass_codes o k w;
     })
     by (Some s) e = subst (λ a. Known (run_at plan pass_codes p) a) (ap (λ o. action_of o (status_from pass_codes p.code)) (sym e)) (record {
@@ -101,6 +103,7 @@ known_at plan pass_codes p k = by (next_of plan p) refl
       fewer = fewer plan N p s k e;
       unfinished = unfinished plan N p s k e;
       whole = tt;
+      pipe = tt;
       status = tt;
     })
 

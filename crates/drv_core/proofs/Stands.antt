@@ -1,6 +1,6 @@
 use Rattle.drv_core.proofs.Able.{begun_many}
 use Rattle.drv_core.proofs.Counted.{few_claims}
-use Rattle.drv_core.proofs.Courses.{FilledPlan, fresh_holds, holds_begins, holds_bound, holds_fewer, holds_makes, holds_whole, selected_holds, steps, whole_status}
+use Rattle.drv_core.proofs.Courses.{FilledPlan, fresh_holds, holds_begins, holds_bound, holds_closed, holds_fewer, holds_makes, holds_whole, selected_holds, steps, whole_status}
 use Rattle.drv_core.proofs.Ends.{Holds, HoldsAt, most_of}
 use Rattle.drv_core.proofs.Exactly.{whole_ends}
 use Rattle.drv_core.proofs.Matches.{Alike, InPhase, Matches, fresh_matches, same_next, step_matches}
@@ -21,7 +21,7 @@ use Rattle.drv_core.specs.Code.Starting.{fresh_position}
 use Rattle.drv_core.specs.Windowed.{IsBeginning, IsWhole, Windowed, count, has}
 use Rattle.drv_core.specs.declared.failure_status.FailureStatus.{FailureStatus}
 use Rattle.drv_words.specs.Places.{group_at, no_job}
-use Rattle.drv_words.specs.Stepping.{can_make, fits}
+use Rattle.drv_words.specs.Stepping.{can_make, fits, pipe_pending}
 use Rattle.drv_words.specs.declared.answers.Answer.{Answer}
 use Rattle.drv_words.specs.declared.answers.Answer.TheVariants as answer
 use Rattle.drv_words.specs.declared.plan.Command.{Command}
@@ -240,6 +240,12 @@ whole plan N p k is = by (stands_at plan N p k)
   where
     by : Stands plan N p.room p → IsWhole plan N p.events
     by t = subst (λ E. IsWhole plan N E) (sym t.match.alike.events) (holds_whole plan N t.c t.holds (sym (same_next plan N p.room p t.c t.holds t.match) ∙ is))
+
+pub closed : (plan : Plan) (N : ℕ) (p : Position) → Kept plan N p → next_of plan p ≡ None → pipe_pending p.events ≡ false
+closed plan N p k is = by (stands_at plan N p k)
+  where
+    by : Stands plan N p.room p → pipe_pending p.events ≡ false
+    by t = subst (λ E. pipe_pending E ≡ false) (sym t.match.alike.events) (holds_closed plan N t.c t.holds (sym (same_next plan N p.room p t.c t.holds t.match) ∙ is))
 
 pub ends : (plan : Plan) (N : ℕ) (p : Position) → Kept plan N p → IsWhole plan N p.events → next_of plan p ≡ None
 ends plan N p k w = by (stands_at plan N p k)

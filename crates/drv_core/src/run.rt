@@ -13,8 +13,8 @@ ghost use Rattle.drv_core.specs.Story.{event};
 ghost use Rattle.drv_core.specs.Windowed.{IsBeginning, IsWhole, Windowed};
 ghost use Rattle.drv_core.specs.declared.action.Action.TheVariants as action;
 ghost use Rattle.drv_words.specs.declared.steps.Step.{Step};
-ghost use Rattle.drv_words.specs.Stepping.{can_make, fits};
-ghost use Rattle.std.specs.Prelude.{◌≡◌, ◌<◌, ◌≤◌, ◌++◌, ◌∷◌, [], IfOk, Some, length, true};
+ghost use Rattle.drv_words.specs.Stepping.{can_make, fits, pipe_pending};
+ghost use Rattle.std.specs.Prelude.{◌≡◌, ◌<◌, ◌≤◌, ◌++◌, ◌∷◌, [], IfOk, Some, false, length, true};
 
 use crate::action::Action;
 use crate::failure_status::FailureStatus;
@@ -137,6 +137,7 @@ impl<'a> Run<'a> {
             (λ step. IsWhole self.now.plan self.now.window self.now.events → ⊥) }
         ensures whole { IfDone result
             (λ status. IsWhole self.now.plan self.now.window self.now.events) }
+        ensures pipe { IfDone result (λ status. pipe_pending self.now.events ≡ false) }
         ensures status { IfDone result (λ status. (o : Answers)
             → Windowed self.now.plan self.now.window o self.now.events
             → status ≡ status_of self.now.pass_codes o) }

@@ -19,5 +19,8 @@ returns-clause-unfinished c = (knows c.self.inside.plan.now c.self.inside.pass_c
 pub returns-clause-whole : goal.returns-clause-whole
 returns-clause-whole c = (knows c.self.inside.plan.now c.self.inside.pass_codes c.self.inside.work c.args.self.now c.look.result c.self.invariant c.self.view_is c.look.ensures).whole
 
+pub returns-clause-pipe : goal.returns-clause-pipe
+returns-clause-pipe c = (knows c.self.inside.plan.now c.self.inside.pass_codes c.self.inside.work c.args.self.now c.look.result c.self.invariant c.self.view_is c.look.ensures).pipe
+
 pub returns-clause-status : goal.returns-clause-status
 returns-clause-status c = (knows c.self.inside.plan.now c.self.inside.pass_codes c.self.inside.work c.args.self.now c.look.result c.self.invariant c.self.view_is c.look.ensures).status
