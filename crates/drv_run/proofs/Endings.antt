@@ -1,7 +1,7 @@
 use Rattle.drv_run.proofs.Tellings.{pipe_after_questions}
-use Rattle.drv_run.specs.Calls.{Drove, Ends}
+use Rattle.drv_run.specs.Calls.{DoesWork, Drove, Ends, OnlySays}
 use Rattle.drv_run.specs.Drives.{Comes, Drives, IsApart}
-use Rattle.drv_run.specs.Code.Telling.{DoesWork, EndsWork, OnlySays}
+use Rattle.drv_run.specs.Code.Telling.{EndsWork}
 use Rattle.drv_run.specs.declared.ending.Ending.TheVariants.{Done, OutOfMemory, Refused}
 use Rattle.drv_run.specs.declared.ending.Ending.{Ending}
 use Rattle.drv_run.specs.declared.work.Work.{Work}
@@ -11,7 +11,7 @@ use Rattle.drv_system.specs.Facts.{Facts, learn, no_facts}
 use Rattle.drv_system.specs.Running.{run_of}
 use Rattle.drv_system.specs.declared.event.Event.{Event}
 use Rattle.drv_words.specs.Stepping.{pipe_pending}
-use Rattle.std.proofs.Common.{◌≡◌, ◌∙◌, ◌++◌, Err, List, Ok, [], ap, false, refl, subst, sym, ℕ}
+use Rattle.std.proofs.Common.{◌≡◌, ◌∙◌, ◌++◌, Err, List, Ok, [], ap, codes, false, refl, subst, sym, ℕ}
 use Rattle.std.proofs.lemmas.List.{append-nil}
 
 -- How a call ends.
@@ -38,7 +38,7 @@ drove_before {journal} {F' = F'} args seed ending empty asks comes = record {
 
 -- with its work done
 drove_done : {journal journal' journal'' : List Event} {F F' : Facts} {args : List (List ℕ)} {seed status : ℕ} {work : Work} → F ≡ no_facts
-    → Asks journal journal' F F' → ((G : Facts) → Extends F' G → Comes G args seed (Ok work)) → DoesWork journal' journal'' work status
+    → Asks journal journal' F F' → ((G : Facts) → Extends F' G → Comes G args seed (Ok work)) → DoesWork (codes "gdrv") journal' journal'' work status
     → Drove journal journal'' args seed (Done status)
 drove_done {F' = F'} {args = args} {seed = seed} {work = work} empty asks comes does = record {
   asked = asks.asked;

@@ -9,8 +9,8 @@ use Rattle.drv_specs.specs.declared.fault.SpecsFault.{SpecsFault}
 use Rattle.drv_system.specs.Facts.{Facts}
 use Rattle.drv_system.specs.Gives.{GivesKnown}
 use Rattle.drv_system.specs.Known.{◌>>=◌, Is, Known}
-use Rattle.drv_run.specs.Drives.{files_loaded, specs_of}
-use Rattle.std.proofs.Common.{◌≡◌, ◌<◌, ◌+◌, ◌⊎◌, ◌∙◌, Err, IsErrAnd, List, ◌∷◌, Ok, Result, ap, drop, inl, inr, length, sym, ℕ}
+use Rattle.drv_run.specs.Drives.{files_loaded, specs_of, specs_over}
+use Rattle.std.proofs.Common.{◌≡◌, ◌<◌, ◌+◌, ◌⊎◌, ◌∙◌, Err, IsErrAnd, List, ◌∷◌, Ok, Result, ap, drop, inl, inr, length, subst, sym, ℕ}
 use Rattle.std.proofs.lemmas.List.{drop_more}
 use Rattle.std.specs.Prelude.{get_or}
 
@@ -38,26 +38,31 @@ file_refused F prefixes set names n next fault whole below here (inl memory) bef
 file_refused F prefixes set names n next fault whole below here (inr refused) before =
     inr (sym before ∙ at_file F prefixes set names n next below here ∙ ap (then_files F prefixes (drop (n + 1) names)) refused)
 
--- the specs of a line, once its prefixes are known
+-- the specs of a line over a set, once its prefixes are known
 specs_from : (F : Facts) (settings : Settings) (dirs names : List (List ℕ)) (prefixes : Prefixes) (set : Set) → dirs ≡ settings.prefixes → names ≡ settings.specs
-    → prefixes_of F dirs ≡ Is prefixes → set ≡ builtin_specs → specs_of F settings ≡ files_loaded F prefixes set names
-specs_from F settings dirs names prefixes set dirs_are names_are made is =
-    ap (λ known. known >>= λ p. files_loaded F p builtin_specs settings.specs) (ap (prefixes_of F) (sym dirs_are) ∙ made)
-    ∙ ap (λ s. files_loaded F prefixes s settings.specs) (sym is) ∙ ap (files_loaded F prefixes set) (sym names_are)
+    → prefixes_of F dirs ≡ Is prefixes → specs_over F set settings ≡ files_loaded F prefixes set names
+specs_from F settings dirs names prefixes set dirs_are names_are made =
+    ap (λ known. known >>= λ p. files_loaded F p set settings.specs) (ap (prefixes_of F) (sym dirs_are) ∙ made)
+    ∙ ap (files_loaded F prefixes set) (sym names_are)
 
 pub specs_given : (F : Facts) (settings : Settings) (dirs names : List (List ℕ)) (prefixes : Prefixes) (set after : Set) → dirs ≡ settings.prefixes → names ≡ settings.specs
-    → prefixes_of F dirs ≡ Is prefixes → set ≡ builtin_specs → files_loaded F prefixes set names ≡ Is (Ok after) → specs_of F settings ≡ Is (Ok after)
-specs_given F settings dirs names prefixes set after dirs_are names_are made is loads = specs_from F settings dirs names prefixes set dirs_are names_are made is ∙ loads
+    → prefixes_of F dirs ≡ Is prefixes → files_loaded F prefixes set names ≡ Is (Ok after) → specs_over F set settings ≡ Is (Ok after)
+specs_given F settings dirs names prefixes set after dirs_are names_are made loads = specs_from F settings dirs names prefixes set dirs_are names_are made ∙ loads
 
 pub specs_refused : (F : Facts) (settings : Settings) (dirs names : List (List ℕ)) (prefixes : Prefixes) (set : Set) (fault : SpecsFault) → dirs ≡ settings.prefixes → names ≡ settings.specs
-    → prefixes_of F dirs ≡ Is prefixes → set ≡ builtin_specs → (fault ≡ specs_fault.Memory) ⊎ (files_loaded F prefixes set names ≡ Is (Err fault))
-    → (fault ≡ specs_fault.Memory) ⊎ (specs_of F settings ≡ Is (Err fault))
-specs_refused F settings dirs names prefixes set fault dirs_are names_are made is (inl memory) = inl memory
-specs_refused F settings dirs names prefixes set fault dirs_are names_are made is (inr refused) = inr (specs_from F settings dirs names prefixes set dirs_are names_are made is ∙ refused)
+    → prefixes_of F dirs ≡ Is prefixes → (fault ≡ specs_fault.Memory) ⊎ (files_loaded F prefixes set names ≡ Is (Err fault))
+    → (fault ≡ specs_fault.Memory) ⊎ (specs_over F set settings ≡ Is (Err fault))
+specs_refused F settings dirs names prefixes set fault dirs_are names_are made (inl memory) = inl memory
+specs_refused F settings dirs names prefixes set fault dirs_are names_are made (inr refused) = inr (specs_from F settings dirs names prefixes set dirs_are names_are made ∙ refused)
+
+-- over the built-in ones
+pub builtin_given : (F : Facts) (settings : Settings) (set : Set) (result : Result Set SpecsFault) → set ≡ builtin_specs
+    → GivesKnown specs_fault.Memory (λ loaded. loaded) result (specs_over F set settings) → GivesKnown specs_fault.Memory (λ loaded. loaded) result (specs_of F settings)
+builtin_given F settings set result is gives = subst (λ s. GivesKnown specs_fault.Memory (λ loaded. loaded) result (specs_over F s settings)) is gives
 
 -- a refusal that is handed on
-pub refusal_given : {X Y : Type 0} (fault : SpecsFault) (result : Result X SpecsFault) (view : X → Y) (defined : Known (Result Y SpecsFault))
-    → IsErrAnd result (λ e. e ≡ fault) → (fault ≡ specs_fault.Memory) ⊎ (defined ≡ Is (Err fault)) → GivesKnown specs_fault.Memory view result defined
-refusal_given fault (Ok x) view defined is refused = absurd is
-refusal_given fault (Err e) view defined is (inl memory) = inl (is ∙ memory)
-refusal_given fault (Err e) view defined is (inr refused) = inr (refused ∙ ap (λ f. Is (Err f)) (sym is))
+pub refusal_given : {X Y E : Type 0} (memory fault : E) (result : Result X E) (view : X → Y) (defined : Known (Result Y E))
+    → IsErrAnd result (λ e. e ≡ fault) → (fault ≡ memory) ⊎ (defined ≡ Is (Err fault)) → GivesKnown memory view result defined
+refusal_given memory fault (Ok x) view defined is refused = absurd is
+refusal_given memory fault (Err e) view defined is (inl same) = inl (is ∙ same)
+refusal_given memory fault (Err e) view defined is (inr refused) = inr (refused ∙ ap (λ f. Is (Err f)) (sym is))

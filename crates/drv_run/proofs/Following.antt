@@ -82,6 +82,11 @@ fits_rest before events s a is = absurd cc
 pub fits_after : (journal : List Event) (events : List RunEvent) (s : Step) (a : Answer) → fits (run_of (journal ++ map Run events)) s a ≡ true → fits events s a ≡ true
 fits_after journal events s a is = fits_rest (run_of journal) events s a (subst (λ run. fits run s a ≡ true) (run_after journal events) is)
 
+-- a run that leaves no pipe pending leaves none after both
+pub closed_after : (journal journal' : List Event) (events : List RunEvent) → journal' ≡ journal ++ map Run events → pipe_pending (run_of journal) ≡ false
+    → pipe_pending events ≡ false → pipe_pending (run_of journal') ≡ false
+closed_after journal journal' events grows none closed = ap (λ j. pipe_pending (run_of j)) grows ∙ ap pipe_pending (run_after journal events) ∙ pending_of_rest (run_of journal) events none ∙ closed
+
 -- a whole run, in the words of a caller
 pub executed : (plan p : Plan) (pass_codes q : FailureStatus) (N n : ℕ) (journal journal' : List Event) (status : ℕ) (events : List RunEvent)
     → journal' ≡ journal ++ map Run events → p ≡ plan → q ≡ pass_codes → n ≡ N → length events ≤ needed p → (w : IsWhole p n events)

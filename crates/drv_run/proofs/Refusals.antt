@@ -26,5 +26,5 @@ does_nothing journal later args seed refusal d = record {
     grows : later ≡ journal ++ d.asked
     grows = d.journal_grows ∙ ap (λ said. journal ++ d.asked ++ said) d.ends.1 ∙ append-nil (journal ++ d.asked)
 
-pub makes_no_step : (plan : Plan) (status : ℕ) (said : List Event) → Does (Show plan) status said → run_of said ≡ []
-makes_no_step plan status said shows = none_ran said (announces_only Commands plan said (status, shows))
+pub makes_no_step : (name : List ℕ) (plan : Plan) (status : ℕ) (said : List Event) → Does name (Show plan) status said → run_of said ≡ []
+makes_no_step name plan status said shows = none_ran said (announces_only name Commands plan said (status, shows))

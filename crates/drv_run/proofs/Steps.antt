@@ -8,9 +8,9 @@ use Rattle.drv_funcs.specs.declared.fault.FuncsFault.TheVariants as funcs_fault
 use Rattle.drv_machine.specs.declared.fault.MachineFault.TheVariants as machine_fault
 use Rattle.drv_plan.specs.declared.fault.PlanFault.TheVariants as plan_fault
 use Rattle.drv_plan.specs.declared.fault.PlanFault.{PlanFault}
+use Rattle.drv_run.specs.Calls.{HasWindow}
 use Rattle.drv_run.specs.Drives.{Comes, Refuses, Words, manner_of, not_expanded, not_fronted, not_loaded, not_planned, not_read, planned, specs_of, stopped_by_args, stopped_by_plan, stopped_by_specs, work_of, work_with, worked}
 use Rattle.drv_run.specs.Code.Deciding.{ComesOfSpecs}
-use Rattle.drv_run.specs.Code.Telling.{HasWindow}
 use Rattle.drv_run.specs.Code.Wording.{GivesWords}
 use Rattle.drv_run.specs.declared.ending.Ending.TheVariants.{Done, OutOfMemory, Refused}
 use Rattle.drv_run.specs.declared.ending.Ending.{Ending}

@@ -1,10 +1,10 @@
-use Rattle.drv_run.specs.Calls.{Announces, AreSaid, Says, notices_text}
+use Rattle.drv_run.specs.Calls.{Announces, AreSaid, DoesWork, OnlySays, Says, notices_text}
 use Rattle.drv_run.specs.Executed.{Executed}
-use Rattle.drv_run.specs.Code.Telling.{AnnouncesPlan, DoesWork}
+use Rattle.drv_run.specs.Code.Telling.{AnnouncesPlan, ShowsPlan}
 use Rattle.drv_run.specs.declared.work.Manner.{Manner}
 use Rattle.drv_run.specs.declared.work.Telling.TheVariants.{Commands, Notices}
 use Rattle.drv_run.specs.declared.work.Telling.{Telling}
-use Rattle.drv_run.specs.declared.work.Work.TheVariants.{CarryOut}
+use Rattle.drv_run.specs.declared.work.Work.TheVariants.{CarryOut, Dump}
 use Rattle.drv_system.proofs.Running.{run_of-append}
 use Rattle.drv_system.specs.Asking.{AreQuestions}
 use Rattle.drv_system.specs.Running.{run_of}
@@ -14,7 +14,7 @@ use Rattle.drv_words.specs.Lines.{lines_of}
 use Rattle.drv_words.specs.Printed.{lines_text}
 use Rattle.drv_words.specs.Stepping.{pipe_pending}
 use Rattle.drv_words.specs.declared.plan.Plan.{Plan}
-use Rattle.std.proofs.Common.{◌≡◌, ◌∙◌, Bool, List, [], ◌∷◌, ◌++◌, ap, append_assoc, false, map, refl, subst, sym, true, ℕ}
+use Rattle.std.proofs.Common.{◌≡◌, ◌∙◌, Bool, Err, IfOk, List, [], ◌∷◌, ◌++◌, Ok, OnErr, Result, ap, append_assoc, false, map, refl, subst, sym, true, ℕ}
 use Rattle.std.proofs.lemmas.List.{append-nil}
 
 -- Texts that are said, one after another, and a run after them.
@@ -32,18 +32,18 @@ said_both (Variable name value ∷ first) second a b = absurd a
 said_both (Put text answer ∷ first) second a b = absurd a
 said_both (Run e ∷ first) second a b = absurd a
 
-pub announces_only : (telling : Telling) (plan : Plan) (said : List Event) → Announces telling plan said → AreSaid said
-announces_only Commands plan said (status, shows) =
+pub announces_only : (name : List ℕ) (telling : Telling) (plan : Plan) (said : List Event) → Announces name telling plan said → AreSaid said
+announces_only name Commands plan said (status, shows) =
     subst (λ events. AreSaid events) (sym shows.joined)
-    (said_both shows.notices shows.commands (said_only (notices_text plan.notices) shows.noticed shows.notices shows.notices_are)
+    (said_both shows.notices shows.commands (said_only (notices_text name plan.notices) shows.noticed shows.notices shows.notices_are)
     (said_only (lines_text (lines_of plan)) status shows.commands shows.commands_are))
-announces_only Notices plan said (status, says) = said_only (notices_text plan.notices) status said says
+announces_only name Notices plan said (status, says) = said_only (notices_text name plan.notices) status said says
 
 -- what is told, and then the run
 
-pub plan_carried_out : (journal journal' journal'' : List Event) (plan : Plan) (manner : Manner) (status : ℕ)
-    → AnnouncesPlan journal journal' manner.telling plan → Executed plan manner.pass_codes manner.window journal' journal'' status → DoesWork journal journal'' (CarryOut plan manner) status
-plan_carried_out journal journal' journal'' plan manner status announces executes = (
+pub plan_carried_out : (name : List ℕ) (journal journal' journal'' : List Event) (plan : Plan) (manner : Manner) (status : ℕ)
+    → AnnouncesPlan name journal journal' manner.telling plan → Executed plan manner.pass_codes manner.window journal' journal'' status → DoesWork name journal journal'' (CarryOut plan manner) status
+plan_carried_out name journal journal' journal'' plan manner status announces executes = (
   announces.0 ++ map Run executes.events,
   executes.journal_grows ∙ ap (λ before. before ++ map Run executes.events) announces.1 ∙ append_assoc journal announces.0 (map Run executes.events),
   record {
@@ -82,7 +82,22 @@ pipe_stays journal events none before =
 pub pipe_after_questions : (journal asked : List Event) → AreQuestions asked → pipe_pending (run_of journal) ≡ false → pipe_pending (run_of (journal ++ asked)) ≡ false
 pipe_after_questions journal asked are before = pipe_stays journal asked (none_ran_asking asked are) before
 
-pub no_pipe_after_announced : (journal journal' : List Event) (telling : Telling) (plan : Plan)
-    → AnnouncesPlan journal journal' telling plan → pipe_pending (run_of journal) ≡ false → pipe_pending (run_of journal') ≡ false
-no_pipe_after_announced journal journal' telling plan announces before =
-    ap (λ after. pipe_pending (run_of after)) announces.1 ∙ pipe_stays journal announces.0 (none_ran announces.0 (announces_only telling plan announces.0 announces.2)) before
+pub no_pipe_after_announced : (name : List ℕ) (journal journal' : List Event) (telling : Telling) (plan : Plan)
+    → AnnouncesPlan name journal journal' telling plan → pipe_pending (run_of journal) ≡ false → pipe_pending (run_of journal') ≡ false
+no_pipe_after_announced name journal journal' telling plan announces before =
+    ap (λ after. pipe_pending (run_of after)) announces.1 ∙ pipe_stays journal announces.0 (none_ran announces.0 (announces_only name telling plan announces.0 announces.2)) before
+
+-- nor after texts, and a work that runs nothing
+
+pub no_pipe_after_texts : (journal journal' : List Event) → OnlySays journal journal' → pipe_pending (run_of journal) ≡ false → pipe_pending (run_of journal') ≡ false
+no_pipe_after_texts journal journal' only before = ap (λ after. pipe_pending (run_of after)) only.1 ∙ pipe_stays journal only.0 (none_ran only.0 only.2) before
+
+pub no_pipe_after_dump : {E : Type 0} (name : List ℕ) (journal journal' : List Event) (text : List ℕ) (result : Result ℕ E) → IfOk result (λ status. DoesWork name journal journal' (Dump text) status)
+    → OnErr result (OnlySays journal journal') → pipe_pending (run_of journal) ≡ false → pipe_pending (run_of journal') ≡ false
+no_pipe_after_dump name journal journal' text (Ok status) does only before = ap (λ after. pipe_pending (run_of after)) does.1 ∙ pipe_stays journal does.0 (ap run_of does.2.1) before
+no_pipe_after_dump name journal journal' text (Err e) does only before = no_pipe_after_texts journal journal' only before
+
+pub no_pipe_after_shown : {E : Type 0} (name : List ℕ) (journal journal' : List Event) (plan : Plan) (result : Result ℕ E) → IfOk result (λ status. ShowsPlan name journal journal' plan status)
+    → OnErr result (OnlySays journal journal') → pipe_pending (run_of journal) ≡ false → pipe_pending (run_of journal') ≡ false
+no_pipe_after_shown name journal journal' plan (Ok status) shows only before = no_pipe_after_announced name journal journal' Commands plan (shows.0, shows.1, (status, shows.2)) before
+no_pipe_after_shown name journal journal' plan (Err e) shows only before = no_pipe_after_texts journal journal' only before

@@ -19,7 +19,7 @@ use Rattle.drv_words.specs.Lines.{lines_of}
 use Rattle.drv_words.specs.Printed.{lines_text}
 use Rattle.drv_words.specs.declared.plan.Plan.{Plan}
 use Rattle.std.specs.List.{flat_map}
-use Rattle.std.specs.Prelude.{◌≡◌, Bool, List, [], ◌∷◌, ◌++◌, codes, false, true, ℕ, ⊤}
+use Rattle.std.specs.Prelude.{◌≡◌, ◌≤◌, Bool, List, [], ◌∷◌, ◌++◌, codes, false, true, ℕ, ⊤}
 
 -- What a call of the driver does (GCC manual, "Overall Options", -v, -###, -dumpspecs, -pass-exit-codes): what stands in the
 -- journal after its questions, and its ending.
@@ -29,12 +29,12 @@ abbrev pub status_of : TellAnswer → ℕ
 status_of Told = 0
 status_of Failed = 1
 
--- what the user is told, each on a line of its own
-abbrev pub notice_line : List ℕ → List ℕ
-notice_line notice = codes "gdrv: " ++ notice ++ newline ∷ []
+-- what the user is told, each on a line of its own after the program's name
+abbrev pub notice_line : List ℕ → List ℕ → List ℕ
+notice_line name notice = name ++ codes ": " ++ notice ++ newline ∷ []
 
-abbrev pub notices_text : List (List ℕ) → List ℕ
-notices_text = flat_map notice_line
+abbrev pub notices_text : List ℕ → List (List ℕ) → List ℕ
+notices_text name = flat_map (notice_line name)
 
 -- events that say a text, with the exit status: an empty text is not said, any other is said once
 abbrev pub Says : List ℕ → ℕ → List Event → Type 0
@@ -42,32 +42,32 @@ Says [] status said = (status ≡ 0) × (said ≡ [])
 Says (b ∷ text) status said = (answer : TellAnswer) × (said ≡ Say (b ∷ text) answer ∷ []) × (status ≡ status_of answer)
 
 -- A plan is said: its notices, and then its commands. The status is that of the latter.
-pub record Shows (plan : Plan) (status : ℕ) (said : List Event) : Type 0 where
+pub record Shows (name : List ℕ) (plan : Plan) (status : ℕ) (said : List Event) : Type 0 where
   pub notices : List Event
   pub commands : List Event
   pub noticed : ℕ
   pub joined : said ≡ notices ++ commands
-  pub notices_are : Says (notices_text plan.notices) noticed notices
+  pub notices_are : Says (notices_text name plan.notices) noticed notices
   pub commands_are : Says (lines_text (lines_of plan)) status commands
 
 -- what is said before a plan is carried out: its notices, and with -v its commands too; whether they could be said is no matter
-abbrev pub Announces : Telling → Plan → List Event → Type 0
-Announces Commands plan said = (status : ℕ) × Shows plan status said
-Announces Notices plan said = (status : ℕ) × Says (notices_text plan.notices) status said
+abbrev pub Announces : List ℕ → Telling → Plan → List Event → Type 0
+Announces name Commands plan said = (status : ℕ) × Shows name plan status said
+Announces name Notices plan said = (status : ℕ) × Says (notices_text name plan.notices) status said
 
 -- A plan is carried out after that, and the status is that of its run.
-pub record CarriesOut (plan : Plan) (manner : Manner) (status : ℕ) (said : List Event) : Type 0 where
+pub record CarriesOut (name : List ℕ) (plan : Plan) (manner : Manner) (status : ℕ) (said : List Event) : Type 0 where
   pub announced : List Event
   pub ran : List Event
   pub joined : said ≡ announced ++ ran
-  pub announces : Announces manner.telling plan announced
+  pub announces : Announces name manner.telling plan announced
   pub executes : Executed plan manner.pass_codes manner.window [] ran status
 
--- events that do a work, with the exit status: a dump is written once
-abbrev pub Does : Work → ℕ → List Event → Type 0
-Does (Dump text) status said = (answer : TellAnswer) × (said ≡ Put text answer ∷ []) × (status ≡ status_of answer)
-Does (Show plan) status said = Shows plan status said
-Does (CarryOut plan manner) status said = CarriesOut plan manner status said
+-- events by which a program of this name does a work, with the exit status: a dump is written once
+abbrev pub Does : List ℕ → Work → ℕ → List Event → Type 0
+Does name (Dump text) status said = (answer : TellAnswer) × (said ≡ Put text answer ∷ []) × (status ≡ status_of answer)
+Does name (Show plan) status said = Shows name plan status said
+Does name (CarryOut plan manner) status said = CarriesOut name plan manner status said
 
 -- texts that were said, and nothing else
 abbrev pub AreSaid : List Event → Type 0
@@ -75,10 +75,27 @@ AreSaid [] = ⊤
 AreSaid (Say text answer ∷ events) = AreSaid events
 AreSaid (event ∷ events) = ⊥
 
+-- a work was done after a journal, and nothing else
+abbrev pub DoesWork : List ℕ → List Event → List Event → Work → ℕ → Type 0
+DoesWork name journal journal' work status = (said : List Event) × (journal' ≡ journal ++ said) × Does name work status said
+
+-- nothing but texts was said after a journal
+abbrev pub OnlySays : List Event → List Event → Type 0
+OnlySays journal journal' = (said : List Event) × (journal' ≡ journal ++ said) × AreSaid said
+
+-- how many sources may be under way at once
+abbrev pub IsWindow : ℕ → Type 0
+IsWindow n = (1 ≤ n) × (n ≤ 64)
+
+abbrev pub HasWindow : Work → Type 0
+HasWindow (Dump text) = ⊤
+HasWindow (Show plan) = ⊤
+HasWindow (CarryOut plan manner) = IsWindow manner.window
+
 -- what stands after the questions of a call, by how it ended: its work after `Done`; nothing after a refusal; and where memory was
 -- wanted nothing was made or started
 abbrev pub Ends : Facts → List (List ℕ) → ℕ → Ending → List Event → Type 0
-Ends F args seed (Done status) said = (work : Work) × Drives F args seed work × Does work status said
+Ends F args seed (Done status) said = (work : Work) × Drives F args seed work × Does (codes "gdrv") work status said
 Ends F args seed (Refused refusal) said = Refuses F args seed refusal × (said ≡ [])
 Ends F args seed OutOfMemory said = AreSaid said
 

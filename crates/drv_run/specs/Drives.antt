@@ -70,9 +70,13 @@ abbrev pub files_loaded : Facts → Prefixes → Set → List (List ℕ) → Kno
 files_loaded F prefixes set [] = Is (Ok set)
 files_loaded F prefixes set (name ∷ names) = then_by (file_loaded F prefixes set name) (λ set'. files_loaded F prefixes set' names)
 
--- the specs of a line: the built-in ones, and what the files of -specs= make of them, each found along the prefixes of -B
+-- a set after the files of -specs=, each found along the prefixes of -B
+abbrev pub specs_over : Facts → Set → Settings → Known (Result Set SpecsFault)
+specs_over F set settings = prefixes_of F settings.prefixes >>= λ prefixes. files_loaded F prefixes set settings.specs
+
+-- the specs of a line: the built-in ones, and what these files make of them
 abbrev pub specs_of : Facts → Settings → Known (Result Set SpecsFault)
-specs_of F settings = prefixes_of F settings.prefixes >>= λ prefixes. files_loaded F prefixes builtin_specs settings.specs
+specs_of F settings = specs_over F builtin_specs settings
 
 -- the plan of a line with these specs and this seed
 abbrev pub planned : Facts → Line → Set → ℕ → Known (Result Plan PlanFault)

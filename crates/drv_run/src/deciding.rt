@@ -1,23 +1,25 @@
 //! What arguments come to.
 
-ghost use Rattle.drv_run.specs.Drives.{Comes, IsApart, files_loaded, specs_of, work_of};
-ghost use Rattle.drv_run.specs.Code.Deciding.{ComesOfLine, ComesOfSpecs};
-ghost use Rattle.drv_run.specs.Code.Telling.{HasWindow, IsWindow};
+ghost use Rattle.drv_machine.specs.declared.fault.MachineFault.TheVariants as machine_fault;
+ghost use Rattle.drv_plan.specs.declared.fault.PlanFault.TheVariants as plan_fault;
+ghost use Rattle.drv_run.specs.Calls.{HasWindow, IsWindow};
+ghost use Rattle.drv_run.specs.Drives.{Comes, IsApart, files_loaded, specs_of, specs_over, work_of};
+ghost use Rattle.drv_run.specs.Code.Deciding.{ComesOfLine};
 ghost use Rattle.drv_specs.specs.declared.fault.SpecsFault.TheVariants as specs_fault;
-ghost use Rattle.drv_system.specs.Asking.{Extends};
+ghost use Rattle.drv_system.specs.Asking.{Asks, Extends};
 ghost use Rattle.drv_system.specs.Code.Asked.{Asked};
 ghost use Rattle.drv_system.specs.Facts.{Facts};
 ghost use Rattle.drv_system.specs.Gives.{GivesKnown};
-ghost use Rattle.std.specs.Prelude.{IfErr, IfOk};
+ghost use Rattle.std.specs.Prelude.{◌≢◌, IfErr, IfOk};
 
 use crate::ending::Ending;
 use crate::fronting::words_of;
 use crate::work::{Work, work_with};
 use drv_args::{Line, Settings, read};
-use drv_plan::plan;
+use drv_plan::{PlanFault, plan};
 use drv_search::Prefixes;
 use drv_specs::{SpecSet, SpecsFault, builtin};
-use drv_system::{Outside, System};
+use drv_system::{FactTable, Outside, System};
 use drv_words::{Listing, Word};
 use std::alloc::Global;
 
@@ -40,8 +42,36 @@ fn load_files<S: System>(
     Ok(())
 }
 
+/// The specs of a line over a set: what the files of `-specs=` make of it, in the line's order. Each
+/// is found along the prefixes of `-B`. It asks the system only where the table has no answer.
+///
+/// # Errors
+/// The refusal of the first file that is refused.
+#[tactic(auto, using(drv_system::proofs::Asking::asks_then))]
+pub fn load_specs<S: System>(
+    alloc: Global,
+    set: SpecSet,
+    settings: &Settings,
+    sys: &mut S,
+    facts: &mut FactTable,
+) -> Result<SpecSet, SpecsFault>
+    ensures asks { Asks (S.events sys.old) (S.events sys.new) facts.old facts.new }
+    ensures loads { (F : Facts) → Extends facts.new F
+        → GivesKnown specs_fault.Memory (λ loaded. loaded) result
+        (specs_over F set settings.now) }
+{
+    let prefixes = Prefixes::new(alloc, settings.prefixes.as_slice(), sys, facts)?;
+    let mut set = set;
+    load_files(
+        &mut set,
+        settings.specs.as_slice(),
+        &prefixes,
+        &mut Outside { sys, facts },
+    )?;
+    Ok(set)
+}
+
 /// The specs of a line: the built-in ones, and what the files of `-specs=` make of them.
-#[tactic(auto, using(drv_system::proofs::AskedCalls::asked_further))]
 fn specs_of<S: System>(
     alloc: Global,
     settings: &Settings,
@@ -51,40 +81,36 @@ fn specs_of<S: System>(
     ensures loads { (F : Facts) → Extends outside.new.facts.now F
         → GivesKnown specs_fault.Memory (λ set. set) result (specs_of F settings.now) }
 {
-    let prefixes = Prefixes::new(
-        alloc,
-        settings.prefixes.as_slice(),
-        outside.sys,
-        outside.facts,
-    )?;
-    let mut set = builtin(alloc)?;
-    load_files(&mut set, settings.specs.as_slice(), &prefixes, outside)?;
-    Ok(set)
+    let set = builtin(alloc)?;
+    load_specs(alloc, set, settings, outside.sys, outside.facts)
 }
 
-/// What a line with these specs comes to: their dump, or its plan with what is done with it. It
+/// What a line with these specs comes to: their dump, or its plan with what is done with it (GCC
+/// manual, "Overall Options", `-dumpspecs` and `-###`). The seed is for the names of temporaries. It
 /// asks the system only where the table has no answer.
 ///
 /// # Errors
 /// The refusal of the plan.
-fn work_with_specs<S: System>(
+pub fn work_of<S: System>(
     alloc: Global,
     line: &Line,
     set: &SpecSet,
     seed: u32,
-    outside: &mut Outside<'_, S>,
-) -> Result<Work, Ending>
+    sys: &mut S,
+    facts: &mut FactTable,
+) -> Result<Work, PlanFault>
     requires { IsWindow line.now.settings.jobs }
-    ensures asks { Asked S.events outside.old outside.new }
-    ensures comes { (F : Facts) → Extends outside.new.facts.now F
-        → ComesOfSpecs (work_of F line.now set.now seed) result }
-    ensures apart { IfErr result (λ ending. IsApart ending) }
+    ensures asks { Asks (S.events sys.old) (S.events sys.new) facts.old facts.new }
+    ensures works { (F : Facts) → Extends facts.new F
+        → GivesKnown plan_fault.Memory (λ work. work) result
+        (work_of F line.now set.now seed) }
+    ensures apart { IfErr result (λ fault. fault ≢ PlanFault.Machine machine_fault.Memory) }
     ensures window { IfOk result (λ work. HasWindow work) }
 {
     if line.settings.dump {
         return Ok(Work::Dump(set.dump()?));
     }
-    let plan = plan(alloc, line, set, seed, outside.sys, outside.facts)?;
+    let plan = plan(alloc, line, set, seed, sys, facts)?;
     Ok(work_with(&line.settings, plan))
 }
 
@@ -107,7 +133,8 @@ fn work_of_line<S: System>(
     ensures window { IfOk result (λ work. HasWindow work) }
 {
     let set = specs_of(alloc, &line.settings, outside)?;
-    work_with_specs(alloc, line, &set, seed, outside)
+    let work = work_of(alloc, line, &set, seed, outside.sys, outside.facts)?;
+    Ok(work)
 }
 
 /// What arguments come to: the words of the line read, spec files loaded, and then the dump of the
@@ -117,7 +144,7 @@ fn work_of_line<S: System>(
 /// # Errors
 /// The first refusal of these steps.
 #[tactic(auto, using(drv_system::proofs::AskedCalls::asked_further))]
-pub(crate) fn work_of<S: System>(
+pub(crate) fn work_of_args<S: System>(
     alloc: Global,
     args: Listing<Word>,
     seed: u32,

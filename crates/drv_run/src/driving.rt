@@ -1,74 +1,28 @@
 //! A call of the driver.
 
-ghost use Rattle.drv_run.specs.Calls.{Drove};
+ghost use Rattle.drv_run.specs.Calls.{Drove, HasWindow};
 ghost use Rattle.drv_run.specs.Drives.{IsApart};
-ghost use Rattle.drv_run.specs.Code.Telling.{DoesWork, EndsWork, HasWindow, OnlySays};
-ghost use Rattle.drv_run.specs.declared.work.Work.TheVariants.{CarryOut, Dump};
+ghost use Rattle.drv_run.specs.Code.Telling.{EndsWork};
 ghost use Rattle.drv_system.specs.Running.{run_of};
 ghost use Rattle.drv_words.specs.Stepping.{pipe_pending};
-ghost use Rattle.std.specs.Prelude.{◌≡◌, ◌≤◌, IfOk, OnErr, false};
+ghost use Rattle.std.specs.Prelude.{◌≡◌, false};
 
-use crate::deciding::work_of;
+use crate::deciding::work_of_args;
+use crate::doing::do_work;
 use crate::ending::Ending;
-use crate::executing::execute;
-use crate::telling::{announce, say_plan, status_of};
-use crate::work::{Manner, Work};
+use crate::work::Work;
 use drv_system::{FactTable, Outside, System};
-use drv_words::{Listing, Plan, Word};
-use std::alloc::{AllocError, Global};
-
-/// Writes the dump of the specs, and answers the exit status: 0, or 1 where it could not be
-/// written.
-fn put_dump<S: System>(sys: &mut S, text: &Word) -> Result<u8, AllocError>
-    ensures puts { IfOk result
-        (λ status. DoesWork (S.events sys.old) (S.events sys.new) (Dump text.now) status) }
-    ensures memory { OnErr result (OnlySays (S.events sys.old) (S.events sys.new)) }
-{
-    Ok(status_of(sys.put(text)?))
-}
-
-/// Carries a plan out after what is told of it, and answers the exit status.
-fn run_plan<S: System>(
-    alloc: Global,
-    sys: &mut S,
-    plan: &Plan,
-    manner: Manner,
-) -> Result<u8, AllocError>
-    requires pipe { pipe_pending (run_of (S.events sys.old)) ≡ false }
-    requires some { 1 ≤ manner.window }
-    requires most { manner.window ≤ 64 }
-    ensures runs { IfOk result
-        (λ status. DoesWork (S.events sys.old) (S.events sys.new)
-        (CarryOut plan.now manner) status) }
-    ensures memory { OnErr result (OnlySays (S.events sys.old) (S.events sys.new)) }
-{
-    announce(alloc, sys, plan, manner.telling)?;
-    let status = execute(alloc, sys, plan, manner.pass_codes, manner.window)?;
-    Ok(status)
-}
-
-/// Does a work, and answers the exit status.
-fn carry_out<S: System>(alloc: Global, sys: &mut S, work: &Work) -> Result<u8, AllocError>
-    requires pipe { pipe_pending (run_of (S.events sys.old)) ≡ false }
-    requires window { HasWindow work.now }
-    ensures does { IfOk result
-        (λ status. DoesWork (S.events sys.old) (S.events sys.new) work.now status) }
-    ensures memory { OnErr result (OnlySays (S.events sys.old) (S.events sys.new)) }
-{
-    match work {
-        Work::Dump(text) => put_dump(sys, text),
-        Work::Show(plan) => say_plan(alloc, sys, plan),
-        Work::CarryOut { plan, manner } => run_plan(alloc, sys, plan, *manner),
-    }
-}
+use drv_words::{Listing, Word};
+use std::alloc::Global;
 
 /// Does a work, and gives how that ends the call.
 fn ending_of<S: System>(alloc: Global, sys: &mut S, work: &Work) -> Ending
     requires pipe { pipe_pending (run_of (S.events sys.old)) ≡ false }
     requires window { HasWindow work.now }
-    ensures { EndsWork (S.events sys.old) (S.events sys.new) work.now result }
+    ensures ends { EndsWork (S.events sys.old) (S.events sys.new) work.now result }
+    ensures pipe { pipe_pending (run_of (S.events sys.new)) ≡ false }
 {
-    match carry_out(alloc, sys, work) {
+    match do_work(alloc, sys, b"gdrv", work) {
         Ok(status) => Ending::Done(status),
         Err(_) => Ending::OutOfMemory,
     }
@@ -81,15 +35,16 @@ fn ending_of<S: System>(alloc: Global, sys: &mut S, work: &Work) -> Ending
 /// plan's notices, and with `-v` or `-###` its commands too; with `-###` it starts nothing, and
 /// otherwise it carries the plan out, with as many sources under way as `--jobs` says. The seed is
 /// for the names of temporaries. A refused call, and one that lacks memory, makes and starts
-/// nothing.
+/// nothing. No pipe is pending after a call, so the next one can be made.
 #[tactic(auto, using(crate::proofs::Endings::no_pipe_after_questions))]
 pub fn drive<S: System>(alloc: Global, sys: &mut S, args: Listing<Word>, seed: u32) -> Ending
     requires pipe { pipe_pending (run_of (S.events sys.old)) ≡ false }
     ensures drove { Drove (S.events sys.old) (S.events sys.new) args seed result }
     ensures apart { IsApart result }
+    ensures pipe { pipe_pending (run_of (S.events sys.new)) ≡ false }
 {
     let facts = &mut FactTable::new(alloc);
-    match work_of(alloc, args, seed, &mut Outside { sys, facts }) {
+    match work_of_args(alloc, args, seed, &mut Outside { sys, facts }) {
         Ok(work) => ending_of(alloc, sys, &work),
         Err(ending) => ending,
     }

@@ -14,7 +14,7 @@ use std::alloc::{AllocError, Global};
 
 /// Carries out a plan, with at most `window` of its sources under way at once, and gives the exit
 /// status: 0, or that of a failure where a command failed or something was not made or started. Of
-/// several sources that may go on, one does that need not wait.
+/// several sources that may go on, one does that need not wait. No pipe is pending afterwards.
 ///
 /// # Errors
 /// Want of memory, of which nothing was made or started; after the first step it is no error any
@@ -33,6 +33,7 @@ pub fn execute<S: System>(
         (λ status. Executed plan.now pass_codes window
         (S.events sys.old) (S.events sys.new) status) }
     ensures memory { OnErr result (S.events sys.new ≡ S.events sys.old) }
+    ensures pipe { pipe_pending (run_of (S.events sys.new)) ≡ false }
 {
     let mut run = Run::new(alloc, plan, pass_codes, window)?;
     sys.reserve_events(run.room())?;

@@ -43,6 +43,6 @@ pub fn refused_does_nothing()
 
 /// A law: a plan that is shown is said, and no step of a run is made.
 pub fn shown_starts_nothing()
-    ensures { (plan : Plan) (status : ℕ) (said : List Event) → Does (Show plan) status said
-        → run_of said ≡ [] }
+    ensures { (name : List ℕ) (plan : Plan) (status : ℕ) (said : List Event)
+        → Does name (Show plan) status said → run_of said ≡ [] }
 {}

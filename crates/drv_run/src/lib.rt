@@ -3,6 +3,7 @@
 
 mod choosing;
 mod deciding;
+mod doing;
 mod driving;
 mod ending;
 mod executing;
@@ -14,10 +15,12 @@ mod version;
 mod wording;
 mod work;
 
+pub use deciding::{load_specs, work_of};
+pub use doing::do_work;
 pub use driving::drive;
 pub use ending::{Ending, Refusal};
 pub use executing::execute;
 pub use laws::{one_ending, refused_does_nothing, same_plan, shown_starts_nothing};
 pub use version::VERSION;
-pub use wording::{ending_text, fault_line};
+pub use wording::{ending_text, fault_line, refusal_text};
 pub use work::{Manner, Work};

@@ -1,7 +1,7 @@
 //! What the user is told of a plan.
 
-ghost use Rattle.drv_run.specs.Calls.{notice_line, notices_text, status_of};
-ghost use Rattle.drv_run.specs.Code.Telling.{AnnouncesPlan, OnlySays, SaysText, ShowsPlan};
+ghost use Rattle.drv_run.specs.Calls.{OnlySays, notice_line, notices_text, status_of};
+ghost use Rattle.drv_run.specs.Code.Telling.{AnnouncesPlan, SaysText, ShowsPlan};
 ghost use Rattle.drv_words.specs.Lines.{lines_of};
 ghost use Rattle.drv_words.specs.Printed.{lines_text};
 ghost use Rattle.std.specs.Prelude.{◌≡◌, ◌++◌, IfOk, OnErr, OnOk};
@@ -35,33 +35,39 @@ fn say_text<S: System>(sys: &mut S, text: &Word) -> Result<u8, AllocError>
 }
 
 /// Adds a notice as it is told: after the program's name, on a line of its own.
-fn push_notice(text: &mut Word, notice: &Word) -> Result<(), AllocError>
-    ensures { OnOk result (text.new ≡ text.old ++ notice_line notice.now) }
+fn push_notice(text: &mut Word, name: &[u8], notice: &Word) -> Result<(), AllocError>
+    ensures { OnOk result (text.new ≡ text.old ++ notice_line name.now notice.now) }
 {
-    text.extend_from_slice(b"gdrv: ")?;
+    text.extend_from_slice(name)?;
+    text.extend_from_slice(b": ")?;
     text.extend_from_slice(notice.as_bytes())?;
     text.push(b'\n')
 }
 
 /// The notices of a plan as they are told.
-fn notices_text(alloc: Global, notices: &[Word]) -> Result<Word, AllocError>
-    ensures { IfOk result (λ text. text ≡ notices_text notices.now) }
+fn notices_text(alloc: Global, name: &[u8], notices: &[Word]) -> Result<Word, AllocError>
+    ensures { IfOk result (λ text. text ≡ notices_text name.now notices.now) }
 {
     let mut text = Word::empty(alloc);
     for notice in notices {
-        push_notice(&mut text, notice)?;
+        push_notice(&mut text, name, notice)?;
     }
     Ok(text)
 }
 
 /// Says the notices of a plan, if it has any.
-fn say_notices<S: System>(alloc: Global, sys: &mut S, plan: &Plan) -> Result<u8, AllocError>
+fn say_notices<S: System>(
+    alloc: Global,
+    sys: &mut S,
+    name: &[u8],
+    plan: &Plan,
+) -> Result<u8, AllocError>
     ensures says { IfOk result
         (λ status. SaysText (S.events sys.old) (S.events sys.new)
-        (notices_text plan.now.notices) status) }
+        (notices_text name.now plan.now.notices) status) }
     ensures memory { OnErr result (S.events sys.new ≡ S.events sys.old) }
 {
-    let text = notices_text(alloc, plan.notices.as_slice())?;
+    let text = notices_text(alloc, name, plan.notices.as_slice())?;
     say_text(sys, &text)
 }
 
@@ -78,12 +84,17 @@ fn say_commands<S: System>(alloc: Global, sys: &mut S, plan: &Plan) -> Result<u8
 
 /// Says a plan: its notices, and then its commands. The exit status is 1 where the commands could
 /// not be said.
-pub(crate) fn say_plan<S: System>(alloc: Global, sys: &mut S, plan: &Plan) -> Result<u8, AllocError>
+pub(crate) fn say_plan<S: System>(
+    alloc: Global,
+    sys: &mut S,
+    name: &[u8],
+    plan: &Plan,
+) -> Result<u8, AllocError>
     ensures shows { IfOk result
-        (λ status. ShowsPlan (S.events sys.old) (S.events sys.new) plan.now status) }
+        (λ status. ShowsPlan name.now (S.events sys.old) (S.events sys.new) plan.now status) }
     ensures memory { OnErr result (OnlySays (S.events sys.old) (S.events sys.new)) }
 {
-    let _noticed = say_notices(alloc, sys, plan)?;
+    let _noticed = say_notices(alloc, sys, name, plan)?;
     let status = say_commands(alloc, sys, plan)?;
     Ok(status)
 }
@@ -93,16 +104,17 @@ pub(crate) fn say_plan<S: System>(alloc: Global, sys: &mut S, plan: &Plan) -> Re
 pub(crate) fn announce<S: System>(
     alloc: Global,
     sys: &mut S,
+    name: &[u8],
     plan: &Plan,
     telling: Telling,
 ) -> Result<(), AllocError>
     ensures announces { OnOk result
-        (AnnouncesPlan (S.events sys.old) (S.events sys.new) telling plan.now) }
+        (AnnouncesPlan name.now (S.events sys.old) (S.events sys.new) telling plan.now) }
     ensures memory { OnErr result (OnlySays (S.events sys.old) (S.events sys.new)) }
 {
     let _status = match telling {
-        Telling::Commands => say_plan(alloc, sys, plan)?,
-        Telling::Notices => say_notices(alloc, sys, plan)?,
+        Telling::Commands => say_plan(alloc, sys, name, plan)?,
+        Telling::Notices => say_notices(alloc, sys, name, plan)?,
     };
     Ok(())
 }

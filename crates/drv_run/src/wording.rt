@@ -215,17 +215,33 @@ fn push_plan_text(line: &mut Word, fault: &PlanFault) -> Result<(), AllocError>
     }
 }
 
+/// Adds the text of a refusal.
+fn push_refusal_text(line: &mut Word, refusal: &Refusal) -> Result<(), AllocError>
+    ensures { OnOk result (line.new ≡ line.old ++ refusal_text refusal.now) }
+{
+    match refusal {
+        Refusal::Args(fault) => push_args_text(line, fault),
+        Refusal::C99(fault) => push_c99_text(line, fault),
+        Refusal::Specs(fault) => push_specs_text(line, fault),
+        Refusal::Plan(fault) => push_plan_text(line, fault),
+    }
+}
+
+/// The text of a refusal: why, without the program's name.
+pub fn refusal_text(alloc: Global, refusal: &Refusal) -> Result<Word, AllocError>
+    ensures { IfOk result (λ text. text ≡ refusal_text refusal.now) }
+{
+    let mut text = Word::empty(alloc);
+    push_refusal_text(&mut text, refusal)?;
+    Ok(text)
+}
+
 /// The line that tells a refusal: the program's name, why, and a newline.
 pub fn fault_line(alloc: Global, refusal: &Refusal) -> Result<Word, AllocError>
     ensures { IfOk result (λ line. line ≡ refusal_line refusal.now) }
 {
     let mut line = Word::from_bytes(alloc, b"gdrv: ")?;
-    match refusal {
-        Refusal::Args(fault) => push_args_text(&mut line, fault)?,
-        Refusal::C99(fault) => push_c99_text(&mut line, fault)?,
-        Refusal::Specs(fault) => push_specs_text(&mut line, fault)?,
-        Refusal::Plan(fault) => push_plan_text(&mut line, fault)?,
-    }
+    push_refusal_text(&mut line, refusal)?;
     line.push(b'\n')?;
     Ok(line)
 }

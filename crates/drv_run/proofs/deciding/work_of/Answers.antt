@@ -1,19 +1,19 @@
-use Rattle.drv_run.proofs.Steps.{reading_ends, words_end}
-use Rattle.drv_system.proofs.AskedCalls.{extends_before}
+use Rattle.drv_plan.specs.declared.fault.PlanFault.TheVariants as plan_fault
+use Rattle.drv_run.proofs.Files.{refusal_given}
+use Rattle.drv_run.proofs.Steps.{few_window, work_dumped, work_planned, work_refused}
 use Rattle.drv_run.proofs.deciding.work_of.Goals as goal
+use Rattle.drv_run.specs.Drives.{work_of}
 
-pub returns-in_err-words-clause-comes : goal.returns-in_err-words-clause-comes
-returns-in_err-words-clause-comes g c F e =
-    words_end F c.args.args c.args.seed c.in_err-words.field-0.0 c.from_residual.result c.from_residual.ensures.1 (c.in_err-words.ensures.gives F e)
+pub returns-then-line-clause-works : goal.returns-then-line-clause-works
+returns-then-line-clause-works g c F e = work_dumped F c.args.line.now c.args.set.now c.args.seed c.in_ok-dump.field-0 c.if-line.true c.in_ok-dump.ensures.text
 
-pub returns-in_err-line-clause-comes : goal.returns-in_err-line-clause-comes
-returns-in_err-line-clause-comes g c F e =
-    reading_ends F c.args.args c.args.seed c.in_ok-words.words c.in_err-line.field-0.0 c.from_residual-in_err-line.result c.from_residual-in_err-line.ensures.1
-    (c.in_ok-words.ensures.gives F e) c.in_err-line.ensures.line
+pub returns-in_err-plan-clause-works : goal.returns-in_err-plan-clause-works
+returns-in_err-plan-clause-works g c F e =
+    refusal_given plan_fault.Memory c.in_err-plan.field-0.0 c.from_residual-in_err-plan.result _ (work_of F c.args.line.now c.args.set.now c.args.seed) c.from_residual-in_err-plan.ensures.1
+    (work_refused F c.args.line.now c.args.set.now c.args.seed c.in_err-plan.field-0.0 c.if-line.false (c.in_err-plan.ensures.plans F e))
 
-pub work_of_line-requires : goal.work_of_line-requires
-work_of_line-requires g c = c.in_ok-line.ensures.jobs
+pub returns-clause-works : goal.returns-clause-works
+returns-clause-works g c F e = work_planned F c.args.line.now c.args.set.now c.args.seed c.in_ok-plan.plan c.work_with.result c.if-line.false (c.in_ok-plan.ensures.plans F e) c.work_with.ensures
 
-pub returns-clause-comes : goal.returns-clause-comes
-returns-clause-comes g c F e =
-    c.work_of_line.ensures.comes F e c.args.args c.in_ok-words.words (c.in_ok-words.ensures.gives F (extends_before c.work_of_line.ensures.asks e)) c.in_ok-line.ensures.line
+pub returns-clause-window : goal.returns-clause-window
+returns-clause-window g c = few_window c.args.line.now.settings c.in_ok-plan.plan c.work_with.result c.requires c.work_with.ensures

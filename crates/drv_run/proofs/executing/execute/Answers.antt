@@ -1,5 +1,5 @@
 use Rattle.drv_core.specs.Run.{IfMake}
-use Rattle.drv_run.proofs.Following.{can_after, executed, fits_after}
+use Rattle.drv_run.proofs.Following.{can_after, closed_after, executed, fits_after}
 use Rattle.drv_run.proofs.executing.execute.Goals as goal
 use Rattle.drv_run.specs.Code.Making.{CanMake}
 use Rattle.drv_system.specs.Running.{run_of}
@@ -12,6 +12,10 @@ returns-in-Done-clause-executed g c =
     (g.S.System.events c.args.sys.now) (g.S.System.events c.loop-status.sys) c.in-Done.status c.loop-status.run.events
     c.loop-status.invariant.journal c.loop-status.invariant.plan c.loop-status.invariant.codes c.loop-status.invariant.window
     c.next.ensures.bound c.in-Done.ensures.whole c.in-Done.ensures.status
+
+pub returns-in-Done-clause-pipe : goal.returns-in-Done-clause-pipe
+returns-in-Done-clause-pipe g c =
+    closed_after (g.S.System.events c.args.sys.now) (g.S.System.events c.loop-status.sys) c.loop-status.run.events c.loop-status.invariant.journal c.requires.pipe c.in-Done.ensures.pipe
 
 pub make-answer-requires-clause-can : goal.make-answer-requires-clause-can
 make-answer-requires-clause-can g c =

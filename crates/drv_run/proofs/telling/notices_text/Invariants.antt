@@ -3,4 +3,4 @@ use Rattle.drv_run.specs.Calls.{notices_text}
 use Rattle.std.proofs.Common.{◌≡◌, ◌++◌, drop}
 
 abbrev pub invariant-loop-notice : goal.invariant-loop-notice
-invariant-loop-notice l = l.text ++ notices_text (drop l.notice-index l.notices) ≡ notices_text l.notices
+invariant-loop-notice l = l.text ++ notices_text l.name (drop l.notice-index l.notices) ≡ notices_text l.name l.notices

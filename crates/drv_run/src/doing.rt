@@ -1,0 +1,72 @@
+//! A work is done.
+
+ghost use Rattle.drv_run.specs.Calls.{DoesWork, HasWindow, OnlySays};
+ghost use Rattle.drv_run.specs.declared.work.Work.TheVariants.{CarryOut, Dump};
+ghost use Rattle.drv_system.specs.Running.{run_of};
+ghost use Rattle.drv_words.specs.Stepping.{pipe_pending};
+ghost use Rattle.std.specs.Prelude.{◌≡◌, ◌≤◌, IfOk, List, OnErr, false, ℕ};
+
+use crate::executing::execute;
+use crate::telling::{announce, say_plan, status_of};
+use crate::work::{Manner, Work};
+use drv_system::System;
+use drv_words::{Plan, Word};
+use std::alloc::{AllocError, Global};
+
+/// Writes the dump of the specs, and answers the exit status: 0, or 1 where it could not be
+/// written.
+fn put_dump<S: System>(sys: &mut S, text: &Word) -> Result<u8, AllocError>
+    ensures puts { (name : List ℕ) → IfOk result
+        (λ status. DoesWork name (S.events sys.old) (S.events sys.new) (Dump text.now) status) }
+    ensures memory { OnErr result (OnlySays (S.events sys.old) (S.events sys.new)) }
+{
+    Ok(status_of(sys.put(text)?))
+}
+
+/// Carries a plan out after what is told of it, and answers the exit status.
+fn run_plan<S: System>(
+    alloc: Global,
+    sys: &mut S,
+    name: &[u8],
+    plan: &Plan,
+    manner: Manner,
+) -> Result<u8, AllocError>
+    requires pipe { pipe_pending (run_of (S.events sys.old)) ≡ false }
+    requires some { 1 ≤ manner.window }
+    requires most { manner.window ≤ 64 }
+    ensures runs { IfOk result
+        (λ status. DoesWork name.now (S.events sys.old) (S.events sys.new)
+        (CarryOut plan.now manner) status) }
+    ensures memory { OnErr result (OnlySays (S.events sys.old) (S.events sys.new)) }
+    ensures pipe { pipe_pending (run_of (S.events sys.new)) ≡ false }
+{
+    announce(alloc, sys, name, plan, manner.telling)?;
+    let status = execute(alloc, sys, plan, manner.pass_codes, manner.window)?;
+    Ok(status)
+}
+
+/// Does a work, by a program of this name, and answers the exit status: of a dump and of a plan that is shown 0, or 1 where the
+/// text could not be written; of a plan that is carried out that of its run. No pipe is pending
+/// afterwards.
+///
+/// # Errors
+/// Want of memory, of which nothing was made or started.
+pub fn do_work<S: System>(
+    alloc: Global,
+    sys: &mut S,
+    name: &[u8],
+    work: &Work,
+) -> Result<u8, AllocError>
+    requires pipe { pipe_pending (run_of (S.events sys.old)) ≡ false }
+    requires window { HasWindow work.now }
+    ensures does { IfOk result
+        (λ status. DoesWork name.now (S.events sys.old) (S.events sys.new) work.now status) }
+    ensures memory { OnErr result (OnlySays (S.events sys.old) (S.events sys.new)) }
+    ensures pipe { pipe_pending (run_of (S.events sys.new)) ≡ false }
+{
+    match work {
+        Work::Dump(text) => put_dump(sys, text),
+        Work::Show(plan) => say_plan(alloc, sys, name, plan),
+        Work::CarryOut { plan, manner } => run_plan(alloc, sys, name, plan, *manner),
+    }
+}
