@@ -1,6 +1,6 @@
 mod Counts
 mod Cuts
 mod Folders
+mod Groups
 mod Noted
-mod Sections
 pub mod WorkedLines

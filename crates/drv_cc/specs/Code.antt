@@ -1,3 +1,4 @@
 -- How the code goes over its input, step by step: what stands between the code and the definitions. No public contract rests on these.
 pub mod Building
+pub mod Groups
 pub mod Looking

@@ -3,6 +3,7 @@
 
 mod adding;
 mod answer;
+mod beginnings;
 mod checks;
 mod classes;
 mod fronting;
@@ -16,11 +17,11 @@ mod quoting;
 mod reading;
 mod refusal;
 mod renaming;
-mod rows;
 mod sides;
 mod sources;
 mod stages;
 mod table;
+mod whole_options;
 mod words;
 
 pub use answer::{Answer, Call, Stages, Surroundings, Variable};

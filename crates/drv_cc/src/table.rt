@@ -1,13 +1,13 @@
 //! The option table: a row an option. The first row that fits a word decides.
 
-ghost use Rattle.drv_cc.specs.Code.Building.{section_shown, shown};
+ghost use Rattle.drv_cc.specs.Code.Building.{shown};
+ghost use Rattle.drv_cc.specs.Code.Groups.{begun_at, begun_key, second, whole_at, whole_key};
 ghost use Rattle.drv_cc.specs.Items.{first_row, fits, option_fits, takes_rest};
-ghost use Rattle.drv_cc.specs.Table.{name_after, option_of, or_itself, row_of, section_rows, texts};
 ghost use Rattle.std.specs.Option.{option_map};
-ghost use Rattle.std.specs.Prelude.{◌≡◌, find};
+ghost use Rattle.std.specs.Prelude.{◌≡◌, find, map};
 
-use crate::places::first_place;
-use crate::rows::sections;
+use crate::beginnings::begun_group;
+use crate::whole_options::whole_group;
 
 /// How an option takes its argument.
 #[derive(Clone, Copy)]
@@ -60,20 +60,6 @@ pub(crate) enum Part {
     Lacking,
 }
 
-/// Options that are alike, in one text: between blanks an option, or an option, a `>` and the name
-/// that it is called by.
-#[derive(Clone, Copy)]
-pub(crate) struct Section {
-    /// How they take their argument.
-    pub(crate) takes: Takes,
-    /// How they are spelled.
-    pub(crate) spelling: Spelling,
-    /// What they are on the line.
-    pub(crate) part: Part,
-    /// Their entries.
-    pub(crate) entries: &'static [u8],
-}
-
 /// A row of the option table.
 #[derive(Clone, Copy)]
 pub(crate) struct Row {
@@ -109,71 +95,49 @@ impl Takes {
     }
 }
 
-/// The option of an entry.
-#[tactic(auto, using(crate::proofs::Cuts::option_at, crate::proofs::Cuts::option_whole))]
-fn option_of(entry: &[u8]) -> &[u8]
-    ensures { result.now ≡ option_of entry.now }
+/// The second byte of a word, or 0.
+fn second(word: &[u8]) -> u8
+    ensures { result ≡ second word.now }
 {
-    match first_place(b'>', entry) {
-        Some(at) => &entry[..at],
-        None => entry,
+    match word {
+        [_, letter, ..] => *letter,
+        _ => 0,
     }
 }
 
-/// The name that an entry's option is called by.
-#[tactic(auto, using(crate::proofs::Cuts::name_at, crate::proofs::Cuts::name_lacking, crate::proofs::Cuts::name_whole))]
-fn name_of(entry: &[u8]) -> &[u8]
-    ensures { result.now ≡ or_itself (name_after entry.now) entry.now }
+/// The options among which a word is that is one.
+fn whole_rows(word: &[u8]) -> &'static [Row]
+    ensures { map shown result.now ≡ whole_at (whole_key word.now) }
 {
-    match first_place(b'>', entry) {
-        Some(at) if at + 1 < entry.len() => &entry[at + 1..],
-        _ => entry,
-    }
+    whole_group((usize::from(second(word)) + 7 * (word.len() % 32)) % 32)
 }
 
-/// The first entry of a text whose option fits a word.
-fn entry_of(takes: Takes, entries: &'static [u8], word: &[u8]) -> Option<&'static [u8]>
-    ensures { option_map (λ entry. entry.now) result
-        ≡ find (λ entry. option_fits takes word.now (option_of entry)) (texts entries.now) }
+/// The options among which those are that a word begins with.
+fn begun_rows(word: &[u8]) -> &'static [Row]
+    ensures { map shown result.now ≡ begun_at (begun_key word.now) }
 {
-    entries
-        .split(|byte| *byte == b' ')
-        .find(|entry| takes.fits(option_of(entry), word))
+    begun_group(usize::from(second(word)) % 24)
 }
 
-impl Section {
-    /// The row of an entry.
-    fn row_of(self, entry: &'static [u8]) -> Row
-        ensures { shown result ≡ row_of (section_shown self) entry.now }
-    {
-        Row {
-            option: option_of(entry),
-            takes: self.takes,
-            name: name_of(entry),
-            spelling: self.spelling,
-            part: self.part,
-        }
-    }
-}
-
-/// The first row of a section that fits a word.
-#[tactic(auto, using(crate::proofs::Sections::found_row))]
-fn row_in(section: &Section, word: &[u8]) -> Option<Row>
-    ensures { option_map shown result
-        ≡ find (fits word.now) (section_rows (section_shown section.now)) }
+/// The first of these rows that fits a word.
+fn row_among(rows: &'static [Row], word: &[u8]) -> Option<Row>
+    ensures { option_map shown result ≡ find (fits word.now) (map shown rows.now) }
 {
-    let entry = entry_of(section.takes, section.entries, word)?;
-    Some(section.row_of(entry))
-}
-
-/// The row of a word.
-pub(crate) fn first_row(word: &[u8]) -> Option<Row>
-    ensures { option_map shown result ≡ first_row word.now }
-{
-    for section in sections() {
-        if let Some(row) = row_in(section, word) {
-            return Some(row);
+    for row in rows {
+        if row.takes.fits(row.option, word) {
+            return Some(*row);
         }
     }
     None
+}
+
+/// The row of a word.
+#[tactic(auto, using(crate::proofs::Groups::found_whole, crate::proofs::Groups::found_begun))]
+pub(crate) fn first_row(word: &[u8]) -> Option<Row>
+    ensures { option_map shown result ≡ first_row word.now }
+{
+    if let Some(row) = row_among(whole_rows(word), word) {
+        return Some(row);
+    }
+    row_among(begun_rows(word), word)
 }

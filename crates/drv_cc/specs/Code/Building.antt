@@ -1,6 +1,6 @@
 use Rattle.drv_cc.specs.Items as items
 use Rattle.drv_cc.specs.Items.{Start, items_of}
-use Rattle.drv_cc.specs.Table.{OptionRow, Section, section}
+use Rattle.drv_cc.specs.Table.{OptionRow}
 use Rattle.drv_cc.specs.declared.item.Item.{Item}
 use Rattle.drv_cc.specs.declared.reading.Start.TheVariants as code
 use Rattle.drv_cc.specs.declared.reading.Start.{Start as CodeStart}
@@ -11,7 +11,6 @@ use Rattle.drv_cc.specs.declared.sources.Count.{Count}
 use Rattle.drv_cc.specs.declared.sources.Kinds.TheVariants as kinds
 use Rattle.drv_cc.specs.declared.sources.Kinds.{Kinds}
 use Rattle.drv_cc.specs.declared.table.Row.{Row}
-use Rattle.drv_cc.specs.declared.table.Section.{Section as CodeSection}
 use Rattle.std.specs.Option.{option_map}
 use Rattle.std.specs.Prelude.{◌≡◌, Bool, List, [], ◌∷◌, ◌++◌, None, Option, Some, false, true, ℕ}
 
@@ -19,9 +18,6 @@ use Rattle.std.specs.Prelude.{◌≡◌, Bool, List, [], ◌∷◌, ◌++◌, No
 
 abbrev pub shown : Row → OptionRow
 shown r = record { option = r.option.now; takes = r.takes; name = r.name.now; spelling = r.spelling; part = r.part }
-
-abbrev pub section_shown : CodeSection → Section
-section_shown s = section s.takes s.spelling s.part s.entries.now
 
 abbrev pub row_shown : Option Row → Option OptionRow
 row_shown found = option_map shown found

@@ -1,0 +1,101 @@
+use Rattle.drv_cc.specs.Code.Groups.{begun_at, begun_key, is_begun, is_whole, whole_at, whole_key}
+use Rattle.drv_cc.specs.Items.{begins, first_row, fits, option_fits, same, takes_rest}
+use Rattle.drv_cc.specs.Table.{OptionRow, sections, table}
+use Rattle.drv_cc.specs.declared.table.Takes.TheVariants.{Attached, Either, Next, Nothing, Rest}
+use Rattle.drv_cc.specs.declared.table.Takes.{Takes}
+use Rattle.std.proofs.Common.{◌≡◌, ◌==◌, ◌&&◌, ◌||◌, ◌∙◌, ◌++◌, ◌%◌, Bool, List, [], ◌∷◌, None, Option, Some, ap, cond, false, find, length, nat_lt, not, refl, sym, true, ℕ}
+use Rattle.std.proofs.lemmas.Bool.{eq-eqb, eqb-true}
+use Rattle.std.proofs.lemmas.List.Folds.{find-append}
+use Rattle.std.specs.List.{filter}
+use Rattle.std.specs.Option.{option_or}
+
+-- The first row of the table that fits a word is found among its group.
+
+-- rows that pass both tests are found among those that pass one, where the other follows
+find_both : (p a b : OptionRow → Bool) → ((r : OptionRow) → p r ≡ true → a r ≡ true → b r ≡ true) → (rows : List OptionRow)
+    → find p (filter (λ r. a r && b r) rows) ≡ find p (filter a rows)
+find_both p a b follows [] = refl
+find_both p a b follows (r ∷ rows) = by (p r) (a r) (b r) refl refl refl (find_both p a b follows rows)
+  where
+    by : (x y z : Bool) → p r ≡ x → a r ≡ y → b r ≡ z → find p (filter (λ s. a s && b s) rows) ≡ find p (filter a rows)
+        → find p (filter (λ s. a s && b s) (r ∷ rows)) ≡ find p (filter a (r ∷ rows))
+    by x false z ep ea eb ih = rw ea ih
+    by x true true ep ea eb ih = rw (ea, eb) (ap (cond (p r) _) ih)
+    by false true false ep ea eb ih = rw (ea, eb, ep) ih
+    by true true false ep ea eb ih = absurd (let both : true ≡ false = sym (follows r ep ea) ∙ eb in cc)
+
+same_is : (a b : List ℕ) → same a b ≡ true → a ≡ b
+same_is [] [] e = refl
+same_is [] (y ∷ b) e = absurd cc
+same_is (x ∷ a) [] e = absurd cc
+same_is (x ∷ a) (y ∷ b) e = by (x == y) refl (same_is a b) e
+  where
+    by : (t : Bool) → (x == y) ≡ t → (same a b ≡ true → a ≡ b) → (t && same a b) ≡ true → x ∷ a ≡ y ∷ b
+    by true ex rest e = ap (λ z. z ∷ a) (eqb-true x y ex) ∙ ap (λ l. y ∷ l) (rest e)
+    by false ex rest e = absurd cc
+
+-- an option that is the word has its key
+whole_alike : (takes : Takes) (option word : List ℕ) → option_fits takes word option ≡ true → not (takes_rest takes) ≡ true → (whole_key option == whole_key word) ≡ true
+whole_alike Nothing option word e w = eq-eqb (whole_key option) (whole_key word) (ap whole_key (same_is option word e))
+whole_alike Next option word e w = eq-eqb (whole_key option) (whole_key word) (ap whole_key (same_is option word e))
+whole_alike Attached option word e w = absurd cc
+whole_alike Rest option word e w = absurd cc
+whole_alike Either option word e w = absurd cc
+
+second_true : (a b c : Bool) → (a && (b && c)) ≡ true → b ≡ true
+second_true true true c e = refl
+second_true true false c e = e
+second_true false b c e = absurd cc
+
+never : (a : Bool) → (a && false) ≡ true → ⊥
+never true e = absurd cc
+never false e = absurd cc
+
+or_true : (a b : Bool) → b ≡ true → (a || b) ≡ true
+or_true true b e = refl
+or_true false b e = e
+
+-- an option that the word begins with has its second byte, or has none
+begins_alike : (option word : List ℕ) → begins option word ≡ true → (nat_lt (length option) 2 || (begun_key option == begun_key word)) ≡ true
+begins_alike [] word e = refl
+begins_alike (a ∷ []) word e = refl
+begins_alike (a ∷ b ∷ option) [] e = absurd cc
+begins_alike (a ∷ b ∷ option) (x ∷ []) e = absurd (never (a == x) e)
+begins_alike (a ∷ b ∷ option) (x ∷ y ∷ word) e =
+    or_true (nat_lt (length (a ∷ b ∷ option)) 2) (begun_key (a ∷ b ∷ option) == begun_key (x ∷ y ∷ word))
+    (eq-eqb (b % 24) (y % 24) (ap (λ z. z % 24) (eqb-true b y (second_true (a == x) (b == y) (begins option word) e))))
+
+begun_alike : (takes : Takes) (option word : List ℕ) → option_fits takes word option ≡ true → takes_rest takes ≡ true
+    → (nat_lt (length option) 2 || (begun_key option == begun_key word)) ≡ true
+begun_alike Nothing option word e b = absurd cc
+begun_alike Next option word e b = absurd cc
+begun_alike Attached option word e b = begins_alike option word e
+begun_alike Rest option word e b = begins_alike option word e
+begun_alike Either option word e b = begins_alike option word e
+
+-- options that take a rest stand after those that take none
+in_two : filter is_whole table ++ filter is_begun table ≡ table
+unfolding sections
+in_two = refl
+
+among_whole : (word : List ℕ) → find (fits word) (whole_at (whole_key word)) ≡ find (fits word) (filter is_whole table)
+among_whole word =
+    find_both (fits word) is_whole (λ r. whole_key r.option == whole_key word) (λ r. whole_alike r.takes r.option word) table
+
+among_begun : (word : List ℕ) → find (fits word) (begun_at (begun_key word)) ≡ find (fits word) (filter is_begun table)
+among_begun word =
+    find_both (fits word) is_begun (λ r. nat_lt (length r.option) 2 || (begun_key r.option == begun_key word)) (λ r. begun_alike r.takes r.option word) table
+
+found_by : (word : List ℕ) (whole begun : Option OptionRow) → whole ≡ find (fits word) (whole_at (whole_key word))
+    → begun ≡ find (fits word) (begun_at (begun_key word)) → option_or whole begun ≡ first_row word
+found_by word whole begun w b =
+    ap (λ f. option_or f begun) (w ∙ among_whole word) ∙ ap (option_or (find (fits word) (filter is_whole table))) (b ∙ among_begun word)
+    ∙ sym (find-append (fits word) (filter is_whole table) (filter is_begun table)) ∙ ap (find (fits word)) in_two
+
+pub found_whole : (word : List ℕ) (rows : List OptionRow) (row : OptionRow) → rows ≡ whole_at (whole_key word) → Some row ≡ find (fits word) rows
+    → Some row ≡ first_row word
+found_whole word rows row is found = found_by word (Some row) (find (fits word) (begun_at (begun_key word))) (found ∙ ap (find (fits word)) is) refl
+
+pub found_begun : (word : List ℕ) (rows begun : List OptionRow) (found : Option OptionRow) → rows ≡ whole_at (whole_key word) → None ≡ find (fits word) rows
+    → begun ≡ begun_at (begun_key word) → found ≡ find (fits word) begun → found ≡ first_row word
+found_begun word rows begun found is none are sought = found_by word None found (none ∙ ap (find (fits word)) is) (sought ∙ ap (find (fits word)) are)
