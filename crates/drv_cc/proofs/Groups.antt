@@ -24,7 +24,7 @@ find_both p a b follows (r ∷ rows) = by (p r) (a r) (b r) refl refl refl (find
     by false true false ep ea eb ih = rw (ea, eb, ep) ih
     by true true false ep ea eb ih = absurd (let both : true ≡ false = sym (follows r ep ea) ∙ eb in cc)
 
-same_is : (a b : List ℕ) → same a b ≡ true → a ≡ b
+pub same_is : (a b : List ℕ) → same a b ≡ true → a ≡ b
 same_is [] [] e = refl
 same_is [] (y ∷ b) e = absurd cc
 same_is (x ∷ a) [] e = absurd cc

@@ -2,5 +2,8 @@ mod Counts
 mod Cuts
 mod Folders
 mod Groups
+mod NoChecks
 mod Noted
+mod OtherOptions
+mod Rings
 pub mod WorkedLines

@@ -2,3 +2,4 @@
 pub mod Building
 pub mod Groups
 pub mod Looking
+pub mod Rings

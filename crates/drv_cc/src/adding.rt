@@ -11,7 +11,7 @@ ghost use Rattle.std.specs.Prelude.{◌≡◌, ◌++◌, OnOk};
 
 use crate::Surroundings;
 use crate::checks::add_check_words;
-use crate::classes::stands_in;
+use crate::classes::is_one_of;
 use crate::item::Item;
 use crate::judging::is_vendors;
 use crate::keeping::{has, last_argument};
@@ -167,16 +167,25 @@ fn add_folder_words(
     add_path(alloc, LookedFor::Libraries, &around.library_path, words)
 }
 
-/// Whether an option speaks against pipes, or has them already (GCC manual, "Overall Options",
-/// -pipe).
+/// Options that speak against pipes, or have them already (GCC manual, "Overall Options", -pipe).
+const UNPIPED: [&[u8]; 10] = [
+    b"-pipe",
+    b"-save-temps",
+    b"-save-temps=cwd",
+    b"-save-temps=obj",
+    b"-S",
+    b"-E",
+    b"-M",
+    b"-MM",
+    b"-fsyntax-only",
+    b"-no-integrated-cpp",
+];
+
+/// Whether an option is one of them.
 fn is_unpiped(item: &Item) -> bool
     ensures { result ≡ is_among unpiped item.now.name }
 {
-    stands_in(
-        b"-pipe -save-temps -save-temps=cwd -save-temps=obj -S -E -M -MM -fsyntax-only \
-          -no-integrated-cpp",
-        item.name.as_bytes(),
-    )
+    is_one_of(&UNPIPED, item.name.as_bytes())
 }
 
 /// Whether an option speaks against pipes, or has them already.

@@ -115,12 +115,8 @@ fn add_library(
     Ok(())
 }
 
-/// Adds the words of the libraries that checks need.
-pub(crate) fn add_check_words(
-    alloc: Global,
-    items: &[Item],
-    words: &mut Listing<Word>,
-) -> Result<(), AllocError>
+/// Adds the words of the libraries that these checks need.
+fn add_libraries(alloc: Global, items: &[Item], words: &mut Listing<Word>) -> Result<(), AllocError>
     ensures { OnOk result (words.new ≡ words.old ++ check_words items.now) }
 {
     add_library(alloc, words, is_checked(items, b"address"), b"asan")?;
@@ -129,4 +125,20 @@ pub(crate) fn add_check_words(
     add_library(alloc, words, needs_leak_library(items), b"lsan")?;
     add_library(alloc, words, needs_undefined_library(items), b"ubsan")?;
     Ok(())
+}
+
+/// Adds the words of the libraries that checks need.
+#[tactic(auto, using(crate::proofs::NoChecks::none_needed))]
+pub(crate) fn add_check_words(
+    alloc: Global,
+    items: &[Item],
+    words: &mut Listing<Word>,
+) -> Result<(), AllocError>
+    ensures { OnOk result (words.new ≡ words.old ++ check_words items.now) }
+{
+    if has(items, b"-fsanitize=") {
+        add_libraries(alloc, items, words)
+    } else {
+        Ok(())
+    }
 }

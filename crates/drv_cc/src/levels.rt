@@ -103,8 +103,8 @@ impl Debugging {
             .with_version(b"-gdwarf-5", b'5', name)
     }
 
-    /// After an option.
-    fn after(self, name: &[u8]) -> Debugging
+    /// After an option of debugging.
+    fn after_debugging(self, name: &[u8]) -> Debugging
         ensures { result ≡ debugged_by self name.now }
     {
         self.with_raised(
@@ -114,6 +114,18 @@ impl Debugging {
         .leveled(name)
         .versioned(name)
         .with_toggle(name)
+    }
+
+    /// After an option.
+    #[tactic(auto, using(crate::proofs::OtherOptions::others_keep))]
+    fn after(self, name: &[u8]) -> Debugging
+        ensures { result ≡ debugged_by self name.now }
+    {
+        if name.starts_with(b"-g") {
+            self.after_debugging(name)
+        } else {
+            self
+        }
     }
 
     /// The level, with the toggle.

@@ -5,7 +5,7 @@ ghost use Rattle.drv_cc.specs.Items.{beyond, first_row, head_of, is_among, is_fi
 ghost use Rattle.drv_cc.specs.Items.{renamed, start_of, start_renamed, with_rest};
 ghost use Rattle.std.specs.Prelude.{◌≡◌, IfOk, None, drop, length};
 
-use crate::classes::{ignored, paired, stands_in};
+use crate::classes::{ignored, is_one_of, paired};
 use crate::item::Item;
 use crate::places::first_place;
 use crate::renaming::renamed;
@@ -69,7 +69,7 @@ fn beyond(alloc: Global, known: &[Word], word: &[u8], name: &[u8]) -> Result<Ite
     ensures { IfOk result (λ item. item ≡ beyond known.now word.now name.now) }
 {
     let positive = paired(alloc, name)?;
-    if stands_in(ignored(), positive.as_bytes()) {
+    if is_one_of(ignored(), positive.as_bytes()) {
         return Item::new(alloc, name, b"", Spelling::Nowhere, Part::Switch);
     }
     if name.starts_with(b"-Wno-") || knows(known, name) || knows(known, head_of(name)) {

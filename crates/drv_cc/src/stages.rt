@@ -5,16 +5,19 @@ ghost use Rattle.std.specs.List.{list_any};
 ghost use Rattle.std.specs.Prelude.{◌≡◌};
 
 use crate::Stages;
-use crate::classes::stands_in;
+use crate::classes::is_one_of;
 use crate::item::Item;
 use crate::keeping::has;
 use crate::sources::is_file;
+
+/// Options that leave the link out.
+const UNLINKED: [&[u8]; 6] = [b"-c", b"-S", b"-E", b"-M", b"-MM", b"-fsyntax-only"];
 
 /// Whether an option leaves the link out.
 fn is_unlinked(item: &Item) -> bool
     ensures { result ≡ is_unlinked item.now }
 {
-    stands_in(b"-c -S -E -M -MM -fsyntax-only", item.name.as_bytes())
+    is_one_of(&UNLINKED, item.name.as_bytes())
 }
 
 /// Whether an option leaves the link out.

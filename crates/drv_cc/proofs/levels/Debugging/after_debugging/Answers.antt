@@ -1,4 +1,4 @@
-use Rattle.drv_cc.proofs.levels.Debugging.after.Goals as goal
+use Rattle.drv_cc.proofs.levels.Debugging.after_debugging.Goals as goal
 use Rattle.drv_cc.specs.Levels.{debugged_by, leveled, versioned, with_toggle}
 use Rattle.std.proofs.Common.{◌∙◌, ap}
 

@@ -1,0 +1,59 @@
+use Rattle.drv_cc.proofs.Groups.{same_is}
+use Rattle.drv_cc.specs.Items.{same}
+use Rattle.drv_cc.specs.Kept.{has}
+use Rattle.drv_cc.specs.Levels.{check_words, checked_by, checked_from, is_checked, library_word, needs_leak_library, needs_undefined_library, speaks_of, ubsan_checks}
+use Rattle.drv_cc.specs.Table.{texts}
+use Rattle.drv_cc.specs.declared.item.Item.{Item}
+use Rattle.std.proofs.Common.{◌≡◌, ◌∙◌, ◌&&◌, ◌||◌, ◌++◌, Bool, List, [], ◌∷◌, ap, codes, false, if◌then◌else◌, refl, sym, true, ℕ}
+use Rattle.std.proofs.lemmas.List.{append-nil}
+use Rattle.std.specs.List.{list_any}
+
+-- No library of checks is needed where no option turns a check on.
+
+abbrev turns_on : List ℕ
+turns_on = codes "-fsanitize="
+
+differs : (name : List ℕ) → same turns_on name ≡ false → same name turns_on ≡ false
+differs name other = by (same name turns_on) refl
+  where
+    by : (b : Bool) → same name turns_on ≡ b → b ≡ false
+    by true e = absurd (let both : false ≡ true = sym other ∙ ap (same turns_on) (same_is name turns_on e) in cc)
+    by false e = refl
+
+-- an option that turns none on leaves each off
+stays_off : (check : List ℕ) (i : Item) → same i.name turns_on ≡ false → checked_by check i false ≡ false
+stays_off check i e = rw e (by (same i.name (codes "-fno-sanitize=") && speaks_of check i.argument))
+  where
+    by : (off : Bool) → (if off then false else false) ≡ false
+    by true = refl
+    by false = refl
+
+off : (check : List ℕ) (items : List Item) → has turns_on items ≡ false → checked_from false check items ≡ false
+off check [] e = refl
+off check (i ∷ items) e = by (same turns_on i.name) refl e (off check items)
+  where
+    by : (b : Bool) → same turns_on i.name ≡ b → (b || has turns_on items) ≡ false → (has turns_on items ≡ false → checked_from false check items ≡ false)
+        → checked_from false check (i ∷ items) ≡ false
+    by true is e rest = absurd cc
+    by false is e rest = ap (λ on. checked_from on check items) (stays_off check i (differs i.name is)) ∙ rest e
+
+all_off : (items : List Item) (checks : List (List ℕ)) → has turns_on items ≡ false → list_any (is_checked items) checks ≡ false
+all_off items [] e = refl
+all_off items (check ∷ checks) e = rw (off check items e) (all_off items checks e)
+
+first_off : (a b : Bool) → a ≡ false → (a && b) ≡ false
+first_off a b e = rw e refl
+
+no_library : (a h t l u : Bool) → a ≡ false → h ≡ false → t ≡ false → l ≡ false → u ≡ false
+    → library_word a (codes "asan") ++ library_word h (codes "hwasan") ++ library_word t (codes "tsan") ++ library_word l (codes "lsan")
+    ++ library_word u (codes "ubsan") ≡ []
+no_library a h t l u ea eh et el eu = rw (ea, eh, et, el, eu) refl
+
+pub none_needed : (words : List (List ℕ)) (items : List Item) → has (codes "-fsanitize=") items ≡ false → words ≡ words ++ check_words items
+none_needed words items e = sym (ap (λ more. words ++ more) none ∙ append-nil words)
+  where
+    none : check_words items ≡ []
+    none =
+        no_library (is_checked items (codes "address")) (is_checked items (codes "hwaddress")) (is_checked items (codes "thread")) (needs_leak_library items)
+        (needs_undefined_library items) (off (codes "address") items e) (off (codes "hwaddress") items e) (off (codes "thread") items e)
+        (first_off (is_checked items (codes "leak")) _ (off (codes "leak") items e)) (first_off (list_any (is_checked items) (texts ubsan_checks)) _ (all_off items (texts ubsan_checks) e))

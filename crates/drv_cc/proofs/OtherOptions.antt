@@ -1,0 +1,26 @@
+use Rattle.drv_cc.specs.Items.{begins}
+use Rattle.drv_cc.specs.Levels.{debugged_by}
+use Rattle.drv_cc.specs.declared.levels.Debugging.{Debugging}
+use Rattle.std.proofs.Common.{◌≡◌, ◌==◌, ◌&&◌, ◌∙◌, Bool, List, [], ◌∷◌, codes, false, refl, sym, true, ℕ}
+use Rattle.std.proofs.lemmas.Bool.{eq-eqb, eqb-true}
+
+-- An option that doesn't begin with -g changes no level.
+
+both : (x y : Bool) → x ≡ true → y ≡ true → (x && (y && true)) ≡ true
+both x y ex ey = rw (ex, ey) refl
+
+pub others_keep : (d : Debugging) (name : List ℕ) → begins (codes "-g") name ≡ false → d ≡ debugged_by d name
+unfolding debugged_by
+others_keep d [] e = refl
+others_keep d (a ∷ []) e = by (a == 45) refl
+  where
+    by : (x : Bool) → (a == 45) ≡ x → d ≡ debugged_by d (a ∷ [])
+    by true ex = rw ex refl
+    by false ex = rw ex refl
+others_keep d (a ∷ b ∷ name) e = by (a == 45) (b == 103) refl refl
+  where
+    by : (x y : Bool) → (a == 45) ≡ x → (b == 103) ≡ y → d ≡ debugged_by d (a ∷ b ∷ name)
+    by true true ex ey =
+        absurd (let same : true ≡ false = sym (both (45 == a) (103 == b) (eq-eqb 45 a (sym (eqb-true a 45 ex))) (eq-eqb 103 b (sym (eqb-true b 103 ey)))) ∙ e in cc)
+    by true false ex ey = rw (ex, ey) refl
+    by false y ex ey = rw ex refl
