@@ -55,6 +55,42 @@ named_as_source : line (codes "a.c -o a") ≡ gives (codes "a.c -o a --gdrv-base
 unfolding sections ignored unpaired debugged_by
 named_as_source = refl
 
+own_folders_stay : line (codes "-no-canonical-prefixes -c a.c") ≡ gives (codes "-c a.c --gdrv-base=a.c --gdrv-ext=.c -pipe")
+unfolding sections ignored unpaired debugged_by
+own_folders_stay = refl
+
+nothing_compared : line (codes "-c a.c -fno-compare-debug") ≡ gives (codes "-c a.c -fcompare-debug= --gdrv-base=a.c --gdrv-ext=.c -pipe")
+unfolding sections ignored unpaired debugged_by
+nothing_compared = refl
+
+compared_with_nothing : line (codes "-fcompare-debug= -c a.c") ≡ gives (codes "-fcompare-debug= -c a.c --gdrv-base=a.c --gdrv-ext=.c -pipe")
+unfolding sections ignored unpaired debugged_by
+compared_with_nothing = refl
+
+dependencies_printed : line (codes "-c a.c -MD -MF -") ≡ gives (codes "-c a.c -MD -MF - --gdrv-base=a.c --gdrv-ext=.c")
+unfolding sections ignored unpaired debugged_by
+dependencies_printed = refl
+
+dependencies_in_a_piece : line (codes "-c a.c -Wp,-MMD,-") ≡ gives (codes "-c a.c -Wp,-MMD,- --gdrv-base=a.c --gdrv-ext=.c")
+unfolding sections ignored unpaired debugged_by
+dependencies_in_a_piece = refl
+
+dependencies_in_a_file : line (codes "-c a.c -MD -MF d") ≡ gives (codes "-c a.c -MD -MF d --gdrv-base=a.c --gdrv-ext=.c -pipe")
+unfolding sections ignored unpaired debugged_by
+dependencies_in_a_file = refl
+
+dump_printed : line (codes "-c a.c -fdump-tree-optimized=stdout") ≡ gives (codes "-c a.c -fdump-tree-optimized=stdout --gdrv-base=a.c --gdrv-ext=.c")
+unfolding sections ignored unpaired debugged_by
+dump_printed = refl
+
+listing : line (codes "-c a.c -Wa,-W,-alh=l") ≡ gives (codes "-c a.c -Wa,-W,-alh=l --gdrv-base=a.c --gdrv-ext=.c")
+unfolding sections ignored unpaired debugged_by
+listing = refl
+
+no_listing : line (codes "-c a.c -Wa,-W,--al") ≡ gives (codes "-c a.c -Wa,-W,--al --gdrv-base=a.c --gdrv-ext=.c -pipe")
+unfolding sections ignored unpaired debugged_by
+no_listing = refl
+
 two_sources : line (codes "a.c b.c") ≡ gives (codes "a.c b.c --gdrv-dir=a- -pipe")
 unfolding sections ignored unpaired debugged_by
 two_sources = refl

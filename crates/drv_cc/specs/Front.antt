@@ -1,4 +1,4 @@
-use Rattle.drv_cc.specs.Items.{is_among, items_of, same, words_of}
+use Rattle.drv_cc.specs.Items.{begins, is_among, items_of, same, words_of}
 use Rattle.drv_cc.specs.Kept.{has, is_asked, is_file_part, is_vendors, kept, last_argument, refusals}
 use Rattle.drv_cc.specs.Levels.{check_words, debug_words}
 use Rattle.drv_cc.specs.SideFiles.{inputs, is_some, link_beginning, side_words, sources, stops, worked}
@@ -66,8 +66,33 @@ folder_words around items = program_words around items ++ flat_map library_words
 abbrev pub unpiped : List (List ℕ)
 unpiped = texts (codes "-pipe -save-temps -save-temps=cwd -save-temps=obj -S -E -M -MM -fsyntax-only -no-integrated-cpp")
 
+-- what may write on standard output, which is the pipe then ("Preprocessor Options", -MF, -Wp,; "C Dialect Options", -aux-info;
+-- "Developer Options", -fdump-, -fopt-info; "Overall Options", -fplugin=)
+abbrev pub is_output : List ℕ → Bool
+is_output name = same name (codes "-") || same name (codes "/dev/stdout")
+
+abbrev pub pieces : List ℕ → List (List ℕ)
+pieces argument = slice_split (λ b. b == comma) argument
+
+abbrev pub names_output : Item → Bool
+names_output i =
+    ((same i.name (codes "-MF") || same i.name (codes "-aux-info") || same i.name (codes "-Xpreprocessor")) && is_output i.argument)
+    || (same i.name (codes "-Wp,") && list_any is_output (pieces i.argument))
+
+abbrev pub prints : Item → Bool
+prints i = begins (codes "-fplugin=") i.name || begins (codes "-fdump-") i.name || begins (codes "-fopt-info") i.name || names_output i
+
+-- a listing names the assembler's input ("Assembler Options", and -a of the assembler's manual)
+abbrev pub lists : Item → Bool
+lists i =
+    (same i.name (codes "-Xassembler") && begins (codes "-a") i.argument)
+    || (same i.name (codes "-Wa,") && list_any (begins (codes "-a")) (pieces i.argument))
+
+abbrev pub is_unpiped : Item → Bool
+is_unpiped i = is_among unpiped i.name || prints i || lists i
+
 abbrev pub is_piped : List Item → Bool
-is_piped items = is_some (sources worked items) && not (list_any (λ i. is_among unpiped i.name) items)
+is_piped items = is_some (sources worked items) && not (list_any is_unpiped items)
 
 abbrev pub pipe_words : List Item → List (List ℕ)
 pipe_words items = if is_piped items then codes "-pipe" ∷ [] else []

@@ -82,8 +82,11 @@ sections =
     ++ codes "-print-multi-os-directory -print-sysroot-headers-suffix --print-search-dirs --print-libgcc-file-name --print-multi-lib "
     ++ codes "--print-multi-directory --print-multiarch --print-sysroot --print-multi-os-directory --print-sysroot-headers-suffix")
     ∷ section Nothing Alone Refused
-    (codes "-time --time -canonical-prefixes -no-canonical-prefixes --no-canonical-prefixes -quiet -version -lang-asm -list "
-    ++ codes "-objects -fcompare-debug -fno-compare-debug")
+    (codes "-time --time -canonical-prefixes -quiet -version -lang-asm -list -objects -fcompare-debug")
+    ∷ section Nothing Nowhere Switch
+    (codes "-no-canonical-prefixes --no-canonical-prefixes")
+    ∷ section Nothing Alone Switch
+    (codes "-fcompare-debug= -fno-compare-debug>-fcompare-debug=")
     ∷ section Next Separate Refused
     (codes "-wrapper -dumpbase --dumpbase -dumpbase-ext --dumpbase-ext --sysroot")
     ∷ section Next Joined Switch

@@ -1,23 +1,21 @@
 //! What is added to a line.
 
 ghost use Rattle.drv_cc.specs.Code.Looking.{words_for};
-ghost use Rattle.drv_cc.specs.Front.{added, all_prefixes, folder_words, folders, is_piped};
-ghost use Rattle.drv_cc.specs.Front.{is_several, named_folder, needs_threads, pipe_words};
-ghost use Rattle.drv_cc.specs.Front.{prefix_words, program_words, thread_words, unpiped};
-ghost use Rattle.drv_cc.specs.Items.{is_among};
-ghost use Rattle.std.specs.List.{flat_map, list_any};
+ghost use Rattle.drv_cc.specs.Front.{added, all_prefixes, folder_words, folders, is_several};
+ghost use Rattle.drv_cc.specs.Front.{named_folder, needs_threads, prefix_words, program_words};
+ghost use Rattle.drv_cc.specs.Front.{thread_words};
+ghost use Rattle.std.specs.List.{flat_map};
 ghost use Rattle.std.specs.Option.{option_map};
 ghost use Rattle.std.specs.Prelude.{◌≡◌, ◌++◌, OnOk};
 
 use crate::Surroundings;
 use crate::checks::add_check_words;
-use crate::classes::is_one_of;
 use crate::item::Item;
 use crate::judging::is_vendors;
 use crate::keeping::{has, last_argument};
 use crate::levels::add_debug_words;
+use crate::piping::add_pipe_words;
 use crate::sides::add_side_words;
-use crate::sources::has_source;
 use crate::words::{add_joined, add_word};
 use drv_words::{Listing, Word};
 use std::alloc::{AllocError, Global};
@@ -165,55 +163,6 @@ fn add_folder_words(
 {
     add_program_words(alloc, around, items, words)?;
     add_path(alloc, LookedFor::Libraries, &around.library_path, words)
-}
-
-/// Options that speak against pipes, or have them already (GCC manual, "Overall Options", -pipe).
-const UNPIPED: [&[u8]; 10] = [
-    b"-pipe",
-    b"-save-temps",
-    b"-save-temps=cwd",
-    b"-save-temps=obj",
-    b"-S",
-    b"-E",
-    b"-M",
-    b"-MM",
-    b"-fsyntax-only",
-    b"-no-integrated-cpp",
-];
-
-/// Whether an option is one of them.
-fn is_unpiped(item: &Item) -> bool
-    ensures { result ≡ is_among unpiped item.now.name }
-{
-    is_one_of(&UNPIPED, item.name.as_bytes())
-}
-
-/// Whether an option speaks against pipes, or has them already.
-fn has_unpiped(items: &[Item]) -> bool
-    ensures { result ≡ list_any (λ i. is_among unpiped i.name) items.now }
-{
-    items.iter().any(is_unpiped)
-}
-
-/// Whether pipes are added.
-fn is_piped(items: &[Item]) -> bool
-    ensures { result ≡ is_piped items.now }
-{
-    has_source(items) & !has_unpiped(items)
-}
-
-/// Adds the option for pipes, where a source is worked and nothing speaks against them.
-fn add_pipe_words(
-    alloc: Global,
-    items: &[Item],
-    words: &mut Listing<Word>,
-) -> Result<(), AllocError>
-    ensures { OnOk result (words.new ≡ words.old ++ pipe_words items.now) }
-{
-    if is_piped(items) {
-        add_word(alloc, words, b"-pipe")?;
-    }
-    Ok(())
 }
 
 /// Adds all that gcc's driver adds.

@@ -12,6 +12,7 @@ mod judging;
 mod keeping;
 mod levels;
 mod names;
+mod piping;
 mod places;
 mod quoting;
 mod reading;

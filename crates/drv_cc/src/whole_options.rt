@@ -87,7 +87,7 @@ const GROUP_4: &[Row] = group! {
     b"-v" b"-v" Nothing Alone Tells
     b"--print-multi-lib" b"--print-multi-lib" Nothing Alone Question
     b"--print-multiarch" b"--print-multiarch" Nothing Alone Question
-    b"-fno-compare-debug" b"-fno-compare-debug" Nothing Alone Refused
+    b"-fno-compare-debug" b"-fcompare-debug=" Nothing Alone Switch
     b"--print-file-name" b"--print-file-name" Next Separate Question
     b"--print-prog-name" b"--print-prog-name" Next Separate Question
     b"-fdump-final-insns" b"-fdump-final-insns=." Nothing Alone Switch
@@ -144,7 +144,7 @@ const GROUP_8: &[Row] = group! {
     b"-profile" b"-profile" Nothing Alone Switch
     b"--target-help" b"--target-help" Nothing Alone Question
     b"-canonical-prefixes" b"-canonical-prefixes" Nothing Alone Refused
-    b"-no-canonical-prefixes" b"-no-canonical-prefixes" Nothing Alone Refused
+    b"-no-canonical-prefixes" b"-no-canonical-prefixes" Nothing Nowhere Switch
     b"--no-warnings" b"-w" Nothing Alone Switch
     b"--traditional" b"-traditional" Nothing Alone Switch
 };
@@ -224,8 +224,8 @@ const GROUP_14: &[Row] = group! {
     b"-export-dynamic" b"-export-dynamic" Nothing Alone Switch
     b"-print-search-dirs" b"-print-search-dirs" Nothing Alone Question
     b"--print-multi-directory" b"--print-multi-directory" Nothing Alone Question
-    b"--no-canonical-prefixes" b"--no-canonical-prefixes" Nothing Alone Refused
     b"-version" b"-version" Nothing Alone Refused
+    b"--no-canonical-prefixes" b"--no-canonical-prefixes" Nothing Nowhere Switch
     b"-Wno-shadow-local" b"-Wno-shadow=local" Nothing Alone Switch
     b"-Wformat-overflow" b"-Wformat-overflow=1" Nothing Alone Switch
     b"-Wattribute-alias" b"-Wattribute-alias=1" Nothing Alone Switch
@@ -330,6 +330,7 @@ const GROUP_22: &[Row] = group! {
     b"-fcallgraph-info" b"-fcallgraph-info" Nothing Alone Switch
     b"-H" b"-H" Nothing Alone Switch
     b"--print-sysroot" b"--print-sysroot" Nothing Alone Question
+    b"-fcompare-debug=" b"-fcompare-debug=" Nothing Alone Switch
     b"-fno-stack-check" b"-fstack-check=no" Nothing Alone Switch
     b"-mno-fused-madd" b"-ffp-contract=off" Nothing Alone Switch
     b"-mprefer-avx128" b"-mprefer-vector-width=128" Nothing Alone Switch
