@@ -6,6 +6,7 @@ what earlier runs kept of its proofs, and the libraries below it.
 
 import contextlib
 import fcntl
+import hashlib
 import os
 import re
 import shutil
@@ -13,6 +14,7 @@ import signal
 import subprocess
 import sys
 import tempfile
+import threading
 import time
 from concurrent.futures import FIRST_COMPLETED, ThreadPoolExecutor, wait
 from dataclasses import dataclass
@@ -23,6 +25,7 @@ MEMORY_OF_ONE = 3_000_000_000
 MOST_JOBS = 4
 # The processor seconds of a crate that was never measured.
 UNKNOWN_COST = 60
+SECONDS_TO_END = 5
 TEXTS = ("src", "specs", "proofs")
 # Programs whose names begin so are no part of the product: benchmarks and tests.
 INNER = "drv_"
@@ -68,14 +71,60 @@ class Crates:
     def held(self, names):
         """Keeps every other rt out of these crates, as rt itself does, and begins with no rooms."""
         files = [os.open(self.folder(it), os.O_RDONLY) for it in names]
-        for it in files:
-            fcntl.flock(it, fcntl.LOCK_EX)
-        shutil.rmtree(self.rooms, ignore_errors=True)
-        # (so that a room is left, and what is kept put back, where this process is told to end)
-        signal.signal(signal.SIGTERM, lambda *_: sys.exit(1))
-        yield
-        for it in files:
-            os.close(it)
+        for number in (signal.SIGINT, signal.SIGTERM, signal.SIGHUP):
+            signal.signal(number, stop)
+        try:
+            for it in files:
+                fcntl.flock(it, fcntl.LOCK_EX)
+            shutil.rmtree(self.rooms, ignore_errors=True)
+            yield
+        finally:
+            shutil.rmtree(self.rooms, ignore_errors=True)
+            for it in files:
+                os.close(it)
+
+
+class Runs:
+    """The runs of rt that go on, each in a process group of its own, so that none goes on where this process is told to end."""
+
+    lock, processes, is_stopped = threading.Lock(), set(), False
+
+    @classmethod
+    def begin(cls, words, **how):
+        with cls.lock:
+            if cls.is_stopped:
+                raise InterruptedError("it was told to end")
+            process = subprocess.Popen(words, start_new_session=True, **how)
+            cls.processes.add(process)
+            return process
+
+    @classmethod
+    def end(cls, process):
+        with cls.lock:
+            cls.processes.discard(process)
+
+    @classmethod
+    def stop(cls):
+        """Ends all runs, and lets no other begin. What doesn't end by itself is killed."""
+        cls.is_stopped = True
+        cls.signal(signal.SIGTERM)
+        timer = threading.Timer(SECONDS_TO_END, cls.signal, [signal.SIGKILL])
+        timer.daemon = True
+        timer.start()
+
+    @classmethod
+    def signal(cls, number):
+        for process in list(cls.processes):
+            with contextlib.suppress(ProcessLookupError):
+                os.killpg(process.pid, number)
+
+
+def stop(number, _):
+    """Ends this process by a signal's number: the runs of rt first, and then the rooms are left and what is kept is put back."""
+    for it in (signal.SIGINT, signal.SIGTERM, signal.SIGHUP):
+        signal.signal(it, signal.SIG_IGN)
+    Runs.stop()
+    sys.exit(128 + number)
 
 
 def taken(source, to):
@@ -123,8 +172,9 @@ class Room:
     def rt(self, *words):
         """Runs rt in the crate's folder, and gives its exit status and what it said."""
         with tempfile.TemporaryFile("w+", errors="replace") as said:
-            ran = subprocess.Popen(["rt", *words], cwd=self.folder, stdin=subprocess.DEVNULL, stdout=said, stderr=said)
+            ran = Runs.begin(["rt", *words], cwd=self.folder, stdin=subprocess.DEVNULL, stdout=said, stderr=said)
             _, status, used = os.wait4(ran.pid, 0)
+            Runs.end(ran)
             ran.returncode = os.waitstatus_to_exitcode(status)
             self.seconds += used.ru_utime + used.ru_stime
             said.seek(0)
@@ -154,6 +204,64 @@ def prove(crates, name, jobs):
                 os.rename(out, kept)
     is_well = "rt: running out/" in said if verb == "run" else status == 0
     return Proof("" if is_well else f"{said}{name} was not proved and built\n", room.seconds)
+
+
+def kit():
+    """The version of the kit; none where there is no kit."""
+    path = shutil.which("rt")
+    if not path:
+        return None
+    ran = subprocess.run(["rt", "version"], stdin=subprocess.DEVNULL, capture_output=True, check=False)
+    return f"{os.path.realpath(path)}\n{ran.stdout.decode(errors='replace')}"
+
+
+class Stamps:
+    """What a crate's proof rests on and what came of it, as sums in crates/NAME/out/proved: the texts of the crate and of those below, its
+    line of crates.txt, HANDLES and the kit; and place, size and time of each file that was built. A crate whose sums are those of
+    its stamp is proved and built."""
+
+    def __init__(self, crates):
+        self.crates, self.kit, self.sums = crates, kit(), {}
+
+    def texts(self, name):
+        """The sum of all texts that a crate's proof rests on."""
+        if name not in self.sums:
+            summed = hashlib.sha256(f"{self.kit}\n{self.crates.lines[name]}\n{os.environ.get('RT_ALLOW_C', '')}\n".encode())
+            for below in sorted(self.crates.uses[name]):
+                summed.update(f"{below} {self.texts(below)}\n".encode())
+            for path in [f"{self.crates.root}/HANDLES", *(path for part in TEXTS for path in files_in(f"{self.crates.folder(name)}/{part}"))]:
+                with open(path, "rb") as file:
+                    summed.update(f"{os.path.relpath(path, self.crates.root)} {hashlib.sha256(file.read()).hexdigest()}\n".encode())
+            self.sums[name] = summed.hexdigest()
+        return self.sums[name]
+
+    def stamp(self, name):
+        """The text of a crate's stamp, as it must be now."""
+        out = f"{self.crates.folder(name)}/out"
+        paths = [f"{out}/{name}"] if self.crates.is_program(name) else files_in(f"{out}/rlib")
+        built = [(os.path.relpath(it, out), os.stat(it)) for it in paths if os.path.isfile(it)]
+        return f"texts {self.texts(name)}\n" + "".join(f"{path} {at.st_size} {at.st_mtime_ns}\n" for path, at in built) if built else None
+
+    def is_proved(self, name):
+        with contextlib.suppress(FileNotFoundError), open(stamp_of(self.crates, name), encoding="utf-8") as file:
+            return file.read() == self.stamp(name)
+        return False
+
+    def keep(self, name):
+        """Stamps a crate that was proved over these texts."""
+        text = self.stamp(name)
+        if text and Stamps(self.crates).texts(name) == self.texts(name):
+            with open(stamp_of(self.crates, name), "w", encoding="utf-8") as file:
+                file.write(text)
+
+
+def stamp_of(crates, name):
+    return f"{crates.folder(name)}/out/proved"
+
+
+def files_in(folder):
+    """The files of a folder and of those in it, in order."""
+    return sorted(f"{at}/{it}" for at, _, names in os.walk(folder) for it in names)
 
 
 @dataclass
