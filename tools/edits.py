@@ -11,6 +11,8 @@ from dataclasses import dataclass
 HEAD = re.compile(r"( *)(?:pub(?:\([^)]*\))? )?(?:const )?(?:unsafe )?fn (\w+)")
 # A goal of a function's, by the place in the text, stands before the line of that function.
 GOAL = re.compile(r"note: (?:\./)?(src/\S+?):(\d+):\d+: it is not proved (.*)")
+# A goal of an operator in the body itself, which says nothing of a contract: that a sum fits, or that an index is below the length.
+SAFETY = re.compile(r"\(`(overflow_|bounds-)[^`]*`\)")
 # An error in what was written of a function's proof; one that only names what an edit took away says nothing.
 ERROR = re.compile(r"(?:\./)?proofs/(\S+)/\w+\.antt:\d+:\d+: error: (.*)")
 OF_NAMES = re.compile(r"has no field|is not in scope|has no `|was not admitted")
@@ -163,6 +165,10 @@ class Lost:
     file: str
     line: int
     why: str
+
+    def is_safety(self):
+        """Whether it is of an operator in the body, and of no clause."""
+        return bool(SAFETY.search(self.why))
 
     def is_of(self, function):
         """Whether it is that function's, by its name or by its place. (The goal of a trait's clause stands in the trait.)"""

@@ -77,8 +77,11 @@ def alone(room, edit):
     if not is_read(said, edit.texts):
         return Verdict(False, "BAD EDIT: the prover cannot read the edited text")
     lost = lost_goals(said)
-    if status == 1 and lost:
-        return Verdict(True, f"refused alone: {lost[0]}")
+    of_clauses = [it for it in lost if not it.is_safety()]
+    if status == 1 and of_clauses:
+        return Verdict(True, f"refused alone: {of_clauses[0]}")
+    if lost:
+        return Verdict(False, f"NOT REFUSED: only goals of operators in the edited text are lost, and none of a clause: {lost[0]}")
     if status == 0:
         return Verdict(False, "NOT REFUSED: the crate is still proved with this edit")
     outdated = outdated_proof(said)
