@@ -1,0 +1,4 @@
+mod Documents
+mod Reading
+mod Shells
+mod Words

@@ -1,0 +1,4 @@
+pub mod Fits
+pub mod PlanJson
+pub mod PlanOfJson
+pub mod Shell
