@@ -7,7 +7,7 @@ use Rattle.json.proofs.Printed.Trees.{value-json_tokens}
 use Rattle.json.specs.Json.{Json, document, if_last, max_depth, string, value}
 use Rattle.json.specs.Lex.{tokens}
 use Rattle.json.specs.Tree.{depth, items_depth, json_tokens}
-use Rattle.std.proofs.Common.{◌≡◌, ◌≤◌, ◌+◌, Bool, false, true, List, [], ◌∷◌, None, Option, Some, if◌then◌else◌, max, option_and_then, refl, sym, ap, ◌∙◌, append-nil, arith, ℕ}
+use Rattle.std.proofs.Common.{◌≡◌, ◌≤◌, Bool, false, true, List, [], ◌∷◌, None, Option, Some, if◌then◌else◌, option_and_then, sym, ap, ◌∙◌, append-nil, arith, ℕ}
 use Rattle.std.specs.Str.{is_utf8}
 
 -- A text with the tokens of a value that doesn't nest too deep is that value; a plan doesn't.
@@ -50,8 +50,15 @@ output_shallow (Some word) = word_shallow word
 
 job_shallow : (job : Job) → depth (job_json job) ≤ 5
 job_shallow job =
-    omega (arith, source_shallow job.source, items_shallow group_json 3 group_shallow job.groups, items_shallow temp_json 2 temp_shallow job.temps,
-    words_shallow job.marked, words_shallow job.on_failure, output_shallow job.output)
+    omega (
+      arith,
+      source_shallow job.source,
+      items_shallow group_json 3 group_shallow job.groups,
+      items_shallow temp_json 2 temp_shallow job.temps,
+      words_shallow job.marked,
+      words_shallow job.on_failure,
+      output_shallow job.output,
+    )
 
 link_shallow : (link : Option Job) → depth (option_json job_json link) ≤ 5
 link_shallow None = omega arith

@@ -1,12 +1,12 @@
 use Rattle.drv_forms.specs.Fits.{Each, IsCommand, IsJob, IsNumber, IsPlan, IsTemp, IsWord, Maybe}
 use Rattle.drv_forms.specs.PlanJson.{command_json, group_json, items_json, job_json, list_json, number_json, option_json, plan_json, temp_json, word_json, words_json}
-use Rattle.drv_forms.specs.PlanOfJson.{all_of, command_from, command_of, field, group_of, job_of, list_of, number_of, option_of, plan_of, temp_of, word_of, words_of}
+use Rattle.drv_forms.specs.PlanOfJson.{all_of, command_from, command_of, group_of, job_of, list_of, number_of, option_of, plan_of, temp_of, word_of, words_of}
 use Rattle.drv_words.specs.declared.plan.Command.{Command}
 use Rattle.drv_words.specs.declared.plan.Job.{Job}
 use Rattle.drv_words.specs.declared.plan.Plan.{Plan}
 use Rattle.drv_words.specs.declared.plan.Temp.{Temp}
 use Rattle.json.specs.Json.{Json, string}
-use Rattle.std.proofs.Common.{◌≡◌, ◌<◌, ◌^◌, Bool, false, true, List, [], ◌∷◌, None, Option, Some, if◌then◌else◌, option_and_then, option_map, refl, ap, ◌∙◌, arith, ℕ}
+use Rattle.std.proofs.Common.{◌≡◌, ◌<◌, Bool, false, true, List, [], ◌∷◌, None, Option, Some, if◌then◌else◌, option_and_then, option_map, refl, ap, ◌∙◌, arith, ℕ}
 use Rattle.std.proofs.lemmas.Fmt.{decimal_is_IsNumeral}
 use Rattle.std.specs.Str.{is_utf8}
 

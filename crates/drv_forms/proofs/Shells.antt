@@ -1,4 +1,4 @@
-use Rattle.drv_forms.specs.Shell.{Escaped, Outside, Place, Quoted, Rest, after_blank, after_bytes, bytes_of, inside, read, shell_text, shell_word, shell_words, words_of}
+use Rattle.drv_forms.specs.Shell.{Outside, Quoted, Rest, after_blank, after_bytes, bytes_of, inside, read, shell_text, shell_word, shell_words, words_of}
 use Rattle.drv_words.specs.Printed.{is_bare, is_plain}
 use Rattle.std.proofs.Common.{◌≡◌, Bool, false, true, ◌&&◌, ◌==◌, List, [], ◌∷◌, ◌++◌, None, Option, Some, if◌then◌else◌, option_map, length, nat_lt, refl, sym, ap, ◌∙◌, append_assoc, append-nil, ℕ}
 use Rattle.std.proofs.lemmas.Bool.{eqb-true}
@@ -49,6 +49,7 @@ word_read word rest = by (is_bare word) refl
     bare : (w : List ℕ) → is_bare w ≡ true → read Outside (w ++ rest) ≡ option_map (after_bytes w) (read Outside rest)
     bare [] is = absurd cc
     bare (b ∷ w) is = plain_read b w rest (split_true (nat_lt 0 (length (b ∷ w))) (list_all is_plain (b ∷ w)) is).1
+
     by : (t : Bool) → is_bare word ≡ t → read Outside ((if t then word else 39 ∷ inside word ++ 39 ∷ []) ++ rest) ≡ option_map (after_bytes word) (read Outside rest)
     by true is = bare word is
     by false is =

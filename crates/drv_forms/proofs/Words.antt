@@ -1,5 +1,5 @@
 use Rattle.drv_forms.specs.PlanJson.{list_json, number_json, word_json}
-use Rattle.json.specs.Json.{Json, string}
+use Rattle.json.specs.Json.{string}
 use Rattle.json.specs.Token.{Token}
 use Rattle.json.specs.Tree.{json_tokens}
 use Rattle.std.proofs.Common.{◌≡◌, ◌∷◌, [], Bool, false, true, List, if◌then◌else◌, refl, sym, ap, ◌∙◌, ℕ}

@@ -1,6 +1,5 @@
 use Rattle.drv_words.specs.Bytes as byte
 use Rattle.drv_words.specs.Printed.{is_bare, is_plain}
-use Rattle.drv_words.specs.declared.plan.Command.{Command}
 use Rattle.std.specs.List.{flat_map}
 use Rattle.std.specs.Prelude.{◌==◌, List, [], ◌∷◌, ◌++◌, None, Option, Some, if◌then◌else◌, option_map, ℕ}
 
@@ -68,6 +67,10 @@ inside (b ∷ word) =
 abbrev pub shell_word : List ℕ → List ℕ
 shell_word word = if is_bare word then word else byte.single_quote ∷ inside word ++ byte.single_quote ∷ []
 
+-- a word after a space
+abbrev pub spaced : List ℕ → List ℕ
+spaced word = byte.space ∷ shell_word word
+
 -- words, each after a space
 abbrev pub shell_text : List (List ℕ) → List ℕ
-shell_text = flat_map (λ word. byte.space ∷ shell_word word)
+shell_text = flat_map spaced

@@ -1,6 +1,7 @@
 //! Words in the shell's language.
 
-ghost use Rattle.drv_forms.specs.Shell.{inside, shell_text, shell_word as word_text, shell_words};
+ghost use Rattle.drv_forms.specs.Shell.{inside, shell_text, shell_word as word_text};
+ghost use Rattle.drv_forms.specs.Shell.{shell_words, spaced};
 ghost use Rattle.drv_words.specs.Printed.{is_bare, is_plain};
 ghost use Rattle.std.specs.List.{list_all};
 ghost use Rattle.std.specs.Prelude.{◌≡◌, ◌∷◌, ◌++◌, [], IfOk, OnOk, Some};
@@ -44,7 +45,7 @@ fn push_inside(text: &mut Vec<u8>, word: &[u8]) -> Result<(), AllocError>
 }
 
 /// Adds a word as the shell reads it.
-pub(crate) fn push_shell_word(text: &mut Vec<u8>, word: &[u8]) -> Result<(), AllocError>
+fn push_shell_word(text: &mut Vec<u8>, word: &[u8]) -> Result<(), AllocError>
     ensures { OnOk result (text.new.items ≡ text.old.items ++ word_text word.now) }
 {
     if is_bare_word(word) {
@@ -56,13 +57,20 @@ pub(crate) fn push_shell_word(text: &mut Vec<u8>, word: &[u8]) -> Result<(), All
     Ok(())
 }
 
+/// Adds a word after a space.
+pub(crate) fn push_spaced(text: &mut Vec<u8>, word: &[u8]) -> Result<(), AllocError>
+    ensures { OnOk result (text.new.items ≡ text.old.items ++ spaced word.now) }
+{
+    text.push(b' ')?;
+    push_shell_word(text, word)
+}
+
 /// Adds words, each after a space.
 pub(crate) fn push_shell_words(text: &mut Vec<u8>, words: &[Word]) -> Result<(), AllocError>
     ensures { OnOk result (text.new.items ≡ text.old.items ++ shell_text words.now) }
 {
     for word in words {
-        text.push(b' ')?;
-        push_shell_word(text, word.as_bytes())?;
+        push_spaced(text, word.as_bytes())?;
     }
     Ok(())
 }

@@ -2,10 +2,9 @@ use Rattle.drv_forms.proofs.Documents.{document_of, plan_shallow}
 use Rattle.drv_forms.proofs.Reading.{plan_back}
 use Rattle.drv_forms.specs.PlanJson.{plan_json}
 use Rattle.drv_forms.specs.PlanOfJson.{plan_of}
-use Rattle.json.specs.Json.{document}
 use Rattle.json.specs.Lex.{tokens}
 use Rattle.json.specs.Tree.{json_tokens}
-use Rattle.std.proofs.Common.{◌≡◌, Some, option_and_then, ap, ◌∙◌, arith}
+use Rattle.std.proofs.Common.{◌≡◌, option_and_then, ap, ◌∙◌, arith}
 use Rattle.std.proofs.lemmas.Grind.{common_steps}
 use Rattle.drv_forms.proofs.json_form.plan_json.Goals as goal
 

@@ -1,6 +1,6 @@
 use Rattle.drv_forms.proofs.Words.{bytes_tokens, text_tokens}
 use Rattle.json.specs.Token.{Token}
-use Rattle.std.proofs.Common.{◌≡◌, ◌++◌, List, OnOk, subst, ap, sym, ◌∙◌}
+use Rattle.std.proofs.Common.{◌≡◌, ◌++◌, List, OnOk, subst, sym, ◌∙◌}
 use Rattle.std.specs.Str.{IsUtf8}
 use Rattle.drv_forms.proofs.json_form.put_word.Goals as goal
 

@@ -1,0 +1,54 @@
+use Rattle.drv_forms.specs.declared.pieces.Piece.TheVariants.{Claim, Driver, EndFault, EndPipe, Fault, Into, Keep, NotStarted, Opening, Pipe, Run, Say, Start, Status, Then, ThenNext, ToError, Unless}
+use Rattle.drv_forms.specs.declared.pieces.Piece.{Piece}
+use Rattle.std.specs.Prelude.{◌++◌, List, codes, ℕ}
+
+-- The fixed texts of a script of the shell (POSIX XCU 2 "Shell Command Language", and there 2.14 "set", "trap"; XCU 4 "command").
+
+unfoldable pub text : Piece → List ℕ
+-- what stands first: the functions of the script, and what is removed at its end. The positional parameters are those files; 4 is standard output, which a pipe's last command gets back
+text Opening =
+    codes "#!/bin/sh\n"
+    ++ codes "exec 4>&1\n"
+    ++ codes "set --\n"
+    ++ codes "gdrv_failed= gdrv_started= gdrv_pipe= gdrv_file=\n"
+    ++ codes "remove() { for gdrv_file; do if test -f \"$gdrv_file\" && ! test -L \"$gdrv_file\"; then rm -f -- \"$gdrv_file\"; fi; done; }\n"
+    ++ codes "claim() { (umask 077; set -C; printf %s \"$2\" >\"$1\"); }\n"
+    ++ codes "starts() { command -v -- \"$1\" >/dev/null && gdrv_started=yes; }\n"
+    ++ codes "run() { starts \"$1\" && command -- \"$@\" 4>&-; }\n"
+    ++ codes "member() { command -- \"$@\" 3>&- 4>&- || echo failed >&3; }\n"
+    ++ codes "trap 'remove \"$@\"' EXIT\n"
+    ++ codes "trap 'exit 1' HUP INT TERM\n"
+-- a notice is said
+text Say = codes "printf '%s\\n'"
+-- who says it
+text Driver = codes "gdrv: "
+-- it is said on standard error
+text ToError = codes " >&2\n"
+-- a file is put among those that are removed at the end
+text Keep = codes "set -- \"$@\""
+-- a temporary is claimed
+text Claim = codes "claim"
+-- what follows is done where that was
+text Then = codes " && "
+-- so is the next line
+text ThenNext = codes " &&\n"
+-- a command that is in no pipe is run
+text Run = codes "run"
+-- the first command of a pipe is looked for
+text Start = codes "starts"
+-- a pipe begins
+text Pipe = codes " && gdrv_pipe=$({ member"
+-- a further command of a pipe
+text Into = codes " | member"
+-- a pipe ends, and fails where a command of it did
+text EndPipe = codes " >&4; } 3>&1) && test -z \"$gdrv_pipe\" &&\n"
+-- no command of this job was started yet
+text NotStarted = codes "gdrv_started=\n"
+-- what a fault of a job does: its failure files are removed if a command of it was started
+text Fault = codes ": || {\ngdrv_failed=yes\ntest -z \"$gdrv_started\" || remove"
+-- that ends
+text EndFault = codes "\n}\n"
+-- the link is run where no source failed
+text Unless = codes "test -z \"$gdrv_failed\" || exit 1\n"
+-- the status
+text Status = codes "test -z \"$gdrv_failed\"\n"

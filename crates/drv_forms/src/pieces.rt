@@ -1,0 +1,96 @@
+//! The fixed texts of a script.
+
+ghost use Rattle.drv_forms.specs.Pieces.{text};
+ghost use Rattle.std.specs.Prelude.{◌≡◌, ◌++◌, OnOk};
+
+use std::alloc::AllocError;
+
+/// A fixed text of a script.
+#[derive(Clone, Copy, Debug)]
+pub enum Piece {
+    /// What stands first: the functions of the script, and what is removed at its end. The
+    /// positional parameters are those files; 4 is standard output, which a pipe's last command
+    /// gets back.
+    Opening,
+    /// A notice is said.
+    Say,
+    /// Who says it.
+    Driver,
+    /// It is said on standard error.
+    ToError,
+    /// A file is put among those that are removed at the end.
+    Keep,
+    /// A temporary is claimed.
+    Claim,
+    /// What follows is done where that was.
+    Then,
+    /// So is the next line.
+    ThenNext,
+    /// A command that is in no pipe is run.
+    Run,
+    /// The first command of a pipe is looked for.
+    Start,
+    /// A pipe begins.
+    Pipe,
+    /// A further command of a pipe.
+    Into,
+    /// A pipe ends, and fails where a command of it did.
+    EndPipe,
+    /// No command of this job was started yet.
+    NotStarted,
+    /// What a fault of a job does: its failure files are removed if a command of it was started.
+    Fault,
+    /// That ends.
+    EndFault,
+    /// The link is run where no source failed.
+    Unless,
+    /// The status.
+    Status,
+}
+
+const OPENING: &[u8] = b"#!/bin/sh
+exec 4>&1
+set --
+gdrv_failed= gdrv_started= gdrv_pipe= gdrv_file=
+remove() { for gdrv_file; do if test -f \"$gdrv_file\" && ! test -L \"$gdrv_file\"; then rm -f -- \"$gdrv_file\"; fi; done; }
+claim() { (umask 077; set -C; printf %s \"$2\" >\"$1\"); }
+starts() { command -v -- \"$1\" >/dev/null && gdrv_started=yes; }
+run() { starts \"$1\" && command -- \"$@\" 4>&-; }
+member() { command -- \"$@\" 3>&- 4>&- || echo failed >&3; }
+trap 'remove \"$@\"' EXIT
+trap 'exit 1' HUP INT TERM
+";
+
+/// The text of a piece.
+#[tactic(auto, unfolding(crate::specs::Pieces::text))]
+fn bytes(piece: Piece) -> &'static [u8]
+    ensures { result.now ≡ text piece }
+{
+    match piece {
+        Piece::Opening => OPENING,
+        Piece::Say => b"printf '%s\\n'",
+        Piece::Driver => b"gdrv: ",
+        Piece::ToError => b" >&2\n",
+        Piece::Keep => b"set -- \"$@\"",
+        Piece::Claim => b"claim",
+        Piece::Then => b" && ",
+        Piece::ThenNext => b" &&\n",
+        Piece::Run => b"run",
+        Piece::Start => b"starts",
+        Piece::Pipe => b" && gdrv_pipe=$({ member",
+        Piece::Into => b" | member",
+        Piece::EndPipe => b" >&4; } 3>&1) && test -z \"$gdrv_pipe\" &&\n",
+        Piece::NotStarted => b"gdrv_started=\n",
+        Piece::Fault => b": || {\ngdrv_failed=yes\ntest -z \"$gdrv_started\" || remove",
+        Piece::EndFault => b"\n}\n",
+        Piece::Unless => b"test -z \"$gdrv_failed\" || exit 1\n",
+        Piece::Status => b"test -z \"$gdrv_failed\"\n",
+    }
+}
+
+/// Adds a piece.
+pub(crate) fn push_piece(script: &mut Vec<u8>, piece: Piece) -> Result<(), AllocError>
+    ensures { OnOk result (script.new.items ≡ script.old.items ++ text piece) }
+{
+    script.extend_from_slice(bytes(piece))
+}
