@@ -88,9 +88,9 @@ sections =
     ∷ section Nothing Alone Switch
     (codes "-fcompare-debug= -fno-compare-debug>-fcompare-debug=")
     ∷ section Next Separate Refused
-    (codes "-wrapper -dumpbase --dumpbase -dumpbase-ext --dumpbase-ext --sysroot")
+    (codes "-wrapper -dumpbase --dumpbase -dumpbase-ext --dumpbase-ext")
     ∷ section Next Joined Switch
-    (codes "-specs>-specs= --specs>-specs= --dump>-d --library-directory>-L --param>--param=")
+    (codes "-specs>-specs= --specs>-specs= --dump>-d --library-directory>-L --param>--param= --sysroot>--sysroot=")
     ∷ section Next Separate Question
     (codes "--print-file-name --print-prog-name")
     ∷ section Next Nowhere Switch
@@ -185,14 +185,12 @@ sections =
     (codes "--library-directory=>-L")
     ∷ section Attached Separate Switch
     (codes "--output=>-o --prefix=>-B --undefine-macro=>-U")
-    ∷ section Attached Separate Refused
-    (codes "--sysroot=>--sysroot")
     ∷ section Attached Joined Question
     (codes "--help= --completion= -fhelp= -print-file-name= --print-file-name= -print-prog-name= --print-prog-name=")
     ∷ section Attached Joined Refused
     (codes "-time= -fcompare-debug= --output-pch=")
     ∷ section Attached Joined Switch
-    (codes "-specs= --specs=>-specs= --param=")
+    (codes "-specs= --specs=>-specs= --param= --sysroot=")
     ∷ section Attached Separate Switch
     (codes "-aux-info=>-aux-info")
     ∷ section Attached Joined Switch
@@ -255,7 +253,8 @@ ignored =
 abbrev pub rings : List (List ℕ)
 rings =
     codes "-pie -no-pie -static-pie -shared" ∷ codes "-fpic -fPIC -fpie -fPIE -fno-pic -fno-PIC -fno-pie -fno-PIE" ∷ codes "-m32 -m64 -mx32 -m16"
-    ∷ codes "-march=" ∷ codes "-mtune=" ∷ codes "-mlong-double-64 -mlong-double-80 -mlong-double-128" ∷ codes "-mbionic -mglibc -muclibc -mmusl"
+    ∷ codes "--sysroot=" ∷ codes "-march=" ∷ codes "-mtune=" ∷ codes "-mlong-double-64 -mlong-double-80 -mlong-double-128"
+    ∷ codes "-mbionic -mglibc -muclibc -mmusl"
     ∷ codes "-fuse-ld=bfd -fuse-ld=gold -fuse-ld=lld -fuse-ld=mold" ∷ codes "-gpubnames -ggnu-pubnames -gno-pubnames" ∷ codes "-Qy -Qn" ∷ codes "-fdiagnostics-color= -fdiagnostics-color=always -fdiagnostics-color=never" ∷ []
 
 -- options that no other sign of theirs takes back (GCC Internals, "Option Properties", RejectNegative)

@@ -169,7 +169,6 @@ const GROUP_21: &[Row] = group! {
     b"--output=" b"-o" Attached Separate Switch
     b"--prefix=" b"-B" Attached Separate Switch
     b"--undefine-macro=" b"-U" Attached Separate Switch
-    b"--sysroot=" b"--sysroot" Attached Separate Refused
     b"--help=" b"--help=" Attached Joined Question
     b"--completion=" b"--completion=" Attached Joined Question
     b"--print-file-name=" b"--print-file-name=" Attached Joined Question
@@ -177,6 +176,7 @@ const GROUP_21: &[Row] = group! {
     b"--output-pch=" b"--output-pch=" Attached Joined Refused
     b"--specs=" b"-specs=" Attached Joined Switch
     b"--param=" b"--param=" Attached Joined Switch
+    b"--sysroot=" b"--sysroot=" Attached Joined Switch
     b"-u" b"-u" Either Separate Switch
 };
 

@@ -34,6 +34,8 @@ const LINKED_AS: &[u8] = b"-pie -no-pie -static-pie -shared";
 const POSITIONS: &[u8] = b"-fpic -fPIC -fpie -fPIE -fno-pic -fno-PIC -fno-pie -fno-PIE";
 /// The machine's mode.
 const MODES: &[u8] = b"-m32 -m64 -mx32 -m16";
+/// The folder that stands for the root of the target.
+const SYSROOT: &[u8] = b"--sysroot=";
 /// The machine.
 const MARCH: &[u8] = b"-march=";
 /// The machine that is tuned for.
@@ -52,10 +54,11 @@ const IDENTS: &[u8] = b"-Qy -Qn";
 const COLORS: &[u8] = b"-fdiagnostics-color= -fdiagnostics-color=always -fdiagnostics-color=never";
 
 /// Options of which the last one counts (GCC Internals, "Option Properties", Negative).
-const RINGED: [Ringed; 37] = ringed! {
+const RINGED: [Ringed; 38] = ringed! {
     LINKED_AS: b"-pie" b"-no-pie" b"-static-pie" b"-shared";
     POSITIONS: b"-fpic" b"-fPIC" b"-fpie" b"-fPIE" b"-fno-pic" b"-fno-PIC" b"-fno-pie" b"-fno-PIE";
     MODES: b"-m32" b"-m64" b"-mx32" b"-m16";
+    SYSROOT: b"--sysroot=";
     MARCH: b"-march=";
     MTUNE: b"-mtune=";
     LONG_DOUBLES: b"-mlong-double-64" b"-mlong-double-80" b"-mlong-double-128";

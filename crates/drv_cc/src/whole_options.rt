@@ -200,7 +200,7 @@ const GROUP_12: &[Row] = group! {
     b"-no-integrated-cpp" b"-no-integrated-cpp" Nothing Alone Switch
     b"-pie" b"-pie" Nothing Alone Switch
     b"--version" b"--version" Nothing Alone Question
-    b"--sysroot" b"--sysroot" Next Separate Refused
+    b"--sysroot" b"--sysroot=" Next Joined Switch
     b"--dumpdir" b"-dumpdir" Next Nowhere Switch
     b"-mno-sse5" b"-mno-avx" Nothing Alone Switch
     b"--compile" b"-c" Nothing Alone Switch
