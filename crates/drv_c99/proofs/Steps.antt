@@ -1,5 +1,5 @@
 use Rattle.drv_c99.specs.Code.Building.{Goes, begun, finished, front_with, noted, with_items}
-use Rattle.drv_c99.specs.Front.{Ends, Flag, Item, Joined, Names, Operand, Passed, Start, Unknown, Wants, and_items, at_last, at_word, front_of_items, given, items_of, name_of, start_of}
+use Rattle.drv_c99.specs.Front.{Ends, Flag, Item, Joined, Names, Operand, Passed, Wants, and_items, at_last, at_word, front_of_items, given, items_of, start_of}
 use Rattle.drv_c99.specs.declared.building.Front.{Front}
 use Rattle.drv_c99.specs.declared.fault.C99Fault.TheVariants.{Memory}
 use Rattle.drv_c99.specs.declared.fault.C99Fault.{C99Fault}
@@ -8,7 +8,7 @@ use Rattle.drv_c99.specs.declared.option.Part.TheVariants.{AfterEnd}
 use Rattle.drv_c99.specs.declared.option.Part.{Part}
 use Rattle.drv_words.specs.Gives.{Gives}
 use Rattle.std.specs.Prelude.{IsErrAnd}
-use Rattle.std.proofs.Common.{◌≡◌, ◌⊎◌, ◌≤◌, ◌-◌, Bool, inl, inr, List, arith, drop, get_or, length, take, [], ◌∷◌, ◌++◌, Err, Ok, Result, ap, append_assoc, false, refl, sym, true, ◌∙◌, ℕ}
+use Rattle.std.proofs.Common.{◌≡◌, ◌⊎◌, ◌≤◌, ◌-◌, inl, inr, List, arith, drop, get_or, length, take, [], ◌∷◌, ◌++◌, Err, Ok, Result, ap, append_assoc, refl, sym, ◌∙◌, ℕ}
 use Rattle.std.proofs.Math.Bool.{or_assoc, or-false}
 use Rattle.std.proofs.lemmas.List.{append-nil, take_all}
 
@@ -16,22 +16,22 @@ use Rattle.std.proofs.lemmas.List.{append-nil, take_all}
 
 -- What the first word comes to, by how it begins.
 
-flag_first : (part : Part) (w : List ℕ) (words : List (List ℕ)) → start_of part w ≡ Flag → items_of part (w ∷ words) ≡ and_items (Ok (Passed (w ∷ []))) (items_of part words)
+pub flag_first : (part : Part) (w : List ℕ) (words : List (List ℕ)) → start_of part w ≡ Flag → items_of part (w ∷ words) ≡ and_items (Ok (Passed (w ∷ []))) (items_of part words)
 flag_first part w [] starts = ap (λ s. at_last s w) starts
 flag_first part w (n ∷ words) starts = ap (λ s. at_word s w n (items_of part (n ∷ words)) (items_of part words) (items_of AfterEnd (n ∷ words))) starts
 
-names_first : (part : Part) (prefix w : List ℕ) (words : List (List ℕ)) → start_of part w ≡ Names prefix → items_of part (w ∷ words) ≡ and_items (Ok (Operand (prefix ++ w))) (items_of part words)
+pub names_first : (part : Part) (prefix w : List ℕ) (words : List (List ℕ)) → start_of part w ≡ Names prefix → items_of part (w ∷ words) ≡ and_items (Ok (Operand (prefix ++ w))) (items_of part words)
 names_first part prefix w [] starts = ap (λ s. at_last s w) starts
 names_first part prefix w (n ∷ words) starts = ap (λ s. at_word s w n (items_of part (n ∷ words)) (items_of part words) (items_of AfterEnd (n ∷ words))) starts
 
-joined_first : (part : Part) (option : Taking) (argument w : List ℕ) (words : List (List ℕ)) → start_of part w ≡ Joined option argument → items_of part (w ∷ words) ≡ and_items (given option argument) (items_of part words)
+pub joined_first : (part : Part) (option : Taking) (argument w : List ℕ) (words : List (List ℕ)) → start_of part w ≡ Joined option argument → items_of part (w ∷ words) ≡ and_items (given option argument) (items_of part words)
 joined_first part option argument w [] starts = ap (λ s. at_last s w) starts
 joined_first part option argument w (n ∷ words) starts = ap (λ s. at_word s w n (items_of part (n ∷ words)) (items_of part words) (items_of AfterEnd (n ∷ words))) starts
 
-wants_first : (part : Part) (option : Taking) (w n : List ℕ) (words : List (List ℕ)) → start_of part w ≡ Wants option → items_of part (w ∷ n ∷ words) ≡ and_items (given option n) (items_of part words)
+pub wants_first : (part : Part) (option : Taking) (w n : List ℕ) (words : List (List ℕ)) → start_of part w ≡ Wants option → items_of part (w ∷ n ∷ words) ≡ and_items (given option n) (items_of part words)
 wants_first part option w n words starts = ap (λ s. at_word s w n (items_of part (n ∷ words)) (items_of part words) (items_of AfterEnd (n ∷ words))) starts
 
-ends_first : (part : Part) (w : List ℕ) (words : List (List ℕ)) → start_of part w ≡ Ends → items_of part (w ∷ words) ≡ items_of AfterEnd words
+pub ends_first : (part : Part) (w : List ℕ) (words : List (List ℕ)) → start_of part w ≡ Ends → items_of part (w ∷ words) ≡ items_of AfterEnd words
 ends_first part w [] starts = ap (λ s. at_last s w) starts
 ends_first part w (n ∷ words) starts = ap (λ s. at_word s w n (items_of part (n ∷ words)) (items_of part words) (items_of AfterEnd (n ∷ words))) starts
 
@@ -47,7 +47,7 @@ note_rest f f' (Ok i) (Ok items) is =
 note_rest f f' (Ok i) (Err fault) is = refl
 note_rest f f' (Err fault) rest is = absurd cc
 
-after_first : (word : List ℕ) (words : List (List ℕ)) → take (length (word ∷ words) - 1) words ≡ words
+pub after_first : (word : List ℕ) (words : List (List ℕ)) → take (length (word ∷ words) - 1) words ≡ words
 after_first word words = take_all (length (word ∷ words) - 1) words (omega arith)
 
 -- The next word, by how it begins.

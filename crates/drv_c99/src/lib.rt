@@ -3,8 +3,10 @@
 
 mod building;
 mod fault;
+mod laws;
 mod option;
 mod translating;
 
 pub use fault::C99Fault;
+pub use laws::items_are_read;
 pub use translating::front;

@@ -6,4 +6,5 @@ mod NoChecks
 mod Noted
 mod OtherOptions
 mod Rings
+pub mod LevelLaws
 pub mod WorkedLines

@@ -5,7 +5,8 @@ use Rattle.drv_cc.specs.declared.item.Item.{Item}
 use Rattle.drv_cc.specs.declared.levels.Debugging.{Debugging}
 use Rattle.drv_words.specs.Bytes.{comma}
 use Rattle.std.specs.List.{list_any, slice_split}
-use Rattle.std.specs.Prelude.{◌==◌, ◌&&◌, ◌||◌, Bool, List, [], ◌∷◌, ◌++◌, codes, false, if◌then◌else◌, nat_lt, not, true, ℕ}
+use Rattle.std.specs.Option.{unwrap_or}
+use Rattle.std.specs.Prelude.{◌==◌, ◌&&◌, ◌||◌, Bool, List, [], ◌∷◌, ◌++◌, None, Option, Some, codes, false, if◌then◌else◌, nat_lt, not, true, ℕ}
 
 -- The level of debugging information and its version (GCC manual, "Debugging Options"), as digits; and the libraries of checks
 -- ("Instrumentation Options", -fsanitize=). Each is a fold over the items.
@@ -13,33 +14,41 @@ use Rattle.std.specs.Prelude.{◌==◌, ◌&&◌, ◌||◌, Bool, List, [], ◌�
 abbrev pub no_debugging : Debugging
 no_debugging = record { level = 48; version = 53; toggled = false }
 
--- to level 2 at least
-abbrev pub raised : Debugging → Debugging
-raised d = if nat_lt d.level 50 then record d { level = 50 } else d
+-- What an option says: the level that it names, the version of DWARF, the toggle; and whether it asks for records at all.
 
-abbrev pub with_raised : List ℕ → List ℕ → Debugging → Debugging
-with_raised options name d = if is_among (texts options) name then raised d else d
+abbrev pub level_named : List ℕ → Option ℕ
+level_named name =
+    if is_among (texts (codes "-g0 -ggdb0")) name then Some 48
+    else if is_among (texts (codes "-g1 -ggdb1")) name then Some 49
+    else if is_among (texts (codes "-g2 -ggdb2")) name then Some 50
+    else if is_among (texts (codes "-g3 -ggdb3")) name then Some 51 else None
 
-abbrev pub with_level : List ℕ → ℕ → List ℕ → Debugging → Debugging
-with_level options level name d = if is_among (texts options) name then record d { level = level } else d
+abbrev pub version_named : List ℕ → Option ℕ
+version_named name =
+    if same name (codes "-gdwarf-2") then Some 50
+    else if same name (codes "-gdwarf-3") then Some 51
+    else if same name (codes "-gdwarf-4") then Some 52
+    else if same name (codes "-gdwarf-5") then Some 53 else None
 
-abbrev pub with_version : List ℕ → ℕ → List ℕ → Debugging → Debugging
-with_version option version name d = if same name option then raised (record d { version = version }) else d
+abbrev pub toggle_named : List ℕ → Option Bool
+toggle_named name = if same name (codes "-gtoggle") then Some true else if same name (codes "-gno-toggle") then Some false else None
 
-abbrev pub with_toggle : List ℕ → Debugging → Debugging
-with_toggle name d = if same name (codes "-gtoggle") then record d { toggled = true } else if same name (codes "-gno-toggle") then record d { toggled = false } else d
+abbrev pub asks_for_records : List ℕ → Bool
+asks_for_records =
+    is_among
+    (texts
+    (codes "-g -ggdb -gdwarf -gdwarf-2 -gdwarf-3 -gdwarf-4 -gdwarf-5 -gstabs -gstabs+ -gbtf -gctf -gvms -gxcoff -gxcoff+"))
 
-abbrev pub leveled : List ℕ → Debugging → Debugging
-leveled name d =
-    with_level (codes "-g3 -ggdb3") 51 name (with_level (codes "-g2 -ggdb2") 50 name (with_level (codes "-g1 -ggdb1") 49 name (with_level (codes "-g0 -ggdb0") 48 name d)))
-
-abbrev pub versioned : List ℕ → Debugging → Debugging
-versioned name d =
-    with_version (codes "-gdwarf-5") 53 name (with_version (codes "-gdwarf-4") 52 name (with_version (codes "-gdwarf-3") 51 name (with_version (codes "-gdwarf-2") 50 name d)))
+-- An option that asks for records raises the level to 2 at least.
+abbrev pub raised_by : Bool → ℕ → ℕ
+raised_by asks level = if asks && nat_lt level 50 then 50 else level
 
 unfoldable pub debugged_by : Debugging → List ℕ → Debugging
-debugged_by d name =
-    with_toggle name (versioned name (leveled name (with_raised (codes "-g -ggdb -gdwarf -gstabs -gstabs+ -gbtf -gctf -gvms -gxcoff -gxcoff+") name d)))
+debugged_by d name = record {
+  level = unwrap_or (level_named name) (raised_by (asks_for_records name) d.level);
+  version = unwrap_or (version_named name) d.version;
+  toggled = unwrap_or (toggle_named name) d.toggled;
+}
 
 abbrev pub debugged : Debugging → List Item → Debugging
 debugged d [] = d

@@ -1,9 +1,8 @@
 //! The level of debugging information, and the libraries of checks.
 
-ghost use Rattle.drv_cc.specs.Levels.{debug_words, debug_words_of, debugged, debugged_by};
-ghost use Rattle.drv_cc.specs.Levels.{level_words, leveled, no_debugging, raised, toggled};
-ghost use Rattle.drv_cc.specs.Levels.{versioned, with_level, with_raised, with_toggle};
-ghost use Rattle.drv_cc.specs.Levels.{with_version};
+ghost use Rattle.drv_cc.specs.Levels.{asks_for_records, debug_words, debug_words_of, debugged};
+ghost use Rattle.drv_cc.specs.Levels.{debugged_by, level_named, level_words, no_debugging};
+ghost use Rattle.drv_cc.specs.Levels.{raised_by, toggle_named, toggled, version_named};
 ghost use Rattle.std.specs.Prelude.{◌≡◌, ◌++◌, OnOk};
 
 use crate::classes::{is, stands_in};
@@ -23,97 +22,85 @@ pub(crate) struct Debugging {
     pub(crate) toggled: bool,
 }
 
+/// The level that an option names, as a digit.
+fn level_named(name: &[u8]) -> Option<u8>
+    ensures { result ≡ level_named name.now }
+{
+    if stands_in(b"-g0 -ggdb0", name) {
+        Some(b'0')
+    } else if stands_in(b"-g1 -ggdb1", name) {
+        Some(b'1')
+    } else if stands_in(b"-g2 -ggdb2", name) {
+        Some(b'2')
+    } else if stands_in(b"-g3 -ggdb3", name) {
+        Some(b'3')
+    } else {
+        None
+    }
+}
+
+/// The version of DWARF that an option names, as a digit.
+fn version_named(name: &[u8]) -> Option<u8>
+    ensures { result ≡ version_named name.now }
+{
+    if is(name, b"-gdwarf-2") {
+        Some(b'2')
+    } else if is(name, b"-gdwarf-3") {
+        Some(b'3')
+    } else if is(name, b"-gdwarf-4") {
+        Some(b'4')
+    } else if is(name, b"-gdwarf-5") {
+        Some(b'5')
+    } else {
+        None
+    }
+}
+
+/// Whether an option sets the toggle, or takes it back.
+fn toggle_named(name: &[u8]) -> Option<bool>
+    ensures { result ≡ toggle_named name.now }
+{
+    if is(name, b"-gtoggle") {
+        Some(true)
+    } else if is(name, b"-gno-toggle") {
+        Some(false)
+    } else {
+        None
+    }
+}
+
+/// Whether an option asks for records.
+fn asks_for_records(name: &[u8]) -> bool
+    ensures { result ≡ asks_for_records name.now }
+{
+    stands_in(
+        b"-g -ggdb -gdwarf -gdwarf-2 -gdwarf-3 -gdwarf-4 -gdwarf-5 -gstabs -gstabs+ -gbtf -gctf -gvms -gxcoff -gxcoff+",
+        name,
+    )
+}
+
 impl Debugging {
-    /// At level 2 at least.
-    fn raised(self) -> Debugging
-        ensures { result ≡ raised self }
+    /// The level, where an option with this name asks for records or not: 2 at least.
+    fn raised_by(self, name: &[u8]) -> u8
+        ensures { result ≡ raised_by (asks_for_records name.now) self.level }
     {
-        let mut raised = self;
-        if raised.level < b'2' {
-            raised.level = b'2';
-        }
-        raised
-    }
-
-    /// After one of the options that ask for it alone.
-    fn with_raised(self, options: &[u8], name: &[u8]) -> Debugging
-        ensures { result ≡ with_raised options.now name.now self }
-    {
-        if stands_in(options, name) {
-            self.raised()
+        if asks_for_records(name) && self.level < b'2' {
+            b'2'
         } else {
-            self
+            self.level
         }
-    }
-
-    /// After one of the options that set a level.
-    fn with_level(self, options: &[u8], level: u8, name: &[u8]) -> Debugging
-        ensures { result ≡ with_level options.now level name.now self }
-    {
-        let mut set = self;
-        if stands_in(options, name) {
-            set.level = level;
-        }
-        set
-    }
-
-    /// After an option that sets a version.
-    fn with_version(self, option: &[u8], version: u8, name: &[u8]) -> Debugging
-        ensures { result ≡ with_version option.now version name.now self }
-    {
-        if is(name, option) {
-            let mut set = self;
-            set.version = version;
-            set.raised()
-        } else {
-            self
-        }
-    }
-
-    /// After an option that may set the toggle.
-    fn with_toggle(self, name: &[u8]) -> Debugging
-        ensures { result ≡ with_toggle name.now self }
-    {
-        let mut set = self;
-        if is(name, b"-gtoggle") {
-            set.toggled = true;
-        } else if is(name, b"-gno-toggle") {
-            set.toggled = false;
-        }
-        set
-    }
-
-    /// After an option that may set a level.
-    fn leveled(self, name: &[u8]) -> Debugging
-        ensures { result ≡ leveled name.now self }
-    {
-        self.with_level(b"-g0 -ggdb0", b'0', name)
-            .with_level(b"-g1 -ggdb1", b'1', name)
-            .with_level(b"-g2 -ggdb2", b'2', name)
-            .with_level(b"-g3 -ggdb3", b'3', name)
-    }
-
-    /// After an option that may set a version.
-    fn versioned(self, name: &[u8]) -> Debugging
-        ensures { result ≡ versioned name.now self }
-    {
-        self.with_version(b"-gdwarf-2", b'2', name)
-            .with_version(b"-gdwarf-3", b'3', name)
-            .with_version(b"-gdwarf-4", b'4', name)
-            .with_version(b"-gdwarf-5", b'5', name)
     }
 
     /// After an option of debugging.
+    #[tactic(auto, unfolding(crate::specs::Levels::debugged_by))]
     fn after_debugging(self, name: &[u8]) -> Debugging
         ensures { result ≡ debugged_by self name.now }
     {
-        self.with_raised(
-            b"-g -ggdb -gdwarf -gstabs -gstabs+ -gbtf -gctf -gvms -gxcoff -gxcoff+",
-            name,
-        )
-        .leveled(name)
-        .versioned(name)
-        .with_toggle(name)
+        Debugging {
+            level: level_named(name).unwrap_or(self.raised_by(name)),
+            version: version_named(name).unwrap_or(self.version),
+            toggled: toggle_named(name).unwrap_or(self.toggled),
+        }
     }
 
     /// After an option.

@@ -10,6 +10,7 @@ mod fronting;
 mod item;
 mod judging;
 mod keeping;
+mod laws;
 mod levels;
 mod names;
 mod piping;
@@ -27,4 +28,5 @@ mod words;
 
 pub use answer::{Answer, Call, Stages, Surroundings, Variable};
 pub use fronting::front;
+pub use laws::last_level_counts;
 pub use refusal::Refusal;

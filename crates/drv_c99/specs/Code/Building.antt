@@ -6,7 +6,7 @@ use Rattle.drv_c99.specs.declared.fault.C99Fault.{C99Fault}
 use Rattle.drv_c99.specs.declared.option.Start.TheVariants as code
 use Rattle.drv_c99.specs.declared.option.Start.{Start as CodeStart}
 use Rattle.std.specs.List.{flat_map, list_any}
-use Rattle.std.specs.Prelude.{◌≡◌, ◌⊎◌, ◌||◌, Bool, Err, List, [], ◌∷◌, ◌++◌, Ok, Result, codes, false, if◌then◌else◌, ℕ}
+use Rattle.std.specs.Prelude.{◌≡◌, ◌⊎◌, ◌||◌, Err, List, [], ◌∷◌, ◌++◌, Ok, Result, codes, false, if◌then◌else◌, ℕ}
 
 -- A front that is built item by item. Private clauses alone cite it: what `front` answers is said by `front_of`.
 

@@ -2,7 +2,6 @@ use Rattle.drv_c99.specs.declared.option.Part.TheVariants.{BeforeEnd}
 use Rattle.drv_c99.proofs.Steps.{front_given, front_refused}
 use Rattle.drv_c99.proofs.translating.front.Goals as goal
 use Rattle.drv_c99.specs.Front.{items_of}
-use Rattle.std.specs.Prelude.{false}
 
 pub returns : goal.returns
 returns c = front_given _ (items_of BeforeEnd c.args.args.now) _ _ c.new-front.ensures c.in_ok-add_words.ensures c.finish.ensures

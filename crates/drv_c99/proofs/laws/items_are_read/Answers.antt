@@ -1,0 +1,8 @@
+use Rattle.drv_c99.proofs.ItemLaws.{offends_law, reads_law}
+use Rattle.drv_c99.proofs.laws.items_are_read.Goals as goal
+
+pub returns-clause-reads : goal.returns-clause-reads
+returns-clause-reads c = reads_law
+
+pub returns-clause-offends : goal.returns-clause-offends
+returns-clause-offends c = offends_law

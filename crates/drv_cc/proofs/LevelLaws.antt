@@ -1,0 +1,102 @@
+use Rattle.drv_cc.specs.LevelRules.{NoneNames, level_after}
+use Rattle.drv_cc.specs.Levels.{asks_for_records, debugged, debugged_by, level_named, no_debugging, raised_by, toggle_named, version_named}
+use Rattle.drv_cc.specs.declared.item.Item.{Item}
+use Rattle.drv_cc.specs.declared.levels.Debugging.{Debugging}
+use Rattle.std.proofs.Common.{◌≡◌, ◌∙◌, ◌||◌, ◌++◌, Bool, List, [], ◌∷◌, None, Option, Some, ap, false, nat_lt, refl, true, ℕ}
+use Rattle.std.specs.List.{list_any}
+use Rattle.std.specs.Option.{is_some, unwrap_or}
+
+-- What counts of the options of debugging is what the last of them says.
+
+append_debugged : (d : Debugging) (before after : List Item) → debugged d (before ++ after) ≡ debugged (debugged d before) after
+append_debugged d [] after = refl
+append_debugged d (i ∷ before) after = append_debugged (debugged_by d i.name) before after
+
+raised_twice : (first rest : Bool) (level : ℕ) → raised_by rest (raised_by first level) ≡ raised_by (first || rest) level
+raised_twice false rest level = refl
+raised_twice true rest level = by (nat_lt level 50) rest refl
+  where
+    by : (low rest : Bool) → nat_lt level 50 ≡ low → raised_by rest (raised_by true level) ≡ raised_by true level
+    by true true e = rw e refl
+    by true false e = rw e refl
+    by false true e = rw (e, e) refl
+    by false false e = rw e refl
+
+step_level : (d : Debugging) (name : List ℕ) (o : Option ℕ) → level_named name ≡ o
+    → (debugged_by d name).level ≡ unwrap_or o (raised_by (asks_for_records name) d.level)
+unfolding debugged_by
+step_level d name o e = ap (λ o. unwrap_or o (raised_by (asks_for_records name) d.level)) e
+
+step_version : (d : Debugging) (name : List ℕ) (o : Option ℕ) → version_named name ≡ o
+    → (debugged_by d name).version ≡ unwrap_or o d.version
+unfolding debugged_by
+step_version d name o e = ap (λ o. unwrap_or o d.version) e
+
+step_toggle : (d : Debugging) (name : List ℕ) (o : Option Bool) → toggle_named name ≡ o
+    → (debugged_by d name).toggled ≡ unwrap_or o d.toggled
+unfolding debugged_by
+step_toggle d name o e = ap (λ o. unwrap_or o d.toggled) e
+
+-- Options that name none.
+
+no_level : (d : Debugging) (items : List Item) → NoneNames level_named items → (debugged d items).level ≡ level_after items d.level
+no_level d [] e = refl
+no_level d (i ∷ items) e = by (level_named i.name) refl e (no_level (debugged_by d i.name) items)
+  where
+    by : (o : Option ℕ) → level_named i.name ≡ o → (is_some o || list_any (λ i. is_some (level_named i.name)) items) ≡ false
+        → (NoneNames level_named items → (debugged d (i ∷ items)).level ≡ level_after items (debugged_by d i.name).level)
+        → (debugged d (i ∷ items)).level ≡ level_after (i ∷ items) d.level
+    by (Some n) s none others = absurd cc
+    by None s none others =
+        others none ∙ ap (level_after items) (step_level d i.name None s)
+        ∙ raised_twice (asks_for_records i.name) (list_any (λ i. asks_for_records i.name) items) d.level
+
+no_version : (d : Debugging) (items : List Item) → NoneNames version_named items → (debugged d items).version ≡ d.version
+no_version d [] e = refl
+no_version d (i ∷ items) e = by (version_named i.name) refl e (no_version (debugged_by d i.name) items)
+  where
+    by : (o : Option ℕ) → version_named i.name ≡ o → (is_some o || list_any (λ i. is_some (version_named i.name)) items) ≡ false
+        → (NoneNames version_named items → (debugged d (i ∷ items)).version ≡ (debugged_by d i.name).version)
+        → (debugged d (i ∷ items)).version ≡ d.version
+    by (Some n) s none others = absurd cc
+    by None s none others = others none ∙ step_version d i.name None s
+
+no_toggle : (d : Debugging) (items : List Item) → NoneNames toggle_named items → (debugged d items).toggled ≡ d.toggled
+no_toggle d [] e = refl
+no_toggle d (i ∷ items) e = by (toggle_named i.name) refl e (no_toggle (debugged_by d i.name) items)
+  where
+    by : (o : Option Bool) → toggle_named i.name ≡ o → (is_some o || list_any (λ i. is_some (toggle_named i.name)) items) ≡ false
+        → (NoneNames toggle_named items → (debugged d (i ∷ items)).toggled ≡ (debugged_by d i.name).toggled)
+        → (debugged d (i ∷ items)).toggled ≡ d.toggled
+    by (Some n) s none others = absurd cc
+    by None s none others = others none ∙ step_toggle d i.name None s
+
+-- The last option that names one.
+
+pub last_level : (before after : List Item) (i : Item) (level : ℕ) → level_named i.name ≡ Some level → NoneNames level_named after
+    → (debugged no_debugging (before ++ i ∷ after)).level ≡ level_after after level
+last_level before after i level names none =
+    ap (λ d. d.level) (append_debugged no_debugging before (i ∷ after)) ∙ no_level (debugged_by (debugged no_debugging before) i.name) after none
+    ∙ ap (level_after after) (step_level (debugged no_debugging before) i.name (Some level) names)
+
+pub last_version : (before after : List Item) (i : Item) (version : ℕ) → version_named i.name ≡ Some version → NoneNames version_named after
+    → (debugged no_debugging (before ++ i ∷ after)).version ≡ version
+last_version before after i version names none =
+    ap (λ d. d.version) (append_debugged no_debugging before (i ∷ after)) ∙ no_version (debugged_by (debugged no_debugging before) i.name) after none
+    ∙ step_version (debugged no_debugging before) i.name (Some version) names
+
+pub last_toggle : (before after : List Item) (i : Item) (toggle : Bool) → toggle_named i.name ≡ Some toggle → NoneNames toggle_named after
+    → (debugged no_debugging (before ++ i ∷ after)).toggled ≡ toggle
+last_toggle before after i toggle names none =
+    ap (λ d. d.toggled) (append_debugged no_debugging before (i ∷ after)) ∙ no_toggle (debugged_by (debugged no_debugging before) i.name) after none
+    ∙ step_toggle (debugged no_debugging before) i.name (Some toggle) names
+
+pub first_level : (items : List Item) → NoneNames level_named items
+    → (debugged no_debugging items).level ≡ level_after items no_debugging.level
+first_level = no_level no_debugging
+
+pub first_version : (items : List Item) → NoneNames version_named items → (debugged no_debugging items).version ≡ no_debugging.version
+first_version = no_version no_debugging
+
+pub first_toggle : (items : List Item) → NoneNames toggle_named items → (debugged no_debugging items).toggled ≡ false
+first_toggle = no_toggle no_debugging
