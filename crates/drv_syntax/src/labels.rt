@@ -16,9 +16,9 @@ use std::marker::Model;
 #[derive(Clone, Copy)]
 pub struct LabelMark {
     /// Where it begins.
-    pub start: u32,
+    pub start: usize,
     /// Where it ends.
-    pub end: u32,
+    pub end: usize,
     /// A star stands after it.
     pub starred: bool,
     /// A `!` stands before it.
@@ -49,8 +49,8 @@ impl Model for Labels {
 }
 
 /// The marks of bytes that stand one after another from this place on.
-fn push_marks(start: u32, run: &[u8], marks: &mut Vec<LabelMark>)
-    requires place { start + length run.now < 2 ^ 32 }
+fn push_marks(start: usize, run: &[u8], marks: &mut Vec<LabelMark>)
+    requires place { start + length run.now < 2 ^ 64 }
     requires reserved { vec_len marks.old + length run.now ≤ vec_capacity marks.old }
     ensures { marks.new.items ≡ marks.old.items ++ byte_marks start run.now }
 {
@@ -114,13 +114,9 @@ impl Labels {
         let start = self.words.len();
         self.words.extend_from_slice(word)?;
         let end = self.words.len();
-        if end > u32::MAX as usize {
-            // No text comes here: it has at most 1,048,576 bytes, and each adds at most nine.
-            return Err(SyntaxFault::Memory);
-        }
         self.marks.push(LabelMark {
-            start: start as u32,
-            end: end as u32,
+            start,
+            end,
             starred,
             negated,
             asks,
@@ -139,12 +135,9 @@ impl Labels {
         self.words.push(mark)?;
         self.words.extend_from_slice(word)?;
         let end = self.words.len();
-        if end > u32::MAX as usize {
-            return Err(SyntaxFault::Memory);
-        }
         self.marks.push(LabelMark {
-            start: start as u32,
-            end: end as u32,
+            start,
+            end,
             starred,
             negated: false,
             asks: TestKind::Switch,
@@ -162,12 +155,9 @@ impl Labels {
         let start = self.words.len();
         self.words.push(b)?;
         let end = self.words.len();
-        if end > u32::MAX as usize {
-            return Err(SyntaxFault::Memory);
-        }
         self.marks.push(LabelMark {
-            start: start as u32,
-            end: end as u32,
+            start,
+            end,
             starred: false,
             negated: false,
             asks: TestKind::Switch,
@@ -187,10 +177,7 @@ impl Labels {
         let start = self.words.len();
         self.words.extend_from_slice(run)?;
         let end = self.words.len();
-        if end > u32::MAX as usize {
-            return Err(SyntaxFault::Memory);
-        }
-        push_marks(start as u32, run, &mut self.marks);
+        push_marks(start, run, &mut self.marks);
         Ok(())
     }
 
@@ -223,12 +210,9 @@ impl Labels {
         let start = self.words.len();
         self.words.extend_from_slice(word)?;
         let end = self.words.len();
-        if end > u32::MAX as usize {
-            return Err(SyntaxFault::Memory);
-        }
         self.marks.push_reserved(LabelMark {
-            start: start as u32,
-            end: end as u32,
+            start,
+            end,
             starred,
             negated: false,
             asks: TestKind::Switch,
@@ -251,12 +235,9 @@ impl Labels {
         let start = self.words.len();
         self.words.extend_from_slice(word)?;
         let end = self.words.len();
-        if end > u32::MAX as usize {
-            return Err(SyntaxFault::Memory);
-        }
         self.marks.push_reserved(LabelMark {
-            start: start as u32,
-            end: end as u32,
+            start,
+            end,
             starred: false,
             negated,
             asks: TestKind::Switch,

@@ -44,7 +44,7 @@ impl<'a> LentLabels<'a> {
     {
         let (words, marks) = (self.words, self.marks);
         let mark = marks[place];
-        &words[mark.start as usize..mark.end as usize]
+        &words[mark.start..mark.end]
     }
 
     /// Whether a star stands after its word.
