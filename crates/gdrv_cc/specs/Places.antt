@@ -7,7 +7,7 @@ use Rattle.drv_system.specs.declared.event.PathKind.{PathKind}
 use Rattle.drv_words.specs.Bytes.{slash}
 use Rattle.gdrv_cc.specs.Calling.{before_ending, folder}
 use Rattle.std.specs.List.{list_any, starts_with}
-use Rattle.std.specs.Prelude.{◌==◌, ◌||◌, Bool, List, ◌++◌, None, Option, Some, codes, if◌then◌else◌, nat_eq, ℕ}
+use Rattle.std.specs.Prelude.{◌==◌, ◌&&◌, ◌||◌, Bool, List, ◌++◌, None, Option, Some, codes, false, if◌then◌else◌, nat_eq, true, ℕ}
 
 -- Where the spec file stands, and the files beside it (this project's profile).
 
@@ -28,14 +28,22 @@ abbrev pub companion : List ℕ → List ℕ → List ℕ
 companion path ending = without_ending path (before_ending (codes ".specs") path) ++ ending
 
 -- Beside it stand its texts for a line without a link, and those for a line that has nothing but a link. Both are without what these
--- words ask for, and without what a spec file of the line may change.
+-- words and each -gz=.. ask for, and without what a spec file of the line may change; those of the link are without --sysroot=.. too.
 abbrev pub whole_words : List (List ℕ)
 whole_words =
     texts (codes "-march=native -mtune=native -save-temps -save-temps=cwd -save-temps=obj -gsplit-dwarf -traditional -traditional-cpp "
     ++ codes "-no-integrated-cpp -m32 -mx32 -m16")
 
 abbrev pub wants_whole : List ℕ → Bool
-wants_whole word = starts_with nat_eq word (codes "-specs=") || is_among whole_words word
+wants_whole word = starts_with nat_eq word (codes "-specs=") || starts_with nat_eq word (codes "-gz=") || is_among whole_words word
+
+abbrev pub is_rooted : List ℕ → Bool
+is_rooted word = starts_with nat_eq word (codes "--sysroot=")
+
+abbrev pub is_link : Stages → Bool
+is_link Link = true
+is_link Sources = false
+is_link All = false
 
 abbrev pub texts_by : List ℕ → Stages → List ℕ
 texts_by specs Sources = companion specs (codes ".compile")
@@ -43,7 +51,8 @@ texts_by specs Link = companion specs (codes ".link")
 texts_by specs All = specs
 
 abbrev pub texts_for : List ℕ → List (List ℕ) → Stages → List ℕ
-texts_for specs words stages = if list_any wants_whole words then specs else texts_by specs stages
+texts_for specs words stages =
+    if list_any wants_whole words || (is_link stages && list_any is_rooted words) then specs else texts_by specs stages
 
 -- where they are not there the whole file has them
 abbrev pub texts_or : List ℕ → List ℕ → PathKind → List ℕ

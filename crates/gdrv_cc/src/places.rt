@@ -1,7 +1,7 @@
 //! Where the spec file stands, and the files beside it.
 
-ghost use Rattle.gdrv_cc.specs.Places.{beside, companion, given, texts_by, texts_for, texts_or};
-ghost use Rattle.gdrv_cc.specs.Places.{wants_whole, whole_words};
+ghost use Rattle.gdrv_cc.specs.Places.{beside, companion, given, is_link, is_rooted, texts_by};
+ghost use Rattle.gdrv_cc.specs.Places.{texts_for, texts_or, wants_whole, whole_words};
 ghost use Rattle.drv_cc.specs.Items.{is_among};
 ghost use Rattle.std.specs.List.{list_any};
 ghost use Rattle.std.specs.Prelude.{◌≡◌, ◌++◌, IfOk, OnOk};
@@ -73,7 +73,9 @@ fn is_whole_word(word: &[u8]) -> bool
 fn wants_whole(word: &Word) -> bool
     ensures { result ≡ wants_whole word.now }
 {
-    word.as_bytes().starts_with(b"-specs=") || is_whole_word(word.as_bytes())
+    word.as_bytes().starts_with(b"-specs=")
+        || word.as_bytes().starts_with(b"-gz=")
+        || is_whole_word(word.as_bytes())
 }
 
 /// Whether some word asks for the whole spec file.
@@ -81,6 +83,27 @@ fn want_whole(words: &[Word]) -> bool
     ensures { result ≡ list_any wants_whole words.now }
 {
     words.iter().any(wants_whole)
+}
+
+/// Whether a word names a folder in place of the root.
+fn is_rooted(word: &Word) -> bool
+    ensures { result ≡ is_rooted word.now }
+{
+    word.as_bytes().starts_with(b"--sysroot=")
+}
+
+/// Whether some word names a folder in place of the root.
+fn are_rooted(words: &[Word]) -> bool
+    ensures { result ≡ list_any is_rooted words.now }
+{
+    words.iter().any(is_rooted)
+}
+
+/// Whether a line has nothing but a link.
+fn is_link(stages: Stages) -> bool
+    ensures { result ≡ is_link stages }
+{
+    matches!(stages, Stages::Link)
 }
 
 /// The file that has the texts for these stages.
@@ -104,7 +127,7 @@ pub fn texts_for(
 ) -> Result<Word, AllocError>
     ensures { IfOk result (λ path. path ≡ texts_for specs.now words.now stages) }
 {
-    if want_whole(words) {
+    if want_whole(words) || (is_link(stages) && are_rooted(words)) {
         return Word::from_bytes(alloc, specs);
     }
     texts_by(alloc, specs, stages)
