@@ -12,17 +12,22 @@ use drv_search::SearchFault;
 use drv_specs::SpecsFault;
 use drv_syntax::SyntaxFault;
 use std::alloc::AllocError;
+use thiserror::Error;
 
 /// Why a call is refused. It is never for want of memory.
-#[derive(Debug, Drop)]
+#[derive(Debug, Drop, Error)]
 pub enum Refusal {
     /// The arguments are refused.
+    #[error("{0}")]
     Args(ArgsFault),
     /// The words of `c99` are refused.
+    #[error("{0}")]
     C99(C99Fault),
     /// A spec file is refused.
+    #[error("{0}")]
     Specs(SpecsFault),
     /// The line has no plan.
+    #[error("{0}")]
     Plan(PlanFault),
 }
 

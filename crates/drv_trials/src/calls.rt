@@ -3,6 +3,9 @@
 //! ```text
 //! read | kind PATH..                     what the system answers: a file's bytes, what a path leads to
 //! variable NAME..                        the same: the value of a variable
+//! read-twice | kind-twice PATH..         the same through a table of answers, where each question is put twice
+//! variable-twice NAME..                  the same
+//! expand WORD..                          the words that these respond to, and each file that was asked for
 //! c99 WORD..                             the driver's words for a line of c99
 //! specs STEP..                           what steps give from the empty set of specs on; a step is NAME or NAME=ARGUMENT
 //! program | library | script NAME DIR..  a search, with these arguments of -B
@@ -14,6 +17,7 @@
 //! ```
 
 mod c99;
+mod expanding;
 mod functions;
 mod outside;
 mod reading_back;
@@ -27,8 +31,9 @@ use c99::try_front;
 use drv_funcs::Site;
 use drv_system::{HostSystem, System};
 use drv_words::Word;
+use expanding::try_expand;
 use functions::{try_called, try_versions};
-use outside::{Question, try_questions};
+use outside::{Question, try_questions, try_questions_twice};
 use reading_back::try_read_back;
 use searching::{Wanted, try_folders, try_search};
 use specs::try_steps;
@@ -39,6 +44,8 @@ use std::io;
 #[derive(Clone, Copy)]
 enum Call {
     Ask(Question),
+    AskTwice(Question),
+    Expand,
     Front,
     Specs,
     Search(Wanted),
@@ -49,10 +56,14 @@ enum Call {
 }
 
 /// The names of calls.
-const CALLS: [(&[u8], Call); 13] = [
+const CALLS: [(&[u8], Call); 17] = [
     (b"read", Call::Ask(Question::Read)),
     (b"kind", Call::Ask(Question::Kind)),
     (b"variable", Call::Ask(Question::Variable)),
+    (b"read-twice", Call::AskTwice(Question::Read)),
+    (b"kind-twice", Call::AskTwice(Question::Kind)),
+    (b"variable-twice", Call::AskTwice(Question::Variable)),
+    (b"expand", Call::Expand),
     (b"c99", Call::Front),
     (b"specs", Call::Specs),
     (b"program", Call::Search(Wanted::Program)),
@@ -124,6 +135,8 @@ fn make<S: System>(
 ) -> Result<(), AllocError> {
     match call {
         Call::Ask(question) => try_questions(sys, question, words, out),
+        Call::AskTwice(question) => try_questions_twice(alloc, sys, question, words, out),
+        Call::Expand => try_expand(alloc, sys, words, out),
         Call::Front => try_front(alloc, words, out),
         Call::Specs => try_steps(alloc, sys, words, out),
         Call::Search(wanted) => try_search(alloc, sys, wanted, words, out),
