@@ -159,3 +159,23 @@ pub(crate) fn work_of_args<S: System>(
     let line = read(alloc, &words)?;
     work_of_line(alloc, &line, seed, outside)
 }
+
+/// What a call with these arguments comes to, before anything is done: `drive` does it. It asks the
+/// system only where the table has no answer.
+///
+/// # Errors
+/// The first refusal: of the words, of a spec file, or of the plan.
+pub fn work_of_call<S: System>(
+    alloc: Global,
+    args: Listing<Word>,
+    seed: u32,
+    sys: &mut S,
+    facts: &mut FactTable,
+) -> Result<Work, Ending>
+    ensures asks { Asks (S.events sys.old) (S.events sys.new) facts.old facts.new }
+    ensures comes { (F : Facts) → Extends facts.new F → Comes F args seed result }
+    ensures apart { IfErr result (λ ending. IsApart ending) }
+    ensures window { IfOk result (λ work. HasWindow work) }
+{
+    work_of_args(alloc, args, seed, &mut Outside { sys, facts })
+}

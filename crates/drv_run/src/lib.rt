@@ -15,12 +15,13 @@ mod version;
 mod wording;
 mod work;
 
-pub use deciding::{load_specs, work_of};
+pub use deciding::{load_specs, work_of, work_of_call};
 pub use doing::do_work;
 pub use driving::drive;
 pub use ending::{Ending, Refusal};
 pub use executing::execute;
 pub use laws::{one_ending, refused_does_nothing, same_plan, shown_starts_nothing};
+pub use telling::status_of;
 pub use version::VERSION;
 pub use wording::{ending_text, fault_line, refusal_text};
 pub use work::{Manner, Work};

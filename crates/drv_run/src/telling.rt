@@ -11,8 +11,8 @@ use drv_system::{System, TellAnswer};
 use drv_words::{Plan, Word, render_plan};
 use std::alloc::{AllocError, Global};
 
-/// The exit status after a text was written.
-pub(crate) fn status_of(answer: TellAnswer) -> u8
+/// The exit status after a text was written: 1 where it could not be.
+pub fn status_of(answer: TellAnswer) -> u8
     ensures { result ≡ status_of answer }
 {
     match answer {

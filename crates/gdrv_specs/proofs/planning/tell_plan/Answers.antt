@@ -1,0 +1,9 @@
+use Rattle.gdrv_specs.proofs.Plans.{tells_after, tells_before}
+use Rattle.gdrv_specs.proofs.planning.tell_plan.Goals as goal
+
+pub returns-in-Ok : goal.returns-in-Ok
+returns-in-Ok g c =
+    tells_after c.args.form c.args.line c.args.seed c.in-Ok.work c.tell_work.result c.new.ensures c.work_of_call.ensures.asks c.in-Ok.ensures.comes c.tell_work.ensures
+
+pub returns : goal.returns
+returns g c = tells_before c.args.form c.args.line c.args.seed c.in-Err.ending c.new.ensures c.work_of_call.ensures.asks c.in-Err.ensures.comes

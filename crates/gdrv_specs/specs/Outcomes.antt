@@ -1,0 +1,31 @@
+use Rattle.drv_run.specs.Exits.{exit_status_of}
+use Rattle.drv_run.specs.Texts.{around, refusal_text}
+use Rattle.drv_run.specs.declared.ending.Ending.TheVariants.{Done, OutOfMemory, Refused}
+use Rattle.gdrv_specs.specs.declared.calling.CallFault.TheVariants.{NoCommand, UnknownCommand}
+use Rattle.gdrv_specs.specs.declared.calling.CallFault.{CallFault}
+use Rattle.gdrv_specs.specs.declared.outcome.Outcome.TheVariants.{Ended, Misused, NoPlan}
+use Rattle.gdrv_specs.specs.declared.outcome.Outcome.{Outcome}
+use Rattle.std.specs.Prelude.{List, [], ◌++◌, codes, ℕ}
+
+-- How a call of the program ends: its exit status, and what standard error is told (this project's profile).
+
+abbrev pub status_of : Outcome → ℕ
+status_of (Ended ending) = exit_status_of ending
+status_of NoPlan = 1
+status_of (Misused fault) = 1
+
+-- a line that tells of these words
+abbrev pub told_line : List ℕ → List ℕ
+told_line words = codes "gdrv-specs: " ++ words ++ codes "\n"
+
+abbrev pub misuse_text : CallFault → List ℕ
+misuse_text NoCommand = told_line (codes "no command; 'gdrv-specs --help' lists them")
+misuse_text (UnknownCommand word) = told_line (around (codes "unknown command '") word (codes "'; 'gdrv-specs --help' lists them"))
+
+-- a refusal is told in the driver's words
+abbrev pub text_of : Outcome → List ℕ
+text_of (Ended (Done status)) = []
+text_of (Ended (Refused refusal)) = told_line (refusal_text refusal)
+text_of (Ended OutOfMemory) = told_line (codes "out of memory")
+text_of NoPlan = told_line (codes "a line with '-dumpspecs' has no plan")
+text_of (Misused fault) = misuse_text fault

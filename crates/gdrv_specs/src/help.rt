@@ -1,0 +1,43 @@
+//! What the program says of itself: `gdrv-specs --help` and `gdrv-specs --version`.
+
+use drv_run::VERSION;
+use std::io::{self, Write};
+
+const HELP: &str = "\
+Usage: gdrv-specs plan [--json | --sh] LINE...
+gdrv-specs tells what a line of gdrv would do. It starts nothing and makes no
+file.
+
+  plan            print the commands of the line
+  plan --json     print its plan as JSON
+  plan --sh       print a shell script that does what the line does
+
+The words of LINE are those of gdrv, -specs=FILE among them. The manual page
+gdrv-specs(1) says more.
+";
+
+/// What a call asks of the program itself.
+#[derive(Clone, Copy, Debug)]
+pub enum Question {
+    /// How it is used.
+    Help,
+    /// Its version.
+    Version,
+}
+
+impl Question {
+    /// Writes the answer.
+    ///
+    /// # Errors
+    /// Why it could not be written.
+    pub fn answer<W: Write>(self, to: &mut W) -> io::Result<()> {
+        match self {
+            Question::Help => to.write_all(HELP.as_bytes()),
+            Question::Version => {
+                to.write_all(b"gdrv-specs ")?;
+                to.write_all(VERSION.as_bytes())?;
+                to.write_all(b"\n")
+            }
+        }
+    }
+}

@@ -1,0 +1,92 @@
+//! The tools for spec files: what a line of the driver would do, told before it does it.
+#![tactic(auto)]
+
+ghost use Rattle.gdrv_specs.specs.Outcomes.{status_of};
+ghost use Rattle.std.specs.Prelude.{◌≡◌};
+
+mod calling;
+mod forms;
+mod help;
+mod outcome;
+mod planning;
+
+use calling::{Call, call_of};
+use drv_run::Ending;
+use drv_system::{HostSystem, arguments, clock_seed, complain};
+use drv_words::{Listing, Word};
+use forms::Form;
+use help::Question;
+use outcome::Outcome;
+use planning::tell_plan;
+use std::alloc::AllocError;
+use std::io::{self, ErrorKind};
+use std::process::ExitCode;
+
+const OUT_OF_MEMORY: &[u8] = b"gdrv-specs: out of memory\n";
+
+const BAD_ARGUMENT: &[u8] = b"gdrv-specs: bad argument\n";
+
+/// Tells the user of an outcome, and gives its exit status.
+fn finish(rt: &HostRuntime, outcome: &Outcome) -> ExitCode
+    ensures { result.status ≡ status_of outcome.now }
+{
+    match outcome.text(rt.alloc()) {
+        Ok(text) => complain(rt, text.as_bytes()),
+        Err(_) => complain(rt, OUT_OF_MEMORY),
+    }
+    ExitCode::from(outcome.status())
+}
+
+/// Ends with status 1 for want of arguments, and says why.
+fn without_arguments(rt: &HostRuntime, error: &io::Error) -> ExitCode
+    ensures { result.status ≡ 1 }
+{
+    if error.kind() == ErrorKind::OutOfMemory {
+        complain(rt, OUT_OF_MEMORY);
+    } else {
+        complain(rt, BAD_ARGUMENT);
+    }
+    ExitCode::from(1)
+}
+
+/// Answers a question on standard output. The exit status is 1 where it couldn't be written.
+fn answer(rt: &HostRuntime, asked: Question) -> Outcome {
+    let stream = rt.stdout();
+    match asked.answer(&mut io::writer(&stream)) {
+        Ok(()) => Outcome::Ended(Ending::Done(0)),
+        Err(_) => Outcome::Ended(Ending::Done(1)),
+    }
+}
+
+/// Tells the plan of a line to this process's user.
+fn tell(rt: &HostRuntime, form: Form, line: Listing<Word>) -> Result<Outcome, AllocError> {
+    let seed = clock_seed(rt)?;
+    let mut sys = HostSystem::new(rt.clone()?);
+    Ok(tell_plan(rt.alloc(), &mut sys, form, line, seed))
+}
+
+/// Does what a call asks for.
+fn act(rt: &HostRuntime, call: Call) -> Outcome {
+    match call {
+        Call::Ask(asked) => answer(rt, asked),
+        Call::Plan { form, line } => match tell(rt, form, line) {
+            Ok(outcome) => outcome,
+            Err(_) => Outcome::Ended(Ending::OutOfMemory),
+        },
+    }
+}
+
+/// What the arguments of this process come to.
+fn whole(rt: &HostRuntime, args: Listing<Word>) -> Outcome {
+    match call_of(args) {
+        Ok(call) => act(rt, call),
+        Err(fault) => Outcome::Misused(fault),
+    }
+}
+
+fn main(rt: HostRuntime) -> ExitCode {
+    match arguments(&rt) {
+        Ok(args) => finish(&rt, &whole(&rt, args)),
+        Err(e) => without_arguments(&rt, &e),
+    }
+}

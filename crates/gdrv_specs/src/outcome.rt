@@ -1,0 +1,82 @@
+//! How a call of the program ends.
+
+ghost use Rattle.gdrv_specs.specs.Outcomes.{misuse_text, status_of, text_of, told_line};
+ghost use Rattle.drv_run.specs.Texts.{refusal_text};
+ghost use Rattle.std.specs.Prelude.{◌≡◌, IfOk};
+
+use crate::calling::CallFault;
+use drv_run::{Ending, Refusal, refusal_text};
+use drv_words::Word;
+use std::alloc::{AllocError, Global};
+
+/// How a call of the program ends.
+#[derive(Debug, Drop)]
+pub enum Outcome {
+    /// As a call of the driver ends.
+    Ended(Ending),
+    /// The line asks for the specs, so it has no plan.
+    NoPlan,
+    /// The call asks for nothing.
+    Misused(CallFault),
+}
+
+/// The name of the program, as it says it before what it tells.
+const NAME: &[u8] = b"gdrv-specs: ";
+
+/// A line that tells of these words.
+fn line_of(alloc: Global, words: &[u8]) -> Result<Word, AllocError>
+    ensures { IfOk result (λ line. line ≡ told_line words.now) }
+{
+    let mut line = Word::from_bytes(alloc, NAME)?;
+    line.extend_from_slice(words)?;
+    line.push(b'\n')?;
+    Ok(line)
+}
+
+/// What is told of a refused line: the words of the driver after the name of the program.
+fn refusal_line(alloc: Global, refusal: &Refusal) -> Result<Word, AllocError>
+    ensures { IfOk result (λ line. line ≡ told_line (refusal_text refusal.now)) }
+{
+    let words = refusal_text(alloc, refusal)?;
+    line_of(alloc, words.as_bytes())
+}
+
+/// What is told of a call that asks for nothing.
+fn misuse_line(alloc: Global, fault: &CallFault) -> Result<Word, AllocError>
+    ensures { IfOk result (λ line. line ≡ misuse_text fault.now) }
+{
+    match fault {
+        CallFault::NoCommand => line_of(alloc, b"no command; 'gdrv-specs --help' lists them"),
+        CallFault::UnknownCommand(word) => {
+            let mut words = Word::from_bytes(alloc, b"unknown command '")?;
+            words.extend_from_slice(word.as_bytes())?;
+            words.extend_from_slice(b"'; 'gdrv-specs --help' lists them")?;
+            line_of(alloc, words.as_bytes())
+        }
+    }
+}
+
+impl Outcome {
+    /// The exit status.
+    pub fn status(&self) -> u8
+        ensures { result ≡ status_of self.now }
+    {
+        match self {
+            Outcome::Ended(ending) => ending.exit_status(),
+            Outcome::NoPlan | Outcome::Misused(_) => 1,
+        }
+    }
+
+    /// What standard error is told: no byte where the call itself said all.
+    pub fn text(&self, alloc: Global) -> Result<Word, AllocError>
+        ensures { IfOk result (λ text. text ≡ text_of self.now) }
+    {
+        match self {
+            Outcome::Ended(Ending::Done(_)) => Ok(Word::empty(alloc)),
+            Outcome::Ended(Ending::Refused(refusal)) => refusal_line(alloc, refusal),
+            Outcome::Ended(Ending::OutOfMemory) => line_of(alloc, b"out of memory"),
+            Outcome::NoPlan => line_of(alloc, b"a line with '-dumpspecs' has no plan"),
+            Outcome::Misused(fault) => misuse_line(alloc, fault),
+        }
+    }
+}

@@ -1,0 +1,72 @@
+//! The plan of a line is told.
+
+ghost use Rattle.gdrv_specs.specs.Plans.{PutsText, TellsPlan, TellsWork, plan_in};
+ghost use Rattle.drv_run.specs.declared.work.Work.{Work};
+ghost use Rattle.gdrv_specs.specs.Forms.{form_text};
+ghost use Rattle.std.specs.Prelude.{◌≡◌, IfOk, OnErr, Some};
+
+use crate::forms::{Form, form_text};
+use crate::outcome::Outcome;
+use drv_run::{Ending, Work, status_of, work_of_call};
+use drv_system::{FactTable, System};
+use drv_words::{Listing, Plan, Word};
+use std::alloc::{AllocError, Global};
+
+/// Writes a plan in a form to standard output, and answers the exit status.
+fn put_plan<S: System>(
+    alloc: Global,
+    sys: &mut S,
+    form: Form,
+    plan: &Plan,
+) -> Result<u8, AllocError>
+    ensures puts { IfOk result
+        (λ status. PutsText (S.events sys.old) (S.events sys.new) (form_text form plan.now) status) }
+    ensures memory { OnErr result (S.events sys.new ≡ S.events sys.old) }
+{
+    let text = form_text(alloc, form, plan)?;
+    Ok(status_of(sys.put(&text)?))
+}
+
+/// Tells the plan of a work that has this one.
+#[tactic(auto, using(crate::proofs::Plans::tells_put, crate::proofs::Plans::tells_short))]
+fn tell_planned<S: System>(alloc: Global, sys: &mut S, form: Form, plan: &Plan) -> Outcome
+    ensures { (work : Work) → plan_in work ≡ Some plan.now
+        → TellsWork (S.events sys.old) (S.events sys.new) form work result }
+{
+    match put_plan(alloc, sys, form, plan) {
+        Ok(status) => Outcome::Ended(Ending::Done(status)),
+        Err(_) => Outcome::Ended(Ending::OutOfMemory),
+    }
+}
+
+/// Tells the plan of a work, which a dump of the specs has not.
+#[tactic(auto, using(crate::proofs::Plans::tells_dump))]
+fn tell_work<S: System>(alloc: Global, sys: &mut S, form: Form, work: &Work) -> Outcome
+    ensures { TellsWork (S.events sys.old) (S.events sys.new) form work.now result }
+{
+    match work {
+        Work::Dump(_) => Outcome::NoPlan,
+        Work::Show(plan) => tell_planned(alloc, sys, form, plan),
+        Work::CarryOut { plan, .. } => tell_planned(alloc, sys, form, plan),
+    }
+}
+
+/// Writes the plan of a line of the driver in a form to standard output (GCC manual, "Overall
+/// Options", `-###`). It asks what the plan needs, and does nothing else: it starts no program and
+/// makes, changes and removes no file. A line that is refused, and one with `-dumpspecs`, which has
+/// no plan, write nothing. The seed is for the names of temporaries.
+pub fn tell_plan<S: System>(
+    alloc: Global,
+    sys: &mut S,
+    form: Form,
+    line: Listing<Word>,
+    seed: u32,
+) -> Outcome
+    ensures { TellsPlan (S.events sys.old) (S.events sys.new) form line seed result }
+{
+    let facts = &mut FactTable::new(alloc);
+    match work_of_call(alloc, line, seed, sys, facts) {
+        Ok(work) => tell_work(alloc, sys, form, &work),
+        Err(ending) => Outcome::Ended(ending),
+    }
+}
