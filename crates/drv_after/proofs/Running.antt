@@ -1,0 +1,79 @@
+use Rattle.drv_after.specs.After.{AllAnswered, AllOfFirst}
+use Rattle.drv_after.specs.Answered.{answer_to, start_at, started}
+use Rattle.drv_after.specs.declared.answers.Given.{Given}
+use Rattle.drv_core.specs.Choices.{IsOfFirst}
+use Rattle.drv_words.specs.Stepping.{fits, fits_start, is_child, is_new}
+use Rattle.drv_words.specs.declared.answers.Answer.{Answer}
+use Rattle.drv_words.specs.declared.answers.Answer.TheVariants as answer
+use Rattle.drv_words.specs.declared.answers.NotStarted.{NotStarted}
+use Rattle.drv_words.specs.declared.plan.Plan.{Plan}
+use Rattle.drv_words.specs.declared.steps.RunEvent.{RunEvent}
+use Rattle.drv_words.specs.declared.steps.Step.{Step}
+use Rattle.drv_words.specs.declared.steps.Step.TheVariants as step
+use Rattle.std.proofs.Common.{◌≡◌, ◌∙◌, ◌<◌, ◌≤◌, ◌+◌, List, [], ◌∷◌, ◌++◌, None, Option, Some, append-nil, append_assoc, ap, arith, false, length, not, nat_eq, refl, subst, sym, true, ℕ}
+use Rattle.std.specs.List.{list_any}
+
+-- One more step of a run over answers that are given ahead.
+
+-- no child has this number, where each has the number of the events before it
+
+other_child : (n id : ℕ) (refused : Option NotStarted) → n < id → is_child id (answer.Start (started n refused)) ≡ false
+other_child n id None less = grind arith
+other_child n id (Some why) less = refl
+
+no_child : (given : List Given) (n id : ℕ) (s : Step) → n < id → is_child id (answer_to given n s) ≡ false
+no_child given n id (step.Claim p) less = refl
+no_child given n id (step.Start p from_pipe to_pipe) less = other_child n id (start_at given p) less
+no_child given n id step.ClosePipe less = refl
+no_child given n id (step.Wait p number) less = refl
+no_child given n id (step.Remove p) less = refl
+no_child given n id (step.Report note) less = refl
+
+none_so_far : (given : List Given) (n id : ℕ) (events : List RunEvent) → n + length events ≤ id → AllAnswered given n events
+    → list_any (λ (e : RunEvent). is_child id e.answer) events ≡ false
+none_so_far given n id [] most all = refl
+none_so_far given n id (e ∷ events) most all =
+    let here : is_child id e.answer ≡ false = ap (λ a. is_child id a) all.0 ∙ no_child given n id e.step (omega arith) in
+    let there : list_any (λ (e : RunEvent). is_child id e.answer) events ≡ false = none_so_far given (n + 1) id events (omega arith) all.1 in
+    grind
+
+new_number : (given : List Given) (events : List RunEvent) → AllAnswered given 0 events → is_new (length events) events ≡ true
+new_number given events all = ap (λ b. not b) (none_so_far given 0 (length events) events (omega arith) all)
+
+fits_started : (events : List RunEvent) (n : ℕ) (refused : Option NotStarted) → is_new n events ≡ true → fits_start events (started n refused) ≡ true
+fits_started events n None new = new
+fits_started events n (Some why) new = refl
+
+fits_so : (given : List Given) (events : List RunEvent) (n : ℕ) (s : Step) → is_new n events ≡ true → fits events s (answer_to given n s) ≡ true
+fits_so given events n (step.Claim p) new = refl
+fits_so given events n (step.Start p from_pipe to_pipe) new = fits_started events n (start_at given p) new
+fits_so given events n step.ClosePipe new = refl
+fits_so given events n (step.Wait p id) new = refl
+fits_so given events n (step.Remove p) new = refl
+fits_so given events n (step.Report note) new = refl
+
+pub answer_fits : (given : List Given) (events : List RunEvent) (n : ℕ) (s : Step) (a : Answer) → n ≡ length events → AllAnswered given 0 events
+    → a ≡ answer_to given n s → fits events s a ≡ true
+answer_fits given events n s a number all is =
+    ap (λ x. fits events s x) is ∙ fits_so given events n s (ap (λ k. is_new k events) number ∙ new_number given events all)
+
+-- one more event
+
+answered_from : (given : List Given) (n m : ℕ) (events : List RunEvent) (e : RunEvent) → m ≡ n + length events → AllAnswered given n events
+    → e.answer ≡ answer_to given m e.step → AllAnswered given n (events ++ e ∷ [])
+answered_from given n m [] e at all is = (is ∙ ap (λ k. answer_to given k e.step) (omega arith), tt)
+answered_from given n m (first ∷ events) e at all is = (all.0, answered_from given (n + 1) m events e (omega arith) all.1 is)
+
+pub answered_more : (given : List Given) (n : ℕ) (events : List RunEvent) (e : RunEvent) → n ≡ length events → AllAnswered given 0 events
+    → e.answer ≡ answer_to given n e.step → AllAnswered given 0 (events ++ e ∷ [])
+answered_more given n events e at all is = answered_from given 0 n events e (omega arith) all is
+
+first_from : (plan : Plan) (N : ℕ) (before events : List RunEvent) (e : RunEvent) → AllOfFirst plan N before events
+    → IsOfFirst plan N (before ++ events) (Some e.step) → AllOfFirst plan N before (events ++ e ∷ [])
+first_from plan N before [] e all is = (subst (λ es. IsOfFirst plan N es (Some e.step)) (append-nil before) is, tt)
+first_from plan N before (first ∷ events) e all is =
+    (all.0, first_from plan N (before ++ first ∷ []) events e all.1 (subst (λ es. IsOfFirst plan N es (Some e.step)) (sym (append_assoc before (first ∷ []) events)) is))
+
+pub first_more : (plan : Plan) (N : ℕ) (events : List RunEvent) (e : RunEvent) → AllOfFirst plan N [] events
+    → IsOfFirst plan N events (Some e.step) → AllOfFirst plan N [] (events ++ e ∷ [])
+first_more plan N events e all is = first_from plan N [] events e all is
