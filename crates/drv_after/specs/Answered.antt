@@ -14,7 +14,7 @@ use Rattle.drv_words.specs.declared.steps.Place.{Place}
 use Rattle.drv_words.specs.declared.steps.Place.TheVariants as place
 use Rattle.drv_words.specs.declared.steps.Step.{Step}
 use Rattle.drv_words.specs.declared.steps.Step.TheVariants as step
-use Rattle.std.specs.Prelude.{◌&&◌, Bool, List, [], ◌∷◌, None, Option, Some, false, if◌then◌else◌, nat_eq, true, ℕ}
+use Rattle.std.specs.Prelude.{◌&&◌, Bool, List, [], ◌∷◌, None, Option, Some, false, nat_eq, true, ℕ}
 
 -- What the steps of a run are answered, where some answers are given ahead: the first that is given for the step's place and is of the
 -- step's kind, or else that all is well (this project's profile).

@@ -4,7 +4,9 @@ ghost use Rattle.drv_after.specs.Answered.{answer_to, claim_at, is_same, removal
 ghost use Rattle.drv_after.specs.Answered.{wait_at};
 ghost use Rattle.std.specs.Prelude.{◌≡◌};
 
-use drv_words::{Answer, ClaimAnswer, NotStarted, Place, RemoveAnswer, StartAnswer, Step, WaitAnswer};
+use drv_words::{
+    Answer, ClaimAnswer, NotStarted, Place, RemoveAnswer, StartAnswer, Step, WaitAnswer,
+};
 
 /// An answer that a step at a place gets, if it is one of that step's kind.
 #[derive(Clone, Copy, Debug)]

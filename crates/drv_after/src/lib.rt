@@ -1,8 +1,8 @@
 //! What a plan's run leaves behind, over answers that are given ahead.
 #![tactic(auto)]
 
-mod after;
 mod answers;
+mod running;
 
-pub use after::after;
 pub use answers::Given;
+pub use running::after;

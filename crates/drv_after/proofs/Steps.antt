@@ -10,7 +10,7 @@ use Rattle.drv_words.specs.declared.plan.Plan.{Plan}
 use Rattle.drv_words.specs.declared.steps.RunEvent.{RunEvent}
 use Rattle.drv_words.specs.declared.steps.Step.{Step}
 use Rattle.drv_words.specs.declared.steps.Step.TheVariants as step
-use Rattle.std.proofs.Common.{◌≡◌, ◌∙◌, ◌<◌, ◌≤◌, ◌+◌, List, [], ◌∷◌, ◌++◌, None, Option, Some, append-nil, append_assoc, ap, arith, false, length, not, nat_eq, refl, subst, sym, true, ℕ}
+use Rattle.std.proofs.Common.{◌≡◌, ◌∙◌, ◌<◌, ◌≤◌, ◌+◌, ◌||◌, List, [], ◌∷◌, ◌++◌, None, Option, Some, append-nil, append_assoc, ap, arith, false, length, not, refl, subst, sym, true, ℕ}
 use Rattle.std.specs.List.{list_any}
 
 -- One more step of a run over answers that are given ahead.
@@ -35,7 +35,7 @@ none_so_far given n id [] most all = refl
 none_so_far given n id (e ∷ events) most all =
     let here : is_child id e.answer ≡ false = ap (λ a. is_child id a) all.0 ∙ no_child given n id e.step (omega arith) in
     let there : list_any (λ (e : RunEvent). is_child id e.answer) events ≡ false = none_so_far given (n + 1) id events (omega arith) all.1 in
-    grind
+    ap (λ b. b || list_any (λ (e : RunEvent). is_child id e.answer) events) here ∙ there
 
 new_number : (given : List Given) (events : List RunEvent) → AllAnswered given 0 events → is_new (length events) events ≡ true
 new_number given events all = ap (λ b. not b) (none_so_far given 0 (length events) events (omega arith) all)
@@ -77,3 +77,11 @@ first_from plan N before (first ∷ events) e all is =
 pub first_more : (plan : Plan) (N : ℕ) (events : List RunEvent) (e : RunEvent) → AllOfFirst plan N [] events
     → IsOfFirst plan N events (Some e.step) → AllOfFirst plan N [] (events ++ e ∷ [])
 first_more plan N events e all is = first_from plan N [] events e all is
+
+-- of the same plan, in the same window
+pub first_still : (plan plan' : Plan) (N N' : ℕ) (events events' : List RunEvent) (e : RunEvent) → plan' ≡ plan → N' ≡ N → events' ≡ events ++ e ∷ []
+    → AllOfFirst plan N [] events → IsOfFirst plan N events (Some e.step) → AllOfFirst plan' N' [] events'
+first_still plan plan' N N' events events' e same_plan same_window grew all is =
+    subst (λ p. AllOfFirst p N' [] events') (sym same_plan)
+    (subst (λ n. AllOfFirst plan n [] events') (sym same_window)
+    (subst (λ es. AllOfFirst plan N [] es) (sym grew) (first_more plan N events e all is)))

@@ -2,7 +2,7 @@
 
 ghost use Rattle.drv_after.specs.After.{After};
 ghost use Rattle.drv_core.specs.Run.{IfMake};
-ghost use Rattle.std.specs.Prelude.{◌≡◌, ◌≤◌, IfOk, ⊥};
+ghost use Rattle.std.specs.Prelude.{◌≡◌, ◌≤◌, IfOk};
 
 use crate::answers::{Given, answer_to};
 use drv_core::{Action, FailureStatus, Run};
@@ -31,13 +31,12 @@ pub fn after<'a>(
     ensures whole { IfOk result (λ run. IfMake run.action (λ step. ⊥)) }
 {
     let mut run = Run::new(alloc, plan, pass_codes, window)?;
-    let mut number = 0;
     loop {
         match run.next() {
             Action::Done(_) => return Ok(run),
             Action::Make(step) => {
+                let number = run.events().len() as u64;
                 run.answer(answer_to(given, number, step));
-                number += 1;
             }
         }
     }

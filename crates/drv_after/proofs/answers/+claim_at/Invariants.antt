@@ -1,0 +1,5 @@
+use Rattle.drv_after.proofs.answers.+claim_at.Given as goal
+use Rattle.std.proofs.Common.{length}
+
+abbrev pub decreases-claim_at : goal.decreases-claim_at
+decreases-claim_at l = length l.given.now

@@ -1,0 +1,5 @@
+use Rattle.drv_after.proofs.answers.+removal_at.Given as goal
+use Rattle.std.proofs.Common.{length}
+
+abbrev pub decreases-removal_at : goal.decreases-removal_at
+decreases-removal_at l = length l.given.now

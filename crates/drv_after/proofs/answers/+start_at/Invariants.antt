@@ -1,0 +1,5 @@
+use Rattle.drv_after.proofs.answers.+start_at.Given as goal
+use Rattle.std.proofs.Common.{length}
+
+abbrev pub decreases-start_at : goal.decreases-start_at
+decreases-start_at l = length l.given.now
