@@ -6,24 +6,21 @@ ghost use Rattle.gdrv_cc.specs.Endings.{status_of};
 ghost use Rattle.std.specs.Prelude.{◌≡◌};
 
 mod asking;
-mod calling;
-mod compilers;
 mod line;
 mod nearest;
 mod outcome;
-mod places;
 mod running;
 mod texts;
-mod written;
 
 use asking::{
-    argument_fault, find_specs, known_options, line_words, refuse_variable, surroundings,
+    argument_fault, damaged, line_words, own_specs, refuse_variable, without_compiler,
+    without_specs,
 };
-use calling::{Calling, calling_of};
 use drv_cc::{Answer, Surroundings};
-use drv_system::{HostSystem, called_as, complain};
+use drv_compile::{Calling, Decision, Reading, calling_of, decide};
+use drv_system::{FactTable, HostSystem, Outside, called_as, complain};
 use drv_words::Word;
-use line::{answer_of, refused};
+use line::refused;
 use outcome::Outcome;
 use running::{ask, run};
 use std::process::ExitCode;
@@ -47,41 +44,64 @@ fn act(
     calling: &Calling,
     specs: &Word,
     around: &Surroundings,
-    answer: Answer,
-    sys: &mut HostSystem,
+    reading: Reading,
+    outside: &mut Outside<'_, HostSystem>,
 ) -> Result<Outcome, Outcome> {
+    let Reading { known, answer } = reading;
     match answer {
         Answer::Ask => ask(rt, calling, specs, &around.compiler),
         Answer::Refuse(refusals) => {
-            let known = known_options(rt.alloc(), calling, specs, sys)?;
             Ok(refused(rt.alloc(), calling, &known, refusals.as_slice())?)
         }
         Answer::Run(line) => {
-            refuse_variable(rt.alloc(), calling, sys)?;
-            run(rt, calling, specs, line, sys)
+            refuse_variable(rt.alloc(), calling, outside)?;
+            run(rt, calling, specs, line, outside)
         }
     }
 }
 
-/// Has the front read a line, and does what that comes to.
-fn take(
+/// Does what is decided.
+fn carry_out(
     rt: &HostRuntime,
     calling: &Calling,
-    specs: &Word,
-    words: &[Word],
-    sys: &mut HostSystem,
+    decision: Decision,
+    outside: &mut Outside<'_, HostSystem>,
 ) -> Result<Outcome, Outcome> {
-    let around = surroundings(rt.alloc(), calling, specs, sys)?;
-    let answer = answer_of(rt.alloc(), calling, specs, &around, words, sys)?;
-    act(rt, calling, specs, &around, answer, sys)
+    let alloc = rt.alloc();
+    match decision {
+        Decision::NoSpecs(path) => Ok(Outcome::Told(without_specs(alloc, calling, path)?)),
+        Decision::NoCompiler(specs) => {
+            Ok(Outcome::Told(without_compiler(alloc, calling, &specs)?))
+        }
+        Decision::Damaged { specs, path } => Ok(Outcome::Told(damaged(
+            alloc,
+            calling,
+            specs.as_bytes(),
+            path.as_bytes(),
+        )?)),
+        Decision::Read {
+            specs,
+            around,
+            reading,
+        } => act(rt, calling, &specs, &around, reading, outside),
+    }
 }
 
-/// A call by a name: its line with response files expanded, and the spec file found.
+/// A call by a name. One table of facts answers all of its questions.
 fn call_as(rt: &HostRuntime, calling: &Calling) -> Result<Outcome, Outcome> {
-    let mut sys = HostSystem::new(rt.clone()?);
-    let words = line_words(rt, calling, &mut sys)?;
-    let specs = find_specs(rt, calling, &mut sys)?;
-    take(rt, calling, &specs, words.as_slice(), &mut sys)
+    let sys = &mut HostSystem::new(rt.clone()?);
+    let facts = &mut FactTable::new(rt.alloc());
+    let outside = &mut Outside { sys, facts };
+    let words = line_words(rt, calling, outside)?;
+    let own = own_specs(rt, calling.machine.as_bytes())?;
+    let decision = decide(
+        rt.alloc(),
+        &own,
+        words.as_slice(),
+        outside.sys,
+        outside.facts,
+    )?;
+    carry_out(rt, calling, decision, outside)
 }
 
 /// This process's call.

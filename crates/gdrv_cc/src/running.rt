@@ -2,14 +2,13 @@
 
 ghost use Rattle.std.specs.Prelude.{◌≡◌, ◌∷◌, ◌++◌, [], IfOk, codes};
 
-use crate::asking::{own_arguments, written_text};
-use crate::calling::Calling;
+use crate::asking::{damaged, own_arguments};
 use crate::outcome::{Outcome, answered};
-use crate::places::{texts_for, texts_or};
 use crate::texts::{add_absent, hint, overwritten, unwritten};
 use drv_cc::{Call, Stages, Variable};
+use drv_compile::{Calling, Texts, texts_of};
 use drv_run::{Ending, drive};
-use drv_system::{Event, HostSystem, PathKind, System, call, clock_seed, complain};
+use drv_system::{Event, HostSystem, Outside, PathKind, System, call, clock_seed, complain};
 use drv_words::{Answer, Command, Listing, NotStarted, RunEvent, StartAnswer, Word};
 use std::alloc::{AllocError, Global};
 use std::io::ErrorKind;
@@ -47,11 +46,11 @@ fn refuse_absent(
     alloc: Global,
     name: &[u8],
     inputs: &[Word],
-    sys: &mut HostSystem,
+    outside: &mut Outside<'_, HostSystem>,
 ) -> Result<(), Outcome> {
     let mut text = Word::empty(alloc);
     for input in inputs {
-        if sys.kind(input)? == PathKind::Missing {
+        if outside.facts.kind(outside.sys, input)? == PathKind::Missing {
             add_absent(&mut text, name, input.as_bytes())?;
         }
     }
@@ -165,13 +164,25 @@ fn words_for(
     specs: &Word,
     words: Listing<Word>,
     stages: Stages,
-    sys: &mut HostSystem,
+    outside: &mut Outside<'_, HostSystem>,
 ) -> Result<Listing<Word>, Outcome> {
-    let path = texts_for(alloc, specs.as_bytes(), words.as_slice(), stages)?;
-    let kind = sys.kind(&path)?;
-    let texts = Word::from_bytes(alloc, texts_or(specs.as_bytes(), path.as_bytes(), kind))?;
-    let _lines = written_text(alloc, calling, specs.as_bytes(), &texts, sys)?;
-    Ok(driver_words(alloc, texts.as_bytes(), words)?)
+    let (sys, facts) = (&mut *outside.sys, &mut *outside.facts);
+    match texts_of(
+        alloc,
+        specs.as_bytes(),
+        words.as_slice(),
+        stages,
+        sys,
+        facts,
+    )? {
+        Texts::Whole(path) => Ok(driver_words(alloc, path.as_bytes(), words)?),
+        Texts::Damaged(path) => Err(Outcome::Told(damaged(
+            alloc,
+            calling,
+            specs.as_bytes(),
+            path.as_bytes(),
+        )?)),
+    }
 }
 
 /// Carries out a line, where its inputs are there.
@@ -180,13 +191,13 @@ pub fn run(
     calling: &Calling,
     specs: &Word,
     line: Call,
-    sys: &mut HostSystem,
+    outside: &mut Outside<'_, HostSystem>,
 ) -> Result<Outcome, Outcome> {
     refuse_absent(
         rt.alloc(),
         calling.name.as_bytes(),
         line.inputs.as_slice(),
-        sys,
+        outside,
     )?;
     refuse_overwriting(rt, calling.name.as_bytes(), &line)?;
     let hint = hint(
@@ -196,7 +207,7 @@ pub fn run(
         calling.machine.as_bytes(),
         line.words.as_slice(),
     )?;
-    let words = words_for(rt.alloc(), calling, specs, line.words, line.stages, sys)?;
+    let words = words_for(rt.alloc(), calling, specs, line.words, line.stages, outside)?;
     let ending = drive_words(rt, words, line.children.as_slice(), &hint)?;
     Ok(Outcome::Ended(ending))
 }

@@ -1,0 +1,31 @@
+use Rattle.drv_compile.specs.Beside.{bytes_read, if_plain, named_file, or_named, plain_at, spec_file, written}
+use Rattle.drv_compile.specs.Written.{whole_lines}
+use Rattle.drv_search.specs.Search.{is_plain}
+use Rattle.drv_system.specs.Facts.{Facts, kind_of, read_of}
+use Rattle.drv_system.specs.Known.{Is}
+use Rattle.drv_system.specs.declared.event.PathKind.{PathKind}
+use Rattle.drv_system.specs.declared.event.ReadAnswer.{ReadAnswer}
+use Rattle.std.proofs.Common.{◌≡◌, Err, IfOk, List, None, Ok, Option, Result, Some, refl, true, ℕ}
+use Rattle.std.specs.Option.{option_and_then}
+
+-- Files that were read, and paths that were found.
+
+pub plain_asked : (F : Facts) (given : Option (List ℕ)) (path : List ℕ) (kind : PathKind) (found : Option (List ℕ))
+    → given ≡ Some path → kind_of F path ≡ Some kind → found ≡ if_plain path kind → plain_at F given ≡ Is found
+plain_asked F given path kind found some known is = rw (some, known, is) refl
+
+pub written_read : {E : Type 0} (F : Facts) (path : List ℕ) (kind : PathKind) (answer : ReadAnswer) (result : Result (Option (List ℕ)) E)
+    → is_plain kind ≡ true → kind_of F path ≡ Some kind → read_of F path ≡ Some answer
+    → IfOk result (λ lines. lines ≡ option_and_then whole_lines (bytes_read answer)) → IfOk result (λ lines. written F path ≡ Is lines)
+written_read F path kind answer (Ok lines) plain known read is = rw (known, plain, read, is) refl
+written_read F path kind answer (Err e) plain known read is = tt
+
+pub named_instead : {E : Type 0} (F : Facts) (given named : Option (List ℕ)) (result : Result (Option (List ℕ)) E)
+    → given ≡ None → named_file F ≡ Is named → IfOk result (λ path. plain_at F named ≡ Is path) → IfOk result (λ path. or_named F given ≡ Is path)
+named_instead F given named (Ok path) none known is = rw (none, known) is
+named_instead F given named (Err e) none known is = tt
+
+pub file_found_so : {E : Type 0} (F : Facts) (own found : Option (List ℕ)) (result : Result (Option (List ℕ)) E)
+    → plain_at F own ≡ Is found → IfOk result (λ path. or_named F found ≡ Is path) → IfOk result (λ path. spec_file F own ≡ Is path)
+file_found_so F own found (Ok path) known is = rw known is
+file_found_so F own found (Err e) known is = tt

@@ -1,0 +1,58 @@
+use Rattle.drv_compile.specs.Compilers.{values}
+use Rattle.drv_compile.specs.Places.{companion, given}
+use Rattle.drv_compile.specs.Written.{whole_lines}
+use Rattle.drv_search.specs.Search.{is_plain}
+use Rattle.drv_system.specs.Facts.{Facts, kind_of, read_of, variable_of}
+use Rattle.drv_system.specs.Known.{◌>>=◌, Is, Known, asked}
+use Rattle.drv_system.specs.declared.event.PathKind.{PathKind}
+use Rattle.drv_system.specs.declared.event.ReadAnswer.TheVariants.{Failed, Missing, Read, TooLarge}
+use Rattle.drv_system.specs.declared.event.ReadAnswer.{ReadAnswer}
+use Rattle.std.specs.Option.{option_and_then, option_map}
+use Rattle.std.specs.Prelude.{List, [], ◌∷◌, None, Option, Some, codes, if◌then◌else◌, ℕ}
+
+-- The spec file of a call and the files beside it, over facts (this project's profile).
+
+-- the bytes of a file that could be read
+abbrev pub bytes_read : ReadAnswer → Option (List ℕ)
+bytes_read (Read text) = Some text
+bytes_read Missing = None
+bytes_read Failed = None
+bytes_read TooLarge = None
+
+abbrev pub plain_text : Facts → List ℕ → Known (Option (List ℕ))
+plain_text F path = asked (kind_of F path) >>= λ kind. if is_plain kind then (asked (read_of F path) >>= λ answer. Is (bytes_read answer)) else Is None
+
+-- the lines before the mark of a file, where it is a plain one and whole
+abbrev pub written : Facts → List ℕ → Known (Option (List ℕ))
+written F path = plain_text F path >>= λ text. Is (option_and_then whole_lines text)
+
+abbrev pub written_beside : Facts → List ℕ → List ℕ → Known (Option (List ℕ))
+written_beside F specs ending = written F (companion specs ending)
+
+-- the names of the compiler's options
+abbrev pub known_names : Facts → List ℕ → Known (Option (List (List ℕ)))
+known_names F specs = written_beside F specs (codes ".options") >>= λ lines. Is (option_map (values []) lines)
+
+-- The spec file: the one beside the program, where that place is known and a plain file stands there, or else the one that the variable
+-- GDRV_CC_SPECS names, if it is a plain file.
+abbrev pub if_plain : List ℕ → PathKind → Option (List ℕ)
+if_plain path kind = if is_plain kind then Some path else None
+
+abbrev pub plain_at : Facts → Option (List ℕ) → Known (Option (List ℕ))
+plain_at F None = Is None
+plain_at F (Some path) = asked (kind_of F path) >>= λ kind. Is (if_plain path kind)
+
+abbrev pub given_by : Option (List ℕ) → Option (List ℕ)
+given_by None = None
+given_by (Some []) = None
+given_by (Some (b ∷ path)) = Some (given (b ∷ path))
+
+abbrev pub named_file : Facts → Known (Option (List ℕ))
+named_file F = asked (variable_of F (codes "GDRV_CC_SPECS")) >>= λ value. Is (given_by value)
+
+abbrev pub or_named : Facts → Option (List ℕ) → Known (Option (List ℕ))
+or_named F None = named_file F >>= λ path. plain_at F path
+or_named F (Some path) = Is (Some path)
+
+abbrev pub spec_file : Facts → Option (List ℕ) → Known (Option (List ℕ))
+spec_file F own = plain_at F own >>= λ path. or_named F path

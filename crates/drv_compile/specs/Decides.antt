@@ -1,0 +1,55 @@
+use Rattle.drv_cc.specs.declared.answer.Surroundings.{Surroundings}
+use Rattle.drv_compile.specs.Beside.{named_file, spec_file, written_beside}
+use Rattle.drv_compile.specs.Compilers.{values}
+use Rattle.drv_compile.specs.Places.{companion}
+use Rattle.drv_compile.specs.Reading.{line_read}
+use Rattle.drv_compile.specs.declared.deciding.Decision.TheVariants.{Damaged, NoCompiler, NoSpecs, Read}
+use Rattle.drv_compile.specs.declared.deciding.Decision.{Decision}
+use Rattle.drv_compile.specs.declared.reading.Reading.{Reading}
+use Rattle.drv_system.specs.Facts.{Facts, variable_of}
+use Rattle.drv_system.specs.Known.{◌>>=◌, Is, Known, asked}
+use Rattle.std.specs.Prelude.{List, [], ◌∷◌, None, Option, Some, codes, ℕ}
+
+-- What the words of a line come to over the spec file of the call and the files beside it (this project's profile). One set of facts
+-- answers all questions; which are asked follows from what was answered before.
+
+-- the place where a spec file was to stand
+abbrev pub or_own : Option (List ℕ) → Option (List ℕ) → Option (List ℕ)
+or_own own None = own
+or_own own (Some path) = Some path
+
+-- the line, over the compiler of the spec file
+abbrev pub of_reading : List ℕ → Surroundings → Option Reading → Decision
+of_reading specs around None = Damaged specs (companion specs (codes ".options"))
+of_reading specs around (Some reading) = Read specs around reading
+
+abbrev pub decided_around : Facts → List ℕ → List (List ℕ) → Surroundings → Known Decision
+decided_around F specs words around = line_read F specs around words >>= λ reading. Is (of_reading specs around reading)
+
+-- the compiler is the first one that the file names, and the folders are all that it names
+abbrev pub surroundings : List ℕ → List (List ℕ) → Option (List ℕ) → Option (List ℕ) → Surroundings
+surroundings compiler folders programs libraries =
+    record { compiler = compiler; folders = folders; compiler_path = programs; library_path = libraries }
+
+abbrev pub first_of : List (List ℕ) → Option (List ℕ)
+first_of [] = None
+first_of (compiler ∷ others) = Some compiler
+
+abbrev pub decided_by : Facts → List ℕ → List (List ℕ) → List ℕ → Option (List ℕ) → Known Decision
+decided_by F specs words text None = Is (NoCompiler specs)
+decided_by F specs words text (Some compiler) =
+    asked (variable_of F (codes "COMPILER_PATH")) >>= λ programs. asked (variable_of F (codes "LIBRARY_PATH")) >>= λ libraries.
+    decided_around F specs words (surroundings compiler (values (codes "folder ") text) programs libraries)
+
+abbrev pub decided_over : Facts → List ℕ → List (List ℕ) → Option (List ℕ) → Known Decision
+decided_over F specs words None = Is (Damaged specs (companion specs (codes ".gcc")))
+decided_over F specs words (Some text) = decided_by F specs words text (first_of (values (codes "compiler ") text))
+
+-- the spec file, or where it was to stand
+abbrev pub decided_with : Facts → Option (List ℕ) → List (List ℕ) → Option (List ℕ) → Known Decision
+decided_with F own words None = named_file F >>= λ named. Is (NoSpecs (or_own own named))
+decided_with F own words (Some specs) = written_beside F specs (codes ".gcc") >>= λ text. decided_over F specs words text
+
+-- The decision: `own` is where the spec file of this program lies, if that is known.
+abbrev pub decided : Facts → Option (List ℕ) → List (List ℕ) → Known Decision
+decided F own words = spec_file F own >>= λ specs. decided_with F own words specs

@@ -1,0 +1,62 @@
+use Rattle.drv_cc.specs.Items.{is_among}
+use Rattle.drv_cc.specs.Table.{texts}
+use Rattle.drv_cc.specs.declared.answer.Stages.TheVariants.{All, Link, Sources}
+use Rattle.drv_cc.specs.declared.answer.Stages.{Stages}
+use Rattle.drv_system.specs.declared.event.PathKind.TheVariants.{Dir, Missing, Other, Plain}
+use Rattle.drv_system.specs.declared.event.PathKind.{PathKind}
+use Rattle.drv_words.specs.Bytes.{slash}
+use Rattle.drv_compile.specs.Calling.{before_ending, folder}
+use Rattle.std.specs.List.{list_any, starts_with}
+use Rattle.std.specs.Prelude.{◌==◌, ◌&&◌, ◌||◌, Bool, List, ◌++◌, None, Option, Some, codes, false, if◌then◌else◌, nat_eq, true, ℕ}
+
+-- Where the spec file stands, and the files beside it (this project's profile).
+
+-- of the program that lies at a path
+abbrev pub beside : List ℕ → List ℕ → List ℕ
+beside program machine = folder program ++ codes "../share/gdrv/" ++ machine ++ codes ".specs"
+
+-- a path that the caller gives: one without a folder lies in the folder of the call
+abbrev pub given : List ℕ → List ℕ
+given path = if list_any (λ b. b == slash) path then path else codes "./" ++ path
+
+-- the file of another ending beside a spec file
+abbrev pub without_ending : List ℕ → Option (List ℕ) → List ℕ
+without_ending path None = path
+without_ending path (Some stem) = stem
+
+abbrev pub companion : List ℕ → List ℕ → List ℕ
+companion path ending = without_ending path (before_ending (codes ".specs") path) ++ ending
+
+-- Beside it stand its texts for a line without a link, and those for a line that has nothing but a link. Both are without what these
+-- words and each -gz=.. ask for, and without what a spec file of the line may change; those of the link are without --sysroot=.. too.
+abbrev pub whole_words : List (List ℕ)
+whole_words =
+    texts (codes "-march=native -mtune=native -save-temps -save-temps=cwd -save-temps=obj -gsplit-dwarf -traditional -traditional-cpp "
+    ++ codes "-no-integrated-cpp -m32 -mx32 -m16")
+
+abbrev pub wants_whole : List ℕ → Bool
+wants_whole word = starts_with nat_eq word (codes "-specs=") || starts_with nat_eq word (codes "-gz=") || is_among whole_words word
+
+abbrev pub is_rooted : List ℕ → Bool
+is_rooted word = starts_with nat_eq word (codes "--sysroot=")
+
+abbrev pub is_link : Stages → Bool
+is_link Link = true
+is_link Sources = false
+is_link All = false
+
+abbrev pub texts_by : List ℕ → Stages → List ℕ
+texts_by specs Sources = companion specs (codes ".compile")
+texts_by specs Link = companion specs (codes ".link")
+texts_by specs All = specs
+
+abbrev pub texts_for : List ℕ → List (List ℕ) → Stages → List ℕ
+texts_for specs words stages =
+    if list_any wants_whole words || (is_link stages && list_any is_rooted words) then specs else texts_by specs stages
+
+-- where they are not there the whole file has them
+abbrev pub texts_or : List ℕ → List ℕ → PathKind → List ℕ
+texts_or specs path Plain = path
+texts_or specs path Dir = specs
+texts_or specs path Other = specs
+texts_or specs path Missing = specs

@@ -1,0 +1,105 @@
+use Rattle.drv_cc.specs.Front.{front_of}
+use Rattle.drv_cc.specs.declared.answer.Answer.TheVariants.{Ask, Refuse, Run}
+use Rattle.drv_cc.specs.declared.answer.Answer.{Answer}
+use Rattle.drv_cc.specs.declared.answer.Surroundings.{Surroundings}
+use Rattle.drv_cc.specs.declared.refusal.Refusal.TheVariants.{NoArgument, NoInput, NotTaken, UnknownOption}
+use Rattle.drv_cc.specs.declared.refusal.Refusal.{Refusal}
+use Rattle.drv_compile.specs.Beside.{known_names}
+use Rattle.drv_compile.specs.Compilers.{names_in, value_in}
+use Rattle.drv_compile.specs.declared.reading.Reading.{Reading}
+use Rattle.drv_search.specs.Search.{file_found, prefixes_of}
+use Rattle.drv_search.specs.declared.prefixes.Prefixes.{Prefixes}
+use Rattle.drv_system.specs.Facts.{Facts, read_of}
+use Rattle.drv_system.specs.Known.{◌>>=◌, Is, Known, asked}
+use Rattle.drv_system.specs.declared.event.ReadAnswer.TheVariants.{Failed, Missing, Read, TooLarge}
+use Rattle.drv_system.specs.declared.event.ReadAnswer.{ReadAnswer}
+use Rattle.std.specs.Cmp.Lexicographic.{pointwise}
+use Rattle.std.specs.List.{flat_map, list_any}
+use Rattle.std.specs.Prelude.{Bool, List, [], ◌∷◌, ◌++◌, None, Option, Some, codes, false, if◌then◌else◌, nat_eq, true, ℕ}
+
+-- What a line comes to, over facts: by the names of the compiler's options, and by those that the spec files of the line have (GCC,
+-- "gcc.cc", validate_switches). Neither is asked for where no word of the line is unknown.
+
+-- a line that is refused for a word that is no option
+abbrev pub is_unknown : Refusal → Bool
+is_unknown (UnknownOption word) = true
+is_unknown (NoArgument option) = false
+is_unknown (NotTaken option) = false
+is_unknown NoInput = false
+
+abbrev pub has_unknown : Answer → Bool
+has_unknown Ask = false
+has_unknown (Refuse refusals) = list_any is_unknown refusals
+has_unknown (Run call) = false
+
+-- such words as switches: without their hyphen
+abbrev pub without_hyphen : List ℕ → List (List ℕ)
+without_hyphen [] = []
+without_hyphen (b ∷ switch) = switch ∷ []
+
+abbrev pub unknown_switch : Refusal → List (List ℕ)
+unknown_switch (UnknownOption word) = without_hyphen word
+unknown_switch (NoArgument option) = []
+unknown_switch (NotTaken option) = []
+unknown_switch NoInput = []
+
+abbrev pub unknown_switches : List Refusal → List (List ℕ)
+unknown_switches = flat_map unknown_switch
+
+-- the files of -specs= among words of the driver, and the arguments of -B
+abbrev pub specs_given : List (List ℕ) → List (List ℕ)
+specs_given = flat_map (value_in (codes "-specs="))
+
+abbrev pub folders_from : Bool → List (List ℕ) → List (List ℕ)
+folders_from is_folder [] = []
+folders_from true (word ∷ words) = word ∷ folders_from false words
+folders_from false (word ∷ words) = folders_from (pointwise nat_eq word (codes "-B")) words
+
+abbrev pub folders_given : List (List ℕ) → List (List ℕ)
+folders_given = folders_from false
+
+-- the names that stand in these files, each found along the prefixes of -B; none in one that can't be read
+abbrev pub names_read : ReadAnswer → List (List ℕ)
+names_read (Read text) = names_in text
+names_read Missing = []
+names_read Failed = []
+names_read TooLarge = []
+
+abbrev pub file_names : Facts → Prefixes → List ℕ → Known (List (List ℕ))
+file_names F prefixes name = file_found F prefixes name >>= λ path. asked (read_of F path) >>= λ answer. Is (names_read answer)
+
+abbrev pub files_names : Facts → Prefixes → List (List ℕ) → Known (List (List ℕ))
+files_names F prefixes [] = Is []
+files_names F prefixes (file ∷ files) = file_names F prefixes file >>= λ names. files_names F prefixes files >>= λ others. Is (names ++ others)
+
+abbrev pub words_names : Facts → List (List ℕ) → Known (List (List ℕ))
+words_names F words = prefixes_of F (folders_given words) >>= λ prefixes. files_names F prefixes (specs_given words)
+
+-- those of a line: its words are known once its unknown ones are taken for switches
+abbrev pub answer_names : Facts → Answer → Known (List (List ℕ))
+answer_names F Ask = Is []
+answer_names F (Refuse refusals) = Is []
+answer_names F (Run call) = words_names F call.words
+
+-- what a line comes to that is refused for these reasons by the names of options alone: its spec files are read
+abbrev pub refused_answer : Facts → List (List ℕ) → Surroundings → List (List ℕ) → List Refusal → Known Answer
+refused_answer F known around words refusals =
+    answer_names F (front_of known (unknown_switches refusals) around words) >>= λ named. Is (front_of known named around words)
+
+abbrev pub or_by_files : Facts → List (List ℕ) → Surroundings → List (List ℕ) → Answer → Known Answer
+or_by_files F known around words Ask = Is Ask
+or_by_files F known around words (Refuse refusals) = refused_answer F known around words refusals
+or_by_files F known around words (Run call) = Is (Run call)
+
+abbrev pub known_answer : Facts → List (List ℕ) → Surroundings → List (List ℕ) → Known Answer
+known_answer F known around words = or_by_files F known around words (front_of known [] around words)
+
+-- what a line comes to, with the names of options that this took; none where the file that has them is not whole
+abbrev pub read_by : Facts → Surroundings → List (List ℕ) → Option (List (List ℕ)) → Known (Option Reading)
+read_by F around words None = Is None
+read_by F around words (Some known) = known_answer F known around words >>= λ answer. Is (Some (record { known = known; answer = answer }))
+
+abbrev pub line_read : Facts → List ℕ → Surroundings → List (List ℕ) → Known (Option Reading)
+line_read F specs around words =
+    if has_unknown (front_of [] [] around words) then (known_names F specs >>= λ known. read_by F around words known)
+    else Is (Some (record { known = []; answer = front_of [] [] around words }))

@@ -1,0 +1,237 @@
+//! What the words of a line come to, over the spec file and the files beside it.
+
+ghost use Rattle.drv_compile.specs.Compilers.{values};
+ghost use Rattle.drv_compile.specs.Decides.{decided, decided_around, decided_by, decided_over};
+ghost use Rattle.drv_compile.specs.Decides.{decided_with, first_of, of_reading, or_own};
+ghost use Rattle.drv_search.specs.Code.Telling.{Tells};
+ghost use Rattle.drv_system.specs.Asking.{Asks, Extends};
+ghost use Rattle.drv_system.specs.Code.Asked.{Asked};
+ghost use Rattle.drv_system.specs.Facts.{Facts, variable_of};
+ghost use Rattle.drv_system.specs.Known.{Is, asked};
+ghost use Rattle.std.specs.Prelude.{◌≡◌, IfOk};
+
+use crate::compilers::values;
+use crate::finding::{named_file, spec_file, written_beside};
+use crate::places::companion;
+use crate::reading::{Reading, read_line};
+use drv_cc::Surroundings;
+use drv_system::{FactTable, Outside, System};
+use drv_words::{Listing, Word};
+use std::alloc::{AllocError, Global};
+
+/// What the words of a line come to.
+#[derive(Drop)]
+pub enum Decision {
+    /// There is no spec file: the path where it was to stand, if there is one.
+    NoSpecs(Option<Word>),
+    /// A file beside the spec file is missing or not whole.
+    Damaged {
+        /// The spec file.
+        specs: Word,
+        /// The file that is damaged.
+        path: Word,
+    },
+    /// No compiler is named beside this spec file.
+    NoCompiler(Word),
+    /// The line was read.
+    Read {
+        /// The spec file.
+        specs: Word,
+        /// The compiler of the spec file, and where it looks.
+        around: Surroundings,
+        /// What the line comes to.
+        reading: Reading,
+    },
+}
+
+/// The value of a variable, if it is set.
+fn variable<S: System>(
+    alloc: Global,
+    name: &[u8],
+    outside: &mut Outside<'_, S>,
+) -> Result<Option<Word>, AllocError>
+    ensures asks { Asked S.events outside.old outside.new }
+    ensures value { Tells outside.new result (λ F. asked (variable_of F name.now)) }
+{
+    let name = Word::from_bytes(alloc, name)?;
+    outside.facts.variable(outside.sys, &name)?;
+    match outside.facts.variable_answer(&name) {
+        Some(value) => Ok(Some(value.clone()?)),
+        None => Ok(None),
+    }
+}
+
+/// The decision by what a line was read as, if the files that this took are whole.
+fn of_reading(
+    alloc: Global,
+    specs: Word,
+    around: Surroundings,
+    reading: Option<Reading>,
+) -> Result<Decision, AllocError>
+    ensures { IfOk result (λ decision. decision ≡ of_reading specs around reading) }
+{
+    match reading {
+        Some(reading) => Ok(Decision::Read {
+            specs,
+            around,
+            reading,
+        }),
+        None => {
+            let path = companion(alloc, specs.as_bytes(), b".options")?;
+            Ok(Decision::Damaged { specs, path })
+        }
+    }
+}
+
+/// The decision over a compiler and where it looks.
+fn decided_around<S: System>(
+    alloc: Global,
+    specs: Word,
+    words: &[Word],
+    around: Surroundings,
+    outside: &mut Outside<'_, S>,
+) -> Result<Decision, AllocError>
+    ensures asks { Asked S.events outside.old outside.new }
+    ensures decision { Tells outside.new result (λ F. decided_around F specs words.now around) }
+{
+    let reading = read_line(alloc, specs.as_bytes(), &around, words, outside)?;
+    of_reading(alloc, specs, around, reading)
+}
+
+/// The first of compilers, if there is one.
+fn first_of(compilers: &[Word]) -> Result<Option<Word>, AllocError>
+    ensures { IfOk result (λ first. first ≡ first_of compilers.now) }
+{
+    match compilers {
+        [compiler, ..] => Ok(Some(compiler.clone()?)),
+        _ => Ok(None),
+    }
+}
+
+/// The decision by the compiler that a text names, if it names one.
+#[tactic(auto, using(drv_system::proofs::AskedCalls::asked_further))]
+fn decided_by<S: System>(
+    alloc: Global,
+    specs: Word,
+    words: &[Word],
+    text: &[u8],
+    compiler: Option<Word>,
+    outside: &mut Outside<'_, S>,
+) -> Result<Decision, AllocError>
+    ensures asks { Asked S.events outside.old outside.new }
+    ensures decision { Tells outside.new result
+        (λ F. decided_by F specs words.now text.now compiler) }
+{
+    let Some(compiler) = compiler else {
+        return Ok(Decision::NoCompiler(specs));
+    };
+    let folders = values(alloc, b"folder ", text)?;
+    let compiler_path = variable(alloc, b"COMPILER_PATH", outside)?;
+    let library_path = variable(alloc, b"LIBRARY_PATH", outside)?;
+    let around = Surroundings {
+        compiler,
+        folders,
+        compiler_path,
+        library_path,
+    };
+    decided_around(alloc, specs, words, around, outside)
+}
+
+/// The decision over a spec file with this text beside it, if that is whole.
+fn decided_over<S: System>(
+    alloc: Global,
+    specs: Word,
+    words: &[Word],
+    text: Option<Word>,
+    outside: &mut Outside<'_, S>,
+) -> Result<Decision, AllocError>
+    ensures asks { Asked S.events outside.old outside.new }
+    ensures decision { Tells outside.new result (λ F. decided_over F specs words.now text) }
+{
+    let Some(text) = text else {
+        let path = companion(alloc, specs.as_bytes(), b".gcc")?;
+        return Ok(Decision::Damaged { specs, path });
+    };
+    let compilers = values(alloc, b"compiler ", text.as_bytes())?;
+    let compiler = first_of(compilers.as_slice())?;
+    decided_by(alloc, specs, words, text.as_bytes(), compiler, outside)
+}
+
+/// The path of a variable, or else one's own.
+fn or_own(own: Option<Word>, named: Option<Word>) -> Option<Word>
+    ensures { result ≡ or_own own named }
+{
+    match named {
+        Some(path) => Some(path),
+        None => own,
+    }
+}
+
+/// The decision with a spec file, if there is one.
+#[tactic(auto, using(drv_system::proofs::AskedCalls::asked_further))]
+fn decided_with<S: System>(
+    alloc: Global,
+    own: Option<Word>,
+    words: &[Word],
+    found: Option<Word>,
+    outside: &mut Outside<'_, S>,
+) -> Result<Decision, AllocError>
+    ensures asks { Asked S.events outside.old outside.new }
+    ensures decision { Tells outside.new result (λ F. decided_with F own words.now found) }
+{
+    let Some(specs) = found else {
+        let named = named_file(alloc, outside)?;
+        return Ok(Decision::NoSpecs(or_own(own, named)));
+    };
+    let text = written_beside(alloc, specs.as_bytes(), b".gcc", outside)?;
+    decided_over(alloc, specs, words, text, outside)
+}
+
+/// A copy of a path, if there is one.
+fn copied(path: &Option<Word>) -> Result<Option<Word>, AllocError>
+    ensures { IfOk result (λ copy. copy ≡ path.now) }
+{
+    match path {
+        Some(path) => Ok(Some(path.clone()?)),
+        None => Ok(None),
+    }
+}
+
+/// The decision, asked of the outside.
+#[tactic(auto, using(drv_system::proofs::AskedCalls::asked_further))]
+fn decided<S: System>(
+    alloc: Global,
+    own: &Option<Word>,
+    words: &[Word],
+    outside: &mut Outside<'_, S>,
+) -> Result<Decision, AllocError>
+    ensures asks { Asked S.events outside.old outside.new }
+    ensures decision { Tells outside.new result (λ F. decided F own.now words.now) }
+{
+    let place = copied(own)?;
+    let found = spec_file(alloc, place, outside)?;
+    let place = copied(own)?;
+    decided_with(alloc, place, words, found, outside)
+}
+
+/// What the words of a line come to, response files expanded and those of c99 turned into gcc's,
+/// where the spec file of this program lies at `own`, if that is known: a refusal for want of a
+/// file, or what the front reads (GCC manual, "Invoking GCC"). It asks the system only where the
+/// table has no answer: for the spec file, the files beside it, two variables, and what the line's
+/// unknown words want.
+///
+/// # Errors
+/// An allocation was refused.
+pub fn decide<S: System>(
+    alloc: Global,
+    own: &Option<Word>,
+    words: &[Word],
+    sys: &mut S,
+    facts: &mut FactTable,
+) -> Result<Decision, AllocError>
+    ensures asks { Asks (S.events sys.old) (S.events sys.new) facts.old facts.new }
+    ensures decision { (F : Facts) → Extends facts.new F
+        → IfOk result (λ decision. decided F own.now words.now ≡ Is decision) }
+{
+    decided(alloc, own, words, &mut Outside { sys, facts })
+}

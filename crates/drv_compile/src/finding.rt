@@ -1,0 +1,160 @@
+//! The spec file of a call, and the files beside it.
+
+ghost use Rattle.drv_compile.specs.Beside.{bytes_read, given_by, if_plain, known_names, named_file};
+ghost use Rattle.drv_compile.specs.Beside.{or_named, plain_at, spec_file, written, written_beside};
+ghost use Rattle.drv_compile.specs.Written.{whole_lines};
+ghost use Rattle.drv_search.specs.Code.Telling.{Tells};
+ghost use Rattle.drv_search.specs.Search.{is_plain};
+ghost use Rattle.drv_system.specs.Code.Asked.{Asked};
+ghost use Rattle.std.specs.Option.{option_and_then, option_copied};
+ghost use Rattle.std.specs.Prelude.{◌≡◌, IfOk};
+
+use crate::compilers::values;
+use crate::places::{companion, given};
+use crate::written::whole_lines;
+use drv_system::{Outside, PathKind, ReadAnswer, System};
+use drv_words::{Listing, Word};
+use std::alloc::{AllocError, Global};
+
+/// Whether a path is that of a plain file.
+fn is_plain(kind: PathKind) -> bool
+    ensures { result ≡ is_plain kind }
+{
+    matches!(kind, PathKind::Plain)
+}
+
+/// The lines before the mark of a file that was read, where it is whole.
+fn lines_in(alloc: Global, answer: &ReadAnswer) -> Result<Option<Word>, AllocError>
+    ensures { IfOk result (λ lines. lines ≡ option_and_then whole_lines (bytes_read answer.now)) }
+{
+    let ReadAnswer::Read(text) = answer else {
+        return Ok(None);
+    };
+    match whole_lines(text.as_bytes()) {
+        Some(lines) => Ok(Some(Word::from_bytes(alloc, lines)?)),
+        None => Ok(None),
+    }
+}
+
+/// The lines before the mark of a file that `write_specs` wrote, where it is a plain file and whole.
+pub(crate) fn written<S: System>(
+    alloc: Global,
+    path: &Word,
+    outside: &mut Outside<'_, S>,
+) -> Result<Option<Word>, AllocError>
+    ensures asks { Asked S.events outside.old outside.new }
+    ensures lines { Tells outside.new result (λ F. written F path.now) }
+{
+    let kind = outside.facts.kind(outside.sys, path)?;
+    if is_plain(kind) {
+        outside.facts.read(outside.sys, path)?;
+        return lines_in(alloc, outside.facts.read_answer(path));
+    }
+    Ok(None)
+}
+
+/// The lines of the file of this ending beside a spec file, where it is whole.
+pub(crate) fn written_beside<S: System>(
+    alloc: Global,
+    specs: &[u8],
+    ending: &[u8],
+    outside: &mut Outside<'_, S>,
+) -> Result<Option<Word>, AllocError>
+    ensures asks { Asked S.events outside.old outside.new }
+    ensures lines { Tells outside.new result (λ F. written_beside F specs.now ending.now) }
+{
+    let path = companion(alloc, specs, ending)?;
+    written(alloc, &path, outside)
+}
+
+/// The names of the compiler's options, where the file that has them is whole.
+pub(crate) fn known_names<S: System>(
+    alloc: Global,
+    specs: &[u8],
+    outside: &mut Outside<'_, S>,
+) -> Result<Option<Listing<Word>>, AllocError>
+    ensures asks { Asked S.events outside.old outside.new }
+    ensures names { Tells outside.new result (λ F. known_names F specs.now) }
+{
+    match written_beside(alloc, specs, b".options", outside)? {
+        Some(lines) => Ok(Some(values(alloc, b"", lines.as_bytes())?)),
+        None => Ok(None),
+    }
+}
+
+/// The path, if it is that of a plain file.
+fn if_plain(path: Word, kind: PathKind) -> Option<Word>
+    ensures { result ≡ if_plain path kind }
+{
+    if is_plain(kind) { Some(path) } else { None }
+}
+
+/// The path, if a plain file stands there.
+fn plain_at<S: System>(
+    path: Option<Word>,
+    outside: &mut Outside<'_, S>,
+) -> Result<Option<Word>, AllocError>
+    ensures asks { Asked S.events outside.old outside.new }
+    ensures path { Tells outside.new result (λ F. plain_at F path) }
+{
+    let Some(path) = path else {
+        return Ok(None);
+    };
+    let kind = outside.facts.kind(outside.sys, &path)?;
+    Ok(if_plain(path, kind))
+}
+
+/// The path that a variable gives, if it is set and not empty.
+fn given_by(alloc: Global, value: Option<&Word>) -> Result<Option<Word>, AllocError>
+    ensures { IfOk result (λ path. path ≡ given_by (option_copied value.entry)) }
+{
+    match value {
+        Some(path) if !path.is_empty() => Ok(Some(given(alloc, path.as_bytes())?)),
+        _ => Ok(None),
+    }
+}
+
+/// The path of the spec file that a variable names, if it names one.
+pub(crate) fn named_file<S: System>(
+    alloc: Global,
+    outside: &mut Outside<'_, S>,
+) -> Result<Option<Word>, AllocError>
+    ensures asks { Asked S.events outside.old outside.new }
+    ensures path { Tells outside.new result (λ F. named_file F) }
+{
+    let name = Word::from_bytes(alloc, b"GDRV_CC_SPECS")?;
+    outside.facts.variable(outside.sys, &name)?;
+    given_by(alloc, outside.facts.variable_answer(&name))
+}
+
+/// A path that was found, or else that of the spec file that a variable names.
+#[tactic(auto, using(drv_system::proofs::AskedCalls::asked_further))]
+fn or_named<S: System>(
+    alloc: Global,
+    path: Option<Word>,
+    outside: &mut Outside<'_, S>,
+) -> Result<Option<Word>, AllocError>
+    ensures asks { Asked S.events outside.old outside.new }
+    ensures path { Tells outside.new result (λ F. or_named F path) }
+{
+    if let Some(path) = path {
+        return Ok(Some(path));
+    }
+    let named = named_file(alloc, outside)?;
+    plain_at(named, outside)
+}
+
+/// The path of the spec file: that of its own place, if a plain file stands there, or else of the
+/// one that a variable names.
+#[tactic(auto, using(drv_system::proofs::AskedCalls::asked_further))]
+pub(crate) fn spec_file<S: System>(
+    alloc: Global,
+    own: Option<Word>,
+    outside: &mut Outside<'_, S>,
+) -> Result<Option<Word>, AllocError>
+    ensures asks { Asked S.events outside.old outside.new }
+    ensures path { Tells outside.new result (λ F. spec_file F own) }
+{
+    let found = plain_at(own, outside)?;
+    or_named(alloc, found, outside)
+}

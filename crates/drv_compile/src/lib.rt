@@ -1,0 +1,18 @@
+//! What a call of `gdrv-cc` comes to: its name, its spec file and the files beside it, and what the
+//! words of its line ask for.
+#![tactic(auto)]
+
+mod calling;
+mod compilers;
+mod deciding;
+mod finding;
+mod parts;
+mod places;
+mod reading;
+mod written;
+
+pub use calling::{Calling, Front, calling_of};
+pub use deciding::{Decision, decide};
+pub use parts::{Texts, texts_of};
+pub use places::{beside, companion};
+pub use reading::Reading;

@@ -1,0 +1,86 @@
+//! The file that has the texts for a line.
+
+ghost use Rattle.drv_compile.specs.Parts.{texts_at, texts_by_lines, texts_of};
+ghost use Rattle.drv_search.specs.Code.Telling.{Tells};
+ghost use Rattle.drv_system.specs.Asking.{Asks, Extends};
+ghost use Rattle.drv_system.specs.Code.Asked.{Asked};
+ghost use Rattle.drv_system.specs.Facts.{Facts};
+ghost use Rattle.drv_system.specs.Known.{Is};
+ghost use Rattle.std.specs.Prelude.{◌≡◌, IfOk};
+
+use crate::finding::written;
+use crate::places::{texts_for, texts_or};
+use drv_cc::Stages;
+use drv_system::{FactTable, Outside, System};
+use drv_words::Word;
+use std::alloc::{AllocError, Global};
+
+/// The file that has the texts for a line.
+#[derive(Drop)]
+pub enum Texts {
+    /// It is whole.
+    Whole(Word),
+    /// It is missing or not whole.
+    Damaged(Word),
+}
+
+/// The file by its lines, if it is whole.
+fn texts_by_lines(path: Word, lines: &Option<Word>) -> Texts
+    ensures { result ≡ texts_by_lines path lines.now }
+{
+    match lines {
+        Some(_) => Texts::Whole(path),
+        None => Texts::Damaged(path),
+    }
+}
+
+/// The file at a path, by its lines.
+fn texts_at<S: System>(
+    alloc: Global,
+    path: Word,
+    outside: &mut Outside<'_, S>,
+) -> Result<Texts, AllocError>
+    ensures asks { Asked S.events outside.old outside.new }
+    ensures texts { Tells outside.new result (λ F. texts_at F path) }
+{
+    let lines = written(alloc, &path, outside)?;
+    Ok(texts_by_lines(path, &lines))
+}
+
+/// The file that has the texts for a line with these words and stages, asked of the outside.
+#[tactic(auto, using(drv_system::proofs::AskedCalls::asked_further))]
+fn texts_asked<S: System>(
+    alloc: Global,
+    specs: &[u8],
+    words: &[Word],
+    stages: Stages,
+    outside: &mut Outside<'_, S>,
+) -> Result<Texts, AllocError>
+    ensures asks { Asked S.events outside.old outside.new }
+    ensures texts { Tells outside.new result (λ F. texts_of F specs.now words.now stages) }
+{
+    let part = texts_for(alloc, specs, words, stages)?;
+    let kind = outside.facts.kind(outside.sys, &part)?;
+    let path = Word::from_bytes(alloc, texts_or(specs, part.as_bytes(), kind))?;
+    texts_at(alloc, path, outside)
+}
+
+/// The file that has the texts for a line with these words and stages: the spec file, or a part of
+/// it that stands beside it. It asks the system only where the table has no answer.
+///
+/// # Errors
+/// An allocation was refused.
+pub fn texts_of<S: System>(
+    alloc: Global,
+    specs: &[u8],
+    words: &[Word],
+    stages: Stages,
+    sys: &mut S,
+    facts: &mut FactTable,
+) -> Result<Texts, AllocError>
+    ensures asks { Asks (S.events sys.old) (S.events sys.new) facts.old facts.new }
+    ensures texts { (F : Facts) → Extends facts.new F
+        → IfOk result (λ texts. texts_of F specs.now words.now stages ≡ Is texts) }
+{
+    texts_asked(alloc, specs, words, stages, &mut Outside { sys, facts })
+}

@@ -1,0 +1,144 @@
+//! Where the spec file stands, and the files beside it.
+
+ghost use Rattle.drv_compile.specs.Places.{beside, companion, given, is_link, is_rooted, texts_by};
+ghost use Rattle.drv_compile.specs.Places.{texts_for, texts_or, wants_whole, whole_words};
+ghost use Rattle.drv_cc.specs.Items.{is_among};
+ghost use Rattle.std.specs.List.{list_any};
+ghost use Rattle.std.specs.Prelude.{◌≡◌, ◌++◌, IfOk, OnOk};
+
+use crate::calling::{before_ending, folder};
+use drv_cc::Stages;
+use drv_system::PathKind;
+use drv_words::Word;
+use std::alloc::{AllocError, Global};
+
+/// Two texts as one word.
+fn joined(alloc: Global, first: &[u8], second: &[u8]) -> Result<Word, AllocError>
+    ensures { IfOk result (λ word. word ≡ first.now ++ second.now) }
+{
+    let mut word = Word::from_bytes(alloc, first)?;
+    word.extend_from_slice(second)?;
+    Ok(word)
+}
+
+/// The spec file of a machine, as it stands beside the program that lies at this path.
+pub fn beside(alloc: Global, program: &[u8], machine: &[u8]) -> Result<Word, AllocError>
+    ensures { IfOk result (λ path. path ≡ beside program.now machine.now) }
+{
+    let mut path = joined(alloc, folder(program), b"../share/gdrv/")?;
+    path.extend_from_slice(machine)?;
+    path.extend_from_slice(b".specs")?;
+    Ok(path)
+}
+
+/// A path that the caller gives: without a folder it lies in the folder of the call.
+pub(crate) fn given(alloc: Global, path: &[u8]) -> Result<Word, AllocError>
+    ensures { IfOk result (λ word. word ≡ given path.now) }
+{
+    if path.contains(&b'/') {
+        return Word::from_bytes(alloc, path);
+    }
+    joined(alloc, b"./", path)
+}
+
+/// The file of another ending beside a spec file.
+pub fn companion(alloc: Global, path: &[u8], ending: &[u8]) -> Result<Word, AllocError>
+    ensures { IfOk result (λ word. word ≡ companion path.now ending.now) }
+{
+    match before_ending(b".specs", path) {
+        Some(stem) => joined(alloc, stem, ending),
+        None => joined(alloc, path, ending),
+    }
+}
+
+/// Whether a word asks for what the whole spec file alone has.
+fn is_whole_word(word: &[u8]) -> bool
+    ensures { result ≡ is_among whole_words word.now }
+{
+    word == b"-march=native".as_slice()
+        || word == b"-mtune=native".as_slice()
+        || word == b"-save-temps".as_slice()
+        || word == b"-save-temps=cwd".as_slice()
+        || word == b"-save-temps=obj".as_slice()
+        || word == b"-gsplit-dwarf".as_slice()
+        || word == b"-traditional".as_slice()
+        || word == b"-traditional-cpp".as_slice()
+        || word == b"-no-integrated-cpp".as_slice()
+        || word == b"-m32".as_slice()
+        || word == b"-mx32".as_slice()
+        || word == b"-m16".as_slice()
+}
+
+/// Whether a word asks for the whole spec file.
+fn wants_whole(word: &Word) -> bool
+    ensures { result ≡ wants_whole word.now }
+{
+    word.as_bytes().starts_with(b"-specs=")
+        || word.as_bytes().starts_with(b"-gz=")
+        || is_whole_word(word.as_bytes())
+}
+
+/// Whether some word asks for the whole spec file.
+fn want_whole(words: &[Word]) -> bool
+    ensures { result ≡ list_any wants_whole words.now }
+{
+    words.iter().any(wants_whole)
+}
+
+/// Whether a word names a folder in place of the root.
+fn is_rooted(word: &Word) -> bool
+    ensures { result ≡ is_rooted word.now }
+{
+    word.as_bytes().starts_with(b"--sysroot=")
+}
+
+/// Whether some word names a folder in place of the root.
+fn are_rooted(words: &[Word]) -> bool
+    ensures { result ≡ list_any is_rooted words.now }
+{
+    words.iter().any(is_rooted)
+}
+
+/// Whether a line has nothing but a link.
+fn is_link(stages: Stages) -> bool
+    ensures { result ≡ is_link stages }
+{
+    matches!(stages, Stages::Link)
+}
+
+/// The file that has the texts for these stages.
+fn texts_by(alloc: Global, specs: &[u8], stages: Stages) -> Result<Word, AllocError>
+    ensures { IfOk result (λ path. path ≡ texts_by specs.now stages) }
+{
+    match stages {
+        Stages::Sources => companion(alloc, specs, b".compile"),
+        Stages::Link => companion(alloc, specs, b".link"),
+        Stages::All => Word::from_bytes(alloc, specs),
+    }
+}
+
+/// The file that has the texts for a line with these words and stages: the spec file, or a part of
+/// it that stands beside it.
+pub(crate) fn texts_for(
+    alloc: Global,
+    specs: &[u8],
+    words: &[Word],
+    stages: Stages,
+) -> Result<Word, AllocError>
+    ensures { IfOk result (λ path. path ≡ texts_for specs.now words.now stages) }
+{
+    if want_whole(words) || (is_link(stages) && are_rooted(words)) {
+        return Word::from_bytes(alloc, specs);
+    }
+    texts_by(alloc, specs, stages)
+}
+
+/// The spec file, or the part of it at a path where there is one.
+pub(crate) fn texts_or<'a>(specs: &'a [u8], path: &'a [u8], kind: PathKind) -> &'a [u8]
+    ensures { result.now ≡ texts_or specs.now path.now kind }
+{
+    match kind {
+        PathKind::Plain => path,
+        PathKind::Dir | PathKind::Other | PathKind::Missing => specs,
+    }
+}

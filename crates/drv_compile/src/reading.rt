@@ -1,0 +1,276 @@
+//! What a line comes to.
+
+ghost use Rattle.drv_cc.specs.Front.{front_of};
+ghost use Rattle.drv_compile.specs.Compilers.{value_in};
+ghost use Rattle.drv_compile.specs.Reading.{answer_names, file_names, files_names, folders_given};
+ghost use Rattle.drv_compile.specs.Reading.{has_unknown, is_unknown, known_answer, line_read};
+ghost use Rattle.drv_compile.specs.Reading.{names_read, read_by, refused_answer, specs_given};
+ghost use Rattle.drv_compile.specs.Reading.{unknown_switch, unknown_switches, words_names};
+ghost use Rattle.drv_search.specs.Code.Telling.{Tells, TellsMore};
+ghost use Rattle.drv_system.specs.Code.Asked.{Asked};
+ghost use Rattle.std.specs.List.{list_any};
+ghost use Rattle.std.specs.Prelude.{◌≡◌, ◌++◌, [], IfOk, OnOk};
+
+use crate::compilers::{add_value, names_in};
+use crate::finding::known_names;
+use drv_cc::{Answer, Refusal, Surroundings, front};
+use drv_search::{Prefixes, find_file};
+use drv_system::{Outside, ReadAnswer, System};
+use drv_words::{Listing, Word};
+use std::alloc::{AllocError, Global};
+
+/// What a line comes to, with the names of options that this took.
+#[derive(Drop)]
+pub struct Reading {
+    /// The names of the compiler's options, where some word of the line is none that is known
+    /// without them; else none.
+    pub known: Listing<Word>,
+    /// What the line comes to.
+    pub answer: Answer,
+}
+
+/// Whether a refusal is of a word that is no option.
+fn is_unknown(refusal: &Refusal) -> bool
+    ensures { result ≡ is_unknown refusal.now }
+{
+    matches!(refusal, Refusal::UnknownOption(_))
+}
+
+/// Whether some refusal is of a word that is no option.
+fn are_unknown(refusals: &[Refusal]) -> bool
+    ensures { result ≡ list_any is_unknown refusals.now }
+{
+    refusals.iter().any(is_unknown)
+}
+
+/// Whether a line is refused for a word that is no option.
+fn has_unknown(answer: &Answer) -> bool
+    ensures { result ≡ has_unknown answer.now }
+{
+    match answer {
+        Answer::Refuse(refusals) => are_unknown(refusals.as_slice()),
+        Answer::Ask | Answer::Run(_) => false,
+    }
+}
+
+/// Adds the word of a refusal that is no option, as a switch: without its hyphen.
+fn add_unknown(
+    alloc: Global,
+    refusal: &Refusal,
+    switches: &mut Listing<Word>,
+) -> Result<(), AllocError>
+    ensures { OnOk result (switches.new ≡ switches.old ++ unknown_switch refusal.now) }
+{
+    if let Refusal::UnknownOption(word) = refusal
+        && let [_, switch @ ..] = word.as_bytes()
+    {
+        switches.push(Word::from_bytes(alloc, switch)?)?;
+    }
+    Ok(())
+}
+
+/// The words of refusals that are no options, as switches.
+fn unknown_switches(alloc: Global, refusals: &[Refusal]) -> Result<Listing<Word>, AllocError>
+    ensures { IfOk result (λ switches. switches ≡ unknown_switches refusals.now) }
+{
+    let mut switches = Listing::new(alloc);
+    for refusal in refusals {
+        add_unknown(alloc, refusal, &mut switches)?;
+    }
+    Ok(switches)
+}
+
+/// The files of `-specs=` among words of the driver.
+fn specs_given(alloc: Global, words: &[Word]) -> Result<Listing<Word>, AllocError>
+    ensures { IfOk result (λ files. files ≡ specs_given words.now) }
+{
+    let mut files = Listing::new(alloc);
+    for word in words {
+        add_value(alloc, b"-specs=", word.as_bytes(), &mut files)?;
+    }
+    Ok(files)
+}
+
+/// The arguments of `-B` among words of the driver, where each is a word of its own.
+fn folders_given(alloc: Global, words: &[Word]) -> Result<Listing<Word>, AllocError>
+    ensures { IfOk result (λ folders. folders ≡ folders_given words.now) }
+{
+    let mut folders = Listing::new(alloc);
+    let mut is_folder = false;
+    for word in words {
+        if is_folder {
+            folders.push(word.clone()?)?;
+            is_folder = false;
+        } else {
+            is_folder = word.as_bytes() == b"-B".as_slice();
+        }
+    }
+    Ok(folders)
+}
+
+/// Adds names.
+fn add_all(named: &mut Listing<Word>, names: &[Word]) -> Result<(), AllocError>
+    ensures { OnOk result (named.new ≡ named.old ++ names.now) }
+{
+    for name in names {
+        named.push(name.clone()?)?;
+    }
+    Ok(())
+}
+
+/// Adds the names that stand in a file that was read.
+fn add_names(
+    alloc: Global,
+    answer: &ReadAnswer,
+    named: &mut Listing<Word>,
+) -> Result<(), AllocError>
+    ensures { OnOk result (named.new ≡ named.old ++ names_read answer.now) }
+{
+    match answer {
+        ReadAnswer::Read(text) => add_all(named, names_in(alloc, text.as_bytes())?.as_slice()),
+        ReadAnswer::Missing | ReadAnswer::Failed | ReadAnswer::TooLarge => Ok(()),
+    }
+}
+
+/// Adds the names that stand in the spec file of this name, where it can be read.
+fn add_file_names<S: System>(
+    alloc: Global,
+    file: &Word,
+    prefixes: &Prefixes,
+    named: &mut Listing<Word>,
+    outside: &mut Outside<'_, S>,
+) -> Result<(), AllocError>
+    ensures asks { Asked S.events outside.old outside.new }
+    ensures names { TellsMore outside.new result (λ F. file_names F prefixes.now file.now)
+        named.old named.new }
+{
+    let path = find_file(alloc, prefixes, file, outside.sys, outside.facts)?;
+    outside.facts.read(outside.sys, &path)?;
+    add_names(alloc, outside.facts.read_answer(&path), named)
+}
+
+/// The names that stand in spec files.
+#[tactic(auto, using(drv_system::proofs::AskedCalls::asked_further))]
+fn files_names<S: System>(
+    alloc: Global,
+    files: &[Word],
+    prefixes: &Prefixes,
+    outside: &mut Outside<'_, S>,
+) -> Result<Listing<Word>, AllocError>
+    ensures asks { Asked S.events outside.old outside.new }
+    ensures names { Tells outside.new result (λ F. files_names F prefixes.now files.now) }
+{
+    let mut named = Listing::new(alloc);
+    for file in files {
+        add_file_names(alloc, file, prefixes, &mut named, outside)?;
+    }
+    Ok(named)
+}
+
+/// The names that stand in the spec files of words of the driver.
+fn words_names<S: System>(
+    alloc: Global,
+    words: &[Word],
+    outside: &mut Outside<'_, S>,
+) -> Result<Listing<Word>, AllocError>
+    ensures asks { Asked S.events outside.old outside.new }
+    ensures names { Tells outside.new result (λ F. words_names F words.now) }
+{
+    let folders = folders_given(alloc, words)?;
+    let files = specs_given(alloc, words)?;
+    let prefixes = Prefixes::new(alloc, folders.as_slice(), outside.sys, outside.facts)?;
+    files_names(alloc, files.as_slice(), &prefixes, outside)
+}
+
+/// The names that the spec files of a line have, which comes to this.
+fn answer_names<S: System>(
+    alloc: Global,
+    answer: &Answer,
+    outside: &mut Outside<'_, S>,
+) -> Result<Listing<Word>, AllocError>
+    ensures asks { Asked S.events outside.old outside.new }
+    ensures names { Tells outside.new result (λ F. answer_names F answer.now) }
+{
+    match answer {
+        Answer::Run(call) => words_names(alloc, call.words.as_slice(), outside),
+        Answer::Ask | Answer::Refuse(_) => Ok(Listing::new(alloc)),
+    }
+}
+
+/// What a line comes to that is refused where its spec files name nothing.
+fn refused_answer<S: System>(
+    alloc: Global,
+    known: &[Word],
+    around: &Surroundings,
+    words: &[Word],
+    refusals: &[Refusal],
+    outside: &mut Outside<'_, S>,
+) -> Result<Answer, AllocError>
+    ensures asks { Asked S.events outside.old outside.new }
+    ensures answer { Tells outside.new result
+        (λ F. refused_answer F known.now around.now words.now refusals.now) }
+{
+    let switches = unknown_switches(alloc, refusals)?;
+    let taken = front(alloc, known, switches.as_slice(), around, words)?;
+    let named = answer_names(alloc, &taken, outside)?;
+    front(alloc, known, named.as_slice(), around, words)
+}
+
+/// What a line comes to by these names of the compiler's options. The spec files of the line are
+/// read only where it is refused without them.
+fn known_answer<S: System>(
+    alloc: Global,
+    known: &[Word],
+    around: &Surroundings,
+    words: &[Word],
+    outside: &mut Outside<'_, S>,
+) -> Result<Answer, AllocError>
+    ensures asks { Asked S.events outside.old outside.new }
+    ensures answer { Tells outside.new result (λ F. known_answer F known.now around.now words.now) }
+{
+    let answer = front(alloc, known, &[], around, words)?;
+    let Answer::Refuse(refusals) = &answer else {
+        return Ok(answer);
+    };
+    refused_answer(alloc, known, around, words, refusals.as_slice(), outside)
+}
+
+/// What a line comes to, where these are the names of the compiler's options, if they are known.
+fn read_by<S: System>(
+    alloc: Global,
+    known: Option<Listing<Word>>,
+    around: &Surroundings,
+    words: &[Word],
+    outside: &mut Outside<'_, S>,
+) -> Result<Option<Reading>, AllocError>
+    ensures asks { Asked S.events outside.old outside.new }
+    ensures reading { Tells outside.new result (λ F. read_by F around.now words.now known) }
+{
+    let Some(known) = known else {
+        return Ok(None);
+    };
+    let answer = known_answer(alloc, known.as_slice(), around, words, outside)?;
+    Ok(Some(Reading { known, answer }))
+}
+
+/// What a line comes to, over the files beside a spec file; none where that of the compiler's
+/// options is not whole. It is read only where a word of the line wants it.
+#[tactic(auto, using(drv_system::proofs::AskedCalls::asked_further))]
+pub(crate) fn read_line<S: System>(
+    alloc: Global,
+    specs: &[u8],
+    around: &Surroundings,
+    words: &[Word],
+    outside: &mut Outside<'_, S>,
+) -> Result<Option<Reading>, AllocError>
+    ensures asks { Asked S.events outside.old outside.new }
+    ensures reading { Tells outside.new result (λ F. line_read F specs.now around.now words.now) }
+{
+    let answer = front(alloc, &[], &[], around, words)?;
+    if has_unknown(&answer) {
+        let known = known_names(alloc, specs, outside)?;
+        return read_by(alloc, known, around, words, outside);
+    }
+    let known = Listing::new(alloc);
+    Ok(Some(Reading { known, answer }))
+}

@@ -1,5 +1,0 @@
-use Rattle.std.proofs.Common.{◌≡◌, map}
-use Rattle.gdrv_cc.proofs.compilers.names_in.Given as goal
-
-abbrev pub invariant-loop-name : goal.invariant-loop-name
-invariant-loop-name l = l.names ≡ map (λ name. name.now) l.yielded
