@@ -1,7 +1,7 @@
 //! Response files.
 
 use crate::transcript::Transcript;
-use drv_args::{ArgsFault, expand};
+use drv_args::{ArgsFault, Expanded, expand};
 use drv_system::{Event, FactTable, System};
 use drv_words::{Listing, Word};
 use std::alloc::{AllocError, Global};
@@ -15,6 +15,29 @@ fn copied(alloc: Global, words: &[Word]) -> Result<Listing<Word>, AllocError> {
     Ok(copies)
 }
 
+/// The words, or that they are refused.
+fn add_expanded(
+    expanded: &Result<Expanded, ArgsFault>,
+    out: &mut Transcript,
+) -> Result<(), AllocError> {
+    match expanded {
+        Ok(expanded) => out.add_list(expanded.words.as_slice()),
+        Err(ArgsFault::Memory) => Err(AllocError),
+        Err(_) => out.add(b"refused"),
+    }
+}
+
+/// A line for each file that was asked for.
+fn add_reads(journal: &[Event], out: &mut Transcript) -> Result<(), AllocError> {
+    for event in journal {
+        if let Event::Read(path, _) = event {
+            out.add(b"\nread ")?;
+            out.add_quoted(path)?;
+        }
+    }
+    Ok(())
+}
+
 /// The words that these respond to; then a line for each file that was asked for.
 pub fn try_expand<S: System>(
     alloc: Global,
@@ -22,21 +45,8 @@ pub fn try_expand<S: System>(
     words: &[Word],
     out: &mut Transcript,
 ) -> Result<(), AllocError> {
-    match expand(
-        alloc,
-        copied(alloc, words)?,
-        sys,
-        &mut FactTable::new(alloc),
-    ) {
-        Ok(expanded) => out.add_list(expanded.words.as_slice())?,
-        Err(ArgsFault::Memory) => return Err(AllocError),
-        Err(_) => out.add(b"refused")?,
-    }
-    for event in sys.journal() {
-        if let Event::Read(path, _) = event {
-            out.add(b"\nread ")?;
-            out.add_quoted(path)?;
-        }
-    }
-    Ok(())
+    let mut facts = FactTable::new(alloc);
+    let words = copied(alloc, words)?;
+    add_expanded(&expand(alloc, words, sys, &mut facts), out)?;
+    add_reads(sys.journal(), out)
 }
