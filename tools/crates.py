@@ -229,7 +229,8 @@ class Stamps:
             summed = hashlib.sha256(f"{self.kit}\n{self.crates.lines[name]}\n{os.environ.get('RT_ALLOW_C', '')}\n".encode())
             for below in sorted(self.crates.uses[name]):
                 summed.update(f"{below} {self.texts(below)}\n".encode())
-            for path in [f"{self.crates.root}/HANDLES", *(path for part in TEXTS for path in files_in(f"{self.crates.folder(name)}/{part}"))]:
+            texts = (path for part in TEXTS for path in files_in(f"{self.crates.folder(name)}/{part}") if not path.endswith("/README"))
+            for path in [f"{self.crates.root}/HANDLES", *texts]:
                 with open(path, "rb") as file:
                     summed.update(f"{os.path.relpath(path, self.crates.root)} {hashlib.sha256(file.read()).hexdigest()}\n".encode())
             self.sums[name] = summed.hexdigest()
