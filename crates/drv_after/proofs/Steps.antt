@@ -10,7 +10,8 @@ use Rattle.drv_words.specs.declared.plan.Plan.{Plan}
 use Rattle.drv_words.specs.declared.steps.RunEvent.{RunEvent}
 use Rattle.drv_words.specs.declared.steps.Step.{Step}
 use Rattle.drv_words.specs.declared.steps.Step.TheVariants as step
-use Rattle.std.proofs.Common.{◌≡◌, ◌∙◌, ◌<◌, ◌≤◌, ◌+◌, ◌||◌, List, [], ◌∷◌, ◌++◌, None, Option, Some, append-nil, append_assoc, ap, arith, false, length, not, refl, subst, sym, true, ℕ}
+use Rattle.std.proofs.Common.{◌≡◌, ◌∙◌, ◌<◌, ◌≤◌, ◌+◌, ◌||◌, List, [], ◌∷◌, ◌++◌, None, Option, Some, append-nil, append_assoc}
+use Rattle.std.proofs.Common.{ap, arith, false, length, not, refl, subst, sym, true, ℕ}
 use Rattle.std.specs.List.{list_any}
 
 -- One more step of a run over answers that are given ahead.
@@ -34,17 +35,20 @@ none_so_far : (given : List Given) (n id : ℕ) (events : List RunEvent) → n +
 none_so_far given n id [] most all = refl
 none_so_far given n id (e ∷ events) most all =
     let here : is_child id e.answer ≡ false = ap (λ a. is_child id a) all.0 ∙ no_child given n id e.step (omega arith) in
-    let there : list_any (λ (e : RunEvent). is_child id e.answer) events ≡ false = none_so_far given (n + 1) id events (omega arith) all.1 in
+    let there : list_any (λ (e : RunEvent). is_child id e.answer) events ≡ false = none_so_far given (n + 1) id events (omega arith) all.1
+    in
     ap (λ b. b || list_any (λ (e : RunEvent). is_child id e.answer) events) here ∙ there
 
 new_number : (given : List Given) (events : List RunEvent) → AllAnswered given 0 events → is_new (length events) events ≡ true
 new_number given events all = ap (λ b. not b) (none_so_far given 0 (length events) events (omega arith) all)
 
-fits_started : (events : List RunEvent) (n : ℕ) (refused : Option NotStarted) → is_new n events ≡ true → fits_start events (started n refused) ≡ true
+fits_started : (events : List RunEvent) (n : ℕ) (refused : Option NotStarted) → is_new n events ≡ true
+    → fits_start events (started n refused) ≡ true
 fits_started events n None new = new
 fits_started events n (Some why) new = refl
 
-fits_so : (given : List Given) (events : List RunEvent) (n : ℕ) (s : Step) → is_new n events ≡ true → fits events s (answer_to given n s) ≡ true
+fits_so : (given : List Given) (events : List RunEvent) (n : ℕ) (s : Step) → is_new n events ≡ true
+    → fits events s (answer_to given n s) ≡ true
 fits_so given events n (step.Claim p) new = refl
 fits_so given events n (step.Start p from_pipe to_pipe) new = fits_started events n (start_at given p) new
 fits_so given events n step.ClosePipe new = refl
@@ -52,7 +56,8 @@ fits_so given events n (step.Wait p id) new = refl
 fits_so given events n (step.Remove p) new = refl
 fits_so given events n (step.Report note) new = refl
 
-pub answer_fits : (given : List Given) (events : List RunEvent) (n : ℕ) (s : Step) (a : Answer) → n ≡ length events → AllAnswered given 0 events
+pub answer_fits : (given : List Given) (events : List RunEvent) (n : ℕ) (s : Step) (a : Answer) → n ≡ length events
+    → AllAnswered given 0 events
     → a ≡ answer_to given n s → fits events s a ≡ true
 answer_fits given events n s a number all is =
     ap (λ x. fits events s x) is ∙ fits_so given events n s (ap (λ k. is_new k events) number ∙ new_number given events all)
@@ -71,15 +76,19 @@ answered_more given n events e at all is = answered_from given 0 n events e (ome
 first_from : (plan : Plan) (N : ℕ) (before events : List RunEvent) (e : RunEvent) → AllOfFirst plan N before events
     → IsOfFirst plan N (before ++ events) (Some e.step) → AllOfFirst plan N before (events ++ e ∷ [])
 first_from plan N before [] e all is = (subst (λ es. IsOfFirst plan N es (Some e.step)) (append-nil before) is, tt)
-first_from plan N before (first ∷ events) e all is =
-    (all.0, first_from plan N (before ++ first ∷ []) events e all.1 (subst (λ es. IsOfFirst plan N es (Some e.step)) (sym (append_assoc before (first ∷ []) events)) is))
+first_from plan N before (first ∷ events) e all is = (
+  all.0,
+  first_from plan N (before ++ first ∷ []) events e all.1
+      (subst (λ es. IsOfFirst plan N es (Some e.step)) (sym (append_assoc before (first ∷ []) events)) is),
+)
 
 pub first_more : (plan : Plan) (N : ℕ) (events : List RunEvent) (e : RunEvent) → AllOfFirst plan N [] events
     → IsOfFirst plan N events (Some e.step) → AllOfFirst plan N [] (events ++ e ∷ [])
 first_more plan N events e all is = first_from plan N [] events e all is
 
 -- of the same plan, in the same window
-pub first_still : (plan plan' : Plan) (N N' : ℕ) (events events' : List RunEvent) (e : RunEvent) → plan' ≡ plan → N' ≡ N → events' ≡ events ++ e ∷ []
+pub first_still : (plan plan' : Plan) (N N' : ℕ) (events events' : List RunEvent) (e : RunEvent) → plan' ≡ plan → N' ≡ N
+    → events' ≡ events ++ e ∷ []
     → AllOfFirst plan N [] events → IsOfFirst plan N events (Some e.step) → AllOfFirst plan' N' [] events'
 first_still plan plan' N N' events events' e same_plan same_window grew all is =
     subst (λ p. AllOfFirst p N' [] events') (sym same_plan)
