@@ -1,6 +1,7 @@
-use Rattle.drv_args.specs.Fronts.{Alone, Bad, Fits, Item, Offends, Reads, Start, Wants, alone, and_items, at_last, at_word, bad_jobs, front, item, items_of, lacks_argument, later, no_front, start_of, with_next}
+use Rattle.drv_args.specs.Fronts.{Alone, Bad, Fits, Offends, Reads, Start, Wants, alone, and_items, at_last, at_word, bad_jobs, front, item, items_of, lacks_argument, later, no_front, start_of, with_next}
 use Rattle.drv_args.specs.declared.fault.ArgsFault.TheVariants.{BadJobs}
 use Rattle.drv_args.specs.declared.fault.ArgsFault.{ArgsFault}
+use Rattle.drv_args.specs.declared.items.Item.{Item}
 use Rattle.drv_args.specs.declared.option_table.Effect.{Effect}
 use Rattle.std.proofs.Common.{◌≡◌, ◌↔◌, Err, List, [], ◌∷◌, ◌++◌, Ok, Result, refl, subst, ap, ◌∙◌, ℕ}
 

@@ -1,8 +1,9 @@
-use Rattle.drv_args.specs.Fronts.{Item, items_of}
+use Rattle.drv_args.specs.Fronts.{items_of}
 use Rattle.drv_args.specs.Jobs.{in_range, jobs_named, number_of}
-use Rattle.drv_args.specs.Lines.{jobs_after, judged, judged_line, last_jobs, line_fault, line_of, line_of_items, line_read}
+use Rattle.drv_args.specs.Lines.{jobs_after, judged, judged_line, last_jobs, line_fault, line_judged, line_of, line_of_items, line_read}
 use Rattle.drv_args.specs.declared.fault.ArgsFault.TheVariants.{Memory, TooManyArguments}
 use Rattle.drv_args.specs.declared.fault.ArgsFault.{ArgsFault}
+use Rattle.drv_args.specs.declared.items.Item.{Item}
 use Rattle.drv_args.specs.declared.line.Expanded.{Expanded}
 use Rattle.drv_args.specs.declared.line.Line.{Line}
 use Rattle.drv_args.specs.declared.option_table.Effect.TheVariants as effect
@@ -65,6 +66,13 @@ last_few jobs (i ∷ items) few = last_few (jobs_after i.effect i.argument jobs)
 judged_few : (whole line : Line) (found : Option ArgsFault) → Few whole.settings.jobs → judged whole found ≡ Ok line → Few line.settings.jobs
 judged_few whole line (Some fault) few is = absurd cc
 judged_few whole line None few is = let same : whole ≡ line = cc in subst (λ (l : Line). Few l.settings.jobs) same few
+
+pub judged_jobs_are_few : (from_file : Bool) (items : List Item) (result : Result Line ArgsFault) → Gives Memory (λ line. line) result (line_judged from_file items)
+    → IfOk result (λ line. (1 ≤ line.settings.jobs) × (line.settings.jobs ≤ 64))
+judged_jobs_are_few from_file items (Ok line) is =
+    let some : 1 ≤ 1 = omega arith in let most : 1 ≤ 64 = omega arith in
+    judged_few (line_of from_file items) line (line_fault (line_of from_file items)) (last_few 1 items (some, most)) is
+judged_jobs_are_few from_file items (Err fault) is = tt
 
 items_few : (from_file : Bool) (items : Result (List Item) ArgsFault) (line : Line) → judged_line (line_of_items from_file items) ≡ Ok line → Few line.settings.jobs
 items_few from_file (Err fault) line is = absurd cc

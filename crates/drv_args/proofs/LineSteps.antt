@@ -1,16 +1,17 @@
 use Rattle.drv_args.proofs.FrontLaws.{alone_first, with_next_first}
 use Rattle.drv_args.specs.Code.Building.{begun, line_with, noted, with_items, with_pieces}
-use Rattle.drv_args.specs.Fronts.{Alone, Item, Wants, and_items, item, items_of, start_of}
+use Rattle.drv_args.specs.Fronts.{Alone, Wants, and_items, item, items_of, start_of}
 use Rattle.drv_args.specs.Lines.{line_of_items, prefix_of, spec_of, switch_of}
 use Rattle.drv_args.specs.declared.building.LineBuilder.{LineBuilder}
 use Rattle.drv_args.specs.declared.fault.ArgsFault.{ArgsFault}
+use Rattle.drv_args.specs.declared.items.Item.{Item}
 use Rattle.drv_args.specs.declared.line.Line.{Line}
 use Rattle.drv_args.specs.declared.option_table.Effect.{Effect}
 use Rattle.drv_args.specs.declared.option_table.Tool.TheVariants.{Assembler, Linker, Preprocessor}
 use Rattle.drv_args.specs.declared.option_table.Tool.{Tool}
-use Rattle.std.proofs.Common.{◌≡◌, ◌<◌, ◌≤◌, ◌-◌, Bool, List, arith, drop, get_or, length, take, [], ◌∷◌, ◌++◌, Err, Ok, Result, ap, append_assoc, refl, sym, ◌∙◌, ℕ}
+use Rattle.std.proofs.Common.{◌≡◌, ◌<◌, ◌≤◌, ◌+◌, ◌-◌, Bool, List, arith, drop, get_or, length, take, [], ◌∷◌, ◌++◌, Err, Ok, Result, ap, append_assoc, refl, sym, ◌∙◌, ℕ}
 use Rattle.std.proofs.Math.Bool.{or_assoc, or-false}
-use Rattle.std.proofs.lemmas.List.{take_all}
+use Rattle.std.proofs.lemmas.List.{at_drop_more, take_all}
 use Rattle.std.proofs.lemmas.List.{append-nil, map-append}
 use Rattle.std.proofs.lemmas.List.Elements.{filter_map-append}
 
@@ -39,6 +40,19 @@ note_items b i items =
     let prefixes = filter_map-append (λ i. prefix_of i.effect i.argument) (i ∷ []) items in
     simp (append_assoc, or_assoc, append-nil) (cc)
 
+-- the next item of a list
+pub next_item : (b b' : LineBuilder) (items : List Item) (index : ℕ) (i : Item) (option argument : List ℕ) (whole : Line)
+    → index < length items → i ≡ get_or items index i → option ≡ i.option → argument ≡ i.argument → b' ≡ noted b (item i.effect option argument)
+    → with_items b (drop index items) ≡ whole → with_items b' (drop (index + 1) items) ≡ whole
+next_item b b' items index i option argument whole below at option_is argument_is noted_is so_far =
+    let rest = drop (index + 1) items in
+    let same : item i.effect option argument ≡ i = ap (λ o. item i.effect o argument) option_is ∙ ap (λ a. item i.effect i.option a) argument_is in
+    ap (λ c. with_items c rest) noted_is
+    ∙ ap (λ j. with_items (noted b j) rest) (same ∙ at)
+    ∙ note_items b (get_or items index i) rest
+    ∙ sym (at_drop_more (with_items b) items index i below)
+    ∙ so_far
+
 pub note_line : (b : LineBuilder) (i : Item) (rest : Result (List Item) ArgsFault) → line_with (noted b i) rest ≡ line_with b (and_items i rest)
 note_line b i (Ok items) = ap Ok (note_items b i items)
 note_line b i (Err fault) = refl
@@ -49,7 +63,7 @@ first_line from_file (Ok items) = refl
 first_line from_file (Err fault) = refl
 
 -- no item more
-no_items : (b : LineBuilder) → with_items b [] ≡ b.line
+pub no_items : (b : LineBuilder) → with_items b [] ≡ b.line
 no_items b = simp (append-nil, or-false)
 
 pub last_line : (left : List (List ℕ)) (b : LineBuilder) (whole : Result Line ArgsFault) → length left < 1 → line_with b (items_of left) ≡ whole → whole ≡ Ok b.line

@@ -1,4 +1,5 @@
-use Rattle.drv_args.specs.Lines.{line_read}
+use Rattle.drv_args.specs.Fronts.{item}
+use Rattle.drv_args.specs.Lines.{line_judged, line_read}
 use Rattle.drv_args.specs.Options.{option_table}
 use Rattle.drv_args.specs.declared.fault.ArgsFault.TheVariants.{BadJobs, MissingArgument, NoInputs, OutputIsInput, OutputWithMany, StdinNeedsLanguage}
 use Rattle.drv_args.specs.declared.fault.ArgsFault.{ArgsFault}
@@ -6,6 +7,7 @@ use Rattle.drv_args.specs.declared.line.Input.TheVariants.{File, Library, LinkWo
 use Rattle.drv_args.specs.declared.line.Line.{Line}
 use Rattle.drv_args.specs.declared.line.Settings.{Settings}
 use Rattle.drv_args.specs.declared.line.Switch.{Switch}
+use Rattle.drv_args.specs.declared.option_table.Effect.TheVariants as effect
 use Rattle.drv_words.specs.Bytes.{space}
 use Rattle.std.proofs.Common.{◌≡◌, ◌==◌, List, [], ◌∷◌, codes, drop, false, map, refl, true, ℕ}
 use Rattle.std.specs.List.{slice_split}
@@ -295,3 +297,18 @@ takes_next = refl
 lacks_next : map (λ option. read_words (codes "a.c" ∷ option ∷ [])) separate ≡ map (λ option. Err (MissingArgument option)) separate
 unfolding option_table
 lacks_next = refl
+
+-- lines of items, which words may not give: an empty argument, and a name that begins as an option does
+given_1 : line_judged false (item effect.File (codes "a.c") [] ∷ item effect.Library (codes "-l") [] ∷ item effect.JoinedSwitch (codes "-L") [] ∷ [])
+    ≡ Ok (record empty { switches = alone (codes "L") ∷ []; inputs = File (codes "a.c") None ∷ Library (codes "-l") ∷ [] })
+given_1 = refl
+
+given_2 : line_judged true (item effect.Switch (codes "--gdrv-dep=x.d") [] ∷ item effect.Output (codes "-o") (codes "x") ∷ item effect.File (codes "a.o") [] ∷ [])
+    ≡ Ok (record empty { switches = alone (codes "-gdrv-dep=x.d") ∷ takes (codes "o") (codes "x") ∷ []; inputs = File (codes "a.o") None ∷ []; settings = record off { from_file = true; output = Some (codes "x") } })
+given_2 = refl
+
+given_3 : line_judged false (item effect.Output (codes "-o") (codes "a.c") ∷ item effect.File (codes "a.c") [] ∷ []) ≡ Err (OutputIsInput (codes "a.c"))
+given_3 = refl
+
+given_4 : line_judged false [] ≡ Err NoInputs
+given_4 = refl

@@ -2,6 +2,7 @@ use Rattle.drv_args.specs.Jobs.{jobs_named}
 use Rattle.drv_args.specs.Options.{OptionRow, first_row}
 use Rattle.drv_args.specs.declared.fault.ArgsFault.TheVariants.{BadJobs, MissingArgument}
 use Rattle.drv_args.specs.declared.fault.ArgsFault.{ArgsFault}
+use Rattle.drv_args.specs.declared.items.Item.{Item}
 use Rattle.drv_args.specs.declared.option_table.Effect.TheVariants as effect
 use Rattle.drv_args.specs.declared.option_table.Effect.{Effect}
 use Rattle.drv_args.specs.declared.option_table.Form.TheVariants.{Either, Exact, Joined, Separate}
@@ -12,11 +13,6 @@ use Rattle.std.specs.Prelude.{◌≡◌, ◌==◌, Bool, Err, List, [], ◌∷�
 -- A line of words is read front by front (GCC manual, "Overall Options"; this project's profile).
 
 -- what a front gives: what its option does, the option, and its argument
-pub record Item : Type 0 where
-  pub effect : Effect
-  pub option : List ℕ
-  pub argument : List ℕ
-
 abbrev pub item : Effect → List ℕ → List ℕ → Item
 item effect option argument = record { effect = effect; option = option; argument = argument }
 

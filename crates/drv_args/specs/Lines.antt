@@ -1,8 +1,9 @@
 use Rattle.drv_words.specs.Bytes.{comma}
-use Rattle.drv_args.specs.Fronts.{Item, items_of}
+use Rattle.drv_args.specs.Fronts.{items_of}
 use Rattle.drv_args.specs.Jobs.{jobs_named}
 use Rattle.drv_args.specs.declared.fault.ArgsFault.TheVariants.{NoInputs, OutputIsInput, OutputWithMany, StdinNeedsLanguage, TooManyArguments}
 use Rattle.drv_args.specs.declared.fault.ArgsFault.{ArgsFault}
+use Rattle.drv_args.specs.declared.items.Item.{Item}
 use Rattle.drv_args.specs.declared.line.Expanded.{Expanded}
 use Rattle.drv_args.specs.declared.line.Input.TheVariants as input
 use Rattle.drv_args.specs.declared.line.Input.{Input}
@@ -192,6 +193,10 @@ line_fault line = if line.settings.dump then None else inputs_fault line
 abbrev pub judged : Line → Option ArgsFault → Result Line ArgsFault
 judged line None = Ok line
 judged line (Some fault) = Err fault
+
+-- what items come to
+abbrev pub line_judged : Bool → List Item → Result Line ArgsFault
+line_judged from_file items = judged (line_of from_file items) (line_fault (line_of from_file items))
 
 abbrev pub judged_line : Result Line ArgsFault → Result Line ArgsFault
 judged_line (Ok line) = judged line (line_fault line)

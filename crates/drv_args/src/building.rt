@@ -10,7 +10,7 @@ ghost use Rattle.std.specs.Prelude.{◌≡◌, ◌∷◌, ◌++◌, [], IfOk, No
 
 use crate::jobs::jobs_named;
 use crate::option_table::{Effect, Setting, Tool};
-use crate::{Expanded, Input, Line, Settings, Switch};
+use crate::{Input, Line, Settings, Switch};
 use drv_words::{Listing, Word};
 use std::alloc::{AllocError, Global};
 
@@ -71,19 +71,23 @@ fn language_copy(language: &Option<Word>) -> Result<Option<Word>, AllocError>
 }
 
 impl LineBuilder {
-    /// A line without items, of what was expanded. It has room for so many of each kind that a word
-    /// can be, and grows no list of them, which would copy each item that is in it.
-    pub(crate) fn new(alloc: Global, expanded: &Expanded) -> Result<LineBuilder, AllocError>
-        ensures { IfOk result (λ made. made ≡ begun expanded.now.from_file) }
+    /// A line without items, and whether a word of it was replaced by those of a response file. It
+    /// has room for so many switches and inputs, and up to there grows no list of them, which would
+    /// copy each item that is in it.
+    pub(crate) fn new(
+        alloc: Global,
+        room: usize,
+        from_file: bool,
+    ) -> Result<LineBuilder, AllocError>
+        ensures { IfOk result (λ made. made ≡ begun from_file) }
     {
-        let room = expanded.words.len();
         let settings = Settings {
             dry: false,
             verbose: false,
             dump: false,
             pass_codes: false,
             pipe: false,
-            from_file: expanded.from_file,
+            from_file,
             output: None,
             specs: Listing::new(alloc),
             prefixes: Listing::new(alloc),

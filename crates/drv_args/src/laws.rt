@@ -1,10 +1,11 @@
 //! Laws of the definitions that the contracts cite.
 
 ghost use Rattle.drv_args.specs.Expansion.{Refuses, Responds};
-ghost use Rattle.drv_args.specs.Fronts.{Item, Offends, Reads, items_of};
+ghost use Rattle.drv_args.specs.Fronts.{Offends, Reads, items_of};
 ghost use Rattle.drv_args.specs.declared.fault.ArgsFault.{ArgsFault};
 ghost use Rattle.drv_system.specs.Facts.{Facts};
 ghost use Rattle.std.specs.Prelude.{◌≡◌, ◌↔◌, Err, List, Ok, ℕ};
+ghost use Rattle.drv_args.specs.declared.items.Item.{Item};
 
 /// A law: words respond to one list of words and leave one number of replacements, or they are
 /// refused for one reason, and never both.

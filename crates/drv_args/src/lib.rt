@@ -4,6 +4,7 @@
 mod building;
 mod expansion;
 mod fault;
+mod items;
 mod jobs;
 mod judging;
 mod laws;
@@ -13,6 +14,8 @@ mod reading;
 
 pub use expansion::expand;
 pub use fault::ArgsFault;
+pub use items::{Item, line_of};
 pub use laws::{items_are_fronts, one_expansion};
 pub use line::{Expanded, Input, Line, Settings, Switch};
+pub use option_table::{Effect, Setting, Tool};
 pub use reading::read;

@@ -21,7 +21,7 @@ pub(crate) enum Form {
 
 /// A setting of the call that is on or off.
 #[derive(Clone, Copy)]
-pub(crate) enum Setting {
+pub enum Setting {
     /// The plan is printed and nothing is started.
     Dry,
     /// The plan is printed before it is run.
@@ -45,15 +45,18 @@ impl Setting {
 
 /// A tool that the line has words for.
 #[derive(Clone, Copy)]
-pub(crate) enum Tool {
+pub enum Tool {
+    /// `as`.
     Assembler,
+    /// `cpp`.
     Preprocessor,
+    /// `ld`.
     Linker,
 }
 
 /// What an option does.
 #[derive(Clone, Copy)]
-pub(crate) enum Effect {
+pub enum Effect {
     /// It turns a setting on.
     TurnsOn(Setting),
     /// It is a switch of this name.

@@ -199,7 +199,7 @@ fn read_words(alloc: Global, expanded: &Expanded) -> Result<Line, ArgsFault>
     ensures { Gives fault.Memory (λ line. line) result
         (line_of_items expanded.now.from_file (items_of expanded.now.words)) }
 {
-    let mut builder = LineBuilder::new(alloc, expanded)?;
+    let mut builder = LineBuilder::new(alloc, expanded.words.len(), expanded.from_file)?;
     note_words(alloc, &mut builder, expanded.words.as_slice())?;
     Ok(builder.line)
 }

@@ -1,9 +1,10 @@
 use Rattle.drv_args.specs.Fronts as fronts
-use Rattle.drv_args.specs.Fronts.{Item, Start, item}
+use Rattle.drv_args.specs.Fronts.{Start, item}
 use Rattle.drv_args.specs.Jobs.{jobs_named}
 use Rattle.drv_args.specs.Lines.{assembler_pieces, inputs_of, is_on, language_after, last_jobs, last_output, line_of, prefix_of, preprocessor_pieces, spec_of, switches_of}
 use Rattle.drv_args.specs.declared.building.LineBuilder.{LineBuilder}
 use Rattle.drv_args.specs.declared.fault.ArgsFault.{ArgsFault}
+use Rattle.drv_args.specs.declared.items.Item.{Item}
 use Rattle.drv_args.specs.declared.line.Input.TheVariants as input
 use Rattle.drv_args.specs.declared.line.Input.{Input}
 use Rattle.drv_args.specs.declared.line.Line.{Line}

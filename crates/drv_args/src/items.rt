@@ -1,0 +1,65 @@
+//! A line that is made of items.
+
+ghost use Rattle.drv_args.specs.Code.Building.{with_items};
+ghost use Rattle.drv_args.specs.Lines.{line_judged, line_of};
+ghost use Rattle.drv_args.specs.declared.fault.ArgsFault.TheVariants as fault;
+ghost use Rattle.drv_words.specs.Gives.{Gives};
+ghost use Rattle.std.specs.Prelude.{◌≡◌, ◌≤◌, IfOk, OnOk};
+
+use crate::building::LineBuilder;
+use crate::judging::judge;
+use crate::{ArgsFault, Effect, Line};
+use drv_words::Word;
+use std::alloc::{AllocError, Global};
+
+/// What an option or a file of a line gives.
+#[derive(Drop)]
+pub struct Item {
+    /// What it does.
+    pub effect: Effect,
+    /// The option with its first `-`, or the file.
+    pub option: Word,
+    /// The option's argument; empty where it has none.
+    pub argument: Word,
+}
+
+/// Adds what items give to a line.
+fn note_items(alloc: Global, builder: &mut LineBuilder, items: &[Item]) -> Result<(), AllocError>
+    ensures { OnOk result (builder.new.line ≡ with_items builder.old items.now) }
+{
+    for item in items {
+        let option = item.option.as_bytes();
+        builder.note(alloc, item.effect, option, item.argument.as_bytes())?;
+    }
+    Ok(())
+}
+
+/// Makes a line of items.
+fn made_line(alloc: Global, from_file: bool, items: &[Item]) -> Result<Line, AllocError>
+    ensures { IfOk result (λ line. line ≡ line_of from_file items.now) }
+{
+    let mut builder = LineBuilder::new(alloc, items.len(), from_file)?;
+    note_items(alloc, &mut builder, items)?;
+    Ok(builder.line)
+}
+
+/// Makes a line of items, and judges it.
+fn judged_line(alloc: Global, from_file: bool, items: &[Item]) -> Result<Line, ArgsFault>
+    ensures { Gives fault.Memory (λ line. line) result (line_judged from_file items.now) }
+{
+    judge(made_line(alloc, from_file, items)?)
+}
+
+/// The line that items give, as `read` has it of the words whose items these are; `from_file` says
+/// whether a word of the line was replaced by those of a response file.
+///
+/// # Errors
+/// `Memory`; then, unless the specs are dumped, the first of `NoInputs`, `StdinNeedsLanguage`,
+/// `OutputWithMany` and `OutputIsInput`.
+#[tactic(auto, using(crate::proofs::JobCounts::judged_jobs_are_few))]
+pub fn line_of(alloc: Global, from_file: bool, items: &[Item]) -> Result<Line, ArgsFault>
+    ensures line { Gives fault.Memory (λ line. line) result (line_judged from_file items.now) }
+    ensures jobs { IfOk result (λ line. (1 ≤ line.settings.jobs) × (line.settings.jobs ≤ 64)) }
+{
+    judged_line(alloc, from_file, items)
+}
