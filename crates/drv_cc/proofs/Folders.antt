@@ -1,5 +1,7 @@
-use Rattle.drv_cc.specs.Front.{named_folder}
-use Rattle.std.proofs.Common.{◌≡◌, ◌∙◌, List, [], ◌∷◌, ◌++◌, ap, append-nil, map, sym, ℕ}
+use Rattle.drv_cc.specs.Code.Looking.{words_for}
+use Rattle.drv_cc.specs.Front.{folders, named_folder}
+use Rattle.drv_cc.specs.declared.adding.LookedFor.TheVariants.{Any}
+use Rattle.std.proofs.Common.{◌≡◌, ◌∙◌, List, [], ◌∷◌, ◌++◌, Option, ap, append-nil, map, refl, sym, ℕ}
 use Rattle.std.proofs.lemmas.List.{flat_map_more, map-append}
 use Rattle.std.specs.List.{flat_map}
 
@@ -13,3 +15,11 @@ pub next_folder : (f : List ℕ → List (List ℕ)) (old words words' done afte
 next_folder f old words words' done after folder so_far added more =
     added ∙ ap (λ w. w ++ f (named_folder folder)) so_far ∙ flat_map_more f old (map named_folder done) (named_folder folder)
     ∙ ap (λ names. old ++ flat_map f names) (sym (map-append named_folder done (folder ∷ []))) ∙ ap (λ names. old ++ flat_map f (map named_folder names)) (sym more)
+
+-- folders that are words
+words_themselves : (words : List (List ℕ)) → flat_map (words_for Any) words ≡ words
+words_themselves [] = refl
+words_themselves (word ∷ words) = ap (λ following. word ∷ following) (words_themselves words)
+
+pub words_alone : (path : Option (List ℕ)) → flat_map (words_for Any) (folders path) ≡ folders path
+words_alone path = words_themselves (folders path)

@@ -5,6 +5,8 @@ mod Groups
 mod NoChecks
 mod Noted
 mod OtherOptions
+mod Prefixes
 mod Rings
 pub mod LevelLaws
+pub mod WorkedItems
 pub mod WorkedLines

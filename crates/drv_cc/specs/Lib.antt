@@ -4,5 +4,6 @@ pub mod Items
 pub mod Kept
 pub mod LevelRules
 pub mod Levels
+pub mod LineItems
 pub mod SideFiles
 pub mod Table

@@ -60,11 +60,13 @@ fn named_folder(folder: &[u8]) -> &[u8]
 
 /// What is looked for in the folders of a path.
 #[derive(Clone, Copy)]
-enum LookedFor {
+pub(crate) enum LookedFor {
     /// Programs: each folder is a prefix.
     Programs,
     /// Libraries.
     Libraries,
+    /// What the caller looks for: each folder is a word.
+    Any,
 }
 
 /// Adds the words for a folder of a path.
@@ -86,11 +88,12 @@ fn add_folder(
             add_joined(alloc, words, b"--gdrv-lib=", named_folder(folder))?;
             Ok(())
         }
+        LookedFor::Any => add_word(alloc, words, named_folder(folder)),
     }
 }
 
 /// Adds the words for each folder of a path, if that is set.
-fn add_path(
+pub(crate) fn add_path(
     alloc: Global,
     looked_for: LookedFor,
     path: &Option<Word>,

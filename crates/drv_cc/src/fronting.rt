@@ -43,7 +43,7 @@ fn run_words(
 }
 
 /// The file that a line names for its output, if it names one (GCC manual, "Overall Options", -o).
-fn output(alloc: Global, items: &[Item]) -> Result<Option<Word>, AllocError>
+pub(crate) fn output(alloc: Global, items: &[Item]) -> Result<Option<Word>, AllocError>
     ensures { IfOk result (λ output. output ≡ last_argument (codes "-o") items.now) }
 {
     match last_argument(items, b"-o") {

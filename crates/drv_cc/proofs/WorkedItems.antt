@@ -1,0 +1,38 @@
+use Rattle.drv_args.specs.declared.option_table.Effect.TheVariants as effect
+use Rattle.drv_args.specs.declared.option_table.Setting.TheVariants as setting
+use Rattle.drv_args.specs.declared.option_table.Tool.TheVariants as tool
+use Rattle.drv_cc.specs.Items.{item, plain}
+use Rattle.drv_cc.specs.LineItems.{item_of, line_item}
+use Rattle.drv_cc.specs.declared.table.Part.TheVariants.{Input, Library, Piece, Switch, Tells}
+use Rattle.drv_cc.specs.declared.table.Spelling.TheVariants.{Alone, Joined, Nowhere, Separate}
+use Rattle.std.proofs.Common.{◌≡◌, [], codes, refl}
+use Rattle.std.specs.Prelude.{None, Some}
+
+-- Worked items: what gcc hands on of a library, a folder and pieces without a text, and of options of each spelling.
+
+no_library : line_item (item (codes "-l") [] Joined Library) ≡ Some (item_of effect.Library (codes "-l") [])
+no_library = refl
+
+no_folder : line_item (item (codes "-L") [] Joined Switch) ≡ Some (item_of effect.JoinedSwitch (codes "-L") [])
+no_folder = refl
+
+no_pieces : line_item (item (codes "-Wa,") [] Joined Piece) ≡ Some (item_of (effect.Pieces tool.Assembler) (codes "-Wa,") [])
+no_pieces = refl
+
+verbose : line_item (item (codes "-v") [] Alone Tells) ≡ Some (item_of (effect.TurnsOn setting.Verbose) (codes "-v") [])
+verbose = refl
+
+output : line_item (item (codes "-o") (codes "x") Separate Switch) ≡ Some (item_of effect.Output (codes "-o") (codes "x"))
+output = refl
+
+optimized : line_item (item (codes "-O") (codes "2") Joined Switch) ≡ Some (item_of effect.JoinedSwitch (codes "-O") (codes "2"))
+optimized = refl
+
+defined : line_item (item (codes "-D") (codes "-l") Separate Switch) ≡ Some (item_of effect.SwitchWithArgument (codes "-D") (codes "-l"))
+defined = refl
+
+file : line_item (plain Input (codes "a.c")) ≡ Some (item_of effect.File (codes "a.c") [])
+file = refl
+
+nowhere : line_item (item (codes "-no-canonical-prefixes") [] Nowhere Switch) ≡ None
+nowhere = refl

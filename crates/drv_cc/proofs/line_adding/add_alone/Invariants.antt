@@ -1,0 +1,6 @@
+use Rattle.drv_cc.specs.LineItems.{alone}
+use Rattle.std.proofs.Common.{◌≡◌, ◌++◌, drop, map}
+use Rattle.drv_cc.proofs.line_adding.add_alone.Given as goal
+
+abbrev pub invariant-loop-word : goal.invariant-loop-word
+invariant-loop-word l = l.given ++ map (alone l.effect) (drop l.word-index l.words) ≡ l.fn.given ++ map (alone l.effect) l.words

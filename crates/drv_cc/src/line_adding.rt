@@ -1,0 +1,151 @@
+//! What is added to a line, as items of the driver's line.
+
+ghost use Rattle.drv_cc.specs.Front.{folders};
+ghost use Rattle.drv_cc.specs.LineItems.{added_items, alone, item_of, prefix, prefixes};
+ghost use Rattle.drv_cc.specs.LineItems.{program_items, switch_words};
+ghost use Rattle.std.specs.Prelude.{◌≡◌, ◌∷◌, ◌++◌, [], IfOk, OnOk, map};
+
+use crate::Surroundings;
+use crate::adding::{LookedFor, add_path, add_thread_words};
+use crate::checks::add_check_words;
+use crate::item::Item;
+use crate::judging::is_vendors;
+use crate::keeping::has;
+use crate::levels::add_debug_words;
+use crate::piping::add_pipe_words;
+use crate::sides::add_side_words;
+use drv_args::{Effect, Setting};
+use drv_words::{Listing, Word};
+use std::alloc::{AllocError, Global};
+
+/// Adds an item.
+fn add_one(
+    alloc: Global,
+    effect: Effect,
+    option: &[u8],
+    argument: &[u8],
+    given: &mut Listing<drv_args::Item>,
+) -> Result<(), AllocError>
+    ensures { OnOk result (given.new ≡ given.old
+        ++ item_of effect option.now argument.now ∷ []) }
+{
+    let option = Word::from_bytes(alloc, option)?;
+    let argument = Word::from_bytes(alloc, argument)?;
+    given.push(drv_args::Item {
+        effect,
+        option,
+        argument,
+    })?;
+    Ok(())
+}
+
+/// Adds an item without an argument for each word.
+fn add_alone(
+    alloc: Global,
+    effect: Effect,
+    words: &[Word],
+    given: &mut Listing<drv_args::Item>,
+) -> Result<(), AllocError>
+    ensures { OnOk result (given.new ≡ given.old ++ map (alone effect) words.now) }
+{
+    for word in words {
+        add_one(alloc, effect, word.as_bytes(), b"", given)?;
+    }
+    Ok(())
+}
+
+/// Adds each folder as a prefix.
+fn add_prefixes(
+    alloc: Global,
+    folders: &[Word],
+    given: &mut Listing<drv_args::Item>,
+) -> Result<(), AllocError>
+    ensures { OnOk result (given.new ≡ given.old ++ map prefix folders.now) }
+{
+    for folder in folders {
+        add_one(alloc, Effect::Prefix, b"-B", folder.as_bytes(), given)?;
+    }
+    Ok(())
+}
+
+/// The folders of a path, if that is set.
+#[tactic(auto, using(crate::proofs::Folders::words_alone))]
+fn folders(alloc: Global, path: &Option<Word>) -> Result<Listing<Word>, AllocError>
+    ensures { IfOk result (λ list. list ≡ folders path.now) }
+{
+    let mut list = Listing::new(alloc);
+    add_path(alloc, LookedFor::Any, path, &mut list)?;
+    Ok(list)
+}
+
+/// Adds all folders of programs after those of the line.
+fn add_all_prefixes(
+    alloc: Global,
+    around: &Surroundings,
+    given: &mut Listing<drv_args::Item>,
+) -> Result<(), AllocError>
+    ensures { OnOk result (given.new ≡ given.old ++ prefixes around.now) }
+{
+    let named = folders(alloc, &around.compiler_path)?;
+    add_prefixes(alloc, named.as_slice(), given)?;
+    add_prefixes(alloc, around.folders.as_slice(), given)?;
+    add_one(alloc, Effect::Switch, b"--gdrv-dirs", b"", given)
+}
+
+/// Adds the folders of programs, where a folder or a spec file is given.
+fn add_program_items(
+    alloc: Global,
+    around: &Surroundings,
+    items: &[Item],
+    given: &mut Listing<drv_args::Item>,
+) -> Result<(), AllocError>
+    ensures { OnOk result (given.new ≡ given.old ++ program_items around.now items.now) }
+{
+    if has(items, b"-B") || is_vendors(items) || around.compiler_path.is_some() {
+        add_all_prefixes(alloc, around, given)
+    } else {
+        Ok(())
+    }
+}
+
+/// The words that are switches and stand after the folders of programs.
+fn switch_words(
+    alloc: Global,
+    around: &Surroundings,
+    items: &[Item],
+) -> Result<Listing<Word>, AllocError>
+    ensures { IfOk result (λ words. words ≡ switch_words around.now items.now) }
+{
+    let mut words = Listing::new(alloc);
+    add_path(
+        alloc,
+        LookedFor::Libraries,
+        &around.library_path,
+        &mut words,
+    )?;
+    add_side_words(alloc, items, &mut words)?;
+    add_debug_words(alloc, items, &mut words)?;
+    add_check_words(alloc, items, &mut words)?;
+    Ok(words)
+}
+
+/// Adds all that gcc's driver adds.
+pub(crate) fn add_items(
+    alloc: Global,
+    around: &Surroundings,
+    items: &[Item],
+    given: &mut Listing<drv_args::Item>,
+) -> Result<(), AllocError>
+    ensures { OnOk result (given.new ≡ given.old ++ added_items around.now items.now) }
+{
+    let mut threads = Listing::new(alloc);
+    add_thread_words(alloc, items, &mut threads)?;
+    add_alone(alloc, Effect::Switch, threads.as_slice(), given)?;
+    add_program_items(alloc, around, items, given)?;
+    let switches = switch_words(alloc, around, items)?;
+    add_alone(alloc, Effect::Switch, switches.as_slice(), given)?;
+    let mut pipes = Listing::new(alloc);
+    add_pipe_words(alloc, items, &mut pipes)?;
+    let effect = Effect::TurnsOn(Setting::Pipe);
+    add_alone(alloc, effect, pipes.as_slice(), given)
+}
