@@ -1,3 +1,4 @@
 pub mod Decided
 pub mod Files
 pub mod Names
+pub mod Ran

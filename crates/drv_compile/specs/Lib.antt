@@ -5,4 +5,5 @@ pub mod Decides
 pub mod Parts
 pub mod Places
 pub mod Reading
+pub mod Runs
 pub mod Written

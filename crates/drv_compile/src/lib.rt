@@ -9,6 +9,7 @@ mod finding;
 mod parts;
 mod places;
 mod reading;
+mod running;
 mod written;
 
 pub use calling::{Calling, Front, calling_of};
@@ -16,3 +17,4 @@ pub use deciding::{Decision, decide};
 pub use parts::{Texts, texts_of};
 pub use places::{beside, companion};
 pub use reading::Reading;
+pub use running::carry_out;
