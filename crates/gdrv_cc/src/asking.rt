@@ -2,7 +2,7 @@
 
 use crate::outcome::Outcome;
 use crate::texts::{error_line, unwritten};
-use drv_args::expand;
+use drv_args::{Expanded, expand};
 use drv_compile::{Calling, Front, beside, companion};
 use drv_system::{HostSystem, Outside, ReadAnswer, arguments};
 use drv_words::{Listing, Word};
@@ -61,12 +61,12 @@ fn expanded(
     calling: &Calling,
     args: Listing<Word>,
     outside: &mut Outside<'_, HostSystem>,
-) -> Result<Listing<Word>, Outcome> {
-    let words = expand(alloc, args, outside.sys, outside.facts)?.words;
-    for word in words.as_slice() {
+) -> Result<Expanded, Outcome> {
+    let expanded = expand(alloc, args, outside.sys, outside.facts)?;
+    for word in expanded.words.as_slice() {
         refuse_unread(alloc, calling.name.as_bytes(), word.as_bytes(), outside)?;
     }
-    Ok(words)
+    Ok(expanded)
 }
 
 /// The words of this process's line as gcc takes them: response files expanded, and those of c99
@@ -75,12 +75,16 @@ pub fn line_words(
     rt: &HostRuntime,
     calling: &Calling,
     outside: &mut Outside<'_, HostSystem>,
-) -> Result<Listing<Word>, Outcome> {
+) -> Result<Expanded, Outcome> {
     let args = own_arguments(rt, calling.name.as_bytes())?;
-    let words = expanded(rt.alloc(), calling, args, outside)?;
+    let expanded = expanded(rt.alloc(), calling, args, outside)?;
     match calling.front {
-        Front::Gcc => Ok(words),
-        Front::C99 => Ok(drv_c99::front(rt.alloc(), words.as_slice())?),
+        Front::Gcc => Ok(expanded),
+        Front::C99 => {
+            let from_file = expanded.from_file;
+            let words = drv_c99::front(rt.alloc(), expanded.words.as_slice())?;
+            Ok(Expanded { words, from_file })
+        }
     }
 }
 

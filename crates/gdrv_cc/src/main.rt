@@ -45,6 +45,7 @@ fn act(
     specs: &Word,
     around: &Surroundings,
     reading: Reading,
+    from_file: bool,
     outside: &mut Outside<'_, HostSystem>,
 ) -> Result<Outcome, Outcome> {
     let Reading { known, answer } = reading;
@@ -55,16 +56,17 @@ fn act(
         }
         Answer::Run(line) => {
             refuse_variable(rt.alloc(), calling, outside)?;
-            run(rt, calling, specs, line, outside)
+            run(rt, calling, specs, line, from_file, outside)
         }
     }
 }
 
 /// Does what is decided.
-fn carry_out(
+fn act_on(
     rt: &HostRuntime,
     calling: &Calling,
     decision: Decision,
+    from_file: bool,
     outside: &mut Outside<'_, HostSystem>,
 ) -> Result<Outcome, Outcome> {
     let alloc = rt.alloc();
@@ -83,7 +85,7 @@ fn carry_out(
             specs,
             around,
             reading,
-        } => act(rt, calling, &specs, &around, reading, outside),
+        } => act(rt, calling, &specs, &around, reading, from_file, outside),
     }
 }
 
@@ -92,16 +94,16 @@ fn call_as(rt: &HostRuntime, calling: &Calling) -> Result<Outcome, Outcome> {
     let sys = &mut HostSystem::new(rt.clone()?);
     let facts = &mut FactTable::new(rt.alloc());
     let outside = &mut Outside { sys, facts };
-    let words = line_words(rt, calling, outside)?;
+    let line = line_words(rt, calling, outside)?;
     let own = own_specs(rt, calling.machine.as_bytes())?;
     let decision = decide(
         rt.alloc(),
         &own,
-        words.as_slice(),
+        line.words.as_slice(),
         outside.sys,
         outside.facts,
     )?;
-    carry_out(rt, calling, decision, outside)
+    act_on(rt, calling, decision, line.from_file, outside)
 }
 
 /// This process's call.

@@ -5,10 +5,12 @@ ghost use Rattle.std.specs.Prelude.{◌≡◌, ◌∷◌, ◌++◌, [], IfOk, co
 use crate::asking::{damaged, own_arguments};
 use crate::outcome::{Outcome, answered};
 use crate::texts::{add_absent, hint, overwritten, unwritten};
+use drv_args::Expanded;
 use drv_cc::{Call, Stages, Variable};
-use drv_compile::{Calling, Texts, texts_of};
-use drv_run::{Ending, drive};
-use drv_system::{Event, HostSystem, Outside, PathKind, System, call, clock_seed, complain};
+use drv_compile::{Calling, Texts, carry_out, texts_of};
+use drv_run::Ending;
+use drv_system::{Event, FactTable, HostSystem, Outside, PathKind, System};
+use drv_system::{call, clock_seed, complain};
 use drv_words::{Answer, Command, Listing, NotStarted, RunEvent, StartAnswer, Word};
 use std::alloc::{AllocError, Global};
 use std::io::ErrorKind;
@@ -138,16 +140,17 @@ fn is_absent(event: &Event) -> bool {
     )
 }
 
-/// Has the driver carry out words, with variables for its children. Where the run does not find a
-/// program, the hint is told.
+/// Has the driver carry out words, with variables for its children, over what the call asked for
+/// before. Where the run does not find a program, the hint is told.
 fn drive_words(
     rt: &HostRuntime,
-    words: Listing<Word>,
+    words: &Expanded,
     variables: &[Variable],
     hint: &Word,
+    facts: &mut FactTable,
 ) -> Result<Ending, AllocError> {
     let mut sys = system_with(rt, variables)?;
-    let ending = drive(rt.alloc(), &mut sys, words, clock_seed(rt)?);
+    let ending = carry_out(rt.alloc(), words, clock_seed(rt)?, &mut sys, facts);
     if sys.journal().iter().any(is_absent) {
         complain(rt, hint.as_bytes());
     }
@@ -185,12 +188,14 @@ fn words_for(
     }
 }
 
-/// Carries out a line, where its inputs are there.
+/// Carries out a line, where its inputs are there. Whether its words came from a file is what the
+/// spec texts may ask for.
 pub fn run(
     rt: &HostRuntime,
     calling: &Calling,
     specs: &Word,
     line: Call,
+    from_file: bool,
     outside: &mut Outside<'_, HostSystem>,
 ) -> Result<Outcome, Outcome> {
     refuse_absent(
@@ -208,6 +213,7 @@ pub fn run(
         line.words.as_slice(),
     )?;
     let words = words_for(rt.alloc(), calling, specs, line.words, line.stages, outside)?;
-    let ending = drive_words(rt, words, line.children.as_slice(), &hint)?;
+    let words = Expanded { words, from_file };
+    let ending = drive_words(rt, &words, line.children.as_slice(), &hint, outside.facts)?;
     Ok(Outcome::Ended(ending))
 }
