@@ -9,8 +9,9 @@ use drv_args::Expanded;
 use drv_cc::{Call, Stages, Variable};
 use drv_compile::{Calling, Texts, carry_out, texts_of};
 use drv_run::Ending;
-use drv_system::{Event, FactTable, HostSystem, Outside, PathKind, System};
-use drv_system::{call, clock_seed, complain};
+use drv_system::{
+    Event, FactTable, HostSystem, Outside, PathKind, System, call, clock_seed, complain,
+};
 use drv_words::{Answer, Command, Listing, NotStarted, RunEvent, StartAnswer, Word};
 use std::alloc::{AllocError, Global};
 use std::io::ErrorKind;
