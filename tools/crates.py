@@ -229,7 +229,7 @@ class Stamps:
             summed = hashlib.sha256(f"{self.kit}\n{self.crates.lines[name]}\n{os.environ.get('RT_ALLOW_C', '')}\n".encode())
             for below in sorted(self.crates.uses[name]):
                 summed.update(f"{below} {self.texts(below)}\n".encode())
-            texts = (path for part in TEXTS for path in files_in(f"{self.crates.folder(name)}/{part}") if not path.endswith("/README"))
+            texts = (path for part in TEXTS for path in files_in(f"{self.crates.folder(name)}/{part}"))
             for path in [f"{self.crates.root}/HANDLES", *texts]:
                 with open(path, "rb") as file:
                     summed.update(f"{os.path.relpath(path, self.crates.root)} {hashlib.sha256(file.read()).hexdigest()}\n".encode())
