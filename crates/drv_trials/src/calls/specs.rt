@@ -128,7 +128,7 @@ fn add_refusal(fault: &SpecsFault, text: &str, out: &mut Transcript) -> Result<(
     Ok(())
 }
 
-/// What came of a load.
+/// What came of a load; want of memory ends the trial.
 fn add_loaded(
     alloc: Global,
     loaded: &Result<(), SpecsFault>,
@@ -136,6 +136,7 @@ fn add_loaded(
 ) -> Result<(), AllocError> {
     match loaded {
         Ok(()) => out.add(b"taken"),
+        Err(SpecsFault::Memory) => Err(AllocError),
         Err(fault) => add_refusal(fault, format!(in alloc; "{fault}")?.as_str(), out),
     }
 }
