@@ -3,21 +3,21 @@ use Rattle.std.proofs.Common.{append-nil, arith, ◌≡◌, ◌∙◌, ◌++◌,
 use Rattle.std.proofs.lemmas.Bool.Decides.{nat_tests}
 use Rattle.std.proofs.lemmas.List.{drop_more, get_or-drop, length-drop, take-append-drop, take_all}
 
--- The last byte of a kind is looked for from the end.
+-- A search from the end finds the last byte of a kind.
 
--- it stands in front of bytes among which there is none
+-- the byte is at the front, and none comes after it
 parted_here : (mark b : ℕ) (name : List ℕ) → (b == mark) ≡ true → parted mark name ≡ None → parted mark (b ∷ name) ≡ Some ([], name)
 parted_here mark b name is none = rw (none, is) refl
 
 equal : (a b : ℕ) → a ≡ b → (a == b) ≡ true
 equal a b same = grind (arith, nat_tests)
 
--- and whatever stands before
+-- it is found in the rest of the name
 parted_after : (mark : ℕ) (front name before following : List ℕ) → parted mark name ≡ Some (before, following) → parted mark (front ++ name) ≡ Some (front ++ before, following)
 parted_after mark [] name before following is = is
 parted_after mark (b ∷ front) name before following is = rw (parted_after mark front name before following is) refl
 
--- it stands nowhere
+-- the name has no such byte
 pub parted_nowhere : (mark : ℕ) (name : List ℕ) → ((k : ℕ) → k < length name → get_or name k 0 ≢ mark) → parted mark name ≡ None
 parted_nowhere mark [] none = refl
 parted_nowhere mark (b ∷ name) none = rw (parted_nowhere mark name (λ k within. none (suc k) (omega (arith, within))), other (b == mark) refl) refl
@@ -26,7 +26,7 @@ parted_nowhere mark (b ∷ name) none = rw (parted_nowhere mark name (λ k withi
     other true h = absurd (none 0 (omega arith) (eqb-true b mark h))
     other false h = h
 
--- it stands at this place
+-- the byte is at this index
 pub parted_at : (mark i : ℕ) (name : List ℕ) → i < length name → get_or name i 0 ≡ mark → parted mark (drop (i + 1) name) ≡ None
     → Some (take i name, take (length name - (i + 1)) (drop (i + 1) name)) ≡ parted mark name
 parted_at mark i name within is none =
@@ -37,7 +37,7 @@ parted_at mark i name within is none =
     ∙ sym (parted_after mark (take i name) (drop i name) [] (drop (i + 1) name) here)
     ∙ ap (parted mark) (take-append-drop i name)
 
--- after this place it stands nowhere
+-- no such byte follows this index
 pub nowhere_after : (mark i : ℕ) (name : List ℕ) → ((k : ℕ) → i + 1 ≤ k → k < length name → get_or name k 0 ≢ mark) → parted mark (drop (i + 1) name) ≡ None
 nowhere_after mark i name none = parted_nowhere mark (drop (i + 1) name) (λ k within same.
     none (i + 1 + k) (omega arith) (omega (arith, within, length-drop (i + 1) name)) (sym (get_or-drop (i + 1) name k 0) ∙ same))

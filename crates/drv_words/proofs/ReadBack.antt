@@ -10,8 +10,7 @@ use Rattle.std.proofs.lemmas.List.{append-nil}
 use Rattle.std.proofs.Math.Seq.{append_snoc}
 use Rattle.std.specs.List.{list_all}
 
--- The reader gives back the lines that a text shows: running over what a derivation covers leads to the state
--- after it.
+-- Reading a printed text gives its lines: the reader goes over the text as a derivation of `Shows` is built.
 
 -- a reader with these fields
 abbrev pub at : List PlanLine → Option (List ℕ) → List (List ℕ) → List ℕ → Standing → LineReader
@@ -52,14 +51,14 @@ bytes_read (b ∷ word) e lines program words front =
     let both : (is_plain b ≡ true) × (list_all is_plain word ≡ true) = and_both _ _ e in
     rw both.0 (bytes_read word both.1 lines program words (front ++ b ∷ []) ∙ ap (λ w. at lines program words w Bare) (append_snoc front b word))
 
--- a text that goes on with a byte that no bare word has
+-- the text goes on with a byte that no bare word has
 record Ends (text : List ℕ) : Type 0 where
   first : ℕ
   rest : List ℕ
   is : text ≡ first ∷ rest
   unplain : is_plain first ≡ false
 
--- the word's place doesn't matter where it has ended
+-- after a word has ended, it doesn't matter which kind of word it was
 between_anywhere : (lines : List PlanLine) (program : Option (List ℕ)) (words : List (List ℕ)) (word : List ℕ) (b : ℕ)
     → r.between (with_word (at lines program words word Bare)) b ≡ r.between (with_word (at lines program words word Between)) b
 between_anywhere lines None words word b = by (b == 32) (b == 10)
@@ -86,7 +85,7 @@ word_begins : (b : ℕ) → is_plain b ≡ true → (lines : List PlanLine) (pro
     → r.at_word (at lines program words [] AtWord) b ≡ at lines program words (b ∷ []) Bare
 word_begins b e lines program words = rw e refl
 
--- a bare word, from the space before it
+-- a bare word with the space before it
 bare_read : (word next : List ℕ) → is_bare word ≡ true → Ends next → (lines : List PlanLine) (program : Option (List ℕ)) (words : List (List ℕ))
     → read (at lines program words [] AtWord) (word ++ next) ≡ read (with_word (at lines program words word Between)) next
 bare_read [] next e ends lines program words = absurd cc
@@ -110,7 +109,7 @@ bare_read (b ∷ word) next e ends lines program words =
         ∙ stepped word ends.first ends.rest ends.unplain lines program words
         ∙ sym (ap (λ t. read (with_word (at lines program words word Between)) t) ends.is)
 
--- a word between quotes
+-- a quoted word
 quoted_read : {text word : List ℕ} → is_bare word ≡ false → Escapes text word → (next : List ℕ) (lines : List PlanLine) (program : Option (List ℕ)) (words : List (List ℕ))
     → read (at lines program words [] AtWord) ((34 ∷ text ++ 34 ∷ []) ++ next) ≡ read (with_word (at lines program words word Between)) next
 quoted_read {text} {word} e inside next lines program words =
@@ -128,7 +127,7 @@ word_read : {text word : List ℕ} → ShowsWord text word → (next : List ℕ)
 word_read (bare {word} e) next ends lines program words = bare_read word next e ends lines program words
 word_read (in_quotes e inside) next ends lines program words = quoted_read e inside next lines program words
 
--- what stands after a word goes on with a space or with what stands after the words
+-- after a word comes a space, or the end of the words
 words_end : {text : List ℕ} {words : List (List ℕ)} → ShowsWords text words → (next : List ℕ) → Ends next → Ends (text ++ next)
 words_end no_word next ends = ends
 words_end (one_more {text} {word} {rest} first others) next ends =
@@ -168,14 +167,14 @@ lines_are_read (line {words} {end} {rest} {l} {lines} shown ends others) front =
     ∙ lines_are_read others (front ++ l ∷ [])
     ∙ ap (λ ls. at ls None [] [] Between) (append_snoc front l lines)
 
--- the reader gives the lines that a text shows
+-- the reader returns the lines that a text shows
 pub reads_shown : {text : List ℕ} {lines : List PlanLine} → Shows text lines → lines_read text ≡ Some lines
 reads_shown shown = ap r.finished (lines_are_read shown [])
 
--- so a text shows one list of lines at most
+-- so a text shows at most one list of lines
 pub one_list : (text : List ℕ) (a b : List PlanLine) → Shows text a → Shows text b → a ≡ b
 one_list text a b shows_a shows_b = let same : Some a ≡ Some b = sym (reads_shown shows_a) ∙ reads_shown shows_b in cc
 
--- what is shown is found
+-- the reader finds every list of lines that a text shows
 pub shown_is_found : (text : List ℕ) (found : Option (List PlanLine)) → found ≡ lines_read text → (lines : List PlanLine) → Shows text lines → found ≡ Some lines
 shown_is_found text found e lines shown = e ∙ reads_shown shown

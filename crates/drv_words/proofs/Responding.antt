@@ -1,14 +1,14 @@
 use Rattle.drv_words.specs.Response.{ArePieces, Splits, at_space, escaped, is_marked, is_quote, is_space, marked, more, no_more, nothing, one_word, plain, quoted, response, response_text, run_closed, space}
 use Rattle.std.proofs.Common.{◌≡◌, ◌||◌, ◌==◌, Bool, false, true, List, [], ◌∷◌, ◌++◌, if◌then◌else◌, refl, sym, subst, append_assoc, ℕ}
 
--- Response text stands for its words.
+-- Splitting the response text of words gives the words back.
 
 none_of : (a b c : Bool) → (a || b || c) ≡ false → (a ≡ false) × (b ≡ false) × (c ≡ false)
 none_of false false c e = (refl, refl, e)
 none_of false true c e = absurd cc
 none_of true b c e = absurd cc
 
--- the rest of a word, up to its newline
+-- the rest of a word up to its newline
 marked_pieces : (word rest : List ℕ) → ArePieces (marked word ++ 10 ∷ rest) word (10 ∷ rest)
 marked_pieces [] rest = no_more (at_space refl)
 marked_pieces (b ∷ word) rest = by (is_marked b) refl (marked_pieces word rest)

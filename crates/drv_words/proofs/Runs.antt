@@ -9,13 +9,13 @@ use Rattle.std.proofs.lemmas.List.Recursion.{is_position_or_len}
 use Rattle.std.specs.List.{position, position_or_len}
 use Rattle.std.specs.Prelude.{unwrap_or}
 
--- A run of plain bytes is taken as its bytes are.
+-- Taking a run of plain bytes at once equals taking its bytes one by one.
 
 -- a splitter outside quotes
 abbrev outside : List (List ℕ) → Option (List ℕ) → Splitter
 outside words word = record { words = words; word = word; quote = None; escaped = false }
 
--- a plain byte is none of the three
+-- a plain byte is neither white space, a quote nor a backslash
 record Plain (b : ℕ) : Type 0 where
   space : is_space b ≡ false
   quote : is_quote b ≡ false
@@ -30,7 +30,7 @@ plain_is b e = by (is_space b) refl (is_quote b) refl (b == 92) refl e
     by false s false q true f e = absurd cc
     by false s false q false f e = record { space = s; quote = q; slash = f }
 
--- after one plain byte
+-- one plain byte
 one_taken : (b : ℕ) (text : List ℕ) (words : List (List ℕ)) (word : List ℕ) → is_marked b ≡ false
     → words_of (outside words (Some word)) (b ∷ text) ≡ words_of (outside words (Some (word ++ b ∷ []))) text
 one_taken b text words word e = let p : Plain b = plain_is b e in rw (p.space, p.slash, p.quote) refl
@@ -39,7 +39,7 @@ first_taken : (b : ℕ) (text : List ℕ) (words : List (List ℕ)) → is_marke
     → words_of (outside words None) (b ∷ text) ≡ words_of (outside words (Some (b ∷ []))) text
 first_taken b text words e = let p : Plain b = plain_is b e in rw (p.space, p.slash, p.quote) refl
 
--- how long the run at the front is
+-- the length of the run at the front
 pub plain_within : (text : List ℕ) → plain_length text ≤ length text
 plain_within [] = omega arith
 plain_within (b ∷ text) = by (is_marked b) (plain_within text)
@@ -62,7 +62,7 @@ plain_place text = ap (λ n. unwrap_or (cond (nat_lt n (length text)) (Some n) N
     by true is = refl
     by false is = let at_least : length text ≤ plain_length text = grind (arith, nat_tests, is) in omega (arith, at_least, plain_within text)
 
--- a run after the word that is open
+-- a run that continues an open word
 run_taken : (text : List ℕ) (words : List (List ℕ)) (word : List ℕ)
     → words_of (outside words (Some (word ++ take (plain_length text) text))) (drop (plain_length text) text) ≡ words_of (outside words (Some word)) text
 run_taken [] words word = ap (λ w. words_of (outside words (Some w)) []) (append-nil word)
@@ -93,7 +93,7 @@ run_opens (b ∷ text) words some = by (is_marked b) refl some
     by true e some = absurd (none_there some)
     by false e some = run_taken text words (b ∷ []) ∙ sym (first_taken b text words e)
 
--- a splitter that is outside
+-- a splitter outside quotes
 outside_is : (s : Splitter) → is_outside s ≡ true → s ≡ outside s.words s.word
 outside_is s is = by s.escaped refl s.quote refl is
   where
@@ -117,7 +117,7 @@ after_run s text run rest count is counted some front following =
     ∙ ap (words_of (outside s.words (Some (open_word s.word ++ take (plain_length text) text)))) second
     ∙ any_run text s.words s.word n ∙ ap (λ t. words_of t text) (sym (outside_is s is))
 
--- the word goes on after a run
+-- a run after which the word goes on
 pub run_goes : (s after : Splitter) (text run rest : List ℕ) (count : ℕ) → is_outside s ≡ true → count ≡ plain_length text → 0 < count
     → run ≡ take count text → rest ≡ drop count text → after ≡ with_bytes s run → words_of after rest ≡ words_of s text
 run_goes s after text run rest count is counted some front following taken =

@@ -2,9 +2,9 @@ use Rattle.drv_words.specs.Printed.{Escapes, Shows, ShowsEnd, ShowsWord, ShowsWo
 use Rattle.drv_words.specs.declared.plan.PlanLine.{PlanLine}
 use Rattle.std.proofs.Common.{◌≡◌, Bool, false, true, List, [], ◌∷◌, ◌++◌, if◌then◌else◌, refl, sym, subst, ap, ◌∙◌, ℕ}
 
--- The grammar of printed lines and its functions agree.
+-- The grammar of printed lines agrees with the functions that print them.
 
--- what stands between quotes shows the bytes
+-- the escaped text shows the bytes
 pub escapes_of : (word : List ℕ) → Escapes (escaped word) word
 escapes_of [] = no_byte
 escapes_of (b ∷ word) = by (is_special b) refl (escapes_of word)
@@ -13,7 +13,7 @@ escapes_of (b ∷ word) = by (is_special b) refl (escapes_of word)
     by true e rest = special e rest
     by false e rest = other e rest
 
--- a word's printed form shows it
+-- the printed form of a word shows it
 pub shows_word : (word : List ℕ) → ShowsWord (quoted word) word
 shows_word word = by (is_bare word) refl
   where
@@ -34,7 +34,7 @@ pub shows_lines : (lines : List PlanLine) → Shows (lines_text lines) lines
 shows_lines [] = no_line
 shows_lines (l ∷ lines) = line (shows_words (l.command.program ∷ l.command.words)) (shows_end l.piped) (shows_lines lines)
 
--- and what shows something is its text
+-- a text that shows something is the printed text
 pub text_of_escapes : {text word : List ℕ} → Escapes text word → text ≡ escaped word
 text_of_escapes no_byte = refl
 text_of_escapes (other {b} e rest) = rw e (ap (λ t. b ∷ t) (text_of_escapes rest))
@@ -60,7 +60,7 @@ text_of_lines (line {words} {end} {rest} {l} {lines} shown ends others) =
     ∙ ap (λ t. words_text (l.command.program ∷ l.command.words) ++ t ++ rest) (text_of_end ends)
     ∙ ap (λ t. line_text l ++ t) (text_of_lines others)
 
--- the text of lines, and no other, shows them
+-- the printed text of lines shows them, and no other text does
 pub shown_text : (text : List ℕ) (lines : List PlanLine) → text ≡ lines_text lines → Shows text lines
 shown_text text lines e = let P : List ℕ → Type 0 = λ t. Shows t lines in subst P (sym e) (shows_lines lines)
 

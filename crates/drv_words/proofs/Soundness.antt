@@ -17,14 +17,14 @@ use Rattle.std.specs.Cmp.Derive.{both_true}
 use Rattle.std.specs.List.{list_all}
 use Rattle.std.specs.Option.{IfSome}
 
--- What the reader took is what it has kept, in its printed form; so a text that it reads shows the lines.
+-- The printed form of what the reader holds is the text that it has read. So a text that it accepts shows the lines.
 
--- the text of the line that is open
+-- the text of the open line
 abbrev open_text : Option (List ℕ) → List (List ℕ) → List ℕ
 open_text None words = words_text words
 open_text (Some program) words = words_text (program ∷ words)
 
--- the text of the word that is open
+-- the text of the open word
 abbrev part : Standing → List ℕ → List ℕ
 part Between word = []
 part AtWord word = 32 ∷ []
@@ -34,7 +34,7 @@ part Escaped word = 32 ∷ 34 ∷ escaped word ++ 92 ∷ []
 part Bar word = 32 ∷ 124 ∷ []
 part Wrong word = []
 
--- what else holds at a place
+-- what else holds at a place of the text
 abbrev Held : Standing → List ℕ → Type 0
 Held Between word = word ≡ []
 Held AtWord word = word ≡ []
@@ -91,7 +91,7 @@ bare_more (c ∷ word) b bare e =
     let both : (nat_lt 0 (length (c ∷ word)) ≡ true) × (list_all is_plain (c ∷ word) ≡ true) = and_both (nat_lt 0 (length (c ∷ word))) (list_all is_plain (c ∷ word)) bare in
     both_true (has_byte c (word ++ b ∷ [])) (all_more (c ∷ word) b both.1 e)
 
--- the end of a line, after what stands before its newline
+-- the newline of a line, after the rest of the line
 line_takes : (lines : List PlanLine) (program : Option (List ℕ)) (words : List (List ℕ)) (place : Standing) (piped : Bool) (front text : List ℕ)
     → end_text piped ≡ front ++ 10 ∷ [] → text ≡ lines_text lines ++ open_text program words ++ front
     → Takes (r.with_line (at lines program words [] place) piped) (text ++ 10 ∷ [])
@@ -123,7 +123,7 @@ between_takes lines program words place b text is none = by (b == 32) refl (b ==
         subst P (sym same) (line_takes lines program words place false [] text refl (is ∙ sym (append-nil (lines_text lines ++ open_text program words))))
     by false e false f = tt
 
--- a word that ended, in its printed form
+-- a word that has ended, in its printed form
 word_takes : (program : Option (List ℕ)) (lines : List PlanLine) (words : List (List ℕ)) (word text : List ℕ) (place : Standing)
     → text ≡ lines_text lines ++ open_text program words ++ 32 ∷ quoted word → NoWords program words
     → let after = r.with_word (at lines program words word place) in
@@ -136,7 +136,7 @@ word_takes None lines words word text place is none = (
 word_takes (Some program) lines words word text place is none =
     (is ∙ append_assoc (lines_text lines) (words_text (program ∷ words)) (32 ∷ quoted word) ∙ ap (λ t. lines_text lines ++ t) (sym (words_more (program ∷ words) word)), tt)
 
--- a word that its quote has closed
+-- a word that its closing quote has ended
 closed_word : (program : Option (List ℕ)) (lines : List PlanLine) (words : List (List ℕ)) (word text : List ℕ)
     → text ≡ lines_text lines ++ open_text program words ++ 32 ∷ quoted word → NoWords program words
     → Takes (r.placed (r.with_word (at lines program words word Quoted)) Between) text
@@ -296,7 +296,7 @@ finished_is Escaped program lines found words word text took e = absurd cc
 finished_is Bar program lines found words word text took e = absurd cc
 finished_is Wrong program lines found words word text took e = absurd cc
 
--- a text that is read shows the lines
+-- a text that the reader accepts shows the lines
 pub read_is_shown : (text : List ℕ) (lines : List PlanLine) → lines_read text ≡ Some lines → Shows text lines
 read_is_shown text lines e =
     let last : LineReader = read r.start text in
@@ -305,7 +305,7 @@ read_is_shown text lines e =
     let P : List ℕ → Type 0 = λ t. Shows t lines in
     subst P (sym is) (shows_lines lines)
 
--- what the reader found is shown, and what is shown is found
+-- the reader finds the lines that the text shows
 pub found_is_shown : (text : List ℕ) (found : Option (List PlanLine)) → found ≡ lines_read text → IfSome found (λ lines. Shows text lines)
 found_is_shown text None e = tt
 found_is_shown text (Some lines) e = read_is_shown text lines (sym e)

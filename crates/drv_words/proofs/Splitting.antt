@@ -6,13 +6,13 @@ use Rattle.std.proofs.Math.Seq.{append_snoc}
 use Rattle.std.proofs.lemmas.Bool.{eq-eqb, eqb-true}
 use Rattle.std.proofs.lemmas.List.{append-nil}
 
--- The splitter and the grammar of response text agree.
+-- The splitter agrees with the grammar of response text.
 
 -- a splitter with these fields
 abbrev at : List (List ℕ) → Option (List ℕ) → Option ℕ → Bool → Splitter
 at words word quote marked = record { words = words; word = word; quote = quote; escaped = marked }
 
--- Running over what a derivation covers leads to the state after it.
+-- Reading the text of a derivation leads to the state after it.
 
 run_splits : {mark : ℕ} {text bytes rest : List ℕ} → IsRun mark text bytes rest → (mark == 92) ≡ false → (words : List (List ℕ)) (word : List ℕ)
     → words_of (at words (Some word) (Some mark) false) text ≡ words_of (at words (Some (word ++ bytes)) None false) rest
@@ -66,7 +66,7 @@ splits_split (one_word {text} {bytes} {mid} {word} {rest} {words} piece pieces o
     piece_splits piece front None ∙ pieces_split pieces front bytes ∙ splits_split others (front ++ (bytes ++ word) ∷ [])
     ∙ append_snoc front (bytes ++ word) words
 
--- Each text is split by the grammar: how a text goes on, from each place.
+-- The grammar splits every text: what can follow, at each point of a text.
 
 record Begun (text : List ℕ) : Type 0 where
   bytes : List ℕ
@@ -105,7 +105,7 @@ begun_goes begun = record { word = begun.bytes ++ begun.word; rest = begun.rest;
 at_the_end : Went []
 at_the_end = record { word = []; rest = []; words = []; pieces = no_more at_end; others = nothing }
 
--- a byte that opens or goes on with a word
+-- a byte that opens or continues a word
 begins : (b : ℕ) (text : List ℕ) → is_space b ≡ false → Goes text → Begun (b ∷ text)
 begins b text s goes = by (b == 92) refl (is_quote b) refl
   where
@@ -169,7 +169,7 @@ goes_on (b ∷ text) = by (is_space b) refl (goes_on text)
           ran_after = run_escape goes;
         }
 
--- what the splitter gives is in the grammar, and nothing else is
+-- the splitter's words are those of the grammar
 pub split_is_onto : (text : List ℕ) (words all : List (List ℕ)) → all ≡ words_of (following words) text → SplitsOnto text words all
 split_is_onto text words all e =
     let goes : Goes text = goes_on text in
@@ -185,7 +185,7 @@ pub split_is_only : (text : List ℕ) (none words : List (List ℕ)) → none �
     → (others : List (List ℕ)) → Splits text others → words ≡ others
 split_is_only text none words empty e others splits = e ∙ splits_split splits none ∙ ap (λ front. front ++ others) empty
 
--- a text has words, and no others
+-- a text has one list of words
 pub some_words : (text : List ℕ) → (words : List (List ℕ)) × Splits text words
 some_words text = let goes : Goes text = goes_on text in (goes.words, goes.splits)
 

@@ -3,7 +3,7 @@ use Rattle.std.specs.Prelude.{◌==◌, List, [], ◌∷◌, Option, None, Some,
 
 -- The parts of a file's name (GCC manual, "Spec Files": `%b`, `%B`; "Overall Options", -dumpbase).
 
--- the bytes before the last one of a kind, and those after it, if there is one
+-- the bytes before the last byte of a kind, and those after it, if there is one
 abbrev pub parted : ℕ → List ℕ → Option (List ℕ × List ℕ)
 parted mark [] = None
 parted mark (b ∷ bs) = by (parted mark bs)
@@ -12,7 +12,7 @@ parted mark (b ∷ bs) = by (parted mark bs)
     by (Some parts) = Some (b ∷ parts.0, parts.1)
     by None = if b == mark then Some ([], bs) else None
 
--- a name without its folder: what stands after its last slash
+-- a name without its folder: the part after its last slash
 abbrev pub base : List ℕ → List ℕ
 base name = by (parted slash name)
   where
@@ -20,7 +20,7 @@ base name = by (parted slash name)
     by None = name
     by (Some parts) = parts.1
 
--- what stands before the last period of a name without its folder, and after it; a period in first place doesn't count
+-- the parts before and after the last period of a name without its folder; a leading period doesn't count
 abbrev pub suffixed : List ℕ → Option (List ℕ × List ℕ)
 suffixed name = by (parted period (base name))
   where

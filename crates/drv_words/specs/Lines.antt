@@ -6,17 +6,17 @@ use Rattle.std.specs.List.{flat_map}
 use Rattle.std.specs.Option.{option_to_list}
 use Rattle.std.specs.Prelude.{List, [], ◌∷◌, ◌++◌, nat_lt, length}
 
--- The lines that a plan is shown by (this project's profile).
+-- The lines that show a plan (this project's profile).
 
--- a group's: each command is piped unless it is the last
+-- a group: each command but the last is piped
 abbrev pub group_lines : List Command → List PlanLine
 group_lines [] = []
 group_lines (command ∷ commands) = record { command = command; piped = nat_lt 0 (length commands) } ∷ group_lines commands
 
--- a job's: those of its groups, one after another
+-- a job: its groups, one after another
 abbrev pub job_lines : Job → List PlanLine
 job_lines job = flat_map group_lines job.groups
 
--- a plan's: those of its jobs in order, then those of the link
+-- a plan: its jobs in order, then the link
 abbrev pub lines_of : Plan → List PlanLine
 lines_of plan = flat_map job_lines (plan.jobs ++ option_to_list plan.link)

@@ -8,13 +8,13 @@ use Rattle.drv_words.specs.declared.steps.Place.TheVariants as place
 use Rattle.std.specs.Option.{option_to_list}
 use Rattle.std.specs.Prelude.{◌++◌, Bool, List, [], None, false, get_or, length, nat_lt, ℕ}
 
--- Which places a plan has, and of what kind they are (this project's profile).
+-- Which places a plan has, and their kinds (this project's profile).
 
 -- nothing to do
 abbrev pub no_job : Job
 no_job = record { source = None; groups = []; temps = []; marked = []; on_failure = []; output = None }
 
--- the job of a number: those of the sources in order, then the link's
+-- the job of a number: the sources in order, then the link
 abbrev pub job_at : Plan → ℕ → Job
 job_at plan k = get_or (plan.jobs ++ option_to_list plan.link) k no_job
 
@@ -42,7 +42,7 @@ is_file plan (place.Temp k i) = nat_lt i (length (job_at plan k).temps)
 is_file plan (place.Marked k i) = nat_lt i (length (job_at plan k).marked)
 is_file plan (place.OnFailure k i) = nat_lt i (length (job_at plan k).on_failure)
 
--- a note of a place that the plan has and of the right kind
+-- a note about a place of the right kind that the plan has
 abbrev pub is_note : Plan → Note → Bool
 is_note plan (note.NotClaimed p) = is_temp plan p
 is_note plan (note.NotStarted p) = is_command plan p

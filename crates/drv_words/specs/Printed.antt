@@ -4,24 +4,24 @@ use Rattle.std.specs.Char.{is_ascii_alphanumeric}
 use Rattle.std.specs.List.{flat_map, list_all}
 use Rattle.std.specs.Prelude.{◌≡◌, Bool, false, true, ◌||◌, ◌&&◌, ◌==◌, List, [], ◌∷◌, ◌++◌, if◌then◌else◌, length, nat_lt, ℕ}
 
--- The text of a plan, as the driver says it with -### and -v (GCC manual, "Overall Options"; what is quoted,
--- and ` |` for a pipe, are this project's profile).
+-- The text of a plan, as the driver prints it for -### and -v (GCC manual, "Overall Options"). Which words are quoted, and ` |` for a pipe,
+-- are this project's profile.
 
 -- a letter, a digit or one of ./-_
 abbrev pub is_plain : ℕ → Bool
 is_plain b = is_ascii_alphanumeric b || b == byte.period || b == byte.slash || b == byte.hyphen || b == byte.underscore
 
--- a word that needs no quotes: it has a byte, and each is plain
+-- a word that needs no quotes: at least one byte, and all of them plain
 abbrev pub is_bare : List ℕ → Bool
 is_bare word = nat_lt 0 (length word) && list_all is_plain word
 
--- a byte after a backslash between quotes: a double quote, a backslash or a dollar sign
+-- a byte that needs a backslash between quotes: a double quote, a backslash or a dollar sign
 abbrev pub is_special : ℕ → Bool
 is_special b = b == byte.double_quote || b == byte.backslash || b == byte.dollar
 
 -- The grammar, by cases: first the text, then what it shows.
 
--- what stands between the quotes
+-- the text between the quotes
 pub data Escapes : List ℕ → List ℕ → Type 0 where
   no_byte : Escapes [] []
   other : {b : ℕ} {text word : List ℕ} → is_special b ≡ false → Escapes text word → Escapes (b ∷ text) (b ∷ word)
@@ -47,7 +47,7 @@ pub data Shows : List ℕ → List PlanLine → Type 0 where
   no_line : Shows [] []
   line : {words end rest : List ℕ} {l : PlanLine} {lines : List PlanLine} → ShowsWords words (l.command.program ∷ l.command.words) → ShowsEnd end l.piped → Shows rest lines → Shows (words ++ end ++ rest) (l ∷ lines)
 
--- The same as functions: the text that shows a word's inside, a word, words, a line, lines.
+-- The same as functions: the text of a word's inside, of a word, of words, of a line, of lines.
 
 abbrev pub escaped : List ℕ → List ℕ
 escaped [] = []

@@ -3,8 +3,8 @@ use Rattle.std.specs.Int.{is_in_range}
 use Rattle.std.specs.List.{flat_map}
 use Rattle.std.specs.Prelude.{◌≡◌, ◌||◌, ◌==◌, Bool, false, true, List, [], ◌∷◌, ◌++◌, if◌then◌else◌, ℕ}
 
--- The text of a response file (GCC manual, "Overall Options", @file; what it leaves open is this project's
--- profile), as a grammar by cases: first the text, then what it stands for, then the rest of the text.
+-- The text of a response file, as a grammar by cases: the text, the words that it means, and the rest of the text (GCC manual, "Overall
+-- Options", @file). What the manual leaves open is this project's profile.
 
 -- tab to carriage return, and space
 abbrev pub is_space : ℕ → Bool
@@ -14,8 +14,7 @@ is_space b = is_in_range byte.tab byte.carriage_return b || b == byte.space
 abbrev pub is_quote : ℕ → Bool
 is_quote b = b == byte.single_quote || b == byte.double_quote
 
--- a quoted run after its opening quote: a backslash stands for the byte after it, and the end of the text
--- closes the run
+-- a quoted run after its opening quote: a backslash makes the next byte plain, and the end of the text closes the run
 pub data IsRun : ℕ → List ℕ → List ℕ → List ℕ → Type 0 where
   run_closed : {mark : ℕ} {rest : List ℕ} → IsRun mark (mark ∷ rest) [] rest
   run_unclosed : {mark : ℕ} → IsRun mark [] [] []
@@ -23,7 +22,7 @@ pub data IsRun : ℕ → List ℕ → List ℕ → List ℕ → Type 0 where
   run_escaped : {mark b : ℕ} {text bytes rest : List ℕ} → IsRun mark text bytes rest → IsRun mark (byte.backslash ∷ b ∷ text) (b ∷ bytes) rest
   run_plain : {mark b : ℕ} {text bytes rest : List ℕ} → (b == mark) ≡ false → (b == byte.backslash) ≡ false → IsRun mark text bytes rest → IsRun mark (b ∷ text) (b ∷ bytes) rest
 
--- a piece of a word: a plain byte, a backslash and the byte that it stands for, or a quoted run
+-- a piece of a word: a plain byte, a backslash with the byte after it, or a quoted run
 pub data IsPiece : List ℕ → List ℕ → List ℕ → Type 0 where
   plain : {b : ℕ} {rest : List ℕ} → is_space b ≡ false → is_quote b ≡ false → (b == byte.backslash) ≡ false → IsPiece (b ∷ rest) (b ∷ []) rest
   escaped : {b : ℕ} {rest : List ℕ} → IsPiece (byte.backslash ∷ b ∷ rest) (b ∷ []) rest
@@ -46,13 +45,13 @@ pub data Splits : List ℕ → List (List ℕ) → Type 0 where
   space : {b : ℕ} {rest : List ℕ} {words : List (List ℕ)} → is_space b ≡ true → Splits rest words → Splits (b ∷ rest) words
   one_word : {text bytes mid word rest : List ℕ} {words : List (List ℕ)} → IsPiece text bytes mid → ArePieces mid word rest → Splits rest words → Splits text ((bytes ++ word) ∷ words)
 
--- the words of a text, put after others
+-- the words of a text, appended to others
 abbrev pub SplitsOnto : List ℕ → List (List ℕ) → List (List ℕ) → Type 0
 SplitsOnto text words all = (more : List (List ℕ)) × (all ≡ words ++ more) × Splits text more
 
--- The text that stands for words: a line each.
+-- The response text of words: one line for each.
 
--- the bytes after a backslash: white space, both quotes and the backslash
+-- the bytes that need a backslash: white space, both quotes and the backslash
 abbrev pub is_marked : ℕ → Bool
 is_marked b = is_space b || is_quote b || b == byte.backslash
 
@@ -60,7 +59,7 @@ abbrev pub marked : List ℕ → List ℕ
 marked [] = []
 marked (b ∷ word) = if is_marked b then byte.backslash ∷ b ∷ marked word else b ∷ marked word
 
--- the empty word stands as two quotes
+-- the empty word is two quotes
 abbrev pub response : List ℕ → List ℕ
 response [] = byte.double_quote ∷ byte.double_quote ∷ []
 response (b ∷ word) = marked (b ∷ word)

@@ -12,9 +12,9 @@ use Rattle.drv_words.specs.declared.steps.Step.TheVariants as step
 use Rattle.std.specs.List.{list_any}
 use Rattle.std.specs.Prelude.{◌&&◌, Bool, List, [], ◌∷◌, false, if◌then◌else◌, nat_eq, not, true, ℕ}
 
--- When a step can be made, over the run's events so far, and which answers it can have (this project's profile).
+-- When a step can be made after the run's events so far, and which answers fit it (this project's profile).
 
--- whether a pipe is pending after one more event: a started child takes the one that is, and may leave a new one
+-- whether a pipe is pending after one more event: a started child takes the pending pipe and may leave a new one
 abbrev pub pending_after_start : Bool → Bool → StartAnswer → Bool
 pending_after_start pending to_pipe (start.Started id) = to_pipe
 pending_after_start pending to_pipe (start.NotStarted why) = pending
@@ -31,17 +31,17 @@ pending_from pending (e ∷ events) = pending_from (pending_with pending e.step 
 abbrev pub pipe_pending : List RunEvent → Bool
 pipe_pending = pending_from false
 
--- two commands' places are one; no other place is a command's
+-- two places are the same command; other places are no commands
 abbrev pub same_command : Place → Place → Bool
 same_command (place.Command j g i) (place.Command k h l) = nat_eq j k && (nat_eq g h && nat_eq i l)
 same_command p q = false
 
--- the answer is that the child of this number was started
+-- the answer says that the child of this number was started
 abbrev pub is_child : ℕ → Answer → Bool
 is_child id (answer.Start (start.Started new)) = nat_eq id new
 is_child id a = false
 
--- a start of this place; a wait there for the child of this number
+-- a start at this place; a wait there for the child of this number
 abbrev pub is_start_at : Place → Step → Bool
 is_start_at p (step.Start q from_pipe to_pipe) = same_command p q
 is_start_at p s = false
@@ -50,7 +50,7 @@ abbrev pub is_wait_for : Place → ℕ → Step → Bool
 is_wait_for p id (step.Wait q old) = same_command p q && nat_eq id old
 is_wait_for p id s = false
 
--- the child was started at this place, and not waited for
+-- the child was started at this place and has not been waited for
 abbrev pub is_open : Place → ℕ → List RunEvent → Bool
 is_open p id events = list_any (λ e. is_start_at p e.step && is_child id e.answer) events && not (list_any (λ e. is_wait_for p id e.step) events)
 
@@ -61,8 +61,8 @@ is_new id events = not (list_any (λ e. is_child id e.answer) events)
 abbrev pub same_bool : Bool → Bool → Bool
 same_bool a b = if a then b else not b
 
--- the conditions of a step: its place is one that the plan has and of the right kind; a start reads a pipe exactly where one
--- is pending; a close has one that is pending; a wait is for a child that is open there
+-- The conditions of a step: the plan has its place, which is of the right kind. A start reads a pipe exactly if one is pending. A close
+-- needs a pending pipe. A wait needs a child that is open there.
 abbrev pub can_make : Plan → List RunEvent → Step → Bool
 can_make plan events (step.Claim p) = is_temp plan p
 can_make plan events (step.Start p from_pipe to_pipe) = is_command plan p && same_bool from_pipe (pipe_pending events)
@@ -71,7 +71,7 @@ can_make plan events (step.Wait p id) = is_open p id events
 can_make plan events (step.Remove p) = is_file plan p
 can_make plan events (step.Report n) = is_note plan n
 
--- an answer of the step's kind; the number of a child is new
+-- an answer of the step's kind; a started child has a new number
 abbrev pub fits_start : List RunEvent → StartAnswer → Bool
 fits_start events (start.Started id) = is_new id events
 fits_start events (start.NotStarted why) = true

@@ -1,24 +1,24 @@
-//! What the outside answers to the steps of a run.
+//! The answers to the steps of a run.
 
 /// Whether a new file was made for a temporary.
 #[derive(Clone, Copy, Debug, PartialEq, Eq)]
 pub enum ClaimAnswer {
-    /// The file is new, and this run's.
+    /// The file is new and belongs to this run.
     Claimed,
-    /// Something has that name already.
+    /// A file has that name already.
     Taken,
-    /// It could not be made or written.
+    /// The file could not be made or written.
     Failed,
 }
 
 /// Why a program was not started.
 #[derive(Clone, Copy, Debug, PartialEq, Eq)]
 pub enum NotStarted {
-    /// There is no such program.
+    /// No file has the program's name.
     NotFound,
-    /// It may not be run.
+    /// The program may not be run.
     Denied,
-    /// There was no memory for it.
+    /// There was not enough memory.
     NoMemory,
     /// Any other reason.
     Other,
@@ -27,38 +27,38 @@ pub enum NotStarted {
 /// Whether a program was started.
 #[derive(Clone, Copy, Debug, PartialEq, Eq)]
 pub enum StartAnswer {
-    /// It was, as the child of this number.
+    /// It was started as the child of this number.
     Started(u64),
-    /// It was not.
+    /// It was not started.
     NotStarted(NotStarted),
 }
 
 /// How a child ended.
 #[derive(Clone, Copy, Debug, PartialEq, Eq)]
 pub enum WaitAnswer {
-    /// With this status.
+    /// It exited with this status.
     Exit(u8),
-    /// By a signal.
+    /// A signal ended it.
     Signal,
-    /// Nothing is known of it.
+    /// Its end is unknown.
     Lost,
 }
 
 /// Whether a file was removed.
 #[derive(Clone, Copy, Debug, PartialEq, Eq)]
 pub enum RemoveAnswer {
-    /// It was.
+    /// The file was removed.
     Removed,
-    /// Nothing has that name.
+    /// No file has that name.
     Missing,
-    /// It is no plain file, and stays.
+    /// It is not a plain file, and was kept.
     NotPlain,
     /// It could not be removed.
     Failed,
 }
 
-/// The answer to a step of a run: to a claim, a start, the closing of a pipe, a wait, a removal, or
-/// a report with whether it was told.
+/// The answer to a step of a run: a claim, a start, the closing of a pipe, a wait, a removal, or a
+/// report, with whether it was written.
 #[derive(Clone, Copy, Debug, PartialEq, Eq)]
 pub enum Answer {
     Claim(ClaimAnswer),

@@ -1,10 +1,10 @@
-//! The parts of a file's name. No part takes memory.
+//! The parts of a file's name.
 
 ghost use Rattle.drv_words.specs.FileNames.{base, parted, stem, suffixed};
 ghost use Rattle.std.specs.Option.{option_map};
 ghost use Rattle.std.specs.Prelude.{◌≡◌};
 
-/// The bytes before the last one of a kind, and those after it, if there is one.
+/// The bytes before the last byte of a kind, and those after it, if there is one.
 pub fn parted(mark: u8, name: &[u8]) -> Option<(&[u8], &[u8])>
     ensures { option_map (λ parts. (parts.0.now, parts.1.now)) result ≡ parted mark name.now }
 {
@@ -14,7 +14,7 @@ pub fn parted(mark: u8, name: &[u8]) -> Option<(&[u8], &[u8])>
     }
 }
 
-/// A name without its folder: what stands after its last slash.
+/// A name without its folder: the part after its last slash.
 pub fn base(name: &[u8]) -> &[u8]
     ensures { result.now ≡ base name.now }
 {
@@ -24,8 +24,8 @@ pub fn base(name: &[u8]) -> &[u8]
     }
 }
 
-/// What stands before the last period of a name without its folder, and after it; a period in first
-/// place doesn't count.
+/// The parts before and after the last period of a name without its folder. A leading period
+/// doesn't count.
 pub fn suffixed(name: &[u8]) -> Option<(&[u8], &[u8])>
     ensures { option_map (λ parts. (parts.0.now, parts.1.now)) result ≡ suffixed name.now }
 {

@@ -8,14 +8,14 @@ use crate::PlanLine;
 /// How a printed line ends.
 #[derive(Clone, Copy)]
 pub(crate) enum LineEnd {
-    /// Its command is piped into that of the next line.
+    /// The command is piped into that of the next line.
     Piped,
-    /// Its command is the last of its group.
+    /// The command is the last of its group.
     Last,
 }
 
 impl LineEnd {
-    /// That of a line.
+    /// How this line ends.
     pub(crate) fn of(line: &PlanLine) -> LineEnd
         ensures { is_piped result ≡ line.now.piped }
     {
@@ -26,7 +26,7 @@ impl LineEnd {
         }
     }
 
-    /// That of the command at this place of a group of so many.
+    /// How the line of the command at `index` of a group of `count` ends.
     pub(crate) fn within(index: usize, count: usize) -> LineEnd
         requires { index < count }
         ensures { is_piped result ≡ nat_lt (index + 1) count }

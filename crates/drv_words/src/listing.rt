@@ -19,7 +19,7 @@ impl<T> Model for Listing<T> {
 }
 
 impl<T> Listing<T> {
-    /// The empty list, which takes no memory.
+    /// The empty list.
     pub fn new(alloc: Global) -> Listing<T>
         ensures { result ≡ [] }
     {
@@ -28,14 +28,14 @@ impl<T> Listing<T> {
         }
     }
 
-    /// The list of these items, which takes no memory.
+    /// The list of these items.
     pub fn from_vec(items: Vec<T>) -> Listing<T>
         ensures { result ≡ items.items }
     {
         Listing { items }
     }
 
-    /// The items, which takes no memory.
+    /// Returns the items.
     pub fn into_vec(self) -> Vec<T>
         ensures { result.items ≡ self }
     {
@@ -63,15 +63,15 @@ impl<T> Listing<T> {
         self.items.is_empty()
     }
 
-    /// Makes room for so many more items, so that the list doesn't grow item by item. The items
-    /// stay, whatever the result.
+    /// Makes room for `additional` more items, so that the list doesn't grow item by item. The
+    /// items stay the same.
     pub(crate) fn reserve(&mut self, additional: usize) -> Result<(), AllocError>
         ensures { self.new ≡ self.old }
     {
         self.items.reserve(additional)
     }
 
-    /// Adds an item at the end. On an error the list is as it was, and the item comes back.
+    /// Adds an item at the end. On an error the list is unchanged and the item comes back.
     pub fn push(&mut self, item: T) -> Result<(), AllocFailed<T>>
         ensures ok { OnOk result (self.new ≡ self.old ++ item ∷ []) }
         ensures err { OnErr result (self.new ≡ self.old) }
@@ -80,7 +80,7 @@ impl<T> Listing<T> {
         self.items.push(item)
     }
 
-    /// Takes the last item off, if there is one.
+    /// Removes the last item, if there is one.
     pub fn pop(&mut self) -> Option<T>
         ensures { MatchOption result ((self.old ≡ []) × (self.new ≡ []))
             (λ item. self.old ≡ self.new ++ item ∷ []) }

@@ -1,4 +1,4 @@
-//! The plan of a driver: jobs of command groups, what they leave behind, and the link.
+//! The plan of a driver: jobs of command groups, the files that they leave, and the link.
 
 ghost use Rattle.std.specs.Prelude.{◌≡◌, ◌==◌, ◌<◌, ◌∷◌, ◌++◌, [], None, OnErr, OnOk, IfErr, Some};
 ghost use Rattle.std.specs.Prelude.{if◌then◌else◌, length};
@@ -7,7 +7,7 @@ use crate::{Listing, Word};
 use std::alloc::{AllocError, AllocFailed, Global};
 use std::marker::Model;
 
-/// A program and the words that it is given.
+/// A program and its arguments.
 #[derive(Debug, Drop)]
 pub struct Command {
     pub program: Word,
@@ -25,7 +25,7 @@ impl Clone for Command {
     }
 }
 
-/// Commands that run at once, each but the last piped into the next. A group has a command.
+/// Commands that run at once, each but the last piped into the next. A group has at least one.
 #[derive(Debug, Drop)]
 pub struct Group {
     commands: Vec<Command>,
@@ -43,7 +43,7 @@ impl Model for Group {
 }
 
 impl Group {
-    /// The group of these commands, or none if there is no command. It takes no memory.
+    /// The group of these commands, or `None` if there are none.
     pub fn from_vec(commands: Vec<Command>) -> Option<Group>
         ensures { result ≡ (if length commands.items == 0 then None else Some commands.items) }
     {
@@ -54,7 +54,7 @@ impl Group {
         }
     }
 
-    /// The commands, which takes no memory.
+    /// Returns the commands.
     pub fn into_vec(self) -> Vec<Command>
         ensures commands { result.items ≡ self }
         ensures some { 0 < length self }
@@ -62,7 +62,7 @@ impl Group {
         self.commands
     }
 
-    /// The commands in the order of the pipe.
+    /// The commands, in the order of the pipe.
     pub fn as_slice(&self) -> &[Command]
         ensures commands { result.now ≡ self.now }
         ensures some { 0 < length self.now }
@@ -70,7 +70,7 @@ impl Group {
         self.commands.as_slice()
     }
 
-    /// Adds a command at the end of the pipe. On an error the group is as it was, and the command
+    /// Adds a command at the end of the pipe. On an error the group is unchanged and the command
     /// comes back.
     pub fn push(&mut self, command: Command) -> Result<(), AllocFailed<Command>>
         ensures ok { OnOk result (self.new ≡ self.old ++ command ∷ []) }
@@ -81,7 +81,7 @@ impl Group {
     }
 }
 
-/// A temporary file: its path, and the bytes that are written into it when it is claimed.
+/// A temporary file: its path, and the bytes that are written when it is claimed.
 #[derive(Debug, Drop)]
 pub struct Temp {
     pub path: Word,
@@ -91,8 +91,8 @@ pub struct Temp {
 /// The work on one source, or the link.
 #[derive(Debug, Drop)]
 pub struct Job {
-    /// The place of the source among the line's inputs; none for the link, and in a job as `run` of
-    /// the machine answers it.
+    /// The index of the source among the line's inputs. `None` for the link, and for a job as the
+    /// machine returns it.
     pub source: Option<usize>,
     /// The groups, one after another.
     pub groups: Listing<Group>,
@@ -100,13 +100,13 @@ pub struct Job {
     pub temps: Listing<Temp>,
     /// The files that are removed at the end of the run.
     pub marked: Listing<Word>,
-    /// The files that are removed where the job failed after a command of it was started.
+    /// The files that are removed if the job fails after it has started a command.
     pub on_failure: Listing<Word>,
-    /// The file that the link takes as this job's result.
+    /// The file that this job passes to the link.
     pub output: Option<Word>,
 }
 
-/// All that a driver's call comes to: notices for the user, a job for each source, and the link.
+/// The work of a whole call: notices for the user, a job for each source, and the link.
 #[derive(Debug, Drop)]
 pub struct Plan {
     pub notices: Listing<Word>,
@@ -114,7 +114,7 @@ pub struct Plan {
     pub link: Option<Job>,
 }
 
-/// One line of a plan's text: a command, and whether it is piped into the command of the next line.
+/// One line of a printed plan: a command, and whether it is piped into that of the next line.
 #[derive(Debug, Drop)]
 pub struct PlanLine {
     pub command: Command,

@@ -13,7 +13,7 @@ use crate::quoting::push_quoted;
 use crate::{Listing, Word};
 use std::alloc::{AllocError, Global};
 
-/// Adds the lines of a group: each command is piped unless it is the last.
+/// Adds the lines of a group: each command but the last is piped.
 fn push_group(lines: &mut Listing<PlanLine>, commands: &[Command]) -> Result<(), AllocError>
     ensures { OnOk result (lines.new ≡ lines.old ++ group_lines commands.now) }
 {
@@ -36,8 +36,8 @@ fn push_job(lines: &mut Listing<PlanLine>, job: &Job) -> Result<(), AllocError>
     Ok(())
 }
 
-/// The lines of a plan: the commands of its jobs in order, then those of the link. Each is piped
-/// unless it is the last of its group.
+/// The lines of a plan: the commands of its jobs in order, then those of the link. Each but the
+/// last of its group is piped.
 pub fn plan_lines(alloc: Global, plan: &Plan) -> Result<Listing<PlanLine>, AllocError>
     ensures { IfOk result (λ lines. lines ≡ lines_of plan.now) }
 {
@@ -96,8 +96,8 @@ fn push_line(text: &mut Vec<u8>, line: &PlanLine) -> Result<(), AllocError>
     push_end(text, LineEnd::of(line))
 }
 
-/// The text of lines: of each a space before each word in its printed form, ` |` where it is piped,
-/// and a newline. It makes no copy of a word.
+/// The text of lines. Each line has a space before each printed word, ` |` if it is piped, and a
+/// newline. No word is copied.
 pub fn render(alloc: Global, lines: &[PlanLine]) -> Result<Word, AllocError>
     ensures text { IfOk result (λ text. text ≡ lines_text lines.now) }
     ensures shows { IfOk result (λ text. Shows text lines.now) }
@@ -154,7 +154,7 @@ fn plan_text(alloc: Global, plan: &Plan) -> Result<Word, AllocError>
     Ok(Word::from_vec(text))
 }
 
-/// The text of a plan's lines: what [`render`] gives of [`plan_lines`]. It makes no copy of a word.
+/// The text of a plan's lines: what [`render`] returns for [`plan_lines`]. No word is copied.
 pub fn render_plan(alloc: Global, plan: &Plan) -> Result<Word, AllocError>
     ensures text { IfOk result (λ text. text ≡ lines_text (lines_of plan.now)) }
     ensures shows { IfOk result (λ text. Shows text (lines_of plan.now)) }

@@ -9,8 +9,8 @@ use crate::Word;
 use std::alloc::{AllocError, Global};
 
 /// Whether a byte needs no quotes: a letter, a digit or one of `./-_`. Small letters come first,
-/// since most bytes are those, and what is below decides alone; `-`, `.` and `/` stand right before
-/// the digits.
+/// since most bytes are those. The last test alone decides: `-`, `.` and `/` come right before the
+/// digits in ASCII.
 pub(crate) fn is_plain_byte(byte: u8) -> bool
     ensures { result ≡ is_plain byte }
 {
@@ -23,7 +23,7 @@ pub(crate) fn is_plain_byte(byte: u8) -> bool
     byte >= b'-' && byte <= b'9'
 }
 
-/// Whether a backslash stands before a byte between double quotes.
+/// Whether a byte needs a backslash between double quotes.
 pub(crate) fn is_special_byte(byte: u8) -> bool
     ensures { result ≡ is_special byte }
 {
@@ -44,7 +44,7 @@ pub(crate) fn is_bare_word(word: &[u8]) -> bool
     !word.is_empty() && are_plain_bytes(word)
 }
 
-/// Adds what stands between the quotes.
+/// Adds the text between the quotes.
 fn push_escaped(text: &mut Vec<u8>, word: &[u8]) -> Result<(), AllocError>
     ensures { OnOk result (text.new.items ≡ text.old.items ++ escaped word.now) }
 {
@@ -71,9 +71,9 @@ pub(crate) fn push_quoted(text: &mut Vec<u8>, word: &Word) -> Result<(), AllocEr
     Ok(())
 }
 
-/// The printed form of a word, as in a line of `-###`: a word of letters, digits and `./-_` stands
-/// as it is, any other in double quotes with a backslash before `"`, `\` and `$` (GCC manual,
-/// "Overall Options").
+/// The printed form of a word, as in a line of `-###`. A word of letters, digits and `./-_` is
+/// printed as it is. Any other is put in double quotes, with a backslash before `"`, `\` and `$`
+/// (GCC manual, "Overall Options").
 pub fn quote(alloc: Global, word: &Word) -> Result<Word, AllocError>
     ensures text { IfOk result (λ text. text ≡ quoted word.now) }
     ensures shows { IfOk result (λ text. ShowsWord text word.now) }

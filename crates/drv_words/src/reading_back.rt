@@ -14,7 +14,7 @@ use crate::{Command, Listing, PlanLine, Word};
 use std::alloc::{AllocError, Global};
 use std::mem;
 
-/// Where a reader stands.
+/// The place of a text that a reader has reached.
 #[derive(Clone, Copy)]
 enum Standing {
     /// At the start of a line, or after a word.
@@ -25,7 +25,7 @@ enum Standing {
     Bare,
     /// Between the quotes of a word.
     Quoted,
-    /// There after a backslash.
+    /// Between the quotes, after a backslash.
     Escaped,
     /// After the bar that ends a piped line.
     Bar,
@@ -33,7 +33,7 @@ enum Standing {
     Wrong,
 }
 
-/// A reader of printed lines: the lines that ended, and what is there of the next one.
+/// A reader of printed lines: the lines that have ended, and the parts of the next one.
 #[derive(Drop)]
 struct LineReader {
     lines: Listing<PlanLine>,
@@ -56,7 +56,7 @@ impl LineReader {
         }
     }
 
-    /// Ends the word: it is the line's program, or one more of its words.
+    /// Ends the word: it becomes the line's program, or one more of its words.
     fn end_word(&mut self, alloc: Global) -> Result<(), AllocError>
         ensures { OnOk result (self.new ≡ with_word self.old) }
     {
@@ -69,7 +69,7 @@ impl LineReader {
         Ok(())
     }
 
-    /// Ends the line, which has to have a program.
+    /// Ends the line, which must have a program.
     fn end_line(&mut self, alloc: Global, end: LineEnd) -> Result<(), AllocError>
         ensures { OnOk result (self.new ≡ with_line self.old (is_piped end)) }
     {
@@ -199,8 +199,7 @@ fn read_lines(alloc: Global, text: &[u8]) -> Result<Option<Listing<PlanLine>>, A
     Ok(reader.finish())
 }
 
-/// The lines that a text shows, or none if it is not the text of lines as [`render`](crate::render)
-/// gives it, byte for byte.
+/// The lines that a text shows, or `None` unless [`render`](crate::render) gives exactly this text.
 pub fn read_back(alloc: Global, text: &[u8]) -> Result<Option<Listing<PlanLine>>, AllocError>
     ensures shown { IfOk result (λ found. IfSome found (λ lines. Shows text.now lines)) }
     ensures always { IfOk result (λ found. (lines : List PlanLine) → Shows text.now lines
@@ -209,7 +208,7 @@ pub fn read_back(alloc: Global, text: &[u8]) -> Result<Option<Listing<PlanLine>>
     read_lines(alloc, text)
 }
 
-/// A law: a text shows one list of lines at most.
+/// A law: a text shows at most one list of lines.
 pub fn one_list_of_lines()
     ensures { (text : List ℕ) (a b : List PlanLine) → Shows text a → Shows text b → a ≡ b }
 {}

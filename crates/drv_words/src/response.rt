@@ -13,11 +13,10 @@ use crate::{Listing, Word};
 use std::alloc::{AllocError, Global};
 use std::mem;
 
-/// The list of words is given room at once for as many as the text of a file may have, up to this
-/// number.
+/// The number of words for which the list gets room at the start, at most.
 const MOST_ROOM: usize = 4096;
 
-/// A word of a response file has so many bytes or more, mostly, with the white space after it.
+/// Most words of a response file have at least this many bytes, with the white space after them.
 const BYTES_A_WORD: usize = 4;
 
 /// Whether a byte is white space in response text: tab to carriage return, and space.
@@ -34,8 +33,8 @@ fn is_quote_byte(byte: u8) -> bool
     matches!(byte, b'\'' | b'"')
 }
 
-/// Whether a byte stands after a backslash in the text of a word. Most bytes come after the
-/// quotes, where it is the backslash alone.
+/// Whether a byte needs a backslash in the text of a word. The backslash is tested last, since most
+/// bytes are greater than the quotes.
 fn is_marked_byte(byte: u8) -> bool
     ensures { result ≡ is_marked byte }
 {
@@ -45,15 +44,14 @@ fn is_marked_byte(byte: u8) -> bool
     is_space_byte(byte) || is_quote_byte(byte)
 }
 
-/// Where the first white space, quote or backslash of a text stands.
+/// The index of the first white space, quote or backslash.
 fn first_marked(text: &[u8]) -> Option<usize>
     ensures { result ≡ position is_marked text.now }
 {
     text.iter().position(|byte| is_marked_byte(*byte))
 }
 
-/// How many bytes at the front of a text are plain: before the first white space, quote or
-/// backslash.
+/// The number of plain bytes at the front: those before the first white space, quote or backslash.
 #[tactic(auto, using(crate::proofs::Runs::plain_place, crate::proofs::Runs::plain_within))]
 fn plain_length(text: &[u8]) -> usize
     ensures value { result ≡ plain_length text.now }
@@ -62,9 +60,8 @@ fn plain_length(text: &[u8]) -> usize
     first_marked(text).unwrap_or(text.len())
 }
 
-/// A splitter of response text: the words that ended, after those that were there before, the word
-/// that is open, the quote of its run, and whether the last byte was a backslash that stands for
-/// the next.
+/// A splitter of response text: the words so far, the open word, the quote of its run, and whether
+/// the last byte was a backslash that makes the next one plain.
 #[derive(Drop)]
 struct Splitter {
     words: Listing<Word>,
@@ -74,7 +71,7 @@ struct Splitter {
 }
 
 impl Splitter {
-    /// A splitter that puts its words after these.
+    /// A splitter that appends to these words.
     fn new(words: Listing<Word>) -> Splitter
         ensures { result ≡ following words }
     {
@@ -86,7 +83,7 @@ impl Splitter {
         }
     }
 
-    /// Opens a word, if none is.
+    /// Opens a word, unless one is open.
     fn open(&mut self, alloc: Global)
         ensures { self.new ≡ opened self.old }
     {
@@ -95,7 +92,7 @@ impl Splitter {
         }
     }
 
-    /// Adds a byte to the word, and opens one if none is.
+    /// Adds a byte to the word, and opens one if necessary.
     fn push(&mut self, alloc: Global, byte: u8) -> Result<(), AllocError>
         ensures { OnOk result (self.new ≡ with_byte self.old byte) }
     {
@@ -108,7 +105,7 @@ impl Splitter {
         }
     }
 
-    /// Adds bytes to the word, and opens one if none is.
+    /// Adds bytes to the word, and opens one if necessary.
     fn push_run(&mut self, alloc: Global, run: &[u8]) -> Result<(), AllocError>
         ensures { OnOk result (self.new ≡ with_bytes self.old run.now) }
     {
@@ -183,7 +180,7 @@ impl Splitter {
     }
 
     /// Takes a run of plain bytes at the front of a text outside quotes, with the white space after
-    /// it where that ends a word, and gives the rest.
+    /// it if that ends a word. Returns the rest.
     fn take_run<'a>(
         &mut self,
         alloc: Global,
@@ -211,7 +208,7 @@ impl Splitter {
         }
     }
 
-    /// Takes the front of a text: a run of plain bytes, or one byte. Gives the rest.
+    /// Takes the front of a text: a run of plain bytes, or one byte. Returns the rest.
     fn take_front<'a>(&mut self, alloc: Global, text: &'a [u8]) -> Result<&'a [u8], AllocError>
         requires { 0 < length text.now }
         ensures goes { IfOk result (λ rest. words_of self.new rest.now
@@ -229,14 +226,14 @@ impl Splitter {
     }
 }
 
-/// How many words a text is given room for.
+/// The number of words for which a text gets room.
 fn room_for(text: &[u8]) -> usize
     ensures { result ≤ 4096 }
 {
     (text.len() / BYTES_A_WORD + 1).min(MOST_ROOM)
 }
 
-/// Splits a whole text, and puts its words after others.
+/// Splits a whole text, and appends its words to others.
 fn split_text(alloc: Global, words: Listing<Word>, text: &[u8]) -> Result<Listing<Word>, AllocError>
     ensures { IfOk result (λ all. all ≡ words_of (following words) text.now) }
 {
@@ -250,8 +247,7 @@ fn split_text(alloc: Global, words: Listing<Word>, text: &[u8]) -> Result<Listin
     Ok(splitter.words)
 }
 
-/// Adds the words of a response file's text, as [`split`] gives them, to others, where they stand
-/// from then on.
+/// Appends the words of a response file's text, as [`split`] returns them, to others.
 pub fn split_onto(alloc: Global, words: &mut Listing<Word>, text: &[u8]) -> Result<(), AllocError>
     ensures { OnOk result (SplitsOnto text.now words.old words.new) }
 {
@@ -261,7 +257,7 @@ pub fn split_onto(alloc: Global, words: &mut Listing<Word>, text: &[u8]) -> Resu
 }
 
 /// The words of a response file's text: separated by white space, with quoted runs and backslashes
-/// (GCC manual, "Overall Options", `@file`). Every text has one list of words.
+/// (GCC manual, "Overall Options", `@file`). Every text has exactly one list of words.
 pub fn split(alloc: Global, text: &[u8]) -> Result<Listing<Word>, AllocError>
     ensures words { IfOk result (λ words. Splits text.now words) }
     ensures only { IfOk result (λ words. (others : List (List ℕ)) → Splits text.now others
@@ -270,13 +266,13 @@ pub fn split(alloc: Global, text: &[u8]) -> Result<Listing<Word>, AllocError>
     split_text(alloc, Listing::new(alloc), text)
 }
 
-/// A law: a text has a list of words, and one alone.
+/// A law: a text has exactly one list of words.
 pub fn one_list_of_words()
     ensures some { (text : List ℕ) → (words : List (List ℕ)) × Splits text words }
     ensures one { (text : List ℕ) (a b : List (List ℕ)) → Splits text a → Splits text b → a ≡ b }
 {}
 
-/// Adds the bytes of a word, each marked by a backslash where it has to be.
+/// Adds the bytes of a word, with a backslash before those that need one.
 fn push_marked(text: &mut Word, word: &[u8]) -> Result<(), AllocError>
     ensures { OnOk result (text.new ≡ text.old ++ marked word.now) }
 {
@@ -289,7 +285,7 @@ fn push_marked(text: &mut Word, word: &[u8]) -> Result<(), AllocError>
     Ok(())
 }
 
-/// Adds the text that stands for a word.
+/// Adds the response text of a word.
 fn push_response(text: &mut Word, word: &Word) -> Result<(), AllocError>
     ensures { OnOk result (text.new ≡ text.old ++ response word.now) }
 {
@@ -299,8 +295,8 @@ fn push_response(text: &mut Word, word: &Word) -> Result<(), AllocError>
     }
 }
 
-/// The text of a response file that stands for these words: a line each, with a backslash before
-/// white space, quotes and backslash, and the empty word as `""`. [`split`] gives the words back.
+/// The response text of these words: a line for each, with a backslash before white space, quotes
+/// and backslashes. The empty word is `""`. [`split`] returns the words again.
 pub fn respond_text(alloc: Global, words: &[Word]) -> Result<Word, AllocError>
     ensures text { IfOk result (λ text. text ≡ response_text words.now) }
     ensures again { IfOk result (λ text. Splits text words.now) }

@@ -1,9 +1,9 @@
-//! The steps of a run: what is made of which part of a plan, and with which answer.
+//! The steps of a run: what is done with which part of a plan, and the answer.
 
 use crate::Answer;
 
-/// A part of a plan. Jobs are numbered from 0 in the order of the plan, and the link's number is
-/// that of the jobs; groups, commands and files are numbered from 0 in the order of their lists.
+/// A part of a plan. Jobs are numbered from 0 in the order of the plan; the link's number is the
+/// number of jobs. Groups, commands and files are numbered from 0 in their lists.
 #[derive(Clone, Copy, Debug, PartialEq, Eq)]
 pub enum Place {
     /// A command of a group.
@@ -22,23 +22,23 @@ pub enum Place {
         job: usize,
         index: usize,
     },
-    /// A file that is removed where the job failed.
+    /// A file that is removed if the job fails.
     OnFailure {
         job: usize,
         index: usize,
     },
 }
 
-/// What the user is told of a step that failed.
+/// A message about a step that failed.
 #[derive(Clone, Copy, Debug, PartialEq, Eq)]
 pub enum Note {
-    /// The temporary file was not made.
+    /// The temporary file could not be made.
     NotClaimed(Place),
-    /// The command was not started.
+    /// The command could not be started.
     NotStarted(Place),
     /// A signal ended the command.
     Signalled(Place),
-    /// Nothing is known of how the command ended.
+    /// The end of the command is unknown.
     Lost(Place),
     /// The file could not be removed.
     NotRemoved(Place),
@@ -49,13 +49,13 @@ pub enum Note {
 pub enum Step {
     /// Make a new file for a temporary.
     Claim(Place),
-    /// Start a command, which reads the pipe that is pending, and writes a new one.
+    /// Start a command, which reads the pending pipe and writes a new one.
     Start {
         place: Place,
         from_pipe: bool,
         to_pipe: bool,
     },
-    /// Close the pipe that is pending.
+    /// Close the pending pipe.
     ClosePipe,
     /// Wait until the child of this number ends, which was started at this place.
     Wait {
@@ -64,7 +64,7 @@ pub enum Step {
     },
     /// Remove a file.
     Remove(Place),
-    /// Tell the user.
+    /// Report a failure to the user.
     Report(Note),
 }
 

@@ -16,10 +16,10 @@ use std::cmp::Ordering;
 use std::hash::{Hash, Hasher};
 use std::marker::Model;
 
-/// A word of at most so many bytes lies in the value itself, and takes no memory.
+/// A word of at most this many bytes is kept in the value itself and allocates nothing.
 const INLINE: usize = 24;
 
-/// A word of a command line, a path or a piece of text: any bytes, seen by contracts as their list.
+/// A word of a command line, a path or a piece of text: any bytes. Contracts see it as their list.
 ///
 /// Words are ordered byte by byte.
 #[derive(Debug)]
@@ -34,7 +34,7 @@ impl Model for Word {
 }
 
 impl Word {
-    /// The empty word, which takes no memory.
+    /// The empty word.
     pub fn empty(alloc: Global) -> Word
         ensures { result ≡ [] }
     {
@@ -43,7 +43,7 @@ impl Word {
         }
     }
 
-    /// A word that is a copy of these bytes.
+    /// A copy of these bytes as a word.
     pub fn from_bytes(alloc: Global, bytes: &[u8]) -> Result<Word, AllocError>
         ensures { IfOk result (λ word. word ≡ bytes.now) }
     {
@@ -52,7 +52,7 @@ impl Word {
         })
     }
 
-    /// The word of these bytes, which takes no memory.
+    /// The word of these bytes, which are not copied.
     pub fn from_vec(bytes: Vec<u8>) -> Word
         ensures { result ≡ bytes.items }
     {
@@ -82,7 +82,7 @@ impl Word {
         self.bytes.is_empty()
     }
 
-    /// Adds a byte at the end. On an error the word is as it was.
+    /// Adds a byte at the end. On an error the word is unchanged.
     pub fn push(&mut self, byte: u8) -> Result<(), AllocError>
         ensures ok { OnOk result (self.new ≡ self.old ++ byte ∷ []) }
         ensures err { OnErr result (self.new ≡ self.old) }
@@ -91,7 +91,7 @@ impl Word {
         Ok(())
     }
 
-    /// Adds bytes at the end. On an error the word is as it was.
+    /// Adds bytes at the end. On an error the word is unchanged.
     pub fn extend_from_slice(&mut self, bytes: &[u8]) -> Result<(), AllocError>
         ensures ok { OnOk result (self.new ≡ self.old ++ bytes.now) }
         ensures err { OnErr result (self.new ≡ self.old) }

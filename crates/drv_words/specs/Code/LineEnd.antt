@@ -2,7 +2,7 @@ use Rattle.drv_words.specs.declared.line_end.LineEnd.{LineEnd}
 use Rattle.drv_words.specs.declared.line_end.LineEnd.TheVariants.{Last, Piped}
 use Rattle.std.specs.Prelude.{Bool, false, true}
 
--- How a printed line ends, as the code has it. Private clauses alone cite it.
+-- How a printed line ends, as the code sees it. Only private clauses cite it.
 
 abbrev pub is_piped : LineEnd → Bool
 is_piped Piped = true

@@ -7,8 +7,7 @@ use Rattle.drv_words.specs.declared.reading_back.LineReader.{LineReader}
 use Rattle.std.specs.Option.{is_none}
 use Rattle.std.specs.Prelude.{◌&&◌, ◌==◌, Bool, List, [], ◌∷◌, ◌++◌, None, Option, Some, false, if◌then◌else◌, is_some, true, ℕ}
 
--- A reader of printed lines, byte by byte. Private clauses alone cite it: what `read_back` answers is said by
--- the grammar `Shows`.
+-- A reader of printed lines, byte by byte. Only private clauses cite it: the grammar `Shows` defines what `read_back` returns.
 
 -- no line yet
 abbrev pub start : LineReader
@@ -21,7 +20,7 @@ placed reader standing = record reader { standing = standing }
 abbrev pub longer : LineReader → ℕ → Standing → LineReader
 longer reader b standing = record reader { word = reader.word ++ b ∷ []; standing = standing }
 
--- the word has ended: it is the program, or one more word
+-- the word has ended: it is the program or one more word
 abbrev pub word_added : Option (List ℕ) → LineReader → LineReader
 word_added None reader = record reader { program = Some reader.word; word = [] }
 word_added (Some program) reader = record reader { words = reader.words ++ reader.word ∷ []; word = [] }
@@ -55,7 +54,7 @@ at_word reader b =
 abbrev pub bare : LineReader → ℕ → LineReader
 bare reader b = if is_plain b then longer reader b reader.standing else between (with_word reader) b
 
--- a closing quote, which a word has to need
+-- a closing quote, which is an error after a word that needs no quotes
 abbrev pub closed : LineReader → LineReader
 closed reader = if is_bare reader.word then placed reader Wrong else placed (with_word reader) Between
 

@@ -4,10 +4,10 @@ use Rattle.drv_words.specs.declared.response.Splitter.{Splitter}
 use Rattle.std.specs.Option.{is_none}
 use Rattle.std.specs.Prelude.{◌&&◌, ◌==◌, Bool, List, [], ◌∷◌, ◌++◌, None, Option, Some, false, if◌then◌else◌, not, suc, true, ℕ}
 
--- A splitter of response text, byte by byte or by runs of plain bytes. Private clauses alone cite it: what `split` answers is said by
--- the grammar `Splits`.
+-- A splitter of response text, byte by byte or by runs of plain bytes. Only private clauses cite it: the grammar `Splits` defines what
+-- `split` returns.
 
--- at the start of a text, whose words are put after others
+-- at the start of a text, whose words are appended to others
 abbrev pub following : List (List ℕ) → Splitter
 following words = record { words = words; word = None; quote = None; escaped = false }
 
@@ -24,7 +24,7 @@ opened splitter = record splitter { word = Some (open_word splitter.word) }
 abbrev pub with_byte : Splitter → ℕ → Splitter
 with_byte splitter b = record splitter { word = Some (open_word splitter.word ++ b ∷ []) }
 
--- the word, if one is open, has ended
+-- the open word, if there is one, has ended
 abbrev pub word_ended : Option (List ℕ) → Splitter → Splitter
 word_ended None splitter = splitter
 word_ended (Some word) splitter = record splitter { words = splitter.words ++ word ∷ []; word = None }
@@ -32,7 +32,7 @@ word_ended (Some word) splitter = record splitter { words = splitter.words ++ wo
 abbrev pub ended : Splitter → Splitter
 ended splitter = word_ended splitter.word splitter
 
--- a byte inside a quoted run, and outside
+-- a byte inside a quoted run, and one outside
 abbrev pub quoted_step : ℕ → Splitter → ℕ → Splitter
 quoted_step mark splitter b =
     if b == byte.backslash then record splitter { escaped = true }
@@ -53,12 +53,12 @@ step_in (Some mark) splitter b = quoted_step mark splitter b
 abbrev pub step : Splitter → ℕ → Splitter
 step splitter b = if splitter.escaped then record (with_byte splitter b) { escaped = false } else step_in splitter.quote splitter b
 
--- the words of what is left of the text
+-- the words of the rest of the text
 abbrev pub words_of : Splitter → List ℕ → List (List ℕ)
 words_of splitter [] = (ended splitter).words
 words_of splitter (b ∷ text) = words_of (step splitter b) text
 
--- Runs of plain bytes outside quotes: how long the one at the front of a text is, and the word with its bytes.
+-- Runs of plain bytes outside quotes: the length of the run at the front, and the word with its bytes.
 
 abbrev pub is_outside : Splitter → Bool
 is_outside splitter = not splitter.escaped && is_none splitter.quote
