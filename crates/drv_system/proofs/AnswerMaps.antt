@@ -11,7 +11,7 @@ use Rattle.std.specs.declared.cmp.Ordering.{Ordering}
 use Rattle.std.specs.declared.cmp.Ordering.TheVariants.{Less, Equal, Greater}
 use Rattle.std.specs.Prelude.{◌≡◌, Bool, IsSome, List, [], ◌∷◌, None, Option, Some, false, if◌then◌else◌, is_some, true, ℕ}
 
--- Maps of answers: what one more pair changes. Each fact goes by how the new key compares with the first one.
+-- Maps of answers: the effect of one more pair. Each lemma goes by how the new key compares with the first key.
 
 -- the key has its answer
 here_first : {Y : Type 0} (e : List ℕ × Y) (es : List (List ℕ × Y)) (key : List ℕ) (answer : Y) (w : Ordering)
@@ -25,7 +25,7 @@ pub pair_here : {Y : Type 0} (es : List (List ℕ × Y)) (key : List ℕ) (answe
 pair_here [] key answer = rw (tied_itself nat_list_cmp_total key)
 pair_here (e ∷ es) key answer = here_first e es key answer (slice_cmp nat_cmp key e.0) refl (pair_here es key answer)
 
--- any other key has what it had
+-- any other key keeps its answer
 same_rest : {Y : Type 0} (e : List ℕ × Y) (es fs : List (List ℕ × Y)) (other : List ℕ)
     → answer_to es other ≡ answer_to fs other → answer_to (e ∷ es) other ≡ answer_to (e ∷ fs) other
 same_rest e es fs other same = ap (λ rest. if is_at (slice_cmp nat_cmp other) e.0 then Some e.1 else rest) same
@@ -44,7 +44,7 @@ pair_elsewhere [] key other answer apart = rw apart
 pair_elsewhere (e ∷ es) key other answer apart =
     elsewhere_first e es key other answer (slice_cmp nat_cmp key e.0) refl apart (pair_elsewhere es key other answer apart)
 
--- a pair takes another answer
+-- a pair gets another answer
 filled_first : {Y : Type 0} (e : List ℕ × Y) (es : List (List ℕ × Y)) (key : List ℕ) (blank answer : Y) (w : Ordering)
     → slice_cmp nat_cmp key e.0 ≡ w
     → set_value (is_at (slice_cmp nat_cmp key)) (with_pair es key blank) answer ≡ with_pair es key answer
@@ -58,7 +58,7 @@ pub fills_pair : {Y : Type 0} (es : List (List ℕ × Y)) (key : List ℕ) (blan
 fills_pair [] key blank answer = rw (tied_itself nat_list_cmp_total key)
 fills_pair (e ∷ es) key blank answer = filled_first e es key blank answer (slice_cmp nat_cmp key e.0) refl (fills_pair es key blank answer)
 
--- or is taken away, where the key had none before
+-- or is removed, if the key had none before
 cleared_first : {Y : Type 0} (e : List ℕ × Y) (es : List (List ℕ × Y)) (key : List ℕ) (blank : Y) (w : Ordering)
     → slice_cmp nat_cmp key e.0 ≡ w → answer_to (e ∷ es) key ≡ None
     → (answer_to es key ≡ None → remove_entry (is_at (slice_cmp nat_cmp key)) (with_pair es key blank) ≡ es)
@@ -72,7 +72,7 @@ pub clears_pair : {Y : Type 0} (es : List (List ℕ × Y)) (key : List ℕ) (bla
 clears_pair [] key blank new = rw (tied_itself nat_list_cmp_total key)
 clears_pair (e ∷ es) key blank new = cleared_first e es key blank (slice_cmp nat_cmp key e.0) refl new (clears_pair es key blank)
 
--- One more answer: it is that of the key if it had none, and no other one changes.
+-- One more answer belongs to its key if that had none, and no other answer changes.
 
 same_key : (other key : List ℕ) → is_at (slice_cmp nat_cmp other) key ≡ true → other ≡ key
 same_key other key same = exact_bytes other key ((Equal-is (slice_cmp nat_cmp other key)).0 same)
@@ -101,12 +101,12 @@ pub keeps_answers : {Y : Type 0} (es : List (List ℕ × Y)) (key other : List �
     → answer_to es other ≡ Some known → answer_to (with_answer es key answer) other ≡ Some known
 keeps_answers es key other answer known had = answer_to-with_answer es key other answer ∙ rw had
 
--- a key that a test found to have no answer
+-- a key that a test found to be without an answer
 pub absent : {Y : Type 0} (known : Option Y) (there : Bool) → there ≡ is_some known → there ≡ false → None ≡ known
 absent None there is missing = refl
 absent (Some answer) there is missing = absurd (let z : false ≡ true = sym missing ∙ is in cc)
 
--- the maps that a place goes through
+-- the maps of a place: made, filled, and cleared
 module _ {Y : Type 0} (es made : List (List ℕ × Y)) (key : List ℕ) (blank : Y) (new : None ≡ answer_to es key) (is : made ≡ with_pair es key blank) where
   pub place_filled : (full : List (List ℕ × Y)) (answer : Y) → full ≡ set_value (is_at (slice_cmp nat_cmp key)) made answer → full ≡ with_answer es key answer
   place_filled full answer step = rw (← new) (step ∙ ap (λ xs. set_value (is_at (slice_cmp nat_cmp key)) xs answer) is ∙ fills_pair es key blank answer)

@@ -15,6 +15,6 @@ module _ {S : Type 0} {events : S → List Event} where
   pub asked_further : {o p q : Outside S} → Asked events o p → Asked events p q → Asked events o q
   asked_further a b = record { asks = asks_then a.asks b.asks; same_sys = b.same_sys ∙ a.same_sys; same_facts = b.same_facts ∙ a.same_facts }
 
-  -- what extends the table after a call extends the one before it
+  -- a table that extends the one after a call extends the one before it
   pub extends_before : {o p : Outside S} {F : Facts} → Asked events o p → Extends p.facts.now F → Extends o.facts.now F
   extends_before a e = extends_then (asks_extends a.asks) e

@@ -8,7 +8,7 @@ use Rattle.drv_system.specs.declared.event.ReadAnswer.{ReadAnswer}
 use Rattle.std.proofs.Common.{append_assoc, refl, ap, rules, subst, sym, ◌∙◌}
 use Rattle.std.specs.Prelude.{◌≡◌, List, [], ◌∷◌, ◌++◌, Option, Some, ℕ}
 
--- Calls that only ask, one after another; facts that grow.
+-- Calls that only ask, one after another, and facts that grow.
 
 pub extends_refl : (F : Facts) → Extends F F
 extends_refl F = record { reads = λ path answer is. is; kinds = λ path kind is. is; variables = λ name value is. is }
@@ -81,7 +81,7 @@ asks_then {journal} {F = F} first second = record {
 pub asks_extends : {journal journal' : List Event} {F F' : Facts} → Asks journal journal' F F' → Extends F F'
 asks_extends {F = F} asks = subst (λ G. Extends F G) (sym asks.facts_grow) (learn_extends F asks.asked)
 
--- what was known after a call is known in facts that grew since
+-- facts that grow keep what a call has learnt
 pub read_stays : {journal journal' : List Event} {F F' G : Facts} (path : List ℕ) (answer : ReadAnswer)
     → Asks journal journal' F F' → Extends F' G → read_of F path ≡ Some answer → read_of G path ≡ Some answer
 read_stays path answer asks extends is = (extends_then (asks_extends asks) extends).reads path answer is
@@ -94,7 +94,7 @@ pub variable_stays : {journal journal' : List Event} {F F' G : Facts} (name : Li
     → Asks journal journal' F F' → Extends F' G → variable_of F name ≡ Some value → variable_of G name ≡ Some value
 variable_stays name value asks extends is = (extends_then (asks_extends asks) extends).variables name value is
 
--- what is new is a question
+-- a new event is a question
 is_question : (F : Facts) (event : Event) → IsNew F event → IsQuestion event
 is_question F (Read path answer) new = tt
 is_question F (Kind path kind) new = tt

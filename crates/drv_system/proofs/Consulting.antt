@@ -14,7 +14,7 @@ module _ {X : Type 0} (journal journal' : List Event) (F F' : Facts) (event : X 
       → Consults {E = E} journal journal' F F' event before (Ok y) after
   consulted E answer y is journal_grows facts_grow = rw (← new, is) (journal_grows, facts_grow)
 
-  -- there was no memory for it
+  -- there was no memory to ask it
   pub not_consulted : (Y : Type 0) {E : Type 0} (e : E) → journal' ≡ journal → F' ≡ F
       → Consults {Y = Y} journal journal' F F' event before (Err e) after
   not_consulted Y e same_journal same_facts = rw (← new) (same_journal, same_facts)

@@ -6,9 +6,9 @@ use Rattle.std.proofs.Common.{ap, refl, ◌∙◌}
 use Rattle.std.specs.Option.{option_or}
 use Rattle.std.specs.Prelude.{◌≡◌, Bool, List, [], ◌∷◌, None, Option, Some, false, if◌then◌else◌, true, ℕ}
 
--- What is learnt from a journal is what its first answers say.
+-- Learning a journal gives its first answers.
 
--- an answer that was known, then this one, then those that follow
+-- a known answer, then this one, then the later ones
 in_turn : {Y : Type 0} (known rest : Option Y) (same : Bool) (answer : Y)
     → option_or (option_or known (if same then Some answer else None)) rest ≡ option_or known (if same then Some answer else rest)
 in_turn None rest true answer = refl

@@ -16,7 +16,7 @@ use Rattle.std.proofs.lemmas.List.{append-nil, length-append}
 use Rattle.std.specs.List.{list_any}
 use Rattle.std.specs.Prelude.{◌≡◌, ◌<◌, ◌≤◌, ◌+◌, Bool, List, [], ◌∷◌, ◌++◌, None, Option, Some, false, length, nat_eq, true, ℕ}
 
--- What a system keeps beside its journal, after one more event; the number of the next child is new.
+-- What a system keeps beside its journal, after one more event: the next child gets a new number.
 
 below_answer : (n m : ℕ) (a : Answer) → n ≤ m → IsBelow n a → IsBelow m a
 below_answer n m (answer.Start (start.Started id)) le below = omega (arith, le, below)
@@ -46,14 +46,14 @@ one_more n m events events' event is few le =
 no_more : (n : ℕ) → n ≤ n + 1
 no_more n = omega arith
 
--- without an event
+-- without a new event
 pub numbered_same : {n m : ℕ} {events events' : List Event} → Numbered n events → events' ≡ events → m ≡ n → Numbered m events'
 numbered_same {n} {m} {events} {events'} numbered is same = rw (is, same) numbered
 
 pub holds_same : {n m : ℕ} {p q : Bool} {events events' : List Event} → Holds n p events → events' ≡ events → m ≡ n → q ≡ p → Holds m q events'
 holds_same {n} {m} {p} {q} {events} {events'} holds is same_n same_p = rw (is, same_n, same_p) holds
 
--- a question or a text that was said starts no child
+-- a question or a message starts no child
 pub numbered_beside : {n m : ℕ} {events events' : List Event} (event : Event) → Numbered n events → events' ≡ events ++ event ∷ [] → run_of (event ∷ []) ≡ []
     → m ≡ n → Numbered m events'
 numbered_beside {n} {m} {events} {events'} event numbered is none same = rw same (record {
@@ -85,7 +85,7 @@ holds_after {events = events} {events' = events'} step a holds is le ge last pip
       ∙ sym (pending-append (run_of events) (record { step = step; answer = a })) ∙ ap pipe_pending (sym (following events events' step a is));
 }
 
--- a child that was started takes the next number
+-- a started child gets the next number
 next_number : (n m l : ℕ) → m ≡ n + 1 → l ≡ n → (n ≤ m) × (m ≤ n + 1) × (l < m)
 next_number n m l more same = (omega (arith, more), omega (arith, more), omega (arith, more, same))
 
@@ -95,7 +95,7 @@ pub holds_started : {n m l : ℕ} {p q : Bool} {events events' : List Event} (st
 holds_started {n = n} {m = m} {l = l} step holds is more same pipe =
     let numbers = next_number n m l more same in holds_after step (answer.Start (start.Started l)) holds is numbers.0 numbers.1 numbers.2 pipe
 
--- the same, where the number of children stays
+-- the same, if the number of children stays the same
 pub numbered_step : {n m : ℕ} {events events' : List Event} (step : Step) (a : Answer) → Numbered n events → events' ≡ events ++ made step a ∷ []
     → m ≡ n → IsBelow n a → Numbered m events'
 numbered_step {n} {m} {events} {events'} step a numbered is same last = rw same (numbered_after {n = n} {m = n} {events = events} {events' = events'} step a numbered is (le_itself n) (no_more n) last)

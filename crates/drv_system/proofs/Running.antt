@@ -8,7 +8,7 @@ use Rattle.std.proofs.Common.{refl, ap, ◌∙◌}
 use Rattle.std.specs.List.{list_any}
 use Rattle.std.specs.Prelude.{◌≡◌, ◌&&◌, ◌||◌, Bool, List, [], ◌∷◌, ◌++◌, false, if◌then◌else◌, not, true, ℕ}
 
--- Journals, one after another: their runs, the pending pipe, and the children that are open.
+-- Journals, one after another: their runs, the pending pipe, and the open children.
 
 pub run_of-append : (before after : List Event) → run_of (before ++ after) ≡ run_of before ++ run_of after
 run_of-append [] after = refl
@@ -26,7 +26,7 @@ pending_from-append pending (e ∷ before) after = pending_from-append (pending_
 pub pending-append : (before : List RunEvent) (e : RunEvent) → pipe_pending (before ++ e ∷ []) ≡ pending_with (pipe_pending before) e.step e.answer
 pending-append before e = pending_from-append false before (e ∷ [])
 
--- after a journal without a pending pipe the pipe is that of what follows
+-- after a journal without a pending pipe, the later events decide whether one is pending
 pub pending_of_rest : (before after : List RunEvent) → pipe_pending before ≡ false → pipe_pending (before ++ after) ≡ pipe_pending after
 pending_of_rest before after none = pending_from-append false before after ∙ ap (λ pending. pending_from pending after) none
 
@@ -35,7 +35,7 @@ pub open_from-append : (place : Place) (id : ℕ) (was : Bool) (before after : L
 open_from-append place id was [] after = refl
 open_from-append place id was (e ∷ before) after = open_from-append place id (open_with place id was e) before after
 
--- what was started and not waited for in the events of a run is open after them, whatever stood before
+-- a child that a run's events started and did not wait for is open after them, whatever came before
 not_both : (a b : Bool) → not (a || b) ≡ true → (a ≡ false) × (not b ≡ true)
 not_both false b e = (refl, e)
 not_both true b e = absurd cc
@@ -72,7 +72,7 @@ and_parts : (a b : Bool) → (a && b) ≡ true → (a ≡ true) × (b ≡ true)
 and_parts true b e = (refl, e)
 and_parts false b e = absurd cc
 
--- the condition of `wait` after any journal, for a child that the run's own events have open
+-- the condition of `wait` after any journal, for a child that the run's own events left open
 pub open_after : (place : Place) (id : ℕ) (journal after : List Event) → is_open place id (run_of after) ≡ true → is_child_open place id (journal ++ after) ≡ true
 open_after place id journal after is =
     let both = and_parts (list_any (λ (e : RunEvent). is_start_at place e.step && is_child id e.answer) (run_of after)) _ is in

@@ -13,7 +13,7 @@ front_is [] (suc n) = refl
 front_is (x ∷ xs) zero = refl
 front_is (x ∷ xs) (suc n) = front_is xs n
 
--- without the first of those that are left
+-- without the first of them
 nothing_left : {X : Type 0} (n : ℕ) → drop n (the_empty X) ≡ the_empty X
 nothing_left zero = refl
 nothing_left (suc n) = refl
@@ -26,6 +26,6 @@ one_less {X} [] n = nothing_left (n + 1) ∙ ap (λ ys. drop 1 ys) (sym (nothing
 one_less (x ∷ xs) zero = refl
 one_less (x ∷ xs) (suc n) = ap (λ k. drop k (x ∷ xs)) (next n) ∙ one_less xs n
 
--- with none left there is none less
+-- an empty list stays empty
 pub none_less : {X : Type 0} (xs : List X) (n : ℕ) → length xs ≤ n → drop n xs ≡ drop 1 (drop n xs)
 none_less xs n past = drop_all n xs past ∙ ap (λ ys. drop 1 ys) (sym (drop_all n xs past))

@@ -7,9 +7,9 @@ use Rattle.std.proofs.lemmas.List.{append-nil, length-append}
 use Rattle.std.specs.Io.KnownBytes.{Consumes, IsAtEnd}
 use Rattle.std.specs.Prelude.{◌≡◌, ◌<◌, ◌≤◌, ◌+◌, List, [], ◌++◌, None, Option, Some, false, length, nat_lt, true, ℕ}
 
--- What was read of a file, in all.
+-- The bytes that were read of a file, all together.
 
--- at its end all that it had left
+-- at its end they are all bytes that it had left
 pub whole : (old mid new : Option (List ℕ)) (bytes word taken : List ℕ) → Consumes old mid bytes → Consumes mid new taken → taken ≡ []
     → IsAtEnd new → word ≡ bytes → ReadsAs old (Read word)
 whole None mid new bytes word taken before now none end is = tt
@@ -21,7 +21,7 @@ whole (Some xs) (Some ys) (Some zs) bytes word taken before now none end is =
 larger : (n m most : ℕ) → most < n + m → (k : ℕ) → nat_lt most (n + (m + k)) ≡ true
 larger n m most over k = grind (arith, nat_tests)
 
--- more than it may hold
+-- more than a file may have
 pub too_large : (old mid new : Option (List ℕ)) (bytes taken : List ℕ) → Consumes old mid bytes → Consumes mid new taken
     → 16777216 < length bytes + length taken → ReadsAs old TooLarge
 too_large None mid new bytes taken before now over = tt
@@ -32,7 +32,7 @@ too_large (Some xs) (Some ys) (Some zs) bytes taken before now over =
     ap length (before ∙ ap (λ rest. bytes ++ rest) now) ∙ length-append bytes (taken ++ zs) ∙ ap (λ k. length bytes + k) (length-append taken zs) in
     ap (λ k. nat_lt 16777216 k) size ∙ larger (length bytes) (length taken) 16777216 over (length zs)
 
--- within what it may hold
+-- at most as many as a file may have
 few : (n : ℕ) → n ≤ 16777216 → nat_lt 16777216 n ≡ false
 few n le = grind (arith, nat_tests)
 

@@ -5,7 +5,7 @@ use Rattle.drv_system.specs.declared.event.PathKind.{PathKind}
 use Rattle.drv_system.specs.declared.event.ReadAnswer.{ReadAnswer}
 use Rattle.std.specs.Prelude.{◌≡◌, IsOk, List, [], ◌∷◌, ◌++◌, None, Option, Result, Some, Ok, Err, ℕ, ⊤}
 
--- What a call may ask of the outside, and how facts grow by it (this project's profile).
+-- What a call may ask the outside, and how its facts grow by that (this project's profile).
 
 -- an event that is a question
 abbrev pub IsQuestion : Event → Type 0
@@ -26,12 +26,12 @@ IsNew F (Kind path kind) = kind_of F path ≡ None
 IsNew F (Variable name value) = variable_of F name ≡ None
 IsNew F event = ⊥
 
--- questions, none of which F or an earlier one of them answers
+-- questions that neither F nor an earlier one of them answers
 abbrev pub AreNew : Facts → List Event → Type 0
 AreNew F [] = ⊤
 AreNew F (event ∷ events) = IsNew F event × AreNew (learnt F event) events
 
--- a call only asked: new questions were added to the journal, and their answers to the facts
+-- a call that only asks: it adds new questions to the journal, and their answers to the facts
 pub record Asks (journal journal' : List Event) (F F' : Facts) : Type 0 where
   pub asked : List Event
   pub questions : AreNew F asked
@@ -44,8 +44,8 @@ pub record Extends (F G : Facts) : Type 0 where
   pub kinds : (path : List ℕ) (kind : PathKind) → kind_of F path ≡ Some kind → kind_of G path ≡ Some kind
   pub variables : (name : List ℕ) (value : Option (List ℕ)) → variable_of F name ≡ Some value → variable_of G name ≡ Some value
 
--- one look-up: where an answer was there it succeeds, and nothing changes; otherwise the question is asked once and its answer kept,
--- and want of memory changes nothing
+-- One look-up. If the answer is known, the call succeeds and changes nothing. Otherwise it asks the question once and keeps the answer. If
+-- it runs out of memory, it changes nothing.
 abbrev pub Consults : {X Y E : Type 0} → List Event → List Event → Facts → Facts → (X → Event) → Option X → Result Y E → Option X → Type 0
 Consults journal journal' F F' event (Some known) result after = (journal' ≡ journal) × (F' ≡ F) × IsOk result
 Consults journal journal' F F' event None (Ok y) (Some answer) = (journal' ≡ journal ++ event answer ∷ []) × (F' ≡ learnt F (event answer))

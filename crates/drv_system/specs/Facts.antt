@@ -8,22 +8,22 @@ use Rattle.std.specs.Map.{lookup}
 use Rattle.std.specs.Ordering.{nat_cmp}
 use Rattle.std.specs.Prelude.{List, [], ◌∷◌, None, Option, Some, if◌then◌else◌, is_some, ℕ}
 
--- What is known of the outside: three finite maps from a path or a name to the first answer (this project's profile).
--- A finite map is the list of its pairs in the order of their keys, byte by byte.
+-- What is known of the outside: three finite maps from a path or a name to the first answer (this project's profile). A finite map is the
+-- list of its pairs, ordered by their keys, byte by byte.
 
 -- the answer that a map has for a key
 abbrev pub answer_to : {Y : Type 0} → List (List ℕ × Y) → List ℕ → Option Y
 answer_to answers key = lookup (is_at (slice_cmp nat_cmp key)) answers
 
--- a map with a pair in its place
+-- a map with one pair at its place
 abbrev pub with_pair : {Y : Type 0} → List (List ℕ × Y) → List ℕ → Y → List (List ℕ × Y)
 with_pair answers key answer = insert_entry (slice_cmp nat_cmp) answers key answer
 
--- a map with one more answer: a key that has one keeps it
+-- a map with one more answer; a key that has an answer keeps it
 abbrev pub with_answer : {Y : Type 0} → List (List ℕ × Y) → List ℕ → Y → List (List ℕ × Y)
 with_answer answers key answer = if is_some (answer_to answers key) then answers else with_pair answers key answer
 
--- what is known of files, of the kinds of paths, and of variables
+-- what is known about files, about the kinds of paths, and about variables
 pub record Facts : Type 0 where
   pub reads : List (List ℕ × ReadAnswer)
   pub kinds : List (List ℕ × PathKind)
@@ -39,23 +39,23 @@ read_of F path = answer_to F.reads path
 abbrev pub kind_of : Facts → List ℕ → Option PathKind
 kind_of F path = answer_to F.kinds path
 
--- a value of None says that the variable is known to be unset
+-- the value None means that the variable is known to be unset
 abbrev pub variable_of : Facts → List ℕ → Option (Option (List ℕ))
 variable_of F name = answer_to F.variables name
 
--- what is known after an event: only a question adds to it
+-- the facts after an event: only a question adds to them
 abbrev pub learnt : Facts → Event → Facts
 learnt F (Read path answer) = record F { reads = with_answer F.reads path answer }
 learnt F (Kind path kind) = record F { kinds = with_answer F.kinds path kind }
 learnt F (Variable name value) = record F { variables = with_answer F.variables name value }
 learnt F event = F
 
--- what is known after events: `learn no_facts events` holds the first answers of a journal
+-- the facts after events: `learn no_facts events` are the first answers of a journal
 abbrev pub learn : Facts → List Event → Facts
 learn F [] = F
 learn F (event ∷ events) = learn (learnt F event) events
 
--- The first answers, read off a journal.
+-- The first answers in a journal.
 
 abbrev pub first_read : List ℕ → List Event → Option ReadAnswer
 first_read path [] = None

@@ -2,7 +2,7 @@ use Rattle.drv_system.specs.declared.event.ReadAnswer.{ReadAnswer}
 use Rattle.drv_system.specs.declared.event.ReadAnswer.TheVariants.{Read}
 use Rattle.std.specs.Prelude.{◌≡◌, Bool, List, false, length, nat_lt, ℕ, ⊤}
 
--- The most that a file may hold, and the most reads that it is read by (this project's profile).
+-- The most bytes that a file may have, and the most reads for one file (this project's profile).
 
 -- 16 MiB
 abbrev pub most_bytes : ℕ
@@ -14,7 +14,7 @@ is_too_large bytes = nat_lt most_bytes (length bytes)
 abbrev pub most_reads : ℕ
 most_reads = 33554432
 
--- an answer is never longer than a file may be
+-- an answer is at most as long as a file may be
 abbrev pub IsWithinLimit : ReadAnswer → Type 0
 IsWithinLimit (Read bytes) = is_too_large bytes ≡ false
 IsWithinLimit answer = ⊤

@@ -10,8 +10,8 @@ use Rattle.drv_words.specs.declared.steps.Place.TheVariants as place
 use Rattle.std.specs.Option.{option_map, unwrap_or}
 use Rattle.std.specs.Prelude.{◌++◌, List, [], ◌∷◌, None, Option, codes, slice_get, ℕ}
 
--- What stands at the places of a plan, and what is told of it (this project's profile). There is none where the plan has no such
--- place, or the place is of another kind.
+-- What the places of a plan hold, and the message for each (this project's profile). The result is None if the plan has no such place, or
+-- if its kind is another.
 
 abbrev pub command_at : Plan → Place → Option Command
 command_at plan (place.Command k g i) = slice_get (group_at (job_at plan k) g) i
@@ -32,7 +32,7 @@ name_at plan (place.Temp k i) = option_map (λ (t : Temp). t.path) (temp_at plan
 name_at plan (place.Marked k i) = slice_get (job_at plan k).marked i
 name_at plan (place.OnFailure k i) = slice_get (job_at plan k).on_failure i
 
--- the line that tells of a step that failed
+-- the line that reports a failed step
 abbrev pub line_of : List ℕ → Option (List ℕ) → List ℕ → List ℕ
 line_of before name after = codes "gdrv: " ++ before ++ unwrap_or name [] ++ after ++ newline ∷ []
 

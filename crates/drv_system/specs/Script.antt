@@ -23,8 +23,8 @@ use Rattle.std.specs.Prelude.{Bool, List, None, Option, Some, drop, if◌then◌
 
 -- A system that answers from lists (this project's profile).
 
--- what it answers from: files with their bytes, or none for one that cannot be read; folders; variables with their values;
--- the answers to the steps of a run; and whether nothing more can be told
+-- Its answers: files with their bytes, or None for one that can't be read; folders; variables with their values; the answers to the steps
+-- of a run; and whether messages fail.
 pub record Script : Type 0 where
   pub files : List (List ℕ × Option (List ℕ))
   pub dirs : List (List ℕ)
@@ -32,18 +32,18 @@ pub record Script : Type 0 where
   pub answers : List Answer
   pub mute : Bool
 
--- a script, what was asked of it and made, how many children were started, and the room for more events
+-- a script, its journal, the number of children that it started, and its room for more events
 pub record Scripted : Type 0 where
   pub script : Script
   pub journal : List Event
   pub children : ℕ
   pub spare_events : ℕ
 
--- a script has room for this many children, and starts none in truth
+-- a script has room for this many children, none of which is a process
 abbrev pub script_children : ℕ
 script_children = 18446744073709551615
 
--- what the first file of that path, if there is one, reads as
+-- how the first file of that path, if there is one, is read
 abbrev pub read_as : Option (Option (List ℕ)) → ReadAnswer
 read_as None = read.Missing
 read_as (Some None) = read.Failed
@@ -55,16 +55,16 @@ scripted_read script path = read_as (lookup (pointwise nat_eq path) script.files
 abbrev pub scripted_kind : Script → List ℕ → PathKind
 scripted_kind script path = if is_some (lookup (pointwise nat_eq path) script.files) then kind.Plain else if list_any (pointwise nat_eq path) script.dirs then kind.Dir else kind.Missing
 
--- the value that the first of that name has
+-- the value of the first variable of that name
 abbrev pub scripted_variable : Script → List ℕ → Option (List ℕ)
 scripted_variable script name = lookup (pointwise nat_eq name) script.variables
 
 abbrev pub scripted_telling : Script → TellAnswer
 scripted_telling script = if script.mute then tell.Failed else tell.Told
 
--- The steps of a run: an answer in front that is one of the call's kind is taken, and any other one stays and blocks those after it.
+-- The steps of a run. A step takes the next answer if its kind fits. Any other answer stays, and blocks the later ones.
 
--- the answer of that kind in front, if there is one
+-- the next answer, if it has that kind
 abbrev pub claim_in : Option Answer → Option ClaimAnswer
 claim_in (Some (answer.Claim x)) = Some x
 claim_in other = None
@@ -91,7 +91,7 @@ following taken script = if is_some taken then record script { answers = drop 1 
 abbrev pub scripted_claim : Script → ClaimAnswer
 scripted_claim script = unwrap_or (claim_in (front script)) claim.Claimed
 
--- a child that is started takes the next number, from 0
+-- a started child gets the next number, from 0
 abbrev pub start_numbered : ℕ → Option StartAnswer → StartAnswer
 start_numbered id (Some (start.NotStarted why)) = start.NotStarted why
 start_numbered id other = start.Started id
@@ -105,7 +105,7 @@ scripted_wait script = unwrap_or (wait_in (front script)) (wait.Exit 0)
 abbrev pub scripted_removal : Script → RemoveAnswer
 scripted_removal script = unwrap_or (removal_in (front script)) remove.Removed
 
--- how many children there are after a start
+-- the number of children after a start
 abbrev pub children_after : ℕ → StartAnswer → ℕ
 children_after n (start.Started id) = n + 1
 children_after n (start.NotStarted why) = n

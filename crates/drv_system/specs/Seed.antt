@@ -22,7 +22,7 @@ digit_of b =
     else if is_within small_a (small_a + 5) b then Some (b - small_a + 10)
     else None
 
--- the number of a higher and a lower part, the higher one counted so many times
+-- the number of a high and a low part, where the high part counts `base` times
 abbrev pub joined : ℕ → Option ℕ → Option ℕ → Option ℕ
 joined base None low = None
 joined base (Some high) None = None

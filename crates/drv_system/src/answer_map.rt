@@ -1,4 +1,5 @@
-//! A map of answers in which a place is made before its answer is known.
+//! A map of answers. A place is made before its answer is known, so that keeping the answer can't
+//! fail.
 
 ghost use Rattle.drv_system.specs.Facts.{answer_to, with_pair};
 ghost use Rattle.std.specs.BTreeMap.{is_at};
@@ -13,7 +14,7 @@ use std::alloc::{AllocError, Global};
 use std::collections::BTreeMap;
 use std::marker::Model;
 
-/// AnswerMap by path or name, in an ordered tree: no choice of names makes a look-up slow.
+/// Answers by path or name, in an ordered tree: no choice of names makes a look-up slow.
 #[derive(Drop)]
 pub struct AnswerMap<V> {
     given: BTreeMap<Word, V>,
@@ -28,7 +29,7 @@ impl<V> Model for AnswerMap<V> {
 }
 
 impl<V: Drop> AnswerMap<V> {
-    /// No answers, which takes no memory.
+    /// The map without answers.
     pub fn new(alloc: Global) -> AnswerMap<V>
         ensures { result ≡ [] }
     {
@@ -51,7 +52,7 @@ impl<V: Drop> AnswerMap<V> {
         self.given.contains_key(key)
     }
 
-    /// Makes the place of a key, and puts something there for the time being.
+    /// Makes the place of a key, with a blank answer for now.
     pub fn make_place(&mut self, key: &Word, blank: V) -> Result<(), AllocError>
         ensures ok { OnOk result (self.new ≡ with_pair self.old key.now blank) }
         ensures err { OnErr result (self.new ≡ self.old) }
@@ -60,7 +61,7 @@ impl<V: Drop> AnswerMap<V> {
         Ok(())
     }
 
-    /// Puts the answer in the place that was made for it.
+    /// Puts the answer into the place that was made for it.
     pub fn fill_place(&mut self, key: &Word, answer: V)
         requires { IsSome (answer_to self.old key.now) }
         ensures { self.new ≡ set_value (is_at (slice_cmp nat_cmp key.now)) self.old answer }
@@ -70,7 +71,7 @@ impl<V: Drop> AnswerMap<V> {
         }
     }
 
-    /// Takes a key's place away.
+    /// Removes a key's place.
     pub fn clear_place(&mut self, key: &Word)
         ensures { self.new ≡ remove_entry (is_at (slice_cmp nat_cmp key.now)) self.old }
     {

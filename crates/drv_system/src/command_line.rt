@@ -1,4 +1,4 @@
-//! What a process is called with, and what it says to its caller.
+//! The arguments of a process, and its messages before a system exists.
 
 ghost use Rattle.std.specs.Prelude.{◌≡◌, ◌≤◌, IfOk, IfSome, length};
 
@@ -9,15 +9,15 @@ use std::io::{self, ErrorKind, Write};
 use std::rt::Env;
 use std::str::from_utf8;
 
-/// How many bytes of an argument there is room for at first.
+/// The room for an argument at first, in bytes.
 const ROOM: usize = 4096;
 
-/// How many arguments there is room for at first, so that those of a long line aren't copied as
-/// they come. What no argument fills is never touched.
+/// The number of arguments for which there is room at first. A long line isn't copied as it grows,
+/// and unused room is never touched.
 const ARGUMENTS: usize = 4096;
 
-/// How many bytes the argument at a place has, which are then the first ones of the room; none if
-/// there is no such argument. The room is doubled until they fit.
+/// The length of the argument at `place`, whose bytes are then at the front of `room`. `None` if
+/// there is no such argument. The room is doubled until the argument fits.
 fn argument_length(rt: &HostRuntime, place: usize, room: &mut Vec<u8>) -> io::Result<Option<usize>>
     ensures { IfOk result (λ found. IfSome found (λ n. n ≤ length room.new.items)) }
 {
@@ -31,7 +31,7 @@ fn argument_length(rt: &HostRuntime, place: usize, room: &mut Vec<u8>) -> io::Re
     Err(io::Error::from(ErrorKind::OutOfMemory))
 }
 
-/// An argument as a word: its bytes, all of them.
+/// An argument as a word, with all its bytes.
 fn word_of(alloc: Global, bytes: &[u8]) -> io::Result<Word>
     ensures { IfOk result (λ word. word ≡ bytes.now) }
 {
@@ -42,7 +42,7 @@ fn word_of(alloc: Global, bytes: &[u8]) -> io::Result<Word>
     Ok(Word::from_bytes(alloc, bytes)?)
 }
 
-/// Adds the arguments to words. There is room for one.
+/// Adds the arguments to the words. There is room for one.
 fn add_arguments(
     rt: &HostRuntime,
     room: &mut Vec<u8>,
@@ -57,12 +57,11 @@ fn add_arguments(
     Ok(())
 }
 
-/// The arguments of this process, without the program's name, in their order and with all of their
-/// bytes. The kit promises nothing of what its runtime gives for an argument, so no clause says
-/// which these are.
+/// The arguments of this process without the program's name, in order and with all their bytes. The
+/// kit doesn't specify what its runtime returns for an argument, so no clause says which these are.
 ///
 /// # Errors
-/// `OutOfMemory`, or another kind where one of them is no UTF-8.
+/// `OutOfMemory`, or another kind if an argument is not UTF-8.
 pub fn arguments(rt: &HostRuntime) -> io::Result<Listing<Word>> {
     let alloc = rt.alloc();
     let mut words = Listing::from_vec(Vec::with_capacity(alloc, ARGUMENTS)?);
@@ -71,11 +70,11 @@ pub fn arguments(rt: &HostRuntime) -> io::Result<Listing<Word>> {
     Ok(words)
 }
 
-/// The name by which this process was called, with its folder where it was given; empty where it
-/// has none.
+/// The name by which this process was called, with its folder if the caller gave one. Empty if
+/// there is no name.
 ///
 /// # Errors
-/// `OutOfMemory`, or another kind where it is no UTF-8.
+/// `OutOfMemory`, or another kind if the name is not UTF-8.
 pub fn called_as(rt: &HostRuntime) -> io::Result<Word> {
     let alloc = rt.alloc();
     let mut room = vec![in alloc; 0u8; ROOM]?;
@@ -85,7 +84,7 @@ pub fn called_as(rt: &HostRuntime) -> io::Result<Word> {
     }
 }
 
-/// Says a text on standard error, as far as that takes it.
+/// Writes a text to standard error, as much of it as can be written.
 pub fn complain(rt: &HostRuntime, text: &[u8]) {
     let stream = rt.stderr();
     let _ = io::writer(&stream).write_all(text);

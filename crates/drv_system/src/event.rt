@@ -1,4 +1,4 @@
-//! What was asked or said, with the answer.
+//! What was asked or written, with the answer.
 
 ghost use Rattle.drv_system.specs.Running.{is_told};
 ghost use Rattle.std.specs.Prelude.{◌≡◌};
@@ -6,19 +6,19 @@ ghost use Rattle.std.specs.Prelude.{◌≡◌};
 use drv_words::{RunEvent, Word};
 use std::alloc::AllocError;
 
-/// The most bytes that a file may have and still be read: 16 MiB.
+/// The most bytes that a readable file may have: 16 MiB.
 pub const MOST_BYTES: usize = 16_777_216;
 
-/// What reading a whole file gave.
+/// The result of reading a whole file.
 #[derive(Debug, Drop, PartialEq)]
 pub enum ReadAnswer {
     /// The bytes of the file.
     Read(Word),
-    /// Nothing has that path.
+    /// No file has that path.
     Missing,
-    /// It could not be read to its end.
+    /// The file could not be read to its end.
     Failed,
-    /// It holds more than 16,777,216 bytes.
+    /// It has more than 16,777,216 bytes.
     TooLarge,
 }
 
@@ -35,20 +35,20 @@ impl Clone for ReadAnswer {
     }
 }
 
-/// What a path leads to. Links are followed.
+/// The kind of file that a path leads to. Links are followed.
 #[derive(Clone, Copy, Debug, PartialEq, Eq)]
 pub enum PathKind {
     /// A plain file.
     Plain,
     /// A folder.
     Dir,
-    /// Something else, as a device.
+    /// Something else, such as a device.
     Other,
     /// Nothing.
     Missing,
 }
 
-/// Whether a text reached its stream.
+/// Whether a text could be written.
 #[derive(Clone, Copy, Debug, PartialEq, Eq)]
 pub enum TellAnswer {
     /// It was written.
@@ -58,7 +58,7 @@ pub enum TellAnswer {
 }
 
 impl TellAnswer {
-    /// Whether it was written.
+    /// Whether the text was written.
     pub fn is_told(self) -> bool
         ensures { result ≡ is_told self }
     {
@@ -69,16 +69,16 @@ impl TellAnswer {
 /// One call of the outside: its argument, then its answer. A step of a run has a fixed size.
 #[derive(Debug, Drop, PartialEq)]
 pub enum Event {
-    /// The bytes of the file at a path were asked for.
+    /// The program asked for the bytes of a file.
     Read(Word, ReadAnswer),
-    /// The kind of a path was asked for.
+    /// It asked for the kind of a path.
     Kind(Word, PathKind),
-    /// The value of a variable of the environment was asked for, if it has one.
+    /// It asked for the value of a variable of the environment, which may be unset.
     Variable(Word, Option<Word>),
-    /// A text was said on standard error.
+    /// It wrote a text to standard error.
     Say(Word, TellAnswer),
-    /// A text was put on standard output.
+    /// It wrote a text to standard output.
     Put(Word, TellAnswer),
-    /// A step of a run was made.
+    /// It made a step of a run.
     Run(RunEvent),
 }

@@ -1,4 +1,4 @@
-//! The first answers to what was asked.
+//! The first answers to the questions of a call.
 
 ghost use Rattle.drv_system.specs.Asking.{Asks, Consults};
 ghost use Rattle.drv_system.specs.Facts.{first_kind, first_read, first_variable, kind_of, learn};
@@ -14,7 +14,7 @@ use drv_words::Word;
 use std::alloc::{AllocError, Global};
 use std::marker::Model;
 
-/// The first answers to what was asked, by path or name.
+/// The first answers to the questions of a call, by path or name.
 #[derive(Drop)]
 pub struct FactTable {
     reads: AnswerMap<ReadAnswer>,
@@ -31,7 +31,7 @@ impl Model for FactTable {
 }
 
 impl FactTable {
-    /// The table that has no answer, which takes no memory.
+    /// The table without answers.
     pub fn new(alloc: Global) -> FactTable
         ensures { result ≡ no_facts }
     {
@@ -42,7 +42,7 @@ impl FactTable {
         }
     }
 
-    /// What a path leads to: the answer of the table, or else the system's, which the table keeps.
+    /// The kind of a path: the table's answer, or else the system's, which the table keeps.
     pub fn kind<S: System>(&mut self, sys: &mut S, path: &Word) -> Result<PathKind, AllocError>
         ensures asks { Asks (S.events sys.old) (S.events sys.new) self.old self.new }
         ensures consults { Consults (S.events sys.old) (S.events sys.new) self.old self.new
@@ -65,7 +65,7 @@ impl FactTable {
         }
     }
 
-    /// Asks for the bytes of a file, unless the table has the answer: `read_answer` then gives it.
+    /// Asks for the bytes of a file, unless the table knows them. `read_answer` then returns them.
     pub fn read<S: System>(&mut self, sys: &mut S, path: &Word) -> Result<(), AllocError>
         ensures asks { Asks (S.events sys.old) (S.events sys.new) self.old self.new }
         ensures consults { Consults (S.events sys.old) (S.events sys.new) self.old self.new
@@ -88,7 +88,7 @@ impl FactTable {
         }
     }
 
-    /// The answer that the table has for the bytes of a file.
+    /// The table's answer for the bytes of a file.
     pub fn read_answer(&self, path: &Word) -> &ReadAnswer
         requires { IsSome (read_of self.now path.now) }
         ensures { read_of self.now path.now ≡ Some result.now }
@@ -96,8 +96,8 @@ impl FactTable {
         self.reads.get(path).unwrap()
     }
 
-    /// Asks for the value of a variable, unless the table has the answer: `variable_answer` then
-    /// gives it.
+    /// Asks for the value of a variable, unless the table knows it. `variable_answer` then returns
+    /// it.
     pub fn variable<S: System>(&mut self, sys: &mut S, name: &Word) -> Result<(), AllocError>
         ensures asks { Asks (S.events sys.old) (S.events sys.new) self.old self.new }
         ensures consults { Consults (S.events sys.old) (S.events sys.new) self.old self.new
@@ -121,7 +121,7 @@ impl FactTable {
         }
     }
 
-    /// The value that the table has for a variable, or none for one that is unset.
+    /// The table's value of a variable, or `None` if that is unset.
     pub fn variable_answer(&self, name: &Word) -> Option<&Word>
         requires { IsSome (variable_of self.now name.now) }
         ensures { variable_of self.now name.now ≡ Some (option_copied result) }
@@ -130,7 +130,7 @@ impl FactTable {
     }
 }
 
-/// What is known from a journal is, for each path and each name, the first answer in it.
+/// A law: for each path and each name, the facts of a journal are its first answers.
 pub fn first_answers_law()
     ensures reads { (events : List Event) (path : List ℕ)
         → read_of (learn no_facts events) path ≡ first_read path events }

@@ -6,10 +6,10 @@ use std::fs::{self, File, OpenOptions};
 use std::io::{self, ErrorKind, Write};
 use std::os::unix::fs::OpenOptionsExt;
 
-/// Reading and writing, for the file's owner alone.
+/// Read and write permission for the owner alone.
 const OWNERS: u32 = 0o600;
 
-/// Opens a new file, which nobody but its owner may read or write, whatever the umask is.
+/// Opens a new file that only its owner may read or write, whatever the umask.
 fn create_private(rt: &HostRuntime, path: &str) -> io::Result<File> {
     OpenOptions::new()
         .write(true)
@@ -18,8 +18,7 @@ fn create_private(rt: &HostRuntime, path: &str) -> io::Result<File> {
         .open(rt, path)
 }
 
-/// Makes a new private file of these bytes. One that could not be written whole is taken away
-/// again.
+/// Makes a new private file of these bytes. A file that could not be written whole is removed.
 pub fn make_file(rt: &HostRuntime, path: &str, contents: &[u8]) -> ClaimAnswer {
     let mut file = match create_private(rt, path) {
         Ok(file) => file,
@@ -34,7 +33,7 @@ pub fn make_file(rt: &HostRuntime, path: &str, contents: &[u8]) -> ClaimAnswer {
     ClaimAnswer::Failed
 }
 
-/// Removes a plain file. What a link leads to is never removed, nor is the link.
+/// Removes a plain file. Neither a link nor what it leads to is ever removed.
 pub fn remove_file(rt: &HostRuntime, path: &str) -> RemoveAnswer {
     match fs::symlink_metadata(rt, path) {
         Ok(found) if !found.is_file() => return RemoveAnswer::NotPlain,

@@ -1,4 +1,4 @@
-//! The system that a process has.
+//! The system of a process.
 
 ghost use Rattle.drv_system.specs.declared.event.TellAnswer.TheVariants as tell;
 ghost use Rattle.std.specs.Io.KnownBytes.{Appends};
@@ -23,22 +23,22 @@ use std::process::Child;
 use std::time::Duration;
 use std::{fs, str, thread};
 
-/// How many microseconds a pause is.
+/// The length of a pause, in microseconds.
 const MOMENT: u64 = 500;
 
 /// The files, the environment, the standard streams and the children of this process.
 ///
-/// A path or a name that is no text, or has a zero byte, is answered as one that nothing has; a
-/// file of such a name can't be claimed, and a command with such a word is not started.
+/// A path or a name that is not text, or has a zero byte, is treated as if it didn't exist. A file
+/// of such a name can't be claimed, and a command with such a word is not started.
 #[derive(Drop)]
 pub struct HostSystem {
     rt: HostRuntime,
     journal: Vec<Event>,
-    /// The children that were started, each until it is waited for. A child's number is its place.
+    /// The started children, until they are waited for. The number of a child is its index.
     children: Vec<Option<Child>>,
-    /// The end of the pipe that is pending.
+    /// The reading end of the pending pipe.
     pending: Option<PipeReader>,
-    /// The names and values of the variables that are set for children alone.
+    /// The variables that only children get, with their values.
     variables: Vec<(Word, Word)>,
 }
 
@@ -59,7 +59,7 @@ impl Model for HostSystem {
 }
 
 impl HostSystem {
-    /// The system of this process, of which nothing was asked yet. It takes no memory.
+    /// The system of this process, before any question.
     pub fn new(rt: HostRuntime) -> HostSystem
         ensures { result.journal ≡ [] }
     {
@@ -75,7 +75,7 @@ impl HostSystem {
         }
     }
 
-    /// Sets a variable for the children that are started from now on, and not for this process.
+    /// Sets a variable for later children, but not for this process.
     pub fn set_for_children(&mut self, name: Word, value: Word) -> Result<(), AllocError>
         ensures { self.new.journal ≡ self.old.journal }
     {
@@ -96,7 +96,7 @@ impl System for HostSystem {
     }
 
     #[tactic(auto, using(crate::proofs::Holding::holds_beside, crate::proofs::Holding::holds_same))]
-    /// Reads the file. A folder cannot be read, and a path through a plain file leads nowhere.
+    /// Reads the file. A folder can't be read, and a path through a plain file leads nowhere.
     fn read_file(&mut self, path: &Word) -> Result<ReadAnswer, AllocError> {
         let answer = match as_text(path.as_bytes()) {
             Some(path) => read_path(&self.rt, self.rt.alloc(), path)?,
@@ -169,9 +169,9 @@ impl System for HostSystem {
     }
 
     #[tactic(auto, using(crate::proofs::Holding::holds_after, crate::proofs::Holding::holds_step, crate::proofs::Holding::holds_is_new))]
-    /// Starts a program that is looked for along PATH where its name has no slash. A file that is
-    /// neither a program nor begins with `#!` is not started. A child has this process's standard
-    /// streams but for the pipes, and no other open file.
+    /// Starts a program, which is searched for in PATH if its name has no slash. A file that is
+    /// neither a program nor begins with `#!` is not started. The child has this process's standard
+    /// streams except for the pipes, and no other open file.
     fn start(&mut self, plan: &Plan, place: Place, from_pipe: bool, to_pipe: bool) -> StartAnswer {
         let step = Step::Start {
             place,
@@ -278,7 +278,7 @@ impl System for HostSystem {
     }
 }
 
-/// The text of a word that can be a path or a name: it is text, and has no zero byte.
+/// The text of a word that can be a path or a name: it is UTF-8 and has no zero byte.
 pub(crate) fn as_text(bytes: &[u8]) -> Option<&str> {
     if bytes.contains(&0) {
         return None;
@@ -286,7 +286,7 @@ pub(crate) fn as_text(bytes: &[u8]) -> Option<&str> {
     str::from_utf8(bytes).ok()
 }
 
-/// What a path leads to.
+/// The kind of file that a path leads to.
 fn kind_at(rt: &HostRuntime, path: &str) -> Result<PathKind, AllocError> {
     match fs::metadata(rt, path) {
         Ok(found) if found.is_file() => Ok(PathKind::Plain),
@@ -297,7 +297,7 @@ fn kind_at(rt: &HostRuntime, path: &str) -> Result<PathKind, AllocError> {
     }
 }
 
-/// The value of a variable, if it has one and that is text.
+/// The value of a variable, if it is set and is text.
 pub(crate) fn value_of(rt: &HostRuntime, name: &str) -> Result<Option<Word>, AllocError> {
     match env::var(rt, name) {
         Ok(value) => Ok(Some(Word::from_vec(value.into_bytes()))),
@@ -306,7 +306,7 @@ pub(crate) fn value_of(rt: &HostRuntime, name: &str) -> Result<Option<Word>, All
     }
 }
 
-/// Writes a text, all of it or with the answer that it failed.
+/// Writes a text as a whole, or reports the failure.
 fn tell<W: Write>(stream: &mut W, text: &Word) -> TellAnswer
     ensures { result ≡ tell.Told
         → Appends (W.contents stream.old) (W.contents stream.new) text.now }

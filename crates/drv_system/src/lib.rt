@@ -1,5 +1,5 @@
-//! The outside of a compiler driver: files, variables, streams and children, what was asked and
-//! made of them, and what is known from it.
+//! The outside of a compiler driver: files, variables, streams and children, the journal of what
+//! was asked and done, and the facts from it.
 #![tactic(auto)]
 
 mod answer_map;

@@ -1,4 +1,4 @@
-//! What was asked and said, added to a journal.
+//! Adds questions and messages to a journal.
 
 ghost use Rattle.drv_system.specs.declared.event.Event.TheVariants as event;
 ghost use Rattle.std.specs.Prelude.{◌≡◌, ◌∷◌, ◌++◌, [], IfOk, OnErr, OnOk};
@@ -17,7 +17,7 @@ fn copied(value: &Option<Word>) -> Result<Option<Word>, AllocError>
     }
 }
 
-/// Notes what a file was read as.
+/// Adds the reading of a file.
 pub fn note_read(
     journal: &mut Vec<Event>,
     path: &Word,
@@ -31,7 +31,7 @@ pub fn note_read(
     Ok(journal.push(event)?)
 }
 
-/// Notes what a path leads to.
+/// Adds the question for a path's kind.
 pub fn note_kind(journal: &mut Vec<Event>, path: &Word, kind: PathKind) -> Result<(), AllocError>
     ensures event { OnOk result (journal.new.items
         ≡ journal.old.items ++ event.Kind path.now kind ∷ []) }
@@ -41,7 +41,7 @@ pub fn note_kind(journal: &mut Vec<Event>, path: &Word, kind: PathKind) -> Resul
     Ok(journal.push(event)?)
 }
 
-/// Notes the value of a variable.
+/// Adds the question for a variable.
 pub fn note_variable(
     journal: &mut Vec<Event>,
     name: &Word,
@@ -55,7 +55,7 @@ pub fn note_variable(
     Ok(journal.push(event)?)
 }
 
-/// Notes a text that was written to standard error.
+/// Adds a text that was written to standard error.
 pub fn note_said(
     journal: &mut Vec<Event>,
     text: &Word,
@@ -69,7 +69,7 @@ pub fn note_said(
     Ok(journal.push(event)?)
 }
 
-/// Notes a text that was written to standard output.
+/// Adds a text that was written to standard output.
 pub fn note_put(journal: &mut Vec<Event>, text: &Word, answer: TellAnswer) -> Result<(), AllocError>
     ensures event { OnOk result (journal.new.items
         ≡ journal.old.items ++ event.Put text.now answer ∷ []) }

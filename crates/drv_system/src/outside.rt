@@ -1,12 +1,13 @@
-//! The system with what is known of it.
+//! A system with what is known of it.
 
 use crate::FactTable;
 
-/// The system, and the table of what was asked of it: a call asks where the table has no answer.
+/// The system with the table of its answers. A call asks the system only if the table has no
+/// answer.
 #[derive(Drop)]
 pub struct Outside<'a, S> {
     /// The system.
     pub sys: &'a mut S,
-    /// The first answers to what was asked.
+    /// The first answer to each question.
     pub facts: &'a mut FactTable,
 }

@@ -1,4 +1,4 @@
-//! What stands at the places of a plan.
+//! What the places of a plan hold.
 
 ghost use Rattle.drv_system.specs.Named.{command_at, name_at, temp_at};
 ghost use Rattle.drv_words.specs.Places.{job_at, no_job};
@@ -7,7 +7,7 @@ ghost use Rattle.std.specs.Prelude.{◌≡◌};
 
 use drv_words::{Command, Job, Place, Plan, Temp, Word};
 
-/// The job of a number: those of the sources in order, then the link's.
+/// The job of a number: the sources in order, then the link.
 #[tactic(auto, using(crate::proofs::Named::the_link, crate::proofs::Named::a_source))]
 fn job_at(plan: &Plan, number: usize) -> Option<&Job>
     ensures { unwrap_or (option_copied result) no_job ≡ job_at plan.now number }

@@ -10,12 +10,12 @@ use std::alloc::Global;
 use std::io::{self, Error, ErrorKind, PipeReader};
 use std::process::{self, Child};
 
-/// Where a command's standard output goes.
+/// The destination of a command's standard output.
 #[derive(Clone, Copy)]
 pub enum Output {
     /// Into a new pipe.
     Pipe,
-    /// Where that of this process goes.
+    /// The standard output of this process.
     Own,
 }
 
@@ -27,7 +27,7 @@ fn add_words(made: &mut process::Command, words: &[Word]) -> io::Result<()> {
     Ok(())
 }
 
-/// Sets variables, each a name and its value, for a command alone.
+/// Sets variables, given by name and value, for one command.
 fn set_variables(made: &mut process::Command, variables: &[(Word, Word)]) -> io::Result<()> {
     for variable in variables {
         made.env(text(variable.0.as_bytes())?, text(variable.1.as_bytes())?)?;
@@ -35,7 +35,7 @@ fn set_variables(made: &mut process::Command, variables: &[(Word, Word)]) -> io:
     Ok(())
 }
 
-/// Adds the words of a command, and has it read the end that is given.
+/// Adds the words of a command, and lets it read the end of a pipe, if one is given.
 fn prepare(
     made: &mut process::Command,
     words: &[Word],
@@ -50,7 +50,7 @@ fn prepare(
     Ok(())
 }
 
-/// A command with its words and variables, which reads the end that is given.
+/// A command with its words and variables, which reads the end of a pipe, if one is given.
 fn command_of(
     alloc: Global,
     command: &Command,
@@ -63,7 +63,7 @@ fn command_of(
     Ok(made)
 }
 
-/// Starts a command that writes a new pipe, whose other end is given back.
+/// Starts a command that writes a new pipe, and returns the reading end of that.
 fn spawn_into_pipe(
     rt: &HostRuntime,
     made: &mut process::Command,
@@ -89,8 +89,9 @@ fn spawn_made(
     }
 }
 
-/// Starts a command, with these variables beside those of this process. It reads the end that is
-/// given, or else this process's standard input. The other end of a new pipe is given back.
+/// Starts a command with these variables and those of this process. It reads the given end of a
+/// pipe, or else this process's standard input. Returns the reading end of a new pipe, if there is
+/// one.
 pub fn spawn(
     rt: &HostRuntime,
     alloc: Global,
@@ -105,10 +106,10 @@ pub fn spawn(
     spawn_made(rt, &mut made, output)
 }
 
-/// Starts a command with the streams and variables of this process, and waits until it has ended.
+/// Starts a command with the streams and variables of this process, and waits until it ends.
 ///
 /// # Errors
-/// Why it was not started.
+/// Why it could not be started.
 pub fn call(rt: &HostRuntime, command: &Command) -> Result<WaitAnswer, NotStarted> {
     match spawn(rt, rt.alloc(), command, &[], &None, Output::Own) {
         Ok((child, _)) => Ok(ending_of(child)),
@@ -116,7 +117,7 @@ pub fn call(rt: &HostRuntime, command: &Command) -> Result<WaitAnswer, NotStarte
     }
 }
 
-/// The text of a word, or the error that it is none.
+/// The text of a word, or an error if it is not text.
 fn text(word: &[u8]) -> io::Result<&str> {
     as_text(word).ok_or(Error::from(ErrorKind::InvalidInput))
 }
@@ -131,7 +132,7 @@ pub fn reason_of(error: &Error) -> NotStarted {
     }
 }
 
-/// Waits for the child of this number, whose place is empty then.
+/// Waits for the child of this number, whose place is then empty.
 pub fn wait_for(children: &mut Vec<Option<Child>>, id: u64) -> WaitAnswer
     ensures len { vec_len children.new ≡ vec_len children.old }
     ensures room { vec_capacity children.new ≡ vec_capacity children.old }
@@ -148,8 +149,8 @@ pub fn wait_for(children: &mut Vec<Option<Child>>, id: u64) -> WaitAnswer
     }
 }
 
-/// Whether the child of this number has ended, without waiting for it. One that was waited for has,
-/// and one that can't be asked for is taken for one that has.
+/// Whether the child of this number has ended, without waiting for it. The answer is also yes after
+/// a wait for it, and if the question fails.
 pub fn has_ended(children: &mut Vec<Option<Child>>, id: u64) -> bool
     ensures len { vec_len children.new ≡ vec_len children.old }
     ensures room { vec_capacity children.new ≡ vec_capacity children.old }
@@ -166,7 +167,7 @@ pub fn has_ended(children: &mut Vec<Option<Child>>, id: u64) -> bool
     }
 }
 
-/// How a child ended, once it has.
+/// How an ended child ended.
 fn ending_of(mut child: Child) -> WaitAnswer {
     let Ok(status) = child.wait() else {
         return WaitAnswer::Lost;

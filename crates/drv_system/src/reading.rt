@@ -1,4 +1,4 @@
-//! Reading a whole file within bounds.
+//! Reads a whole file within bounds.
 
 ghost use Rattle.drv_system.specs.Limit.{IsWithinLimit, most_reads};
 ghost use Rattle.drv_system.specs.Reading.{GivesUp, ReadsAs, is_failure};
@@ -13,13 +13,13 @@ use std::fs::File;
 use std::io::{Error, ErrorKind, Read};
 use std::rt::Files;
 
-/// The most reads that one file is read by.
+/// The most reads for one file.
 const MOST_READS: u32 = 33_554_432;
 
-/// The room that the first read of a file has, in bytes: most response files fit into it.
+/// The room for the first read of a file, in bytes: most response files fit.
 const FIRST_ROOM: usize = 2048;
 
-/// The room that is not made larger, in bytes.
+/// The most room for a read, in bytes.
 const MOST_ROOM: usize = 65536;
 
 /// Reads the file at a path to its end.
@@ -34,8 +34,8 @@ pub fn read_path<R: Files>(rt: &R, alloc: Global, path: &str) -> Result<ReadAnsw
     }
 }
 
-/// Reads what is open to its end: all bytes that it has left, where these are known, or the answer
-/// that they are more than a file may have, or that a read failed.
+/// Reads an open file to its end. Returns all bytes that are left, if these are known, or says that
+/// there are more than a file may have, or that a read failed.
 pub fn read_to_end<F: Read + Drop>(alloc: Global, file: F) -> Result<ReadAnswer, AllocError>
     ensures read { IfOk result (ReadsAs (F.remaining file)) }
     ensures within { IfOk result IsWithinLimit }
@@ -43,21 +43,21 @@ pub fn read_to_end<F: Read + Drop>(alloc: Global, file: F) -> Result<ReadAnswer,
     OpenFile::new(file).read_whole(alloc)
 }
 
-/// Whether an error says that nothing has the path, one that leads through a plain file included.
+/// Whether an error says that no file has the path. That includes a path through a plain file.
 pub(crate) fn is_absent(error: &Error) -> bool {
     matches!(error.kind(), ErrorKind::NotFound | ErrorKind::NotADirectory)
 }
 
-/// Why a read gave nothing.
+/// Why a read returned nothing.
 #[derive(Clone, Copy)]
 enum ReadFault {
-    /// It was interrupted, and can be made again.
+    /// It was interrupted and can be repeated.
     Interrupted,
     /// It failed.
     Failed,
 }
 
-/// Makes the room of the next read twice as large, unless it is large.
+/// Doubles the room for the next read, up to the limit.
 fn widen(room: &mut Vec<u8>) -> Result<(), AllocError>
     requires { 0 < length room.old.items }
     ensures { OnOk result (0 < length room.new.items) }
@@ -68,7 +68,7 @@ fn widen(room: &mut Vec<u8>) -> Result<(), AllocError>
     Ok(())
 }
 
-/// A file that is being read: how many reads were made of it, and whether the last one failed.
+/// A file that is being read: the number of reads so far, and whether the last one failed.
 #[derive(Drop)]
 struct OpenFile<F> {
     file: F,
@@ -77,7 +77,7 @@ struct OpenFile<F> {
 }
 
 impl<F: Read> OpenFile<F> {
-    /// A file of which nothing was read yet.
+    /// A file before the first read.
     fn new(file: F) -> OpenFile<F>
         ensures { result ≡ record { file = file; reads = 0; failed = false } }
     {
@@ -88,7 +88,7 @@ impl<F: Read> OpenFile<F> {
         }
     }
 
-    /// Makes one read.
+    /// Reads once.
     fn read(&mut self, buffer: &mut [u8]) -> Result<usize, ReadFault>
         requires count { self.old.reads < 4294967295 }
         requires room { 0 < length buffer.old }
@@ -111,8 +111,8 @@ impl<F: Read> OpenFile<F> {
         }
     }
 
-    /// Reads to the end, by at most so many reads. A file that does not end within the bounds is
-    /// not read.
+    /// Reads to the end, by at most `most` reads. A file that doesn't end within the bounds is not
+    /// read.
     fn read_within(&mut self, alloc: Global, most: u32) -> Result<ReadAnswer, AllocError>
         requires { self.old.reads ≡ 0 }
         ensures read { IfOk result (ReadsAs (F.remaining self.old.file)) }

@@ -1,4 +1,4 @@
-//! What the user is told of a step that failed.
+//! The messages about failed steps.
 
 ghost use Rattle.drv_system.specs.Named.{line_of, note_line};
 ghost use Rattle.std.specs.Option.{option_copied, unwrap_or};
@@ -18,7 +18,7 @@ fn bytes_of(name: Option<&Word>) -> &[u8]
     }
 }
 
-/// The line that has a name between two texts.
+/// The line with a name between two texts.
 fn line_of(
     alloc: Global,
     before: &[u8],
@@ -36,8 +36,8 @@ fn line_of(
     Ok(line)
 }
 
-/// The line that tells of a step that failed: `gdrv: `, its text with the path or the program, and
-/// a newline.
+/// The line that reports a failed step: `gdrv: `, its text with the path or the program, and a
+/// newline.
 pub fn report_line(alloc: Global, plan: &Plan, note: Note) -> Result<Word, AllocError>
     ensures { IfOk result (λ line. line ≡ note_line plan.now note) }
 {

@@ -26,11 +26,11 @@ use drv_words::{
 use std::alloc::{AllocError, Global};
 use std::marker::Model;
 
-/// A system that answers from lists, for tests and trials: a path or name is looked for in its
-/// list, and the first counts.
+/// A system that answers from lists, for tests and trials. A path or name is looked up in its list,
+/// and the first entry counts.
 ///
-/// A step of a run takes the next answer of its list, if that is one of the step's kind. Any other
-/// answer stays, and blocks those after it; the step is then answered Claimed, Started, Exit(0) or
+/// A step of a run takes the next answer of its list, if that has the step's kind. Any other answer
+/// stays and blocks the later ones, and the step is answered by Claimed, Started, Exit(0) or
 /// Removed. Children are numbered from 0, whatever the list says.
 #[derive(Drop)]
 pub struct ScriptSystem {
@@ -38,9 +38,9 @@ pub struct ScriptSystem {
     dirs: Listing<Word>,
     variables: Listing<(Word, Word)>,
     answers: Listing<Answer>,
-    /// How many of the answers were taken.
+    /// The number of answers that were taken.
     taken: usize,
-    /// How many children were started.
+    /// The number of children that were started.
     children: u64,
     mute: bool,
     journal: Vec<Event>,
@@ -70,10 +70,10 @@ impl Model for ScriptSystem {
 }
 
 impl ScriptSystem {
-    /// A system that has these files, folders and variables, and gives these answers to the steps
-    /// of a run.
+    /// A system with these files, folders and variables, and with these answers to the steps of a
+    /// run.
     ///
-    /// A file without bytes cannot be read. It takes no memory.
+    /// A file without bytes can't be read.
     pub fn new(
         alloc: Global,
         files: Listing<(Word, Option<Word>)>,
@@ -104,14 +104,14 @@ impl ScriptSystem {
         }
     }
 
-    /// From here on nothing can be told: `say`, `put` and `report` fail.
+    /// From now on messages fail: those of `say`, `put` and `report`.
     pub fn mute(&mut self)
         ensures { self.new ≡ record self.old { script = record self.old.script { mute = true } } }
     {
         self.mute = true;
     }
 
-    /// How a text is answered.
+    /// The answer to a message.
     fn telling(&self) -> TellAnswer
         ensures { result ≡ scripted_telling self.now.script }
     {
@@ -122,7 +122,7 @@ impl ScriptSystem {
         }
     }
 
-    /// What a path is listed as: the files count before the folders.
+    /// The kind of a path: the files of the list count before the folders.
     fn listed_kind(&self, path: &Word) -> PathKind
         ensures { result ≡ scripted_kind self.now.script path.now }
     {
@@ -151,7 +151,7 @@ impl System for ScriptSystem {
         self.journal.as_slice()
     }
 
-    /// The bytes of the file, where it is listed with some.
+    /// The bytes of the file, if it is listed with some.
     #[tactic(auto, using(crate::proofs::Holding::numbered_beside, crate::proofs::Holding::numbered_same))]
     fn read_file(&mut self, path: &Word) -> Result<ReadAnswer, AllocError>
         ensures event { IfOk result (λ answer. self.new.journal
@@ -167,7 +167,7 @@ impl System for ScriptSystem {
         Ok(answer)
     }
 
-    /// Plain for a file of the list, Dir for a folder.
+    /// Plain for a listed file, Dir for a listed folder.
     #[tactic(auto, using(crate::proofs::Holding::numbered_beside, crate::proofs::Holding::numbered_same))]
     fn kind(&mut self, path: &Word) -> Result<PathKind, AllocError>
         ensures event { IfOk result (λ kind. self.new.journal
@@ -182,7 +182,7 @@ impl System for ScriptSystem {
         Ok(kind)
     }
 
-    /// The value of the variable, where it is listed.
+    /// The value of the variable, if it is listed.
     #[tactic(auto, using(crate::proofs::Holding::numbered_beside, crate::proofs::Holding::numbered_same))]
     fn variable(&mut self, name: &Word) -> Result<Option<Word>, AllocError>
         ensures event { IfOk result (λ value. self.new.journal
@@ -337,7 +337,7 @@ impl System for ScriptSystem {
         true
     }
 
-    /// Nothing passes.
+    /// No time passes.
     fn pause(&self) {}
 
     #[tactic(auto, using(crate::proofs::Holding::numbered_step))]
@@ -383,7 +383,7 @@ impl System for ScriptSystem {
     }
 }
 
-/// The answer in front of those that are left.
+/// The next answer that is left.
 #[tactic(auto, using(crate::proofs::Scripted::front_is))]
 fn front_of(answers: &[Answer], taken: usize) -> Option<Answer>
     ensures { result ≡ slice_get (drop taken answers.now) 0 }
@@ -391,7 +391,7 @@ fn front_of(answers: &[Answer], taken: usize) -> Option<Answer>
     answers.get(taken).copied()
 }
 
-/// Passes over the answer in front, if it was one of the kind that is asked for.
+/// Drops the next answer, if it had the kind that was asked for.
 #[tactic(auto, using(crate::proofs::Scripted::one_less, crate::proofs::Scripted::none_less))]
 fn pass_over<A>(answers: &[Answer], taken: &mut usize, answer: &Option<A>)
     ensures { drop taken.new answers.now
@@ -447,7 +447,7 @@ fn removal_in(front: Option<Answer>) -> Option<RemoveAnswer>
     }
 }
 
-/// How many children there are after a start.
+/// The number of children after a start.
 fn count_with(children: u64, answer: StartAnswer) -> u64
     requires { children < 18446744073709551615 }
     ensures { result ≡ children_after children answer }
@@ -458,7 +458,7 @@ fn count_with(children: u64, answer: StartAnswer) -> u64
     }
 }
 
-/// What a start is answered: a child takes the next number.
+/// The answer to a start: the child gets the next number.
 fn numbered(id: u64, given: Option<StartAnswer>) -> StartAnswer
     ensures { result ≡ start_numbered id given }
 {
@@ -468,7 +468,7 @@ fn numbered(id: u64, given: Option<StartAnswer>) -> StartAnswer
     }
 }
 
-/// What stands with a key for the first time.
+/// The first value of a key.
 fn find<'a, V>(list: &'a [(Word, V)], key: &Word) -> Option<&'a V>
     ensures { option_copied result ≡ lookup (pointwise nat_eq key.now) list.now }
 {
@@ -480,7 +480,7 @@ fn find<'a, V>(list: &'a [(Word, V)], key: &Word) -> Option<&'a V>
     None
 }
 
-/// What a file reads as that is listed so, or not at all.
+/// How a file with this entry is read, if it has one.
 fn read_listed(listed: Option<&Option<Word>>) -> Result<ReadAnswer, AllocError>
     ensures answer { IfOk result (λ answer. answer ≡ read_as (option_copied listed.entry)) }
     ensures within { IfOk result IsWithinLimit }

@@ -40,11 +40,11 @@ fn seed_of(text: &[u8]) -> Option<u32>
     Some(high * 65536 + low)
 }
 
-/// The seed of temporary names: the variable GDRV_SEED where it has eight hexadecimal digits,
+/// The seed of temporary names: the variable GDRV_SEED if it has eight hexadecimal digits,
 /// otherwise the low 32 bits of the clock's nanoseconds.
 ///
 /// # Errors
-/// `AllocError` where there is no memory for the variable's value.
+/// `AllocError` if there is no memory for the variable's value.
 pub fn clock_seed(rt: &HostRuntime) -> Result<u32, AllocError> {
     if let Some(digits) = value_of(rt, "GDRV_SEED")?
         && let Some(seed) = seed_of(digits.as_bytes())

@@ -14,35 +14,35 @@ use crate::{Event, PathKind, ReadAnswer, TellAnswer};
 use drv_words::{ClaimAnswer, Note, Place, Plan, RemoveAnswer, StartAnswer, WaitAnswer, Word};
 use std::alloc::AllocError;
 
-/// What a driver may ask of the outside, say to it, and have done there.
+/// What a driver may ask the outside, write to it, and have done by it.
 ///
-/// Each call but `has_ended` and `pause` adds one event to the journal, which holds the call's
-/// argument and its answer. A call that answers `AllocError` adds none, and has said nothing. The
-/// steps of a run (`claim`, `start`, `close_pipe`, `wait`, `remove`, `report`) never answer want of
-/// memory: they need room that `reserve_events` made, and a system that lacks memory for more
-/// answers that the step failed.
+/// Each call except `has_ended` and `pause` adds one event to the journal: the call's argument and
+/// its answer. A call that returns `AllocError` adds none and has written nothing. The steps of a
+/// run (`claim`, `start`, `close_pipe`, `wait`, `remove`, `report`) never run out of memory: they
+/// need room that `reserve_events` made, and a system that lacks memory for more answers that the
+/// step failed.
 pub trait System {
     ghost use Rattle.drv_system.specs.declared.event.Event.{Event};
 
     ghost events: { Self → List Event };
 
-    // how many more events, and how many more children, there is room for
+    // the room for more events, and for more children
     ghost spare_events: { Self → ℕ };
 
     ghost spare_children: { Self → ℕ };
 
-    /// The events so far, the first one first.
+    /// The events so far, in order.
     fn journal(&self) -> &[Event]
         ensures { result.now ≡ events self.now };
 
-    /// Reads the whole file at a path. What is read has at most 16,777,216 bytes.
+    /// Reads the whole file at a path: at most 16,777,216 bytes.
     fn read_file(&mut self, path: &Word) -> Result<ReadAnswer, AllocError>
         ensures event { IfOk result (λ answer. events self.new
             ≡ events self.old ++ event.Read path.now answer ∷ []) }
         ensures within { IfOk result IsWithinLimit }
         ensures memory { OnErr result (events self.new ≡ events self.old) };
 
-    /// Asks what a path leads to.
+    /// Asks for the kind of file that a path leads to.
     fn kind(&mut self, path: &Word) -> Result<PathKind, AllocError>
         ensures event { IfOk result (λ kind. events self.new
             ≡ events self.old ++ event.Kind path.now kind ∷ []) }
@@ -66,14 +66,14 @@ pub trait System {
             ≡ events self.old ++ event.Put text.now answer ∷ []) }
         ensures memory { OnErr result (events self.new ≡ events self.old) };
 
-    /// Makes room for so many more events, and as many more children.
+    /// Makes room for `count` more events and as many more children.
     fn reserve_events(&mut self, count: usize) -> Result<(), AllocError>
         ensures room { OnOk result (count ≤ spare_events self.new) }
         ensures children { OnOk result (count ≤ spare_children self.new) }
         ensures unchanged { events self.new ≡ events self.old };
 
-    /// Makes a new file for a temporary of the plan, and writes its contents. Nothing that has the
-    /// name already is touched, and a file that could not be written whole is taken away again.
+    /// Makes a new file for a temporary of the plan, and writes its contents. An existing file is
+    /// left untouched, and a file that could not be written whole is removed.
     fn claim(&mut self, plan: &Plan, place: Place) -> ClaimAnswer
         requires place { is_temp plan.now place ≡ true }
         requires room { 0 < spare_events self.old }
@@ -82,10 +82,10 @@ pub trait System {
         ensures room { spare_events self.old ≤ spare_events self.new + 1 }
         ensures children { spare_children self.old ≤ spare_children self.new };
 
-    /// Starts a command of the plan. It reads the pipe that is pending, or this process's standard
-    /// input, and writes a new pipe, which is then the pending one, or this process's standard
-    /// output. The number of a child is new in the journal. After a start that failed the pipe
-    /// that was pending still is.
+    /// Starts a command of the plan. It reads the pending pipe, or this process's standard input.
+    /// It writes a new pipe, which is then the pending one, or this process's standard output. The
+    /// number of a child is new in the journal. After a failed start a pending pipe is still
+    /// pending.
     fn start(&mut self, plan: &Plan, place: Place, from_pipe: bool, to_pipe: bool) -> StartAnswer
         requires place { is_command plan.now place ≡ true }
         requires pipe { from_pipe ≡ pipe_pending (run_of (events self.old)) }
@@ -98,7 +98,7 @@ pub trait System {
         ensures room { spare_events self.old ≤ spare_events self.new + 1 }
         ensures children { spare_children self.old ≤ spare_children self.new + 1 };
 
-    /// Closes the pipe that is pending.
+    /// Closes the pending pipe.
     fn close_pipe(&mut self)
         requires pipe { pipe_pending (run_of (events self.old)) ≡ true }
         requires room { 0 < spare_events self.old }
@@ -117,16 +117,16 @@ pub trait System {
         ensures children { spare_children self.old ≤ spare_children self.new };
 
     /// Whether the child of this number has ended, as far as that is known without waiting. It adds
-    /// no event and promises nothing: how a child ended is what `wait` answers.
+    /// no event and promises nothing: `wait` says how a child ended.
     fn has_ended(&mut self, id: u64) -> bool
         ensures unchanged { events self.new ≡ events self.old }
         ensures room { spare_events self.old ≤ spare_events self.new }
         ensures children { spare_children self.old ≤ spare_children self.new };
 
-    /// Lets a moment pass, in which children may end.
+    /// Waits a moment, so that children may end.
     fn pause(&self);
 
-    /// Removes a file of the plan. Links are not followed, and what is no plain file stays.
+    /// Removes a file of the plan. Links are not followed, and anything but a plain file stays.
     fn remove(&mut self, plan: &Plan, place: Place) -> RemoveAnswer
         requires place { is_file plan.now place ≡ true }
         requires room { 0 < spare_events self.old }
@@ -135,7 +135,7 @@ pub trait System {
         ensures room { spare_events self.old ≤ spare_events self.new + 1 }
         ensures children { spare_children self.old ≤ spare_children self.new };
 
-    /// Tells the user on standard error of a step that failed.
+    /// Reports a failed step to the user, on standard error.
     fn report(&mut self, plan: &Plan, note: Note) -> TellAnswer
         requires note { is_note plan.now note ≡ true }
         requires room { 0 < spare_events self.old }
