@@ -1,5 +1,6 @@
 use Rattle.drv_words.specs.FileNames.{parted}
-use Rattle.std.proofs.Common.{append-nil, arith, ◌≡◌, ◌∙◌, ◌++◌, ◌==◌, ◌+◌, ◌-◌, ◌<◌, ◌≤◌, ◌≢◌, Bool, List, [], ◌∷◌, None, Some, ap, drop, eqb-true, false, get_or, length, refl, suc, sym, take, true, ℕ}
+use Rattle.std.proofs.Common.{append-nil, arith, ◌≡◌, ◌∙◌, ◌++◌, ◌==◌, ◌+◌, ◌-◌, ◌<◌, ◌≤◌, ◌≢◌, Bool, List, [], ◌∷◌, None, Some, ap, drop}
+use Rattle.std.proofs.Common.{eqb-true, false, get_or, length, refl, suc, sym, take, true, ℕ}
 use Rattle.std.proofs.lemmas.Bool.Decides.{nat_tests}
 use Rattle.std.proofs.lemmas.List.{drop_more, get_or-drop, length-drop, take-append-drop, take_all}
 
@@ -13,14 +14,19 @@ equal : (a b : ℕ) → a ≡ b → (a == b) ≡ true
 equal a b same = grind (arith, nat_tests)
 
 -- it is found in the rest of the name
-parted_after : (mark : ℕ) (front name before following : List ℕ) → parted mark name ≡ Some (before, following) → parted mark (front ++ name) ≡ Some (front ++ before, following)
+parted_after : (mark : ℕ) (front name before following : List ℕ) → parted mark name ≡ Some (before, following)
+    → parted mark (front ++ name) ≡ Some (front ++ before, following)
 parted_after mark [] name before following is = is
 parted_after mark (b ∷ front) name before following is = rw (parted_after mark front name before following is) refl
 
 -- the name has no such byte
 pub parted_nowhere : (mark : ℕ) (name : List ℕ) → ((k : ℕ) → k < length name → get_or name k 0 ≢ mark) → parted mark name ≡ None
 parted_nowhere mark [] none = refl
-parted_nowhere mark (b ∷ name) none = rw (parted_nowhere mark name (λ k within. none (suc k) (omega (arith, within))), other (b == mark) refl) refl
+parted_nowhere mark (b ∷ name) none = rw (
+  parted_nowhere mark name (λ k within. none (suc k) (omega (arith, within))),
+  other
+      (b == mark) refl,
+) refl
   where
     other : (here : Bool) → (b == mark) ≡ here → (b == mark) ≡ false
     other true h = absurd (none 0 (omega arith) (eqb-true b mark h))
@@ -38,6 +44,7 @@ parted_at mark i name within is none =
     ∙ ap (parted mark) (take-append-drop i name)
 
 -- no such byte follows this index
-pub nowhere_after : (mark i : ℕ) (name : List ℕ) → ((k : ℕ) → i + 1 ≤ k → k < length name → get_or name k 0 ≢ mark) → parted mark (drop (i + 1) name) ≡ None
+pub nowhere_after : (mark i : ℕ) (name : List ℕ) → ((k : ℕ) → i + 1 ≤ k → k < length name → get_or name k 0 ≢ mark)
+    → parted mark (drop (i + 1) name) ≡ None
 nowhere_after mark i name none = parted_nowhere mark (drop (i + 1) name) (λ k within same.
     none (i + 1 + k) (omega arith) (omega (arith, within, length-drop (i + 1) name)) (sym (get_or-drop (i + 1) name k 0) ∙ same))

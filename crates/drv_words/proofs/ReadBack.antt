@@ -1,11 +1,13 @@
-use Rattle.drv_words.specs.Printed.{Escapes, Shows, ShowsEnd, ShowsWord, ShowsWords, bare, in_quotes, into_next, is_bare, is_plain, is_special, line, no_byte, no_line, no_pipe, no_word, one_more, other, special}
+use Rattle.drv_words.specs.Printed.{Escapes, Shows, ShowsEnd, ShowsWord, ShowsWords, bare, in_quotes, into_next, is_bare, is_plain}
+use Rattle.drv_words.specs.Printed.{is_special, line, no_byte, no_line, no_pipe, no_word, one_more, other, special}
 use Rattle.drv_words.specs.Code.LineReader as r
 use Rattle.drv_words.specs.Code.LineReader.{escape, inside, lines_read, longer, read, step, with_word}
 use Rattle.drv_words.specs.declared.plan.PlanLine.{PlanLine}
 use Rattle.drv_words.specs.declared.reading_back.Standing.{Standing}
 use Rattle.drv_words.specs.declared.reading_back.Standing.TheVariants.{AtWord, Bare, Between, Escaped, Quoted, Wrong}
 use Rattle.drv_words.specs.declared.reading_back.LineReader.{LineReader}
-use Rattle.std.proofs.Common.{◌≡◌, ◌||◌, ◌&&◌, ◌==◌, Bool, false, true, List, [], ◌∷◌, ◌++◌, None, Option, Some, length, nat_lt, if◌then◌else◌, refl, sym, ap, ◌∙◌, append_assoc, ℕ}
+use Rattle.std.proofs.Common.{◌≡◌, ◌||◌, ◌&&◌, ◌==◌, Bool, false, true, List, [], ◌∷◌, ◌++◌, None, Option, Some, length, nat_lt}
+use Rattle.std.proofs.Common.{if◌then◌else◌, refl, sym, ap, ◌∙◌, append_assoc, ℕ}
 use Rattle.std.proofs.lemmas.List.{append-nil}
 use Rattle.std.proofs.Math.Seq.{append_snoc}
 use Rattle.std.specs.List.{list_all}
@@ -24,13 +26,15 @@ inside_other : (reader : LineReader) (b : ℕ) → is_special b ≡ false → in
 inside_other reader b e = by (b == 34) (b == 92) (b == 36) e
   where
     by : (quote backslash dollar : Bool) → (quote || backslash || dollar) ≡ false
-        → (if backslash then r.placed reader Escaped else if quote then r.closed reader else if dollar then r.placed reader Wrong else longer reader b reader.standing) ≡ longer reader b reader.standing
+        → (if backslash then r.placed reader Escaped else if quote then r.closed reader else if dollar then r.placed reader
+        Wrong else longer reader b reader.standing) ≡ longer reader b reader.standing
     by false false false h = refl
     by false false true h = cc
     by false true d h = cc
     by true q d h = cc
 
-escapes_read : {text word : List ℕ} → Escapes text word → (lines : List PlanLine) (program : Option (List ℕ)) (words : List (List ℕ)) (front : List ℕ)
+escapes_read : {text word : List ℕ} → Escapes text word → (lines : List PlanLine) (program : Option (List ℕ)) (words : List (List ℕ))
+    (front : List ℕ)
     → read (at lines program words front Quoted) text ≡ at lines program words (front ++ word) Quoted
 escapes_read no_byte lines program words front = ap (λ w. at lines program words w Quoted) (sym (append-nil front))
 escapes_read (other {b} {text} {word} e rest) lines program words front =
@@ -44,12 +48,14 @@ and_both : (a b : Bool) → (a && b) ≡ true → (a ≡ true) × (b ≡ true)
 and_both true b e = (refl, e)
 and_both false b e = absurd cc
 
-bytes_read : (word : List ℕ) → list_all is_plain word ≡ true → (lines : List PlanLine) (program : Option (List ℕ)) (words : List (List ℕ)) (front : List ℕ)
+bytes_read : (word : List ℕ) → list_all is_plain word ≡ true → (lines : List PlanLine) (program : Option (List ℕ)) (words : List (List ℕ))
+    (front : List ℕ)
     → read (at lines program words front Bare) word ≡ at lines program words (front ++ word) Bare
 bytes_read [] e lines program words front = ap (λ w. at lines program words w Bare) (sym (append-nil front))
 bytes_read (b ∷ word) e lines program words front =
     let both : (is_plain b ≡ true) × (list_all is_plain word ≡ true) = and_both _ _ e in
-    rw both.0 (bytes_read word both.1 lines program words (front ++ b ∷ []) ∙ ap (λ w. at lines program words w Bare) (append_snoc front b word))
+    rw both.0 (bytes_read word both.1 lines program words (front ++ b ∷ []) ∙ ap (λ w. at lines program words w Bare)
+    (append_snoc front b word))
 
 -- the text goes on with a byte that no bare word has
 record Ends (text : List ℕ) : Type 0 where
@@ -64,8 +70,10 @@ between_anywhere : (lines : List PlanLine) (program : Option (List ℕ)) (words 
 between_anywhere lines None words word b = by (b == 32) (b == 10)
   where
     by : (space newline : Bool)
-        → (if space then at lines (Some word) words [] AtWord else if newline then r.with_line (at lines (Some word) words [] Bare) false else at lines (Some word) words [] Wrong)
-        ≡ (if space then at lines (Some word) words [] AtWord else if newline then r.with_line (at lines (Some word) words [] Between) false else at lines (Some word) words [] Wrong)
+        → (if space then at lines (Some word) words [] AtWord else if newline then r.with_line (at lines (Some word) words [] Bare)
+        false else at lines (Some word) words [] Wrong)
+        ≡ (if space then at lines (Some word) words [] AtWord else if newline then r.with_line (at lines (Some word) words [] Between)
+        false else at lines (Some word) words [] Wrong)
     by true newline = refl
     by false true = refl
     by false false = refl
@@ -75,8 +83,10 @@ between_anywhere lines (Some program) words word b = by (b == 32) (b == 10)
     more = words ++ word ∷ []
 
     by : (space newline : Bool)
-        → (if space then at lines (Some program) (words ++ word ∷ []) [] AtWord else if newline then r.with_line (at lines (Some program) (words ++ word ∷ []) [] Bare) false else at lines (Some program) (words ++ word ∷ []) [] Wrong)
-        ≡ (if space then at lines (Some program) (words ++ word ∷ []) [] AtWord else if newline then r.with_line (at lines (Some program) (words ++ word ∷ []) [] Between) false else at lines (Some program) (words ++ word ∷ []) [] Wrong)
+        → (if space then at lines (Some program) (words ++ word ∷ []) [] AtWord else if newline then r.with_line
+        (at lines (Some program) (words ++ word ∷ []) [] Bare) false else at lines (Some program) (words ++ word ∷ []) [] Wrong)
+        ≡ (if space then at lines (Some program) (words ++ word ∷ []) [] AtWord else if newline then r.with_line
+        (at lines (Some program) (words ++ word ∷ []) [] Between) false else at lines (Some program) (words ++ word ∷ []) [] Wrong)
     by true newline = refl
     by false true = refl
     by false false = refl
@@ -86,7 +96,8 @@ word_begins : (b : ℕ) → is_plain b ≡ true → (lines : List PlanLine) (pro
 word_begins b e lines program words = rw e refl
 
 -- a bare word with the space before it
-bare_read : (word next : List ℕ) → is_bare word ≡ true → Ends next → (lines : List PlanLine) (program : Option (List ℕ)) (words : List (List ℕ))
+bare_read : (word next : List ℕ) → is_bare word ≡ true → Ends next → (lines : List PlanLine) (program : Option (List ℕ))
+    (words : List (List ℕ))
     → read (at lines program words [] AtWord) (word ++ next) ≡ read (with_word (at lines program words word Between)) next
 bare_read [] next e ends lines program words = absurd cc
 bare_read (b ∷ word) next e ends lines program words =
@@ -97,10 +108,12 @@ bare_read (b ∷ word) next e ends lines program words =
     ∙ ap (λ s. read s next) (bytes_read word both.1 lines program words (b ∷ []))
     ∙ ended (b ∷ word) next ends lines program words
   where
-    stepped : (word : List ℕ) (first : ℕ) (rest : List ℕ) → is_plain first ≡ false → (lines : List PlanLine) (program : Option (List ℕ)) (words : List (List ℕ))
+    stepped : (word : List ℕ) (first : ℕ) (rest : List ℕ) → is_plain first ≡ false → (lines : List PlanLine) (program : Option (List ℕ))
+        (words : List (List ℕ))
         → read (at lines program words word Bare) (first ∷ rest) ≡ read (with_word (at lines program words word Between)) (first ∷ rest)
     stepped word first rest e lines None words = rw e (ap (λ s. read s rest) (between_anywhere lines None words word first))
-    stepped word first rest e lines (Some program) words = rw e (ap (λ s. read s rest) (between_anywhere lines (Some program) words word first))
+    stepped word first rest e lines (Some program) words = rw e
+        (ap (λ s. read s rest) (between_anywhere lines (Some program) words word first))
 
     ended : (word next : List ℕ) → Ends next → (lines : List PlanLine) (program : Option (List ℕ)) (words : List (List ℕ))
         → read (at lines program words word Bare) next ≡ read (with_word (at lines program words word Between)) next
@@ -110,7 +123,8 @@ bare_read (b ∷ word) next e ends lines program words =
         ∙ sym (ap (λ t. read (with_word (at lines program words word Between)) t) ends.is)
 
 -- a quoted word
-quoted_read : {text word : List ℕ} → is_bare word ≡ false → Escapes text word → (next : List ℕ) (lines : List PlanLine) (program : Option (List ℕ)) (words : List (List ℕ))
+quoted_read : {text word : List ℕ} → is_bare word ≡ false → Escapes text word
+    → (next : List ℕ) (lines : List PlanLine) (program : Option (List ℕ)) (words : List (List ℕ))
     → read (at lines program words [] AtWord) ((34 ∷ text ++ 34 ∷ []) ++ next) ≡ read (with_word (at lines program words word Between)) next
 quoted_read {text} {word} e inside next lines program words =
     ap (λ t. read (at lines program words [] Quoted) t) (append_assoc text (34 ∷ []) next)
@@ -118,11 +132,13 @@ quoted_read {text} {word} e inside next lines program words =
     ∙ ap (λ s. read s (34 ∷ next)) (escapes_read inside lines program words [])
     ∙ close program
   where
-    close : (program : Option (List ℕ)) → read (at lines program words word Quoted) (34 ∷ next) ≡ read (with_word (at lines program words word Between)) next
+    close : (program : Option (List ℕ)) → read (at lines program words word Quoted) (34 ∷ next)
+        ≡ read (with_word (at lines program words word Between)) next
     close None = rw e refl
     close (Some program) = rw e refl
 
-word_read : {text word : List ℕ} → ShowsWord text word → (next : List ℕ) → Ends next → (lines : List PlanLine) (program : Option (List ℕ)) (words : List (List ℕ))
+word_read : {text word : List ℕ} → ShowsWord text word → (next : List ℕ) → Ends next → (lines : List PlanLine) (program : Option (List ℕ))
+    (words : List (List ℕ))
     → read (at lines program words [] AtWord) (text ++ next) ≡ read (with_word (at lines program words word Between)) next
 word_read (bare {word} e) next ends lines program words = bare_read word next e ends lines program words
 word_read (in_quotes e inside) next ends lines program words = quoted_read e inside next lines program words
@@ -133,7 +149,8 @@ words_end no_word next ends = ends
 words_end (one_more {text} {word} {rest} first others) next ends =
     record { first = 32; rest = (text ++ rest) ++ next; is = refl; unplain = refl }
 
-words_read : {text : List ℕ} {words : List (List ℕ)} → ShowsWords text words → (next : List ℕ) → Ends next → (lines : List PlanLine) (program : List ℕ) (front : List (List ℕ))
+words_read : {text : List ℕ} {words : List (List ℕ)} → ShowsWords text words → (next : List ℕ) → Ends next
+    → (lines : List PlanLine) (program : List ℕ) (front : List (List ℕ))
     → read (at lines (Some program) front [] Between) (text ++ next) ≡ read (at lines (Some program) (front ++ words) [] Between) next
 words_read no_word next ends lines program front = ap (λ ws. read (at lines (Some program) ws [] Between) next) (sym (append-nil front))
 words_read (one_more {text} {word} {rest} {words} first others) next ends lines program front =
@@ -143,13 +160,15 @@ words_read (one_more {text} {word} {rest} {words} first others) next ends lines 
     ∙ ap (λ ws. read (at lines (Some program) ws [] Between) next) (append_snoc front word words)
 
 -- a line
-end_read : {end : List ℕ} {piped : Bool} → ShowsEnd end piped → (rest : List ℕ) (lines : List PlanLine) (program : List ℕ) (words : List (List ℕ))
+end_read : {end : List ℕ} {piped : Bool} → ShowsEnd end piped → (rest : List ℕ) (lines : List PlanLine) (program : List ℕ)
+    (words : List (List ℕ))
     → Ends (end ++ rest) × (read (at lines (Some program) words [] Between) (end ++ rest)
     ≡ read (at (lines ++ record { command = record { program = program; words = words }; piped = piped } ∷ []) None [] [] Between) rest)
 end_read into_next rest lines program words = (record { first = 32; rest = 124 ∷ 10 ∷ rest; is = refl; unplain = refl }, refl)
 end_read no_pipe rest lines program words = (record { first = 10; rest = rest; is = refl; unplain = refl }, refl)
 
-line_read : {text end : List ℕ} {program : List ℕ} {words : List (List ℕ)} {piped : Bool} → ShowsWords text (program ∷ words) → ShowsEnd end piped → (rest : List ℕ) (lines : List PlanLine)
+line_read : {text end : List ℕ} {program : List ℕ} {words : List (List ℕ)} {piped : Bool} → ShowsWords text (program ∷ words)
+    → ShowsEnd end piped → (rest : List ℕ) (lines : List PlanLine)
     → read (at lines None [] [] Between) (text ++ end ++ rest)
     ≡ read (at (lines ++ record { command = record { program = program; words = words }; piped = piped } ∷ []) None [] [] Between) rest
 line_read {end = end} (one_more {text} {word} {rest} {words} first shown) ends tail lines =
@@ -176,5 +195,6 @@ pub one_list : (text : List ℕ) (a b : List PlanLine) → Shows text a → Show
 one_list text a b shows_a shows_b = let same : Some a ≡ Some b = sym (reads_shown shows_a) ∙ reads_shown shows_b in cc
 
 -- the reader finds every list of lines that a text shows
-pub shown_is_found : (text : List ℕ) (found : Option (List PlanLine)) → found ≡ lines_read text → (lines : List PlanLine) → Shows text lines → found ≡ Some lines
+pub shown_is_found : (text : List ℕ) (found : Option (List PlanLine)) → found ≡ lines_read text → (lines : List PlanLine) → Shows text lines
+    → found ≡ Some lines
 shown_is_found text found e lines shown = e ∙ reads_shown shown

@@ -1,4 +1,5 @@
-use Rattle.drv_words.specs.Response.{ArePieces, Splits, at_space, escaped, is_marked, is_quote, is_space, marked, more, no_more, nothing, one_word, plain, quoted, response, response_text, run_closed, space}
+use Rattle.drv_words.specs.Response.{ArePieces, Splits, at_space, escaped, is_marked, is_quote, is_space, marked, more, no_more, nothing}
+use Rattle.drv_words.specs.Response.{one_word, plain, quoted, response, response_text, run_closed, space}
 use Rattle.std.proofs.Common.{◌≡◌, ◌||◌, ◌==◌, Bool, false, true, List, [], ◌∷◌, ◌++◌, if◌then◌else◌, refl, sym, subst, append_assoc, ℕ}
 
 -- Splitting the response text of words gives the words back.
@@ -22,15 +23,19 @@ word_splits : (word rest : List ℕ) (words : List (List ℕ)) → Splits rest w
 word_splits [] rest words others = one_word (quoted refl run_closed) (no_more (at_space refl)) (space refl others)
 word_splits (b ∷ word) rest words others = by (is_marked b) refl
   where
-    by : (mark : Bool) → is_marked b ≡ mark → Splits ((if mark then 92 ∷ b ∷ marked word else b ∷ marked word) ++ 10 ∷ rest) ((b ∷ word) ∷ words)
+    by : (mark : Bool) → is_marked b ≡ mark → Splits ((if mark then 92 ∷ b ∷ marked word else b ∷ marked word) ++ 10 ∷ rest)
+        ((b ∷ word) ∷ words)
     by true e = one_word escaped (marked_pieces word rest) (space refl others)
-    by false e = let no = none_of (is_space b) (is_quote b) (b == 92) e in one_word (plain no.0 no.1 no.2) (marked_pieces word rest) (space refl others)
+    by false e =
+        let no = none_of (is_space b) (is_quote b) (b == 92) e in
+        one_word (plain no.0 no.1 no.2) (marked_pieces word rest) (space refl others)
 
 response_splits : (words : List (List ℕ)) → Splits (response_text words) words
 response_splits [] = nothing
 response_splits (word ∷ words) =
     let P : List ℕ → Type 0 = λ t. Splits t (word ∷ words) in
-    subst P (sym (append_assoc (response word) (10 ∷ []) (response_text words))) (word_splits word (response_text words) words (response_splits words))
+    subst P (sym (append_assoc (response word) (10 ∷ []) (response_text words))) (word_splits word (response_text words) words
+    (response_splits words))
 
 pub shown_response : (text : List ℕ) (words : List (List ℕ)) → text ≡ response_text words → Splits text words
 shown_response text words e = let P : List ℕ → Type 0 = λ t. Splits t words in subst P (sym e) (response_splits words)

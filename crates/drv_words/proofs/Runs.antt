@@ -1,7 +1,9 @@
 use Rattle.drv_words.specs.Response.{is_marked, is_quote, is_space}
 use Rattle.drv_words.specs.Code.Splitter.{is_outside, open_word, plain_length, with_bytes, words_of}
 use Rattle.drv_words.specs.declared.response.Splitter.{Splitter}
-use Rattle.std.proofs.Common.{arith, ◌≡◌, ◌+◌, ◌-◌, ◌<◌, ◌≤◌, cond, get_or, nat_lt, is_some, length, ◌&&◌, ◌||◌, ◌==◌, Bool, false, true, List, [], ◌∷◌, ◌++◌, None, Option, Some, drop, is_none, not, refl, subst, sym, ap, ◌∙◌, if◌then◌else◌, suc, take, ℕ}
+use Rattle.std.proofs.Common.{arith, ◌≡◌, ◌+◌, ◌-◌, ◌<◌, ◌≤◌, cond, get_or, nat_lt, is_some, length, ◌&&◌, ◌||◌, ◌==◌, Bool, false, true}
+use Rattle.std.proofs.Common.{List, [], ◌∷◌, ◌++◌, None, Option, Some, drop, is_none, not, refl, subst, sym, ap, ◌∙◌, if◌then◌else◌, suc}
+use Rattle.std.proofs.Common.{take, ℕ}
 use Rattle.std.proofs.Math.Seq.{append_snoc, take-length}
 use Rattle.std.proofs.lemmas.Bool.Decides.{nat_tests}
 use Rattle.std.proofs.lemmas.List.{append-nil}
@@ -24,7 +26,8 @@ record Plain (b : ℕ) : Type 0 where
 plain_is : (b : ℕ) → is_marked b ≡ false → Plain b
 plain_is b e = by (is_space b) refl (is_quote b) refl (b == 92) refl e
   where
-    by : (space : Bool) → is_space b ≡ space → (quote : Bool) → is_quote b ≡ quote → (slash : Bool) → (b == 92) ≡ slash → (space || quote || slash) ≡ false → Plain b
+    by : (space : Bool) → is_space b ≡ space → (quote : Bool) → is_quote b ≡ quote → (slash : Bool) → (b == 92) ≡ slash
+        → (space || quote || slash) ≡ false → Plain b
     by true s quote q slash f e = absurd cc
     by false s true q slash f e = absurd cc
     by false s false q true f e = absurd cc
@@ -56,15 +59,20 @@ plain_first text = sym (is_position_or_len plain_length is_marked refl (λ b res
     next false n = omega arith
 
 pub plain_place : (text : List ℕ) → unwrap_or (position is_marked text) (length text) ≡ plain_length text
-plain_place text = ap (λ n. unwrap_or (cond (nat_lt n (length text)) (Some n) None) (length text)) (plain_first text) ∙ by (nat_lt (plain_length text) (length text)) refl
+plain_place text = ap (λ n. unwrap_or (cond (nat_lt n (length text)) (Some n) None) (length text)) (plain_first text)
+    ∙ by (nat_lt (plain_length text) (length text)) refl
   where
-    by : (below : Bool) → nat_lt (plain_length text) (length text) ≡ below → unwrap_or (cond below (Some (plain_length text)) None) (length text) ≡ plain_length text
+    by : (below : Bool) → nat_lt (plain_length text) (length text) ≡ below → unwrap_or (cond below (Some (plain_length text)) None)
+        (length text) ≡ plain_length text
     by true is = refl
-    by false is = let at_least : length text ≤ plain_length text = grind (arith, nat_tests, is) in omega (arith, at_least, plain_within text)
+    by false is =
+        let at_least : length text ≤ plain_length text = grind (arith, nat_tests, is) in
+        omega (arith, at_least, plain_within text)
 
 -- a run that continues an open word
 run_taken : (text : List ℕ) (words : List (List ℕ)) (word : List ℕ)
-    → words_of (outside words (Some (word ++ take (plain_length text) text))) (drop (plain_length text) text) ≡ words_of (outside words (Some word)) text
+    → words_of (outside words (Some (word ++ take (plain_length text) text))) (drop (plain_length text) text)
+    ≡ words_of (outside words (Some word)) text
 run_taken [] words word = ap (λ w. words_of (outside words (Some w)) []) (append-nil word)
 run_taken (b ∷ text) words word = by (is_marked b) refl (run_taken text words (word ++ b ∷ []))
   where
@@ -72,11 +80,14 @@ run_taken (b ∷ text) words word = by (is_marked b) refl (run_taken text words 
     n marked = if marked then 0 else suc (plain_length text)
 
     by : (marked : Bool) → is_marked b ≡ marked
-        → words_of (outside words (Some ((word ++ b ∷ []) ++ take (plain_length text) text))) (drop (plain_length text) text) ≡ words_of (outside words (Some (word ++ b ∷ []))) text
-        → words_of (outside words (Some (word ++ take (if marked then 0 else suc (plain_length text)) (b ∷ text)))) (drop (if marked then 0 else suc (plain_length text)) (b ∷ text)) ≡ words_of (outside words (Some word)) (b ∷ text)
+        → words_of (outside words (Some ((word ++ b ∷ []) ++ take (plain_length text) text))) (drop (plain_length text) text)
+        ≡ words_of (outside words (Some (word ++ b ∷ []))) text
+        → words_of (outside words (Some (word ++ take (if marked then 0 else suc (plain_length text)) (b ∷ text))))
+        (drop (if marked then 0 else suc (plain_length text)) (b ∷ text)) ≡ words_of (outside words (Some word)) (b ∷ text)
     by true e rest = ap (λ w. words_of (outside words (Some w)) (b ∷ text)) (append-nil word)
     by false e rest =
-        ap (λ w. words_of (outside words (Some w)) (drop (plain_length text) text)) (sym (append_snoc word b (take (plain_length text) text)))
+        ap (λ w. words_of (outside words (Some w)) (drop (plain_length text) text))
+        (sym (append_snoc word b (take (plain_length text) text)))
         ∙ rest ∙ sym (one_taken b text words word e)
 
 -- a run that opens a word
@@ -89,7 +100,8 @@ run_opens [] words some = absurd (none_there some)
 run_opens (b ∷ text) words some = by (is_marked b) refl some
   where
     by : (marked : Bool) → is_marked b ≡ marked → 0 < (if marked then 0 else suc (plain_length text))
-        → words_of (outside words (Some (take (if marked then 0 else suc (plain_length text)) (b ∷ text)))) (drop (if marked then 0 else suc (plain_length text)) (b ∷ text)) ≡ words_of (outside words None) (b ∷ text)
+        → words_of (outside words (Some (take (if marked then 0 else suc (plain_length text)) (b ∷ text))))
+        (drop (if marked then 0 else suc (plain_length text)) (b ∷ text)) ≡ words_of (outside words None) (b ∷ text)
     by true e some = absurd (none_there some)
     by false e some = run_taken text words (b ∷ []) ∙ sym (first_taken b text words e)
 
@@ -97,13 +109,15 @@ run_opens (b ∷ text) words some = by (is_marked b) refl some
 outside_is : (s : Splitter) → is_outside s ≡ true → s ≡ outside s.words s.word
 outside_is s is = by s.escaped refl s.quote refl is
   where
-    by : (escaped : Bool) → s.escaped ≡ escaped → (quote : Option ℕ) → s.quote ≡ quote → not escaped && is_none quote ≡ true → s ≡ outside s.words s.word
+    by : (escaped : Bool) → s.escaped ≡ escaped → (quote : Option ℕ) → s.quote ≡ quote → not escaped && is_none quote ≡ true
+        → s ≡ outside s.words s.word
     by true e quote q is = absurd cc
     by false e (Some mark) q is = absurd cc
     by false e None q is = ap (λ quote. record s { quote = quote }) q ∙ ap (λ escaped. record s { quote = None; escaped = escaped }) e
 
 any_run : (text : List ℕ) (words : List (List ℕ)) (word : Option (List ℕ)) → 0 < plain_length text
-    → words_of (outside words (Some (open_word word ++ take (plain_length text) text))) (drop (plain_length text) text) ≡ words_of (outside words word) text
+    → words_of (outside words (Some (open_word word ++ take (plain_length text) text))) (drop (plain_length text) text)
+    ≡ words_of (outside words word) text
 any_run text words None some = run_opens text words some
 any_run text words (Some word) some = run_taken text words word
 
@@ -134,7 +148,8 @@ pub word_goes : (s : Splitter) (text run word rest : List ℕ) (words : List (Li
     → 1 ≤ length rest → space ≡ is_space (get_or rest 0 0) → space ≡ true → is_some s.word ≡ not none → none ≡ true
     → words ≡ s.words ++ word ∷ [] → word ≡ run
     → words_of (record s { words = words }) (take (length rest - 1) (drop 1 rest)) ≡ words_of s text
-word_goes s text run word [] words count space none is counted some front back long tests space_is holds closed added copied = absurd (none_there long)
+word_goes s text run word [] words count space none is counted some front back long tests space_is holds closed added copied = absurd
+    (none_there long)
 word_goes s text run word (byte ∷ following) words count space none is counted some front back long tests space_is holds closed added copied =
     let here : is_space byte ≡ true = sym tests ∙ space_is in
     let empty : s.word ≡ None = no_word s.word none holds closed in

@@ -1,4 +1,6 @@
-use Rattle.drv_words.specs.Printed.{Escapes, Shows, ShowsEnd, ShowsWord, ShowsWords, bare, end_text, escaped, in_quotes, into_next, is_bare, is_special, line, line_text, lines_text, no_byte, no_line, no_pipe, no_word, one_more, other, quoted, special, words_text}
+use Rattle.drv_words.specs.Printed.{Escapes, Shows, ShowsEnd, ShowsWord, ShowsWords, bare, end_text, escaped, in_quotes, into_next, is_bare}
+use Rattle.drv_words.specs.Printed.{is_special, line, line_text, lines_text, no_byte, no_line, no_pipe, no_word, one_more, other, quoted}
+use Rattle.drv_words.specs.Printed.{special, words_text}
 use Rattle.drv_words.specs.declared.plan.PlanLine.{PlanLine}
 use Rattle.std.proofs.Common.{◌≡◌, Bool, false, true, List, [], ◌∷◌, ◌++◌, if◌then◌else◌, refl, sym, subst, ap, ◌∙◌, ℕ}
 
@@ -9,7 +11,8 @@ pub escapes_of : (word : List ℕ) → Escapes (escaped word) word
 escapes_of [] = no_byte
 escapes_of (b ∷ word) = by (is_special b) refl (escapes_of word)
   where
-    by : (t : Bool) → is_special b ≡ t → Escapes (escaped word) word → Escapes (if t then 92 ∷ b ∷ escaped word else b ∷ escaped word) (b ∷ word)
+    by : (t : Bool) → is_special b ≡ t → Escapes (escaped word) word
+        → Escapes (if t then 92 ∷ b ∷ escaped word else b ∷ escaped word) (b ∷ word)
     by true e rest = special e rest
     by false e rest = other e rest
 

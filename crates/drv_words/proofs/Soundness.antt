@@ -7,7 +7,8 @@ use Rattle.drv_words.specs.declared.plan.PlanLine.{PlanLine}
 use Rattle.drv_words.specs.declared.reading_back.Standing.{Standing}
 use Rattle.drv_words.specs.declared.reading_back.Standing.TheVariants.{AtWord, Bar, Bare, Between, Escaped, Quoted, Wrong}
 use Rattle.drv_words.specs.declared.reading_back.LineReader.{LineReader}
-use Rattle.std.proofs.Common.{◌≡◌, ◌&&◌, ◌==◌, Bool, false, true, List, [], ◌∷◌, ◌++◌, None, Option, Some, is_some, length, nat_lt, if◌then◌else◌, refl, sym, ap, subst, ◌∙◌, append_assoc, arith, ℕ}
+use Rattle.std.proofs.Common.{◌≡◌, ◌&&◌, ◌==◌, Bool, false, true, List, [], ◌∷◌, ◌++◌, None, Option, Some, is_some, length, nat_lt}
+use Rattle.std.proofs.Common.{if◌then◌else◌, refl, sym, ap, subst, ◌∙◌, append_assoc, arith, ℕ}
 use Rattle.std.proofs.lemmas.Bool.{eqb-true}
 use Rattle.std.proofs.lemmas.Bool.Decides.{nat_tests}
 use Rattle.std.proofs.lemmas.Grind.{flat_map-append}
@@ -50,7 +51,8 @@ NoWords (Some program) words = Unit {0}
 -- the reader has taken this text
 abbrev Took : Standing → LineReader → List ℕ → Type 0
 Took Wrong reader text = Unit {0}
-Took place reader text = (text ≡ lines_text reader.lines ++ open_text reader.program reader.words ++ part place reader.word) × NoWords reader.program reader.words × Held place reader.word
+Took place reader text = (text ≡ lines_text reader.lines ++ open_text reader.program reader.words ++ part place reader.word)
+    × NoWords reader.program reader.words × Held place reader.word
 
 abbrev Takes : LineReader → List ℕ → Type 0
 Takes reader text = Took reader.standing reader text
@@ -62,7 +64,8 @@ escaped-append [] more = refl
 escaped-append (b ∷ word) more = by (is_special b) (escaped-append word more)
   where
     by : (t : Bool) → escaped (word ++ more) ≡ escaped word ++ escaped more
-        → (if t then 92 ∷ b ∷ escaped (word ++ more) else b ∷ escaped (word ++ more)) ≡ (if t then 92 ∷ b ∷ escaped word else b ∷ escaped word) ++ escaped more
+        → (if t then 92 ∷ b ∷ escaped (word ++ more) else b ∷ escaped (word ++ more))
+        ≡ (if t then 92 ∷ b ∷ escaped word else b ∷ escaped word) ++ escaped more
     by true e = ap (λ t. 92 ∷ b ∷ t) e
     by false e = ap (λ t. b ∷ t) e
 
@@ -70,7 +73,8 @@ lines_more : (lines : List PlanLine) (l : PlanLine) → lines_text (lines ++ l �
 lines_more lines l = flat_map-append line_text lines (l ∷ []) ∙ ap (λ t. lines_text lines ++ t) (append-nil (line_text l))
 
 words_more : (words : List (List ℕ)) (word : List ℕ) → words_text (words ++ word ∷ []) ≡ words_text words ++ 32 ∷ quoted word
-words_more words word = flat_map-append (λ w. 32 ∷ quoted w) words (word ∷ []) ∙ ap (λ t. words_text words ++ t) (append-nil (32 ∷ quoted word))
+words_more words word = flat_map-append (λ w. 32 ∷ quoted w) words (word ∷ []) ∙ ap (λ t. words_text words ++ t)
+    (append-nil (32 ∷ quoted word))
 
 and_both : (a b : Bool) → (a && b) ≡ true → (a ≡ true) × (b ≡ true)
 and_both true b e = (refl, e)
@@ -92,7 +96,8 @@ bare_more (c ∷ word) b bare e =
     both_true (has_byte c (word ++ b ∷ [])) (all_more (c ∷ word) b both.1 e)
 
 -- the newline of a line, after the rest of the line
-line_takes : (lines : List PlanLine) (program : Option (List ℕ)) (words : List (List ℕ)) (place : Standing) (piped : Bool) (front text : List ℕ)
+line_takes : (lines : List PlanLine) (program : Option (List ℕ)) (words : List (List ℕ)) (place : Standing) (piped : Bool)
+    (front text : List ℕ)
     → end_text piped ≡ front ++ 10 ∷ [] → text ≡ lines_text lines ++ open_text program words ++ front
     → Takes (r.with_line (at lines program words [] place) piped) (text ++ 10 ∷ [])
 line_takes lines None words place piped front text ends is = tt
@@ -115,12 +120,14 @@ between_takes : (lines : List PlanLine) (program : Option (List ℕ)) (words : L
 between_takes lines program words place b text is none = by (b == 32) refl (b == 10) refl
   where
     by : (space : Bool) → (b == 32) ≡ space → (newline : Bool) → (b == 10) ≡ newline
-        → Takes (if space then at lines program words [] AtWord else if newline then r.with_line (at lines program words [] place) false else at lines program words [] Wrong) (text ++ b ∷ [])
+        → Takes (if space then at lines program words [] AtWord else if newline then r.with_line (at lines program words [] place)
+        false else at lines program words [] Wrong) (text ++ b ∷ [])
     by true e newline f = (ap (λ c. text ++ c ∷ []) (eqb-true b 32 e) ∙ ap (λ t. t ++ 32 ∷ []) is, none, refl)
     by false e true f =
         let same : b ≡ 10 = eqb-true b 10 f in
         let P : ℕ → Type 0 = λ c. Takes (r.with_line (at lines program words [] place) false) (text ++ c ∷ []) in
-        subst P (sym same) (line_takes lines program words place false [] text refl (is ∙ sym (append-nil (lines_text lines ++ open_text program words))))
+        subst P (sym same) (line_takes lines program words place false [] text refl
+        (is ∙ sym (append-nil (lines_text lines ++ open_text program words))))
     by false e false f = tt
 
 -- a word that has ended, in its printed form
@@ -133,17 +140,28 @@ word_takes None lines words word text place is none = (
       ∙ ap (λ t. lines_text lines ++ t) (sym (append-nil (32 ∷ quoted word)) ∙ ap (λ ws. words_text (word ∷ ws)) (sym none)),
   tt,
 )
-word_takes (Some program) lines words word text place is none =
-    (is ∙ append_assoc (lines_text lines) (words_text (program ∷ words)) (32 ∷ quoted word) ∙ ap (λ t. lines_text lines ++ t) (sym (words_more (program ∷ words) word)), tt)
+word_takes (Some program) lines words word text place is none = (
+  is ∙ append_assoc (lines_text lines) (words_text (program ∷ words)) (32 ∷ quoted word) ∙ ap (λ t. lines_text lines ++ t)
+      (sym (words_more (program ∷ words) word)),
+  tt,
+)
 
 -- a word that its closing quote has ended
 closed_word : (program : Option (List ℕ)) (lines : List PlanLine) (words : List (List ℕ)) (word text : List ℕ)
     → text ≡ lines_text lines ++ open_text program words ++ 32 ∷ quoted word → NoWords program words
     → Takes (r.placed (r.with_word (at lines program words word Quoted)) Between) text
-closed_word None lines words word text is none =
-    ((word_takes None lines words word text Quoted is none).0 ∙ sym (append-nil (lines_text lines ++ open_text (Some word) words)), tt, refl)
-closed_word (Some program) lines words word text is none =
-    ((word_takes (Some program) lines words word text Quoted is none).0 ∙ sym (append-nil (lines_text lines ++ open_text (Some program) (words ++ word ∷ []))), tt, refl)
+closed_word None lines words word text is none = (
+  (word_takes None lines words word text Quoted is none).0
+      ∙ sym (append-nil (lines_text lines ++ open_text (Some word) words)),
+  tt,
+  refl,
+)
+closed_word (Some program) lines words word text is none = (
+  (word_takes (Some program) lines words word text Quoted is none).0
+      ∙ sym (append-nil (lines_text lines ++ open_text (Some program) (words ++ word ∷ []))),
+  tt,
+  refl,
+)
 
 -- a closing quote
 closed_takes : (lines : List PlanLine) (program : Option (List ℕ)) (words : List (List ℕ)) (word text : List ℕ)
@@ -152,7 +170,8 @@ closed_takes : (lines : List PlanLine) (program : Option (List ℕ)) (words : Li
 closed_takes lines program words word text is none = by (is_bare word) refl
   where
     by : (t : Bool) → is_bare word ≡ t
-        → Takes (if t then at lines program words word Wrong else r.placed (r.with_word (at lines program words word Quoted)) Between) (text ++ 34 ∷ [])
+        → Takes (if t then at lines program words word Wrong else r.placed (r.with_word (at lines program words word Quoted)) Between)
+        (text ++ 34 ∷ [])
     by true e = tt
     by false e =
         let shown : text ++ 34 ∷ [] ≡ lines_text lines ++ open_text program words ++ 32 ∷ quoted word =
@@ -169,10 +188,16 @@ at_word_takes lines program words b text is none = by (is_plain b) refl (b == 34
     more = ap (λ t. t ++ b ∷ []) is ∙ append_assoc (lines_text lines ++ open_text program words) (32 ∷ []) (b ∷ [])
 
     by : (plain : Bool) → is_plain b ≡ plain → (quote : Bool) → (b == 34) ≡ quote → (bar : Bool) → (b == 124) ≡ bar → (some : Bool)
-        → Takes (if plain then at lines program words (b ∷ []) Bare else if quote then at lines program words [] Quoted else if bar && some then at lines program words [] Bar else at lines program words [] Wrong) (text ++ b ∷ [])
+        → Takes (if plain then at lines program words (b ∷ []) Bare else if quote then at lines program words [] Quoted else if bar
+        && some then at lines program words [] Bar else at lines program words [] Wrong) (text ++ b ∷ [])
     by true e quote f bar g some = (more, none, both_true (has_byte b []) (all_more [] b refl e))
     by false e true f bar g some = (more ∙ ap (λ c. lines_text lines ++ open_text program words ++ 32 ∷ c ∷ []) (eqb-true b 34 f), none, tt)
-    by false e false f true g true = (more ∙ ap (λ c. lines_text lines ++ open_text program words ++ 32 ∷ c ∷ []) (eqb-true b 124 g), none, refl)
+    by false e false f true g true = (
+      more ∙ ap (λ c. lines_text lines ++ open_text program words ++ 32 ∷ c ∷ [])
+          (eqb-true b 124 g),
+      none,
+      refl,
+    )
     by false e false f true g false = tt
     by false e false f false g some = tt
 
@@ -188,11 +213,17 @@ bare_takes lines program words word b text is none bare = by (is_plain b) refl
     ended : (program : Option (List ℕ)) → text ≡ lines_text lines ++ open_text program words ++ 32 ∷ quoted word → NoWords program words
         → Takes (r.between (r.with_word (at lines program words word Bare)) b) (text ++ b ∷ [])
     ended None is none = between_takes lines (Some word) words Bare b text (word_takes None lines words word text Bare is none).0 tt
-    ended (Some program) is none = between_takes lines (Some program) (words ++ word ∷ []) Bare b text (word_takes (Some program) lines words word text Bare is none).0 tt
+    ended (Some program) is none = between_takes lines (Some program) (words ++ word ∷ []) Bare b text
+        (word_takes (Some program) lines words word text Bare is none).0 tt
 
     by : (plain : Bool) → is_plain b ≡ plain
-        → Takes (if plain then at lines program words (word ++ b ∷ []) Bare else r.between (r.with_word (at lines program words word Bare)) b) (text ++ b ∷ [])
-    by true e = (ap (λ t. t ++ b ∷ []) is ∙ append_assoc (lines_text lines ++ open_text program words) (32 ∷ word) (b ∷ []), none, bare_more word b bare e)
+        → Takes (if plain then at lines program words (word ++ b ∷ []) Bare else r.between (r.with_word (at lines program words word Bare))
+        b) (text ++ b ∷ [])
+    by true e = (
+      ap (λ t. t ++ b ∷ []) is ∙ append_assoc (lines_text lines ++ open_text program words) (32 ∷ word) (b ∷ []),
+      none,
+      bare_more word b bare e,
+    )
     by false e = ended program shown none
 
 -- a byte between quotes
@@ -208,7 +239,9 @@ inside_takes lines program words word b text is none = by (b == 92) refl (b == 3
     one e = rw e refl
 
     by : (backslash : Bool) → (b == 92) ≡ backslash → (quote : Bool) → (b == 34) ≡ quote → (dollar : Bool) → (b == 36) ≡ dollar
-        → Takes (if backslash then at lines program words word Escaped else if quote then r.closed (at lines program words word Quoted) else if dollar then at lines program words word Wrong else at lines program words (word ++ b ∷ []) Quoted) (text ++ b ∷ [])
+        → Takes (if backslash then at lines program words word Escaped else if quote then r.closed
+        (at lines program words word Quoted) else if dollar then at lines program words word Wrong else at lines program words
+        (word ++ b ∷ []) Quoted) (text ++ b ∷ [])
     by true e quote f dollar g =
         (more ∙ ap (λ c. lines_text lines ++ open_text program words ++ 32 ∷ 34 ∷ (escaped word ++ c ∷ [])) (eqb-true b 92 e), none, tt)
     by false e true f dollar g =
@@ -259,11 +292,13 @@ bar_takes lines program words b text is none = by (b == 10) refl
     by false e = tt
 
 -- a byte
-step_takes : (place : Standing) (lines : List PlanLine) (program : Option (List ℕ)) (words : List (List ℕ)) (word : List ℕ) (b : ℕ) (text : List ℕ)
+step_takes : (place : Standing) (lines : List PlanLine) (program : Option (List ℕ)) (words : List (List ℕ)) (word : List ℕ) (b : ℕ)
+    (text : List ℕ)
     → Takes (at lines program words word place) text → Takes (step (at lines program words word place) b) (text ++ b ∷ [])
 step_takes Between lines program words word b text (is, none, held) =
     let P : List ℕ → Type 0 = λ w. Takes (step (at lines program words w Between) b) (text ++ b ∷ []) in
-    subst P (sym held) (between_takes lines program words Between b text (is ∙ append-nil (lines_text lines ++ open_text program words)) none)
+    subst P (sym held) (between_takes lines program words Between b text
+    (is ∙ append-nil (lines_text lines ++ open_text program words)) none)
 step_takes AtWord lines program words word b text (is, none, held) =
     let P : List ℕ → Type 0 = λ w. Takes (step (at lines program words w AtWord) b) (text ++ b ∷ []) in
     subst P (sym held) (at_word_takes lines program words b text is none)
@@ -281,13 +316,15 @@ read_takes reader front [] took = let P : List ℕ → Type 0 = λ t. Takes read
 read_takes reader front (b ∷ text) took =
     let P : List ℕ → Type 0 = λ t. Takes (read (step reader b) text) t in
     subst P (append_snoc front b text)
-    (read_takes (step reader b) (front ++ b ∷ []) text (step_takes reader.standing reader.lines reader.program reader.words reader.word b front took))
+    (read_takes (step reader b) (front ++ b ∷ []) text (step_takes reader.standing reader.lines reader.program reader.words
+    reader.word b front took))
 
 finished_is : (place : Standing) (program : Option (List ℕ)) (lines found : List PlanLine) (words : List (List ℕ)) (word text : List ℕ)
     → Takes (at lines program words word place) text → finished (at lines program words word place) ≡ Some found → text ≡ lines_text found
 finished_is Between None lines found words word text (is, none, held) e =
     let same : lines ≡ found = cc in
-    is ∙ append-nil (lines_text lines ++ words_text words) ∙ ap (λ ws. lines_text lines ++ words_text ws) none ∙ append-nil (lines_text lines) ∙ ap lines_text same
+    is ∙ append-nil (lines_text lines ++ words_text words) ∙ ap (λ ws. lines_text lines ++ words_text ws) none
+    ∙ append-nil (lines_text lines) ∙ ap lines_text same
 finished_is Between (Some program) lines found words word text took e = absurd cc
 finished_is AtWord program lines found words word text took e = absurd cc
 finished_is Bare program lines found words word text took e = absurd cc

@@ -1,7 +1,10 @@
-use Rattle.drv_words.specs.Response.{ArePieces, EndsWord, IsPiece, IsRun, Splits, SplitsOnto, at_end, at_space, backslash, escaped, is_quote, is_space, more, no_more, nothing, one_word, plain, quoted, run_backslash, run_closed, run_escaped, run_plain, run_unclosed, space}
+use Rattle.drv_words.specs.Response.{ArePieces, EndsWord, IsPiece, IsRun, Splits, SplitsOnto, at_end, at_space, backslash, escaped}
+use Rattle.drv_words.specs.Response.{is_quote, is_space, more, no_more, nothing, one_word, plain, quoted, run_backslash, run_closed}
+use Rattle.drv_words.specs.Response.{run_escaped, run_plain, run_unclosed, space}
 use Rattle.drv_words.specs.Code.Splitter.{following, open_word, words_of}
 use Rattle.drv_words.specs.declared.response.Splitter.{Splitter}
-use Rattle.std.proofs.Common.{◌≡◌, ◌||◌, ◌==◌, Bool, false, true, List, [], ◌∷◌, ◌++◌, None, Option, Some, refl, sym, subst, ap, ◌∙◌, append_assoc, ℕ}
+use Rattle.std.proofs.Common.{◌≡◌, ◌||◌, ◌==◌, Bool, false, true, List, [], ◌∷◌, ◌++◌, None, Option, Some, refl, sym, subst, ap, ◌∙◌}
+use Rattle.std.proofs.Common.{append_assoc, ℕ}
 use Rattle.std.proofs.Math.Seq.{append_snoc}
 use Rattle.std.proofs.lemmas.Bool.{eq-eqb, eqb-true}
 use Rattle.std.proofs.lemmas.List.{append-nil}
@@ -14,7 +17,8 @@ at words word quote marked = record { words = words; word = word; quote = quote;
 
 -- Reading the text of a derivation leads to the state after it.
 
-run_splits : {mark : ℕ} {text bytes rest : List ℕ} → IsRun mark text bytes rest → (mark == 92) ≡ false → (words : List (List ℕ)) (word : List ℕ)
+run_splits : {mark : ℕ} {text bytes rest : List ℕ} → IsRun mark text bytes rest → (mark == 92) ≡ false
+    → (words : List (List ℕ)) (word : List ℕ)
     → words_of (at words (Some word) (Some mark) false) text ≡ words_of (at words (Some (word ++ bytes)) None false) rest
 run_splits (run_closed {mark} {rest}) m words word =
     rw (m, same mark) (ap (λ w. words_of (at words (Some w) None false) rest) (sym (append-nil word)))
@@ -31,7 +35,8 @@ run_splits (run_plain {mark} {b} {text} {bytes} {rest} e f run) m words word =
 quote_is : (b : ℕ) → is_quote b ≡ true → (is_space b ≡ false) × ((b == 92) ≡ false)
 quote_is b e = by (b == 39) refl (b == 34) refl e
   where
-    by : (single : Bool) → (b == 39) ≡ single → (double : Bool) → (b == 34) ≡ double → (single || double) ≡ true → (is_space b ≡ false) × ((b == 92) ≡ false)
+    by : (single : Bool) → (b == 39) ≡ single → (double : Bool) → (b == 34) ≡ double → (single || double) ≡ true
+        → (is_space b ≡ false) × ((b == 92) ≡ false)
     by true f double g h = (ap is_space (eqb-true b 39 f), ap (λ c. c == 92) (eqb-true b 39 f))
     by false f true g h = (ap is_space (eqb-true b 34 g), ap (λ c. c == 92) (eqb-true b 34 g))
     by false f false g h = absurd cc
@@ -100,7 +105,14 @@ record Goes (text : List ℕ) : Type 0 where
   ran_after : (mark : ℕ) → Ran mark (92 ∷ text)
 
 begun_goes : {text : List ℕ} → Begun text → Went text
-begun_goes begun = record { word = begun.bytes ++ begun.word; rest = begun.rest; words = begun.words; pieces = more begun.piece begun.pieces; others = begun.others }
+begun_goes begun = record {
+  word = begun.bytes ++ begun.word;
+  rest = begun.rest;
+  words = begun.words;
+  pieces = more begun.piece
+      begun.pieces;
+  others = begun.others;
+}
 
 at_the_end : Went []
 at_the_end = record { word = []; rest = []; words = []; pieces = no_more at_end; others = nothing }
@@ -113,9 +125,28 @@ begins b text s goes = by (b == 92) refl (is_quote b) refl
     by true e quote f = let P : ℕ → Type 0 = λ c. Begun (c ∷ text) in subst P (sym (eqb-true b 92 e)) goes.following
     by false e true f =
         let ran : Ran b text = goes.ran b in
-        record { bytes = ran.bytes; mid = ran.mid; word = ran.went.word; rest = ran.went.rest; words = ran.went.words; piece = quoted f ran.run; pieces = ran.went.pieces; others = ran.went.others }
+        record {
+          bytes = ran.bytes;
+          mid = ran.mid;
+          word = ran.went.word;
+          rest = ran.went.rest;
+          words = ran.went.words;
+          piece = quoted f
+              ran.run;
+          pieces = ran.went.pieces;
+          others = ran.went.others;
+        }
     by false e false f =
-        record { bytes = b ∷ []; mid = text; word = goes.went.word; rest = goes.went.rest; words = goes.went.words; piece = plain s f e; pieces = goes.went.pieces; others = goes.went.others }
+        record {
+          bytes = b ∷ [];
+          mid = text;
+          word = goes.went.word;
+          rest = goes.went.rest;
+          words = goes.went.words;
+          piece = plain s f e;
+          pieces = goes.went.pieces;
+          others = goes.went.others;
+        }
 
 begun_splits : {text : List ℕ} (begun : Begun text) → Splits text ((begun.bytes ++ begun.word) ∷ begun.words)
 begun_splits begun = one_word begun.piece begun.pieces begun.others
@@ -138,16 +169,36 @@ goes_on [] = record {
   splits = nothing;
   went = at_the_end;
   ran = λ mark. record { bytes = []; mid = []; run = run_unclosed; went = at_the_end };
-  following = record { bytes = []; mid = []; word = []; rest = []; words = []; piece = backslash; pieces = no_more at_end; others = nothing };
+  following = record {
+    bytes = [];
+    mid = [];
+    word = [];
+    rest = [];
+    words = [];
+    piece = backslash;
+    pieces = no_more at_end;
+    others = nothing;
+  };
   ran_after = λ mark. record { bytes = []; mid = []; run = run_backslash; went = at_the_end };
 }
 goes_on (b ∷ text) = by (is_space b) refl (goes_on text)
   where
     escape : Goes text → Begun (92 ∷ b ∷ text)
-    escape goes = record { bytes = b ∷ []; mid = text; word = goes.went.word; rest = goes.went.rest; words = goes.went.words; piece = escaped; pieces = goes.went.pieces; others = goes.went.others }
+    escape goes = record {
+      bytes = b ∷ [];
+      mid = text;
+      word = goes.went.word;
+      rest = goes.went.rest;
+      words = goes.went.words;
+      piece = escaped;
+      pieces = goes.went.pieces;
+      others = goes.went.others;
+    }
 
     run_escape : Goes text → (mark : ℕ) → Ran mark (92 ∷ b ∷ text)
-    run_escape goes mark = let ran : Ran mark text = goes.ran mark in record { bytes = b ∷ ran.bytes; mid = ran.mid; run = run_escaped ran.run; went = ran.went }
+    run_escape goes mark =
+        let ran : Ran mark text = goes.ran mark in
+        record { bytes = b ∷ ran.bytes; mid = ran.mid; run = run_escaped ran.run; went = ran.went }
 
     by : (space : Bool) → is_space b ≡ space → Goes text → Goes (b ∷ text)
     by true s goes = record {

@@ -30,12 +30,14 @@ pub data Escapes : List ℕ → List ℕ → Type 0 where
 -- one word
 pub data ShowsWord : List ℕ → List ℕ → Type 0 where
   bare : {word : List ℕ} → is_bare word ≡ true → ShowsWord word word
-  in_quotes : {text word : List ℕ} → is_bare word ≡ false → Escapes text word → ShowsWord (byte.double_quote ∷ text ++ byte.double_quote ∷ []) word
+  in_quotes : {text word : List ℕ} → is_bare word ≡ false → Escapes text word
+      → ShowsWord (byte.double_quote ∷ text ++ byte.double_quote ∷ []) word
 
 -- words, each after a space
 pub data ShowsWords : List ℕ → List (List ℕ) → Type 0 where
   no_word : ShowsWords [] []
-  one_more : {text word rest : List ℕ} {words : List (List ℕ)} → ShowsWord text word → ShowsWords rest words → ShowsWords (byte.space ∷ text ++ rest) (word ∷ words)
+  one_more : {text word rest : List ℕ} {words : List (List ℕ)} → ShowsWord text word → ShowsWords rest words
+      → ShowsWords (byte.space ∷ text ++ rest) (word ∷ words)
 
 -- the end of a line, and whether it is piped
 pub data ShowsEnd : List ℕ → Bool → Type 0 where
@@ -45,7 +47,8 @@ pub data ShowsEnd : List ℕ → Bool → Type 0 where
 -- lines
 pub data Shows : List ℕ → List PlanLine → Type 0 where
   no_line : Shows [] []
-  line : {words end rest : List ℕ} {l : PlanLine} {lines : List PlanLine} → ShowsWords words (l.command.program ∷ l.command.words) → ShowsEnd end l.piped → Shows rest lines → Shows (words ++ end ++ rest) (l ∷ lines)
+  line : {words end rest : List ℕ} {l : PlanLine} {lines : List PlanLine} → ShowsWords words (l.command.program ∷ l.command.words)
+      → ShowsEnd end l.piped → Shows rest lines → Shows (words ++ end ++ rest) (l ∷ lines)
 
 -- The same as functions: the text of a word's inside, of a word, of words, of a line, of lines.
 

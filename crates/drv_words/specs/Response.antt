@@ -19,12 +19,15 @@ pub data IsRun : ℕ → List ℕ → List ℕ → List ℕ → Type 0 where
   run_closed : {mark : ℕ} {rest : List ℕ} → IsRun mark (mark ∷ rest) [] rest
   run_unclosed : {mark : ℕ} → IsRun mark [] [] []
   run_backslash : {mark : ℕ} → IsRun mark (byte.backslash ∷ []) [] []
-  run_escaped : {mark b : ℕ} {text bytes rest : List ℕ} → IsRun mark text bytes rest → IsRun mark (byte.backslash ∷ b ∷ text) (b ∷ bytes) rest
-  run_plain : {mark b : ℕ} {text bytes rest : List ℕ} → (b == mark) ≡ false → (b == byte.backslash) ≡ false → IsRun mark text bytes rest → IsRun mark (b ∷ text) (b ∷ bytes) rest
+  run_escaped : {mark b : ℕ} {text bytes rest : List ℕ} → IsRun mark text bytes rest
+      → IsRun mark (byte.backslash ∷ b ∷ text) (b ∷ bytes) rest
+  run_plain : {mark b : ℕ} {text bytes rest : List ℕ} → (b == mark) ≡ false → (b == byte.backslash) ≡ false → IsRun mark text bytes rest
+      → IsRun mark (b ∷ text) (b ∷ bytes) rest
 
 -- a piece of a word: a plain byte, a backslash with the byte after it, or a quoted run
 pub data IsPiece : List ℕ → List ℕ → List ℕ → Type 0 where
-  plain : {b : ℕ} {rest : List ℕ} → is_space b ≡ false → is_quote b ≡ false → (b == byte.backslash) ≡ false → IsPiece (b ∷ rest) (b ∷ []) rest
+  plain : {b : ℕ} {rest : List ℕ} → is_space b ≡ false → is_quote b ≡ false → (b == byte.backslash) ≡ false
+      → IsPiece (b ∷ rest) (b ∷ []) rest
   escaped : {b : ℕ} {rest : List ℕ} → IsPiece (byte.backslash ∷ b ∷ rest) (b ∷ []) rest
   backslash : IsPiece (byte.backslash ∷ []) [] []
   quoted : {mark : ℕ} {text bytes rest : List ℕ} → is_quote mark ≡ true → IsRun mark text bytes rest → IsPiece (mark ∷ text) bytes rest
@@ -43,7 +46,8 @@ pub data ArePieces : List ℕ → List ℕ → List ℕ → Type 0 where
 pub data Splits : List ℕ → List (List ℕ) → Type 0 where
   nothing : Splits [] []
   space : {b : ℕ} {rest : List ℕ} {words : List (List ℕ)} → is_space b ≡ true → Splits rest words → Splits (b ∷ rest) words
-  one_word : {text bytes mid word rest : List ℕ} {words : List (List ℕ)} → IsPiece text bytes mid → ArePieces mid word rest → Splits rest words → Splits text ((bytes ++ word) ∷ words)
+  one_word : {text bytes mid word rest : List ℕ} {words : List (List ℕ)} → IsPiece text bytes mid → ArePieces mid word rest
+      → Splits rest words → Splits text ((bytes ++ word) ∷ words)
 
 -- the words of a text, appended to others
 abbrev pub SplitsOnto : List ℕ → List (List ℕ) → List (List ℕ) → Type 0

@@ -52,7 +52,8 @@ is_wait_for p id s = false
 
 -- the child was started at this place and has not been waited for
 abbrev pub is_open : Place → ℕ → List RunEvent → Bool
-is_open p id events = list_any (λ e. is_start_at p e.step && is_child id e.answer) events && not (list_any (λ e. is_wait_for p id e.step) events)
+is_open p id events = list_any (λ e. is_start_at p e.step && is_child id e.answer) events
+    && not (list_any (λ e. is_wait_for p id e.step) events)
 
 -- no child has this number yet
 abbrev pub is_new : ℕ → List RunEvent → Bool

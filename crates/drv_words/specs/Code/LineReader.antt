@@ -42,7 +42,8 @@ abbrev pub with_line : LineReader → Bool → LineReader
 with_line reader piped = line_added reader.program reader piped
 
 abbrev pub between : LineReader → ℕ → LineReader
-between reader b = if b == byte.space then placed reader AtWord else if b == byte.newline then with_line reader false else placed reader Wrong
+between reader b = if b == byte.space then placed reader AtWord else if b == byte.newline then with_line reader
+    false else placed reader Wrong
 
 abbrev pub at_word : LineReader → ℕ → LineReader
 at_word reader b =

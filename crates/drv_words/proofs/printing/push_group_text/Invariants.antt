@@ -4,4 +4,5 @@ use Rattle.drv_words.specs.Printed.{lines_text}
 use Rattle.drv_words.proofs.printing.push_group_text.Given as goal
 
 abbrev pub invariant-loop-index : goal.invariant-loop-index
-invariant-loop-index l = l.text.items ++ lines_text (group_lines (drop l.index l.commands)) ≡ l.fn.text.items ++ lines_text (group_lines l.commands)
+invariant-loop-index l = l.text.items ++ lines_text (group_lines (drop l.index l.commands)) ≡ l.fn.text.items ++ lines_text
+    (group_lines l.commands)

@@ -4,4 +4,5 @@ use Rattle.drv_words.specs.Lines.{group_lines}
 use Rattle.drv_words.proofs.printing.push_job.Given as goal
 
 abbrev pub invariant-loop-group : goal.invariant-loop-group
-invariant-loop-group l = l.lines ++ flat_map group_lines (drop l.group-index l.group-items) ≡ l.fn.lines ++ flat_map group_lines l.group-items
+invariant-loop-group l = l.lines ++ flat_map group_lines (drop l.group-index l.group-items) ≡ l.fn.lines
+    ++ flat_map group_lines l.group-items

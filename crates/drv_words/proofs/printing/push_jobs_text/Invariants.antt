@@ -5,4 +5,5 @@ use Rattle.drv_words.specs.Printed.{lines_text}
 use Rattle.drv_words.proofs.printing.push_jobs_text.Given as goal
 
 abbrev pub invariant-loop-job : goal.invariant-loop-job
-invariant-loop-job l = l.text.items ++ lines_text (flat_map job_lines (drop l.job-index l.jobs)) ≡ l.fn.text.items ++ lines_text (flat_map job_lines l.jobs)
+invariant-loop-job l = l.text.items ++ lines_text (flat_map job_lines (drop l.job-index l.jobs)) ≡ l.fn.text.items ++ lines_text
+    (flat_map job_lines l.jobs)
