@@ -6,9 +6,9 @@ use Rattle.std.proofs.Common.{◌≡◌, ◌==◌, List, [], ◌∷◌, codes, r
 use Rattle.std.specs.List.{slice_split}
 use Rattle.std.specs.Prelude.{Err, Ok, Result}
 
--- Worked lines of c99, by computation.
+-- Examples of c99 lines, which the prover computes.
 
--- in a text of words each blank stands between two
+-- the words of a text, separated by blanks
 abbrev words : List ℕ → List (List ℕ)
 words text = slice_split (λ b. b == space) text
 

@@ -8,17 +8,19 @@ use Rattle.drv_words.specs.Bytes.{hyphen}
 use Rattle.std.specs.Cmp.Lexicographic.{pointwise}
 use Rattle.std.specs.List.{flat_map, list_any}
 use Rattle.std.specs.Map.{lookup}
-use Rattle.std.specs.Prelude.{◌==◌, Bool, Err, List, [], ◌∷◌, ◌++◌, None, Ok, Option, Result, Some, codes, false, if◌then◌else◌, nat_eq, true, ℕ}
+use Rattle.std.specs.Prelude.{◌==◌, Bool, Err, List, [], ◌∷◌, ◌++◌, None, Ok, Option, Result, Some, codes, false, if◌then◌else◌, nat_eq}
+use Rattle.std.specs.Prelude.{true, ℕ}
 
--- A line of c99 as words of the driver (POSIX.1-2017, c99, SYNOPSIS, OPTIONS and OPERANDS; this project's profile: no grouped
--- letters).
+-- A line of c99 as words of the driver (POSIX.1-2017, c99, SYNOPSIS, OPTIONS and OPERANDS). It is this project's profile that letters can't
+-- be grouped.
 
 abbrev pub flags : List (List ℕ)
 flags = codes "-c" ∷ codes "-E" ∷ codes "-g" ∷ codes "-s" ∷ codes "-###" ∷ []
 
 abbrev pub options : List (List ℕ × Taking)
 options =
-    (codes "-D", Define) ∷ (codes "-U", Undefine) ∷ (codes "-I", IncludeFolder) ∷ (codes "-L", LibraryFolder) ∷ (codes "-o", Output) ∷ (codes "-O", Level)
+    (codes "-D", Define) ∷ (codes "-U", Undefine) ∷ (codes "-I", IncludeFolder) ∷ (codes "-L", LibraryFolder) ∷ (codes "-o", Output) ∷
+    (codes "-O", Level)
     ∷ (codes "-l", Library) ∷ []
 
 abbrev pub name_of : Taking → List ℕ
@@ -30,15 +32,15 @@ name_of Output = codes "-o"
 name_of Level = codes "-O"
 name_of Library = codes "-l"
 
--- what options and operands of the line give: a macro that is defined or undefined, another option's words, or an operand
+-- an item of the line: a macro that is defined or undefined, the words of another option, or an operand
 pub data Item : Type 0 where
   Defined : List ℕ → Item
   Undefined : List ℕ → Item
   Passed : List (List ℕ) → Item
   Operand : List ℕ → Item
 
--- How a word begins: it is an option without an argument, or an operand with something put in front of it; an option with its
--- argument, or one that wants the next word as its argument; the end of the options; or no option.
+-- How a word begins: an option without an argument; an operand, with a prefix; an option with its argument; an option that needs the next
+-- word as its argument; the end of the options; or no option.
 pub data Start : Type 0 where
   Flag : Start
   Names : List ℕ → Start
@@ -47,7 +49,7 @@ pub data Start : Type 0 where
   Ends : Start
   Unknown : Start
 
--- what stands after an option's letter is its argument, if anything does
+-- the argument is the text after an option's letter, if there is any
 abbrev pub with_argument : Taking → List ℕ → Start
 with_argument option [] = Wants option
 with_argument option (b ∷ rest) = Joined option (b ∷ rest)
@@ -56,7 +58,7 @@ abbrev pub by_option : Option Taking → List ℕ → Start
 by_option (Some option) rest = with_argument option rest
 by_option None rest = Unknown
 
--- a word of a hyphen, another byte and the rest, before the end of the options
+-- a word that begins with a hyphen and another byte, before the end of the options
 abbrev pub option_start : ℕ → List ℕ → Start
 option_start letter rest =
     if pointwise nat_eq (hyphen ∷ letter ∷ rest) (codes "--") then Ends
@@ -68,10 +70,11 @@ start_before [] = Names []
 start_before (b ∷ []) = Names []
 start_before (b ∷ letter ∷ rest) = if b == hyphen then option_start letter rest else Names []
 
--- after the end of the options a library is read still, and any other word that begins with a hyphen is a file
+-- after the end of the options a library is still recognized, and any other word that begins with a hyphen is a file
 abbrev pub hyphened_start : List ℕ → Start
 hyphened_start [] = Names (codes "./")
-hyphened_start (letter ∷ rest) = if pointwise nat_eq (hyphen ∷ letter ∷ []) (codes "-l") then with_argument Library rest else Names (codes "./")
+hyphened_start (letter ∷ rest) = if pointwise nat_eq (hyphen ∷ letter ∷ []) (codes "-l") then with_argument Library
+    rest else Names (codes "./")
 
 abbrev pub start_after : List ℕ → Start
 start_after [] = Names []
@@ -115,8 +118,9 @@ at_last (Wants option) word = Err (MissingArgument (name_of option))
 at_last Ends word = Ok []
 at_last Unknown word = Err (UnknownOption word)
 
--- a word with others after it: what those come to, the next one included, left out, or where the options have ended
-abbrev pub at_word : Start → List ℕ → List ℕ → Result (List Item) C99Fault → Result (List Item) C99Fault → Result (List Item) C99Fault → Result (List Item) C99Fault
+-- a word with others after it, by the results of these: with the next word, without it, or after the end of the options
+abbrev pub at_word : Start → List ℕ → List ℕ → Result (List Item) C99Fault → Result (List Item) C99Fault → Result (List Item) C99Fault
+    → Result (List Item) C99Fault
 at_word Flag word next from_next after_next ended = and_items (Ok (Passed (word ∷ []))) from_next
 at_word (Names prefix) word next from_next after_next ended = and_items (Ok (Operand (prefix ++ word))) from_next
 at_word (Joined option argument) word next from_next after_next ended = and_items (given option argument) from_next
@@ -127,9 +131,10 @@ at_word Unknown word next from_next after_next ended = Err (UnknownOption word)
 abbrev pub items_of : Part → List (List ℕ) → Result (List Item) C99Fault
 items_of part [] = Ok []
 items_of part (word ∷ []) = at_last (start_of part word) word
-items_of part (word ∷ next ∷ words) = at_word (start_of part word) word next (items_of part (next ∷ words)) (items_of part words) (items_of AfterEnd (next ∷ words))
+items_of part (word ∷ next ∷ words) = at_word (start_of part word) word next (items_of part (next ∷ words)) (items_of part words)
+    (items_of AfterEnd (next ∷ words))
 
--- the words of the driver: the standard, what is defined, what is undefined, and all else in its order
+-- the words of the driver: the standard, the defined macros, the undefined macros, and the rest in order
 
 abbrev pub defined_words : Item → List (List ℕ)
 defined_words (Defined macro) = codes "-D" ∷ macro ∷ []
@@ -158,7 +163,8 @@ is_operand (Operand word) = true
 abbrev pub front_of_items : Result (List Item) C99Fault → Result (List (List ℕ)) C99Fault
 front_of_items (Err fault) = Err fault
 front_of_items (Ok items) =
-    if list_any is_operand items then Ok (codes "-std=c99" ∷ flat_map defined_words items ++ flat_map undefined_words items ++ flat_map other_words items)
+    if list_any is_operand items then Ok (codes "-std=c99" ∷ flat_map defined_words items ++ flat_map undefined_words items
+    ++ flat_map other_words items)
     else Err NoOperand
 
 abbrev pub front_of : List (List ℕ) → Result (List (List ℕ)) C99Fault

@@ -25,7 +25,7 @@ pub data Reads : Part → List (List ℕ) → List Item → Type 0 where
   options_end : {part : Part} {word : List ℕ} {words : List (List ℕ)} {items : List Item}
       → start_of part word ≡ Ends → Reads AfterEnd words items → Reads part (word ∷ words) items
 
--- The first offending word: no option; the last one where it wants an argument; an option with a bad argument.
+-- The first offending word: not an option; a last word that needs an argument; or an option with a bad argument.
 pub data Offends : Part → List (List ℕ) → C99Fault → Type 0 where
   unknown : {part : Part} {word : List ℕ} {words : List (List ℕ)}
       → start_of part word ≡ Unknown → Offends part (word ∷ words) (UnknownOption word)

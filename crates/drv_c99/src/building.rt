@@ -14,7 +14,7 @@ use drv_words::{Listing, Word};
 use std::alloc::{AllocError, Global};
 use std::mem;
 
-/// The words that the driver gets, in three lists, and whether one of them is an operand.
+/// The words for the driver, in three lists, and whether one of them is an operand.
 #[derive(Drop)]
 pub(crate) struct Front {
     pub(crate) defined: Listing<Word>,
@@ -59,7 +59,7 @@ fn is_level(argument: &[u8]) -> bool
     matches!(argument, b"0" | b"1")
 }
 
-/// Moves a list's words after others.
+/// Moves the words of a list to the end of others.
 fn move_list(list: Listing<Word>, words: &mut Vec<Word>) -> Result<(), AllocError>
     ensures { OnOk result (words.new.items ≡ words.old.items ++ list) }
 {
@@ -67,7 +67,7 @@ fn move_list(list: Listing<Word>, words: &mut Vec<Word>) -> Result<(), AllocErro
 }
 
 impl Front {
-    /// One with no item.
+    /// A front without items.
     pub(crate) fn new(alloc: Global) -> Front
         ensures { result ≡ begun }
     {
@@ -126,7 +126,8 @@ impl Front {
         Ok(added?)
     }
 
-    /// Moves its words after others: what is defined, what is undefined, and all else.
+    /// Moves the words to the end of others: the defined macros, the undefined macros, and the
+    /// rest.
     fn move_after(&mut self, alloc: Global, words: &mut Vec<Word>) -> Result<(), AllocError>
         ensures { OnOk result (words.new.items
             ≡ words.old.items ++ self.old.defined ++ self.old.undefined ++ self.old.others) }
@@ -139,7 +140,7 @@ impl Front {
         move_list(mem::replace(&mut self.others, Listing::new(alloc)), words)
     }
 
-    /// All its words, moved out of it.
+    /// Moves all words out of the front.
     pub(crate) fn finish(&mut self, alloc: Global) -> Result<Listing<Word>, C99Fault>
         ensures { Gives fault.Memory (λ words. words) result (finished self.old) }
     {

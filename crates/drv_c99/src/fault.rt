@@ -10,7 +10,7 @@ pub enum C99Fault {
     /// An allocation was refused.
     #[error("out of memory")]
     Memory,
-    /// This word is no option.
+    /// This word is not an option.
     #[error("no such option")]
     UnknownOption(Word),
     /// This option has no argument.

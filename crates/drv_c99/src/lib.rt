@@ -1,4 +1,4 @@
-//! The words of POSIX's `c99` as words of the driver.
+//! Turns a line of POSIX's `c99` into words of the driver.
 #![tactic(auto)]
 
 mod building;

@@ -11,11 +11,11 @@ ghost use Rattle.std.specs.Prelude.{◌≡◌, ◌∷◌, [], nat_eq};
 /// An option that takes an argument (POSIX, c99, OPTIONS).
 #[derive(Clone, Copy, Debug)]
 pub(crate) enum Taking {
-    /// `-D`: a macro is defined.
+    /// `-D`: defines a macro.
     Define,
-    /// `-U`: a macro is undefined.
+    /// `-U`: undefines a macro.
     Undefine,
-    /// `-I`: a folder of included files.
+    /// `-I`: a folder of header files.
     IncludeFolder,
     /// `-L`: a folder of libraries.
     LibraryFolder,
@@ -42,7 +42,7 @@ pub(crate) fn name(option: Taking) -> &'static [u8]
     }
 }
 
-/// The option of a letter.
+/// The option with this letter.
 fn option_of(letter: u8) -> Option<Taking>
     ensures { result ≡ lookup (pointwise nat_eq (hyphen ∷ letter ∷ [])) options }
 {
@@ -63,11 +63,11 @@ fn option_of(letter: u8) -> Option<Taking>
 pub(crate) enum Start<'a> {
     /// It is an option without an argument.
     Flag,
-    /// It is an operand, with this in front of it.
+    /// It is an operand, which gets this prefix.
     Operand { prefix: &'static [u8] },
-    /// It is an option and its argument.
+    /// It is an option with its argument.
     Joined { option: Taking, argument: &'a [u8] },
-    /// It is an option, and wants the next word as its argument.
+    /// It is an option that needs the next word as its argument.
     Wants { option: Taking },
     /// It ends the options.
     Ends,
@@ -75,7 +75,7 @@ pub(crate) enum Start<'a> {
     Unknown,
 }
 
-/// An option with what stands after its letter.
+/// An option with the text after its letter.
 fn with_argument<'a>(option: Taking, rest: &'a [u8]) -> Start<'a>
     ensures { start_shown result ≡ with_argument option rest.now }
 {
@@ -89,7 +89,7 @@ fn with_argument<'a>(option: Taking, rest: &'a [u8]) -> Start<'a>
     }
 }
 
-/// How a word of a hyphen, another byte and the rest begins, before the end of the options.
+/// How a word that begins with a hyphen and another byte begins, before the end of the options.
 fn option_start<'a>(word: &[u8], letter: u8, rest: &'a [u8]) -> Start<'a>
     requires { word.now ≡ hyphen ∷ letter ∷ rest.now }
     ensures { start_shown result ≡ option_start letter rest.now }
@@ -125,16 +125,16 @@ fn start_after<'a>(word: &'a [u8]) -> Start<'a>
     }
 }
 
-/// Which part of a line a word stands in.
+/// A part of a line.
 #[derive(Clone, Copy)]
 pub(crate) enum Part {
-    /// That before the end of the options.
+    /// The part before the end of the options.
     BeforeEnd,
-    /// That after it.
+    /// The part after it.
     AfterEnd,
 }
 
-/// How a word of a part begins.
+/// How a word of this part begins.
 pub(crate) fn start_of<'a>(part: Part, word: &'a [u8]) -> Start<'a>
     ensures { start_shown result ≡ start_of part word.now }
 {

@@ -1,4 +1,4 @@
-//! A line of `c99` turned into a line of the driver.
+//! Turns a line of `c99` into a line of the driver.
 
 ghost use Rattle.drv_c99.specs.Code.Building.{Goes, finished, front_with};
 ghost use Rattle.drv_c99.specs.Front.{front_of, items_of};
@@ -13,7 +13,7 @@ use crate::option::{Part, Start, start_of};
 use drv_words::{Listing, Word};
 use std::alloc::Global;
 
-/// Adds what words give to a front.
+/// Adds words to a front.
 fn add_words(alloc: Global, front: &mut Front, words: &[Word]) -> Result<(), C99Fault>
     ensures { Goes (finished front.new) result
         (front_with front.old (items_of BeforeEnd words.now)) }
@@ -41,13 +41,13 @@ fn add_words(alloc: Global, front: &mut Front, words: &[Word]) -> Result<(), C99
     Ok(())
 }
 
-/// The words of the driver for a line of `c99`: `-std=c99`, what `-D` defines, what `-U` undefines,
-/// and all else in its order (POSIX, c99). An argument is a word of its own, but for those of `-O`
-/// and `-l`; after `--` an operand that begins with a hyphen gets `./` in front.
+/// The words of the driver for a line of `c99`: `-std=c99`, the macros of `-D`, those of `-U`, and
+/// the rest in order (POSIX, c99). An argument is a word of its own, except those of `-O` and `-l`.
+/// After `--` an operand that begins with a hyphen gets the prefix `./`.
 ///
 /// # Errors
-/// At the first offending word `UnknownOption` with the word, `MissingArgument` with the option, or
-/// `BadLevel` with the argument of `-O`; then `NoOperand`.
+/// At the first offending word: `UnknownOption` with the word, `MissingArgument` with the option,
+/// or `BadLevel` with the argument of `-O`. Then `NoOperand`.
 pub fn front(alloc: Global, args: &[Word]) -> Result<Listing<Word>, C99Fault>
     ensures { Gives fault.Memory (λ words. words) result (front_of args.now) }
 {

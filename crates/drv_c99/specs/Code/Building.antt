@@ -8,13 +8,13 @@ use Rattle.drv_c99.specs.declared.option.Start.{Start as CodeStart}
 use Rattle.std.specs.List.{flat_map, list_any}
 use Rattle.std.specs.Prelude.{◌≡◌, ◌⊎◌, ◌||◌, Err, List, [], ◌∷◌, ◌++◌, Ok, Result, codes, false, if◌then◌else◌, ℕ}
 
--- A front that is built item by item. Private clauses alone cite it: what `front` answers is said by `front_of`.
+-- A front that is built item by item. Only private clauses cite it: `front_of` defines what `front` returns.
 
--- no item yet
+-- before the first item
 abbrev pub begun : Front
 begun = record { defined = []; undefined = []; others = []; has_operand = false }
 
--- what items add
+-- the front with these items added
 abbrev pub with_items : Front → List Item → Front
 with_items f items = record {
   defined = f.defined ++ flat_map defined_words items;
@@ -23,7 +23,7 @@ with_items f items = record {
   has_operand = f.has_operand || list_any is_operand items;
 }
 
--- what an item adds, or its refusal
+-- the front with one item added, or its refusal
 abbrev pub noted : Front → Result Item C99Fault → Result Front C99Fault
 noted f (Ok i) = Ok (with_items f (i ∷ []))
 noted f (Err fault) = Err fault
@@ -32,7 +32,7 @@ noted f (Err fault) = Err fault
 abbrev pub finished : Front → Result (List (List ℕ)) C99Fault
 finished f = if f.has_operand then Ok (codes "-std=c99" ∷ f.defined ++ f.undefined ++ f.others) else Err NoOperand
 
--- all words, with what the rest of the line comes to
+-- all words, with the result of the rest of the line
 abbrev pub front_with : Front → Result (List Item) C99Fault → Result (List (List ℕ)) C99Fault
 front_with f (Ok items) = finished (with_items f items)
 front_with f (Err fault) = Err fault
@@ -46,7 +46,7 @@ start_shown (code.Wants option) = front.Wants option
 start_shown code.Ends = front.Ends
 start_shown code.Unknown = front.Unknown
 
--- words are added: the rest is what finishing gives, or a refusal is what they come to, unless memory ran out
+-- words are added: finishing gives the result of the rest, or the refusal is the result, unless memory ran out
 abbrev pub Goes : Result (List (List ℕ)) C99Fault → Result (Unit {0}) C99Fault → Result (List (List ℕ)) C99Fault → Type 0
 Goes end (Ok u) whole = whole ≡ end
 Goes end (Err e) whole = (e ≡ Memory) ⊎ (whole ≡ Err e)

@@ -7,4 +7,5 @@ pub returns : goal.returns
 returns c = front_given _ (items_of BeforeEnd c.args.args.now) _ _ c.new-front.ensures c.in_ok-add_words.ensures c.finish.ensures
 
 pub returns-in_err-add_words : goal.returns-in_err-add_words
-returns-in_err-add_words c = front_refused _ (items_of BeforeEnd c.args.args.now) _ _ c.new-front.ensures c.in_err-add_words.ensures c.from_residual.ensures.1
+returns-in_err-add_words c = front_refused _ (items_of BeforeEnd c.args.args.now) _ _ c.new-front.ensures c.in_err-add_words.ensures
+    c.from_residual.ensures.1
