@@ -83,7 +83,8 @@ or_none (Some y) = refl
 
 answer_at : {Y : Type 0} (es : List (List ℕ × Y)) (key other : List ℕ) (answer : Y) (known : Option Y) (same : Bool)
     → answer_to es key ≡ known → is_at (slice_cmp nat_cmp other) key ≡ same
-    → answer_to (with_answer es key answer) other ≡ option_or (answer_to es other) (if is_at (slice_cmp nat_cmp other) key then Some answer else None)
+    → answer_to (with_answer es key answer) other ≡ option_or (answer_to es other)
+    (if is_at (slice_cmp nat_cmp other) key then Some answer else None)
 answer_at es key other answer (Some known) true had is =
     let z : answer_to es other ≡ Some known = ap (answer_to es) (same_key other key is) ∙ had in rw (had, z)
 answer_at es key other answer (Some known) false had is = rw (had, is) (or_none (answer_to es other))
@@ -94,7 +95,8 @@ answer_at es key other answer None true had is =
 answer_at es key other answer None false had is = rw (had, is) (pair_elsewhere es key other answer is ∙ or_none (answer_to es other))
 
 pub answer_to-with_answer : {Y : Type 0} (es : List (List ℕ × Y)) (key other : List ℕ) (answer : Y)
-    → answer_to (with_answer es key answer) other ≡ option_or (answer_to es other) (if is_at (slice_cmp nat_cmp other) key then Some answer else None)
+    → answer_to (with_answer es key answer) other ≡ option_or (answer_to es other)
+    (if is_at (slice_cmp nat_cmp other) key then Some answer else None)
 answer_to-with_answer es key other answer = answer_at es key other answer (answer_to es key) (is_at (slice_cmp nat_cmp other) key) refl refl
 
 pub keeps_answers : {Y : Type 0} (es : List (List ℕ × Y)) (key other : List ℕ) (answer known : Y)
@@ -108,17 +110,23 @@ absent (Some answer) there is missing = absurd (let z : false ≡ true = sym mis
 
 -- the maps of a place: made, filled, and cleared
 module _ {Y : Type 0} (es made : List (List ℕ × Y)) (key : List ℕ) (blank : Y) (new : None ≡ answer_to es key) (is : made ≡ with_pair es key blank) where
-  pub place_filled : (full : List (List ℕ × Y)) (answer : Y) → full ≡ set_value (is_at (slice_cmp nat_cmp key)) made answer → full ≡ with_answer es key answer
-  place_filled full answer step = rw (← new) (step ∙ ap (λ xs. set_value (is_at (slice_cmp nat_cmp key)) xs answer) is ∙ fills_pair es key blank answer)
+  pub place_filled : (full : List (List ℕ × Y)) (answer : Y) → full ≡ set_value (is_at (slice_cmp nat_cmp key)) made answer
+      → full ≡ with_answer es key answer
+  place_filled full answer step = rw (← new) (step ∙ ap (λ xs. set_value (is_at (slice_cmp nat_cmp key)) xs answer) is
+      ∙ fills_pair es key blank answer)
 
-  pub place_answers : (full : List (List ℕ × Y)) (answer : Y) → full ≡ set_value (is_at (slice_cmp nat_cmp key)) made answer → answer_to full key ≡ Some answer
-  place_answers full answer step = ap (λ xs. answer_to xs key) (step ∙ ap (λ xs. set_value (is_at (slice_cmp nat_cmp key)) xs answer) is ∙ fills_pair es key blank answer) ∙ pair_here es key answer
+  pub place_answers : (full : List (List ℕ × Y)) (answer : Y) → full ≡ set_value (is_at (slice_cmp nat_cmp key)) made answer
+      → answer_to full key ≡ Some answer
+  place_answers full answer step = ap (λ xs. answer_to xs key) (step ∙ ap (λ xs. set_value (is_at (slice_cmp nat_cmp key)) xs answer) is
+      ∙ fills_pair es key blank answer) ∙ pair_here es key answer
 
-  pub place_known : (full : List (List ℕ × Y)) (answer : Y) → full ≡ set_value (is_at (slice_cmp nat_cmp key)) made answer → IsSome (answer_to full key)
+  pub place_known : (full : List (List ℕ × Y)) (answer : Y) → full ≡ set_value (is_at (slice_cmp nat_cmp key)) made answer
+      → IsSome (answer_to full key)
   place_known full answer step = rw (place_answers full answer step) refl
 
   pub place_cleared : (rest : List (List ℕ × Y)) → rest ≡ remove_entry (is_at (slice_cmp nat_cmp key)) made → rest ≡ es
   place_cleared rest step = step ∙ ap (remove_entry (is_at (slice_cmp nat_cmp key))) is ∙ clears_pair es key blank (sym new)
 
-pub place_made : {Y : Type 0} (es made : List (List ℕ × Y)) (key : List ℕ) (blank : Y) → made ≡ with_pair es key blank → IsSome (answer_to made key)
+pub place_made : {Y : Type 0} (es made : List (List ℕ × Y)) (key : List ℕ) (blank : Y) → made ≡ with_pair es key blank
+    → IsSome (answer_to made key)
 place_made es made key blank is = rw (is, pair_here es key blank) refl

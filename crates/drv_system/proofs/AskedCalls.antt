@@ -13,7 +13,12 @@ module _ {S : Type 0} {events : S → List Event} where
   asked_none o = record { asks = asks_nothing (events o.sys.now) o.facts.now; same_sys = refl; same_facts = refl }
 
   pub asked_further : {o p q : Outside S} → Asked events o p → Asked events p q → Asked events o q
-  asked_further a b = record { asks = asks_then a.asks b.asks; same_sys = b.same_sys ∙ a.same_sys; same_facts = b.same_facts ∙ a.same_facts }
+  asked_further a b = record {
+    asks = asks_then a.asks b.asks;
+    same_sys = b.same_sys ∙ a.same_sys;
+    same_facts = b.same_facts
+        ∙ a.same_facts;
+  }
 
   -- a table that extends the one after a call extends the one before it
   pub extends_before : {o p : Outside S} {F : Facts} → Asked events o p → Extends p.facts.now F → Extends o.facts.now F

@@ -74,7 +74,8 @@ pub asks_then : {journal journal' journal'' : List Event} {F F' F'' : Facts}
 asks_then {journal} {F = F} first second = record {
   asked = first.asked ++ second.asked;
   questions = new_append F first.asked second.asked first.questions (subst (λ G. AreNew G second.asked) first.facts_grow second.questions);
-  journal_grows = second.journal_grows ∙ ap (λ events. events ++ second.asked) first.journal_grows ∙ append_assoc journal first.asked second.asked;
+  journal_grows = second.journal_grows ∙ ap (λ events. events ++ second.asked) first.journal_grows
+      ∙ append_assoc journal first.asked second.asked;
   facts_grow = second.facts_grow ∙ ap (λ G. learn G second.asked) first.facts_grow ∙ sym (learn-append F first.asked second.asked);
 }
 

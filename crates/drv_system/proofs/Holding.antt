@@ -27,19 +27,23 @@ below_answer n m (answer.Wait x) le below = tt
 below_answer n m (answer.Remove x) le below = tt
 below_answer n m (answer.Reported told) le below = tt
 
-below_more : (n m : ℕ) (events : List RunEvent) (e : RunEvent) → n ≤ m → AreBelow n events → IsBelow m e.answer → AreBelow m (events ++ e ∷ [])
+below_more : (n m : ℕ) (events : List RunEvent) (e : RunEvent) → n ≤ m → AreBelow n events → IsBelow m e.answer
+    → AreBelow m (events ++ e ∷ [])
 below_more n m [] e le below last = (last, tt)
 below_more n m (f ∷ events) e le below last = (below_answer n m f.answer le below.0, below_more n m events e le below.1 last)
 
 -- the run after one more event
-beside : (events events' : List Event) (event : Event) → events' ≡ events ++ event ∷ [] → run_of (event ∷ []) ≡ [] → run_of events' ≡ run_of events
+beside : (events events' : List Event) (event : Event) → events' ≡ events ++ event ∷ [] → run_of (event ∷ []) ≡ []
+    → run_of events' ≡ run_of events
 beside events events' event is none =
     ap run_of is ∙ run_of-append events (event ∷ []) ∙ ap (λ rest. run_of events ++ rest) none ∙ append-nil (run_of events)
 
-following : (events events' : List Event) (step : Step) (a : Answer) → events' ≡ events ++ made step a ∷ [] → run_of events' ≡ run_of events ++ record { step = step; answer = a } ∷ []
+following : (events events' : List Event) (step : Step) (a : Answer) → events' ≡ events ++ made step a ∷ []
+    → run_of events' ≡ run_of events ++ record { step = step; answer = a } ∷ []
 following events events' step a is = ap run_of is ∙ run_of-append events (made step a ∷ [])
 
-one_more : (n m : ℕ) (events events' : List Event) (event : Event) → events' ≡ events ++ event ∷ [] → n ≤ length events → m ≤ n + 1 → m ≤ length events'
+one_more : (n m : ℕ) (events events' : List Event) (event : Event) → events' ≡ events ++ event ∷ [] → n ≤ length events → m ≤ n + 1
+    → m ≤ length events'
 one_more n m events events' event is few le =
     let size : length events' ≡ length events + 1 = ap length is ∙ length-append events (event ∷ []) in omega (arith, size, few, le)
 
@@ -50,18 +54,21 @@ no_more n = omega arith
 pub numbered_same : {n m : ℕ} {events events' : List Event} → Numbered n events → events' ≡ events → m ≡ n → Numbered m events'
 numbered_same {n} {m} {events} {events'} numbered is same = rw (is, same) numbered
 
-pub holds_same : {n m : ℕ} {p q : Bool} {events events' : List Event} → Holds n p events → events' ≡ events → m ≡ n → q ≡ p → Holds m q events'
+pub holds_same : {n m : ℕ} {p q : Bool} {events events' : List Event} → Holds n p events → events' ≡ events → m ≡ n → q ≡ p
+    → Holds m q events'
 holds_same {n} {m} {p} {q} {events} {events'} holds is same_n same_p = rw (is, same_n, same_p) holds
 
 -- a question or a message starts no child
-pub numbered_beside : {n m : ℕ} {events events' : List Event} (event : Event) → Numbered n events → events' ≡ events ++ event ∷ [] → run_of (event ∷ []) ≡ []
+pub numbered_beside : {n m : ℕ} {events events' : List Event} (event : Event) → Numbered n events → events' ≡ events ++ event ∷ []
+    → run_of (event ∷ []) ≡ []
     → m ≡ n → Numbered m events'
 numbered_beside {n} {m} {events} {events'} event numbered is none same = rw same (record {
   below = subst (λ run. AreBelow n run) (sym (beside events events' event is none)) numbered.below;
   few = one_more n n events events' event is numbered.few (no_more n);
 })
 
-pub holds_beside : {n m : ℕ} {p q : Bool} {events events' : List Event} (event : Event) → Holds n p events → events' ≡ events ++ event ∷ [] → run_of (event ∷ []) ≡ []
+pub holds_beside : {n m : ℕ} {p q : Bool} {events events' : List Event} (event : Event) → Holds n p events → events' ≡ events ++ event ∷ []
+    → run_of (event ∷ []) ≡ []
     → m ≡ n → q ≡ p → Holds m q events'
 holds_beside {events = events} {events' = events'} event holds is none same_n same_p = record {
   numbered = numbered_beside event holds.numbered is none same_n;
@@ -69,7 +76,8 @@ holds_beside {events = events} {events' = events'} event holds is none same_n sa
 }
 
 -- a step may start one
-pub numbered_after : {n m : ℕ} {events events' : List Event} (step : Step) (a : Answer) → Numbered n events → events' ≡ events ++ made step a ∷ []
+pub numbered_after : {n m : ℕ} {events events' : List Event} (step : Step) (a : Answer) → Numbered n events
+    → events' ≡ events ++ made step a ∷ []
     → n ≤ m → m ≤ n + 1 → IsBelow m a → Numbered m events'
 numbered_after {n} {m} {events} {events'} step a numbered is le ge last = record {
   below = subst (λ run. AreBelow m run) (sym (following events events' step a is))
@@ -77,12 +85,14 @@ numbered_after {n} {m} {events} {events'} step a numbered is le ge last = record
   few = one_more n m events events' (made step a) is numbered.few ge;
 }
 
-pub holds_after : {n m : ℕ} {p q : Bool} {events events' : List Event} (step : Step) (a : Answer) → Holds n p events → events' ≡ events ++ made step a ∷ []
+pub holds_after : {n m : ℕ} {p q : Bool} {events events' : List Event} (step : Step) (a : Answer) → Holds n p events
+    → events' ≡ events ++ made step a ∷ []
     → n ≤ m → m ≤ n + 1 → IsBelow m a → q ≡ pending_with p step a → Holds m q events'
 holds_after {events = events} {events' = events'} step a holds is le ge last pipe = record {
   numbered = numbered_after step a holds.numbered is le ge last;
   pipe = pipe ∙ ap (λ pending. pending_with pending step a) holds.pipe
-      ∙ sym (pending-append (run_of events) (record { step = step; answer = a })) ∙ ap pipe_pending (sym (following events events' step a is));
+      ∙ sym (pending-append (run_of events) (record { step = step; answer = a }))
+      ∙ ap pipe_pending (sym (following events events' step a is));
 }
 
 -- a started child gets the next number
@@ -96,19 +106,23 @@ holds_started {n = n} {m = m} {l = l} step holds is more same pipe =
     let numbers = next_number n m l more same in holds_after step (answer.Start (start.Started l)) holds is numbers.0 numbers.1 numbers.2 pipe
 
 -- the same, if the number of children stays the same
-pub numbered_step : {n m : ℕ} {events events' : List Event} (step : Step) (a : Answer) → Numbered n events → events' ≡ events ++ made step a ∷ []
+pub numbered_step : {n m : ℕ} {events events' : List Event} (step : Step) (a : Answer) → Numbered n events
+    → events' ≡ events ++ made step a ∷ []
     → m ≡ n → IsBelow n a → Numbered m events'
-numbered_step {n} {m} {events} {events'} step a numbered is same last = rw same (numbered_after {n = n} {m = n} {events = events} {events' = events'} step a numbered is (le_itself n) (no_more n) last)
+numbered_step {n} {m} {events} {events'} step a numbered is same last = rw same
+    (numbered_after {n = n} {m = n} {events = events} {events' = events'} step a numbered is (le_itself n) (no_more n) last)
   where
     le_itself : (n : ℕ) → n ≤ n
     le_itself n = omega arith
 
-pub holds_step : {n m : ℕ} {p q : Bool} {events events' : List Event} (step : Step) (a : Answer) → Holds n p events → events' ≡ events ++ made step a ∷ []
+pub holds_step : {n m : ℕ} {p q : Bool} {events events' : List Event} (step : Step) (a : Answer) → Holds n p events
+    → events' ≡ events ++ made step a ∷ []
     → m ≡ n → IsBelow n a → q ≡ pending_with p step a → Holds m q events'
 holds_step {events = events} {events' = events'} step a holds is same last pipe = record {
   numbered = numbered_step step a holds.numbered is same last;
   pipe = pipe ∙ ap (λ pending. pending_with pending step a) holds.pipe
-      ∙ sym (pending-append (run_of events) (record { step = step; answer = a })) ∙ ap pipe_pending (sym (following events events' step a is));
+      ∙ sym (pending-append (run_of events) (record { step = step; answer = a }))
+      ∙ ap pipe_pending (sym (following events events' step a is));
 }
 
 -- the next number
@@ -128,14 +142,17 @@ none_has : (n : ℕ) (events : List RunEvent) → AreBelow n events → list_any
 none_has n [] below = refl
 none_has n (e ∷ events) below = rw (other_number n e.answer below.0) (none_has n events below.1)
 
-pub new_number : {n : ℕ} {events : List Event} {x : StartAnswer} → Numbered n events → x ≡ start.Started n → fits_start (run_of events) x ≡ true
+pub new_number : {n : ℕ} {events : List Event} {x : StartAnswer} → Numbered n events → x ≡ start.Started n
+    → fits_start (run_of events) x ≡ true
 new_number {n} {events} {x} numbered is = rw (is, none_has n (run_of events) numbered.below) refl
 
-pub holds_is_new : {n : ℕ} {p : Bool} {events : List Event} {x : StartAnswer} → Holds n p events → x ≡ start.Started n → fits_start (run_of events) x ≡ true
+pub holds_is_new : {n : ℕ} {p : Bool} {events : List Event} {x : StartAnswer} → Holds n p events → x ≡ start.Started n
+    → fits_start (run_of events) x ≡ true
 holds_is_new holds is = new_number holds.numbered is
 
 -- a script's children
-started_below : (n : ℕ) (taken : Option StartAnswer) → IsBelow (children_after n (start_numbered n taken)) (answer.Start (start_numbered n taken))
+started_below : (n : ℕ) (taken : Option StartAnswer) → IsBelow (children_after n (start_numbered n taken))
+    (answer.Start (start_numbered n taken))
 started_below n None = lt_next n
   where
     lt_next : (n : ℕ) → n < n + 1
@@ -150,13 +167,16 @@ children_grow : (n : ℕ) (x : StartAnswer) → (n ≤ children_after n x) × (c
 children_grow n (start.Started id) = (omega arith, omega arith)
 children_grow n (start.NotStarted why) = (omega arith, omega arith)
 
-pub numbered_start : {n m : ℕ} {events events' : List Event} {x : StartAnswer} (step : Step) (taken : Option StartAnswer) → Numbered n events
+pub numbered_start : {n m : ℕ} {events events' : List Event} {x : StartAnswer} (step : Step) (taken : Option StartAnswer)
+    → Numbered n events
     → events' ≡ events ++ made step (answer.Start x) ∷ [] → x ≡ start_numbered n taken → m ≡ children_after n x → Numbered m events'
 numbered_start {n} {m} {events} {events'} {x} step taken numbered is numbers count =
-    rw count (numbered_after {n = n} {m = children_after n x} {events = events} {events' = events'} step (answer.Start x) numbered is (children_grow n x).0 (children_grow n x).1
+    rw count (numbered_after {n = n} {m = children_after n x} {events = events} {events' = events'} step (answer.Start x) numbered is
+    (children_grow n x).0 (children_grow n x).1
     (subst (λ y. IsBelow (children_after n y) (answer.Start y)) (sym numbers) (started_below n taken)))
 
-pub script_is_new : {n : ℕ} {events : List Event} {x : StartAnswer} (taken : Option StartAnswer) → Numbered n events → x ≡ start_numbered n taken
+pub script_is_new : {n : ℕ} {events : List Event} {x : StartAnswer} (taken : Option StartAnswer) → Numbered n events
+    → x ≡ start_numbered n taken
     → fits_start (run_of events) x ≡ true
 script_is_new {n} {events} {x} taken numbered is = ap (λ y. fits_start (run_of events) y) is ∙ by taken
   where

@@ -19,11 +19,13 @@ run_of-append (Variable name value ∷ before) after = run_of-append before afte
 run_of-append (Say text answer ∷ before) after = run_of-append before after
 run_of-append (Put text answer ∷ before) after = run_of-append before after
 
-pub pending_from-append : (pending : Bool) (before after : List RunEvent) → pending_from pending (before ++ after) ≡ pending_from (pending_from pending before) after
+pub pending_from-append : (pending : Bool) (before after : List RunEvent) → pending_from pending (before ++ after) ≡ pending_from
+    (pending_from pending before) after
 pending_from-append pending [] after = refl
 pending_from-append pending (e ∷ before) after = pending_from-append (pending_with pending e.step e.answer) before after
 
-pub pending-append : (before : List RunEvent) (e : RunEvent) → pipe_pending (before ++ e ∷ []) ≡ pending_with (pipe_pending before) e.step e.answer
+pub pending-append : (before : List RunEvent) (e : RunEvent) → pipe_pending (before ++ e ∷ []) ≡ pending_with (pipe_pending before)
+    e.step e.answer
 pending-append before e = pending_from-append false before (e ∷ [])
 
 -- after a journal without a pending pipe, the later events decide whether one is pending
@@ -40,7 +42,8 @@ not_both : (a b : Bool) → not (a || b) ≡ true → (a ≡ false) × (not b �
 not_both false b e = (refl, e)
 not_both true b e = absurd cc
 
-stays_open : (place : Place) (id : ℕ) (events : List RunEvent) → not (list_any (λ (e : RunEvent). is_wait_for place id e.step) events) ≡ true
+stays_open : (place : Place) (id : ℕ) (events : List RunEvent)
+    → not (list_any (λ (e : RunEvent). is_wait_for place id e.step) events) ≡ true
     → open_from place id true events ≡ true
 stays_open place id [] none = refl
 stays_open place id (e ∷ events) none =
@@ -59,11 +62,13 @@ pub opens : (place : Place) (id : ℕ) (was : Bool) (events : List RunEvent)
 opens place id was [] some none = absurd cc
 opens place id was (e ∷ events) some none =
     let both : (is_wait_for place id e.step ≡ false) × (not (list_any (λ (f : RunEvent). is_wait_for place id f.step) events) ≡ true) = not_both (is_wait_for place id e.step) _ none in
-    by (is_start_at place e.step && is_child id e.answer) some (stays_open place id events both.1) (λ rest. opens place id (if is_wait_for place id e.step then false else was) events rest both.1)
+    by (is_start_at place e.step && is_child id e.answer) some (stays_open place id events both.1)
+    (λ rest. opens place id (if is_wait_for place id e.step then false else was) events rest both.1)
   where
     by : (starts : Bool) → (starts || list_any (λ (f : RunEvent). is_start_at place f.step && is_child id f.answer) events) ≡ true
         → open_from place id true events ≡ true
-        → (list_any (λ (f : RunEvent). is_start_at place f.step && is_child id f.answer) events ≡ true → open_from place id (if is_wait_for place id e.step then false else was) events ≡ true)
+        → (list_any (λ (f : RunEvent). is_start_at place f.step && is_child id f.answer) events ≡ true
+        → open_from place id (if is_wait_for place id e.step then false else was) events ≡ true)
         → open_from place id (if starts then true else if is_wait_for place id e.step then false else was) events ≡ true
     by true some stays later = stays
     by false some stays later = later some
@@ -73,7 +78,8 @@ and_parts true b e = (refl, e)
 and_parts false b e = absurd cc
 
 -- the condition of `wait` after any journal, for a child that the run's own events left open
-pub open_after : (place : Place) (id : ℕ) (journal after : List Event) → is_open place id (run_of after) ≡ true → is_child_open place id (journal ++ after) ≡ true
+pub open_after : (place : Place) (id : ℕ) (journal after : List Event) → is_open place id (run_of after) ≡ true
+    → is_child_open place id (journal ++ after) ≡ true
 open_after place id journal after is =
     let both = and_parts (list_any (λ (e : RunEvent). is_start_at place e.step && is_child id e.answer) (run_of after)) _ is in
     ap (λ run. open_from place id false run) (run_of-append journal after)

@@ -32,5 +32,6 @@ abbrev pub pair_of : ℕ → ℕ → Option ℕ
 pair_of high low = joined 16 (digit_of high) (digit_of low)
 
 abbrev pub seed_named : List ℕ → Option ℕ
-seed_named (a ∷ b ∷ c ∷ d ∷ e ∷ f ∷ g ∷ h ∷ []) = joined 65536 (joined 256 (pair_of a b) (pair_of c d)) (joined 256 (pair_of e f) (pair_of g h))
+seed_named (a ∷ b ∷ c ∷ d ∷ e ∷ f ∷ g ∷ h ∷ []) = joined 65536 (joined 256 (pair_of a b) (pair_of c d))
+    (joined 256 (pair_of e f) (pair_of g h))
 seed_named text = None

@@ -8,7 +8,7 @@ use drv_words::Word;
 use std::alloc::AllocError;
 
 /// A copy of a value, if there is one.
-fn copied(value: &Option<Word>) -> Result<Option<Word>, AllocError>
+fn copy_of(value: &Option<Word>) -> Result<Option<Word>, AllocError>
     ensures { IfOk result (λ copy. copy ≡ value.now) }
 {
     match value {
@@ -51,7 +51,7 @@ pub fn note_variable(
         ≡ journal.old.items ++ event.Variable name.now value.now ∷ []) }
     ensures memory { OnErr result (journal.new.items ≡ journal.old.items) }
 {
-    let event = Event::Variable(name.clone()?, copied(value)?);
+    let event = Event::Variable(name.clone()?, copy_of(value)?);
     Ok(journal.push(event)?)
 }
 

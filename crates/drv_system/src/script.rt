@@ -192,7 +192,7 @@ impl System for ScriptSystem {
         ensures script { self.new.script ≡ self.old.script }
         ensures started { self.new.children ≡ self.old.children }
     {
-        let value = copied(find(self.variables.as_slice(), name))?;
+        let value = copy_of(find(self.variables.as_slice(), name))?;
         note_variable(&mut self.journal, name, &value)?;
         Ok(value)
     }
@@ -276,7 +276,7 @@ impl System for ScriptSystem {
         let _asked = plan;
         let given = start_in(front_of(self.answers.as_slice(), self.taken));
         pass_over(self.answers.as_slice(), &mut self.taken, &given);
-        let answer = numbered(self.children, given);
+        let answer = with_number(self.children, given);
         self.children = count_with(self.children, answer);
         self.journal.push_reserved(Event::Run(RunEvent {
             step: Step::Start {
@@ -459,7 +459,7 @@ fn count_with(children: u64, answer: StartAnswer) -> u64
 }
 
 /// The answer to a start: the child gets the next number.
-fn numbered(id: u64, given: Option<StartAnswer>) -> StartAnswer
+fn with_number(id: u64, given: Option<StartAnswer>) -> StartAnswer
     ensures { result ≡ start_numbered id given }
 {
     match given {
@@ -494,7 +494,7 @@ fn read_listed(listed: Option<&Option<Word>>) -> Result<ReadAnswer, AllocError>
 }
 
 /// A copy of a value, if there is one.
-fn copied(value: Option<&Word>) -> Result<Option<Word>, AllocError>
+fn copy_of(value: Option<&Word>) -> Result<Option<Word>, AllocError>
     ensures { IfOk result (λ copy. copy ≡ option_copied value.entry) }
 {
     match value {

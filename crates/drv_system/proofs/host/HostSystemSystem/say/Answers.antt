@@ -3,4 +3,5 @@ use Rattle.std.proofs.Common.{refl}
 use Rattle.drv_system.proofs.host.HostSystemSystem.say.Goals as goal
 
 pub invariant_of-self-2 : goal.invariant_of-self-2
-invariant_of-self-2 c = holds_beside _ (holds_same c.self.invariant c.reserve.ensures.items refl refl) c.push_reserved.ensures.items refl refl refl
+invariant_of-self-2 c = holds_beside _ (holds_same c.self.invariant c.reserve.ensures.items refl refl)
+    c.push_reserved.ensures.items refl refl refl
