@@ -11,9 +11,9 @@ use Rattle.drv_words.specs.declared.steps.Step.{Step}
 use Rattle.drv_words.specs.declared.steps.Step.TheVariants as step
 use Rattle.std.specs.Prelude.{◌≡◌, ◌<◌, Bool, List, [], ◌∷◌, ◌++◌, Option, Some, false, get_or, length, nat_eq, true, ℕ}
 
--- Which sources may go on, where the events so far are whole blocks of the sources.
+-- Which sources may go on, if the events so far are whole blocks of the sources.
 
--- after these blocks a source's story goes on, with a block that is a wait or isn't
+-- after these blocks a source's story goes on; `wait` says whether its next block is a wait
 pub record GoesOn (k : ℕ) (job : Job) (blocks : List Block) (wait : Bool) : Type 0 where
   pub a : JobAnswers
   pub all : whole_job job a ≡ true
@@ -22,7 +22,7 @@ pub record GoesOn (k : ℕ) (job : Job) (blocks : List Block) (wait : Bool) : Ty
   pub is : blocks ++ next ∷ rest ≡ story k job a
   pub wait_is : is_wait next ≡ wait
 
--- or they are a whole story
+-- or the blocks are a whole story
 pub record HasEnded (k : ℕ) (job : Job) (blocks : List Block) : Type 0 where
   pub a : JobAnswers
   pub all : whole_job job a ≡ true
@@ -32,8 +32,8 @@ abbrev pub SoFar : ℕ → Job → List Block → Bool → Bool → Type 0
 SoFar k job blocks true wait = GoesOn k job blocks wait
 SoFar k job blocks false wait = HasEnded k job blocks
 
--- The events are whole blocks of the sources, each of which may come where it comes, and some story has not ended. left: which
--- stories go on; waits: of which the next block is a wait.
+-- The events are whole blocks of the sources, in a permitted order, and some story has not ended. left: which stories go on; waits: which
+-- of these go on with a wait.
 pub record BetweenBlocks (plan : Plan) (N : ℕ) (E : List RunEvent) : Type 0 where
   pub blocks : List SourceBlock
   pub left : ℕ → Bool
@@ -49,12 +49,12 @@ pub record BetweenBlocks (plan : Plan) (N : ℕ) (E : List RunEvent) : Type 0 wh
 abbrev pub source_may : (plan : Plan) (N : ℕ) (E : List RunEvent) → BetweenBlocks plan N E → ℕ → Bool
 source_may plan N E b k = may_go_on (length plan.jobs) N (λ j. has j b.blocks) b.left (λ j. in_flight (of j b.blocks)) b.waits k
 
--- n counts the sources that may go on; elsewhere it is 1
+-- n is the number of sources that may go on; elsewhere it is 1
 pub record ChoicesAre (plan : Plan) (N : ℕ) (E : List RunEvent) (n : ℕ) : Type 0 where
   pub counted : (b : BetweenBlocks plan N E) → n ≡ count (length plan.jobs) (source_may plan N E b)
   pub elsewhere : (BetweenBlocks plan N E → ⊥) → n ≡ 1
 
--- k is below that number
+-- k is less than that number
 pub record IsChoice (plan : Plan) (N : ℕ) (E : List RunEvent) (k : ℕ) : Type 0 where
   pub counted : (b : BetweenBlocks plan N E) → k < count (length plan.jobs) (source_may plan N E b)
   pub elsewhere : (BetweenBlocks plan N E → ⊥) → k < 1
@@ -65,7 +65,7 @@ job_of (place.Temp k i) = k
 job_of (place.Marked k i) = k
 job_of (place.OnFailure k i) = k
 
--- whether a step is at a place of job k
+-- whether the place of a step is one of job k
 abbrev pub is_step_of : ℕ → Step → Bool
 is_step_of k (step.Claim p) = nat_eq (job_of p) k
 is_step_of k (step.Start p from_pipe to_pipe) = nat_eq (job_of p) k
@@ -74,7 +74,7 @@ is_step_of k (step.Wait p id) = nat_eq (job_of p) k
 is_step_of k (step.Remove p) = nat_eq (job_of p) k
 is_step_of k (step.Report n) = false
 
--- what is asked next is a step of the source of number k among those that may go on, which are counted from 0 in plan order
+-- the next step is one of source k of those that may go on, counted from 0 in plan order
 pub record IsNextOf (plan : Plan) (N : ℕ) (E : List RunEvent) (b : BetweenBlocks plan N E) (k : ℕ) (asked : Option Step) : Type 0 where
   pub source : ℕ
   pub in_range : source < length plan.jobs

@@ -1,19 +1,19 @@
--- How the code goes over its input, step by step: what stands between the code and the definitions. No clause of a public
--- contract names these, but a `Run` is seen as `RunView` says, which rests on them.
+-- How the code works, step by step. Public contracts don't cite these, except that `RunView`, which rests on them, says how a `Run` is
+-- seen.
 pub mod Counting
 pub mod Course
 pub mod Due
 pub mod Fleet
 pub mod FleetView
+pub mod LeftoverFiles
 pub mod LeftoverView
 pub mod Leftovers
-pub mod Machine
 pub mod Numbering
 pub mod NumberingView
-pub mod Position
-pub mod PositionView
 pub mod Reached
-pub mod Remains
+pub mod RunState
+pub mod RunStateView
 pub mod RunView
 pub mod Source
+pub mod SourceView
 pub mod Starting

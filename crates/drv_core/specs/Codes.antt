@@ -5,10 +5,10 @@ use Rattle.std.specs.Prelude.{◌≡◌, List, ℕ}
 
 -- The status over the events (POSIX c99, "Exit Status"; GCC manual, "Overall Options", -pass-exit-codes).
 
--- the greatest code of the answers, 0 where none has another
+-- the greatest code of the answers; 0 if none has another
 abbrev pub greatest_code : List RunEvent → ℕ
 greatest_code events = greatest (λ e. answer_code e.answer) events
 
--- The status is 0 where that is 0, else 1, or that code where codes are passed on.
+-- The status is 0 if that code is 0. Otherwise it is 1, or the code itself if codes are passed on.
 abbrev pub StatusIsOf : Answers → List RunEvent → Type 0
 StatusIsOf o events = (failure : FailureStatus) → status_of failure o ≡ status_from failure (greatest_code events)

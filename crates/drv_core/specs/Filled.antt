@@ -2,7 +2,7 @@ use Rattle.drv_words.specs.Places.{group_at, no_job}
 use Rattle.drv_words.specs.declared.plan.Job.{Job}
 use Rattle.std.specs.Prelude.{◌<◌, List, get_or, length, ℕ}
 
--- No group is empty. Each group keeps it of itself; `linking_law` asks it of the link, since its plan is a value without that.
+-- No group is empty. The type `Group` ensures that, but `linking_law` speaks of a plan as a value, so it requires this of the link.
 
 abbrev pub Filled : Job → Type 0
 Filled job = (g : ℕ) → g < length job.groups → 0 < length (group_at job g)

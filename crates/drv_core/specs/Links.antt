@@ -11,7 +11,7 @@ use Rattle.drv_words.specs.declared.steps.Step.TheVariants as step
 use Rattle.std.specs.List.{flat_map}
 use Rattle.std.specs.Prelude.{◌≡◌, ◌<◌, Bool, List, [], ◌∷◌, None, Some, false, get_or, if◌then◌else◌, length, nat_eq, not, ℕ}
 
--- When a source has failed, and when the linker is run (POSIX c99, "Consequences of Errors").
+-- When a source has failed, and when the linker runs (POSIX c99, "Consequences of Errors").
 
 -- the claims and starts of a job
 abbrev pub at_job : ℕ → Place → Step → List Step
@@ -28,9 +28,10 @@ call_of k s = []
 abbrev pub calls_of : ℕ → List RunEvent → List Step
 calls_of k events = flat_map (λ e. call_of k e.step) events
 
--- The link claims or starts something where every source succeeded, if there is one and it has a command; and else nothing.
+-- The link claims or starts something if every source succeeded and the link has a command; otherwise nothing.
 pub record LinksWhere (plan : Plan) (o : Answers) (events : List RunEvent) : Type 0 where
-  pub where_all : (job : Job) → plan.link ≡ Some job → none job.groups ≡ false → Filled job → none (calls_of (length plan.jobs) events) ≡ not (all_succeeded o.jobs)
+  pub where_all : (job : Job) → plan.link ≡ Some job → none job.groups ≡ false → Filled job → none (calls_of (length plan.jobs) events)
+      ≡ not (all_succeeded o.jobs)
   pub without : plan.link ≡ None → calls_of (length plan.jobs) events ≡ []
 
 -- whether a step is a claim, a start or a wait of a job
@@ -47,6 +48,7 @@ work_code k e = if is_work_of k e.step then answer_code e.answer ∷ [] else []
 abbrev pub codes_in : ℕ → List RunEvent → List ℕ
 codes_in k events = flat_map (work_code k) events
 
--- A source failed exactly where one of these codes is not 0.
+-- A source failed exactly if one of these codes is not 0.
 abbrev pub FailsWhere : Plan → Answers → List RunEvent → Type 0
-FailsWhere plan o events = (k : ℕ) → k < length plan.jobs → job_failed (get_or o.jobs k no_answers) ≡ not (nat_eq (greatest (λ c. c) (codes_in k events)) 0)
+FailsWhere plan o events = (k : ℕ) → k < length plan.jobs → job_failed (get_or o.jobs k no_answers)
+    ≡ not (nat_eq (greatest (λ c. c) (codes_in k events)) 0)

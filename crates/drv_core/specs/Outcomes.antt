@@ -18,19 +18,18 @@ use Rattle.drv_words.specs.declared.steps.Place.{Place}
 use Rattle.drv_words.specs.declared.steps.Place.TheVariants as place
 use Rattle.std.specs.Cmp.Lexicographic.{pointwise}
 use Rattle.std.specs.List.{list_any}
-use Rattle.std.specs.Prelude.{◌&&◌, ◌||◌, ◌+◌, Bool, List, [], ◌∷◌, ◌++◌, None, Option, Some, false, if◌then◌else◌, length, max, nat_eq, not, true, ℕ}
+use Rattle.std.specs.Prelude.{◌&&◌, ◌||◌, ◌+◌, Bool, List, [], ◌∷◌, ◌++◌, None, Option, Some, false, if◌then◌else◌, length, max, nat_eq}
+use Rattle.std.specs.Prelude.{not, true, ℕ}
 
--- What the calls of a run answered, place by place; when they are whole; and what follows of them: which jobs failed, which
--- files are removed, and the status (POSIX c99, "Exit Status"; GCC manual, "Overall Options", -pass-exit-codes; the rest is
--- this project's profile).
+-- The answers to the calls of a run, place by place, and when they are complete. From them follow which jobs failed, which files are
+-- removed, and the status (POSIX c99, "Exit Status"; GCC manual, "Overall Options", -pass-exit-codes; the rest is this project's profile).
 
--- an answer, and whether its report was told, which counts only where there is a report
+-- an answer, and whether its report was written, which counts only if there is a report
 pub record Told (A : Type 0) : Type 0 where
   pub answer : A
   pub told : Bool
 
--- the starts of a group's commands, and a wait for each that was started; refused: whether the report of a refused start was
--- told
+-- The starts of a group's commands, and a wait for each started command. refused: whether the report of a refused start was written.
 pub record GroupAnswers : Type 0 where
   pub starts : List StartAnswer
   pub refused : Bool
@@ -41,13 +40,13 @@ pub record JobAnswers : Type 0 where
   pub groups : List GroupAnswers
   pub removals : List (Told RemoveAnswer)
 
--- of the sources, of the link, and of the removals at the end
+-- the answers of the sources, of the link, and of the removals at the end
 pub record Answers : Type 0 where
   pub jobs : List JobAnswers
   pub link : JobAnswers
   pub last : List (Told RemoveAnswer)
 
--- those of a job that made no call
+-- the answers of a job without calls
 abbrev pub no_answers : JobAnswers
 no_answers = record { claims = []; groups = []; removals = [] }
 
@@ -66,13 +65,13 @@ abbrev pub is_started : StartAnswer → Bool
 is_started (Started id) = true
 is_started (NotStarted why) = false
 
--- the code of a command that ended
+-- the code of a command that has ended
 abbrev pub code_of : WaitAnswer → ℕ
 code_of (Exit n) = n
 code_of Signal = 1
 code_of Lost = 1
 
--- the code of an answer: 1 for a claim or a start that failed, and a child's own
+-- the code of an answer: 1 for a failed claim or start, and a child's own code
 abbrev pub answer_code : Answer → ℕ
 answer_code (answer.Claim x) = if is_claimed x then 0 else 1
 answer_code (answer.Start x) = if is_started x then 0 else 1
@@ -102,7 +101,7 @@ made_call a = not (none a.claims && none a.groups)
 abbrev pub all_succeeded : List JobAnswers → Bool
 all_succeeded answers = not (list_any job_failed answers)
 
--- Which answers there are.
+-- Complete lists of answers.
 
 -- up to the first that isn't Claimed
 abbrev pub whole_claims : List Temp → List (Told ClaimAnswer) → Bool
@@ -111,21 +110,21 @@ whole_claims [] (a ∷ xs) = false
 whole_claims (t ∷ ts) [] = false
 whole_claims (t ∷ ts) (a ∷ xs) = if is_claimed a.answer then whole_claims ts xs else none xs
 
--- a start for each command up to the first that is refused, and a wait for each that was started
+-- a start for each command up to the first refused one, and a wait for each started command
 abbrev pub whole_group : List Command → List StartAnswer → List (Told WaitAnswer) → Bool
 whole_group [] [] [] = true
 whole_group (c ∷ cs) (Started id ∷ starts) (w ∷ waits) = whole_group cs starts waits
 whole_group (c ∷ cs) (NotStarted why ∷ []) [] = true
 whole_group cs starts waits = false
 
--- up to the first group that has a fault
+-- up to the first group with a fault
 abbrev pub whole_groups : List (List Command) → List GroupAnswers → Bool
 whole_groups [] [] = true
 whole_groups [] (a ∷ xs) = false
 whole_groups (g ∷ gs) [] = false
 whole_groups (g ∷ gs) (a ∷ xs) = whole_group g a.starts a.waits && (if group_failed a then none xs else whole_groups gs xs)
 
--- the files that a failed job with a started command removes by itself
+-- the files that a failed job removes itself, if it started a command
 abbrev pub removed_by_job : Job → JobAnswers → List (List ℕ)
 removed_by_job job a = if job_failed a && any_started a then job.on_failure else []
 
@@ -142,7 +141,7 @@ whole_jobs [] (a ∷ xs) = false
 whole_jobs (j ∷ js) [] = false
 whole_jobs (j ∷ js) (a ∷ xs) = whole_job j a && whole_jobs js xs
 
--- the link runs where there is one and every source succeeded
+-- the link runs if there is one and every source succeeded
 abbrev pub link_run : Option Job → List JobAnswers → Job
 link_run None answers = no_job
 link_run (Some job) answers = if all_succeeded answers then job else no_job
@@ -154,14 +153,15 @@ pub record File : Type 0 where
   pub path : List ℕ
 
 abbrev pub claimed_temps : ℕ → ℕ → List Temp → List (Told ClaimAnswer) → List File
-claimed_temps k i (t ∷ ts) (a ∷ xs) = (if is_claimed a.answer then record { place = place.Temp k i; path = t.path } ∷ [] else []) ++ claimed_temps k (i + 1) ts xs
+claimed_temps k i (t ∷ ts) (a ∷ xs) = (if is_claimed a.answer then record { place = place.Temp k i; path = t.path } ∷ [] else [])
+    ++ claimed_temps k (i + 1) ts xs
 claimed_temps k i ts xs = []
 
 abbrev pub marked_files : ℕ → ℕ → List (List ℕ) → List File
 marked_files k i [] = []
 marked_files k i (m ∷ ms) = record { place = place.Marked k i; path = m } ∷ marked_files k (i + 1) ms
 
--- of a job that made a call: its temporaries that were claimed, then its marked files
+-- of a job that makes calls: its claimed temporaries, then its marked files
 abbrev pub files_of_job : ℕ → Job → JobAnswers → List File
 files_of_job k job a = if made_call a then claimed_temps k 0 job.temps a.claims ++ marked_files k 0 job.marked else []
 
@@ -177,13 +177,12 @@ each_once seen (f ∷ fs) = if list_any (pointwise nat_eq f.path) seen then each
 abbrev pub removed_at_end : Plan → Answers → List File
 removed_at_end plan o = each_once [] (files_of_jobs 0 (plan.jobs ++ link_run plan.link o.jobs ∷ []) (o.jobs ++ o.link ∷ []))
 
--- each answer is there, once, and nothing else
+-- each answer is there once, and nothing else
 abbrev pub whole : Plan → Answers → Bool
 whole plan o = whole_jobs plan.jobs o.jobs && whole_job (link_run plan.link o.jobs) o.link
     && nat_eq (length o.last) (length (removed_at_end plan o))
 
--- The status: 0 where all codes are 0, else 1, or the greatest code where codes are passed on. A claim or a start that failed
--- has code 1.
+-- The status: 0 if all codes are 0, otherwise 1, or the greatest code if codes are passed on. A failed claim or start has code 1.
 
 abbrev pub greatest : {X : Type 0} → (X → ℕ) → List X → ℕ
 greatest f [] = 0
@@ -202,8 +201,8 @@ status_from One code = if nat_eq code 0 then 0 else 1
 abbrev pub status_of : FailureStatus → Answers → ℕ
 status_of pass_codes o = status_from pass_codes (greatest job_code (o.jobs ++ o.link ∷ []))
 
--- The commands that were started: of each group up to and with the first that has a fault, those before its first refused
--- start; none unless all temporaries were claimed.
+-- The started commands: those of each group up to the first group with a fault, and in that group those before its first refused start. If
+-- a temporary was not claimed, none is started.
 
 abbrev pub started_in_group : List Command → List StartAnswer → List Command
 started_in_group (c ∷ cs) (Started id ∷ xs) = c ∷ started_in_group cs xs

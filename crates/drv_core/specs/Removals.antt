@@ -12,7 +12,7 @@ use Rattle.std.specs.Prelude.{◌≡◌, ◌<◌, ◌+◌, ⊤, Bool, List, [], 
 
 -- Which files a run removes (POSIX c99, "Consequences of Errors"; this project's profile).
 
--- a removal that job k makes by itself
+-- a removal that job k makes itself
 abbrev pub own_at : ℕ → Place → List Place
 own_at k (place.OnFailure j i) = if nat_eq j k then place.OnFailure j i ∷ [] else []
 own_at k p = []
@@ -42,11 +42,11 @@ abbrev pub failure_places : ℕ → ℕ → List (List ℕ) → List Place
 failure_places k i [] = []
 failure_places k i (f ∷ fs) = place.OnFailure k i ∷ failure_places k (i + 1) fs
 
--- the failure files of a job, all of them, where it failed and had started a command
+-- all failure files of a job, if it failed after it had started a command
 abbrev pub RemovesOwn : List RunEvent → ℕ → Job → JobAnswers → Type 0
 RemovesOwn events k job a = own_removals_in k events ≡ failure_places k 0 (removed_by_job job a)
 
--- whether events are removals, and reports of removals that failed
+-- whether the events are removals and reports of failed removals
 abbrev pub is_removing : Step → Bool
 is_removing (step.Remove p) = true
 is_removing (step.Report n) = true
@@ -56,7 +56,7 @@ abbrev pub AllRemove : List RunEvent → Type 0
 AllRemove [] = ⊤
 AllRemove (e ∷ events) = (is_removing e.step ≡ true) × AllRemove events
 
--- Each source and the link remove their failure files by the rule. After all else, the claimed temporaries and the marked files are
+-- Each source, and the link, remove their failure files by the rule. At the very end the claimed temporaries and the marked files are
 -- removed, each path once, in the order of the plan, and nothing else is done.
 pub record RemovesByRule (plan : Plan) (o : Answers) (events : List RunEvent) : Type 0 where
   pub sources : (k : ℕ) → k < length plan.jobs → RemovesOwn events k (get_or plan.jobs k no_job) (get_or o.jobs k no_answers)

@@ -10,9 +10,9 @@ use Rattle.drv_words.specs.declared.steps.Step.{Step}
 use Rattle.drv_words.specs.declared.steps.Step.TheVariants as step
 use Rattle.std.specs.Prelude.{◌≡◌, Bool, List, [], ◌∷◌, None, Option, Some, false, if◌then◌else◌, true}
 
--- That the user is told of each failure at once (this project's profile).
+-- Each failure is reported to the user at once (this project's profile).
 
--- the report that an answer asks for
+-- the report that an answer requires
 abbrev pub note_for : Step → Answer → Option Note
 note_for (step.Claim p) (answer.Claim x) = if is_claimed x then None else Some (note.NotClaimed p)
 note_for (step.Start p from_pipe to_pipe) (answer.Start x) = if is_started x then None else Some (note.NotStarted p)
@@ -25,8 +25,10 @@ abbrev pub is_report : Step → Bool
 is_report (step.Report n) = true
 is_report s = false
 
--- Each answer that asks for a report is followed directly by it, and there is no other report.
+-- Each answer that requires a report is followed directly by it, and there is no other report.
 pub data Reported : List RunEvent → Type 0 where
   over : Reported []
-  silent : (e : RunEvent) (events : List RunEvent) → note_for e.step e.answer ≡ None → is_report e.step ≡ false → Reported events → Reported (e ∷ events)
-  told : (e : RunEvent) (n : Note) (told : Bool) (events : List RunEvent) → note_for e.step e.answer ≡ Some n → Reported events → Reported (e ∷ report n told ∷ events)
+  silent : (e : RunEvent) (events : List RunEvent) → note_for e.step e.answer ≡ None → is_report e.step ≡ false → Reported events
+      → Reported (e ∷ events)
+  told : (e : RunEvent) (n : Note) (told : Bool) (events : List RunEvent) → note_for e.step e.answer ≡ Some n → Reported events
+      → Reported (e ∷ report n told ∷ events)

@@ -8,7 +8,8 @@ use Rattle.std.specs.Prelude.{⊤, List, None, Option, Some, ℕ}
 
 -- A run of a plan, as its callers see it.
 
--- failure: the status where a code isn't 0; window: how many sources may be under way at once; events: those so far; action: what is made next, or the status
+-- failure: the status if a code is not 0; window: how many sources may be under way at once; events: the events so far; action: the next
+-- step, or the status
 pub record Run : Type 0 where
   pub plan : Plan
   pub pass_codes : FailureStatus
@@ -16,7 +17,7 @@ pub record Run : Type 0 where
   pub events : List RunEvent
   pub action : Action
 
--- what holds of the step that is made next, and of the status
+-- what holds of the next step, and of the status
 abbrev pub IfMake : Action → (Step → Type 0) → Type 0
 IfMake (action.Make s) P = P s
 IfMake (action.Done n) P = ⊤
@@ -25,7 +26,7 @@ abbrev pub IfDone : Action → (ℕ → Type 0) → Type 0
 IfDone (action.Make s) P = ⊤
 IfDone (action.Done n) P = P n
 
--- what is asked next, or else the status
+-- the next step, or else the status
 abbrev pub action_of : Option Step → ℕ → Action
 action_of None status = action.Done status
 action_of (Some s) status = action.Make s

@@ -22,34 +22,35 @@ use Rattle.std.specs.Prelude.{◌≡◌, ◌+◌, ⊤, List, [], ◌∷◌, ◌+
 abbrev pub commands_of : Job → List Command
 commands_of job = flat_map (λ group. group) job.groups
 
--- the command that the plan has at a place, if that is one of job k
+-- the command at a place of the plan, if it belongs to job k
 abbrev pub command_at : Plan → ℕ → Place → List Command
 command_at plan k (place.Command j g i) = if nat_eq j k then option_to_list (slice_get (group_at (job_at plan j) g) i) else []
 command_at plan k p = []
 
--- the command of job k that was started with this step and answer, if one was
+-- the command of job k that this step and answer started, if any
 abbrev pub started_by : Plan → ℕ → Step → Answer → List Command
 started_by plan k (step.Start p from_pipe to_pipe) (answer.Start (start.Started id)) = command_at plan k p
 started_by plan k s a = []
 
--- the commands of job k that were started, in the order of the events
+-- the started commands of job k, in the order of the events
 abbrev pub started_in : Plan → ℕ → List RunEvent → List Command
 started_in plan k events = flat_map (λ e. started_by plan k e.step e.answer) events
 
--- The commands of job k that were started are those of the rule for its answers: the planned list up to its first failure. So they are
--- the first ones of that list, and all of it where the job did not fail.
+-- The started commands of job k are the planned list up to its first failure, as its answers say. So they are the first commands of that
+-- list, and all of them if the job did not fail.
 pub record StartsFirst (plan : Plan) (events : List RunEvent) (k : ℕ) (job : Job) (a : JobAnswers) : Type 0 where
   pub by_rule : started_in plan k events ≡ started job a
   pub rest : List Command
   pub first : commands_of job ≡ started_in plan k events ++ rest
   pub every : job_failed a ≡ false → started_in plan k events ≡ commands_of job
 
--- So it is of each job, from number k on.
+-- the same for each job, from number k on
 abbrev pub EachStartsFirst : Plan → List RunEvent → ℕ → List Job → List JobAnswers → Type 0
 EachStartsFirst plan events k [] xs = ⊤
 EachStartsFirst plan events k (job ∷ jobs) [] = ⊤
 EachStartsFirst plan events k (job ∷ jobs) (a ∷ xs) = StartsFirst plan events k job a × EachStartsFirst plan events (k + 1) jobs xs
 
--- Job by job every run starts the commands that the run of window 1 with the same answers starts, in the same order.
+-- Each job starts the same commands in the same order as in the run of window 1 with the same answers.
 abbrev pub StartsTheSame : Type 0
-StartsTheSame = (plan : Plan) (N : ℕ) (o : Answers) (E : List RunEvent) (w : Windowed plan N o E) (k : ℕ) → started_in plan k (serial plan o w.blocks) ≡ started_in plan k E
+StartsTheSame = (plan : Plan) (N : ℕ) (o : Answers) (E : List RunEvent) (w : Windowed plan N o E) (k : ℕ)
+    → started_in plan k (serial plan o w.blocks) ≡ started_in plan k E

@@ -20,8 +20,8 @@ use Rattle.drv_words.specs.declared.steps.Step.{Step}
 use Rattle.drv_words.specs.declared.steps.Step.TheVariants as step
 use Rattle.std.specs.Prelude.{◌+◌, Bool, List, [], ◌∷◌, ◌++◌, false, if◌then◌else◌, length, nat_lt, true, ℕ}
 
--- The story of a job: the blocks of events that its answers make (this project's profile). A report follows directly the
--- answer that it tells.
+-- The story of a job: the blocks of events that its answers make (this project's profile). A report directly follows the answer that it
+-- reports.
 
 abbrev pub Block : Type 0
 Block = List RunEvent
@@ -41,15 +41,16 @@ abbrev pub claim_blocks : ℕ → ℕ → List (Told ClaimAnswer) → List Block
 claim_blocks k i [] = []
 claim_blocks k i (a ∷ xs) = claim_block k i a ∷ claim_blocks k (i + 1) xs
 
--- the starts of a group of n, from member i on: from a pipe unless first, to a pipe unless last; a refused start ends them,
--- with its report and, if an earlier member was started, the closing of the pipe
+-- The starts of a group of n, from member i on. All but the first read a pipe, all but the last write one. A refused start ends them,
+-- followed by its report and, if an earlier member was started, by the closing of the pipe.
 abbrev pub start_event : ℕ → ℕ → ℕ → ℕ → StartAnswer → RunEvent
 start_event k g n i a = event (step.Start (place.Command k g i) (nat_lt 0 i) (nat_lt (i + 1) n)) (answer.Start a)
 
 abbrev pub starts_block : ℕ → ℕ → ℕ → ℕ → Bool → List StartAnswer → Block
 starts_block k g n i refused [] = []
 starts_block k g n i refused (Started id ∷ xs) = start_event k g n i (Started id) ∷ starts_block k g n (i + 1) refused xs
-starts_block k g n i refused (NotStarted why ∷ xs) = start_event k g n i (NotStarted why) ∷ report (note.NotStarted (place.Command k g i)) refused
+starts_block k g n i refused (NotStarted why ∷ xs) = start_event k g n i (NotStarted why) ∷ report
+    (note.NotStarted (place.Command k g i)) refused
     ∷ (if nat_lt 0 i then event step.ClosePipe answer.Closed ∷ [] else [])
 
 -- one wait, with its report
@@ -59,7 +60,8 @@ wait_report p Signal told = report (note.Signalled p) told ∷ []
 wait_report p Lost told = report (note.Lost p) told ∷ []
 
 abbrev pub wait_block : ℕ → ℕ → ℕ → ℕ → Told WaitAnswer → Block
-wait_block k g i id w = event (step.Wait (place.Command k g i) id) (answer.Wait w.answer) ∷ wait_report (place.Command k g i) w.answer w.told
+wait_block k g i id w = event (step.Wait (place.Command k g i) id) (answer.Wait w.answer) ∷ wait_report (place.Command k g i)
+    w.answer w.told
 
 abbrev pub wait_blocks : ℕ → ℕ → ℕ → List StartAnswer → List (Told WaitAnswer) → List Block
 wait_blocks k g i (Started id ∷ xs) (w ∷ ws) = wait_block k g i id w ∷ wait_blocks k g (i + 1) xs ws
@@ -67,7 +69,8 @@ wait_blocks k g i xs ws = []
 
 -- each group's starts, then its waits
 abbrev pub group_blocks : ℕ → ℕ → List (List Command) → List GroupAnswers → List Block
-group_blocks k g (c ∷ cs) (a ∷ xs) = (starts_block k g (length c) 0 a.refused a.starts ∷ wait_blocks k g 0 a.starts a.waits) ++ group_blocks k (g + 1) cs xs
+group_blocks k g (c ∷ cs) (a ∷ xs) = (starts_block k g (length c) 0 a.refused a.starts ∷ wait_blocks k g 0 a.starts a.waits)
+    ++ group_blocks k (g + 1) cs xs
 group_blocks k g cs xs = []
 
 -- one removal, with its report
@@ -85,7 +88,7 @@ abbrev pub own_removals : ℕ → ℕ → List (Told RemoveAnswer) → List Bloc
 own_removals k i [] = []
 own_removals k i (a ∷ xs) = removal_block (place.OnFailure k i) a ∷ own_removals k (i + 1) xs
 
--- the claims, the groups, the job's own removals
+-- the claims, the groups, and the job's own removals
 abbrev pub story : ℕ → Job → JobAnswers → List Block
 story k job a = claim_blocks k 0 a.claims ++ (group_blocks k 0 job.groups a.groups ++ own_removals k 0 a.removals)
 
@@ -94,6 +97,6 @@ abbrev pub end_removals : List File → List (Told RemoveAnswer) → List Block
 end_removals (f ∷ fs) (a ∷ xs) = removal_block f.place a ∷ end_removals fs xs
 end_removals fs xs = []
 
--- what comes after the sources: the link's story, then the removals at the end
+-- the events after the sources: the link's story, then the removals at the end
 abbrev pub after_sources : Plan → Answers → List Block
 after_sources plan o = story (length plan.jobs) (link_run plan.link o.jobs) o.link ++ end_removals (removed_at_end plan o) o.last

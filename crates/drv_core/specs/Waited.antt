@@ -9,15 +9,15 @@ use Rattle.drv_words.specs.declared.steps.Step.TheVariants as step
 use Rattle.std.specs.List.{flat_map}
 use Rattle.std.specs.Prelude.{◌≡◌, ◌⊎◌, ◌+◌, ◌<◌, ◌≤◌, ⊤, List, [], ◌∷◌, ◌++◌, if◌then◌else◌, nat_eq, ℕ}
 
--- That each child that was started is waited for, once (POSIX, `waitpid`; this project's profile).
+-- Each started child is waited for, once (POSIX, `waitpid`; this project's profile).
 
--- a child of a job: its place among the groups, and its number
+-- a child of a job: its place in the groups, and its number
 pub record Child : Type 0 where
   pub group : ℕ
   pub member : ℕ
   pub id : ℕ
 
--- what an event does to the children of a job
+-- the effect of an event on the children of a job
 pub data Act : Type 0 where
   Begins : (child : Child) → Act
   Awaits : (child : Child) → Act
@@ -34,19 +34,21 @@ acts_of k s a = []
 abbrev pub acts_in : ℕ → List RunEvent → List Act
 acts_in k events = flat_map (λ e. acts_of k e.step e.answer) events
 
--- After these open children: each wait is for the one of them that was started first, and in the end none is open.
+-- From these open children on, each wait is for the child that was started first, and at the end none is open.
 pub data Waited : List Child → List Act → Type 0 where
   over : Waited [] []
-  begins : (child : Child) (waiting : List Child) (acts : List Act) → Waited (waiting ++ child ∷ []) acts → Waited waiting (Begins child ∷ acts)
+  begins : (child : Child) (waiting : List Child) (acts : List Act) → Waited (waiting ++ child ∷ []) acts
+      → Waited waiting (Begins child ∷ acts)
   awaits : (child : Child) (waiting : List Child) (acts : List Act) → Waited waiting acts → Waited (child ∷ waiting) (Awaits child ∷ acts)
 
--- At each place one child is started at most: the places go up, from this one on.
+-- Each place starts at most one child: the places ascend, from this one on.
 abbrev pub Ascends : ℕ → ℕ → List Act → Type 0
 Ascends g i [] = ⊤
-Ascends g i (Begins child ∷ acts) = ((g < child.group) ⊎ ((g ≡ child.group) × (i ≤ child.member))) × Ascends child.group (child.member + 1) acts
+Ascends g i (Begins child ∷ acts) = ((g < child.group) ⊎ ((g ≡ child.group) × (i ≤ child.member))) × Ascends child.group
+    (child.member + 1) acts
 Ascends g i (Awaits child ∷ acts) = Ascends g i acts
 
--- so it is of job k
+-- both, for job k
 pub record WaitsForEach (k : ℕ) (events : List RunEvent) : Type 0 where
   pub each : Waited [] (acts_in k events)
   pub once : Ascends 0 0 (acts_in k events)

@@ -9,16 +9,17 @@ use Rattle.drv_words.specs.declared.steps.RunEvent.{RunEvent}
 use Rattle.drv_words.specs.declared.steps.Step.{Step}
 use Rattle.drv_words.specs.declared.steps.Step.TheVariants as step
 use Rattle.std.specs.List.{flat_map}
-use Rattle.std.specs.Prelude.{◌≡◌, ◌&&◌, ◌||◌, ◌+◌, ◌≤◌, ⊤, Bool, List, [], ◌∷◌, ◌++◌, false, if◌then◌else◌, length, min, nat_eq, nat_lt, not, suc, true, zero, ℕ}
+use Rattle.std.specs.Prelude.{◌≡◌, ◌&&◌, ◌||◌, ◌+◌, ◌≤◌, ⊤, Bool, List, [], ◌∷◌, ◌++◌, false, if◌then◌else◌, length, min, nat_eq, nat_lt}
+use Rattle.std.specs.Prelude.{not, suc, true, zero, ℕ}
 
--- A whole run of a plan with at most N sources begun and not ended (this project's profile).
+-- A whole run of a plan with at most N sources under way at once (this project's profile).
 
 -- a block of a source
 pub record SourceBlock : Type 0 where
   pub source : ℕ
   pub block : Block
 
--- the blocks of source k, in their order
+-- the blocks of source k, in order
 abbrev pub of : ℕ → List SourceBlock → List Block
 of k [] = []
 of k (b ∷ bs) = if nat_eq b.source k then b.block ∷ of k bs else of k bs
@@ -33,7 +34,7 @@ abbrev pub blocks_of : List SourceBlock → List Block
 blocks_of [] = []
 blocks_of (b ∷ bs) = b.block ∷ blocks_of bs
 
--- children that were started, and waits
+-- started children, and waits
 abbrev pub child_started : Answer → ℕ
 child_started (answer.Start (Started id)) = 1
 child_started a = 0
@@ -52,39 +53,41 @@ abbrev pub total : (RunEvent → ℕ) → List RunEvent → ℕ
 total f [] = 0
 total f (e ∷ es) = f e + total f es
 
--- a child was started and not yet waited for
+-- a child was started and has not been waited for
 abbrev pub in_flight : List Block → Bool
 in_flight bs = nat_lt (total waits_child (events_of bs)) (total starts_child (events_of bs))
 
 abbrev pub is_wait : Block → Bool
 is_wait b = nat_lt 0 (total waits_child b)
 
--- how many of the sources below n
+-- how many sources below n pass the test
 abbrev pub count : ℕ → (ℕ → Bool) → ℕ
 count zero p = 0
 count (suc n) p = (if p n then 1 else 0) + count n p
 
--- That a block of source k may come next, of n sources and in a window of N; wait: whether it is a wait. The three functions
--- say which sources have begun, have blocks to come (this one among them), and have a child in flight.
+-- A block of source k may come next, of n sources in a window of N; wait: whether the block is a wait. The three functions say which
+-- sources have begun, which have blocks to come (this one among them), and which have a child in flight.
 pub record MayCome (n N : ℕ) (begun left flying : ℕ → Bool) (k : ℕ) (wait : Bool) : Type 0 where
   pub is_source : nat_lt k n ≡ true
-  -- no source before it that hasn't begun has blocks to come
+  -- no earlier source that hasn't begun has blocks to come
   pub in_order : count k (λ j. not (begun j) && left j) ≡ 0
-  -- while it comes, those that have begun and not ended are N at most
+  -- with it at most N sources have begun and not ended
   pub in_window : count n (λ j. (begun j || nat_eq j k) && left j) ≤ N
-  -- before a wait as many sources as can have a child in flight
+  -- before a wait, as many sources as possible have a child in flight
   pub all_in_flight : wait ≡ true → count n flying ≡ min N (count n left)
 
--- whether a source has blocks to come, of which the first may come next; waits: whether that is a wait
+-- whether a source has blocks to come and the first may come next; waits: whether that block is a wait
 abbrev pub may_go_on : ℕ → ℕ → (ℕ → Bool) → (ℕ → Bool) → (ℕ → Bool) → (ℕ → Bool) → ℕ → Bool
 may_go_on n N begun left flying waits k =
-    left k && (nat_eq (count k (λ j. not (begun j) && left j)) 0 && (nat_lt (count n (λ j. (begun j || nat_eq j k) && left j)) (N + 1) && (not (waits k) || nat_eq (count n flying) (min N (count n left)))))
+    left k && (nat_eq (count k (λ j. not (begun j) && left j)) 0 && (nat_lt (count n (λ j. (begun j || nat_eq j k) && left j)) (N + 1)
+    && (not (waits k) || nat_eq (count n flying) (min N (count n left)))))
 
--- that all blocks come so, after `before`; `left` says of which sources there are more to come after them
+-- each block may come in its turn, after `before`; `left`: the sources that have more blocks to come after them
 abbrev pub AllMayCome : ℕ → ℕ → (ℕ → Bool) → List SourceBlock → List SourceBlock → Type 0
 AllMayCome n N left before [] = ⊤
 AllMayCome n N left before (b ∷ after) =
-    MayCome n N (λ j. has j before) (λ j. has j (b ∷ after) || left j) (λ j. in_flight (of j before)) b.source (is_wait b.block) × AllMayCome n N left (before ++ b ∷ []) after
+    MayCome n N (λ j. has j before) (λ j. has j (b ∷ after) || left j) (λ j. in_flight (of j before)) b.source (is_wait b.block)
+    × AllMayCome n N left (before ++ b ∷ []) after
 
 abbrev pub nowhere : ℕ → Bool
 nowhere j = false
@@ -95,8 +98,8 @@ TellStories blocks k [] xs = ⊤
 TellStories blocks k (job ∷ jobs) [] = ⊤
 TellStories blocks k (job ∷ jobs) (a ∷ xs) = (of k blocks ≡ story k job a) × TellStories blocks (k + 1) jobs xs
 
--- E is a whole run, and these are its answers: whole blocks of the sources' stories, each of which may come where it comes,
--- then the link's story and the removals at the end
+-- E is a whole run with these answers: whole blocks of the sources' stories in a permitted order, then the link's story and the removals at
+-- the end
 pub record Windowed (plan : Plan) (N : ℕ) (o : Answers) (E : List RunEvent) : Type 0 where
   pub blocks : List SourceBlock
   pub events : E ≡ events_of (blocks_of blocks) ++ events_of (after_sources plan o)
@@ -127,6 +130,6 @@ by_source (suc n) bs = by_source n bs ++ only n bs
 abbrev pub serial : (plan : Plan) (o : Answers) → List SourceBlock → List RunEvent
 serial plan o blocks = events_of (blocks_of (by_source (length plan.jobs) blocks)) ++ events_of (after_sources plan o)
 
--- source by source every run is a run of window 1 with the same answers
+-- every run, rearranged source by source, is a run of window 1 with the same answers
 abbrev pub Rearranges : Type 0
 Rearranges = (plan : Plan) (N : ℕ) (o : Answers) (E : List RunEvent) (w : Windowed plan N o E) → Windowed plan 1 o (serial plan o w.blocks)

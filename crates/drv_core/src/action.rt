@@ -1,12 +1,12 @@
-//! What a run asks for.
+//! The next action of a run.
 
 use drv_words::Step;
 
-/// What is made next in a run, or the status of a whole one.
+/// The next step of a run, or the status of a whole one.
 #[derive(Clone, Copy, Debug, PartialEq, Eq)]
 pub enum Action {
-    /// This step is made, and answered.
+    /// Make this step and answer it.
     Make(Step),
-    /// The run is whole, and this is its status.
+    /// The run is whole and has this status.
     Done(u8),
 }

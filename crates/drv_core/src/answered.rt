@@ -1,19 +1,19 @@
-//! What an answer says where one of that kind is asked for; any other counts as a failure.
+//! The answer to a step of one kind. An answer of another kind counts as a failure.
 
-ghost use Rattle.drv_core.specs.Code.Machine.{claim_of, remove_of, start_of, told_of, wait_of};
-ghost use Rattle.drv_core.specs.Code.Source.{is_told};
+ghost use Rattle.drv_core.specs.Code.Source.{claim_of, remove_of, start_of, told_of, wait_of};
+ghost use Rattle.drv_core.specs.Code.SourceView.{is_told};
 ghost use Rattle.std.specs.Prelude.{◌≡◌};
 
 use drv_words::{Answer, ClaimAnswer, NotStarted, RemoveAnswer, StartAnswer, WaitAnswer};
 
-/// Whether a report was told.
+/// Whether a report was written.
 #[derive(Clone, Copy)]
 pub(crate) enum ReportAnswer {
     Told,
     Untold,
 }
 
-/// What a claim was answered.
+/// The answer to a claim.
 pub(crate) fn claim_of(answer: Answer) -> ClaimAnswer
     ensures { result ≡ claim_of answer }
 {
@@ -27,7 +27,7 @@ pub(crate) fn claim_of(answer: Answer) -> ClaimAnswer
     }
 }
 
-/// What a start was answered.
+/// The answer to a start.
 pub(crate) fn start_of(answer: Answer) -> StartAnswer
     ensures { result ≡ start_of answer }
 {
@@ -41,7 +41,7 @@ pub(crate) fn start_of(answer: Answer) -> StartAnswer
     }
 }
 
-/// What a wait was answered.
+/// The answer to a wait.
 pub(crate) fn wait_of(answer: Answer) -> WaitAnswer
     ensures { result ≡ wait_of answer }
 {
@@ -55,7 +55,7 @@ pub(crate) fn wait_of(answer: Answer) -> WaitAnswer
     }
 }
 
-/// What a removal was answered.
+/// The answer to a removal.
 pub(crate) fn remove_of(answer: Answer) -> RemoveAnswer
     ensures { result ≡ remove_of answer }
 {
@@ -69,7 +69,7 @@ pub(crate) fn remove_of(answer: Answer) -> RemoveAnswer
     }
 }
 
-/// Whether a report was told.
+/// Whether a report was written.
 pub(crate) fn told_of(answer: Answer) -> ReportAnswer
     ensures { is_told result ≡ told_of answer }
 {

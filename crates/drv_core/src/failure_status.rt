@@ -1,6 +1,6 @@
-//! What a failed run answers.
+//! The status of a failed run.
 
-/// What the exit status of a run is where a code of it isn't 0 (GCC manual, "Overall Options",
+/// The exit status of a run if one of its codes is not 0 (GCC manual, "Overall Options",
 /// `-pass-exit-codes`).
 #[derive(Clone, Copy, Debug)]
 pub enum FailureStatus {

@@ -1,10 +1,10 @@
-//! The run of a plan, as pure steps: what is asked next, and what the answers come to.
+//! The run of a plan as pure steps: the next step, and the effect of each answer.
 #![tactic(auto)]
 
 mod action;
 mod answered;
 mod failure_status;
-mod flight;
+mod fleet;
 mod law;
 mod leftovers;
 mod needed;

@@ -1,14 +1,13 @@
-//! How many events a run can have.
+//! The most events of a run.
 
 ghost use Rattle.drv_core.specs.Needed.{fitting, job_events, needed};
 ghost use Rattle.std.specs.Prelude.{◌≡◌, ◌+◌, ◌*◌};
 
 use drv_words::{Job, Plan};
 
-/// The number of events that a run of this plan has at most: four for a command, two for a
-/// temporary, and two for each path of a temporary, marked file or file to be removed on failure.
-/// None where `usize` has no such number. It takes no memory.
-#[tactic(auto, using(crate::proofs::Needs::too_many, crate::proofs::Needs::one_more, crate::proofs::Needs::all_jobs))]
+/// The most events that a run of this plan can have. A command has up to four, and a temporary two.
+/// Each path of a temporary, of a marked file, or of a file that is removed after a failure has two
+/// more. `None` if the number doesn't fit into `usize`.
 pub fn events_needed(plan: &Plan) -> Option<usize>
     ensures { result ≡ fitting (needed plan.now) }
 {
@@ -22,8 +21,8 @@ pub fn events_needed(plan: &Plan) -> Option<usize>
     }
 }
 
-/// The events so far and those of one more job.
-#[tactic(auto, using(crate::proofs::Needs::too_many, crate::proofs::Needs::one_more))]
+/// The events so far plus those of one more job.
+#[tactic(auto, using(crate::proofs::Bounds::Needs::too_many, crate::proofs::Bounds::Needs::one_more))]
 fn with_job(before: usize, job: &Job) -> Option<usize>
     ensures { result ≡ fitting (before + job_events job.now) }
 {
@@ -36,7 +35,7 @@ fn with_job(before: usize, job: &Job) -> Option<usize>
     Some(total)
 }
 
-/// The events so far and `each` more for each of `count`.
+/// The events so far plus `each` for each of `count`.
 fn with(total: usize, each: usize, count: usize) -> Option<usize>
     ensures { result ≡ fitting (total + each * count) }
 {

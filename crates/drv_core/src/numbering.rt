@@ -1,8 +1,8 @@
-//! The files of jobs, each with the number of the first of its path.
+//! The files of jobs, each with the number of the first file of its path.
 
-ghost use Rattle.drv_core.specs.Code.LeftoverView.{lefts_of};
-ghost use Rattle.drv_core.specs.Code.Leftovers.{all_files, files_from, job_files, temp_files};
-ghost use Rattle.drv_core.specs.Code.Numbering.{lefts, number_in, numbered_too};
+ghost use Rattle.drv_core.specs.Code.LeftoverView.{leftover_list};
+ghost use Rattle.drv_core.specs.Code.LeftoverFiles.{all_files, files_from, job_files, temp_files};
+ghost use Rattle.drv_core.specs.Code.Numbering.{numbered_files, number_in, numbered_too};
 ghost use Rattle.drv_core.specs.Code.NumberingView.{Adds, IsNoted};
 ghost use Rattle.drv_core.specs.Outcomes.{marked_files};
 ghost use Rattle.std.specs.Prelude.{◌≡◌, ◌∷◌, [], IfOk, List, OnOk, unwrap_or, ℕ};
@@ -22,7 +22,7 @@ fn number_of(known: &HashMap<&Word, usize>, path: &Word, new: usize) -> usize
     }
 }
 
-/// A path that has no number yet gets the next.
+/// Gives a path the next number, unless it has one.
 fn note_path<'p>(
     known: &mut HashMap<&'p Word, usize>,
     path: &'p Word,
@@ -57,7 +57,7 @@ impl<'p> Numbering<'p> {
         }
     }
 
-    /// Adds a file, with the number of the first of its path.
+    /// Adds a file with the number of the first file of its path.
     fn add_file(&mut self, place: Place, path: &'p Word) -> Result<(), AllocError>
         ensures { Adds result (record { place = place; path = path.now } ∷ []) self.old self.new }
     {
@@ -121,9 +121,9 @@ impl<'p> Numbering<'p> {
     }
 }
 
-/// The files of all jobs of a plan. Want of memory is the only error.
+/// The files of all jobs of a plan.
 pub(crate) fn files_of(alloc: Global, plan: &Plan) -> Result<Vec<Leftover>, AllocError>
-    ensures { IfOk result (λ files. lefts_of files.items ≡ lefts [] (all_files plan.now)) }
+    ensures { IfOk result (λ files. leftover_list files.items ≡ numbered_files [] (all_files plan.now)) }
 {
     let mut numbering = Numbering::new(alloc);
     numbering.add_all(plan)?;

@@ -1,11 +1,11 @@
-//! The run of a plan: what is made next, for every answer, and what it comes to.
+//! The run of a plan: the next step for every answer, and the result.
 
 ghost use Rattle.drv_core.specs.Choices.{BetweenBlocks, ChoicesAre, IsChoice, IsNextOf, IsOfFirst};
-ghost use Rattle.drv_core.specs.Code.Machine.{is_kind};
+ghost use Rattle.drv_core.specs.Code.Source.{is_kind};
 ghost use Rattle.drv_core.specs.Needed.{needed};
 ghost use Rattle.drv_core.specs.Outcomes.{Answers, status_from, status_of};
-ghost use Rattle.drv_core.specs.Code.Position.{moved, next_of};
-ghost use Rattle.drv_core.specs.Code.PositionView.{position_of};
+ghost use Rattle.drv_core.specs.Code.RunState.{moved, next_of};
+ghost use Rattle.drv_core.specs.Code.RunStateView.{run_state_of};
 ghost use Rattle.drv_core.specs.Code.Reached.{choosing};
 ghost use Rattle.drv_core.specs.Run.{IfDone, IfMake, step_in};
 ghost use Rattle.drv_core.specs.Code.RunView.{Stands, run_of};
@@ -23,12 +23,12 @@ use drv_words::{Answer, Plan, RunEvent};
 use std::alloc::{AllocError, Global};
 use std::marker::Model;
 
-/// The run of a plan, which is lent to it. It makes no call itself: `next` says which step is made
-/// next, and `answer` takes what that step was answered. Room for all its events is got by `new`,
-/// and no later call takes memory.
+/// The run of a plan, which it borrows. It makes no call itself: `next` returns the next step, and
+/// `answer` takes the answer to that step. `new` makes room for all events, and no later call
+/// allocates memory.
 ///
-/// Contracts see the plan, what the status of a failed run is, how many sources may be under way at
-/// once, the events so far, and what `next` gives.
+/// Contracts see the plan, the status of a failed run, how many sources may be under way at once,
+/// the events so far, and the result of `next`.
 #[derive(Drop)]
 pub struct Run<'a> {
     plan: &'a Plan,
@@ -48,7 +48,7 @@ impl<'a> Model for Run<'a> {
     ghost invariant = { λ r. Stands r.plan.now r.work };
 }
 
-/// The status where this is the greatest code.
+/// The status if this is the greatest code.
 fn status_code(pass_codes: FailureStatus, code: u8) -> u8
     ensures { result ≡ status_from pass_codes code }
 {
@@ -59,8 +59,8 @@ fn status_code(pass_codes: FailureStatus, code: u8) -> u8
     }
 }
 
-/// What is made next, or the status where nothing is.
-#[tactic(auto, using(crate::proofs::Runs::is_ready))]
+/// The next step, or the status if there is none.
+#[tactic(auto, using(crate::proofs::Contracts::Runs::is_ready))]
 fn look(plan: &Plan, pass_codes: FailureStatus, work: &RunState) -> Action
     requires { Stands plan.now work.now }
     ensures { result ≡ (run_of plan.now pass_codes work.now).action }
@@ -71,15 +71,15 @@ fn look(plan: &Plan, pass_codes: FailureStatus, work: &RunState) -> Action
     }
 }
 
-/// The work goes on by the answer to what was asked.
+/// Takes the answer to the next step.
 fn advance(plan: &Plan, work: &mut RunState, answer: Answer)
     requires stands { Stands plan.now work.old }
-    requires kind { (s : Step) → next_of plan.now (position_of work.old) ≡ Some s
+    requires kind { (s : Step) → next_of plan.now (run_state_of work.old) ≡ Some s
         → is_kind s answer ≡ true }
     ensures stands { Stands plan.now work.new }
-    ensures moved { (s : Step) → next_of plan.now (position_of work.old) ≡ Some s
-        → position_of work.new ≡ moved plan.now (position_of work.old) s answer }
-    ensures window { work.new.flight.window ≡ work.old.flight.window }
+    ensures moved { (s : Step) → next_of plan.now (run_state_of work.old) ≡ Some s
+        → run_state_of work.new ≡ moved plan.now (run_state_of work.old) s answer }
+    ensures window { work.new.fleet.window ≡ work.old.fleet.window }
 {
     match work.asks(plan) {
         Some(step) => work.take(plan, step, answer),
@@ -87,21 +87,23 @@ fn advance(plan: &Plan, work: &mut RunState, answer: Answer)
     }
 }
 
-/// The work goes on with a source that was chosen.
+/// Goes on with the chosen source.
 fn turn(plan: &Plan, work: &mut RunState, choice: usize)
     requires stands { Stands plan.now work.old }
-    requires choice { IsChoice plan.now work.old.flight.window work.old.events.items choice }
+    requires choice { IsChoice plan.now work.old.fleet.window work.old.events.items choice }
     ensures stands { Stands plan.now work.new }
-    ensures chosen { position_of work.new ≡ choosing plan.now (position_of work.old) choice }
-    ensures window { work.new.flight.window ≡ work.old.flight.window }
+    ensures chosen { run_state_of work.new ≡ choosing plan.now (run_state_of work.old) choice }
+    ensures window { work.new.fleet.window ≡ work.old.fleet.window }
 {
     work.choose(plan, choice);
 }
 
 impl<'a> Run<'a> {
-    /// Nothing of the plan was worked yet. At most `window` sources are under way at once, which is
-    /// 1 to 64; `pass_codes` says what the status of a failed run is. Want of memory is the only
-    /// error, also where `usize` has no number for the events that can come.
+    /// The run before its first step. At most `window` sources (1 to 64) are under way at once;
+    /// `pass_codes` gives the status of a failed run.
+    ///
+    /// # Errors
+    /// There is not enough memory, or the number of events doesn't fit into `usize`.
     pub fn new(
         alloc: Global,
         plan: &'a Plan,
@@ -125,7 +127,7 @@ impl<'a> Run<'a> {
         })
     }
 
-    /// What is made next, or the status where the run is whole.
+    /// The next step, or the status if the run is whole.
     pub fn next(&self) -> Action
         ensures action { result ≡ self.now.action }
         ensures beginning { IsBeginning self.now.plan self.now.window self.now.events }
@@ -145,8 +147,8 @@ impl<'a> Run<'a> {
         look(self.plan, self.pass_codes, &self.work)
     }
 
-    /// What the step of `next` was answered, by an answer of its kind; the number of a child that
-    /// was started is new. After a block of a source comes one of the first source that may go on.
+    /// Takes the answer to the step of `next`. It has the step's kind, and the number of a started
+    /// child is new. After a block of a source, the first source that may go on does so.
     pub fn answer(&mut self, answer: Answer)
         requires more { IfDone self.old.action (λ status. ⊥) }
         requires fits { IfMake self.old.action (λ step. fits self.old.events step answer ≡ true) }
@@ -161,7 +163,7 @@ impl<'a> Run<'a> {
         advance(self.plan, &mut self.work, answer);
     }
 
-    /// For how many events there is room, those so far included: for all that a run can have.
+    /// The room for events, including those so far: enough for all events of a run.
     pub fn room(&self) -> usize
         ensures { needed self.now.plan ≤ result }
     {
@@ -175,7 +177,7 @@ impl<'a> Run<'a> {
         self.work.events.as_slice()
     }
 
-    /// The status of the run, which is whole: 0 where all codes are 0, else that of a failed run.
+    /// The status of the run, which is whole: 0 if all codes are 0, otherwise that of a failed run.
     pub fn status(&self) -> u8
         requires { IfMake self.now.action (λ step. ⊥) }
         ensures done { self.now.action ≡ action.Done result }
@@ -185,16 +187,16 @@ impl<'a> Run<'a> {
         status_code(self.pass_codes, self.work.code)
     }
 
-    /// How many sources may go on, where the events so far are whole blocks of the sources and a
-    /// source has more to do; else 1. Without `choose` it is the first of them that goes on.
+    /// How many sources may go on, if the events so far are whole blocks of the sources and a
+    /// source has more to do; otherwise 1. Without `choose` the first of them goes on.
     pub fn choices(&self) -> usize
         ensures { ChoicesAre self.now.plan self.now.window self.now.events result }
     {
         self.work.choices(self.plan)
     }
 
-    /// The next block is that of the source of this number among those that may go on, which are
-    /// counted from 0 in plan order.
+    /// Takes the next block from the source of this number among those that may go on, counted from
+    /// 0 in plan order.
     pub fn choose(&mut self, choice: usize)
         requires { IsChoice self.old.plan self.old.window self.old.events choice }
         ensures next { (b : BetweenBlocks self.old.plan self.old.window self.old.events)

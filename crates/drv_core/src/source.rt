@@ -1,15 +1,15 @@
-//! One source of a run: what is asked next for it, and where an answer leads.
+//! One source of a run: its next step, and the effect of each answer.
 
-ghost use Rattle.drv_core.specs.Code.Machine.{after, after_claim, after_refusal, after_removal};
-ghost use Rattle.drv_core.specs.Code.Machine.{after_start, after_wait, asks, begin};
-ghost use Rattle.drv_core.specs.Code.Machine.{end_group, enter_claims, enter_group, enter_removals};
-ghost use Rattle.drv_core.specs.Code.Machine.{enter_waits, wait_note};
+ghost use Rattle.drv_core.specs.Code.Source.{after, after_claim, after_refusal, after_removal};
+ghost use Rattle.drv_core.specs.Code.Source.{after_start, after_wait, asks, begin};
+ghost use Rattle.drv_core.specs.Code.Source.{end_group, enter_claims, enter_group, enter_removals};
+ghost use Rattle.drv_core.specs.Code.Source.{enter_waits, wait_note};
 ghost use Rattle.drv_core.specs.Filled.{Filled};
 ghost use Rattle.drv_core.specs.Code.Fleet.{fresh};
-ghost use Rattle.drv_core.specs.Code.FleetView.{worker_of};
+ghost use Rattle.drv_core.specs.Code.FleetView.{source_of};
 ghost use Rattle.drv_core.specs.Outcomes.{greatest, none};
-ghost use Rattle.drv_core.specs.Code.Machine.{Starts, awaits, inside, left};
-ghost use Rattle.drv_core.specs.Code.Source.{HasRoom, has_failed, is_told, stage_at};
+ghost use Rattle.drv_core.specs.Code.Source.{Starts, awaits, inside, left};
+ghost use Rattle.drv_core.specs.Code.SourceView.{HasRoom, has_failed, is_told, stage_at};
 ghost use Rattle.drv_words.specs.declared.steps.Place.TheVariants as place;
 ghost use Rattle.drv_words.specs.declared.steps.Step.TheVariants as step;
 ghost use Rattle.drv_words.specs.Places.{group_at, no_job};
@@ -30,14 +30,14 @@ pub(crate) enum GroupState {
     Failed,
 }
 
-/// Where the work on a source stands.
+/// The stage of a source.
 #[derive(Clone, Copy)]
-pub(crate) enum Point {
+pub(crate) enum Stage {
     /// The temporary of this number is claimed next.
     Claims {
         index: usize,
     },
-    /// It was not claimed, and that is told.
+    /// The claim failed and is reported next.
     ClaimReport {
         index: usize,
         answer: ClaimAnswer,
@@ -46,35 +46,35 @@ pub(crate) enum Point {
     Starts {
         group: usize,
     },
-    /// It was not started, and that is told.
+    /// The start failed and is reported next.
     StartReport {
         group: usize,
         why: NotStarted,
     },
-    /// The pipe that it would have read is closed.
+    /// The pipe that the command would have read is closed next.
     Closing {
         group: usize,
         why: NotStarted,
         told: ReportAnswer,
     },
-    /// A child of the group is waited for.
+    /// A child of the group is waited for next.
     Waits {
         group: usize,
         index: usize,
         state: GroupState,
     },
-    /// It ended otherwise than by itself, and that is told.
+    /// A signal ended the child, or it was lost, which is reported next.
     WaitReport {
         group: usize,
         index: usize,
         state: GroupState,
         answer: WaitAnswer,
     },
-    /// This file is removed after a failure.
+    /// This file is removed next, after a failure.
     Removals {
         index: usize,
     },
-    /// It could not be removed, and that is told.
+    /// The removal failed and is reported next.
     RemovalReport {
         index: usize,
     },
@@ -82,17 +82,17 @@ pub(crate) enum Point {
     Ended,
 }
 
-/// How far the work on a source is, or that on the link.
+/// The progress of a source, or of the link.
 #[derive(Drop)]
 pub(crate) struct SourceState {
-    pub(crate) point: Point,
+    pub(crate) stage: Stage,
     /// Whether an earlier group started a command.
     pub(crate) started_before: bool,
     /// The children of the group, in the order of their starts.
     pub(crate) children: Vec<u64>,
 }
 
-/// Whether a number stands after `index` below `count`.
+/// Whether `index + 1` is less than `count`.
 fn is_followed(index: usize, count: usize) -> bool
     ensures { result ≡ nat_lt (index + 1) count }
 {
@@ -109,7 +109,7 @@ fn group_len(job: &Job, group: usize) -> usize
     }
 }
 
-/// The most commands of a group. None is empty.
+/// The most commands of a group. No group is empty.
 fn widest(job: &Job) -> usize
     ensures most { result ≡ greatest (λ group. length group) job.now.groups }
     ensures filled { Filled job.now }
@@ -121,7 +121,7 @@ fn widest(job: &Job) -> usize
     most
 }
 
-/// What the user is told of a child that a signal ended, or that was lost.
+/// The report on a child that a signal ended, or that was lost.
 fn wait_note(job: usize, group: usize, index: usize, answer: WaitAnswer) -> Note
     ensures { result ≡ wait_note job group index answer }
 {
@@ -134,7 +134,7 @@ fn wait_note(job: usize, group: usize, index: usize, answer: WaitAnswer) -> Note
 }
 
 impl GroupState {
-    /// The same after a command that ended with this code.
+    /// The state of the group after a command has ended with this code.
     fn after_exit(self, code: u8) -> GroupState
         ensures { has_failed result ≡ (has_failed self || not (nat_eq code 0)) }
     {
@@ -143,37 +143,37 @@ impl GroupState {
 }
 
 impl SourceState {
-    /// What is asked next for the source of this number; none once its story has ended.
+    /// The next step of the source of this number; `None` once its story has ended.
     pub(crate) fn asks(&self, number: usize, job: &Job) -> Option<Step>
         ensures { result ≡ asks number job.now (stage_at self.now) }
     {
-        match self.point {
-            Point::Claims { index } => Some(Step::Claim(Place::Temp { job: number, index })),
-            Point::ClaimReport { index, .. } => Some(Step::Report(Note::NotClaimed(Place::Temp {
+        match self.stage {
+            Stage::Claims { index } => Some(Step::Claim(Place::Temp { job: number, index })),
+            Stage::ClaimReport { index, .. } => Some(Step::Report(Note::NotClaimed(Place::Temp {
                 job: number,
                 index,
             }))),
-            Point::Starts { group } => Some(self.start(number, job, group)),
-            Point::StartReport { group, .. } => Some(Step::Report(Note::NotStarted(self.place(
+            Stage::Starts { group } => Some(self.start(number, job, group)),
+            Stage::StartReport { group, .. } => Some(Step::Report(Note::NotStarted(self.place(
                 number, group,
             )))),
-            Point::Closing { .. } => Some(Step::ClosePipe),
-            Point::Waits { group, index, .. } => Some(self.wait(number, group, index)),
-            Point::WaitReport {
+            Stage::Closing { .. } => Some(Step::ClosePipe),
+            Stage::Waits { group, index, .. } => Some(self.wait(number, group, index)),
+            Stage::WaitReport {
                 group,
                 index,
                 answer,
                 ..
             } => Some(Step::Report(wait_note(number, group, index, answer))),
-            Point::Removals { index } => Some(Step::Remove(Place::OnFailure {
+            Stage::Removals { index } => Some(Step::Remove(Place::OnFailure {
                 job: number,
                 index,
             })),
-            Point::RemovalReport { index } => Some(Step::Report(Note::NotRemoved(Place::OnFailure {
+            Stage::RemovalReport { index } => Some(Step::Report(Note::NotRemoved(Place::OnFailure {
                 job: number,
                 index,
             }))),
-            Point::Ended => None,
+            Stage::Ended => None,
         }
     }
 
@@ -201,7 +201,7 @@ impl SourceState {
         }
     }
 
-    /// The wait for the child of this number.
+    /// The wait for the child of this index.
     fn wait(&self, job: usize, group: usize, index: usize) -> Step
         ensures { result
             ≡ step.Wait (place.Command job group index) (get_or self.now.children.items index 0) }
@@ -216,41 +216,41 @@ impl SourceState {
         }
     }
 
-    /// Goes on by the answer to what was asked.
+    /// Takes the answer to the next step.
     pub(crate) fn take(&mut self, job: &Job, answer: Answer)
         requires room { HasRoom (stage_at self.old) (vec_capacity self.old.children) }
         ensures stage { stage_at self.new ≡ after job.now (stage_at self.old) answer }
         ensures capacity { vec_capacity self.new.children ≡ vec_capacity self.old.children }
     {
-        match self.point {
-            Point::Claims { index } => self.take_claim(job, index, claim_of(answer)),
-            Point::ClaimReport { .. } => self.point = Point::Ended,
-            Point::Starts { group } => self.take_start(job, group, start_of(answer)),
-            Point::StartReport { group, why } => self.take_refusal(
+        match self.stage {
+            Stage::Claims { index } => self.take_claim(job, index, claim_of(answer)),
+            Stage::ClaimReport { .. } => self.stage = Stage::Ended,
+            Stage::Starts { group } => self.take_start(job, group, start_of(answer)),
+            Stage::StartReport { group, why } => self.take_refusal(
                 job,
                 group,
                 why,
                 told_of(answer),
             ),
-            Point::Closing { group, .. } => self.enter_waits(job, group, 0, GroupState::Failed),
-            Point::Waits {
+            Stage::Closing { group, .. } => self.enter_waits(job, group, 0, GroupState::Failed),
+            Stage::Waits {
                 group,
                 index,
                 state,
             } => self.take_wait(job, group, index, state, wait_of(answer)),
-            Point::WaitReport { group, index, .. } => self.pass_wait(
+            Stage::WaitReport { group, index, .. } => self.pass_wait(
                 job,
                 group,
                 index,
                 GroupState::Failed,
             ),
-            Point::Removals { index } => self.take_removal(job, index, remove_of(answer)),
-            Point::RemovalReport { index } => self.pass_removal(job, index),
-            Point::Ended => {}
+            Stage::Removals { index } => self.take_removal(job, index, remove_of(answer)),
+            Stage::RemovalReport { index } => self.pass_removal(job, index),
+            Stage::Ended => {}
         }
     }
 
-    /// A claim was answered.
+    /// Takes the answer to a claim.
     fn take_claim(&mut self, job: &Job, index: usize, claimed: ClaimAnswer)
         ensures stage { stage_at self.new ≡ after_claim job.now index claimed }
         ensures capacity { vec_capacity self.new.children ≡ vec_capacity self.old.children }
@@ -258,23 +258,23 @@ impl SourceState {
         match claimed {
             ClaimAnswer::Claimed => {
                 if is_followed(index, job.temps.len()) {
-                    self.point = Point::Claims { index: index + 1 };
+                    self.stage = Stage::Claims { index: index + 1 };
                 } else {
                     self.enter_first_group(job);
                 }
             }
-            ClaimAnswer::Taken => self.point = Point::ClaimReport {
+            ClaimAnswer::Taken => self.stage = Stage::ClaimReport {
                 index,
                 answer: claimed,
             },
-            ClaimAnswer::Failed => self.point = Point::ClaimReport {
+            ClaimAnswer::Failed => self.stage = Stage::ClaimReport {
                 index,
                 answer: claimed,
             },
         }
     }
 
-    /// A start was answered.
+    /// Takes the answer to a start.
     fn take_start(&mut self, job: &Job, group: usize, started: StartAnswer)
         requires room { length self.old.children.items < vec_capacity self.old.children }
         ensures stage { stage_at self.new
@@ -286,30 +286,30 @@ impl SourceState {
                 let count = self.children.as_slice().len();
                 self.children.push_reserved(id);
                 if is_followed(count, group_len(job, group)) {
-                    self.point = Point::Starts { group };
+                    self.stage = Stage::Starts { group };
                 } else {
                     self.enter_waits(job, group, 0, GroupState::Sound);
                 }
             }
-            StartAnswer::NotStarted(why) => self.point = Point::StartReport { group, why },
+            StartAnswer::NotStarted(why) => self.stage = Stage::StartReport { group, why },
         }
     }
 
-    /// A refused start was told.
+    /// Goes on after the report of a refused start.
     fn take_refusal(&mut self, job: &Job, group: usize, why: NotStarted, told: ReportAnswer)
         ensures stage { stage_at self.new
             ≡ after_refusal job.now group self.old.started_before self.old.children.items why
             (is_told told) }
         ensures capacity { vec_capacity self.new.children ≡ vec_capacity self.old.children }
     {
-        if self.children.as_slice().len() > 0 {
-            self.point = Point::Closing { group, why, told };
+        if !self.children.as_slice().is_empty() {
+            self.stage = Stage::Closing { group, why, told };
         } else {
             self.enter_waits(job, group, 0, GroupState::Failed);
         }
     }
 
-    /// A wait was answered.
+    /// Takes the answer to a wait.
     fn take_wait(
         &mut self,
         job: &Job,
@@ -325,13 +325,13 @@ impl SourceState {
     {
         match ended {
             WaitAnswer::Exit(code) => self.pass_wait(job, group, index, state.after_exit(code)),
-            WaitAnswer::Signal => self.point = Point::WaitReport {
+            WaitAnswer::Signal => self.stage = Stage::WaitReport {
                 group,
                 index,
                 state,
                 answer: ended,
             },
-            WaitAnswer::Lost => self.point = Point::WaitReport {
+            WaitAnswer::Lost => self.stage = Stage::WaitReport {
                 group,
                 index,
                 state,
@@ -340,7 +340,7 @@ impl SourceState {
         }
     }
 
-    /// A removal was answered.
+    /// Takes the answer to a removal.
     fn take_removal(&mut self, job: &Job, index: usize, removed: RemoveAnswer)
         ensures stage { stage_at self.new ≡ after_removal job.now index removed }
         ensures capacity { vec_capacity self.new.children ≡ vec_capacity self.old.children }
@@ -349,7 +349,7 @@ impl SourceState {
             RemoveAnswer::Removed => self.pass_removal(job, index),
             RemoveAnswer::Missing => self.pass_removal(job, index),
             RemoveAnswer::NotPlain => self.pass_removal(job, index),
-            RemoveAnswer::Failed => self.point = Point::RemovalReport { index },
+            RemoveAnswer::Failed => self.stage = Stage::RemovalReport { index },
         }
     }
 
@@ -361,7 +361,7 @@ impl SourceState {
         ensures capacity { vec_capacity self.new.children ≡ vec_capacity self.old.children }
     {
         if is_followed(index, self.children.as_slice().len()) {
-            self.point = Point::Waits {
+            self.stage = Stage::Waits {
                 group,
                 index: index + 1,
                 state,
@@ -377,13 +377,13 @@ impl SourceState {
         ensures capacity { vec_capacity self.new.children ≡ vec_capacity self.old.children }
     {
         if is_followed(index, job.on_failure.len()) {
-            self.point = Point::Removals { index: index + 1 };
+            self.stage = Stage::Removals { index: index + 1 };
         } else {
-            self.point = Point::Ended;
+            self.stage = Stage::Ended;
         }
     }
 
-    /// The children of a group are waited for, from this one on.
+    /// Waits for the children of a group, from this one on.
     fn enter_waits(&mut self, job: &Job, group: usize, index: usize, state: GroupState)
         ensures stage { stage_at self.new
             ≡ enter_waits job.now group self.old.started_before self.old.children.items
@@ -391,7 +391,7 @@ impl SourceState {
         ensures capacity { vec_capacity self.new.children ≡ vec_capacity self.old.children }
     {
         if index < self.children.as_slice().len() {
-            self.point = Point::Waits {
+            self.stage = Stage::Waits {
                 group,
                 index,
                 state,
@@ -411,7 +411,7 @@ impl SourceState {
         }
     }
 
-    /// A group has ended: the job goes on, or has failed.
+    /// Ends a group: the job goes on, or has failed.
     fn end_group(&mut self, job: &Job, group: usize, state: GroupState)
         ensures stage { stage_at self.new
             ≡ end_group job.now group
@@ -420,33 +420,33 @@ impl SourceState {
     {
         self.started_before = self.started_before || self.has_child();
         match state {
-            GroupState::Failed => if self.started_before && job.on_failure.len() > 0 {
-                self.point = Point::Removals { index: 0 };
+            GroupState::Failed => if self.started_before && !job.on_failure.as_slice().is_empty() {
+                self.stage = Stage::Removals { index: 0 };
             } else {
-                self.point = Point::Ended;
+                self.stage = Stage::Ended;
             },
             GroupState::Sound => if is_followed(group, job.groups.len()) {
                 self.enter_group(job, group + 1);
             } else {
-                self.point = Point::Ended;
+                self.stage = Stage::Ended;
             },
         }
     }
 
-    /// A group's first command is started next, if there is such a group.
+    /// Goes on with the first command of a group, if there is such a group.
     fn enter_group(&mut self, job: &Job, group: usize)
         ensures stage { stage_at self.new ≡ enter_group job.now group self.old.started_before }
         ensures capacity { vec_capacity self.new.children ≡ vec_capacity self.old.children }
     {
         self.children.clear();
         if group < job.groups.len() {
-            self.point = Point::Starts { group };
+            self.stage = Stage::Starts { group };
         } else {
-            self.point = Point::Ended;
+            self.stage = Stage::Ended;
         }
     }
 
-    /// The first command of all is started next, if there is a group.
+    /// Goes on with the first command of the first group, if there is one.
     fn enter_first_group(&mut self, job: &Job)
         ensures stage { stage_at self.new ≡ enter_group job.now 0 false }
         ensures capacity { vec_capacity self.new.children ≡ vec_capacity self.old.children }
@@ -455,14 +455,13 @@ impl SourceState {
         self.enter_group(job, 0);
     }
 
-    /// Nothing has begun, and there is room for the children of each group, of which none is empty.
-    /// Want of memory is the only error.
+    /// A source before its first step, with room for the children of each group. No group is empty.
     pub(crate) fn new(alloc: Global, job: &Job) -> Result<SourceState, AllocError>
-        ensures fresh { IfOk result (λ made. worker_of made ≡ fresh job.now) }
+        ensures fresh { IfOk result (λ made. source_of made ≡ fresh job.now) }
         ensures filled { OnOk result (Filled job.now) }
     {
         let mut source = SourceState {
-            point: Point::Ended,
+            stage: Stage::Ended,
             started_before: false,
             children: Vec::with_capacity(alloc, widest(job))?,
         };
@@ -470,12 +469,12 @@ impl SourceState {
         Ok(source)
     }
 
-    /// Nothing to do. It takes no memory.
+    /// A source with nothing to do.
     pub(crate) fn idle(alloc: Global) -> SourceState
-        ensures { worker_of result ≡ fresh no_job }
+        ensures { source_of result ≡ fresh no_job }
     {
         SourceState {
-            point: Point::Ended,
+            stage: Stage::Ended,
             started_before: false,
             children: Vec::new(alloc),
         }
@@ -485,17 +484,17 @@ impl SourceState {
     pub(crate) fn is_left(&self) -> bool
         ensures { result ≡ left (stage_at self.now) }
     {
-        match self.point {
-            Point::Claims { .. } => true,
-            Point::ClaimReport { .. } => true,
-            Point::Starts { .. } => true,
-            Point::StartReport { .. } => true,
-            Point::Closing { .. } => true,
-            Point::Waits { .. } => true,
-            Point::WaitReport { .. } => true,
-            Point::Removals { .. } => true,
-            Point::RemovalReport { .. } => true,
-            Point::Ended => false,
+        match self.stage {
+            Stage::Claims { .. } => true,
+            Stage::ClaimReport { .. } => true,
+            Stage::Starts { .. } => true,
+            Stage::StartReport { .. } => true,
+            Stage::Closing { .. } => true,
+            Stage::Waits { .. } => true,
+            Stage::WaitReport { .. } => true,
+            Stage::Removals { .. } => true,
+            Stage::RemovalReport { .. } => true,
+            Stage::Ended => false,
         }
     }
 
@@ -503,47 +502,47 @@ impl SourceState {
     pub(crate) fn awaits(&self) -> bool
         ensures { result ≡ awaits (stage_at self.now) }
     {
-        match self.point {
-            Point::Claims { .. } => false,
-            Point::ClaimReport { .. } => false,
-            Point::Starts { .. } => false,
-            Point::StartReport { .. } => false,
-            Point::Closing { .. } => false,
-            Point::Waits { index, .. } => index < self.children.as_slice().len(),
-            Point::WaitReport { .. } => false,
-            Point::Removals { .. } => false,
-            Point::RemovalReport { .. } => false,
-            Point::Ended => false,
+        match self.stage {
+            Stage::Claims { .. } => false,
+            Stage::ClaimReport { .. } => false,
+            Stage::Starts { .. } => false,
+            Stage::StartReport { .. } => false,
+            Stage::Closing { .. } => false,
+            Stage::Waits { index, .. } => index < self.children.as_slice().len(),
+            Stage::WaitReport { .. } => false,
+            Stage::Removals { .. } => false,
+            Stage::RemovalReport { .. } => false,
+            Stage::Ended => false,
         }
     }
 
-    /// Whether a block is begun and not ended.
+    /// Whether a block is open.
     pub(crate) fn is_inside(&self) -> bool
         ensures { result ≡ inside (stage_at self.now) }
     {
-        match self.point {
-            Point::Claims { .. } => false,
-            Point::ClaimReport { .. } => true,
-            Point::Starts { .. } => self.has_child(),
-            Point::StartReport { .. } => true,
-            Point::Closing { .. } => true,
-            Point::Waits { .. } => false,
-            Point::WaitReport { .. } => true,
-            Point::Removals { .. } => false,
-            Point::RemovalReport { .. } => true,
-            Point::Ended => false,
+        match self.stage {
+            Stage::Claims { .. } => false,
+            Stage::ClaimReport { .. } => true,
+            Stage::Starts { .. } => self.has_child(),
+            Stage::StartReport { .. } => true,
+            Stage::Closing { .. } => true,
+            Stage::Waits { .. } => false,
+            Stage::WaitReport { .. } => true,
+            Stage::Removals { .. } => false,
+            Stage::RemovalReport { .. } => true,
+            Stage::Ended => false,
         }
     }
 
-    /// The work begins, where there is a group.
+    /// Begins the work, if there is a group.
     pub(crate) fn begin(&mut self, job: &Job)
         ensures stage { stage_at self.new ≡ begin job.now }
         ensures capacity { vec_capacity self.new.children ≡ vec_capacity self.old.children }
     {
         if job.groups.as_slice().is_empty() {
-            self.point = Point::Ended;
-        } else if job.temps.len() > 0 {
-            self.point = Point::Claims { index: 0 };
+            self.stage = Stage::Ended;
+        } else if !job.temps.as_slice().is_empty() {
+            self.stage = Stage::Claims { index: 0 };
         } else {
             self.enter_first_group(job);
         }

@@ -1,27 +1,27 @@
-//! The work on a plan: its parts one after another, and the events so far.
+//! The progress of a run: its phases one after another, and the events so far.
 
 ghost use Rattle.drv_core.specs.Code.Course.{link_of};
 ghost use Rattle.drv_core.specs.Filled.{AllFilled, Filled};
 ghost use Rattle.drv_core.specs.Code.Fleet.{fresh, taken};
-ghost use Rattle.drv_core.specs.Code.FleetView.{fleet_of, worker_of};
-ghost use Rattle.drv_core.specs.Code.LeftoverView.{remains_of};
+ghost use Rattle.drv_core.specs.Code.FleetView.{fleet_of, source_of};
+ghost use Rattle.drv_core.specs.Code.LeftoverView.{leftovers_of};
 ghost use Rattle.drv_core.specs.Needed.{needed};
 ghost use Rattle.drv_core.specs.Outcomes.{answer_code, code_of, is_claimed, is_started};
-ghost use Rattle.drv_core.specs.Code.Position.{FleetReady, Ready, flown, kept, link_after};
-ghost use Rattle.drv_core.specs.Code.Position.{link_asks, linked, moved, next_of, removal_made};
-ghost use Rattle.drv_core.specs.Code.Position.{removal_of, removing_first, removing_next};
-ghost use Rattle.drv_core.specs.Code.Position.{report_of, shown, sources_left};
-ghost use Rattle.drv_core.specs.Code.Starting.{first_position, fresh_position};
+ghost use Rattle.drv_core.specs.Code.RunState.{FleetReady, Ready, flown, kept, link_after};
+ghost use Rattle.drv_core.specs.Code.RunState.{link_asks, linked, moved, next_of, removal_made};
+ghost use Rattle.drv_core.specs.Code.RunState.{removal_of, removing_first, removing_next};
+ghost use Rattle.drv_core.specs.Code.RunState.{report_of, shown, sources_left};
+ghost use Rattle.drv_core.specs.Code.Starting.{first_run, fresh_run};
 ghost use Rattle.drv_core.specs.Code.Counting.{place_at};
-ghost use Rattle.drv_core.specs.Code.PositionView.{phase_of, position_of};
+ghost use Rattle.drv_core.specs.Code.RunStateView.{phase_of, run_state_of};
 ghost use Rattle.drv_core.specs.Code.Reached.{between_blocks, choices_at, choosing};
-ghost use Rattle.drv_core.specs.Code.Source.{HasRoom};
+ghost use Rattle.drv_core.specs.Code.SourceView.{HasRoom};
 ghost use Rattle.std.specs.Prelude.{◌≡◌, ◌<◌, ◌≤◌, [], IfOk, OnOk, get_or, if◌then◌else◌, length};
 ghost use Rattle.std.specs.Prelude.{ℕ};
 ghost use Rattle.std.specs.Vec.{vec_capacity};
 
 use crate::answered::remove_of;
-use crate::flight::Flight;
+use crate::fleet::Fleet;
 use crate::leftovers::Leftovers;
 use crate::needed::events_needed;
 use crate::source::SourceState;
@@ -30,26 +30,26 @@ use drv_words::{
 };
 use std::alloc::{AllocError, Global};
 
-/// Which part of a run is worked.
+/// The phase of a run.
 #[derive(Clone, Copy)]
-pub(crate) enum Part {
+pub(crate) enum Phase {
     /// The sources.
     Sources,
     /// The link.
     Link,
     /// The next file is removed.
     Removals,
-    /// It could not be removed, and that is told.
+    /// The removal failed and is reported next.
     Report,
     /// Nothing is left to do.
     Done,
 }
 
-/// How far the run of a plan is: its parts one after another, and the events so far.
+/// The progress of a run: its phases one after another, and the events so far.
 #[derive(Drop)]
 pub(crate) struct RunState {
-    pub(crate) part: Part,
-    pub(crate) flight: Flight,
+    pub(crate) phase: Phase,
+    pub(crate) fleet: Fleet,
     pub(crate) link: SourceState,
     pub(crate) leftovers: Leftovers,
     /// The greatest code so far.
@@ -57,7 +57,7 @@ pub(crate) struct RunState {
     pub(crate) events: Vec<RunEvent>,
 }
 
-/// The code of an answer: 1 for a claim or a start that failed, and a child's own.
+/// The code of an answer: 1 for a failed claim or start, and a child's own code.
 fn answer_code(answer: Answer) -> u8
     ensures { result ≡ answer_code answer }
 {
@@ -103,10 +103,9 @@ fn wait_code(ended: WaitAnswer) -> u8
     }
 }
 
-/// The link, of which nothing has begun, or nothing to do where there is none. Want of memory is
-/// the only error.
+/// The link before its first step, or nothing to do if there is no link.
 fn link_source(alloc: Global, plan: &Plan) -> Result<SourceState, AllocError>
-    ensures fresh { IfOk result (λ made. worker_of made ≡ fresh (link_of plan.now.link)) }
+    ensures fresh { IfOk result (λ made. source_of made ≡ fresh (link_of plan.now.link)) }
     ensures filled { OnOk result (Filled (link_of plan.now.link)) }
 {
     match &plan.link {
@@ -115,7 +114,7 @@ fn link_source(alloc: Global, plan: &Plan) -> Result<SourceState, AllocError>
     }
 }
 
-/// Room for all events of a run. Want of memory is the only error.
+/// Room for all events of a run.
 fn room_for(alloc: Global, plan: &Plan) -> Result<Vec<RunEvent>, AllocError>
     ensures events { IfOk result (λ made. made.items ≡ []) }
     ensures room { IfOk result (λ made. needed plan.now ≤ vec_capacity made) }
@@ -127,18 +126,18 @@ fn room_for(alloc: Global, plan: &Plan) -> Result<Vec<RunEvent>, AllocError>
 }
 
 impl RunState {
-    /// The parts of a run, where there may be no source to begin with. There is room for all that
-    /// comes, and no group is empty. Want of memory is the only error.
-    fn prepared(alloc: Global, plan: &Plan, window: usize) -> Result<RunState, AllocError>
+    /// A run before its first step, even if there is no source. It has room for all events, and no
+    /// group is empty.
+    fn prepare(alloc: Global, plan: &Plan, window: usize) -> Result<RunState, AllocError>
         requires { window ≤ 64 }
-        ensures fresh { IfOk result (λ made. position_of made
-            ≡ first_position plan.now window (vec_capacity made.events)) }
+        ensures fresh { IfOk result (λ made. run_state_of made
+            ≡ first_run plan.now window (vec_capacity made.events)) }
         ensures room { IfOk result (λ made. needed plan.now ≤ vec_capacity made.events) }
         ensures filled { OnOk result (AllFilled plan.now.jobs × Filled (link_of plan.now.link)) }
     {
         Ok(RunState {
-            part: Part::Sources,
-            flight: Flight::new(alloc, plan.jobs.as_slice(), window)?,
+            phase: Phase::Sources,
+            fleet: Fleet::new(alloc, plan.jobs.as_slice(), window)?,
             link: link_source(alloc, plan)?,
             leftovers: Leftovers::new(alloc, plan)?,
             code: 0,
@@ -146,38 +145,37 @@ impl RunState {
         })
     }
 
-    /// Nothing has begun, and there is room for all that comes. No group is empty. Want of memory
-    /// is the only error.
+    /// A run before its first step. It has room for all events, and no group is empty.
     pub(crate) fn new(alloc: Global, plan: &Plan, window: usize) -> Result<RunState, AllocError>
         requires { window ≤ 64 }
-        ensures fresh { IfOk result (λ made. position_of made
-            ≡ fresh_position plan.now window (vec_capacity made.events)) }
+        ensures fresh { IfOk result (λ made. run_state_of made
+            ≡ fresh_run plan.now window (vec_capacity made.events)) }
         ensures room { IfOk result (λ made. needed plan.now ≤ vec_capacity made.events) }
         ensures filled { OnOk result (AllFilled plan.now.jobs × Filled (link_of plan.now.link)) }
     {
-        let mut work = RunState::prepared(alloc, plan, window)?;
+        let mut work = RunState::prepare(alloc, plan, window)?;
         work.leave_sources();
         Ok(work)
     }
 
-    /// What is asked next; none once the run is whole.
+    /// The next step; `None` once the run is whole.
     pub(crate) fn asks(&self, plan: &Plan) -> Option<Step>
-        requires { Ready plan.now (position_of self.now) }
-        ensures { result ≡ next_of plan.now (position_of self.now) }
+        requires { Ready plan.now (run_state_of self.now) }
+        ensures { result ≡ next_of plan.now (run_state_of self.now) }
     {
-        match self.part {
-            Part::Sources => self.flight.asks(plan.jobs.as_slice()),
-            Part::Link => self.asks_link(plan),
-            Part::Removals => self.asks_removal(),
-            Part::Report => self.asks_report(),
-            Part::Done => None,
+        match self.phase {
+            Phase::Sources => self.fleet.asks(plan.jobs.as_slice()),
+            Phase::Link => self.asks_link(plan),
+            Phase::Removals => self.asks_removal(),
+            Phase::Report => self.asks_report(),
+            Phase::Done => None,
         }
     }
 
-    /// What is asked next for the link.
+    /// The next step of the link.
     fn asks_link(&self, plan: &Plan) -> Option<Step>
         ensures { result
-            ≡ link_asks (length plan.now.jobs) plan.now.link (worker_of self.now.link) }
+            ≡ link_asks (length plan.now.jobs) plan.now.link (source_of self.now.link) }
     {
         match &plan.link {
             Some(job) => self.link.asks(plan.jobs.len(), job),
@@ -187,7 +185,7 @@ impl RunState {
 
     /// The next removal at the end.
     fn asks_removal(&self) -> Option<Step>
-        ensures { result ≡ removal_of (place_at (remains_of self.now.leftovers)) }
+        ensures { result ≡ removal_of (place_at (leftovers_of self.now.leftovers)) }
     {
         match self.leftovers.place() {
             Some(place) => Some(Step::Remove(place)),
@@ -195,9 +193,9 @@ impl RunState {
         }
     }
 
-    /// The report that the file could not be removed.
+    /// The report of a failed removal.
     fn asks_report(&self) -> Option<Step>
-        ensures { result ≡ report_of (place_at (remains_of self.now.leftovers)) }
+        ensures { result ≡ report_of (place_at (leftovers_of self.now.leftovers)) }
     {
         match self.leftovers.place() {
             Some(place) => Some(Step::Report(Note::NotRemoved(place))),
@@ -205,21 +203,21 @@ impl RunState {
         }
     }
 
-    /// Goes on by the answer to what was asked.
+    /// Takes the answer to the next step.
     pub(crate) fn take(&mut self, plan: &Plan, step: Step, answer: Answer)
-        requires ready { Ready plan.now (position_of self.old) }
+        requires ready { Ready plan.now (run_state_of self.old) }
         requires room { length self.old.events.items < vec_capacity self.old.events }
         requires few { (k : ℕ)
             → get_or self.old.leftovers.claimed.items k 0 ≤ length self.old.events.items }
-        ensures { position_of self.new ≡ moved plan.now (position_of self.old) step answer }
+        ensures { run_state_of self.new ≡ moved plan.now (run_state_of self.old) step answer }
     {
         self.keep(step, answer);
-        match self.part {
-            Part::Sources => self.take_source(plan, answer),
-            Part::Link => self.take_link(plan, answer),
-            Part::Removals => self.take_removal(answer),
-            Part::Report => self.pass(),
-            Part::Done => {}
+        match self.phase {
+            Phase::Sources => self.take_source(plan, answer),
+            Phase::Link => self.take_link(plan, answer),
+            Phase::Removals => self.take_removal(answer),
+            Phase::Report => self.pass(),
+            Phase::Done => {}
         }
     }
 
@@ -228,7 +226,7 @@ impl RunState {
         requires room { length self.old.events.items < vec_capacity self.old.events }
         requires few { (k : ℕ)
             → get_or self.old.leftovers.claimed.items k 0 ≤ length self.old.events.items }
-        ensures { position_of self.new ≡ kept (position_of self.old) step answer }
+        ensures { run_state_of self.new ≡ kept (run_state_of self.old) step answer }
     {
         self.events.push_reserved(RunEvent { step, answer });
         let _events = self.events.len();
@@ -236,29 +234,29 @@ impl RunState {
         self.leftovers.note(step, answer);
     }
 
-    /// A source goes on.
+    /// The source in progress takes an answer.
     fn take_source(&mut self, plan: &Plan, answer: Answer)
-        requires { FleetReady plan.now (position_of self.old).fleet }
-        ensures { position_of self.new ≡ flown (record (position_of self.old) {
-          fleet = taken plan.now.jobs (position_of self.old).fleet answer;
+        requires { FleetReady plan.now (run_state_of self.old).fleet }
+        ensures { run_state_of self.new ≡ flown (record (run_state_of self.old) {
+          fleet = taken plan.now.jobs (run_state_of self.old).fleet answer;
         }) }
     {
-        self.flight.take(plan.jobs.as_slice(), answer);
+        self.fleet.take(plan.jobs.as_slice(), answer);
         self.leave_sources();
     }
 
-    /// After the last source comes the link.
+    /// Goes on with the link after the last source.
     fn leave_sources(&mut self)
-        ensures { position_of self.new ≡ flown (position_of self.old) }
+        ensures { run_state_of self.new ≡ flown (run_state_of self.old) }
     {
-        if self.flight.unended == 0 {
+        if self.fleet.unended == 0 {
             self.end_sources();
         }
     }
 
-    /// The link is run where every source succeeded.
+    /// Runs the link if every source succeeded.
     fn end_sources(&mut self)
-        ensures { position_of self.new ≡ sources_left (position_of self.old) }
+        ensures { run_state_of self.new ≡ sources_left (run_state_of self.old) }
     {
         if self.code == 0 {
             self.leftovers.is_linked = true;
@@ -268,33 +266,33 @@ impl RunState {
         }
     }
 
-    /// The link goes on, or has ended.
+    /// Goes on with the link, or ends it.
     fn enter_link(&mut self)
-        ensures { position_of self.new ≡ linked (position_of self.old) }
+        ensures { run_state_of self.new ≡ linked (run_state_of self.old) }
     {
         if self.link.is_left() {
-            self.part = Part::Link;
+            self.phase = Phase::Link;
         } else {
             self.remove_first();
         }
     }
 
-    /// The link goes on by an answer.
+    /// The link takes an answer, and goes on or ends.
     fn take_link(&mut self, plan: &Plan, answer: Answer)
-        requires { HasRoom (position_of self.old).link.stage (position_of self.old).link.room }
-        ensures { position_of self.new ≡ linked (record (position_of self.old) {
-          link = link_after plan.now.link (position_of self.old).link answer;
+        requires { HasRoom (run_state_of self.old).link.stage (run_state_of self.old).link.room }
+        ensures { run_state_of self.new ≡ linked (record (run_state_of self.old) {
+          link = link_after plan.now.link (run_state_of self.old).link answer;
         }) }
     {
         self.work_link(plan, answer);
         self.enter_link();
     }
 
-    /// The link's source goes on by an answer.
+    /// The link's source takes an answer.
     fn work_link(&mut self, plan: &Plan, answer: Answer)
-        requires { HasRoom (position_of self.old).link.stage (position_of self.old).link.room }
-        ensures { position_of self.new ≡ record (position_of self.old) {
-          link = link_after plan.now.link (position_of self.old).link answer;
+        requires { HasRoom (run_state_of self.old).link.stage (run_state_of self.old).link.room }
+        ensures { run_state_of self.new ≡ record (run_state_of self.old) {
+          link = link_after plan.now.link (run_state_of self.old).link answer;
         } }
     {
         match &plan.link {
@@ -303,77 +301,77 @@ impl RunState {
         }
     }
 
-    /// The files that are left are removed, from the first on.
+    /// Removes the leftover files, from the first on.
     fn remove_first(&mut self)
-        ensures { position_of self.new ≡ removing_first (position_of self.old) }
+        ensures { run_state_of self.new ≡ removing_first (run_state_of self.old) }
     {
         self.leftovers.seek(0);
         self.show();
     }
 
-    /// The next file is removed, if there is one.
+    /// Goes on with the next file, if there is one.
     fn show(&mut self)
-        ensures { position_of self.new ≡ shown (position_of self.old) }
+        ensures { run_state_of self.new ≡ shown (run_state_of self.old) }
     {
         if self.leftovers.at < self.leftovers.files.len() {
-            self.part = Part::Removals;
+            self.phase = Phase::Removals;
         } else {
-            self.part = Part::Done;
+            self.phase = Phase::Done;
         }
     }
 
-    /// A removal was answered.
+    /// Takes the answer to a removal.
     fn take_removal(&mut self, answer: Answer)
         requires { self.old.leftovers.at < length self.old.leftovers.files.items }
-        ensures { position_of self.new ≡ removal_made (position_of self.old) answer }
+        ensures { run_state_of self.new ≡ removal_made (run_state_of self.old) answer }
     {
         match remove_of(answer) {
             RemoveAnswer::Removed => self.pass(),
             RemoveAnswer::Missing => self.pass(),
             RemoveAnswer::NotPlain => self.pass(),
-            RemoveAnswer::Failed => self.part = Part::Report,
+            RemoveAnswer::Failed => self.phase = Phase::Report,
         }
     }
 
     /// Goes on after a file.
     fn pass(&mut self)
         requires { self.old.leftovers.at < length self.old.leftovers.files.items }
-        ensures { position_of self.new ≡ removing_next (position_of self.old) }
+        ensures { run_state_of self.new ≡ removing_next (run_state_of self.old) }
     {
         self.leftovers.pass();
         self.show();
     }
 
-    /// Whether the next block is one of a source, and isn't begun.
+    /// Whether the next block belongs to a source and is not yet open.
     fn is_between(&self) -> bool
-        ensures { result ≡ between_blocks (phase_of self.now.part) (fleet_of self.now.flight) }
+        ensures { result ≡ between_blocks (phase_of self.now.phase) (fleet_of self.now.fleet) }
     {
-        match self.part {
-            Part::Sources => !self.flight.is_inside(),
-            Part::Link => false,
-            Part::Removals => false,
-            Part::Report => false,
-            Part::Done => false,
+        match self.phase {
+            Phase::Sources => !self.fleet.is_inside(),
+            Phase::Link => false,
+            Phase::Removals => false,
+            Phase::Report => false,
+            Phase::Done => false,
         }
     }
 
-    /// How many sources may go on, where the next block is one of a source; else 1.
+    /// How many sources may go on, if the next block belongs to a source; otherwise 1.
     pub(crate) fn choices(&self, plan: &Plan) -> usize
-        ensures { result ≡ choices_at plan.now (position_of self.now) }
+        ensures { result ≡ choices_at plan.now (run_state_of self.now) }
     {
         if self.is_between() {
-            self.flight.count_able(plan.jobs.as_slice())
+            self.fleet.count_able(plan.jobs.as_slice())
         } else {
             1
         }
     }
 
-    /// The source of this number among those that may go on is worked next.
+    /// Goes on with the source of this number among those that may.
     pub(crate) fn choose(&mut self, plan: &Plan, choice: usize)
-        ensures { position_of self.new ≡ choosing plan.now (position_of self.old) choice }
+        ensures { run_state_of self.new ≡ choosing plan.now (run_state_of self.old) choice }
     {
         if self.is_between() {
-            self.flight.select(plan.jobs.as_slice(), choice);
+            self.fleet.select(plan.jobs.as_slice(), choice);
         }
     }
 }

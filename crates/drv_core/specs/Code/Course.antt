@@ -1,6 +1,6 @@
 use Rattle.drv_core.specs.Code.Due.{due_files, tally}
 use Rattle.drv_core.specs.Code.Fleet.{Fleet, asked_of, fresh_fleet, taken}
-use Rattle.drv_core.specs.Code.Machine.{Ended, Stage, after, asks, begin, left, remove_of}
+use Rattle.drv_core.specs.Code.Source.{Ended, Stage, after, asks, begin, left, remove_of}
 use Rattle.drv_core.specs.Outcomes.{File, answer_code, greatest, none}
 use Rattle.drv_core.specs.Story.{event, removal_failed}
 use Rattle.drv_words.specs.Places.{no_job}
@@ -13,7 +13,7 @@ use Rattle.drv_words.specs.declared.steps.Step.{Step}
 use Rattle.drv_words.specs.declared.steps.Step.TheVariants as step
 use Rattle.std.specs.Prelude.{List, [], ◌∷◌, ◌++◌, None, Option, Some, drop, if◌then◌else◌, length, nat_eq, ℕ}
 
--- A whole run, step by step. Private clauses alone cite it: what a run comes to is said by the stories.
+-- A whole run, step by step, without the code's own types. Only private clauses cite it: the stories define what a run is.
 
 -- the greatest code of events
 abbrev pub run_code : List RunEvent → ℕ
@@ -26,7 +26,7 @@ pub data Phase : Type 0 where
   Report : Phase
   Done : Phase
 
--- due: the files that are to be removed at the end, of which the first is the next
+-- due: the files that are still to be removed at the end, in order
 pub record Course : Type 0 where
   pub phase : Phase
   pub fleet : Fleet
@@ -34,7 +34,7 @@ pub record Course : Type 0 where
   pub due : List File
   pub events : List RunEvent
 
--- the link's job where it runs after these events
+-- the link's job, if it runs after these events
 abbrev pub link_by : Option Job → ℕ → Job
 link_by None code = no_job
 link_by (Some job) code = if nat_eq code 0 then job else no_job
@@ -61,7 +61,7 @@ asked_at plan Done c = None
 abbrev pub asked_by : Plan → Course → Option Step
 asked_by plan c = asked_at plan c.phase c
 
--- the files of the list are removed, if there are any
+-- the files of the list are removed next, if there are any
 abbrev pub removing : Course → List File → Course
 removing c due = record c { phase = if none due then Done else Removals; due = due }
 
@@ -72,7 +72,7 @@ after_link plan job c = removing c (due_files plan job (λ k. tally k c.events))
 abbrev pub linking : Plan → Job → Course → Course
 linking plan job c = if left c.link then record c { phase = Link } else after_link plan job c
 
--- after the sources, the link's job being this
+-- after the sources, if the link's job is this
 abbrev pub following_sources : Plan → Job → Course → Course
 following_sources plan job c = linking plan job (record c { link = begin job })
 
@@ -82,7 +82,7 @@ sourced plan c = if nat_eq c.fleet.unended 0 then following_sources plan (link_b
 abbrev pub removed : Course → Answer → Course
 removed c a = if removal_failed (remove_of a) then record c { phase = Report } else removing c (drop 1 c.due)
 
--- by the answer, whose event stands in the list already
+-- after an answer, whose event is already in the list
 abbrev pub stepped_at : Plan → Phase → Course → Answer → Course
 stepped_at plan Sources c a = sourced plan (record c { fleet = taken plan.jobs c.fleet a })
 stepped_at plan Link c a = linking plan (link_of plan.link) (record c { link = after (link_of plan.link) c.link a })

@@ -1,4 +1,4 @@
-use Rattle.drv_core.specs.Code.Leftovers.{temp_files}
+use Rattle.drv_core.specs.Code.LeftoverFiles.{temp_files}
 use Rattle.drv_core.specs.Outcomes.{File, Told, each_once, is_claimed, marked_files, none}
 use Rattle.drv_core.specs.Windowed.{total}
 use Rattle.drv_words.specs.declared.answers.Answer.{Answer}
@@ -13,7 +13,7 @@ use Rattle.drv_words.specs.declared.steps.Step.TheVariants as step
 use Rattle.std.specs.List.{list_any}
 use Rattle.std.specs.Prelude.{◌&&◌, ◌+◌, ◌++◌, Bool, List, [], ◌∷◌, if◌then◌else◌, nat_eq, not, suc, take, ℕ}
 
--- The files that are removed at the end, by how many temporaries of each job were claimed. Private clauses alone cite it.
+-- The files that are removed at the end, by the number of claimed temporaries of each job. Only private clauses cite it.
 
 abbrev pub claimed_count : List (Told ClaimAnswer) → ℕ
 claimed_count [] = 0
@@ -29,7 +29,7 @@ abbrev pub due_from : ℕ → List Job → (ℕ → ℕ) → List File
 due_from k [] claimed = []
 due_from k (job ∷ jobs) claimed = due_of_job k job (claimed k) ++ due_from (k + 1) jobs claimed
 
--- link: the link's job where it was run
+-- link: the link's job, if it was run
 abbrev pub due_files : Plan → Job → (ℕ → ℕ) → List File
 due_files plan link claimed = each_once [] (due_from 0 (plan.jobs ++ link ∷ []) claimed)
 

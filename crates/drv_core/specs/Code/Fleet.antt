@@ -1,29 +1,30 @@
-use Rattle.drv_core.specs.Code.Machine.{Ended, Stage, after, asks, awaits, begin, inside, left}
+use Rattle.drv_core.specs.Code.Source.{Ended, Stage, after, asks, awaits, begin, inside, left}
 use Rattle.drv_core.specs.Outcomes.{greatest, none}
 use Rattle.drv_words.specs.Places.{no_job}
 use Rattle.drv_words.specs.declared.answers.Answer.{Answer}
 use Rattle.drv_words.specs.declared.plan.Job.{Job}
 use Rattle.drv_words.specs.declared.steps.Step.{Step}
 use Rattle.std.specs.List.{filter}
-use Rattle.std.specs.Prelude.{◌&&◌, ◌||◌, ◌+◌, ◌-◌, Bool, List, [], ◌∷◌, ◌++◌, Option, drop, get_or, if◌then◌else◌, length, map, min, nat_eq, nat_lt, not, slice_set, ℕ}
+use Rattle.std.specs.Prelude.{◌&&◌, ◌||◌, ◌+◌, ◌-◌, Bool, List, [], ◌∷◌, ◌++◌, Option, drop, get_or, if◌then◌else◌, length, map, min}
+use Rattle.std.specs.Prelude.{nat_eq, nat_lt, not, slice_set, ℕ}
 
--- All sources, step by step. Private clauses alone cite it: what a run comes to is said by the stories.
+-- All sources, step by step. Only private clauses cite it: the stories define what a run is.
 
--- where the work on one source stands, and for how many children there is room
-pub record Worker : Type 0 where
+-- the stage of one source, and its room for children
+pub record SourceState : Type 0 where
   pub stage : Stage
   pub room : ℕ
 
-abbrev pub idle : Worker
+abbrev pub idle : SourceState
 idle = record { stage = Ended; room = 0 }
 
-abbrev pub fresh : Job → Worker
+abbrev pub fresh : Job → SourceState
 fresh job = record { stage = begin job; room = greatest (λ group. length group) job.groups }
 
--- begun: the sources that have begun and not ended, and for how many there is room; next: the first that hasn't begun and has
--- something to do, or their number; unended: how many have not ended; current: the one that is worked
+-- begun: the sources that have begun and not ended; room: for how many of these there is room. next: the first that hasn't begun and has
+-- something to do, or the number of sources. Unended is how many have not ended; current is the source in progress.
 pub record Fleet : Type 0 where
-  pub workers : List Worker
+  pub sources : List SourceState
   pub begun : List ℕ
   pub room : ℕ
   pub next : ℕ
@@ -31,13 +32,13 @@ pub record Fleet : Type 0 where
   pub current : ℕ
   pub window : ℕ
 
-abbrev pub worker_in : Fleet → ℕ → Worker
-worker_in f k = get_or f.workers k idle
+abbrev pub source_in : Fleet → ℕ → SourceState
+source_in f k = get_or f.sources k idle
 
 abbrev pub stage_in : Fleet → ℕ → Stage
-stage_in f k = (worker_in f k).stage
+stage_in f k = (source_in f k).stage
 
--- how many have a child in flight; whether these are all that can have one
+-- how many sources have a child in flight; whether these are all that can have one
 abbrev pub flying : Fleet → ℕ
 flying f = length (filter (λ k. awaits (stage_in f k)) f.begun)
 
@@ -48,11 +49,11 @@ all_fly f = nat_eq (flying f) (min f.window f.unended)
 abbrev pub may_go : Bool → Fleet → ℕ → Bool
 may_go all f k = all || not (awaits (stage_in f k))
 
--- the first that may: of those that have begun, or else the next that begins
+-- the first source that may go on: one that has begun, or else the next that begins
 abbrev pub picked : Fleet → ℕ
 picked f = get_or (filter (may_go (all_fly f) f) f.begun) 0 f.next
 
--- the next that hasn't begun may begin, while the window has room
+-- the next source may begin, if the window has room
 abbrev pub may_begin : List Job → Fleet → Bool
 may_begin jobs f = nat_lt f.next (length jobs) && nat_lt (length f.begun) f.window
 
@@ -69,7 +70,7 @@ busy job = not (none job.groups)
 
 abbrev pub fresh_fleet : List Job → ℕ → Fleet
 fresh_fleet jobs window = record {
-  workers = map fresh jobs;
+  sources = map fresh jobs;
   begun = [];
   room = window + 1;
   next = first_busy 0 jobs;
@@ -81,27 +82,27 @@ fresh_fleet jobs window = record {
 abbrev pub asked_of : List Job → Fleet → Option Step
 asked_of jobs f = asks f.current (get_or jobs f.current no_job) (stage_in f f.current)
 
--- the current source goes on by an answer
+-- the current source takes an answer
 abbrev pub worked : Job → Fleet → Answer → Fleet
 worked job f a = record f {
-  workers = slice_set f.workers f.current (record { stage = after job (stage_in f f.current) a; room = (worker_in f f.current).room });
+  sources = slice_set f.sources f.current (record { stage = after job (stage_in f f.current) a; room = (source_in f f.current).room });
 }
 
--- after its block: it has begun, if it is the next that begins
+-- after its first block a source has begun
 abbrev pub opened : List Job → Fleet → Fleet
 opened jobs f = if nat_eq f.current f.next then record f { begun = f.begun ++ f.current ∷ []; next = first_busy (f.current + 1) (drop (f.current + 1) jobs) } else f
 
 abbrev pub ended : Fleet → Fleet
 ended f = record f { begun = filter (λ k. not (nat_eq k f.current)) f.begun; unended = f.unended - 1 }
 
--- and it is under way no more, if it has ended
+-- after its last block it is no longer under way
 abbrev pub closed : Fleet → Fleet
 closed f = if left (stage_in f f.current) then f else ended f
 
 abbrev pub chosen : Fleet → Fleet
 chosen f = record f { current = picked f }
 
--- or the k-th of those that may go on
+-- the k-th of the sources that may go on
 abbrev pub selected : List Job → Fleet → ℕ → Fleet
 selected jobs f k = record f { current = get_or (able jobs f) k f.next }
 

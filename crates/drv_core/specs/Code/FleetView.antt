@@ -1,20 +1,20 @@
-use Rattle.drv_core.specs.Code.Fleet.{Fleet, Worker}
-use Rattle.drv_core.specs.Code.Source.{stage_at}
-use Rattle.drv_core.specs.declared.flight.Allowed.{Allowed}
-use Rattle.drv_core.specs.declared.flight.Allowed.TheVariants.{All, NotWaiting}
-use Rattle.drv_core.specs.declared.flight.Flight.{Flight}
-use Rattle.drv_core.specs.declared.source.SourceState.{SourceState}
+use Rattle.drv_core.specs.Code.Fleet.{Fleet, SourceState}
+use Rattle.drv_core.specs.Code.SourceView.{stage_at}
+use Rattle.drv_core.specs.declared.fleet.Allowed.{Allowed}
+use Rattle.drv_core.specs.declared.fleet.Allowed.TheVariants.{All, NotWaiting}
+use Rattle.drv_core.specs.declared.fleet.Fleet.{Fleet as CodeFleet}
+use Rattle.drv_core.specs.declared.source.SourceState.{SourceState as CodeSource}
 use Rattle.std.specs.Prelude.{Bool, false, map, true}
 use Rattle.std.specs.Vec.{vec_capacity}
 
--- All sources, as the code has them. Private clauses alone cite it.
+-- How the sources in the code are seen. Only private clauses cite it.
 
-abbrev pub worker_of : SourceState → Worker
-worker_of s = record { stage = stage_at s; room = vec_capacity s.children }
+abbrev pub source_of : CodeSource → SourceState
+source_of s = record { stage = stage_at s; room = vec_capacity s.children }
 
-abbrev pub fleet_of : Flight → Fleet
+abbrev pub fleet_of : CodeFleet → Fleet
 fleet_of f = record {
-  workers = map worker_of f.sources.items;
+  sources = map source_of f.sources.items;
   begun = f.begun.items;
   room = vec_capacity f.begun;
   next = f.next;

@@ -1,15 +1,22 @@
-use Rattle.drv_core.specs.Code.Remains.{Left, Remains}
-use Rattle.drv_core.specs.declared.leftovers.Leftover.{Leftover}
-use Rattle.drv_core.specs.declared.leftovers.Leftovers.{Leftovers as Kept}
+use Rattle.drv_core.specs.Code.Leftovers.{Leftover, Leftovers}
+use Rattle.drv_core.specs.declared.leftovers.Leftover.{Leftover as CodeLeftover}
+use Rattle.drv_core.specs.declared.leftovers.Leftovers.{Leftovers as CodeLeftovers}
 use Rattle.std.specs.Prelude.{List, map}
 
--- The files that may be left, as the code has them. Private clauses alone cite it.
+-- How the leftover files in the code are seen. Only private clauses cite it.
 
-abbrev pub left_of : Leftover → Left
-left_of l = record { place = l.place; first = l.first }
+abbrev pub leftover_of : CodeLeftover → Leftover
+leftover_of l = record { place = l.place; first = l.first }
 
-abbrev pub lefts_of : List Leftover → List Left
-lefts_of files = map left_of files
+abbrev pub leftover_list : List CodeLeftover → List Leftover
+leftover_list files = map leftover_of files
 
-abbrev pub remains_of : Kept → Remains
-remains_of x = record { files = lefts_of x.files.items; gone = x.gone.items; claimed = x.claimed.items; sources = x.sources; linked = x.is_linked; at = x.at }
+abbrev pub leftovers_of : CodeLeftovers → Leftovers
+leftovers_of x = record {
+  files = leftover_list x.files.items;
+  gone = x.gone.items;
+  claimed = x.claimed.items;
+  sources = x.sources;
+  linked = x.is_linked;
+  at = x.at;
+}

@@ -1,28 +1,49 @@
-use Rattle.drv_core.specs.Outcomes.{File, marked_files, none}
-use Rattle.drv_words.specs.declared.plan.Job.{Job}
-use Rattle.drv_words.specs.declared.plan.Plan.{Plan}
-use Rattle.drv_words.specs.declared.plan.Temp.{Temp}
 use Rattle.drv_words.specs.declared.steps.Place.{Place}
 use Rattle.drv_words.specs.declared.steps.Place.TheVariants as place
-use Rattle.std.specs.Option.{option_to_list}
-use Rattle.std.specs.Prelude.{◌+◌, ◌++◌, List, [], ◌∷◌, if◌then◌else◌, ℕ}
+use Rattle.std.specs.Prelude.{◌&&◌, ◌||◌, ◌+◌, Bool, List, [], ◌∷◌, drop, false, get_or, if◌then◌else◌, nat_lt, not, slice_set, true, ℕ}
 
--- The files that may be left at the end of a run. Private clauses alone cite it.
+-- The leftover files, as the code goes through them. Only private clauses cite it.
 
-abbrev pub place_in : File → Place
-place_in f = f.place
+-- first: the number of the first file with the same path
+pub record Leftover : Type 0 where
+  pub place : Place
+  pub first : ℕ
 
-abbrev pub temp_files : ℕ → ℕ → List Temp → List File
-temp_files k i [] = []
-temp_files k i (t ∷ ts) = record { place = place.Temp k i; path = t.path } ∷ temp_files k (i + 1) ts
+abbrev pub no_leftover : Leftover
+no_leftover = record { place = place.Marked 0 0; first = 0 }
 
--- of a job that makes calls
-abbrev pub job_files : ℕ → Job → List File
-job_files k job = if none job.groups then [] else temp_files k 0 job.temps ++ marked_files k 0 job.marked
+-- gone: for each number of a first file, whether the path was removed; claimed: how many temporaries of each job were claimed; at: the
+-- number of the file that is removed next
+pub record Leftovers : Type 0 where
+  pub files : List Leftover
+  pub gone : List Bool
+  pub claimed : List ℕ
+  pub sources : ℕ
+  pub linked : Bool
+  pub at : ℕ
 
-abbrev pub files_from : ℕ → List Job → List File
-files_from k [] = []
-files_from k (job ∷ jobs) = job_files k job ++ files_from (k + 1) jobs
+-- a claimed temporary, or a marked file of a job that made a call
+abbrev pub is_left : List ℕ → ℕ → Bool → Place → Bool
+is_left claimed sources linked (place.Command k g i) = false
+is_left claimed sources linked (place.Temp k i) = nat_lt i (get_or claimed k 0)
+is_left claimed sources linked (place.Marked k i) = nat_lt k sources || linked
+is_left claimed sources linked (place.OnFailure k i) = false
 
-abbrev pub all_files : Plan → List File
-all_files plan = files_from 0 (plan.jobs ++ option_to_list plan.link)
+abbrev pub is_due : Leftovers → List Bool → Leftover → Bool
+is_due x gone l = is_left x.claimed x.sources x.linked l.place && not (get_or gone l.first false)
+
+-- the index of the first file that is due; the first file of the list has index i
+abbrev pub sought : Leftovers → ℕ → List Leftover → ℕ
+sought x i [] = i
+sought x i (l ∷ ls) = if is_due x x.gone l then i else sought x (i + 1) ls
+
+abbrev pub seeking : Leftovers → ℕ → Leftovers
+seeking x from = record x { at = sought x from (drop from x.files) }
+
+abbrev pub passing : Leftovers → Leftovers
+passing x = seeking (record x { gone = slice_set x.gone (get_or x.files x.at no_leftover).first true }) (x.at + 1)
+
+-- the files that are still to be removed, if these paths are gone
+abbrev pub to_remove : Leftovers → List Bool → List Leftover → List Place
+to_remove x gone [] = []
+to_remove x gone (l ∷ ls) = if is_due x gone l then l.place ∷ to_remove x (slice_set gone l.first true) ls else to_remove x gone ls

@@ -1,47 +1,231 @@
-use Rattle.drv_core.specs.Code.Machine.{ClaimReport, Claims, Closing, Ended, RemovalReport, Removals, Stage, StartReport, Starts, WaitReport, Waits}
-use Rattle.drv_core.specs.declared.answered.ReportAnswer.{ReportAnswer}
-use Rattle.drv_core.specs.declared.answered.ReportAnswer.TheVariants.{Told, Untold}
-use Rattle.drv_core.specs.declared.source.GroupState.{GroupState}
-use Rattle.drv_core.specs.declared.source.GroupState.TheVariants.{Failed, Sound}
-use Rattle.drv_core.specs.declared.source.Point.{Point}
-use Rattle.drv_core.specs.declared.source.Point.TheVariants as point
-use Rattle.drv_core.specs.declared.source.SourceState.{SourceState}
-use Rattle.std.specs.Prelude.{◌<◌, ⊤, Bool, List, false, length, true, ℕ}
+use Rattle.drv_core.specs.Outcomes.{is_claimed, none}
+use Rattle.drv_core.specs.Story.{Block, event, removal_failed, report, start_event}
+use Rattle.drv_words.specs.Places.{group_at}
+use Rattle.drv_words.specs.declared.answers.Answer.{Answer}
+use Rattle.drv_words.specs.declared.answers.Answer.TheVariants as answer
+use Rattle.drv_words.specs.declared.answers.ClaimAnswer.{ClaimAnswer}
+use Rattle.drv_words.specs.declared.answers.ClaimAnswer.TheVariants as claim
+use Rattle.drv_words.specs.declared.answers.NotStarted.{NotStarted}
+use Rattle.drv_words.specs.declared.answers.NotStarted.TheVariants.{Other}
+use Rattle.drv_words.specs.declared.answers.RemoveAnswer.{RemoveAnswer}
+use Rattle.drv_words.specs.declared.answers.RemoveAnswer.TheVariants as remove
+use Rattle.drv_words.specs.declared.answers.StartAnswer.{StartAnswer}
+use Rattle.drv_words.specs.declared.answers.StartAnswer.TheVariants as start
+use Rattle.drv_words.specs.declared.answers.WaitAnswer.{WaitAnswer}
+use Rattle.drv_words.specs.declared.answers.WaitAnswer.TheVariants.{Exit, Lost, Signal}
+use Rattle.drv_words.specs.declared.plan.Job.{Job}
+use Rattle.drv_words.specs.declared.steps.Note.{Note}
+use Rattle.drv_words.specs.declared.steps.Note.TheVariants as note
+use Rattle.drv_words.specs.declared.steps.Place.TheVariants as place
+use Rattle.drv_words.specs.declared.steps.Step.{Step}
+use Rattle.drv_words.specs.declared.steps.Step.TheVariants as step
+use Rattle.std.specs.Prelude.{◌||◌, ◌+◌, Bool, List, [], ◌∷◌, ◌++◌, None, Option, Some, false, get_or, if◌then◌else◌, length, nat_eq}
+use Rattle.std.specs.Prelude.{nat_lt, not, true, ℕ}
 
--- Where the work on a source stands, as the code has it. Private clauses alone cite it.
+-- One source, step by step. Only private clauses cite it: the stories define what a run is.
 
-abbrev pub has_failed : GroupState → Bool
-has_failed Sound = false
-has_failed Failed = true
+-- The stage of a source. ids: the children of the group; was: whether an earlier group started one; fault: whether this group has a fault
+-- so far.
+pub data Stage : Type 0 where
+  Claims : (i : ℕ) → Stage
+  ClaimReport : (i : ℕ) (x : ClaimAnswer) → Stage
+  Starts : (g : ℕ) (was : Bool) (ids : List ℕ) → Stage
+  StartReport : (g : ℕ) (was : Bool) (ids : List ℕ) (why : NotStarted) → Stage
+  Closing : (g : ℕ) (was : Bool) (ids : List ℕ) (why : NotStarted) (told : Bool) → Stage
+  Waits : (g : ℕ) (was : Bool) (ids : List ℕ) (i : ℕ) (fault : Bool) → Stage
+  WaitReport : (g : ℕ) (was : Bool) (ids : List ℕ) (i : ℕ) (fault : Bool) (x : WaitAnswer) → Stage
+  Removals : (i : ℕ) → Stage
+  RemovalReport : (i : ℕ) → Stage
+  Ended : Stage
 
-abbrev pub is_told : ReportAnswer → Bool
-is_told Told = true
-is_told Untold = false
+abbrev pub enter_group : Job → ℕ → Bool → Stage
+enter_group job g was = if nat_lt g (length job.groups) then Starts g was [] else Ended
 
-abbrev pub stage_of : Point → Bool → List ℕ → Stage
-stage_of (point.Claims i) was ids = Claims i
-stage_of (point.ClaimReport i x) was ids = ClaimReport i x
-stage_of (point.Starts g) was ids = Starts g was ids
-stage_of (point.StartReport g why) was ids = StartReport g was ids why
-stage_of (point.Closing g why told) was ids = Closing g was ids why (is_told told)
-stage_of (point.Waits g i state) was ids = Waits g was ids i (has_failed state)
-stage_of (point.WaitReport g i state x) was ids = WaitReport g was ids i (has_failed state) x
-stage_of (point.Removals i) was ids = Removals i
-stage_of (point.RemovalReport i) was ids = RemovalReport i
-stage_of point.Ended was ids = Ended
+abbrev pub enter_claims : Job → ℕ → Stage
+enter_claims job i = if nat_lt i (length job.temps) then Claims i else enter_group job 0 false
 
-abbrev pub stage_at : SourceState → Stage
-stage_at s = stage_of s.point s.started_before s.children.items
+abbrev pub enter_removals : Job → ℕ → Stage
+enter_removals job i = if nat_lt i (length job.on_failure) then Removals i else Ended
 
--- a start is followed by a place for its child
-abbrev pub HasRoom : Stage → ℕ → Type 0
-HasRoom (Claims i) room = ⊤
-HasRoom (ClaimReport i x) room = ⊤
-HasRoom (Starts g was ids) room = length ids < room
-HasRoom (StartReport g was ids why) room = ⊤
-HasRoom (Closing g was ids why told) room = ⊤
-HasRoom (Waits g was ids i fault) room = ⊤
-HasRoom (WaitReport g was ids i fault x) room = ⊤
-HasRoom (Removals i) room = ⊤
-HasRoom (RemovalReport i) room = ⊤
-HasRoom Ended room = ⊤
+abbrev pub end_group : Job → ℕ → Bool → Bool → Stage
+end_group job g started fault = if fault then (if started then enter_removals job 0 else Ended) else enter_group job (g + 1) started
+
+abbrev pub enter_waits : Job → ℕ → Bool → List ℕ → ℕ → Bool → Stage
+enter_waits job g was ids i fault = if nat_lt i (length ids) then Waits g was ids i fault else end_group job g (was || not (none ids)) fault
+
+abbrev pub begin : Job → Stage
+begin job = if none job.groups then Ended else enter_claims job 0
+
+-- the answer to a step of one kind; an answer of another kind counts as a failure
+abbrev pub claim_of : Answer → ClaimAnswer
+claim_of (answer.Claim x) = x
+claim_of (answer.Start x) = claim.Failed
+claim_of answer.Closed = claim.Failed
+claim_of (answer.Wait x) = claim.Failed
+claim_of (answer.Remove x) = claim.Failed
+claim_of (answer.Reported x) = claim.Failed
+
+abbrev pub start_of : Answer → StartAnswer
+start_of (answer.Claim x) = start.NotStarted Other
+start_of (answer.Start x) = x
+start_of answer.Closed = start.NotStarted Other
+start_of (answer.Wait x) = start.NotStarted Other
+start_of (answer.Remove x) = start.NotStarted Other
+start_of (answer.Reported x) = start.NotStarted Other
+
+abbrev pub wait_of : Answer → WaitAnswer
+wait_of (answer.Claim x) = Lost
+wait_of (answer.Start x) = Lost
+wait_of answer.Closed = Lost
+wait_of (answer.Wait x) = x
+wait_of (answer.Remove x) = Lost
+wait_of (answer.Reported x) = Lost
+
+abbrev pub remove_of : Answer → RemoveAnswer
+remove_of (answer.Claim x) = remove.Failed
+remove_of (answer.Start x) = remove.Failed
+remove_of answer.Closed = remove.Failed
+remove_of (answer.Wait x) = remove.Failed
+remove_of (answer.Remove x) = x
+remove_of (answer.Reported x) = remove.Failed
+
+abbrev pub told_of : Answer → Bool
+told_of (answer.Claim x) = false
+told_of (answer.Start x) = false
+told_of answer.Closed = false
+told_of (answer.Wait x) = false
+told_of (answer.Remove x) = false
+told_of (answer.Reported x) = x
+
+abbrev pub after_claim : Job → ℕ → ClaimAnswer → Stage
+after_claim job i x = if is_claimed x then enter_claims job (i + 1) else ClaimReport i x
+
+abbrev pub after_start : Job → ℕ → Bool → List ℕ → StartAnswer → Stage
+after_start job g was ids (start.Started id) = if nat_lt (length ids + 1) (length (group_at job g)) then Starts g was
+    (ids ++ id ∷ []) else enter_waits job g was (ids ++ id ∷ []) 0 false
+after_start job g was ids (start.NotStarted why) = StartReport g was ids why
+
+abbrev pub after_refusal : Job → ℕ → Bool → List ℕ → NotStarted → Bool → Stage
+after_refusal job g was ids why told = if nat_lt 0 (length ids) then Closing g was ids why told else enter_waits job g was ids 0 true
+
+abbrev pub after_wait : Job → ℕ → Bool → List ℕ → ℕ → Bool → WaitAnswer → Stage
+after_wait job g was ids i fault (Exit n) = enter_waits job g was ids (i + 1) (fault || not (nat_eq n 0))
+after_wait job g was ids i fault Signal = WaitReport g was ids i fault Signal
+after_wait job g was ids i fault Lost = WaitReport g was ids i fault Lost
+
+abbrev pub after_removal : Job → ℕ → RemoveAnswer → Stage
+after_removal job i x = if removal_failed x then RemovalReport i else enter_removals job (i + 1)
+
+abbrev pub after : Job → Stage → Answer → Stage
+after job (Claims i) a = after_claim job i (claim_of a)
+after job (ClaimReport i x) a = Ended
+after job (Starts g was ids) a = after_start job g was ids (start_of a)
+after job (StartReport g was ids why) a = after_refusal job g was ids why (told_of a)
+after job (Closing g was ids why told) a = enter_waits job g was ids 0 true
+after job (Waits g was ids i fault) a = after_wait job g was ids i fault (wait_of a)
+after job (WaitReport g was ids i fault x) a = enter_waits job g was ids (i + 1) true
+after job (Removals i) a = after_removal job i (remove_of a)
+after job (RemovalReport i) a = enter_removals job (i + 1)
+after job Ended a = Ended
+
+abbrev pub wait_note : ℕ → ℕ → ℕ → WaitAnswer → Note
+wait_note k g i (Exit n) = note.Lost (place.Command k g i)
+wait_note k g i Signal = note.Signalled (place.Command k g i)
+wait_note k g i Lost = note.Lost (place.Command k g i)
+
+-- the next step
+abbrev pub asks : ℕ → Job → Stage → Option Step
+asks k job (Claims i) = Some (step.Claim (place.Temp k i))
+asks k job (ClaimReport i x) = Some (step.Report (note.NotClaimed (place.Temp k i)))
+asks k job (Starts g was ids) = Some (step.Start (place.Command k g (length ids)) (nat_lt 0 (length ids))
+    (nat_lt (length ids + 1) (length (group_at job g))))
+asks k job (StartReport g was ids why) = Some (step.Report (note.NotStarted (place.Command k g (length ids))))
+asks k job (Closing g was ids why told) = Some step.ClosePipe
+asks k job (Waits g was ids i fault) = Some (step.Wait (place.Command k g i) (get_or ids i 0))
+asks k job (WaitReport g was ids i fault x) = Some (step.Report (wait_note k g i x))
+asks k job (Removals i) = Some (step.Remove (place.OnFailure k i))
+asks k job (RemovalReport i) = Some (step.Report (note.NotRemoved (place.OnFailure k i)))
+asks k job Ended = None
+
+-- whether there is more to do
+abbrev pub left : Stage → Bool
+left (Claims i) = true
+left (ClaimReport i x) = true
+left (Starts g was ids) = true
+left (StartReport g was ids why) = true
+left (Closing g was ids why told) = true
+left (Waits g was ids i fault) = true
+left (WaitReport g was ids i fault x) = true
+left (Removals i) = true
+left (RemovalReport i) = true
+left Ended = false
+
+-- whether the next block is a wait for a child
+abbrev pub awaits : Stage → Bool
+awaits (Claims i) = false
+awaits (ClaimReport i x) = false
+awaits (Starts g was ids) = false
+awaits (StartReport g was ids why) = false
+awaits (Closing g was ids why told) = false
+awaits (Waits g was ids i fault) = nat_lt i (length ids)
+awaits (WaitReport g was ids i fault x) = false
+awaits (Removals i) = false
+awaits (RemovalReport i) = false
+awaits Ended = false
+
+-- whether a block is open
+abbrev pub inside : Stage → Bool
+inside (Claims i) = false
+inside (ClaimReport i x) = true
+inside (Starts g was ids) = not (none ids)
+inside (StartReport g was ids why) = true
+inside (Closing g was ids why told) = true
+inside (Waits g was ids i fault) = false
+inside (WaitReport g was ids i fault x) = true
+inside (Removals i) = false
+inside (RemovalReport i) = true
+inside Ended = false
+
+-- the stage at which the open block began
+abbrev pub base : Stage → Stage
+base (Claims i) = Claims i
+base (ClaimReport i x) = Claims i
+base (Starts g was ids) = Starts g was []
+base (StartReport g was ids why) = Starts g was []
+base (Closing g was ids why told) = Starts g was []
+base (Waits g was ids i fault) = Waits g was ids i fault
+base (WaitReport g was ids i fault x) = Waits g was ids i fault
+base (Removals i) = Removals i
+base (RemovalReport i) = Removals i
+base Ended = Ended
+
+-- the events of the open block
+abbrev pub starts_so_far : ℕ → ℕ → ℕ → ℕ → List ℕ → Block
+starts_so_far k g n i [] = []
+starts_so_far k g n i (id ∷ ids) = start_event k g n i (start.Started id) ∷ starts_so_far k g n (i + 1) ids
+
+abbrev pub refused_so_far : ℕ → ℕ → ℕ → List ℕ → NotStarted → Block
+refused_so_far k g n ids why = starts_so_far k g n 0 ids ++ start_event k g n (length ids) (start.NotStarted why) ∷ []
+
+abbrev pub open_of : ℕ → Job → Stage → Block
+open_of k job (Claims i) = []
+open_of k job (ClaimReport i x) = event (step.Claim (place.Temp k i)) (answer.Claim x) ∷ []
+open_of k job (Starts g was ids) = starts_so_far k g (length (group_at job g)) 0 ids
+open_of k job (StartReport g was ids why) = refused_so_far k g (length (group_at job g)) ids why
+open_of k job (Closing g was ids why told) = refused_so_far k g (length (group_at job g)) ids why
+    ++ report (note.NotStarted (place.Command k g (length ids))) told ∷ []
+open_of k job (Waits g was ids i fault) = []
+open_of k job (WaitReport g was ids i fault x) = event (step.Wait (place.Command k g i) (get_or ids i 0)) (answer.Wait x) ∷ []
+open_of k job (Removals i) = []
+open_of k job (RemovalReport i) = event (step.Remove (place.OnFailure k i)) (answer.Remove remove.Failed) ∷ []
+open_of k job Ended = []
+
+-- whether an answer has the kind of its step
+abbrev pub is_kind : Step → Answer → Bool
+is_kind (step.Claim p) (answer.Claim x) = true
+is_kind (step.Start p from_pipe to_pipe) (answer.Start x) = true
+is_kind step.ClosePipe answer.Closed = true
+is_kind (step.Wait p id) (answer.Wait x) = true
+is_kind (step.Remove p) (answer.Remove x) = true
+is_kind (step.Report n) (answer.Reported x) = true
+is_kind s a = false

@@ -1,5 +1,5 @@
-use Rattle.drv_core.proofs.OneByOne.{rearranges}
-use Rattle.drv_core.proofs.StartedEvents.{starts_the_same}
+use Rattle.drv_core.proofs.Laws.OneByOne.{rearranges}
+use Rattle.drv_core.proofs.Laws.StartedEvents.{starts_the_same}
 use Rattle.drv_core.proofs.law.interleaving_law.Goals as goal
 
 pub returns-clause-answers : goal.returns-clause-answers

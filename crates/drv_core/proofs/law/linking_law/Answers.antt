@@ -1,5 +1,5 @@
-use Rattle.drv_core.proofs.Failed.{fails_where}
-use Rattle.drv_core.proofs.LinkRuns.{links_where}
+use Rattle.drv_core.proofs.Laws.Failed.{fails_where}
+use Rattle.drv_core.proofs.Laws.LinkRuns.{links_where}
 use Rattle.drv_core.proofs.law.linking_law.Goals as goal
 
 pub returns-clause-link : goal.returns-clause-link

@@ -1,4 +1,4 @@
-use Rattle.drv_core.proofs.RemovalRule.{removes_by_rule}
+use Rattle.drv_core.proofs.Laws.RemovalRule.{removes_by_rule}
 use Rattle.drv_core.proofs.law.removal_law.Goals as goal
 
 pub returns : goal.returns

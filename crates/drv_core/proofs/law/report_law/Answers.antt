@@ -1,4 +1,4 @@
-use Rattle.drv_core.proofs.Reports.{all_reported}
+use Rattle.drv_core.proofs.Laws.Reports.{all_reported}
 use Rattle.drv_core.proofs.law.report_law.Goals as goal
 
 pub returns : goal.returns

@@ -1,4 +1,4 @@
-use Rattle.drv_core.proofs.StartedEvents.{started_first}
+use Rattle.drv_core.proofs.Laws.StartedEvents.{started_first}
 use Rattle.drv_core.proofs.law.started_first.Goals as goal
 
 pub returns : goal.returns

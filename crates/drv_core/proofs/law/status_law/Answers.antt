@@ -1,4 +1,4 @@
-use Rattle.drv_core.proofs.Status.{status_is}
+use Rattle.drv_core.proofs.Laws.Status.{status_is}
 use Rattle.drv_core.proofs.law.status_law.Goals as goal
 use Rattle.std.proofs.Common.{sym}
 

@@ -1,4 +1,4 @@
-use Rattle.drv_core.proofs.WaitedFor.{waits_for_each}
+use Rattle.drv_core.proofs.Laws.WaitedFor.{waits_for_each}
 use Rattle.drv_core.proofs.law.waiting_law.Goals as goal
 
 pub returns : goal.returns

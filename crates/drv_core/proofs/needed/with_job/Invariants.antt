@@ -3,7 +3,7 @@ use Rattle.drv_core.specs.Needed.{fitting, job_events}
 use Rattle.std.proofs.Common.{◌≡◌, ◌+◌, ◌*◌, Some, drop, length}
 use Rattle.std.specs.List.{sum_by}
 
--- what is counted, and what the groups that are left come to, is all
+-- the count so far plus the groups that are left is the whole
 abbrev pub invariant-loop-group : goal.invariant-loop-group
 invariant-loop-group l = record {
   counted : l.total + sum_by (λ group. 4 * length group) (drop l.group-index l.group-items) ≡ l.before + job_events l.job;

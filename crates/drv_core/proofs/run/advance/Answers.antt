@@ -1,4 +1,4 @@
-use Rattle.drv_core.proofs.Runs.{advanced, few_at, is_ready, room_at, window_kept}
+use Rattle.drv_core.proofs.Contracts.Runs.{advanced, few_at, is_ready, room_at, window_kept}
 use Rattle.drv_core.proofs.run.advance.Goals as goal
 use Rattle.std.proofs.Common.{◌∙◌, sym}
 

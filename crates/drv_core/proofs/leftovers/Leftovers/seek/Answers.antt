@@ -1,8 +1,8 @@
-use Rattle.drv_core.proofs.Notes.{drop_lefts}
+use Rattle.drv_core.proofs.Paths.Notes.{drop_lefts}
 use Rattle.drv_core.proofs.leftovers.Leftovers.seek.Goals as goal
-use Rattle.drv_core.specs.Code.LeftoverView.{remains_of}
-use Rattle.drv_core.specs.Code.Remains.{sought}
+use Rattle.drv_core.specs.Code.LeftoverView.{leftovers_of}
+use Rattle.drv_core.specs.Code.Leftovers.{sought}
 use Rattle.std.proofs.Common.{◌∙◌, ap}
 
 pub returns : goal.returns
-returns c = ap (λ n. record (remains_of c.args.self.now) { at = n }) (c.sought-self.ensures ∙ ap (λ l. sought (remains_of c.args.self.now) c.args.from l) (drop_lefts c.args.from c.args.self.now.files.items))
+returns c = ap (λ n. record (leftovers_of c.args.self.now) { at = n }) (c.sought-self.ensures ∙ ap (λ l. sought (leftovers_of c.args.self.now) c.args.from l) (drop_lefts c.args.from c.args.self.now.files.items))

@@ -1,6 +1,6 @@
-use Rattle.drv_core.proofs.Files.{all_none, all_some}
+use Rattle.drv_core.proofs.Paths.Files.{all_none, all_some}
 use Rattle.drv_core.proofs.numbering.Numbering.add_all.Goals as goal
-use Rattle.drv_core.specs.Code.Leftovers.{all_files, files_from, job_files}
+use Rattle.drv_core.specs.Code.LeftoverFiles.{all_files, files_from, job_files}
 use Rattle.drv_core.specs.Code.NumberingView.{IsNoted}
 use Rattle.std.proofs.Common.{◌≡◌, ◌++◌, ◌∙◌, OnOk, ap, append_assoc, subst}
 
@@ -11,7 +11,8 @@ returns-in-Some c before h =
     ∙ ap (λ jobs. before ++ (files_from 0 jobs ++ job_files c.len.result c.in-Some.link)) c.as_slice.ensures
     ∙ ap (λ n. before ++ (files_from 0 c.args.plan.now.jobs ++ job_files n c.in-Some.link)) c.len.ensures
     ∙ ap (λ files. before ++ files) (all_some c.args.plan.now c.in-Some.link c.in-Some.is) in
-    subst (λ files. OnOk c.add_job.result (IsNoted files c.add_job.new.self)) all (c.add_job.ensures (before ++ files_from 0 c.as_slice.result.now) (c.in_ok-add_sources.ensures before h))
+    subst (λ files. OnOk c.add_job.result (IsNoted files c.add_job.new.self)) all
+    (c.add_job.ensures (before ++ files_from 0 c.as_slice.result.now) (c.in_ok-add_sources.ensures before h))
 
 pub returns-in-None : goal.returns-in-None
 returns-in-None c before h =

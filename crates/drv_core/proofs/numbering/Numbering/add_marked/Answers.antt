@@ -1,4 +1,4 @@
-use Rattle.drv_core.proofs.Notes.{noting_all, noting_next, noting_starts}
+use Rattle.drv_core.proofs.Paths.Notes.{noting_all, noting_next, noting_starts}
 use Rattle.drv_core.proofs.numbering.Numbering.add_marked.Goals as goal
 use Rattle.drv_core.specs.Outcomes.{marked_files}
 use Rattle.drv_words.specs.declared.steps.Place.TheVariants as place
@@ -8,7 +8,10 @@ pub loop-index-init : goal.loop-index-init
 loop-index-init c before h = noting_starts before (marked_files c.args.number 0 c.as_slice-path-items.result.now) _ _ h
 
 pub loop-index-preserved : goal.loop-index-preserved
-loop-index-preserved c before h = noting_next (marked_files c.args.number) (λ i p. record { place = place.Marked c.args.number i; path = p } ∷ []) _ c.as_slice-path-items.result.now c.loop-index.index c.path-item.result _ _ _ _ (λ rest. refl) c.path-item.is c.loop-index-test.true (c.loop-index.invariant before h) c.in_ok-add_file.ensures
+loop-index-preserved c before h = noting_next (marked_files c.args.number) (λ i p. record { place = place.Marked c.args.number i; path = p }
+    ∷ []) _ c.as_slice-path-items.result.now c.loop-index.index c.path-item.result _ _ _ _ (λ rest. refl) c.path-item.is
+    c.loop-index-test.true (c.loop-index.invariant before h) c.in_ok-add_file.ensures
 
 pub returns : goal.returns
-returns c before h = noting_all (marked_files c.args.number) before c.as_slice-path-items.result.now _ c.loop-index.index _ _ refl c.loop-index-test.false c.as_slice-path-items.ensures (c.loop-index.invariant before h)
+returns c before h = noting_all (marked_files c.args.number) before c.as_slice-path-items.result.now _ c.loop-index.index _ _ refl
+    c.loop-index-test.false c.as_slice-path-items.ensures (c.loop-index.invariant before h)

@@ -1,6 +1,6 @@
-use Rattle.drv_core.proofs.Notes.{noting_all, noting_next, noting_starts}
+use Rattle.drv_core.proofs.Paths.Notes.{noting_all, noting_next, noting_starts}
 use Rattle.drv_core.proofs.numbering.Numbering.add_temps.Goals as goal
-use Rattle.drv_core.specs.Code.Leftovers.{temp_files}
+use Rattle.drv_core.specs.Code.LeftoverFiles.{temp_files}
 use Rattle.drv_words.specs.declared.steps.Place.TheVariants as place
 use Rattle.std.proofs.Common.{[], ◌∷◌, refl}
 
@@ -8,7 +8,11 @@ pub loop-index-init : goal.loop-index-init
 loop-index-init c before h = noting_starts before (temp_files c.args.number 0 c.as_slice-temp-items.result.now) _ _ h
 
 pub loop-index-preserved : goal.loop-index-preserved
-loop-index-preserved c before h = noting_next (temp_files c.args.number) (λ i t. record { place = place.Temp c.args.number i; path = t.path } ∷ []) _ c.as_slice-temp-items.result.now c.loop-index.index c.temp-item.result _ _ _ _ (λ rest. refl) c.temp-item.is c.loop-index-test.true (c.loop-index.invariant before h) c.in_ok-add_file.ensures
+loop-index-preserved c before h = noting_next (temp_files c.args.number)
+    (λ i t. record { place = place.Temp c.args.number i; path = t.path } ∷ []) _ c.as_slice-temp-items.result.now c.loop-index.index
+    c.temp-item.result _ _ _ _ (λ rest. refl) c.temp-item.is c.loop-index-test.true (c.loop-index.invariant before h)
+    c.in_ok-add_file.ensures
 
 pub returns : goal.returns
-returns c before h = noting_all (temp_files c.args.number) before c.as_slice-temp-items.result.now _ c.loop-index.index _ _ refl c.loop-index-test.false c.as_slice-temp-items.ensures (c.loop-index.invariant before h)
+returns c before h = noting_all (temp_files c.args.number) before c.as_slice-temp-items.result.now _ c.loop-index.index _ _ refl
+    c.loop-index-test.false c.as_slice-temp-items.ensures (c.loop-index.invariant before h)

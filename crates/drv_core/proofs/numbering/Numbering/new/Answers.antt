@@ -1,4 +1,4 @@
-use Rattle.drv_core.proofs.Notes.{noted_none}
+use Rattle.drv_core.proofs.Paths.Notes.{noted_none}
 use Rattle.drv_core.proofs.numbering.Numbering.new.Goals as goal
 use Rattle.drv_core.specs.Code.Numbering.{number_in}
 use Rattle.std.proofs.Common.{ap, nat_eq}
@@ -6,4 +6,5 @@ use Rattle.std.specs.Cmp.Lexicographic.{pointwise}
 use Rattle.std.specs.Map.{lookup}
 
 pub returns : goal.returns
-returns c = noted_none c.new.result.items (number_in c.new-2.result.entries (λ k. k.now)) c.new.ensures.items (λ p. ap (λ es. lookup (λ k. pointwise nat_eq p k.now) es) c.new-2.ensures.empty)
+returns c = noted_none c.new.result.items (number_in c.new-2.result.entries (λ k. k.now)) c.new.ensures.items
+    (λ p. ap (λ es. lookup (λ k. pointwise nat_eq p k.now) es) c.new-2.ensures.empty)

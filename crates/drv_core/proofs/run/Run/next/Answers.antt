@@ -1,26 +1,34 @@
-use Rattle.drv_core.proofs.Runs.{knows}
+use Rattle.drv_core.proofs.Contracts.Runs.{knows}
 use Rattle.drv_core.proofs.run.Run.next.Goals as goal
 
 pub returns-clause-beginning : goal.returns-clause-beginning
-returns-clause-beginning c = (knows c.self.inside.plan.now c.self.inside.pass_codes c.self.inside.work c.args.self.now c.look.result c.self.invariant c.self.view_is c.look.ensures).beginning
+returns-clause-beginning c = (knows c.self.inside.plan.now c.self.inside.pass_codes c.self.inside.work c.args.self.now c.look.result
+    c.self.invariant c.self.view_is c.look.ensures).beginning
 
 pub returns-clause-possible : goal.returns-clause-possible
-returns-clause-possible c = (knows c.self.inside.plan.now c.self.inside.pass_codes c.self.inside.work c.args.self.now c.look.result c.self.invariant c.self.view_is c.look.ensures).possible
+returns-clause-possible c = (knows c.self.inside.plan.now c.self.inside.pass_codes c.self.inside.work c.args.self.now c.look.result
+    c.self.invariant c.self.view_is c.look.ensures).possible
 
 pub returns-clause-bound : goal.returns-clause-bound
-returns-clause-bound c = (knows c.self.inside.plan.now c.self.inside.pass_codes c.self.inside.work c.args.self.now c.look.result c.self.invariant c.self.view_is c.look.ensures).bound
+returns-clause-bound c = (knows c.self.inside.plan.now c.self.inside.pass_codes c.self.inside.work c.args.self.now c.look.result
+    c.self.invariant c.self.view_is c.look.ensures).bound
 
 pub returns-clause-fewer : goal.returns-clause-fewer
-returns-clause-fewer c = (knows c.self.inside.plan.now c.self.inside.pass_codes c.self.inside.work c.args.self.now c.look.result c.self.invariant c.self.view_is c.look.ensures).fewer
+returns-clause-fewer c = (knows c.self.inside.plan.now c.self.inside.pass_codes c.self.inside.work c.args.self.now c.look.result
+    c.self.invariant c.self.view_is c.look.ensures).fewer
 
 pub returns-clause-unfinished : goal.returns-clause-unfinished
-returns-clause-unfinished c = (knows c.self.inside.plan.now c.self.inside.pass_codes c.self.inside.work c.args.self.now c.look.result c.self.invariant c.self.view_is c.look.ensures).unfinished
+returns-clause-unfinished c = (knows c.self.inside.plan.now c.self.inside.pass_codes c.self.inside.work c.args.self.now c.look.result
+    c.self.invariant c.self.view_is c.look.ensures).unfinished
 
 pub returns-clause-whole : goal.returns-clause-whole
-returns-clause-whole c = (knows c.self.inside.plan.now c.self.inside.pass_codes c.self.inside.work c.args.self.now c.look.result c.self.invariant c.self.view_is c.look.ensures).whole
+returns-clause-whole c = (knows c.self.inside.plan.now c.self.inside.pass_codes c.self.inside.work c.args.self.now c.look.result
+    c.self.invariant c.self.view_is c.look.ensures).whole
 
 pub returns-clause-pipe : goal.returns-clause-pipe
-returns-clause-pipe c = (knows c.self.inside.plan.now c.self.inside.pass_codes c.self.inside.work c.args.self.now c.look.result c.self.invariant c.self.view_is c.look.ensures).pipe
+returns-clause-pipe c = (knows c.self.inside.plan.now c.self.inside.pass_codes c.self.inside.work c.args.self.now c.look.result
+    c.self.invariant c.self.view_is c.look.ensures).pipe
 
 pub returns-clause-status : goal.returns-clause-status
-returns-clause-status c = (knows c.self.inside.plan.now c.self.inside.pass_codes c.self.inside.work c.args.self.now c.look.result c.self.invariant c.self.view_is c.look.ensures).status
+returns-clause-status c = (knows c.self.inside.plan.now c.self.inside.pass_codes c.self.inside.work c.args.self.now c.look.result
+    c.self.invariant c.self.view_is c.look.ensures).status

@@ -1,0 +1,13 @@
+use Rattle.drv_core.specs.Code.Course.{Phase}
+use Rattle.drv_core.specs.Code.RunState.{RunState, kept, moved, moved_in}
+use Rattle.drv_words.specs.declared.answers.Answer.{Answer}
+use Rattle.drv_words.specs.declared.plan.Plan.{Plan}
+use Rattle.drv_words.specs.declared.steps.Step.{Step}
+use Rattle.std.proofs.Common.{◌≡◌, ◌∙◌, ap, sym}
+
+-- For `Run`: the code moves on after an answer, in each phase.
+
+pub in_part : (plan : Plan) (p q r : RunState) (s : Step) (a : Answer) (h : Phase) → q ≡ kept p s a → q.phase ≡ h → r ≡ moved_in h plan q a
+    → r ≡ moved plan p s a
+in_part plan p q r s a h e at is = is ∙ ap (λ x. moved_in h plan x a) e ∙ ap (λ t. moved_in t plan (kept p s a) a)
+    (sym at ∙ ap (λ x. x.phase) e)

@@ -1,0 +1,450 @@
+use Rattle.drv_core.proofs.Answering.Conditions.{OpenAt, Sized}
+use Rattle.drv_core.proofs.Stories.Order.{is_less, is_not_less}
+use Rattle.drv_core.proofs.Answering.Steps.{Valid, asked}
+use Rattle.drv_core.specs.Code.Source.{ClaimReport, Claims, Closing, Ended, RemovalReport, Removals, Stage, StartReport, Starts, WaitReport}
+use Rattle.drv_core.specs.Code.Source.{Waits, after, asks, end_group, enter_claims, enter_group, enter_removals, enter_waits, is_kind, left}
+use Rattle.drv_core.specs.Code.Source.{wait_note}
+use Rattle.drv_core.specs.Outcomes.{none}
+use Rattle.drv_core.specs.Story.{event, removal_failed}
+use Rattle.drv_words.specs.Places.{group_at}
+use Rattle.drv_words.specs.Stepping.{is_child, is_open, is_start_at, is_wait_for, same_command}
+use Rattle.drv_words.specs.declared.answers.Answer.{Answer}
+use Rattle.drv_words.specs.declared.answers.Answer.TheVariants as answer
+use Rattle.drv_words.specs.declared.answers.ClaimAnswer.{ClaimAnswer}
+use Rattle.drv_words.specs.declared.answers.ClaimAnswer.TheVariants as claim
+use Rattle.drv_words.specs.declared.answers.NotStarted.{NotStarted}
+use Rattle.drv_words.specs.declared.answers.StartAnswer.{StartAnswer}
+use Rattle.drv_words.specs.declared.answers.StartAnswer.TheVariants as start
+use Rattle.drv_words.specs.declared.answers.WaitAnswer.{WaitAnswer}
+use Rattle.drv_words.specs.declared.answers.WaitAnswer.TheVariants.{Exit, Lost, Signal}
+use Rattle.drv_words.specs.declared.plan.Job.{Job}
+use Rattle.drv_words.specs.declared.steps.Note.TheVariants as note
+use Rattle.drv_words.specs.declared.steps.Place.{Place}
+use Rattle.drv_words.specs.declared.steps.Place.TheVariants as place
+use Rattle.drv_words.specs.declared.steps.RunEvent.{RunEvent}
+use Rattle.drv_words.specs.declared.steps.Step.{Step}
+use Rattle.drv_words.specs.declared.steps.Step.TheVariants as step
+use Rattle.std.proofs.Common.{◌≡◌, ◌⊎◌, ◌<◌, ◌≤◌, ◌+◌, ◌∙◌, ◌&&◌, ◌||◌, Bool, false, true, List, [], ◌∷◌, ◌++◌, ap, arith, get_or}
+use Rattle.std.proofs.Common.{if◌then◌else◌, inl, inr, length, length-append, nat_eq, nat_lt, not, refl, subst, suc, sym, zero, ℕ}
+use Rattle.std.proofs.lemmas.Bool.Decides.{nat_tests}
+use Rattle.std.proofs.lemmas.Cmp.{nat_eq_equiv}
+use Rattle.std.specs.List.{list_any}
+use Rattle.std.specs.Prelude.{⊤}
+
+-- For `Run::next`: the child of a wait is open. It was started at its place, and there was no wait there yet.
+
+abbrev pub is_wait_at : Place → Step → Bool
+is_wait_at p (step.Wait q id) = same_command p q
+is_wait_at p (step.Claim q) = false
+is_wait_at p (step.Start q from_pipe to_pipe) = false
+is_wait_at p step.ClosePipe = false
+is_wait_at p (step.Remove q) = false
+is_wait_at p (step.Report n) = false
+
+abbrev pub Unwaited : Place → List RunEvent → Type 0
+Unwaited p E = list_any (λ e. is_wait_at p e.step) E ≡ false
+
+abbrev pub StartedAt : Place → ℕ → List RunEvent → Type 0
+StartedAt p id E = list_any (λ e. is_start_at p e.step && is_child id e.answer) E ≡ true
+
+any_append : (f : RunEvent → Bool) (E : List RunEvent) (e : RunEvent) → list_any f (E ++ e ∷ []) ≡ (list_any f E || f e)
+any_append f [] e = by (f e)
+  where
+    by : (t : Bool) → (t || false) ≡ (false || t)
+    by true = refl
+    by false = refl
+any_append f (x ∷ E) e = ap (λ (t : Bool). f x || t) (any_append f E e) ∙ by (f x) (list_any f E) (f e)
+  where
+    by : (a b c : Bool) → (a || (b || c)) ≡ ((a || b) || c)
+    by true b c = refl
+    by false b c = refl
+
+neither : (a b : Bool) → a ≡ false → b ≡ false → (a || b) ≡ false
+neither a b x y = rw (x, y) refl
+
+unwaited_more : (p : Place) (E : List RunEvent) (e : RunEvent) → Unwaited p E → is_wait_at p e.step ≡ false → Unwaited p (E ++ e ∷ [])
+unwaited_more p E e u n = any_append (λ x. is_wait_at p x.step) E e ∙ neither (list_any (λ x. is_wait_at p x.step) E)
+    (is_wait_at p e.step) u n
+
+started_more : (p : Place) (id : ℕ) (E : List RunEvent) (e : RunEvent) → StartedAt p id E → StartedAt p id (E ++ e ∷ [])
+started_more p id E e s = any_append (λ x. is_start_at p x.step && is_child id x.answer) E e
+    ∙ ap (λ (t : Bool). t || (is_start_at p e.step && is_child id e.answer)) s
+
+or_true : (t : Bool) → (t || true) ≡ true
+or_true true = refl
+or_true false = refl
+
+started_now : (p : Place) (id : ℕ) (E : List RunEvent) (e : RunEvent) → (is_start_at p e.step && is_child id e.answer) ≡ true
+    → StartedAt p id (E ++ e ∷ [])
+started_now p id E e h = any_append (λ x. is_start_at p x.step && is_child id x.answer) E e
+    ∙ ap (λ (t : Bool). list_any (λ x. is_start_at p x.step && is_child id x.answer) E || t) h
+    ∙ or_true (list_any (λ x. is_start_at p x.step && is_child id x.answer) E)
+
+-- a wait for a child at a place is a wait at that place
+wait_there : (p : Place) (id : ℕ) (s : Step) → is_wait_at p s ≡ false → is_wait_for p id s ≡ false
+wait_there p id (step.Wait q old) e = ap (λ (t : Bool). t && nat_eq id old) e
+wait_there p id (step.Claim q) e = refl
+wait_there p id (step.Start q from_pipe to_pipe) e = refl
+wait_there p id step.ClosePipe e = refl
+wait_there p id (step.Remove q) e = refl
+wait_there p id (step.Report n) e = refl
+
+not_waited : (p : Place) (id : ℕ) (E : List RunEvent) → Unwaited p E → list_any (λ e. is_wait_for p id e.step) E ≡ false
+not_waited p id [] u = refl
+not_waited p id (e ∷ E) u = by (not_waited p id E (later (is_wait_at p e.step) u)) u
+  where
+    rest : (t : Bool) → (t || list_any (λ x. is_wait_at p x.step) E) ≡ false → t ≡ false
+    rest true h = absurd cc
+    rest false h = refl
+
+    later : (t : Bool) → (t || list_any (λ x. is_wait_at p x.step) E) ≡ false → list_any (λ x. is_wait_at p x.step) E ≡ false
+    later true h = absurd cc
+    later false h = h
+
+    by : list_any (λ x. is_wait_for p id x.step) E ≡ false → (is_wait_at p e.step || list_any (λ x. is_wait_at p x.step) E) ≡ false
+        → (is_wait_for p id e.step || list_any (λ x. is_wait_for p id x.step) E) ≡ false
+    by tail h = neither (is_wait_for p id e.step) (list_any (λ x. is_wait_for p id x.step) E)
+        (wait_there p id e.step (rest (is_wait_at p e.step) h)) tail
+
+pub open_there : (p : Place) (id : ℕ) (E : List RunEvent) → StartedAt p id E → Unwaited p E → is_open p id E ≡ true
+open_there p id E s u = rw (s, not_waited p id E u) refl
+
+-- there was no wait yet from member l of group h of source k on
+abbrev pub Later : ℕ → ℕ → ℕ → List RunEvent → Type 0
+Later k g i E = (h l : ℕ) → (g < h) ⊎ ((h ≡ g) × (i ≤ l)) → Unwaited (place.Command k h l) E
+
+-- the children from i on were started at their places
+abbrev pub Begun : ℕ → ℕ → List ℕ → ℕ → List RunEvent → Type 0
+Begun k g ids i E = (l : ℕ) → i ≤ l → l < length ids → StartedAt (place.Command k g l) (get_or ids l 0) E
+
+abbrev pub Opens : ℕ → Stage → List RunEvent → Type 0
+Opens k (Claims i) E = Later k 0 0 E
+Opens k (ClaimReport i x) E = ⊤
+Opens k (Starts g was ids) E = Later k g 0 E × Begun k g ids 0 E
+Opens k (StartReport g was ids why) E = Later k g 0 E × Begun k g ids 0 E
+Opens k (Closing g was ids why told) E = Later k g 0 E × Begun k g ids 0 E
+Opens k (Waits g was ids i fault) E = Later k g i E × Begun k g ids i E
+Opens k (WaitReport g was ids i fault x) E = Later k g (i + 1) E × Begun k g ids (i + 1) E
+Opens k (Removals i) E = ⊤
+Opens k (RemovalReport i) E = ⊤
+Opens k Ended E = ⊤
+
+pub open_at : (k : ℕ) (job : Job) (s : Stage) (E : List RunEvent) → Valid job s → Opens k s E → OpenAt k s E
+open_at k job (Claims i) E v o = tt
+open_at k job (ClaimReport i x) E v o = tt
+open_at k job (Starts g was ids) E v o = tt
+open_at k job (StartReport g was ids why) E v o = tt
+open_at k job (Closing g was ids why told) E v o = tt
+open_at k job (Waits g was ids i fault) E v o = open_there (place.Command k g i) (get_or ids i 0) E (o.1 i (omega arith) v)
+    (o.0 g i (inr (refl, omega arith)))
+open_at k job (WaitReport g was ids i fault x) E v o = tt
+open_at k job (Removals i) E v o = tt
+open_at k job (RemovalReport i) E v o = tt
+open_at k job Ended E v o = tt
+
+later_next : (k g h i l : ℕ) (E : List RunEvent) → (g < h) ⊎ ((h ≡ g) × (i ≤ l)) → Later k g i E → Later k h l E
+later_next k g h i l E from w a b to = w a b (at from to)
+  where
+    at : (g < h) ⊎ ((h ≡ g) × (i ≤ l)) → (h < a) ⊎ ((a ≡ h) × (l ≤ b)) → (g < a) ⊎ ((a ≡ g) × (i ≤ b))
+    at (inl x) (inl y) = inl (omega (arith, x, y))
+    at (inl x) (inr y) = inl (let e = y.0 in omega (arith, x, e))
+    at (inr x) (inl y) = inl (let e = x.0 in omega (arith, e, y))
+    at (inr x) (inr y) = inr (y.0 ∙ x.0, (let p = x.1 in let q = y.1 in omega (arith, p, q)))
+
+no_child : (k g : ℕ) (E : List RunEvent) → Begun k g [] 0 E
+no_child k g E l from lt = absurd (let no : l < 0 = lt in omega (arith, no))
+
+opens_group : (k : ℕ) (job : Job) (g : ℕ) (was : Bool) (E : List RunEvent) → Later k g 0 E → Opens k (enter_group job g was) E
+opens_group k job g was E w = by (nat_lt g (length job.groups))
+  where
+    by : (t : Bool) → Opens k (if t then Starts g was [] else Ended) E
+    by true = (w, no_child k g E)
+    by false = tt
+
+pub opens_claims : (k : ℕ) (job : Job) (i : ℕ) (E : List RunEvent) → Later k 0 0 E → Opens k (enter_claims job i) E
+opens_claims k job i E w = by (nat_lt i (length job.temps))
+  where
+    by : (t : Bool) → Opens k (if t then Claims i else enter_group job 0 false) E
+    by true = w
+    by false = opens_group k job 0 false E w
+
+opens_removals : (k : ℕ) (job : Job) (i : ℕ) (E : List RunEvent) → Opens k (enter_removals job i) E
+opens_removals k job i E = by (nat_lt i (length job.on_failure))
+  where
+    by : (t : Bool) → Opens k (if t then Removals i else Ended) E
+    by true = tt
+    by false = tt
+
+opens_end : (k : ℕ) (job : Job) (g i : ℕ) (started fault : Bool) (E : List RunEvent) → Later k g i E
+    → Opens k (end_group job g started fault) E
+opens_end k job g i true true E w = opens_removals k job 0 E
+opens_end k job g i false true E w = tt
+opens_end k job g i started false E w = opens_group k job (g + 1) started E (later_next k g (g + 1) i 0 E (inl (omega arith)) w)
+
+opens_waits : (k : ℕ) (job : Job) (g : ℕ) (was : Bool) (ids : List ℕ) (i : ℕ) (fault : Bool) (E : List RunEvent) → Later k g i E
+    → Begun k g ids i E → Opens k (enter_waits job g was ids i fault) E
+opens_waits k job g was ids i fault E w b = by (nat_lt i (length ids))
+  where
+    by : (t : Bool) → Opens k (if t then Waits g was ids i fault else end_group job g (was || not (none ids)) fault) E
+    by true = (w, b)
+    by false = opens_end k job g i (was || not (none ids)) fault E w
+
+-- an event that is not a wait
+later_kept : (k g i : ℕ) (E : List RunEvent) (e : RunEvent) → ((p : Place) → is_wait_at p e.step ≡ false) → Later k g i E
+    → Later k g i (E ++ e ∷ [])
+later_kept k g i E e n w h l at = unwaited_more (place.Command k h l) E e (w h l at) (n (place.Command k h l))
+
+begun_kept : (k g : ℕ) (ids : List ℕ) (i : ℕ) (E : List RunEvent) (e : RunEvent) → Begun k g ids i E → Begun k g ids i (E ++ e ∷ [])
+begun_kept k g ids i E e b l from lt = started_more (place.Command k g l) (get_or ids l 0) E e (b l from lt)
+
+-- a wait at member i
+later_waited : (k g i id : ℕ) (a : Answer) (E : List RunEvent) → Later k g i E
+    → Later k g (i + 1) (E ++ event (step.Wait (place.Command k g i) id) a ∷ [])
+later_waited k g i id a E w h l at = unwaited_more (place.Command k h l) E (event (step.Wait (place.Command k g i) id) a)
+    (w h l (wider at)) (apart at)
+  where
+    wider : (g < h) ⊎ ((h ≡ g) × (i + 1 ≤ l)) → (g < h) ⊎ ((h ≡ g) × (i ≤ l))
+    wider (inl x) = inl x
+    wider (inr x) = inr (x.0, (let p = x.1 in omega (arith, p)))
+
+    last : (t u : Bool) → u ≡ false → (t && u) ≡ false
+    last true u e = e
+    last false u e = refl
+
+    apart : (g < h) ⊎ ((h ≡ g) × (i + 1 ≤ l)) → (nat_eq k k && (nat_eq h g && nat_eq l i)) ≡ false
+    apart (inl x) = last (nat_eq k k) (nat_eq h g && nat_eq l i) (let ne : nat_eq h g ≡ false = grind (arith, nat_tests) in rw ne refl)
+    apart (inr x) =
+        let p = x.1 in
+        last (nat_eq k k) (nat_eq h g && nat_eq l i) (last (nat_eq h g) (nat_eq l i) (let ne : nat_eq l i ≡ false = grind (arith, nat_tests) in ne))
+
+begun_waited : (k g : ℕ) (ids : List ℕ) (i : ℕ) (E : List RunEvent) (e : RunEvent) → Begun k g ids i E → Begun k g ids (i + 1) (E ++ e ∷ [])
+begun_waited k g ids i E e b l from lt = started_more (place.Command k g l) (get_or ids l 0) E e (b l (omega (arith, from)) lt)
+
+-- one more child
+get_front : (ids : List ℕ) (id l : ℕ) → l < length ids → get_or (ids ++ id ∷ []) l 0 ≡ get_or ids l 0
+get_front [] id l lt = absurd (let no : l < 0 = lt in omega (arith, no))
+get_front (x ∷ ids) id zero lt = refl
+get_front (x ∷ ids) id (suc l) lt = get_front ids id l (omega arith)
+
+get_back : (ids : List ℕ) (id l : ℕ) → l ≡ length ids → get_or (ids ++ id ∷ []) l 0 ≡ id
+get_back [] id zero e = refl
+get_back [] id (suc l) e = absurd (let no : suc l ≡ 0 = e in omega (arith, no))
+get_back (x ∷ ids) id zero e = absurd (let no : zero ≡ suc (length ids) = e in omega (arith, no))
+get_back (x ∷ ids) id (suc l) e = get_back ids id l (omega arith)
+
+begun_started : (k g id : ℕ) (ids : List ℕ) (from_pipe to_pipe : Bool) (E : List RunEvent) → Begun k g ids 0 E
+    → Begun k g (ids ++ id ∷ []) 0 (E ++ event (step.Start (place.Command k g (length ids)) from_pipe to_pipe)
+    (answer.Start (start.Started id)) ∷ [])
+begun_started k g id ids from_pipe to_pipe E b l from lt = by (nat_lt l (length ids)) refl
+  where
+    new : RunEvent
+    new = event (step.Start (place.Command k g (length ids)) from_pipe to_pipe) (answer.Start (start.Started id))
+
+    by : (t : Bool) → nat_lt l (length ids) ≡ t → StartedAt (place.Command k g l) (get_or (ids ++ id ∷ []) l 0)
+        (E ++ event (step.Start (place.Command k g (length ids)) from_pipe to_pipe) (answer.Start (start.Started id)) ∷ [])
+    by true e = subst (λ n. StartedAt (place.Command k g l) n (E ++ new ∷ [])) (sym (get_front ids id l (is_less l (length ids) e)))
+        (started_more (place.Command k g l) (get_or ids l 0) E new (b l from (is_less l (length ids) e)))
+    by false e =
+        let len : length (ids ++ id ∷ []) ≡ length ids + 1 = length-append {A = ℕ} ids (id ∷ []) in
+        let past : length ids ≤ l = is_not_less l (length ids) e in
+        let is : l ≡ length ids = omega (arith, len, past, lt) in
+        subst (λ n. StartedAt (place.Command k g l) n (E ++ new ∷ [])) (sym (get_back ids id l is))
+        (started_now (place.Command k g l) id E new (subst (λ n. ((nat_eq k k && (nat_eq g g && nat_eq n (length ids))) && nat_eq id id)
+        ≡ true) (sym is) (rw (nat_eq_equiv.refl k, nat_eq_equiv.refl g, nat_eq_equiv.refl (length ids), nat_eq_equiv.refl id) refl)))
+
+opens_claimed : (k : ℕ) (job : Job) (i : ℕ) (x : ClaimAnswer) (E : List RunEvent) → Later k 0 0 E
+    → Opens k (after job (Claims i) (answer.Claim x)) (E ++ event (step.Claim (place.Temp k i)) (answer.Claim x) ∷ [])
+opens_claimed k job i claim.Claimed E w = opens_claims k job (i + 1) (E ++ event (step.Claim (place.Temp k i)) (answer.Claim claim.Claimed)
+    ∷ []) (later_kept k 0 0 E (event (step.Claim (place.Temp k i)) (answer.Claim claim.Claimed)) (λ p. refl) w)
+opens_claimed k job i claim.Taken E w = tt
+opens_claimed k job i claim.Failed E w = tt
+
+opens_started : (k : ℕ) (job : Job) (g : ℕ) (was : Bool) (ids : List ℕ) (x : StartAnswer) (E : List RunEvent) → Later k g 0 E
+    → Begun k g ids 0 E → Opens k (after job (Starts g was ids) (answer.Start x)) (E ++ event (asked (asks k job (Starts g was ids)))
+    (answer.Start x) ∷ [])
+opens_started k job g was ids (start.NotStarted why) E w b = (
+  later_kept k g 0 E (event (asked (asks k job (Starts g was ids)))
+      (answer.Start (start.NotStarted why))) (λ p. refl) w,
+  begun_kept k g ids 0 E (event (asked (asks k job (Starts g was ids)))
+      (answer.Start (start.NotStarted why))) b,
+)
+opens_started k job g was ids (start.Started id) E w b = by (nat_lt (length ids + 1) (length (group_at job g)))
+    (later_kept k g 0 E (event (asked (asks k job (Starts g was ids))) (answer.Start (start.Started id))) (λ p. refl) w)
+    (begun_started k g id ids (nat_lt 0 (length ids)) (nat_lt (length ids + 1) (length (group_at job g))) E b)
+  where
+    by : (t : Bool) → Later k g 0 (E ++ event (asked (asks k job (Starts g was ids))) (answer.Start (start.Started id)) ∷ [])
+        → Begun k g (ids ++ id ∷ []) 0 (E ++ event (asked (asks k job (Starts g was ids))) (answer.Start (start.Started id)) ∷ [])
+        → Opens k (if t then Starts g was (ids ++ id ∷ []) else enter_waits job g was (ids ++ id ∷ []) 0 false)
+        (E ++ event (asked (asks k job (Starts g was ids))) (answer.Start (start.Started id)) ∷ [])
+    by true v c = (v, c)
+    by false v c = opens_waits k job g was (ids ++ id ∷ []) 0 false (E ++ event (asked (asks k job (Starts g was ids)))
+        (answer.Start (start.Started id)) ∷ []) v c
+
+opens_refusal : (k : ℕ) (job : Job) (g : ℕ) (was : Bool) (ids : List ℕ) (why : NotStarted) (t : Bool) (E : List RunEvent) → Later k g 0 E
+    → Begun k g ids 0 E → Opens k (after job (StartReport g was ids why) (answer.Reported t)) E
+opens_refusal k job g was ids why t E w b = by (nat_lt 0 (length ids))
+  where
+    by : (u : Bool) → Opens k (if u then Closing g was ids why t else enter_waits job g was ids 0 true) E
+    by true = (w, b)
+    by false = opens_waits k job g was ids 0 true E w b
+
+opens_waited : (k : ℕ) (job : Job) (g : ℕ) (was : Bool) (ids : List ℕ) (i : ℕ) (fault : Bool) (x : WaitAnswer) (E : List RunEvent)
+    → Later k g (i + 1) E → Begun k g ids (i + 1) E → Opens k (after job (Waits g was ids i fault) (answer.Wait x)) E
+opens_waited k job g was ids i fault (Exit n) E w b = opens_waits k job g was ids (i + 1) (fault || not (nat_eq n 0)) E w b
+opens_waited k job g was ids i fault Signal E w b = (w, b)
+opens_waited k job g was ids i fault Lost E w b = (w, b)
+
+opens_removed : (k : ℕ) (job : Job) (i : ℕ) (t : Bool) (E : List RunEvent)
+    → Opens k (if t then RemovalReport i else enter_removals job (i + 1)) E
+opens_removed k job i true E = tt
+opens_removed k job i false E = opens_removals k job (i + 1) E
+
+-- one event of the source itself
+pub opens_after : (k : ℕ) (job : Job) (s : Stage) (a : Answer) (E : List RunEvent) → left s ≡ true → is_kind (asked (asks k job s)) a ≡ true
+    → Opens k s E → Opens k (after job s a) (E ++ event (asked (asks k job s)) a ∷ [])
+opens_after k job (Claims i) (answer.Claim x) E l e o = opens_claimed k job i x E o
+opens_after k job (Claims i) a E l e o = absurd cc
+opens_after k job (ClaimReport i x) a E l e o = tt
+opens_after k job (Starts g was ids) (answer.Start x) E l e o = opens_started k job g was ids x E o.0 o.1
+opens_after k job (Starts g was ids) a E l e o = absurd cc
+opens_after k job (StartReport g was ids why) (answer.Reported t) E l e o = opens_refusal k job g was ids why t
+    (E ++ event (asked (asks k job (StartReport g was ids why))) (answer.Reported t) ∷ [])
+    (later_kept k g 0 E (event (asked (asks k job (StartReport g was ids why))) (answer.Reported t)) (λ p. refl) o.0)
+    (begun_kept k g ids 0 E (event (asked (asks k job (StartReport g was ids why))) (answer.Reported t)) o.1)
+opens_after k job (StartReport g was ids why) a E l e o = absurd cc
+opens_after k job (Closing g was ids why told) a E l e o = opens_waits k job g was ids 0 true (E ++ event step.ClosePipe a ∷ [])
+    (later_kept k g 0 E (event step.ClosePipe a) (λ p. refl) o.0) (begun_kept k g ids 0 E (event step.ClosePipe a) o.1)
+opens_after k job (Waits g was ids i fault) (answer.Wait x) E l e o = opens_waited k job g was ids i fault x
+    (E ++ event (asked (asks k job (Waits g was ids i fault))) (answer.Wait x) ∷ []) (later_waited k g i (get_or ids i 0) (answer.Wait x) E
+    o.0) (begun_waited k g ids i E (event (asked (asks k job (Waits g was ids i fault))) (answer.Wait x)) o.1)
+opens_after k job (Waits g was ids i fault) a E l e o = absurd cc
+opens_after k job (WaitReport g was ids i fault x) a E l e o = opens_waits k job g was ids (i + 1) true
+    (E ++ event (step.Report (wait_note k g i x)) a ∷ []) (later_kept k g (i + 1) E (event (step.Report (wait_note k g i x)) a) (λ p. refl)
+    o.0) (begun_kept k g ids (i + 1) E (event (step.Report (wait_note k g i x)) a) o.1)
+opens_after k job (Removals i) (answer.Remove x) E l e o = opens_removed k job i (removal_failed x)
+    (E ++ event (step.Remove (place.OnFailure k i)) (answer.Remove x) ∷ [])
+opens_after k job (Removals i) a E l e o = absurd cc
+opens_after k job (RemovalReport i) a E l e o = opens_removals k job (i + 1)
+    (E ++ event (step.Report (note.NotRemoved (place.OnFailure k i))) a ∷ [])
+opens_after k job Ended a E l e o = absurd cc
+
+-- an event of another source
+other_wait : (j k : ℕ) (job : Job) (s : Stage) → nat_eq k j ≡ false → (h l : ℕ)
+    → is_wait_at (place.Command k h l) (asked (asks j job s)) ≡ false
+other_wait j k job (Claims i) e h l = refl
+other_wait j k job (ClaimReport i x) e h l = refl
+other_wait j k job (Starts g was ids) e h l = refl
+other_wait j k job (StartReport g was ids why) e h l = refl
+other_wait j k job (Closing g was ids why told) e h l = refl
+other_wait j k job (Waits g was ids i fault) e h l = rw e refl
+other_wait j k job (WaitReport g was ids i fault x) e h l = refl
+other_wait j k job (Removals i) e h l = refl
+other_wait j k job (RemovalReport i) e h l = refl
+other_wait j k job Ended e h l = refl
+
+later_other : (k g i : ℕ) (E : List RunEvent) (e : RunEvent) → ((h l : ℕ) → is_wait_at (place.Command k h l) e.step ≡ false) → Later k g i E
+    → Later k g i (E ++ e ∷ [])
+later_other k g i E e n w h l at = unwaited_more (place.Command k h l) E e (w h l at) (n h l)
+
+opens_kept : (k : ℕ) (s : Stage) (E : List RunEvent) (e : RunEvent) → ((h l : ℕ) → is_wait_at (place.Command k h l) e.step ≡ false)
+    → Opens k s E → Opens k s (E ++ e ∷ [])
+opens_kept k (Claims i) E e n o = later_other k 0 0 E e n o
+opens_kept k (ClaimReport i x) E e n o = tt
+opens_kept k (Starts g was ids) E e n o = (later_other k g 0 E e n o.0, begun_kept k g ids 0 E e o.1)
+opens_kept k (StartReport g was ids why) E e n o = (later_other k g 0 E e n o.0, begun_kept k g ids 0 E e o.1)
+opens_kept k (Closing g was ids why told) E e n o = (later_other k g 0 E e n o.0, begun_kept k g ids 0 E e o.1)
+opens_kept k (Waits g was ids i fault) E e n o = (later_other k g i E e n o.0, begun_kept k g ids i E e o.1)
+opens_kept k (WaitReport g was ids i fault x) E e n o = (later_other k g (i + 1) E e n o.0, begun_kept k g ids (i + 1) E e o.1)
+opens_kept k (Removals i) E e n o = tt
+opens_kept k (RemovalReport i) E e n o = tt
+opens_kept k Ended E e n o = tt
+
+pub opens_other : (j k : ℕ) (job : Job) (t s : Stage) (a : Answer) (E : List RunEvent) → nat_eq k j ≡ false → Opens k s E
+    → Opens k s (E ++ event (asked (asks j job t)) a ∷ [])
+opens_other j k job t s a E e o = opens_kept k s E (event (asked (asks j job t)) a) (other_wait j k job t e) o
+
+-- a group has at most as many children as commands
+
+sized_group : (job : Job) (g : ℕ) (was : Bool) → Sized job (enter_group job g was)
+sized_group job g was = by (nat_lt g (length job.groups))
+  where
+    by : (t : Bool) → Sized job (if t then Starts g was [] else Ended)
+    by true = tt
+    by false = tt
+
+pub sized_claims : (job : Job) (i : ℕ) → Sized job (enter_claims job i)
+sized_claims job i = by (nat_lt i (length job.temps))
+  where
+    by : (t : Bool) → Sized job (if t then Claims i else enter_group job 0 false)
+    by true = tt
+    by false = sized_group job 0 false
+
+sized_removals : (job : Job) (i : ℕ) → Sized job (enter_removals job i)
+sized_removals job i = by (nat_lt i (length job.on_failure))
+  where
+    by : (t : Bool) → Sized job (if t then Removals i else Ended)
+    by true = tt
+    by false = tt
+
+sized_end : (job : Job) (g : ℕ) (started fault : Bool) → Sized job (end_group job g started fault)
+sized_end job g true true = sized_removals job 0
+sized_end job g false true = tt
+sized_end job g started false = sized_group job (g + 1) started
+
+sized_waits : (job : Job) (g : ℕ) (was : Bool) (ids : List ℕ) (i : ℕ) (fault : Bool) → length ids ≤ length (group_at job g)
+    → Sized job (enter_waits job g was ids i fault)
+sized_waits job g was ids i fault le = by (nat_lt i (length ids))
+  where
+    by : (t : Bool) → Sized job (if t then Waits g was ids i fault else end_group job g (was || not (none ids)) fault)
+    by true = le
+    by false = sized_end job g (was || not (none ids)) fault
+
+sized_claimed : (job : Job) (i : ℕ) (x : ClaimAnswer) → Sized job (after job (Claims i) (answer.Claim x))
+sized_claimed job i claim.Claimed = sized_claims job (i + 1)
+sized_claimed job i claim.Taken = tt
+sized_claimed job i claim.Failed = tt
+
+sized_started : (job : Job) (g : ℕ) (was : Bool) (ids : List ℕ) (x : StartAnswer) → length ids < length (group_at job g)
+    → Sized job (after job (Starts g was ids) (answer.Start x))
+sized_started job g was ids (start.NotStarted why) lt = tt
+sized_started job g was ids (start.Started id) lt = by (nat_lt (length ids + 1) (length (group_at job g)))
+  where
+    by : (t : Bool) → Sized job (if t then Starts g was (ids ++ id ∷ []) else enter_waits job g was (ids ++ id ∷ []) 0 false)
+    by true = tt
+    by false = sized_waits job g was (ids ++ id ∷ []) 0 false (let len : length (ids ++ id ∷ []) ≡ length ids + 1 = length-append {A = ℕ} ids (id ∷ []) in omega (arith, len, lt))
+
+sized_refusal : (job : Job) (g : ℕ) (was : Bool) (ids : List ℕ) (why : NotStarted) (t : Bool) → length ids < length (group_at job g)
+    → Sized job (after job (StartReport g was ids why) (answer.Reported t))
+sized_refusal job g was ids why t lt = by (nat_lt 0 (length ids))
+  where
+    by : (u : Bool) → Sized job (if u then Closing g was ids why t else enter_waits job g was ids 0 true)
+    by true = tt
+    by false = sized_waits job g was ids 0 true (omega (arith, lt))
+
+sized_waited : (job : Job) (g : ℕ) (was : Bool) (ids : List ℕ) (i : ℕ) (fault : Bool) (x : WaitAnswer)
+    → length ids ≤ length (group_at job g) → Sized job (after job (Waits g was ids i fault) (answer.Wait x))
+sized_waited job g was ids i fault (Exit n) le = sized_waits job g was ids (i + 1) (fault || not (nat_eq n 0)) le
+sized_waited job g was ids i fault Signal le = le
+sized_waited job g was ids i fault Lost le = le
+
+sized_removed : (job : Job) (i : ℕ) (t : Bool) → Sized job (if t then RemovalReport i else enter_removals job (i + 1))
+sized_removed job i true = tt
+sized_removed job i false = sized_removals job (i + 1)
+
+pub sized_after : (k : ℕ) (job : Job) (s : Stage) (a : Answer) → Valid job s → left s ≡ true → is_kind (asked (asks k job s)) a ≡ true
+    → Sized job s → Sized job (after job s a)
+sized_after k job (Claims i) (answer.Claim x) v l e z = sized_claimed job i x
+sized_after k job (Claims i) a v l e z = absurd cc
+sized_after k job (ClaimReport i x) a v l e z = tt
+sized_after k job (Starts g was ids) (answer.Start x) v l e z = sized_started job g was ids x v
+sized_after k job (Starts g was ids) a v l e z = absurd cc
+sized_after k job (StartReport g was ids why) (answer.Reported t) v l e z = sized_refusal job g was ids why t v
+sized_after k job (StartReport g was ids why) a v l e z = absurd cc
+sized_after k job (Closing g was ids why told) a v l e z = sized_waits job g was ids 0 true (let lt = v.0 in omega (arith, lt))
+sized_after k job (Waits g was ids i fault) (answer.Wait x) v l e z = sized_waited job g was ids i fault x z
+sized_after k job (Waits g was ids i fault) a v l e z = absurd cc
+sized_after k job (WaitReport g was ids i fault x) a v l e z = sized_waits job g was ids (i + 1) true z
+sized_after k job (Removals i) (answer.Remove x) v l e z = sized_removed job i (removal_failed x)
+sized_after k job (Removals i) a v l e z = absurd cc
+sized_after k job (RemovalReport i) a v l e z = sized_removals job (i + 1)
+sized_after k job Ended a v l e z = absurd cc

@@ -1,0 +1,248 @@
+use Rattle.drv_core.proofs.Bounds.Bound.{cost, cost_less, less_to_come, to_come}
+use Rattle.drv_core.proofs.Answering.Conditions.{Sized, makes, pipe_kept, piped, piped_out}
+use Rattle.drv_core.proofs.WholeRuns.Finish.{summed}
+use Rattle.drv_core.proofs.Answering.Underway.{Going, Landed, Stages, begin_out, gone_on, made, next_stage, stage_closed, stage_opened}
+use Rattle.drv_core.proofs.Answering.Underway.{stages_of, starts, takes, turn_about}
+use Rattle.drv_core.proofs.Answering.Open.{Later, Opens, open_at, opens_after, opens_claims, opens_other, sized_after, sized_claims}
+use Rattle.drv_core.proofs.Stories.Order.{apart_above, is_less, same}
+use Rattle.drv_core.proofs.WholeRuns.Standing.{put}
+use Rattle.drv_core.proofs.Answering.Steps.{Valid, asked, put_here}
+use Rattle.drv_core.specs.Filled.{Filled}
+use Rattle.drv_core.specs.Code.Fleet.{Fleet, first_busy, fresh, fresh_fleet, opened, settled, stage_in, taken, turned}
+use Rattle.drv_core.specs.Code.Source.{Claims, Ended, Stage, after, asks, begin, enter_claims, inside, is_kind, left}
+use Rattle.drv_core.specs.Outcomes.{none}
+use Rattle.drv_words.specs.Places.{job_at, no_job}
+use Rattle.drv_words.specs.Stepping.{can_make, pipe_pending}
+use Rattle.drv_words.specs.declared.answers.Answer.{Answer}
+use Rattle.drv_words.specs.declared.answers.Answer.TheVariants as answer
+use Rattle.drv_words.specs.declared.answers.ClaimAnswer.TheVariants.{Taken}
+use Rattle.drv_words.specs.declared.answers.NotStarted.TheVariants.{Other}
+use Rattle.drv_words.specs.declared.answers.RemoveAnswer.TheVariants.{Missing}
+use Rattle.drv_words.specs.declared.answers.StartAnswer.TheVariants.{NotStarted}
+use Rattle.drv_words.specs.declared.answers.WaitAnswer.TheVariants.{Lost}
+use Rattle.drv_words.specs.declared.plan.Job.{Job}
+use Rattle.drv_words.specs.declared.plan.Plan.{Plan}
+use Rattle.drv_words.specs.declared.steps.RunEvent.{RunEvent}
+use Rattle.drv_words.specs.declared.steps.Step.{Step}
+use Rattle.drv_words.specs.declared.steps.Step.TheVariants as step
+use Rattle.std.proofs.Common.{◌≡◌, ◌⊎◌, ◌<◌, ◌≤◌, ◌+◌, ◌∙◌, Bool, false, true, List, [], ◌∷◌, ◌++◌, ap, arith, get_or, if◌then◌else◌, inl}
+use Rattle.std.proofs.Common.{inr, length, length-append, nat_eq, refl, subst, suc, sym, zero, ℕ}
+use Rattle.std.proofs.Math.ListN.{get_or-map}
+use Rattle.std.proofs.Math.Path.{fun_ext}
+use Rattle.std.proofs.lemmas.Bool.Decides.{nat_tests}
+use Rattle.std.proofs.lemmas.List.{get_or_append_left}
+use Rattle.std.specs.Option.{option_to_list}
+
+-- For the sources of `Run`: each step can be made, and uses up one of the events that can come.
+
+-- most: the most events of the sources
+pub record Sure (jobs : List Job) (N most : ℕ) (f : Fleet) (E : List RunEvent) : Type 0 where
+  pub going : Going jobs N f E
+  pub opens : (j : ℕ) → Opens j (stage_in f j) E
+  pub sized : (j : ℕ) → Sized (get_or jobs j no_job) (stage_in f j)
+  pub pipe : pipe_pending E ≡ piped (stage_in f f.current)
+  pub bound : length E + to_come jobs (stage_in f) ≤ most
+  -- there was no wait for a child of the link
+  pub later : Later (length jobs) 0 0 E
+
+pub record Over (jobs : List Job) (N most : ℕ) (f : Fleet) (E : List RunEvent) : Type 0 where
+  pub landed : Landed jobs N f E
+  pub pipe : pipe_pending E ≡ false
+  pub bound : length E ≤ most
+  pub later : Later (length jobs) 0 0 E
+
+-- the next step can be made
+pub sure_makes : (plan : Plan) (N most : ℕ) (f : Fleet) (E : List RunEvent) → Sure plan.jobs N most f E
+    → can_make plan E (asked (asks f.current (get_or plan.jobs f.current no_job) (stage_in f f.current))) ≡ true
+sure_makes plan N most f E s = subst (λ job. can_make plan E (asked (asks f.current job (stage_in f f.current))) ≡ true) job_is
+    (makes plan f.current (stage_in f f.current) E (subst (λ job. Valid job (stage_in f f.current)) (sym job_is) valid)
+    (subst (λ job. Sized job (stage_in f f.current)) (sym job_is) (s.sized f.current))
+    (open_at f.current (get_or plan.jobs f.current no_job) (stage_in f f.current) E valid (s.opens f.current))
+    (ap left (s.going.at f.current) ∙ s.going.more) s.pipe)
+  where
+    job_is : job_at plan f.current ≡ get_or plan.jobs f.current no_job
+    job_is = get_or_append_left plan.jobs (option_to_list plan.link) no_job f.current
+        (is_less f.current (length plan.jobs) s.going.may.is_source)
+
+    valid : Valid (get_or plan.jobs f.current no_job) (stage_in f f.current)
+    valid = subst (λ t. Valid (get_or plan.jobs f.current no_job) t) (sym (s.going.at f.current)) (s.going.run.valid f.current)
+
+-- and there is room for its events
+
+abbrev answer_for : Step → Answer
+answer_for (step.Claim p) = answer.Claim Taken
+answer_for (step.Start p from_pipe to_pipe) = answer.Start (NotStarted Other)
+answer_for step.ClosePipe = answer.Closed
+answer_for (step.Wait p id) = answer.Wait Lost
+answer_for (step.Remove p) = answer.Remove Missing
+answer_for (step.Report n) = answer.Reported false
+
+answers : (s : Step) → is_kind s (answer_for s) ≡ true
+answers (step.Claim p) = refl
+answers (step.Start p from_pipe to_pipe) = refl
+answers step.ClosePipe = refl
+answers (step.Wait p id) = refl
+answers (step.Remove p) = refl
+answers (step.Report n) = refl
+
+pub cost_some : (k : ℕ) (job : Job) (s : Stage) → Valid job s → left s ≡ true → 0 < cost job s
+cost_some k job s v l =
+    let lt : cost job (after job s (answer_for (asked (asks k job s)))) < cost job s = cost_less k job s (answer_for (asked (asks k job s))) v l (answers (asked (asks k job s))) in
+    omega (arith, lt)
+
+some_summed : (n k : ℕ) (f : ℕ → ℕ) → k < n → 0 < f k → 0 < summed n f
+some_summed zero k f lt some = absurd (omega arith)
+some_summed (suc n) k f lt some = by (nat_eq k n) refl (λ below. some_summed n k f below some)
+  where
+    by : (t : Bool) → nat_eq k n ≡ t → (k < n → 0 < summed n f) → 0 < f n + summed n f
+    by true e ih = let here : 0 < f n = subst (λ i. 0 < f i) (same k n e) some in omega (arith, here)
+    by false e ih = let rest : 0 < summed n f = ih (grind (arith, nat_tests)) in omega (arith, rest)
+
+valid_in : (jobs : List Job) (N : ℕ) (f : Fleet) (E : List RunEvent) → (g : Going jobs N f E)
+    → Valid (get_or jobs f.current no_job) (stage_in f f.current)
+valid_in jobs N f E g = subst (λ t. Valid (get_or jobs f.current no_job) t) (sym (g.at f.current)) (g.run.valid f.current)
+
+left_in : (jobs : List Job) (N : ℕ) (f : Fleet) (E : List RunEvent) → Going jobs N f E → left (stage_in f f.current) ≡ true
+left_in jobs N f E g = ap left (g.at f.current) ∙ g.more
+
+pub sure_fewer : (jobs : List Job) (N most : ℕ) (f : Fleet) (E : List RunEvent) → Sure jobs N most f E → length E < most
+sure_fewer jobs N most f E s =
+    let le = s.bound in
+    let some : 0 < to_come jobs (stage_in f) = some_summed (length jobs) f.current (λ j. cost (get_or jobs j no_job) (stage_in f j)) (is_less f.current (length jobs) s.going.may.is_source)
+    (cost_some f.current (get_or jobs f.current no_job) (stage_in f f.current) (valid_in jobs N f E s.going) (left_in jobs N f E s.going)) in
+    omega (arith, le, some)
+
+-- one more answer
+
+stage_settled : (jobs : List Job) (g : Fleet) (j : ℕ) → stage_in (settled jobs g) j ≡ stage_in g j
+stage_settled jobs g j = by (inside (stage_in g g.current))
+  where
+    by : (t : Bool) → stage_in (if t then g else turned jobs g) j ≡ stage_in g j
+    by true = refl
+    by false = stage_closed (opened jobs g) j ∙ stage_opened jobs g j
+
+current_settled : (jobs : List Job) (g : Fleet) → inside (stage_in g g.current) ≡ true → (settled jobs g).current ≡ g.current
+current_settled jobs g e = ap (λ (t : Bool). (if t then g else turned jobs g).current) e
+
+pub sure_takes : (jobs : List Job) (N most : ℕ) (f : Fleet) (E : List RunEvent) (a : Answer) → 1 ≤ N
+    → ((j : ℕ) → Filled (get_or jobs j no_job)) → Sure jobs N most f E
+    → is_kind (asked (asks f.current (get_or jobs f.current no_job) (stage_in f f.current))) a ≡ true
+    → Sure jobs N most (taken jobs f a) (E ++ made jobs f (stage_in f) a ∷ []) ⊎ Over jobs N most (taken jobs f a)
+    (E ++ made jobs f (stage_in f) a ∷ [])
+sure_takes jobs N most f E a some filled s kind = by (takes jobs N f E a some filled s.going kind)
+  where
+    g : Going jobs N f E
+    g = s.going
+
+    in_range : f.current < length jobs
+    in_range = is_less f.current (length jobs) s.going.may.is_source
+
+    valid : Valid (get_or jobs f.current no_job) (stage_in f f.current)
+    valid = valid_in jobs N f E s.going
+
+    more : left (stage_in f f.current) ≡ true
+    more = left_in jobs N f E s.going
+
+    z : Stages jobs N f a (stage_in f)
+    z = stages_of jobs N f a (stage_in f) (subst (λ n. f.current < n) (sym s.going.counts.sizes) in_range) (λ j. refl)
+
+    at : (j : ℕ) → stage_in (taken jobs f a) j ≡ put (stage_in f) f.current (next_stage jobs f (stage_in f) a) j
+    at j = stage_settled jobs (gone_on jobs f a) j ∙ z.at j
+
+    opens_by : (j : ℕ) (t : Bool) → nat_eq f.current j ≡ t → Opens j (if t then next_stage jobs f (stage_in f) a else stage_in f j)
+        (E ++ made jobs f (stage_in f) a ∷ [])
+    opens_by j true e = subst (λ i. Opens i (next_stage jobs f (stage_in f) a) (E ++ made jobs f (stage_in f) a ∷ [])) (same f.current j e)
+        (opens_after f.current (get_or jobs f.current no_job) (stage_in f f.current) a E more kind (s.opens f.current))
+    opens_by j false e = opens_other f.current j (get_or jobs f.current no_job) (stage_in f f.current) (stage_in f j) a E
+        (turn_about f.current j false e) (s.opens j)
+
+    sized_by : (j : ℕ) (t : Bool) → nat_eq f.current j ≡ t
+        → Sized (get_or jobs j no_job) (if t then next_stage jobs f (stage_in f) a else stage_in f j)
+    sized_by j true e = subst (λ i. Sized (get_or jobs i no_job) (next_stage jobs f (stage_in f) a)) (same f.current j e)
+        (sized_after f.current (get_or jobs f.current no_job) (stage_in f f.current) a valid more kind (s.sized f.current))
+    sized_by j false e = s.sized j
+
+    bound : length (E ++ made jobs f (stage_in f) a ∷ []) + to_come jobs (stage_in (taken jobs f a)) ≤ most
+    bound =
+        let less : to_come jobs (put (stage_in f) f.current (next_stage jobs f (stage_in f) a)) < to_come jobs (stage_in f) = less_to_come jobs (stage_in f) f.current a in_range valid more kind in
+        let is : to_come jobs (stage_in (taken jobs f a)) ≡ to_come jobs (put (stage_in f) f.current (next_stage jobs f (stage_in f) a)) = ap (λ st. to_come jobs st) (fun_ext at) in
+        let len : length (E ++ made jobs f (stage_in f) a ∷ []) ≡ length E + 1 = length-append {A = RunEvent} E (made jobs f (stage_in f) a ∷ []) in
+        let le = s.bound in
+        omega (arith, less, is, len, le)
+
+    later : Later (length jobs) 0 0 (E ++ made jobs f (stage_in f) a ∷ [])
+    later = opens_other f.current (length jobs) (get_or jobs f.current no_job) (stage_in f f.current) (Claims 0) a E
+        (apart_above (length jobs) f.current in_range) s.later
+
+    pipe_is : pipe_pending (E ++ made jobs f (stage_in f) a ∷ []) ≡ piped (next_stage jobs f (stage_in f) a)
+    pipe_is = pipe_kept f.current (get_or jobs f.current no_job) (stage_in f f.current) a E more kind s.pipe
+
+    out_by : inside (next_stage jobs f (stage_in f) a) ≡ false → (j : ℕ) (t : Bool) → nat_eq f.current j ≡ t
+        → inside (if t then next_stage jobs f (stage_in f) a else stage_in f j) ≡ false
+    out_by e j true is = e
+    out_by e j false is = ap inside (s.going.at j) ∙ s.going.run.others j is
+
+    pipe_by : (t : Bool) → inside (next_stage jobs f (stage_in f) a) ≡ t → piped (next_stage jobs f (stage_in f) a)
+        ≡ piped (stage_in (taken jobs f a) (taken jobs f a).current)
+    pipe_by true e = sym (ap (λ k. piped (stage_in (taken jobs f a) k)) (current_settled jobs (gone_on jobs f a)
+        (ap inside (z.at f.current ∙ put_here (stage_in f) f.current (next_stage jobs f (stage_in f) a)) ∙ e))
+        ∙ ap piped (at f.current ∙ put_here (stage_in f) f.current (next_stage jobs f (stage_in f) a)))
+    pipe_by false e = piped_out (next_stage jobs f (stage_in f) a) e ∙ sym (ap piped (at (taken jobs f a).current)
+        ∙ piped_out (put (stage_in f) f.current (next_stage jobs f (stage_in f) a) (taken jobs f a).current)
+        (out_by e (taken jobs f a).current (nat_eq f.current (taken jobs f a).current) refl))
+
+    by : Going jobs N (taken jobs f a) (E ++ made jobs f (stage_in f) a ∷ []) ⊎ Landed jobs N (taken jobs f a)
+        (E ++ made jobs f (stage_in f) a ∷ []) → Sure jobs N most (taken jobs f a) (E ++ made jobs f (stage_in f) a ∷ []) ⊎ Over jobs N most
+        (taken jobs f a) (E ++ made jobs f (stage_in f) a ∷ [])
+    by (inl on) = inl (record {
+      going = on;
+      opens = λ j. subst (λ t. Opens j t (E ++ made jobs f (stage_in f) a ∷ [])) (sym (at j)) (opens_by j (nat_eq f.current j) refl);
+      sized = λ j. subst (λ t. Sized (get_or jobs j no_job) t) (sym (at j)) (sized_by j (nat_eq f.current j) refl);
+      pipe = pipe_is ∙ pipe_by (inside (next_stage jobs f (stage_in f) a)) refl;
+      bound = bound;
+      later = later;
+    })
+    by (inr over) = inr (record {
+      landed = over;
+      pipe = pipe_is ∙ ap piped (sym (put_here (stage_in f) f.current (next_stage jobs f (stage_in f) a)) ∙ sym (at f.current)
+          ∙ over.at f.current ∙ over.all f.current);
+      bound = (let le = bound in omega (arith, le));
+      later = later;
+    })
+
+-- at the beginning
+
+pub opens_begin : (k : ℕ) (job : Job) (E : List RunEvent) → Later k 0 0 E → Opens k (begin job) E
+opens_begin k job E w = by (none job.groups)
+  where
+    by : (t : Bool) → Opens k (if t then Ended else enter_claims job 0) E
+    by true = tt
+    by false = opens_claims k job 0 E w
+
+pub sized_begin : (job : Job) → Sized job (begin job)
+sized_begin job = by (none job.groups)
+  where
+    by : (t : Bool) → Sized job (if t then Ended else enter_claims job 0)
+    by true = tt
+    by false = sized_claims job 0
+
+pub sure_starts : (jobs : List Job) (N most : ℕ) → 1 ≤ N → ((j : ℕ) → Filled (get_or jobs j no_job))
+    → to_come jobs (λ j. begin (get_or jobs j no_job)) ≤ most → Sure jobs N most (fresh_fleet jobs N) [] ⊎ Over jobs N most
+    (fresh_fleet jobs N) []
+sure_starts jobs N most some filled few = by (starts jobs N some filled)
+  where
+    at : (j : ℕ) → stage_in (fresh_fleet jobs N) j ≡ begin (get_or jobs j no_job)
+    at j = ap (λ w. w.stage) (get_or-map fresh jobs j no_job)
+
+    by : Going jobs N (fresh_fleet jobs N) [] ⊎ Landed jobs N (fresh_fleet jobs N) [] → Sure jobs N most (fresh_fleet jobs N) []
+        ⊎ Over jobs N most (fresh_fleet jobs N) []
+    by (inl on) = inl (record {
+      going = on;
+      opens = λ j. subst (λ t. Opens j t []) (sym (at j)) (opens_begin j (get_or jobs j no_job) [] (λ h l at. refl));
+      sized = λ j. subst (λ t. Sized (get_or jobs j no_job) t) (sym (at j)) (sized_begin (get_or jobs j no_job));
+      pipe = sym (ap piped (at (first_busy 0 jobs)) ∙ piped_out (begin (get_or jobs (first_busy 0 jobs) no_job))
+          (begin_out (get_or jobs (first_busy 0 jobs) no_job)));
+      bound = (let is : to_come jobs (stage_in (fresh_fleet jobs N)) ≡ to_come jobs (λ j. begin (get_or jobs j no_job)) = ap (λ st. to_come jobs st) (fun_ext at) in omega (arith, is, few));
+      later = λ h l at. refl;
+    })
+    by (inr over) = inr (record { landed = over; pipe = refl; bound = omega arith; later = λ h l at. refl })

@@ -1,0 +1,383 @@
+use Rattle.drv_core.proofs.Stories.Blocks.{Stepped}
+use Rattle.drv_core.proofs.WholeRuns.Finish.{Keeps, ended as is_ended}
+use Rattle.drv_core.proofs.Choosing.Going.{Counts, Next, Picks, Worked, begun_next, counts_closed, idle_next, left_begin, next_is}
+use Rattle.drv_core.proofs.Choosing.Going.{opened_is, picks}
+use Rattle.drv_core.proofs.Stories.Listed.{listed, listed_up_to}
+use Rattle.drv_core.proofs.Stories.Order.{clash, count_none, count_some, is_less, is_not_less, not_less, same}
+use Rattle.drv_core.proofs.WholeRuns.Progress.{First, count_same, find}
+use Rattle.drv_core.proofs.WholeRuns.Standing.{begins, has_append, put, sound_out, stands_first}
+use Rattle.drv_core.proofs.Answering.Steps.{MayGo, Running, Valid, all_out, asked, base_out, bases, goes_inside, goes_out, inside_left}
+use Rattle.drv_core.proofs.Answering.Steps.{left_base, one_step, open_out, put_here, turns, valid_after, valid_begin}
+use Rattle.drv_core.specs.Filled.{Filled}
+use Rattle.drv_core.specs.Code.Fleet.{Fleet, SourceState, busy, chosen, closed, ended, first_busy, fresh, fresh_fleet, idle, opened, picked}
+use Rattle.drv_core.specs.Code.Fleet.{stage_in, taken, turned, worked, source_in}
+use Rattle.drv_core.specs.Code.Source.{Ended, Stage, after, asks, base, begin, inside, is_kind, left, open_of}
+use Rattle.drv_core.specs.Outcomes.{none}
+use Rattle.drv_core.specs.Story.{Block, event}
+use Rattle.drv_core.specs.Windowed.{SourceBlock, count, has}
+use Rattle.drv_words.specs.Places.{no_job}
+use Rattle.drv_words.specs.declared.answers.Answer.{Answer}
+use Rattle.drv_words.specs.declared.plan.Job.{Job}
+use Rattle.drv_words.specs.declared.steps.RunEvent.{RunEvent}
+use Rattle.std.proofs.Common.{◌≡◌, ◌⊎◌, ◌<◌, ◌≤◌, ◌+◌, ◌∙◌, ◌&&◌, ◌||◌, Bool, false, true, List, [], ◌∷◌, ◌++◌, ap, arith, drop, get_or}
+use Rattle.std.proofs.Common.{if◌then◌else◌, inl, inr, length, nat_eq, nat_lt, not, refl, subst, suc, sym, zero, ℕ}
+use Rattle.std.proofs.Math.ListN.{get_or-map}
+use Rattle.std.proofs.Math.Path.{fun_ext}
+use Rattle.std.proofs.lemmas.Bool.Decides.{nat_tests}
+use Rattle.std.proofs.lemmas.Cmp.{nat_eq_equiv}
+use Rattle.std.proofs.lemmas.List.{get_or-set_other, get_or-set_same, get_or_past, length-map, length-set}
+use Rattle.std.specs.List.{filter}
+use Rattle.std.specs.Prelude.{slice_set}
+
+-- For the sources of `Run`: what is known of them holds after each answer, until all have ended.
+
+pub record Going (jobs : List Job) (N : ℕ) (f : Fleet) (E : List RunEvent) : Type 0 where
+  pub st : ℕ → Stage
+  pub at : (j : ℕ) → stage_in f j ≡ st j
+  pub run : Running jobs N st f.current E
+  pub may : MayGo jobs N (bases st) run.blocks f.current
+  pub more : left (st f.current) ≡ true
+  pub counts : Counts jobs N f run.blocks
+
+pub record Landed (jobs : List Job) (N : ℕ) (f : Fleet) (E : List RunEvent) : Type 0 where
+  pub st : ℕ → Stage
+  pub at : (j : ℕ) → stage_in f j ≡ st j
+  pub run : Running jobs N st f.current E
+  pub all : (j : ℕ) → st j ≡ Ended
+  pub unended_is : f.unended ≡ 0
+
+-- one source's stage is replaced in the list
+
+stage_set : (ws : List SourceState) (k j : ℕ) (w : SourceState) (st : ℕ → Stage) → k < length ws
+    → ((i : ℕ) → (get_or ws i idle).stage ≡ st i) → (t : Bool) → nat_eq k j ≡ t → (get_or (slice_set ws k w) j idle).stage
+    ≡ (if t then w.stage else st j)
+stage_set ws k j w st lt at true e = ap (λ x. x.stage) (subst (λ i. get_or (slice_set ws k w) i idle ≡ w) (same k j e)
+    (get_or-set_same ws k w idle lt))
+stage_set ws k j w st lt at false e = ap (λ x. x.stage)
+    (get_or-set_other ws k j w idle (λ is. clash (nat_eq k j) (ap (λ i. nat_eq k i) is ∙ nat_eq_equiv.refl k) e)) ∙ at j
+
+room_set : (ws : List SourceState) (k j : ℕ) (w : SourceState) → k < length ws → w.room ≡ (get_or ws k idle).room → (t : Bool)
+    → nat_eq k j ≡ t → (get_or (slice_set ws k w) j idle).room ≡ (get_or ws j idle).room
+room_set ws k j w lt is true e = subst (λ i. (get_or (slice_set ws k w) i idle).room ≡ (get_or ws i idle).room) (same k j e)
+    (ap (λ x. x.room) (get_or-set_same ws k w idle lt) ∙ is)
+room_set ws k j w lt is false e = ap (λ x. x.room)
+    (get_or-set_other ws k j w idle (λ i. clash (nat_eq k j) (ap (λ n. nat_eq k n) i ∙ nat_eq_equiv.refl k) e))
+
+pub stage_closed : (f : Fleet) (j : ℕ) → stage_in (closed f) j ≡ stage_in f j
+stage_closed f j = by (left (stage_in f f.current))
+  where
+    by : (t : Bool) → stage_in (if t then f else ended f) j ≡ stage_in f j
+    by true = refl
+    by false = refl
+
+pub stage_opened : (jobs : List Job) (f : Fleet) (j : ℕ) → stage_in (opened jobs f) j ≡ stage_in f j
+stage_opened jobs f j = by (nat_eq f.current f.next)
+  where
+    by : (t : Bool) → stage_in (if t then record f { begun = f.begun ++ f.current ∷ []; next = first_busy (f.current + 1) (drop (f.current + 1) jobs) } else f) j ≡ stage_in f j
+    by true = refl
+    by false = refl
+
+pub turn_about : (a b : ℕ) (t : Bool) → nat_eq a b ≡ t → nat_eq b a ≡ t
+turn_about a b true e = ap (λ n. nat_eq b n) (same a b e) ∙ nat_eq_equiv.refl b
+turn_about a b false e = grind (arith, nat_tests)
+
+-- the source in progress comes after no earlier source that still has to begin
+current_before : (jobs : List Job) (N : ℕ) (f : Fleet) (E : List RunEvent) → (g : Going jobs N f E) → f.current ≤ f.next
+current_before jobs N f E g = by (nat_lt f.next f.current) refl
+  where
+    in_range : f.current < length jobs
+    in_range = is_less f.current (length jobs) g.may.is_source
+
+    left_base_is : left (base (g.st f.next)) ≡ left (stage_in f f.next)
+    left_base_is = left_base (g.st f.next) ∙ ap left (sym (g.at f.next))
+
+    by : (t : Bool) → nat_lt f.next f.current ≡ t → f.current ≤ f.next
+    by true e = absurd (
+        let lt : f.next < f.current = is_less f.next f.current e in
+        let l : left (stage_in f f.next) ≡ true = g.counts.next_left (let r = in_range in omega (arith, r, lt)) in
+        let skipped : (not (has f.next g.run.blocks) && left (base (g.st f.next))) ≡ true = ap (λ (t : Bool). not t && left (base (g.st f.next))) (g.counts.has_is f.next l ∙ not_less f.next f.next (omega arith)) ∙ left_base_is ∙ l in
+        let one : 1 ≤ count f.current (λ j. not (has j g.run.blocks) && left (base (g.st j))) = count_some f.current f.next (λ j. not (has j g.run.blocks) && left (base (g.st j))) lt skipped in
+        let order : count f.current (λ j. not (has j g.run.blocks) && left (base (g.st j))) ≡ 0 = g.may.in_order in
+        omega (arith, one, order)
+        )
+    by false e = is_not_less f.next f.current e
+
+-- between blocks each source is at the stage where its next block begins
+pub bases_at : (jobs : List Job) (N : ℕ) (h : Fleet) (cur : ℕ) (st : ℕ → Stage) (E : List RunEvent) → Running jobs N st cur E
+    → inside (st cur) ≡ false → ((j : ℕ) → stage_in h j ≡ st j) → bases st ≡ stage_in h
+bases_at jobs N h cur st E r out at = fun_ext (λ j. base_out (st j) (all_out jobs N st cur E r out j) ∙ sym (at j))
+
+pub keeps_at : (jobs : List Job) (N : ℕ) (h : Fleet) (cur : ℕ) (st : ℕ → Stage) (E : List RunEvent) → (r : Running jobs N st cur E)
+    → inside (st cur) ≡ false → ((j : ℕ) → stage_in h j ≡ st j) → Keeps jobs N (stage_in h) r.blocks
+keeps_at jobs N h cur st E r out at = subst (λ s. Keeps jobs N s r.blocks) (bases_at jobs N h cur st E r out at) r.keep
+
+-- and any source that may go on can be the next one
+pub goes_to : (jobs : List Job) (N : ℕ) (h : Fleet) (cur : ℕ) (st : ℕ → Stage) (E : List RunEvent) → (r : Running jobs N st cur E)
+    → inside (st cur) ≡ false → ((j : ℕ) → stage_in h j ≡ st j) → Counts jobs N h r.blocks → (k : ℕ) → Picks jobs N (stage_in h) r.blocks k
+    → Going jobs N (record h { current = k }) E
+goes_to jobs N h cur st E r out at c k p = record {
+  st = st;
+  at = at;
+  run = turns jobs N st cur k E r out;
+  may = subst (λ s. MayGo jobs N s r.blocks k) (sym (bases_at jobs N h cur st E r out at)) p.may;
+  more = ap left (sym (at k)) ∙ p.more;
+  counts = record {
+    sizes = c.sizes;
+    next_within = c.next_within;
+    next_left = c.next_left;
+    waiting = c.waiting;
+    has_is = c.has_is;
+    begun_is = c.begun_is;
+    unended_is = c.unended_is;
+    window_is = c.window_is;
+    room_is = c.room_is;
+    rooms = c.rooms;
+  };
+}
+
+-- after a block another source goes on, or all have ended
+settles : (jobs : List Job) (N : ℕ) (h : Fleet) (cur : ℕ) (st : ℕ → Stage) (E : List RunEvent) → 1 ≤ N → (r : Running jobs N st cur E)
+    → inside (st cur) ≡ false → ((j : ℕ) → stage_in h j ≡ st j) → Counts jobs N h r.blocks
+    → Going jobs N (chosen h) E ⊎ Landed jobs N (chosen h) E
+settles jobs N h cur st E some r out at c = by (find (length jobs) (λ j. left (stage_in h j)))
+  where
+    ended_at : ((j : ℕ) → j < length jobs → left (stage_in h j) ≡ false) → (j : ℕ) (t : Bool) → nat_lt j (length jobs) ≡ t → st j ≡ Ended
+    ended_at none j true lt = is_ended (st j) (ap left (sym (at j)) ∙ none j (is_less j (length jobs) lt))
+    ended_at none j false past = sym (base_out (st j) (all_out jobs N st cur E r out j))
+        ∙ r.keep.beyond j (is_not_less j (length jobs) past)
+
+    by : First (length jobs) (λ j. left (stage_in h j)) ⊎ ((j : ℕ) → j < length jobs → left (stage_in h j) ≡ false)
+        → Going jobs N (chosen h) E ⊎ Landed jobs N (chosen h) E
+    by (inl k) = inl (goes_to jobs N h cur st E r out at c (picked h) (picks jobs N h r.blocks some (keeps_at jobs N h cur st E r out at) c
+        k.at k.below k.passes))
+    by (inr none) = inr (record {
+      st = st;
+      at = at;
+      run = turns jobs N st cur (picked h) E r out;
+      all = λ j. ended_at none j (nat_lt j (length jobs)) refl;
+      unended_is = c.unended_is ∙ count_none (length jobs) (λ j. left (stage_in h j)) none;
+    })
+
+-- the answer to the next step
+
+abbrev pub next_stage : List Job → Fleet → (ℕ → Stage) → Answer → Stage
+next_stage jobs f st a = after (get_or jobs f.current no_job) (st f.current) a
+
+abbrev pub made : List Job → Fleet → (ℕ → Stage) → Answer → RunEvent
+made jobs f st a = event (asked (asks f.current (get_or jobs f.current no_job) (st f.current))) a
+
+abbrev pub gone_on : List Job → Fleet → Answer → Fleet
+gone_on jobs f a = worked (get_or jobs f.current no_job) f a
+
+pub record Stages (jobs : List Job) (N : ℕ) (f : Fleet) (a : Answer) (st : ℕ → Stage) : Type 0 where
+  pub at : (j : ℕ) → stage_in (gone_on jobs f a) j ≡ put st f.current (next_stage jobs f st a) j
+  pub other : (j : ℕ) → nat_eq f.current j ≡ false → stage_in (gone_on jobs f a) j ≡ stage_in f j
+  pub rooms : (j : ℕ) → (source_in (gone_on jobs f a) j).room ≡ (source_in f j).room
+  pub sizes : length (gone_on jobs f a).sources ≡ length f.sources
+
+pub stages_of : (jobs : List Job) (N : ℕ) (f : Fleet) (a : Answer) (st : ℕ → Stage) → f.current < length f.sources
+    → ((j : ℕ) → stage_in f j ≡ st j) → Stages jobs N f a st
+stages_of jobs N f a st lt at = record {
+  at = at_new;
+  other = λ j e. at_new j ∙ ap (λ (t : Bool). if t then next_stage jobs f st a else st j) e ∙ sym (at j);
+  rooms = λ j. room_set f.sources f.current j
+      (record { stage = after (get_or jobs f.current no_job) (stage_in f f.current) a; room = (source_in f f.current).room }) lt refl
+      (nat_eq f.current j) refl;
+  sizes = length-set f.sources f.current
+      (record { stage = after (get_or jobs f.current no_job) (stage_in f f.current) a; room = (source_in f f.current).room });
+}
+  where
+    at_new : (j : ℕ) → stage_in (gone_on jobs f a) j ≡ put st f.current (next_stage jobs f st a) j
+    at_new j = stage_set f.sources f.current j
+        (record { stage = after (get_or jobs f.current no_job) (stage_in f f.current) a; room = (source_in f f.current).room }) st lt at
+        (nat_eq f.current j) refl
+        ∙ ap (λ s. put st f.current (after (get_or jobs f.current no_job) s a) j) (at f.current)
+
+-- inside a block the counts stay the same
+counts_inside : (jobs : List Job) (N : ℕ) (f : Fleet) (a : Answer) (st : ℕ → Stage) (blocks : List SourceBlock) → Stages jobs N f a st
+    → f.current ≤ f.next → left (stage_in f f.current) ≡ true → left (next_stage jobs f st a) ≡ true → Counts jobs N f blocks
+    → Counts jobs N (gone_on jobs f a) blocks
+counts_inside jobs N f a st blocks z before was l c = record {
+  sizes = z.sizes ∙ c.sizes;
+  next_within = c.next_within;
+  next_left = λ lt. same_left f.next ∙ c.next_left lt;
+  waiting = λ j lt. z.other j (grind (arith, nat_tests)) ∙ c.waiting j lt;
+  has_is = λ j e. c.has_is j (sym (same_left j) ∙ e);
+  begun_is = c.begun_is ∙ ap (λ p. listed f.next p) (fun_ext (λ j. sym (same_left j)));
+  unended_is = c.unended_is ∙ ap (λ p. count (length jobs) p) (fun_ext (λ j. sym (same_left j)));
+  window_is = c.window_is;
+  room_is = c.room_is;
+  rooms = λ j lt. z.rooms j ∙ c.rooms j lt;
+}
+  where
+    left_by : (j : ℕ) (t : Bool) → nat_eq f.current j ≡ t → left (stage_in (gone_on jobs f a) j) ≡ left (stage_in f j)
+    left_by j true e = subst (λ i. left (stage_in (gone_on jobs f a) i) ≡ left (stage_in f i)) (same f.current j e)
+        (ap left (z.at f.current ∙ put_here st f.current (next_stage jobs f st a)) ∙ l ∙ sym was)
+    left_by j false e = ap left (z.other j e)
+
+    same_left : (j : ℕ) → left (stage_in (gone_on jobs f a) j) ≡ left (stage_in f j)
+    same_left j = left_by j (nat_eq f.current j) refl
+
+has_new : (j k : ℕ) (b : Block) → has j (record { source = k; block = b } ∷ []) ≡ nat_eq j k
+has_new j k b = by (nat_eq k j) refl
+  where
+    by : (t : Bool) → nat_eq k j ≡ t → not (none (if t then b ∷ [] else [])) ≡ nat_eq j k
+    by true e = sym (turn_about k j true e)
+    by false e = sym (turn_about k j false e)
+
+pub takes : (jobs : List Job) (N : ℕ) (f : Fleet) (E : List RunEvent) (a : Answer) → 1 ≤ N → ((j : ℕ) → Filled (get_or jobs j no_job))
+    → (g : Going jobs N f E) → is_kind (asked (asks f.current (get_or jobs f.current no_job) (stage_in f f.current))) a ≡ true
+    → Going jobs N (taken jobs f a) (E ++ made jobs f (stage_in f) a ∷ []) ⊎ Landed jobs N (taken jobs f a)
+    (E ++ made jobs f (stage_in f) a ∷ [])
+takes jobs N f E a some filled g kind = subst (λ s. Going jobs N (taken jobs f a)
+    (E ++ event (asked (asks f.current (get_or jobs f.current no_job) s)) a ∷ []) ⊎ Landed jobs N (taken jobs f a)
+    (E ++ event (asked (asks f.current (get_or jobs f.current no_job) s)) a ∷ [])) (sym (g.at f.current))
+    (by (inside (next_stage jobs f g.st a)) refl (one_step f.current (get_or jobs f.current no_job) (g.st f.current) a
+    (g.run.valid f.current) g.more fit))
+  where
+    fit : is_kind (asked (asks f.current (get_or jobs f.current no_job) (g.st f.current))) a ≡ true
+    fit = subst (λ s. is_kind (asked (asks f.current (get_or jobs f.current no_job) s)) a ≡ true) (g.at f.current) kind
+
+    valid : Valid (get_or jobs f.current no_job) (next_stage jobs f g.st a)
+    valid = valid_after f.current (get_or jobs f.current no_job) (g.st f.current) a (filled f.current) (g.run.valid f.current) fit
+
+    in_range : f.current < length jobs
+    in_range = is_less f.current (length jobs) g.may.is_source
+
+    z : Stages jobs N f a g.st
+    z = stages_of jobs N f a g.st (subst (λ n. f.current < n) (sym g.counts.sizes) in_range) g.at
+
+    here : stage_in (gone_on jobs f a) f.current ≡ next_stage jobs f g.st a
+    here = z.at f.current ∙ put_here g.st f.current (next_stage jobs f g.st a)
+
+    was : left (stage_in f f.current) ≡ true
+    was = ap left (g.at f.current) ∙ g.more
+
+    into : inside (next_stage jobs f g.st a) ≡ true
+        → (r : Running jobs N (put g.st f.current (next_stage jobs f g.st a)) f.current (E ++ made jobs f g.st a ∷ []))
+        → Counts jobs N (gone_on jobs f a) r.blocks → Going jobs N (gone_on jobs f a) (E ++ made jobs f g.st a ∷ [])
+    into e r c = record {
+      st = put g.st f.current (next_stage jobs f g.st a);
+      at = z.at;
+      run = r;
+      may = r.may (ap inside (put_here g.st f.current (next_stage jobs f g.st a)) ∙ e);
+      more = ap left (put_here g.st f.current (next_stage jobs f g.st a)) ∙ inside_left (next_stage jobs f g.st a) e;
+      counts = c;
+    }
+
+    following : (blocks : List SourceBlock) (b : Block)
+        → Worked jobs N f (gone_on jobs f a) g.run.blocks (g.run.blocks ++ record { source = f.current; block = b } ∷ [])
+    following blocks b = record {
+      counts = g.counts;
+      same_next = refl;
+      same_begun = refl;
+      same_unended = refl;
+      same_window = refl;
+      same_room = refl;
+      sizes = z.sizes;
+      rooms = λ j lt. z.rooms j;
+      others = λ j e. z.other j (turn_about j f.current false e);
+      was_left = was;
+      current_in = in_range;
+      current_before = current_before jobs N f E g;
+      has_more = λ j. has_append j g.run.blocks (record { source = f.current; block = b } ∷ []) ∙ ap (λ (t : Bool). has j g.run.blocks || t)
+          (has_new j f.current b);
+    }
+
+    out : inside (next_stage jobs f g.st a) ≡ false
+        → (r : Running jobs N (put g.st f.current (next_stage jobs f g.st a)) f.current (E ++ made jobs f g.st a ∷ []))
+        → Worked jobs N f (gone_on jobs f a) g.run.blocks r.blocks
+        → Going jobs N (turned jobs (gone_on jobs f a)) (E ++ made jobs f g.st a ∷ []) ⊎ Landed jobs N (turned jobs (gone_on jobs f a))
+        (E ++ made jobs f g.st a ∷ [])
+    out e r w = settles jobs N (closed (opened jobs (gone_on jobs f a))) f.current (put g.st f.current (next_stage jobs f g.st a))
+        (E ++ made jobs f g.st a ∷ []) some r (ap inside (put_here g.st f.current (next_stage jobs f g.st a)) ∙ e)
+        (λ j. stage_closed (opened jobs (gone_on jobs f a)) j ∙ stage_opened jobs (gone_on jobs f a) j ∙ z.at j)
+        (counts_closed jobs N (opened jobs (gone_on jobs f a)) r.blocks (opened_is jobs N f (gone_on jobs f a) g.run.blocks r.blocks w))
+
+    settled_by : (t : Bool) → inside (next_stage jobs f g.st a) ≡ t
+        → Going jobs N (if t then gone_on jobs f a else turned jobs (gone_on jobs f a)) (E ++ made jobs f g.st a ∷ [])
+        ⊎ Landed jobs N (if t then gone_on jobs f a else turned jobs (gone_on jobs f a)) (E ++ made jobs f g.st a ∷ [])
+        → Going jobs N (taken jobs f a) (E ++ made jobs f g.st a ∷ []) ⊎ Landed jobs N (taken jobs f a) (E ++ made jobs f g.st a ∷ [])
+    settled_by t e = subst (λ (u : Bool). Going jobs N (if u then gone_on jobs f a else turned jobs (gone_on jobs f a))
+        (E ++ made jobs f g.st a ∷ []) ⊎ Landed jobs N (if u then gone_on jobs f a else turned jobs (gone_on jobs f a))
+        (E ++ made jobs f g.st a ∷ [])) (sym (ap inside here ∙ e))
+
+    by : (t : Bool) → inside (next_stage jobs f g.st a) ≡ t → Stepped t f.current (get_or jobs f.current no_job) (g.st f.current)
+        (next_stage jobs f g.st a) (open_of f.current (get_or jobs f.current no_job) (g.st f.current) ++ made jobs f g.st a ∷ [])
+        → Going jobs N (taken jobs f a) (E ++ made jobs f g.st a ∷ []) ⊎ Landed jobs N (taken jobs f a) (E ++ made jobs f g.st a ∷ [])
+    by true e s = settled_by true e
+        (inl (into e (goes_inside jobs N g.st f.current E (next_stage jobs f g.st a) (made jobs f g.st a) g.run g.may valid s.0 s.1)
+        (counts_inside jobs N f a g.st g.run.blocks z (current_before jobs N f E g) was
+        (inside_left (next_stage jobs f g.st a) e) g.counts)))
+    by false e s = settled_by false e (out e (goes_out jobs N g.st f.current E (next_stage jobs f g.st a) (made jobs f g.st a) g.run g.may
+        valid g.more e s) (following g.run.blocks (open_of f.current (get_or jobs f.current no_job) (g.st f.current)
+        ++ made jobs f g.st a ∷ [])))
+
+-- at the beginning
+
+pub begin_out : (job : Job) → inside (begin job) ≡ false
+begin_out job = sound_out (begin job) (begins job).sound
+
+count_first : (n : ℕ) (p : ℕ → Bool) → count (suc n) p ≡ (if p 0 then 1 else 0) + count n (λ j. p (suc j))
+count_first zero p = refl
+count_first (suc n) p = let e : count (suc n) p ≡ (if p 0 then 1 else 0) + count n (λ j. p (suc j)) = count_first n p in omega (arith, e)
+
+busy_count : (jobs : List Job) → length (filter busy jobs) ≡ count (length jobs) (λ j. busy (get_or jobs j no_job))
+busy_count [] = refl
+busy_count (job ∷ jobs) = by (busy job) (busy_count jobs) ∙ sym (count_first (length jobs) (λ j. busy (get_or (job ∷ jobs) j no_job)))
+  where
+    by : (t : Bool) → length (filter busy jobs) ≡ count (length jobs) (λ j. busy (get_or jobs j no_job))
+        → length (if t then job ∷ filter busy jobs else filter busy jobs) ≡ (if t then 1 else 0) + count (length jobs)
+        (λ j. busy (get_or jobs j no_job))
+    by true e = omega (arith, e)
+    by false e = omega (arith, e)
+
+pub starts : (jobs : List Job) (N : ℕ) → 1 ≤ N → ((j : ℕ) → Filled (get_or jobs j no_job)) → Going jobs N (fresh_fleet jobs N) []
+    ⊎ Landed jobs N (fresh_fleet jobs N) []
+starts jobs N some filled = settles jobs N (fresh_fleet jobs N) 0 (λ j. begin (get_or jobs j no_job)) [] some (run 0)
+    (begin_out (get_or jobs 0 no_job)) at counts
+  where
+    at : (j : ℕ) → stage_in (fresh_fleet jobs N) j ≡ begin (get_or jobs j no_job)
+    at j = ap (λ w. w.stage) (get_or-map fresh jobs j no_job)
+
+    nx : Next jobs 0 (first_busy 0 jobs)
+    nx = next_is jobs 0 (omega arith)
+
+    run : (k : ℕ) → Running jobs N (λ j. begin (get_or jobs j no_job)) k []
+    run k = record {
+      blocks = [];
+      keep = record {
+        stand = stands_first jobs N (bases (λ j. begin (get_or jobs j no_job)))
+            (λ j lt. sym (base_out (begin (get_or jobs j no_job)) (begin_out (get_or jobs j no_job))));
+        window = (let none : count (length jobs) (λ j. has j [] && left (base (begin (get_or jobs j no_job)))) ≡ 0 = count_none (length jobs) (λ j. has j [] && left (base (begin (get_or jobs j no_job)))) (λ j lt. refl) in omega (arith, none));
+        order = λ j i lt e. absurd cc;
+        beyond = λ j past. ap (λ job. base (begin job)) (get_or_past jobs j no_job past);
+      };
+      events = sym (open_out k (get_or jobs k no_job) (begin (get_or jobs k no_job)) (begin_out (get_or jobs k no_job)));
+      others = λ j e. begin_out (get_or jobs j no_job);
+      valid = λ j. valid_begin (get_or jobs j no_job) (filled j);
+      may = λ e. absurd (let clash : true ≡ false = sym e ∙ begin_out (get_or jobs k no_job) in cc);
+    }
+
+    idle_before : (j : ℕ) → j < first_busy 0 jobs → left (stage_in (fresh_fleet jobs N) j) ≡ false
+    idle_before j lt = ap left (at j) ∙ idle_next (get_or jobs j no_job) (nx.before j (omega arith) lt)
+
+    has_by : (j : ℕ) (t : Bool) → nat_lt j (first_busy 0 jobs) ≡ t → left (stage_in (fresh_fleet jobs N) j) ≡ true → false ≡ t
+    has_by j true e l = absurd (let clash : true ≡ false = sym l ∙ idle_before j (is_less j (first_busy 0 jobs) e) in cc)
+    has_by j false e l = refl
+
+    counts : Counts jobs N (fresh_fleet jobs N) []
+    counts = record {
+      sizes = length-map jobs fresh;
+      next_within = nx.most;
+      next_left = λ lt. ap left (at (first_busy 0 jobs)) ∙ begun_next (get_or jobs (first_busy 0 jobs) no_job) (nx.at lt);
+      waiting = λ j lt. at j;
+      has_is = λ j l. has_by j (nat_lt j (first_busy 0 jobs)) refl l;
+      begun_is = sym (listed_up_to 0 (first_busy 0 jobs) (λ j. left (stage_in (fresh_fleet jobs N) j)) (omega arith)
+          (λ j le lt. idle_before j lt));
+      unended_is = busy_count jobs ∙ count_same (length jobs) (λ j. busy (get_or jobs j no_job))
+          (λ j. left (stage_in (fresh_fleet jobs N) j)) (λ j lt. sym (left_begin (get_or jobs j no_job)) ∙ sym (ap left (at j)));
+      window_is = refl;
+      room_is = refl;
+      rooms = λ j lt. ap (λ w. w.room) (get_or-map fresh jobs j no_job);
+    }

@@ -1,0 +1,138 @@
+use Rattle.drv_core.proofs.Laws.Fair.{total_append}
+use Rattle.drv_core.proofs.Stories.Order.{clash, same}
+use Rattle.drv_core.proofs.Answering.Steps.{asked}
+use Rattle.drv_core.specs.Code.Counting.{noting, noting_claim}
+use Rattle.drv_core.specs.Code.Due.{claims_in, claims_of, tally}
+use Rattle.drv_core.specs.Code.Source.{ClaimReport, Claims, Closing, Ended, RemovalReport, Removals, Stage, StartReport, Starts, WaitReport}
+use Rattle.drv_core.specs.Code.Source.{Waits, asks, is_kind}
+use Rattle.drv_core.specs.Outcomes.{is_claimed}
+use Rattle.drv_core.specs.Code.Leftovers.{Leftovers}
+use Rattle.drv_core.specs.Story.{event}
+use Rattle.drv_words.specs.declared.answers.Answer.{Answer}
+use Rattle.drv_words.specs.declared.answers.Answer.TheVariants as answer
+use Rattle.drv_words.specs.declared.answers.ClaimAnswer.{ClaimAnswer}
+use Rattle.drv_words.specs.declared.answers.ClaimAnswer.TheVariants as claim
+use Rattle.drv_words.specs.declared.plan.Job.{Job}
+use Rattle.drv_words.specs.declared.steps.Place.{Place}
+use Rattle.drv_words.specs.declared.steps.Place.TheVariants as place
+use Rattle.drv_words.specs.declared.steps.RunEvent.{RunEvent}
+use Rattle.drv_words.specs.declared.steps.Step.{Step}
+use Rattle.drv_words.specs.declared.steps.Step.TheVariants as step
+use Rattle.std.proofs.Common.{◌≡◌, ◌≤◌, ◌+◌, ◌∙◌, ◌&&◌, Bool, false, true, List, [], ◌∷◌, ◌++◌, Some, ap, arith, get_or, if◌then◌else◌}
+use Rattle.std.proofs.Common.{length, nat_eq, refl, subst, ℕ}
+use Rattle.std.proofs.lemmas.Cmp.{nat_eq_equiv}
+use Rattle.std.proofs.lemmas.List.{get_or-set_other, get_or-set_same, length-set}
+use Rattle.std.specs.Prelude.{slice_set}
+
+-- For the removals at the end: the code counts the claims that the events show.
+
+pub record Counted (n : ℕ) (x : Leftovers) (E : List RunEvent) : Type 0 where
+  pub sizes : length x.claimed ≡ n + 1
+  pub counts : (k : ℕ) → k ≤ n → get_or x.claimed k 0 ≡ tally k E
+
+pub tally_more : (k : ℕ) (E : List RunEvent) (s : Step) (a : Answer) → tally k (E ++ event s a ∷ []) ≡ tally k E + claims_of k s a
+tally_more k E s a =
+    let both : tally k (E ++ event s a ∷ []) ≡ tally k E + tally k (event s a ∷ []) = total_append (claims_in k) E (event s a ∷ []) in
+    let one : tally k (event s a ∷ []) ≡ claims_of k s a + 0 = refl in
+    omega (arith, both, one)
+
+-- an event without a claim
+quiet : (n : ℕ) (x : Leftovers) (E : List RunEvent) (s : Step) (a : Answer) → Counted n x E → ((k : ℕ) → claims_of k s a ≡ 0)
+    → Counted n x (E ++ event s a ∷ [])
+quiet n x E s a c none = record {
+  sizes = c.sizes;
+  counts = λ k le. let is = c.counts k le in let more = tally_more k E s a in let no = none k in omega (arith, is, more, no);
+}
+
+abbrev one_if : Bool → ℕ
+one_if t = if t then 1 else 0
+
+if_none : (t : Bool) → one_if (t && false) ≡ 0
+if_none true = refl
+if_none false = refl
+
+-- one more claim
+claimed_one : (n j i : ℕ) (x : Leftovers) (E : List RunEvent) → Counted n x E → Counted n (record x { claimed = slice_set x.claimed j (get_or x.claimed j 0 + 1) }) (E ++ event (step.Claim (place.Temp j i)) (answer.Claim claim.Claimed) ∷ [])
+claimed_one n j i x E c = record {
+  sizes = length-set x.claimed j (get_or x.claimed j 0 + 1) ∙ c.sizes;
+  counts = λ k le. by k le (nat_eq j k) refl;
+}
+  where
+    by : (k : ℕ) → k ≤ n → (t : Bool) → nat_eq j k ≡ t → get_or (slice_set x.claimed j (get_or x.claimed j 0 + 1)) k 0
+        ≡ tally k (E ++ event (step.Claim (place.Temp j i)) (answer.Claim claim.Claimed) ∷ [])
+    by k le true e =
+        let more : tally k (E ++ event (step.Claim (place.Temp j i)) (answer.Claim claim.Claimed) ∷ []) ≡ tally k E + one_if (nat_eq j k && true) = tally_more k E (step.Claim (place.Temp j i)) (answer.Claim claim.Claimed) in
+        let one : one_if (nat_eq j k && true) ≡ 1 = ap (λ (t : Bool). one_if (t && true)) e in
+        let is = c.counts k le in
+        let set : get_or (slice_set x.claimed j (get_or x.claimed j 0 + 1)) k 0 ≡ get_or x.claimed k 0 + 1 =
+        subst (λ m. get_or (slice_set x.claimed j (get_or x.claimed j 0 + 1)) m 0 ≡ get_or x.claimed m 0 + 1) (same j k e) (get_or-set_same x.claimed j (get_or x.claimed j 0 + 1) 0 (let len = c.sizes in let at : j ≡ k = same j k e in omega (arith, len, at, le))) in
+        omega (arith, more, one, is, set)
+    by k le false e =
+        let more : tally k (E ++ event (step.Claim (place.Temp j i)) (answer.Claim claim.Claimed) ∷ []) ≡ tally k E + one_if (nat_eq j k && true) = tally_more k E (step.Claim (place.Temp j i)) (answer.Claim claim.Claimed) in
+        let none : one_if (nat_eq j k && true) ≡ 0 = ap (λ (t : Bool). one_if (t && true)) e in
+        let is = c.counts k le in
+        let set : get_or (slice_set x.claimed j (get_or x.claimed j 0 + 1)) k 0 ≡ get_or x.claimed k 0 =
+        get_or-set_other x.claimed j k (get_or x.claimed j 0 + 1) 0 (λ at. clash (nat_eq j k) (ap (λ m. nat_eq j m) at ∙ nat_eq_equiv.refl j) e) in
+        omega (arith, more, none, is, set)
+
+claim_counted : (n : ℕ) (x : Leftovers) (E : List RunEvent) (p : Place) (c : ClaimAnswer) → Counted n x E
+    → Counted n (noting_claim x p (answer.Claim c)) (E ++ event (step.Claim p) (answer.Claim c) ∷ [])
+claim_counted n x E (place.Command k g i) c h = quiet n x E (step.Claim (place.Command k g i)) (answer.Claim c) h (λ j. refl)
+claim_counted n x E (place.Temp k i) claim.Claimed h = claimed_one n k i x E h
+claim_counted n x E (place.Temp k i) claim.Taken h = quiet n x E (step.Claim (place.Temp k i)) (answer.Claim claim.Taken) h
+    (λ j. if_none (nat_eq k j))
+claim_counted n x E (place.Temp k i) claim.Failed h = quiet n x E (step.Claim (place.Temp k i)) (answer.Claim claim.Failed) h
+    (λ j. if_none (nat_eq k j))
+claim_counted n x E (place.Marked k i) c h = quiet n x E (step.Claim (place.Marked k i)) (answer.Claim c) h (λ j. refl)
+claim_counted n x E (place.OnFailure k i) c h = quiet n x E (step.Claim (place.OnFailure k i)) (answer.Claim c) h (λ j. refl)
+
+-- the code notes an answer of the step's kind
+pub noted_counted : (n : ℕ) (x : Leftovers) (E : List RunEvent) (s : Step) (a : Answer) → is_kind s a ≡ true → Counted n x E
+    → Counted n (noting x s a) (E ++ event s a ∷ [])
+noted_counted n x E (step.Claim p) (answer.Claim c) kind h = claim_counted n x E p c h
+noted_counted n x E (step.Claim p) a kind h = absurd cc
+noted_counted n x E (step.Start p from_pipe to_pipe) a kind h = quiet n x E (step.Start p from_pipe to_pipe) a h (λ j. refl)
+noted_counted n x E step.ClosePipe a kind h = quiet n x E step.ClosePipe a h (λ j. refl)
+noted_counted n x E (step.Wait p id) a kind h = quiet n x E (step.Wait p id) a h (λ j. refl)
+noted_counted n x E (step.Remove p) a kind h = quiet n x E (step.Remove p) a h (λ j. refl)
+noted_counted n x E (step.Report m) a kind h = quiet n x E (step.Report m) a h (λ j. refl)
+
+-- a job's next step claims no temporary of another job
+
+claim_of_other : (k n i : ℕ) (a : Answer) → nat_eq k n ≡ false → claims_of n (step.Claim (place.Temp k i)) a ≡ 0
+claim_of_other k n i (answer.Claim x) e = ap (λ (t : Bool). one_if (t && is_claimed x)) e
+claim_of_other k n i (answer.Start x) e = refl
+claim_of_other k n i answer.Closed e = refl
+claim_of_other k n i (answer.Wait x) e = refl
+claim_of_other k n i (answer.Remove x) e = refl
+claim_of_other k n i (answer.Reported x) e = refl
+
+asked_of_other : (k n : ℕ) (job : Job) (t : Stage) (a : Answer) → nat_eq k n ≡ false → claims_of n (asked (asks k job t)) a ≡ 0
+asked_of_other k n job (Claims i) a e = claim_of_other k n i a e
+asked_of_other k n job (ClaimReport i x) a e = refl
+asked_of_other k n job (Starts g was ids) a e = refl
+asked_of_other k n job (StartReport g was ids why) a e = refl
+asked_of_other k n job (Closing g was ids why told) a e = refl
+asked_of_other k n job (Waits g was ids i fault) a e = refl
+asked_of_other k n job (WaitReport g was ids i fault x) a e = refl
+asked_of_other k n job (Removals i) a e = refl
+asked_of_other k n job (RemovalReport i) a e = refl
+asked_of_other k n job Ended a e = refl
+
+pub claims_of_other : (k n : ℕ) (job : Job) (t : Stage) (s : Step) (a : Answer) → nat_eq k n ≡ false → asks k job t ≡ Some s
+    → claims_of n s a ≡ 0
+claims_of_other k n job t s a e is = subst (λ u. claims_of n u a ≡ 0) (ap asked is) (asked_of_other k n job t a e)
+
+-- an event claims at most one temporary
+
+bit : (t : Bool) → one_if t ≤ 1
+bit true = omega arith
+bit false = omega arith
+
+at_most_one : (k : ℕ) (s : Step) (a : Answer) → claims_of k s a ≤ 1
+at_most_one k (step.Claim (place.Temp j i)) (answer.Claim x) = bit (nat_eq j k && is_claimed x)
+at_most_one k s a = let z : 0 ≤ 1 = omega arith in z
+
+pub few_claims : (k : ℕ) (E : List RunEvent) → tally k E ≤ length E
+few_claims k [] = omega arith
+few_claims k (e ∷ E) = let one = at_most_one k e.step e.answer in let rest = few_claims k E in omega (arith, one, rest)

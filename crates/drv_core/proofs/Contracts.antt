@@ -1,0 +1,6 @@
+-- The clauses of `Run`, over its whole course.
+pub mod Chosen
+pub mod Courses
+pub mod Matches
+pub mod Runs
+pub mod Stands

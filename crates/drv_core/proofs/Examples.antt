@@ -1,0 +1,3 @@
+-- Examples, which the prover computes.
+pub mod Rows
+pub mod StartedRows

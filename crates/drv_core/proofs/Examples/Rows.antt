@@ -1,0 +1,451 @@
+use Rattle.drv_core.proofs.Stories.Order.{and_first, and_second, is_not_less, same}
+use Rattle.drv_core.specs.Needed.{needed}
+use Rattle.drv_core.specs.Outcomes.{Answers, GroupAnswers, JobAnswers, Told, status_of, whole}
+use Rattle.drv_core.specs.Story.{Block, after_sources, event, report, story}
+use Rattle.drv_core.specs.Windowed.{AllMayCome, MayCome, SourceBlock, Windowed, blocks_of, count, events_of, has, in_flight, is_wait}
+use Rattle.drv_core.specs.Windowed.{nowhere, of}
+use Rattle.drv_core.specs.declared.failure_status.FailureStatus.TheVariants.{GreatestCode, One}
+use Rattle.drv_words.specs.declared.answers.Answer.TheVariants as answer
+use Rattle.drv_words.specs.declared.answers.ClaimAnswer.{ClaimAnswer}
+use Rattle.drv_words.specs.declared.answers.ClaimAnswer.TheVariants as claim
+use Rattle.drv_words.specs.declared.answers.NotStarted.TheVariants.{NotFound}
+use Rattle.drv_words.specs.declared.answers.RemoveAnswer.{RemoveAnswer}
+use Rattle.drv_words.specs.declared.answers.RemoveAnswer.TheVariants as remove
+use Rattle.drv_words.specs.declared.answers.StartAnswer.{StartAnswer}
+use Rattle.drv_words.specs.declared.answers.StartAnswer.TheVariants.{NotStarted, Started}
+use Rattle.drv_words.specs.declared.answers.WaitAnswer.{WaitAnswer}
+use Rattle.drv_words.specs.declared.answers.WaitAnswer.TheVariants.{Exit, Lost}
+use Rattle.drv_words.specs.declared.plan.Command.{Command}
+use Rattle.drv_words.specs.declared.plan.Job.{Job}
+use Rattle.drv_words.specs.declared.plan.Plan.{Plan}
+use Rattle.drv_words.specs.declared.plan.Temp.{Temp}
+use Rattle.drv_words.specs.declared.steps.Note.TheVariants as note
+use Rattle.drv_words.specs.declared.steps.Place.TheVariants as place
+use Rattle.drv_words.specs.declared.steps.RunEvent.{RunEvent}
+use Rattle.drv_words.specs.declared.steps.Step.TheVariants as step
+use Rattle.std.proofs.Common.{◌≡◌, ◌≤◌, ◌&&◌, ◌||◌, ◌+◌, Bool, false, true, List, [], ◌∷◌, ◌++◌, None, Some, get_or, if◌then◌else◌, length}
+use Rattle.std.proofs.Common.{min, nat_eq, nat_lt, not, refl, suc, zero, ℕ}
+use Rattle.std.specs.Prelude.{map}
+
+-- Examples of runs, which the prover computes from the definitions.
+
+-- the rules of a window as a test
+abbrev may_come : ℕ → ℕ → List SourceBlock → List SourceBlock → ℕ → Bool → Bool
+may_come n N before later k wait =
+    nat_lt k n && nat_eq (count k (λ j. not (has j before) && (has j later || nowhere j))) 0
+    && not (nat_lt N (count n (λ j. (has j before || nat_eq j k) && (has j later || nowhere j))))
+    && (not wait || nat_eq (count n (λ j. in_flight (of j before))) (min N (count n (λ j. has j later || nowhere j))))
+
+abbrev all_may_come : ℕ → ℕ → List SourceBlock → List SourceBlock → Bool
+all_may_come n N before [] = true
+all_may_come n N before (b ∷ after) = may_come n N before (b ∷ after) b.source (is_wait b.block) && all_may_come n N
+    (before ++ b ∷ []) after
+
+below : (N c : ℕ) → not (nat_lt N c) ≡ true → c ≤ N
+below N c e = by (nat_lt N c) refl e
+  where
+    by : (t : Bool) → nat_lt N c ≡ t → not t ≡ true → c ≤ N
+    by true is e = absurd cc
+    by false is e = is_not_less N c is
+
+is_may_come : (n N : ℕ) (before later : List SourceBlock) (k : ℕ) (wait : Bool) → may_come n N before later k wait ≡ true
+    → MayCome n N (λ j. has j before) (λ j. has j later || nowhere j) (λ j. in_flight (of j before)) k wait
+is_may_come n N before later k wait e = record {
+  is_source = and_first (nat_lt k n) order (and_first (nat_lt k n && order) window three);
+  in_order = same (count k (λ j. not (has j before) && (has j later || nowhere j))) 0
+      (and_second (nat_lt k n) order (and_first (nat_lt k n && order) window three));
+  in_window = below N (count n (λ j. (has j before || nat_eq j k) && (has j later || nowhere j)))
+      (and_second (nat_lt k n && order) window three);
+  all_in_flight = λ is. fly is (and_second (nat_lt k n && order && window) flight e);
+}
+  where
+    order : Bool
+    order = nat_eq (count k (λ j. not (has j before) && (has j later || nowhere j))) 0
+
+    window : Bool
+    window = not (nat_lt N (count n (λ j. (has j before || nat_eq j k) && (has j later || nowhere j))))
+
+    flight : Bool
+    flight = not wait || nat_eq (count n (λ j. in_flight (of j before))) (min N (count n (λ j. has j later || nowhere j)))
+
+    three : (nat_lt k n && order && window) ≡ true
+    three = and_first (nat_lt k n && order && window) flight e
+
+    fly : wait ≡ true → flight ≡ true → count n (λ j. in_flight (of j before)) ≡ min N (count n (λ j. has j later || nowhere j))
+    fly is h = same (count n (λ j. in_flight (of j before))) (min N (count n (λ j. has j later || nowhere j))) (rw is at h)
+
+all_come : (n N : ℕ) (before blocks : List SourceBlock) → all_may_come n N before blocks ≡ true → AllMayCome n N nowhere before blocks
+all_come n N before [] e = tt
+all_come n N before (b ∷ after) e = (
+  is_may_come n N before (b ∷ after) b.source (is_wait b.block) (and_first (may_come n N before (b ∷ after) b.source (is_wait b.block)) (all_may_come n N (before ++ b ∷ []) after) e),
+  all_come n N (before ++ b ∷ []) after (and_second (may_come n N before (b ∷ after) b.source (is_wait b.block)) (all_may_come n N (before ++ b ∷ []) after) e),
+)
+
+-- the blocks of the stories in the order that `order` gives, which names a source for each block
+abbrev told_so_far : ℕ → List ℕ → ℕ
+told_so_far k [] = 0
+told_so_far k (j ∷ js) = (if nat_eq j k then 1 else 0) + told_so_far k js
+
+abbrev dealt : List (List Block) → List ℕ → List ℕ → List SourceBlock
+dealt stories before [] = []
+dealt stories before (k ∷ order) = record { source = k; block = get_or (get_or stories k []) (told_so_far k before) [] } ∷ dealt stories
+    (k ∷ before) order
+
+abbrev stories_from : ℕ → List Job → List JobAnswers → List (List Block)
+stories_from k [] xs = []
+stories_from k (job ∷ jobs) [] = []
+stories_from k (job ∷ jobs) (a ∷ xs) = story k job a ∷ stories_from (k + 1) jobs xs
+
+abbrev sources : Plan → Answers → List ℕ → List SourceBlock
+sources plan o order = dealt (stories_from 0 plan.jobs o.jobs) [] order
+
+abbrev events : Plan → Answers → List ℕ → List RunEvent
+events plan o order = events_of (blocks_of (sources plan o order)) ++ events_of (after_sources plan o)
+
+-- jobs and answers
+
+abbrev command : Command
+command = record { program = []; words = [] }
+
+abbrev temps : List ℕ → List Temp
+temps [] = []
+temps (n ∷ ns) = record { path = n ∷ []; contents = [] } ∷ temps ns
+
+abbrev paths : List ℕ → List (List ℕ)
+paths ns = map (λ n. n ∷ []) ns
+
+-- two commands one after another, or as a pipe
+abbrev in_turn : List ℕ → List ℕ → List ℕ → Job
+in_turn ts marked failed = record {
+  source = None;
+  groups = (command ∷ []) ∷ (command ∷ []) ∷ [];
+  temps = temps ts;
+  marked = paths marked;
+  on_failure = paths failed;
+  output = None;
+}
+
+abbrev piped : List ℕ → List ℕ → Job
+piped ts failed = record {
+  source = None;
+  groups = (command ∷ command ∷ []) ∷ [];
+  temps = temps ts;
+  marked = [];
+  on_failure = paths failed;
+  output = None;
+}
+
+abbrev linking : List ℕ → Job
+linking failed = record { source = None; groups = (command ∷ []) ∷ []; temps = []; marked = []; on_failure = paths failed; output = None }
+
+abbrev claimed : Told ClaimAnswer
+claimed = record { answer = claim.Claimed; told = true }
+
+abbrev taken : Told ClaimAnswer
+taken = record { answer = claim.Taken; told = true }
+
+abbrev ends : ℕ → Told WaitAnswer
+ends n = record { answer = Exit n; told = true }
+
+abbrev lost : Told WaitAnswer
+lost = record { answer = Lost; told = true }
+
+abbrev removed : RemoveAnswer → Told RemoveAnswer
+removed x = record { answer = x; told = true }
+
+abbrev gone : ℕ → List (Told RemoveAnswer)
+gone zero = []
+gone (suc n) = removed remove.Removed ∷ gone n
+
+abbrev group : List StartAnswer → List (Told WaitAnswer) → GroupAnswers
+group xs ws = record { starts = xs; refused = true; waits = ws }
+
+abbrev worked : List (Told ClaimAnswer) → List GroupAnswers → JobAnswers
+worked cs gs = record { claims = cs; groups = gs; removals = [] }
+
+abbrev idle : JobAnswers
+idle = worked [] []
+
+-- two sources of two commands each, with two temporaries, and a link; the first compiler exits with 3
+
+abbrev two : Plan
+two = record { notices = []; jobs = in_turn (1 ∷ 2 ∷ []) [] [] ∷ in_turn (3 ∷ 4 ∷ []) [] [] ∷ []; link = Some (linking (9 ∷ [])) }
+
+abbrev first_fails : Answers
+first_fails = record {
+  jobs = worked (claimed ∷ claimed ∷ []) (group (Started 0 ∷ []) (ends 3 ∷ []) ∷ [])
+      ∷ worked (claimed ∷ claimed ∷ []) (group (Started 1 ∷ []) (ends 0 ∷ []) ∷ group (Started 2 ∷ []) (ends 0 ∷ []) ∷ []) ∷ [];
+  link = idle;
+  last = removed remove.Removed ∷ removed remove.Removed ∷ removed remove.Removed ∷ removed remove.Removed ∷ [];
+}
+
+two_needs : needed two ≡ 38
+two_needs = refl
+
+two_whole : whole two first_fails ≡ true
+two_whole = refl
+
+two_status : status_of GreatestCode first_fails ≡ 3
+two_status = refl
+
+two_events : events two first_fails (0 ∷ 0 ∷ 0 ∷ 0 ∷ 1 ∷ 1 ∷ 1 ∷ 1 ∷ 1 ∷ 1 ∷ [])
+    ≡ event (step.Claim (place.Temp 0 0)) (answer.Claim claim.Claimed) ∷ event (step.Claim (place.Temp 0 1)) (answer.Claim claim.Claimed)
+    ∷ event (step.Start (place.Command 0 0 0) false false) (answer.Start (Started 0)) ∷ event (step.Wait (place.Command 0 0 0) 0)
+    (answer.Wait (Exit 3))
+    ∷ event (step.Claim (place.Temp 1 0)) (answer.Claim claim.Claimed) ∷ event (step.Claim (place.Temp 1 1)) (answer.Claim claim.Claimed)
+    ∷ event (step.Start (place.Command 1 0 0) false false) (answer.Start (Started 1)) ∷ event (step.Wait (place.Command 1 0 0) 1)
+    (answer.Wait (Exit 0))
+    ∷ event (step.Start (place.Command 1 1 0) false false) (answer.Start (Started 2)) ∷ event (step.Wait (place.Command 1 1 0) 2)
+    (answer.Wait (Exit 0))
+    ∷ event (step.Remove (place.Temp 0 0)) (answer.Remove remove.Removed) ∷ event (step.Remove (place.Temp 0 1))
+    (answer.Remove remove.Removed)
+    ∷ event (step.Remove (place.Temp 1 0)) (answer.Remove remove.Removed) ∷ event (step.Remove (place.Temp 1 1))
+    (answer.Remove remove.Removed) ∷ []
+two_events = refl
+
+two_windowed : Windowed two 1 first_fails (events two first_fails (0 ∷ 0 ∷ 0 ∷ 0 ∷ 1 ∷ 1 ∷ 1 ∷ 1 ∷ 1 ∷ 1 ∷ []))
+two_windowed = record {
+  blocks = sources two first_fails (0 ∷ 0 ∷ 0 ∷ 0 ∷ 1 ∷ 1 ∷ 1 ∷ 1 ∷ 1 ∷ 1 ∷ []);
+  events = refl;
+  stories = (refl, (refl, tt));
+  may_come = all_come 2 1 [] (sources two first_fails (0 ∷ 0 ∷ 0 ∷ 0 ∷ 1 ∷ 1 ∷ 1 ∷ 1 ∷ 1 ∷ 1 ∷ [])) refl;
+  all_answers = refl;
+}
+
+-- with a window of two both first commands are started before the first wait; a window of one forbids that
+two_at_once : all_may_come 2 2 [] (sources two first_fails (0 ∷ 0 ∷ 0 ∷ 1 ∷ 1 ∷ 1 ∷ 0 ∷ 1 ∷ 1 ∷ 1 ∷ [])) ≡ true
+two_at_once = refl
+
+not_in_turn : all_may_come 2 2 [] (sources two first_fails (0 ∷ 0 ∷ 0 ∷ 0 ∷ 1 ∷ 1 ∷ 1 ∷ 1 ∷ 1 ∷ 1 ∷ [])) ≡ false
+not_in_turn = refl
+
+not_at_once : all_may_come 2 1 [] (sources two first_fails (0 ∷ 0 ∷ 0 ∷ 1 ∷ 1 ∷ 1 ∷ 0 ∷ 1 ∷ 1 ∷ 1 ∷ [])) ≡ false
+not_at_once = refl
+
+-- the same without a link, with one temporary each, and with an object file that a failed source removes
+
+abbrev objects : Plan
+objects = record { notices = []; jobs = in_turn (1 ∷ []) [] (5 ∷ []) ∷ in_turn (2 ∷ []) [] (6 ∷ []) ∷ []; link = None }
+
+abbrev object_fails : Answers
+object_fails = record {
+  jobs = record { claims = claimed ∷ []; groups = group (Started 0 ∷ []) (ends 3 ∷ []) ∷ []; removals = removed remove.Removed ∷ [] }
+      ∷ worked (claimed ∷ []) (group (Started 1 ∷ []) (ends 0 ∷ []) ∷ group (Started 2 ∷ []) (ends 0 ∷ []) ∷ []) ∷ [];
+  link = idle;
+  last = removed remove.Removed ∷ removed remove.Removed ∷ [];
+}
+
+objects_need : needed objects ≡ 28
+objects_need = refl
+
+objects_whole : whole objects object_fails ≡ true
+objects_whole = refl
+
+objects_status : status_of One object_fails ≡ 1
+objects_status = refl
+
+objects_come : all_may_come 2 1 [] (sources objects object_fails (0 ∷ 0 ∷ 0 ∷ 0 ∷ 1 ∷ 1 ∷ 1 ∷ 1 ∷ 1 ∷ [])) ≡ true
+objects_come = refl
+
+objects_events : events objects object_fails (0 ∷ 0 ∷ 0 ∷ 0 ∷ 1 ∷ 1 ∷ 1 ∷ 1 ∷ 1 ∷ [])
+    ≡ event (step.Claim (place.Temp 0 0)) (answer.Claim claim.Claimed)
+    ∷ event (step.Start (place.Command 0 0 0) false false) (answer.Start (Started 0)) ∷ event (step.Wait (place.Command 0 0 0) 0)
+    (answer.Wait (Exit 3))
+    ∷ event (step.Remove (place.OnFailure 0 0)) (answer.Remove remove.Removed)
+    ∷ event (step.Claim (place.Temp 1 0)) (answer.Claim claim.Claimed)
+    ∷ event (step.Start (place.Command 1 0 0) false false) (answer.Start (Started 1)) ∷ event (step.Wait (place.Command 1 0 0) 1)
+    (answer.Wait (Exit 0))
+    ∷ event (step.Start (place.Command 1 1 0) false false) (answer.Start (Started 2)) ∷ event (step.Wait (place.Command 1 1 0) 2)
+    (answer.Wait (Exit 0))
+    ∷ event (step.Remove (place.Temp 0 0)) (answer.Remove remove.Removed) ∷ event (step.Remove (place.Temp 1 0))
+    (answer.Remove remove.Removed) ∷ []
+objects_events = refl
+
+-- a pipe whose second start is refused
+
+abbrev one_pipe : Plan
+one_pipe = record { notices = []; jobs = piped [] (5 ∷ []) ∷ []; link = None }
+
+abbrev refused_start : Answers
+refused_start = record {
+  jobs = record {
+    claims = [];
+    groups = group (Started 0 ∷ NotStarted NotFound ∷ []) (ends 0 ∷ []) ∷ [];
+    removals = removed
+        remove.Removed ∷ [];
+  } ∷ [];
+  link = idle;
+  last = [];
+}
+
+pipe_windowed : Windowed one_pipe 1 refused_start (event (step.Start (place.Command 0 0 0) false true) (answer.Start (Started 0))
+    ∷ event (step.Start (place.Command 0 0 1) true false) (answer.Start (NotStarted NotFound)) ∷ report
+    (note.NotStarted (place.Command 0 0 1)) true
+    ∷ event step.ClosePipe answer.Closed ∷ event (step.Wait (place.Command 0 0 0) 0) (answer.Wait (Exit 0))
+    ∷ event (step.Remove (place.OnFailure 0 0)) (answer.Remove remove.Removed) ∷ [])
+pipe_windowed = record {
+  blocks = sources one_pipe refused_start (0 ∷ 0 ∷ 0 ∷ []);
+  events = refl;
+  stories = (refl, tt);
+  may_come = all_come 1 1 [] (sources one_pipe refused_start (0 ∷ 0 ∷ 0 ∷ [])) refl;
+  all_answers = refl;
+}
+
+pipe_status : status_of One refused_start ≡ 1
+pipe_status = refl
+
+-- a link that exits with 1, whose output is a device, and a temporary that can't be removed
+
+abbrev link_fails : Answers
+link_fails = record {
+  jobs = worked (claimed ∷ claimed ∷ []) (group (Started 0 ∷ []) (ends 0 ∷ []) ∷ group (Started 1 ∷ []) (ends 0 ∷ []) ∷ [])
+      ∷ worked (claimed ∷ claimed ∷ []) (group (Started 2 ∷ []) (ends 0 ∷ []) ∷ group (Started 3 ∷ []) (ends 0 ∷ []) ∷ []) ∷ [];
+  link = record { claims = []; groups = group (Started 4 ∷ []) (ends 1 ∷ []) ∷ []; removals = removed remove.NotPlain ∷ [] };
+  last = removed remove.Failed ∷ removed remove.Missing ∷ removed remove.Removed ∷ removed remove.Removed ∷ [];
+}
+
+link_whole : whole two link_fails ≡ true
+link_whole = refl
+
+link_status : status_of One link_fails ≡ 1
+link_status = refl
+
+link_end : events_of (after_sources two link_fails)
+    ≡ event (step.Start (place.Command 2 0 0) false false) (answer.Start (Started 4)) ∷ event (step.Wait (place.Command 2 0 0) 4)
+    (answer.Wait (Exit 1))
+    ∷ event (step.Remove (place.OnFailure 2 0)) (answer.Remove remove.NotPlain)
+    ∷ event (step.Remove (place.Temp 0 0)) (answer.Remove remove.Failed) ∷ report (note.NotRemoved (place.Temp 0 0)) true
+    ∷ event (step.Remove (place.Temp 0 1)) (answer.Remove remove.Missing) ∷ event (step.Remove (place.Temp 1 0))
+    (answer.Remove remove.Removed)
+    ∷ event (step.Remove (place.Temp 1 1)) (answer.Remove remove.Removed) ∷ []
+link_end = refl
+
+-- five sources, each a pipe with one temporary, and a link
+
+abbrev five : Plan
+five = record {
+  notices = [];
+  jobs = piped (1 ∷ []) [] ∷ piped (2 ∷ []) [] ∷ piped (3 ∷ []) [] ∷ piped (4 ∷ []) [] ∷ piped (5 ∷ []) [] ∷ [];
+  link = Some (linking (9 ∷ []));
+}
+
+abbrev good : ℕ → JobAnswers
+good id = worked (claimed ∷ []) (group (Started id ∷ Started (id + 1) ∷ []) (ends 0 ∷ ends 0 ∷ []) ∷ [])
+
+-- the third source's answers, the link's, and the removals at the end
+abbrev five_with : JobAnswers → JobAnswers → List (Told RemoveAnswer) → Answers
+five_with third link last = record { jobs = good 0 ∷ good 2 ∷ third ∷ good 6 ∷ good 8 ∷ []; link = link; last = last }
+
+abbrev linked : JobAnswers
+linked = worked [] (group (Started 10 ∷ []) (ends 0 ∷ []) ∷ [])
+
+-- source by source; a source whose claim fails has one block, any other has four
+abbrev in_order : List ℕ
+in_order = 0 ∷ 0 ∷ 0 ∷ 0 ∷ 1 ∷ 1 ∷ 1 ∷ 1 ∷ 2 ∷ 2 ∷ 2 ∷ 2 ∷ 3 ∷ 3 ∷ 3 ∷ 3 ∷ 4 ∷ 4 ∷ 4 ∷ 4 ∷ []
+
+-- all begun before the first wait
+abbrev at_once : List ℕ
+at_once = 0 ∷ 0 ∷ 1 ∷ 1 ∷ 2 ∷ 2 ∷ 3 ∷ 3 ∷ 4 ∷ 4 ∷ 0 ∷ 0 ∷ 1 ∷ 1 ∷ 2 ∷ 2 ∷ 3 ∷ 3 ∷ 4 ∷ 4 ∷ []
+
+abbrev five_good : Answers
+five_good = five_with (good 4) linked (gone 5)
+
+five_needs : needed five ≡ 66
+five_needs = refl
+
+five_whole : whole five five_good ≡ true
+five_whole = refl
+
+five_length : length (events five five_good in_order) ≡ 32
+five_length = refl
+
+five_come : all_may_come 5 1 [] (sources five five_good in_order) ≡ true
+five_come = refl
+
+five_at_once : all_may_come 5 5 [] (sources five five_good at_once) ≡ true
+five_at_once = refl
+
+-- the third claim finds its name taken: no link, and four removals
+abbrev third_taken : Answers
+third_taken = five_with (worked (taken ∷ []) []) idle (gone 4)
+
+taken_whole : whole five third_taken ≡ true
+taken_whole = refl
+
+taken_length : length (events five third_taken (0 ∷ 0 ∷ 0 ∷ 0 ∷ 1 ∷ 1 ∷ 1 ∷ 1 ∷ 2 ∷ 3 ∷ 3 ∷ 3 ∷ 3 ∷ 4 ∷ 4 ∷ 4 ∷ 4 ∷ [])) ≡ 26
+taken_length = refl
+
+taken_status : status_of One third_taken ≡ 1
+taken_status = refl
+
+-- the third source's second start is refused
+abbrev third_refused : Answers
+third_refused = five_with (worked (claimed ∷ []) (group (Started 4 ∷ NotStarted NotFound ∷ []) (ends 0 ∷ []) ∷ [])) idle (gone 5)
+
+refused_whole : whole five third_refused ≡ true
+refused_whole = refl
+
+refused_length : length (events five third_refused (0 ∷ 0 ∷ 0 ∷ 0 ∷ 1 ∷ 1 ∷ 1 ∷ 1 ∷ 2 ∷ 2 ∷ 2 ∷ 3 ∷ 3 ∷ 3 ∷ 3 ∷ 4 ∷ 4 ∷ 4 ∷ 4 ∷ [])) ≡ 31
+refused_length = refl
+
+-- the third source's first child is lost
+abbrev third_lost : Answers
+third_lost = five_with (worked (claimed ∷ []) (group (Started 4 ∷ Started 5 ∷ []) (lost ∷ ends 0 ∷ []) ∷ [])) idle (gone 5)
+
+lost_whole : whole five third_lost ≡ true
+lost_whole = refl
+
+lost_length : length (events five third_lost in_order) ≡ 31
+lost_length = refl
+
+lost_status : status_of GreatestCode third_lost ≡ 1
+lost_status = refl
+
+-- a removal that fails
+abbrev removal_fails : Answers
+removal_fails = five_with (good 4) linked (removed remove.Removed ∷ removed remove.Failed ∷ gone 3)
+
+removal_length : length (events five removal_fails in_order) ≡ 33
+removal_length = refl
+
+removal_status : status_of One removal_fails ≡ 0
+removal_status = refl
+
+-- all claims fail
+abbrev all_taken : Answers
+all_taken = record {
+  jobs = worked (taken ∷ []) [] ∷ worked (taken ∷ []) [] ∷ worked (taken ∷ []) [] ∷ worked (taken ∷ []) [] ∷ worked
+      (taken ∷ []) [] ∷ [];
+  link = idle;
+  last = [];
+}
+
+all_taken_whole : whole five all_taken ≡ true
+all_taken_whole = refl
+
+all_taken_length : length (events five all_taken (0 ∷ 1 ∷ 2 ∷ 3 ∷ 4 ∷ [])) ≡ 10
+all_taken_length = refl
+
+-- a window of three with two sources: both are in flight at the first wait
+objects_at_once : all_may_come 2 3 [] (sources objects object_fails (0 ∷ 0 ∷ 1 ∷ 1 ∷ 0 ∷ 0 ∷ 1 ∷ 1 ∷ 1 ∷ [])) ≡ true
+objects_at_once = refl
+
+-- a window of two with three sources, the first claim taken: the first wait has the other two in flight
+
+abbrev three : Plan
+three = record { notices = []; jobs = in_turn (1 ∷ []) [] [] ∷ in_turn (2 ∷ []) [] [] ∷ in_turn (3 ∷ []) [] [] ∷ []; link = None }
+
+abbrev first_taken : Answers
+first_taken = record {
+  jobs = worked (taken ∷ []) []
+      ∷ worked (claimed ∷ []) (group (Started 0 ∷ []) (ends 0 ∷ []) ∷ group (Started 2 ∷ []) (ends 0 ∷ []) ∷ [])
+      ∷ worked (claimed ∷ []) (group (Started 1 ∷ []) (ends 0 ∷ []) ∷ group (Started 3 ∷ []) (ends 0 ∷ []) ∷ []) ∷ [];
+  link = idle;
+  last = removed remove.Removed ∷ removed remove.Removed ∷ [];
+}
+
+three_come : all_may_come 3 2 [] (sources three first_taken (0 ∷ 1 ∷ 1 ∷ 2 ∷ 2 ∷ 1 ∷ 1 ∷ 1 ∷ 2 ∷ 2 ∷ 2 ∷ [])) ≡ true
+three_come = refl
+
+three_one_flies : all_may_come 3 2 [] (sources three first_taken (0 ∷ 1 ∷ 1 ∷ 1 ∷ 1 ∷ 1 ∷ 2 ∷ 2 ∷ 2 ∷ 2 ∷ 2 ∷ [])) ≡ false
+three_one_flies = refl

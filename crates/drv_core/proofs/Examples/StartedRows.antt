@@ -1,0 +1,67 @@
+use Rattle.drv_words.specs.declared.answers.Answer.TheVariants as answer
+use Rattle.drv_words.specs.declared.answers.NotStarted.TheVariants.{NotFound}
+use Rattle.drv_words.specs.declared.answers.StartAnswer.TheVariants as start
+use Rattle.drv_words.specs.declared.answers.WaitAnswer.TheVariants.{Exit}
+use Rattle.drv_words.specs.declared.plan.Command.{Command}
+use Rattle.drv_words.specs.declared.plan.Job.{Job}
+use Rattle.drv_words.specs.declared.plan.Plan.{Plan}
+use Rattle.drv_words.specs.declared.steps.Place.TheVariants as place
+use Rattle.drv_words.specs.declared.steps.RunEvent.{RunEvent}
+use Rattle.drv_words.specs.declared.steps.Step.TheVariants as step
+use Rattle.drv_core.specs.Started.{commands_of, started_in}
+use Rattle.std.proofs.Common.{◌≡◌, List, [], ◌∷◌, None, Some, false, refl, true, ℕ}
+
+-- Examples of the commands that events start, which the prover computes from the definition.
+
+abbrev called : ℕ → Command
+called name = record { program = name ∷ []; words = [] }
+
+abbrev job : List (List Command) → Job
+job groups = record { source = None; groups = groups; temps = []; marked = []; on_failure = []; output = None }
+
+-- a source of two commands in turn, a source of two commands in a pipe, and a link
+abbrev plan : Plan
+plan = record {
+  notices = [];
+  jobs = job ((called 1 ∷ []) ∷ (called 2 ∷ []) ∷ []) ∷ job ((called 3 ∷ called 4 ∷ []) ∷ []) ∷ [];
+  link = Some (job ((called 5 ∷ []) ∷ []));
+}
+
+abbrev starts : ℕ → ℕ → ℕ → ℕ → RunEvent
+starts k g i id = record { step = step.Start (place.Command k g i) false false; answer = answer.Start (start.Started id) }
+
+abbrev fails : ℕ → ℕ → ℕ → RunEvent
+fails k g i = record { step = step.Start (place.Command k g i) true false; answer = answer.Start (start.NotStarted NotFound) }
+
+abbrev ends : ℕ → ℕ → ℕ → ℕ → ℕ → RunEvent
+ends k g i id code = record { step = step.Wait (place.Command k g i) id; answer = answer.Wait (Exit code) }
+
+-- both sources are under way: the first command of the first source fails, and the pipe of the second source lacks its second program
+abbrev events : List RunEvent
+events = starts 0 0 0 7 ∷ starts 1 0 0 8 ∷ fails 1 0 1 ∷ ends 0 0 0 7 1 ∷ ends 1 0 0 8 0 ∷ []
+
+planned : commands_of (job ((called 1 ∷ []) ∷ (called 2 ∷ called 3 ∷ []) ∷ [])) ≡ called 1 ∷ called 2 ∷ called 3 ∷ []
+planned = refl
+
+first_source : started_in plan 0 events ≡ called 1 ∷ []
+first_source = refl
+
+second_source : started_in plan 1 events ≡ called 3 ∷ []
+second_source = refl
+
+no_link : started_in plan 2 events ≡ []
+no_link = refl
+
+-- all goes well
+abbrev whole : List RunEvent
+whole = starts 0 0 0 7 ∷ ends 0 0 0 7 0 ∷ starts 0 1 0 8 ∷ ends 0 1 0 8 0 ∷ starts 1 0 0 9 ∷ starts 1 0 1 10 ∷ ends 1 0 0 9 0 ∷ ends 1 0 1
+    10 0 ∷ starts 2 0 0 11 ∷ ends 2 0 0 11 0 ∷ []
+
+all_of_first : started_in plan 0 whole ≡ called 1 ∷ called 2 ∷ []
+all_of_first = refl
+
+all_of_second : started_in plan 1 whole ≡ called 3 ∷ called 4 ∷ []
+all_of_second = refl
+
+the_link : started_in plan 2 whole ≡ called 5 ∷ []
+the_link = refl

@@ -1,0 +1,312 @@
+use Rattle.drv_core.proofs.WholeRuns.Each.{Each, Kinds, of_sources, of_story}
+use Rattle.drv_core.proofs.WholeRuns.Exact.{story_is, whole_at}
+use Rattle.drv_core.proofs.Stories.Order.{and_first, and_second, apart_above, same}
+use Rattle.drv_core.proofs.WholeRuns.Sifted.{halves, jobs_whole, link_whole, no_claims, no_waits, none_above, nothing, only_first, sift}
+use Rattle.drv_core.proofs.WholeRuns.Sifted.{two_lists}
+use Rattle.drv_core.specs.Outcomes.{Answers, File, GroupAnswers, JobAnswers, Told, claimed_temps, claims_failed, each_once, files_of_job}
+use Rattle.drv_core.specs.Outcomes.{files_of_jobs, is_claimed, link_run, made_call, marked_files, no_answers, none, removed_at_end}
+use Rattle.drv_core.specs.Outcomes.{removed_by_job, whole_claims, whole_groups, whole_job, whole_jobs}
+use Rattle.drv_core.specs.Removals.{AllRemove, RemovesByRule, RemovesOwn, end_at, end_removal, failure_places, own_at, own_removal}
+use Rattle.drv_core.specs.Story.{Block, after_sources, claim_block, claim_blocks, end_removals, event, group_blocks, own_removals}
+use Rattle.drv_core.specs.Story.{removal_block, removal_failed, report, starts_block, story, wait_block, wait_blocks}
+use Rattle.drv_core.specs.Windowed.{Windowed, blocks_of, events_of}
+use Rattle.drv_words.specs.Places.{no_job}
+use Rattle.drv_words.specs.declared.answers.Answer.TheVariants as answer
+use Rattle.drv_words.specs.declared.answers.ClaimAnswer.TheVariants as claim
+use Rattle.drv_words.specs.declared.answers.ClaimAnswer.{ClaimAnswer}
+use Rattle.drv_words.specs.declared.answers.RemoveAnswer.{RemoveAnswer}
+use Rattle.drv_words.specs.declared.answers.StartAnswer.TheVariants.{NotStarted, Started}
+use Rattle.drv_words.specs.declared.answers.StartAnswer.{StartAnswer}
+use Rattle.drv_words.specs.declared.answers.WaitAnswer.TheVariants.{Exit, Lost, Signal}
+use Rattle.drv_words.specs.declared.answers.WaitAnswer.{WaitAnswer}
+use Rattle.drv_words.specs.declared.plan.Command.{Command}
+use Rattle.drv_words.specs.declared.plan.Job.{Job}
+use Rattle.drv_words.specs.declared.plan.Plan.{Plan}
+use Rattle.drv_words.specs.declared.plan.Temp.{Temp}
+use Rattle.drv_words.specs.declared.steps.Note.TheVariants as note
+use Rattle.drv_words.specs.declared.steps.Place.TheVariants as place
+use Rattle.drv_words.specs.declared.steps.Place.{Place}
+use Rattle.drv_words.specs.declared.steps.RunEvent.{RunEvent}
+use Rattle.drv_words.specs.declared.steps.Step.TheVariants as step
+use Rattle.std.proofs.Common.{◌≡◌, ◌<◌, ◌≤◌, ◌+◌, ◌∙◌, ◌&&◌, Bool, false, true, List, [], ◌∷◌, ◌++◌, ap, append-nil, append_assoc, arith}
+use Rattle.std.proofs.Common.{get_or, if◌then◌else◌, length, map, nat_eq, nat_lt, refl, sym, ℕ}
+use Rattle.std.proofs.lemmas.Cmp.{nat_eq_equiv}
+use Rattle.std.proofs.lemmas.Grind.{flat_map-append}
+use Rattle.std.specs.Cmp.Lexicographic.{pointwise}
+use Rattle.std.specs.List.{flat_map, list_any}
+use Rattle.std.specs.Prelude.{⊤}
+
+-- For removal_law: in a whole run the removals are those of the rule.
+
+abbrev own : ℕ → RunEvent → List Place
+own k e = own_removal k e.step
+
+abbrev last : RunEvent → List Place
+last e = end_removal e.step
+
+-- No event before a job's own removals is one of them.
+
+quiet_close : (k : ℕ) (t : Bool) → flat_map (own k) (if t then event step.ClosePipe answer.Closed ∷ [] else []) ≡ []
+quiet_close k true = refl
+quiet_close k false = refl
+
+quiet_starts : (k j g n i : ℕ) (refused : Bool) (xs : List StartAnswer) → flat_map (own k) (starts_block j g n i refused xs) ≡ []
+quiet_starts k j g n i refused [] = refl
+quiet_starts k j g n i refused (Started id ∷ xs) = quiet_starts k j g n (i + 1) refused xs
+quiet_starts k j g n i refused (NotStarted why ∷ xs) = quiet_close k (nat_lt 0 i)
+
+quiet_wait : (k j g i id : ℕ) (x : WaitAnswer) (t : Bool) → flat_map (own k) (wait_block j g i id (record { answer = x; told = t })) ≡ []
+quiet_wait k j g i id (Exit n) t = refl
+quiet_wait k j g i id Signal t = refl
+quiet_wait k j g i id Lost t = refl
+
+quiet_groups : (k j g : ℕ) (cs : List (List Command)) (xs : List GroupAnswers) → sift (own k) (group_blocks j g cs xs) ≡ []
+quiet_groups k j g [] xs = refl
+quiet_groups k j g (c ∷ cs) [] = refl
+quiet_groups k j g (c ∷ cs) (x ∷ xs) = two_lists (own k) (starts_block j g (length c) 0 x.refused x.starts ∷ wait_blocks j g 0 x.starts
+    x.waits) (group_blocks j (g + 1) cs xs)
+    ∙ nothing (flat_map-append (own k) (starts_block j g (length c) 0 x.refused x.starts) (events_of (wait_blocks j g 0 x.starts x.waits))
+    ∙ nothing (quiet_starts k j g (length c) 0 x.refused x.starts) (no_waits (own k) j g (λ i id y t. quiet_wait k j g i id y t) 0
+    x.starts x.waits))
+    (quiet_groups k j (g + 1) cs xs)
+
+removals_alone : (k j : ℕ) (job : Job) (a : JobAnswers) → sift (own k) (story j job a) ≡ sift (own k) (own_removals j 0 a.removals)
+removals_alone k j job a = two_lists (own k) (claim_blocks j 0 a.claims) (group_blocks j 0 job.groups a.groups
+    ++ own_removals j 0 a.removals)
+    ∙ ap (λ l. l ++ sift (own k) (group_blocks j 0 job.groups a.groups ++ own_removals j 0 a.removals))
+    (no_claims (own k) j (λ i x t. (refl, refl)) 0 a.claims)
+    ∙ two_lists (own k) (group_blocks j 0 job.groups a.groups) (own_removals j 0 a.removals)
+    ∙ ap (λ l. l ++ sift (own k) (own_removals j 0 a.removals)) (quiet_groups k j 0 job.groups a.groups)
+
+one_removal : (k j i : ℕ) (x : RemoveAnswer) (t : Bool)
+    → flat_map (own k) (removal_block (place.OnFailure j i) (record { answer = x; told = t }))
+    ≡ (if nat_eq j k then place.OnFailure j i ∷ [] else [])
+one_removal k j i x t = by (removal_failed x)
+  where
+    by : (u : Bool) → flat_map (own k) (event (step.Remove (place.OnFailure j i)) (answer.Remove x) ∷
+        (if u then report (note.NotRemoved (place.OnFailure j i)) t ∷ [] else [])) ≡ (if nat_eq j k then place.OnFailure j i ∷ [] else [])
+    by true = append-nil (if nat_eq j k then place.OnFailure j i ∷ [] else [])
+    by false = append-nil (if nat_eq j k then place.OnFailure j i ∷ [] else [])
+
+other_removals : (k j i : ℕ) (rs : List (Told RemoveAnswer)) → nat_eq j k ≡ false → sift (own k) (own_removals j i rs) ≡ []
+other_removals k j i [] other = refl
+other_removals k j i (r ∷ rs) other = flat_map-append (own k) (removal_block (place.OnFailure j i) r)
+    (events_of (own_removals j (i + 1) rs))
+    ∙ nothing (one_removal k j i r.answer r.told ∙ ap (λ (t : Bool). if t then place.OnFailure j i ∷ [] else []) other)
+    (other_removals k j (i + 1) rs other)
+
+own_all : (k i : ℕ) (rs : List (Told RemoveAnswer)) (files : List (List ℕ)) → length rs ≡ length files
+    → sift (own k) (own_removals k i rs) ≡ failure_places k i files
+own_all k i [] [] e = refl
+own_all k i [] (f ∷ files) e = absurd (omega arith)
+own_all k i (r ∷ rs) [] e = absurd (omega arith)
+own_all k i (r ∷ rs) (f ∷ files) e = flat_map-append (own k) (removal_block (place.OnFailure k i) r) (events_of (own_removals k (i + 1) rs))
+    ∙ ap (λ l. l ++ sift (own k) (own_removals k (i + 1) rs)) (one_removal k k i r.answer r.told
+    ∙ ap (λ (t : Bool). if t then place.OnFailure k i ∷ [] else []) (nat_eq_equiv.refl k))
+    ∙ ap (λ l. place.OnFailure k i ∷ l) (own_all k (i + 1) rs files (omega arith))
+
+-- there are as many answers to removals as files
+
+empty : {X : Type 0} (xs : List X) → none xs ≡ true → xs ≡ []
+empty [] e = refl
+empty (x ∷ xs) e = absurd cc
+
+answered : (job : Job) (a : JobAnswers) → whole_job job a ≡ true → length a.removals ≡ length (removed_by_job job a)
+answered job a e = by (none job.groups) e
+  where
+    idle : none a.claims ≡ true → none a.groups ≡ true → removed_by_job job a ≡ []
+    idle c g = ap (λ l. removed_by_job job (record { claims = l; groups = a.groups; removals = a.removals })) (empty a.claims c)
+        ∙ ap (λ l. removed_by_job job (record { claims = []; groups = l; removals = a.removals })) (empty a.groups g)
+
+    by : (t : Bool) → (if t then none a.claims && none a.groups && none a.removals else whole_claims job.temps a.claims
+        && (if claims_failed a then none a.groups else whole_groups job.groups a.groups) && nat_eq (length a.removals)
+        (length (removed_by_job job a))) ≡ true → length a.removals ≡ length (removed_by_job job a)
+    by true h = ap (λ (l : List (Told RemoveAnswer)). length l)
+        (empty a.removals (and_second (none a.claims && none a.groups) (none a.removals) h))
+        ∙ sym (ap (λ (l : List (List ℕ)). length l) (let both = and_first (none a.claims && none a.groups) (none a.removals) h in idle (and_first (none a.claims) (none a.groups) both) (and_second (none a.claims) (none a.groups) both)))
+    by false h = same (length a.removals) (length (removed_by_job job a))
+        (and_second (whole_claims job.temps a.claims && (if claims_failed a then none a.groups else whole_groups job.groups a.groups))
+        (nat_eq (length a.removals) (length (removed_by_job job a))) h)
+
+own_story : (k : ℕ) (job : Job) (a : JobAnswers) → whole_job job a ≡ true → sift (own k) (story k job a) ≡ failure_places k 0
+    (removed_by_job job a)
+own_story k job a e = removals_alone k k job a ∙ own_all k 0 a.removals (removed_by_job job a) (answered job a e)
+
+-- The removals at the end are of temporaries and marked files.
+
+abbrev AtEnd : File → Type 0
+AtEnd f = (end_at f.place ≡ f.place ∷ []) × ((k : ℕ) → own_at k f.place ≡ [])
+
+abbrev AllAtEnd : List File → Type 0
+AllAtEnd [] = ⊤
+AllAtEnd (f ∷ fs) = AtEnd f × AllAtEnd fs
+
+at_both : (xs ys : List File) → AllAtEnd xs → AllAtEnd ys → AllAtEnd (xs ++ ys)
+at_both [] ys e f = f
+at_both (x ∷ xs) ys e f = (e.0, at_both xs ys e.1 f)
+
+at_temps : (k i : ℕ) (ts : List Temp) (cs : List (Told ClaimAnswer)) → AllAtEnd (claimed_temps k i ts cs)
+at_temps k i [] cs = tt
+at_temps k i (t ∷ ts) [] = tt
+at_temps k i (t ∷ ts) (c ∷ cs) = at_both (if is_claimed c.answer then record { place = place.Temp k i; path = t.path } ∷ [] else [])
+    (claimed_temps k (i + 1) ts cs) (by (is_claimed c.answer)) (at_temps k (i + 1) ts cs)
+  where
+    by : (u : Bool) → AllAtEnd (if u then record { place = place.Temp k i; path = t.path } ∷ [] else [])
+    by true = ((refl, λ j. refl), tt)
+    by false = tt
+
+at_marked : (k i : ℕ) (ms : List (List ℕ)) → AllAtEnd (marked_files k i ms)
+at_marked k i [] = tt
+at_marked k i (m ∷ ms) = ((refl, λ j. refl), at_marked k (i + 1) ms)
+
+at_job : (k : ℕ) (job : Job) (a : JobAnswers) → AllAtEnd (files_of_job k job a)
+at_job k job a = by (made_call a)
+  where
+    by : (t : Bool) → AllAtEnd (if t then claimed_temps k 0 job.temps a.claims ++ marked_files k 0 job.marked else [])
+    by true = at_both (claimed_temps k 0 job.temps a.claims) (marked_files k 0 job.marked) (at_temps k 0 job.temps a.claims)
+        (at_marked k 0 job.marked)
+    by false = tt
+
+at_jobs : (k : ℕ) (jobs : List Job) (xs : List JobAnswers) → AllAtEnd (files_of_jobs k jobs xs)
+at_jobs k [] xs = tt
+at_jobs k (j ∷ jobs) [] = tt
+at_jobs k (j ∷ jobs) (a ∷ xs) = at_both (files_of_job k j a) (files_of_jobs (k + 1) jobs xs) (at_job k j a) (at_jobs (k + 1) jobs xs)
+
+at_once : (seen : List (List ℕ)) (fs : List File) → AllAtEnd fs → AllAtEnd (each_once seen fs)
+at_once seen [] e = tt
+at_once seen (f ∷ fs) e = by (list_any (pointwise nat_eq f.path) seen) (at_once seen fs e.1) (at_once (f.path ∷ seen) fs e.1)
+  where
+    by : (t : Bool) → AllAtEnd (each_once seen fs) → AllAtEnd (each_once (f.path ∷ seen) fs)
+        → AllAtEnd (if t then each_once seen fs else f ∷ each_once (f.path ∷ seen) fs)
+    by true gone left = gone
+    by false gone left = (e.0, left)
+
+at_end : (plan : Plan) (o : Answers) → AllAtEnd (removed_at_end plan o)
+at_end plan o = at_once [] (files_of_jobs 0 (plan.jobs ++ link_run plan.link o.jobs ∷ []) (o.jobs ++ o.link ∷ []))
+    (at_jobs 0 (plan.jobs ++ link_run plan.link o.jobs ∷ []) (o.jobs ++ o.link ∷ []))
+
+with_report : {X : Type 0} (f : RunEvent → List X) (p : Place) (x : RemoveAnswer) (t : Bool) → f (report (note.NotRemoved p) t) ≡ []
+    → flat_map f (removal_block p (record { answer = x; told = t })) ≡ f (event (step.Remove p) (answer.Remove x))
+with_report f p x t quiet = by (removal_failed x)
+  where
+    by : (u : Bool) → flat_map f (event (step.Remove p) (answer.Remove x) ∷ (if u then report (note.NotRemoved p) t ∷ [] else []))
+        ≡ f (event (step.Remove p) (answer.Remove x))
+    by true = ap (λ l. f (event (step.Remove p) (answer.Remove x)) ++ (l ++ [])) quiet
+        ∙ append-nil (f (event (step.Remove p) (answer.Remove x)))
+    by false = append-nil (f (event (step.Remove p) (answer.Remove x)))
+
+no_own_at_end : (k : ℕ) (files : List File) (rs : List (Told RemoveAnswer)) → AllAtEnd files → sift (own k) (end_removals files rs) ≡ []
+no_own_at_end k [] rs e = refl
+no_own_at_end k (f ∷ files) [] e = refl
+no_own_at_end k (f ∷ files) (r ∷ rs) e = flat_map-append (own k) (removal_block f.place r) (events_of (end_removals files rs))
+    ∙ nothing (with_report (own k) f.place r.answer r.told refl ∙ e.0.1 k) (no_own_at_end k files rs e.1)
+
+all_at_end : (files : List File) (rs : List (Told RemoveAnswer)) → length rs ≡ length files → AllAtEnd files
+    → sift last (end_removals files rs) ≡ map (λ f. f.place) files
+all_at_end [] rs e at = refl
+all_at_end (f ∷ files) [] e at = absurd (omega arith)
+all_at_end (f ∷ files) (r ∷ rs) e at = flat_map-append last (removal_block f.place r) (events_of (end_removals files rs))
+    ∙ ap (λ l. l ++ sift last (end_removals files rs)) (with_report last f.place r.answer r.told refl ∙ at.0.0)
+    ∙ ap (λ l. f.place ∷ l) (all_at_end files rs (omega arith) at.1)
+
+remove_both : (E F : List RunEvent) → AllRemove E → AllRemove F → AllRemove (E ++ F)
+remove_both [] F e f = f
+remove_both (x ∷ E) F e f = (e.0, remove_both E F e.1 f)
+
+remove_alone : (files : List File) (rs : List (Told RemoveAnswer)) → AllRemove (events_of (end_removals files rs))
+remove_alone [] rs = tt
+remove_alone (f ∷ files) [] = tt
+remove_alone (f ∷ files) (r ∷ rs) = remove_both (removal_block f.place r) (events_of (end_removals files rs))
+    (refl, by (removal_failed r.answer)) (remove_alone files rs)
+  where
+    by : (t : Bool) → AllRemove (if t then report (note.NotRemoved f.place) r.told ∷ [] else [])
+    by true = (refl, tt)
+    by false = tt
+
+-- No event of a story is one of them.
+
+abbrev Quiet : Block → Type 0
+Quiet b = flat_map last b ≡ []
+
+quiet_claim : (k i : ℕ) (x : ClaimAnswer) (t : Bool) → Quiet (claim_block k i (record { answer = x; told = t }))
+quiet_claim k i claim.Claimed t = refl
+quiet_claim k i claim.Taken t = refl
+quiet_claim k i claim.Failed t = refl
+
+quiet_last_close : (t : Bool) → Quiet (if t then event step.ClosePipe answer.Closed ∷ [] else [])
+quiet_last_close true = refl
+quiet_last_close false = refl
+
+quiet_last_starts : (k g n i : ℕ) (refused : Bool) (xs : List StartAnswer) → Quiet (starts_block k g n i refused xs)
+quiet_last_starts k g n i refused [] = refl
+quiet_last_starts k g n i refused (Started id ∷ xs) = quiet_last_starts k g n (i + 1) refused xs
+quiet_last_starts k g n i refused (NotStarted why ∷ xs) = quiet_last_close (nat_lt 0 i)
+
+quiet_last_wait : (k g i id : ℕ) (x : WaitAnswer) (t : Bool) → Quiet (wait_block k g i id (record { answer = x; told = t }))
+quiet_last_wait k g i id (Exit n) t = refl
+quiet_last_wait k g i id Signal t = refl
+quiet_last_wait k g i id Lost t = refl
+
+quiet_kinds : Kinds Quiet
+quiet_kinds = record {
+  claim = quiet_claim;
+  starts = quiet_last_starts;
+  wait = quiet_last_wait;
+  removal = λ k i x t. with_report last
+      (place.OnFailure k i) x t refl;
+}
+
+all_quiet : (bs : List Block) → Each Quiet bs → sift last bs ≡ []
+all_quiet [] e = refl
+all_quiet (b ∷ bs) e = flat_map-append last b (events_of bs) ∙ nothing e.0 (all_quiet bs e.1)
+
+-- a whole run
+
+pub removes_by_rule : (plan : Plan) (N : ℕ) (o : Answers) (E : List RunEvent) → Windowed plan N o E → RemovesByRule plan o E
+removes_by_rule plan N o E w = record {
+  sources = sources;
+  link = link;
+  before = events_of (blocks_of w.blocks) ++ events_of (story n job o.link);
+  after = events_of (end_removals files o.last);
+  parts = w.events ∙ ap (λ l. events_of (blocks_of w.blocks) ++ l) (flat_map-append (λ b. b) (story n job o.link)
+      (end_removals files o.last))
+      ∙ sym (append_assoc (events_of (blocks_of w.blocks)) (events_of (story n job o.link)) (events_of (end_removals files o.last)));
+  none_before = flat_map-append last (events_of (blocks_of w.blocks)) (events_of (story n job o.link))
+      ∙ nothing (all_quiet (blocks_of w.blocks) (of_sources Quiet quiet_kinds plan N o E w))
+      (all_quiet (story n job o.link) (of_story Quiet quiet_kinds n job o.link));
+  at_end = all_at_end files o.last lengths (at_end plan o);
+  alone = remove_alone files o.last;
+}
+  where
+    n : ℕ
+    n = length plan.jobs
+
+    job : Job
+    job = link_run plan.link o.jobs
+
+    files : List File
+    files = removed_at_end plan o
+
+    lengths : length o.last ≡ length (removed_at_end plan o)
+    lengths = same (length o.last) (length (removed_at_end plan o))
+        (and_second (whole_jobs plan.jobs o.jobs && whole_job (link_run plan.link o.jobs) o.link)
+        (nat_eq (length o.last) (length (removed_at_end plan o))) w.all_answers)
+
+    others : (k j : ℕ) (job : Job) (a : JobAnswers) → nat_eq j k ≡ false → sift (own k) (story j job a) ≡ []
+    others k j job a other = removals_alone k j job a ∙ other_removals k j 0 a.removals other
+
+    sources : (k : ℕ) → k < length plan.jobs → RemovesOwn E k (get_or plan.jobs k no_job) (get_or o.jobs k no_answers)
+    sources k lt = halves (own k) plan N o E w k (others k)
+        ∙ only_first (ap (λ l. sift (own k) l) (story_is plan N o E w k lt) ∙ own_story k (get_or plan.jobs k no_job)
+        (get_or o.jobs k no_answers) (whole_at plan.jobs o.jobs (jobs_whole plan N o E w) k lt))
+        (two_lists (own k) (story (length plan.jobs) (link_run plan.link o.jobs) o.link) (end_removals (removed_at_end plan o) o.last)
+        ∙ nothing (others k (length plan.jobs) (link_run plan.link o.jobs) o.link (apart_above (length plan.jobs) k lt))
+        (no_own_at_end k (removed_at_end plan o) o.last (at_end plan o)))
+
+    link : RemovesOwn E (length plan.jobs) (link_run plan.link o.jobs) o.link
+    link = halves (own (length plan.jobs)) plan N o E w (length plan.jobs) (others (length plan.jobs))
+        ∙ ap (λ l. sift (own (length plan.jobs)) l ++ sift (own (length plan.jobs)) (after_sources plan o)) (none_above plan N o E w (length plan.jobs) (let le : length plan.jobs ≤ length plan.jobs = omega arith in le))
+        ∙ two_lists (own (length plan.jobs)) (story (length plan.jobs) (link_run plan.link o.jobs) o.link)
+        (end_removals (removed_at_end plan o) o.last)
+        ∙ only_first (own_story (length plan.jobs) (link_run plan.link o.jobs) o.link (link_whole plan N o E w))
+        (no_own_at_end (length plan.jobs) (removed_at_end plan o) o.last (at_end plan o))

@@ -1,0 +1,187 @@
+use Rattle.drv_core.proofs.Stories.Order.{same}
+use Rattle.drv_core.specs.Code.Counting.{fresh_leftovers}
+use Rattle.drv_core.specs.Code.LeftoverView.{leftover_of, leftover_list}
+use Rattle.drv_core.specs.Code.Numbering.{Noted, Noting, first_with, numbered_files}
+use Rattle.drv_core.specs.Outcomes.{File}
+use Rattle.drv_core.specs.Code.Leftovers.{Leftover, Leftovers}
+use Rattle.drv_core.specs.declared.leftovers.Leftover.{Leftover as CodeLeftover}
+use Rattle.drv_words.specs.declared.steps.Place.{Place}
+use Rattle.std.proofs.Common.{◌≡◌, ◌<◌, ◌≤◌, ◌+◌, ◌∙◌, Bool, false, true, List, [], ◌∷◌, ◌++◌, None, Option, Some, ap, append-nil}
+use Rattle.std.proofs.Common.{append_assoc, arith, cond, drop, get_or, if◌then◌else◌, length, nat_eq, refl, replicate, subst, suc, sym}
+use Rattle.std.proofs.Common.{unwrap_or, zero, ℕ}
+use Rattle.std.proofs.lemmas.Cmp.{nat_eq_equiv}
+use Rattle.std.proofs.lemmas.Cmp.{nat_list_eq_equiv}
+use Rattle.std.proofs.lemmas.List.{drop_all, drop_more, length-map, map-append}
+use Rattle.std.specs.Cmp.Lexicographic.{pointwise, same_text}
+
+-- For the removals at the end: the code numbers the paths of the leftover files.
+
+-- the search continues after a list
+
+abbrev pub found_then : Option ℕ → Option ℕ → Option ℕ
+found_then None o = o
+found_then (Some n) o = Some n
+
+pub first_front : (i : ℕ) (p : List ℕ) (xs ys : List File) → first_with i p (xs ++ ys) ≡ found_then (first_with i p xs)
+    (first_with (i + length xs) p ys)
+first_front i p [] ys = ap (λ n. first_with n p ys) (let e : i ≡ i + 0 = omega arith in e)
+first_front i p (x ∷ xs) ys = by (pointwise nat_eq p x.path) (first_front (i + 1) p xs ys)
+  where
+    by : (t : Bool) → first_with (i + 1) p (xs ++ ys) ≡ found_then (first_with (i + 1) p xs) (first_with (i + 1 + length xs) p ys)
+        → (if t then Some i else first_with (i + 1) p (xs ++ ys)) ≡ found_then (if t then Some i else first_with (i + 1) p xs)
+        (first_with (i + length (x ∷ xs)) p ys)
+    by true ih = refl
+    by false ih = ih ∙ ap (λ n. found_then (first_with (i + 1) p xs) (first_with n p ys)) (let e : i + 1 + length xs ≡ i + length (x ∷ xs) = omega arith in e)
+
+pub numbered_append : (before xs ys : List File) → numbered_files before (xs ++ ys) ≡ numbered_files before xs ++ numbered_files
+    (before ++ xs) ys
+numbered_append before [] ys = ap (λ l. numbered_files l ys) (sym (append-nil before))
+numbered_append before (x ∷ xs) ys = ap (λ l. record { place = x.place; first = unwrap_or (first_with 0 x.path before) (length before) } ∷
+    l) (numbered_append (before ++ x ∷ []) xs ys
+    ∙ ap (λ l. numbered_files (before ++ x ∷ []) xs ++ numbered_files l ys) (append_assoc before (x ∷ []) xs))
+
+pub many_lefts : (before xs : List File) → length (numbered_files before xs) ≡ length xs
+many_lefts before [] = refl
+many_lefts before (x ∷ xs) = ap (λ (n : ℕ). suc n) (many_lefts (before ++ x ∷ []) xs)
+
+-- one more file
+
+noted_first : (before : List File) (files : List Leftover) (find : List ℕ → Option ℕ) (path : List ℕ) (first : ℕ) → Noted before files find
+    → first ≡ unwrap_or (find path) (length files) → first ≡ unwrap_or (first_with 0 path before) (length before)
+noted_first before files find path first h is = is ∙ ap (λ o. unwrap_or o (length files)) (h.found path)
+    ∙ ap (λ n. unwrap_or (first_with 0 path before) n) (ap (λ (l : List Leftover). length l) h.files_are ∙ many_lefts [] before)
+
+abbrev file_of : Place → List ℕ → File
+file_of place path = record { place = place; path = path }
+
+files_more : (before : List File) (files new : List Leftover) (find : List ℕ → Option ℕ) (place : Place) (path : List ℕ) (first : ℕ)
+    → Noted before files find → first ≡ unwrap_or (find path) (length files)
+    → new ≡ files ++ record { place = place; first = first } ∷ [] → new ≡ numbered_files [] (before ++ file_of place path ∷ [])
+files_more before files new find place path first h is e = e ∙ ap (λ n. files ++ record { place = place; first = n } ∷ [])
+    (noted_first before files find path first h is)
+    ∙ ap (λ l. l ++ numbered_files before (file_of place path ∷ [])) h.files_are ∙ sym (numbered_append [] before (file_of place path ∷ []))
+
+-- the number that is found for a path after another path has got its number
+found_more : (before : List File) (n : ℕ) (path p : List ℕ) (place : Place) (first : ℕ) (o : Option ℕ) → n ≡ length before
+    → first ≡ unwrap_or (first_with 0 path before) n → o ≡ first_with 0 p before
+    → (if nat_eq first n then cond (pointwise nat_eq path p) (Some n) o else o) ≡ first_with 0 p (before ++ file_of place path ∷ [])
+found_more before n path p place first o many is known = by (pointwise nat_eq path p) refl
+    ∙ sym (first_front 0 p before (file_of place path ∷ []))
+  where
+    fresh : (t u : Bool) → nat_eq first n ≡ t → (x : Option ℕ) → first_with 0 path before ≡ x
+        → (if t then Some n else x) ≡ found_then x (Some n)
+    fresh true u e None is_none = refl
+    fresh true u e (Some m) is_some = ap (λ k. Some k) (sym (same first n e) ∙ is ∙ ap (λ (x : Option ℕ). unwrap_or x n) is_some)
+    fresh false u e (Some m) is_some = refl
+    fresh false u e None is_none = absurd (let clash : true ≡ false = sym (nat_eq_equiv.refl n) ∙ ap (λ k. nat_eq k n) (sym (is ∙ ap (λ (x : Option ℕ). unwrap_or x n) is_none)) ∙ e in cc)
+
+    with_none : (x : Option ℕ) → x ≡ found_then x None
+    with_none None = refl
+    with_none (Some m) = refl
+
+    whichever : (t : Bool) → o ≡ (if t then o else o)
+    whichever true = refl
+    whichever false = refl
+
+    by : (t : Bool) → pointwise nat_eq path p ≡ t → (if nat_eq first n then cond t (Some n) o else o) ≡ found_then (first_with 0 p before)
+        (if pointwise nat_eq p path then Some (0 + length before) else None)
+    by true e =
+        let one : path ≡ p = same_text path p (sym e) in
+        let found : o ≡ first_with 0 path before = known ∙ ap (λ q. first_with 0 q before) (sym one) in
+        ap (λ x. if nat_eq first n then Some n else x) found ∙ fresh (nat_eq first n) true refl (first_with 0 path before) refl
+        ∙ ap (λ q. found_then (first_with 0 q before) (Some n)) one ∙ ap (λ k. found_then (first_with 0 p before) (Some k)) (let z : n ≡ 0 + length before = omega (arith, many) in z)
+        ∙ ap (λ (t : Bool). found_then (first_with 0 p before) (if t then Some (0 + length before) else None))
+        (sym (nat_list_eq_equiv.symm p path ∙ e))
+    by false e = sym (whichever (nat_eq first n)) ∙ known ∙ with_none (first_with 0 p before)
+        ∙ ap (λ (t : Bool). found_then (first_with 0 p before) (if t then Some (0 + length before) else None))
+        (sym (nat_list_eq_equiv.symm p path ∙ e))
+
+pub noted_more : (before : List File) (files new : List Leftover) (find now : List ℕ → Option ℕ) (place : Place) (path : List ℕ)
+    (first n : ℕ) → Noted before files find → n ≡ length files → first ≡ unwrap_or (find path) n
+    → new ≡ files ++ record { place = place; first = first } ∷ []
+    → ((p : List ℕ) → now p ≡ (if nat_eq first n then cond (pointwise nat_eq path p) (Some n) (find p) else find p))
+    → Noted (before ++ file_of place path ∷ []) new now
+noted_more before files new find now place path first n h many is e found = record {
+  files_are = files_more before files new find place path first h (is ∙ ap (λ k. unwrap_or (find path) k) many) e;
+  found = λ p. found p ∙ found_more before n path p place first (find p) (many ∙ ap (λ (l : List Leftover). length l) h.files_are
+      ∙ many_lefts [] before) (is ∙ ap (λ o. unwrap_or o n) (h.found path)) (h.found p);
+}
+
+-- lists of files
+
+pub noting_starts : (before rest : List File) (files : List Leftover) (find : List ℕ → Option ℕ) → Noted before files find
+    → Noting (before ++ rest) rest files find
+noting_starts before rest files find h = record { before = before; parts = refl; noted = h }
+
+pub noting_ends : (all : List File) (files : List Leftover) (find : List ℕ → Option ℕ) → Noting all [] files find → Noted all files find
+noting_ends all files find h = subst (λ l. Noted l files find) (sym (append-nil h.before) ∙ h.parts) h.noted
+
+-- some more files are noted
+pub noting_on : (all more rest : List File) (files new : List Leftover) (find now : List ℕ → Option ℕ)
+    → Noting all (more ++ rest) files find → ((before : List File) → Noted before files find → Noted (before ++ more) new now)
+    → Noting all rest new now
+noting_on all more rest files new find now h goes = record {
+  before = h.before ++ more;
+  parts = append_assoc h.before more rest
+      ∙ h.parts;
+  noted = goes h.before h.noted;
+}
+
+-- the files of a list's items, of which the next item's are noted
+pub noting_next : {X : Type 0} (from : ℕ → List X → List File) (one : ℕ → X → List File) (all : List File) (xs : List X) (i : ℕ) (x : X)
+    (files new : List Leftover) (find now : List ℕ → Option ℕ)
+    → ((rest : List X) → from i (x ∷ rest) ≡ one i x ++ from (i + 1) rest) → x ≡ get_or xs i x → i < length xs
+    → Noting all (from i (drop i xs)) files find → ((before : List File) → Noted before files find → Noted (before ++ one i x) new now)
+    → Noting all (from (i + 1) (drop (i + 1) xs)) new now
+noting_next from one all xs i x files new find now steps is here h goes =
+    noting_on all (one i x) (from (i + 1) (drop (i + 1) xs)) files new find now
+    (subst (λ l. Noting all l files find) (ap (λ l. from i l) (drop_more xs i x here) ∙ ap (λ y. from i (y ∷ drop (i + 1) xs)) (sym is)
+    ∙ steps (drop (i + 1) xs)) h) goes
+
+-- all items are noted
+pub noting_all : {X : Type 0} (from : ℕ → List X → List File) (before : List File) (xs all : List X) (i : ℕ) (files : List Leftover)
+    (find : List ℕ → Option ℕ)
+    → from i [] ≡ [] → length xs ≤ i → xs ≡ all → Noting (before ++ from 0 xs) (from i (drop i xs)) files find
+    → Noted (before ++ from 0 all) files find
+noting_all from before xs all i files find none past is h = subst (λ l. Noted (before ++ from 0 l) files find) is
+    (noting_ends (before ++ from 0 xs) files find (subst (λ l. Noting (before ++ from 0 xs) l files find)
+    (ap (λ l. from i l) (drop_all i xs past) ∙ none) h))
+
+-- no file was noted before
+pub noted_none : (files : List CodeLeftover) (find : List ℕ → Option ℕ) → files ≡ [] → ((p : List ℕ) → find p ≡ None)
+    → Noted [] (leftover_list files) find
+noted_none files find no_files none = record { files_are = ap leftover_list no_files; found = none }
+
+-- the code's own list
+pub noted_file : (before : List File) (files new : List CodeLeftover) (find now : List ℕ → Option ℕ) (place : Place) (path : List ℕ)
+    (first n : ℕ) → Noted before (leftover_list files) find → n ≡ length files → first ≡ unwrap_or (find path) n
+    → new ≡ files ++ record { place = place; first = first } ∷ []
+    → ((p : List ℕ) → now p ≡ (if nat_eq first n then cond (pointwise nat_eq path p) (Some n) (find p) else find p))
+    → Noted (before ++ file_of place path ∷ []) (leftover_list new) now
+noted_file before files new find now place path first n h many is e found = noted_more before (leftover_list files) (leftover_list new) find
+    now place path first n h (many ∙ sym (length-map files leftover_of)) is (ap leftover_list e
+    ∙ map-append leftover_of files (record { place = place; first = first } ∷ [])) found
+
+-- at the beginning nothing was claimed or removed
+abbrev at_first : List Leftover → List Bool → List ℕ → ℕ → Leftovers
+at_first files gone claimed sources = record { files = files; gone = gone; claimed = claimed; sources = sources; linked = false; at = 0 }
+
+pub fresh_made : (files : List CodeLeftover) (named : List Leftover) (gone : List Bool) (claimed pushed : List ℕ) (n m k sources : ℕ)
+    → leftover_list files ≡ named → gone ≡ replicate n false → n ≡ length files → claimed ≡ replicate m 0 → m ≡ sources
+    → pushed ≡ claimed ++ 0 ∷ [] → k ≡ sources
+    → at_first (leftover_list files) gone pushed k ≡ fresh_leftovers named sources
+fresh_made files named gone claimed pushed n m k sources named_is none_gone many none_claimed each one_more all =
+    ap (λ l. at_first (leftover_list files) l pushed k) (none_gone
+    ∙ ap (λ i. replicate i false) (many ∙ sym (length-map files leftover_of)))
+    ∙ ap (λ l. at_first l (replicate (length l) false) pushed k) named_is
+    ∙ ap (λ l. at_first named (replicate (length named) false) l k) (one_more
+    ∙ ap (λ l. l ++ 0 ∷ []) (none_claimed ∙ ap (λ i. replicate i 0) each))
+    ∙ ap (λ i. at_first named (replicate (length named) false) (replicate sources 0 ++ 0 ∷ []) i) all
+
+pub drop_lefts : (n : ℕ) (files : List CodeLeftover) → leftover_list (drop n files) ≡ drop n (leftover_list files)
+drop_lefts zero files = refl
+drop_lefts (suc n) [] = refl
+drop_lefts (suc n) (f ∷ files) = drop_lefts n files
+
+pub by_same : {X : Type 0} (a b : ℕ) (x y z : X) → a ≡ b → x ≡ y → x ≡ (if nat_eq a b then y else z)
+by_same a b x y z e is = is ∙ ap (λ (t : Bool). if t then y else z) (sym (ap (λ n. nat_eq a n) (sym e) ∙ nat_eq_equiv.refl a))

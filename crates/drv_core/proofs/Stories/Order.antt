@@ -1,0 +1,167 @@
+use Rattle.drv_core.specs.Windowed.{SourceBlock, by_source, count, of, only}
+use Rattle.std.proofs.Common.{◌≡◌, ◌<◌, ◌≤◌, ◌+◌, ◌∙◌, ◌&&◌, Bool, false, true, List, [], ◌∷◌, ◌++◌, ap, append-nil, arith, if◌then◌else◌}
+use Rattle.std.proofs.Common.{nat_eq, nat_lt, refl, suc, zero, ℕ}
+use Rattle.std.proofs.lemmas.Bool.Decides.{nat_tests}
+use Rattle.std.specs.Prelude.{⊤}
+
+-- For the stories: the blocks of one source among those of all, source by source, and the number of sources that pass a test.
+
+pub and_first : (a b : Bool) → (a && b) ≡ true → a ≡ true
+and_first true b e = refl
+and_first false b e = e
+
+pub and_second : (a b : Bool) → (a && b) ≡ true → b ≡ true
+and_second true b e = e
+and_second false b e = absurd cc
+
+-- a test can't both pass and fail
+pub clash : (t : Bool) → t ≡ true → t ≡ false → ⊥
+clash true e h = absurd cc
+clash false e h = absurd cc
+
+pub less : (a b : ℕ) → a < b → nat_lt a b ≡ true
+less a b h = grind (arith, nat_tests)
+
+pub is_less : (a b : ℕ) → nat_lt a b ≡ true → a < b
+is_less a b e = grind (arith, nat_tests)
+
+pub not_less : (a b : ℕ) → b ≤ a → nat_lt a b ≡ false
+not_less a b h = grind (arith, nat_tests)
+
+pub is_not_less : (a b : ℕ) → nat_lt a b ≡ false → b ≤ a
+is_not_less a b e = grind (arith, nat_tests)
+
+pub same : (a b : ℕ) → nat_eq a b ≡ true → a ≡ b
+same a b e = grind (arith, nat_tests)
+
+pub apart : (a b : ℕ) → a < b → nat_eq a b ≡ false
+apart a b h = grind (arith, nat_tests)
+
+pub apart_above : (a b : ℕ) → b < a → nat_eq a b ≡ false
+apart_above a b h = grind (arith, nat_tests)
+
+-- blocks of one source
+
+pub of_append : (k : ℕ) (xs ys : List SourceBlock) → of k (xs ++ ys) ≡ of k xs ++ of k ys
+of_append k [] ys = refl
+of_append k (b ∷ xs) ys = by (nat_eq b.source k) (of_append k xs ys)
+  where
+    by : (t : Bool) → of k (xs ++ ys) ≡ of k xs ++ of k ys → (if t then b.block ∷ of k (xs ++ ys) else of k (xs ++ ys))
+        ≡ (if t then b.block ∷ of k xs else of k xs) ++ of k ys
+    by true e = ap (λ l. b.block ∷ l) e
+    by false e = e
+
+of_only : (k : ℕ) (bs : List SourceBlock) → of k (only k bs) ≡ of k bs
+of_only k [] = refl
+of_only k (b ∷ bs) = by (nat_eq b.source k) refl (of_only k bs)
+  where
+    by : (t : Bool) → nat_eq b.source k ≡ t → of k (only k bs) ≡ of k bs → of k (if t then b ∷ only k bs else only k bs)
+        ≡ (if t then b.block ∷ of k bs else of k bs)
+    by true e ih = rw e (ap (λ l. b.block ∷ l) ih)
+    by false e ih = ih
+
+of_only_other : (j k : ℕ) (bs : List SourceBlock) → nat_eq j k ≡ false → of k (only j bs) ≡ []
+of_only_other j k [] h = refl
+of_only_other j k (b ∷ bs) h = by (nat_eq b.source j) refl (of_only_other j k bs h)
+  where
+    by : (t : Bool) → nat_eq b.source j ≡ t → of k (only j bs) ≡ [] → of k (if t then b ∷ only j bs else only j bs) ≡ []
+    by true e ih = let is : b.source ≡ j = same b.source j e in rw (is, h) ih
+    by false e ih = ih
+
+-- none of the sources from n on
+pub of_beyond : (n k : ℕ) (bs : List SourceBlock) → n ≤ k → of k (by_source n bs) ≡ []
+of_beyond zero k bs h = refl
+of_beyond (suc n) k bs h = of_append k (by_source n bs) (only n bs) ∙ ap (λ l. l ++ of k (only n bs)) (of_beyond n k bs (omega arith))
+    ∙ of_only_other n k bs (apart n k (omega arith))
+
+pub of_by_source : (n k : ℕ) (bs : List SourceBlock) → k < n → of k (by_source n bs) ≡ of k bs
+of_by_source zero k bs h = absurd (omega arith)
+of_by_source (suc n) k bs h = of_append k (by_source n bs) (only n bs) ∙ by (nat_lt k n) refl (λ lt. of_by_source n k bs lt)
+  where
+    by : (t : Bool) → nat_lt k n ≡ t → (k < n → of k (by_source n bs) ≡ of k bs) → of k (by_source n bs) ++ of k (only n bs) ≡ of k bs
+    by true e ih = rw (of_only_other n k bs (apart_above n k (is_less k n e))) (append-nil (of k (by_source n bs)) ∙ ih (is_less k n e))
+    by false e ih = let is : n ≡ k = (let above : n ≤ k = is_not_less k n e in omega arith) in
+        rw (of_beyond n k bs (omega arith), is) (of_only k bs)
+
+-- the blocks of the sources from lo to below hi, in the order of the sources
+abbrev pub Ordered : ℕ → ℕ → List SourceBlock → Type 0
+Ordered lo hi [] = ⊤
+Ordered lo hi (b ∷ bs) = (lo ≤ b.source) × (b.source < hi) × Ordered b.source hi bs
+
+abbrev pub Upto : ℕ → List SourceBlock → Type 0
+Upto m [] = ⊤
+Upto m (b ∷ bs) = (b.source ≤ m) × Upto m bs
+
+pub upto_more : (m k : ℕ) (bs : List SourceBlock) → m ≤ k → Upto m bs → Upto k bs
+upto_more m k [] le u = tt
+upto_more m k (b ∷ bs) le u = (let below : b.source ≤ m = u.0 in omega arith, upto_more m k bs le u.1)
+
+pub upto_append : (m : ℕ) (xs : List SourceBlock) (b : SourceBlock) → Upto m xs → b.source ≤ m → Upto m (xs ++ b ∷ [])
+upto_append m [] b u le = (le, tt)
+upto_append m (x ∷ xs) b u le = (u.0, upto_append m xs b u.1 le)
+
+pub of_before : (lo hi j : ℕ) (bs : List SourceBlock) → Ordered lo hi bs → j < lo → of j bs ≡ []
+of_before lo hi j [] o h = refl
+of_before lo hi j (b ∷ bs) o h =
+    let from : lo ≤ b.source = o.0 in
+    let above : j < b.source = omega arith in
+    rw (apart_above b.source j above) (of_before b.source hi j bs o.2 above)
+
+pub of_after : (m j : ℕ) (bs : List SourceBlock) → Upto m bs → m < j → of j bs ≡ []
+of_after m j [] u h = refl
+of_after m j (b ∷ bs) u h =
+    let below : b.source ≤ m = u.0 in
+    let under : b.source < j = omega arith in
+    rw (apart b.source j under) (of_after m j bs u.1 h)
+
+-- the blocks of one source, after those of earlier sources
+ordered_only : (lo n : ℕ) (bs : List SourceBlock) → lo ≤ n → Ordered lo (suc n) (only n bs)
+ordered_only lo n [] le = tt
+ordered_only lo n (b ∷ bs) le = by (nat_eq b.source n) refl (ordered_only lo n bs le) (ordered_only n n bs (omega arith))
+  where
+    by : (t : Bool) → nat_eq b.source n ≡ t → Ordered lo (suc n) (only n bs) → Ordered n (suc n) (only n bs)
+        → Ordered lo (suc n) (if t then b ∷ only n bs else only n bs)
+    by true e ih at = let is : b.source ≡ n = same b.source n e in rw is (le, omega arith, at)
+    by false e ih at = ih
+
+ordered_then : (lo n : ℕ) (xs ys : List SourceBlock) → Ordered lo n xs → lo ≤ n → ((m : ℕ) → m ≤ n → Ordered m (suc n) ys)
+    → Ordered lo (suc n) (xs ++ ys)
+ordered_then lo n [] ys o le more = more lo le
+ordered_then lo n (x ∷ xs) ys o le more =
+    let below : x.source < n = o.1 in
+    (o.0, omega arith, ordered_then x.source n xs ys o.2 (omega arith) more)
+
+pub ordered : (n : ℕ) (bs : List SourceBlock) → Ordered 0 n (by_source n bs)
+ordered zero bs = tt
+ordered (suc n) bs = ordered_then 0 n (by_source n bs) (only n bs) (ordered n bs) (omega arith) (λ m le. ordered_only m n bs le)
+
+-- the number of those that pass
+
+pub count_none : (n : ℕ) (p : ℕ → Bool) → ((j : ℕ) → j < n → p j ≡ false) → count n p ≡ 0
+count_none zero p h = refl
+count_none (suc n) p h = rw (h n (omega arith), count_none n p (λ j lt. h j (omega arith))) refl
+
+-- only source k can pass
+pub count_other : (n k : ℕ) (p : ℕ → Bool) → ((j : ℕ) → nat_eq j k ≡ false → p j ≡ false) → count n p ≤ 1
+count_other zero k p h = omega arith
+count_other (suc n) k p h = by (nat_eq n k) refl (count_other n k p h)
+  where
+    one : (t : Bool) → (if t then 1 else 0) ≤ 1
+    one true = omega arith
+    one false = omega arith
+
+    by : (t : Bool) → nat_eq n k ≡ t → count n p ≤ 1 → (if p n then 1 else 0) + count n p ≤ 1
+    by true e rest =
+        let is : n ≡ k = same n k e in
+        let others : count n p ≡ 0 = count_none n p (λ j lt. h j (apart j k (omega arith))) in
+        let here : (if p n then 1 else 0) ≤ 1 = one (p n) in
+        rw others (omega arith)
+    by false e rest = rw (h n e) (omega arith)
+
+pub count_some : (n k : ℕ) (p : ℕ → Bool) → k < n → p k ≡ true → 1 ≤ count n p
+count_some zero k p lt e = absurd (omega arith)
+count_some (suc n) k p lt e = by (nat_eq k n) refl (λ below. count_some n k p below e)
+  where
+    by : (t : Bool) → nat_eq k n ≡ t → (k < n → 1 ≤ count n p) → 1 ≤ (if p n then 1 else 0) + count n p
+    by true is ih = let at : k ≡ n = same k n is in let here : p n ≡ true = rw (← at) e in rw here (omega arith)
+    by false is ih = let rest : 1 ≤ count n p = ih (grind (arith, nat_tests)) in omega arith

@@ -1,0 +1,332 @@
+use Rattle.drv_core.proofs.Stories.Blocks.{OneBlock, any_refused, ids_of, starts_fit}
+use Rattle.drv_core.proofs.Laws.Fair.{claim_starts, claim_waits, closed, removal_starts, removal_waits, starts_wait, total_append}
+use Rattle.drv_core.proofs.Laws.Fair.{wait_starts, wait_waits}
+use Rattle.drv_core.proofs.Stories.Order.{is_less, is_not_less, less, not_less, of_append, same}
+use Rattle.drv_core.proofs.Stories.Tells.{ToldStory, Walk, tells}
+use Rattle.drv_core.specs.Code.Source.{ClaimReport, Claims, Closing, Ended, RemovalReport, Removals, Stage, StartReport, Starts, WaitReport}
+use Rattle.drv_core.specs.Code.Source.{Waits, begin, end_group, enter_claims, enter_group, enter_removals, enter_waits, inside, left}
+use Rattle.drv_core.specs.Outcomes.{JobAnswers, is_claimed, none, wait_failed, whole_jobs}
+use Rattle.drv_core.specs.Story.{Block, claim_block, starts_block}
+use Rattle.drv_core.specs.Windowed.{AllMayCome, MayCome, SourceBlock, TellStories, events_of, has, in_flight, is_wait, nowhere, of}
+use Rattle.drv_core.specs.Windowed.{starts_child, total, waits_child}
+use Rattle.drv_words.specs.Places.{group_at, no_job}
+use Rattle.drv_words.specs.declared.answers.StartAnswer.{StartAnswer}
+use Rattle.drv_words.specs.declared.answers.StartAnswer.TheVariants as start
+use Rattle.drv_words.specs.declared.plan.Command.{Command}
+use Rattle.drv_words.specs.declared.plan.Job.{Job}
+use Rattle.drv_words.specs.declared.steps.Place.TheVariants as place
+use Rattle.std.proofs.Common.{◌≡◌, ◌<◌, ◌≤◌, ◌+◌, ◌-◌, ◌∙◌, ◌||◌, Bool, false, true, List, [], ◌∷◌, ◌++◌, ap, append-nil, append_assoc}
+use Rattle.std.proofs.Common.{arith, get_or, if◌then◌else◌, length, nat_eq, nat_lt, not, refl, subst, suc, sym, ℕ}
+use Rattle.std.proofs.Math.Path.{fun_ext}
+use Rattle.std.specs.Prelude.{⊤}
+
+-- For the choices of `Run`: the stages of all sources between blocks, which one more block keeps in order.
+
+-- the blocks lead from s to m
+abbrev pub Path : ℕ → Job → Stage → List Block → Stage → Type 0
+Path k job s [] m = s ≡ m
+Path k job s (b ∷ bs) m = (t : Stage) × (OneBlock k job s b t × Path k job t bs m)
+
+pub path_more : (k : ℕ) (job : Job) (s : Stage) (bs : List Block) (m : Stage) (b : Block) (n : Stage) → Path k job s bs m
+    → OneBlock k job m b n → Path k job s (bs ++ b ∷ []) n
+path_more k job s [] m b n p o = (n, (subst (λ t. OneBlock k job t b n) (sym p) o, refl))
+path_more k job s (c ∷ bs) m b n p o = (p.0, (p.1.0, path_more k job p.0 bs m b n p.1.1 o))
+
+pub path_ends : (k : ℕ) (job : Job) (s : Stage) (bs : List Block) → Path k job s bs Ended → Walk k job s bs
+path_ends k job s [] p = p
+path_ends k job s (b ∷ bs) p = (p.0, (p.1.0, path_ends k job p.0 bs p.1.1))
+
+-- how many children are in flight
+
+abbrev pub pending : Stage → ℕ
+pending (Waits g was ids i fault) = length ids - i
+pending s = 0
+
+-- a stage between blocks; a wait has a child to wait for
+abbrev pub Sound : Stage → Type 0
+Sound (Claims i) = ⊤
+Sound (ClaimReport i x) = ⊥
+Sound (Starts g was ids) = ids ≡ []
+Sound (StartReport g was ids why) = ⊥
+Sound (Closing g was ids why told) = ⊥
+Sound (Waits g was ids i fault) = i < length ids
+Sound (WaitReport g was ids i fault x) = ⊥
+Sound (Removals i) = ⊤
+Sound (RemovalReport i) = ⊥
+Sound Ended = ⊤
+
+pub sound_out : (s : Stage) → Sound s → inside s ≡ false
+sound_out (Starts g was []) so = refl
+sound_out (Starts g was (id ∷ ids)) so = absurd cc
+sound_out (ClaimReport i x) so = absurd so
+sound_out (StartReport g was ids why) so = absurd so
+sound_out (Closing g was ids why told) so = absurd so
+sound_out (WaitReport g was ids i fault x) so = absurd so
+sound_out (RemovalReport i) so = absurd so
+sound_out s so = refl
+
+pub record Settled (s : Stage) : Type 0 where
+  pub none_pending : pending s ≡ 0
+  pub sound : Sound s
+
+pub calm_group : (job : Job) (g : ℕ) (was : Bool) → Settled (enter_group job g was)
+calm_group job g was = by (nat_lt g (length job.groups))
+  where
+    by : (t : Bool) → Settled (if t then Starts g was [] else Ended)
+    by true = record { none_pending = refl; sound = refl }
+    by false = record { none_pending = refl; sound = tt }
+
+calm_claims : (job : Job) (i : ℕ) → Settled (enter_claims job i)
+calm_claims job i = by (nat_lt i (length job.temps))
+  where
+    by : (t : Bool) → Settled (if t then Claims i else enter_group job 0 false)
+    by true = record { none_pending = refl; sound = tt }
+    by false = calm_group job 0 false
+
+pub calm_removals : (job : Job) (i : ℕ) → Settled (enter_removals job i)
+calm_removals job i = by (nat_lt i (length job.on_failure))
+  where
+    by : (t : Bool) → Settled (if t then Removals i else Ended)
+    by true = record { none_pending = refl; sound = tt }
+    by false = record { none_pending = refl; sound = tt }
+
+calm_end : (job : Job) (g : ℕ) (started fault : Bool) → Settled (end_group job g started fault)
+calm_end job g true true = calm_removals job 0
+calm_end job g false true = record { none_pending = refl; sound = tt }
+calm_end job g started false = calm_group job (g + 1) started
+
+pub record Waiting (s : Stage) (n : ℕ) : Type 0 where
+  pub left : pending s ≡ n
+  pub sound : Sound s
+
+pub waiting : (job : Job) (g : ℕ) (was : Bool) (ids : List ℕ) (i : ℕ) (fault : Bool)
+    → Waiting (enter_waits job g was ids i fault) (length ids - i)
+waiting job g was ids i fault = by (nat_lt i (length ids)) refl
+  where
+    by : (t : Bool) → nat_lt i (length ids) ≡ t
+        → Waiting (if t then Waits g was ids i fault else end_group job g (was || not (none ids)) fault) (length ids - i)
+    by true e = record { left = refl; sound = is_less i (length ids) e }
+    by false e = let c : Settled (end_group job g (was || not (none ids)) fault) = calm_end job g (was || not (none ids)) fault in
+        let past : length ids ≤ i = is_not_less i (length ids) e in
+        record { left = c.none_pending ∙ (let nothing : 0 ≡ length ids - i = omega arith in nothing); sound = c.sound }
+
+pub begins : (job : Job) → Settled (begin job)
+begins job = by (none job.groups)
+  where
+    by : (t : Bool) → Settled (if t then Ended else enter_claims job 0)
+    by true = record { none_pending = refl; sound = tt }
+    by false = calm_claims job 0
+
+children : (k g n i : ℕ) (refused : Bool) (cs : List Command) (xs : List StartAnswer) → starts_fit cs xs ≡ true
+    → total starts_child (starts_block k g n i refused xs) ≡ length (ids_of xs)
+children k g n i refused [] [] fit = refl
+children k g n i refused [] (x ∷ xs) fit = absurd cc
+children k g n i refused (c ∷ cs) [] fit = absurd cc
+children k g n i refused (c ∷ cs) (start.Started id ∷ xs) fit = rw (children k g n (i + 1) refused cs xs fit) (omega arith)
+children k g n i refused (c ∷ cs) (start.NotStarted why ∷ []) fit = rw (closed (nat_lt 0 i)) refl
+children k g n i refused (c ∷ cs) (start.NotStarted why ∷ x ∷ xs) fit = absurd cc
+
+-- a block changes the number of children in flight by its starts and its waits
+pub record Balance (s : Stage) (b : Block) (m : Stage) : Type 0 where
+  pub even : total starts_child b + pending s ≡ total waits_child b + pending m
+  pub sound : Sound m
+  pub waits : total waits_child b ≡ (if nat_lt 0 (pending s) then 1 else 0)
+
+pub balance : (k : ℕ) (job : Job) (s : Stage) (b : Block) (m : Stage) → Sound s → OneBlock k job s b m → Balance s b m
+balance k job (Claims i) b m so o = rw (o.is, o.leads) (by (is_claimed o.a.answer))
+  where
+    calm : (t : Bool) → Settled (if t then enter_claims job (i + 1) else Ended)
+    calm true = calm_claims job (i + 1)
+    calm false = record { none_pending = refl; sound = tt }
+
+    by : (t : Bool) → Balance (Claims i) (claim_block k i o.a) (if t then enter_claims job (i + 1) else Ended)
+    by t = record {
+      even = rw (claim_starts k i o.a.answer o.a.told, claim_waits k i o.a.answer o.a.told, (calm t).none_pending) refl;
+      sound = (calm t).sound;
+      waits = claim_waits k i o.a.answer o.a.told;
+    }
+balance k job (ClaimReport i x) b m so o = absurd o
+balance k job (Starts g was ids) b m so o = rw (o.is, o.leads) (record {
+  even = rw (
+    children k g (length (group_at job g)) 0 o.refused (group_at job g) o.xs o.fit,
+    starts_wait k g (length (group_at job g)) 0
+        o.refused o.xs,
+    (waiting job g was (ids_of o.xs) 0 (any_refused o.xs)).left,
+  ) (omega arith);
+  sound = (waiting job g was (ids_of o.xs) 0 (any_refused o.xs)).sound;
+  waits = starts_wait k g (length (group_at job g)) 0 o.refused o.xs;
+})
+balance k job (StartReport g was ids why) b m so o = absurd o
+balance k job (Closing g was ids why told) b m so o = absurd o
+balance k job (Waits g was ids i fault) b m so o = rw (o.is, o.leads) (record {
+  even = rw (
+    wait_starts (place.Command k g i) (get_or ids i 0) o.a.answer o.a.told,
+    wait_waits (place.Command k g i) (get_or ids i 0)
+        o.a.answer o.a.told,
+    (waiting job g was ids (i + 1) (fault || wait_failed o.a)).left,
+  ) (omega arith);
+  sound = (waiting job g was ids (i + 1) (fault || wait_failed o.a)).sound;
+  waits = wait_waits (place.Command k g i) (get_or ids i 0) o.a.answer o.a.told ∙ ap (λ (t : Bool). if t then 1 else 0)
+      (sym (less 0 (length ids - i) (omega arith)));
+})
+balance k job (WaitReport g was ids i fault x) b m so o = absurd o
+balance k job (Removals i) b m so o = rw (o.is, o.leads) (record {
+  even = rw (
+    removal_starts (place.OnFailure k i) o.a.answer o.a.told,
+    removal_waits (place.OnFailure k i) o.a.answer o.a.told,
+    (calm_removals job (i + 1)).none_pending,
+  ) refl;
+  sound = (calm_removals job (i + 1)).sound;
+  waits = removal_waits (place.OnFailure k i) o.a.answer o.a.told;
+})
+balance k job (RemovalReport i) b m so o = absurd o
+balance k job Ended b m so o = absurd o
+
+pub record Even (s : Stage) (bs : List Block) (m : Stage) : Type 0 where
+  pub even : total starts_child (events_of bs) + pending s ≡ total waits_child (events_of bs) + pending m
+  pub sound : Sound m
+
+pub path_even : (k : ℕ) (job : Job) (s : Stage) (bs : List Block) (m : Stage) → Sound s → Path k job s bs m → Even s bs m
+path_even k job s [] m so p = record { even = ap (λ t. 0 + pending t) p; sound = subst (λ t. Sound t) p so }
+path_even k job s (b ∷ bs) m so p =
+    let one : Balance s b p.0 = balance k job s b p.0 so p.1.0 in
+    let rest : Even p.0 bs m = path_even k job p.0 bs m one.sound p.1.1 in
+    let first : total starts_child b + pending s ≡ total waits_child b + pending p.0 = one.even in
+    let others : total starts_child (events_of bs) + pending p.0 ≡ total waits_child (events_of bs) + pending m = rest.even in
+    record {
+      even = rw (total_append starts_child b (events_of bs), total_append waits_child b (events_of bs)) (omega arith);
+      sound = rest.sound;
+    }
+
+-- a source has a child in flight exactly if one is pending
+pub flies : (k : ℕ) (job : Job) (bs : List Block) (m : Stage) → Path k job (begin job) bs m → in_flight bs ≡ nat_lt 0 (pending m)
+flies k job bs m p = by (nat_lt 0 (pending m)) refl
+  where
+    total_even : total starts_child (events_of bs) + pending (begin job) ≡ total waits_child (events_of bs) + pending m
+    total_even = (path_even k job (begin job) bs m (begins job).sound p).even
+
+    calm : pending (begin job) ≡ 0
+    calm = (begins job).none_pending
+
+    by : (t : Bool) → nat_lt 0 (pending m) ≡ t → in_flight bs ≡ t
+    by true e = less (total waits_child (events_of bs)) (total starts_child (events_of bs)) (let some : 0 < pending m = is_less 0 (pending m) e in let ev = total_even in let no = calm in omega (arith, ev, no))
+    by false e = not_less (total waits_child (events_of bs)) (total starts_child (events_of bs)) (let nothing : pending m ≤ 0 = is_not_less 0 (pending m) e in let ev = total_even in let no = calm in omega (arith, ev, no))
+
+-- the next block is a wait exactly if a child is pending
+pub waits_next : (k : ℕ) (job : Job) (bs : List Block) (s : Stage) (b : Block) (m : Stage) → Path k job (begin job) bs s
+    → OneBlock k job s b m → is_wait b ≡ nat_lt 0 (pending s)
+waits_next k job bs s b m p o = by (nat_lt 0 (pending s)) refl
+    (balance k job s b m (path_even k job (begin job) bs s (begins job).sound p).sound o).waits
+  where
+    by : (t : Bool) → nat_lt 0 (pending s) ≡ t → total waits_child b ≡ (if nat_lt 0 (pending s) then 1 else 0) → is_wait b ≡ t
+    by true e w = ap (λ n. nat_lt 0 n) (w ∙ ap (λ (t : Bool). if t then 1 else 0) e)
+    by false e w = ap (λ n. nat_lt 0 n) (w ∙ ap (λ (t : Bool). if t then 1 else 0) e)
+
+-- one more block
+
+none_append : (xs ys : List Block) → not (none (xs ++ ys)) ≡ (not (none xs) || not (none ys))
+none_append [] ys = refl
+none_append (x ∷ xs) ys = refl
+
+pub has_append : (j : ℕ) (xs ys : List SourceBlock) → has j (xs ++ ys) ≡ (has j xs || has j ys)
+has_append j xs ys = ap (λ l. not (none l)) (of_append j xs ys) ∙ none_append (of j xs) (of j ys)
+
+or_assoc : (a b c : Bool) → ((a || b) || c) ≡ (a || (b || c))
+or_assoc true b c = refl
+or_assoc false b c = refl
+
+pub come_more : (n N : ℕ) (now next : ℕ → Bool) (before blocks : List SourceBlock) (b : SourceBlock)
+    → ((j : ℕ) → (has j (b ∷ []) || next j) ≡ now j) → AllMayCome n N now before blocks
+    → MayCome n N (λ j. has j (before ++ blocks)) now (λ j. in_flight (of j (before ++ blocks))) b.source (is_wait b.block)
+    → AllMayCome n N next before (blocks ++ b ∷ [])
+come_more n N now next before [] b same_left come may = (
+  subst (λ f. MayCome n N (λ j. has j before) f (λ j. in_flight (of j before))
+      b.source (is_wait b.block)) (sym (fun_ext same_left))
+      (subst (λ l. MayCome n N (λ j. has j l) now (λ j. in_flight (of j l)) b.source (is_wait b.block)) (append-nil before) may),
+  tt,
+)
+come_more n N now next before (c ∷ after) b same_left come may = (
+  subst (λ f. MayCome n N (λ j. has j before) f (λ j. in_flight (of j before)) c.source (is_wait c.block)) (fun_ext pointwise_same) come.0,
+  come_more n N now next (before ++ c ∷ []) after b same_left come.1 (subst (λ l. MayCome n N (λ j. has j l) now (λ j. in_flight (of j l)) b.source (is_wait b.block)) (sym (append_assoc before (c ∷ []) after)) may),
+)
+  where
+    pointwise_same : (j : ℕ) → (has j (c ∷ after) || now j) ≡ (has j (c ∷ (after ++ b ∷ [])) || next j)
+    pointwise_same j = ap (λ (t : Bool). has j (c ∷ after) || t) (sym (same_left j))
+        ∙ sym (or_assoc (has j (c ∷ after)) (has j (b ∷ [])) (next j)) ∙ ap (λ (t : Bool). t || next j)
+        (sym (has_append j (c ∷ after) (b ∷ [])))
+
+-- The stages of a plan's sources: each source's blocks lead to its stage, and the order of the blocks is permitted.
+pub record Standing (jobs : List Job) (N : ℕ) (st : ℕ → Stage) (blocks : List SourceBlock) : Type 0 where
+  pub paths : (k : ℕ) → k < length jobs → Path k (get_or jobs k no_job) (begin (get_or jobs k no_job)) (of k blocks) (st k)
+  pub come : AllMayCome (length jobs) N (λ j. left (st j)) [] blocks
+
+abbrev pub put : (ℕ → Stage) → ℕ → Stage → ℕ → Stage
+put st k m j = if nat_eq k j then m else st j
+
+pub stands_more : (jobs : List Job) (N : ℕ) (st : ℕ → Stage) (blocks : List SourceBlock) (k : ℕ) (b : Block) (m : Stage)
+    → Standing jobs N st blocks → left (st k) ≡ true → OneBlock k (get_or jobs k no_job) (st k) b m
+    → MayCome (length jobs) N (λ j. has j blocks) (λ j. left (st j)) (λ j. in_flight (of j blocks)) k (is_wait b)
+    → Standing jobs N (put st k m) (blocks ++ record { source = k; block = b } ∷ [])
+stands_more jobs N st blocks k b m stand more o may = record {
+  paths = λ j lt. path j lt (nat_eq k j) refl;
+  come = come_more (length jobs) N (λ j. left (st j)) (λ j. left (put st k m j)) [] blocks (record { source = k; block = b })
+      (λ j. by j (nat_eq k j) refl) stand.come may;
+}
+  where
+    by : (j : ℕ) (t : Bool) → nat_eq k j ≡ t
+        → (not (none (if nat_eq k j then b ∷ [] else [])) || left (if nat_eq k j then m else st j)) ≡ left (st j)
+    by j true e = let is : k ≡ j = same k j e in rw e (subst (λ i. true ≡ left (st i)) is (sym more))
+    by j false e = rw e refl
+
+    split : (j : ℕ) → of j (blocks ++ record { source = k; block = b } ∷ []) ≡ of j blocks ++ (if nat_eq k j then b ∷ [] else [])
+    split j = of_append j blocks (record { source = k; block = b } ∷ [])
+
+    path : (j : ℕ) → j < length jobs → (t : Bool) → nat_eq k j ≡ t → Path j (get_or jobs j no_job) (begin (get_or jobs j no_job))
+        (of j (blocks ++ record { source = k; block = b } ∷ [])) (if nat_eq k j then m else st j)
+    path j lt true e =
+        let is : k ≡ j = same k j e in
+        rw (split j, e) (path_more j (get_or jobs j no_job) (begin (get_or jobs j no_job)) (of j blocks) (st j) b m (stand.paths j lt)
+        (subst (λ i. OneBlock i (get_or jobs i no_job) (st i) b m) is o))
+    path j lt false e = rw (split j, e) (rw (append-nil (of j blocks)) (stand.paths j lt))
+
+-- at the beginning
+pub stands_first : (jobs : List Job) (N : ℕ) (st : ℕ → Stage) → ((k : ℕ) → k < length jobs → begin (get_or jobs k no_job) ≡ st k)
+    → Standing jobs N st []
+stands_first jobs N st first = record { paths = first; come = tt }
+
+-- at the end all stories are complete
+
+pub record AllTold (blocks : List SourceBlock) (k : ℕ) (jobs : List Job) : Type 0 where
+  pub answers : List JobAnswers
+  pub all : whole_jobs jobs answers ≡ true
+  pub stories : TellStories blocks k jobs answers
+
+all_told : (blocks : List SourceBlock) (k : ℕ) (jobs : List Job)
+    → ((i : ℕ) → i < length jobs → ToldStory (k + i) (get_or jobs i no_job) (of (k + i) blocks)) → AllTold blocks k jobs
+all_told blocks k [] told = record { answers = []; all = refl; stories = tt }
+all_told blocks k (job ∷ jobs) told =
+    let first : ToldStory k job (of k blocks) = subst (λ i. ToldStory i job (of i blocks)) (let e : k + 0 ≡ k = omega arith in e) (told 0 (omega arith)) in
+    let rest : AllTold blocks (k + 1) jobs = all_told blocks (k + 1) jobs (λ i lt. subst (λ n. ToldStory n (get_or jobs i no_job) (of n blocks)) (let e : k + suc i ≡ k + 1 + i = omega arith in e) (told (suc i) (omega arith))) in
+    record { answers = first.a ∷ rest.answers; all = rw (first.all) rest.all; stories = (first.is, rest.stories) }
+
+pub record SourcesRun (jobs : List Job) (N : ℕ) (blocks : List SourceBlock) : Type 0 where
+  pub answers : List JobAnswers
+  pub all : whole_jobs jobs answers ≡ true
+  pub stories : TellStories blocks 0 jobs answers
+  pub may_come : AllMayCome (length jobs) N nowhere [] blocks
+
+pub sources_run : (jobs : List Job) (N : ℕ) (st : ℕ → Stage) (blocks : List SourceBlock) → Standing jobs N st blocks
+    → ((j : ℕ) → st j ≡ Ended) → SourcesRun jobs N blocks
+sources_run jobs N st blocks stand ended = record {
+  answers = told.answers;
+  all = told.all;
+  stories = told.stories;
+  may_come = subst (λ f. AllMayCome (length jobs) N f [] blocks) (fun_ext (λ j. ap (λ s. left s) (ended j))) stand.come;
+}
+  where
+    one : (i : ℕ) → i < length jobs → ToldStory i (get_or jobs i no_job) (of i blocks)
+    one i lt = tells i (get_or jobs i no_job) (of i blocks) (path_ends i (get_or jobs i no_job) (begin (get_or jobs i no_job)) (of i blocks)
+        (subst (λ s. Path i (get_or jobs i no_job) (begin (get_or jobs i no_job)) (of i blocks) s) (ended i) (stand.paths i lt)))
+
+    told : AllTold blocks 0 jobs
+    told = all_told blocks 0 jobs (λ i lt. subst (λ n. ToldStory n (get_or jobs i no_job) (of n blocks)) (let e : i ≡ 0 + i = omega arith in e) (one i lt))

@@ -1,0 +1,45 @@
+use borrow.Author.Count.{below_more}
+use Rattle.drv_core.proofs.fleet.sources_of.Goals as goal
+use Rattle.drv_core.specs.Filled.{Filled}
+use Rattle.drv_words.specs.Places.{no_job}
+use Rattle.std.proofs.Common.{◌≡◌, ◌∙◌, ◌<◌, ◌≤◌, ◌+◌, ◌++◌, ◌∷◌, [], List, ap, append-nil, append_assoc, arith, drop, get_or, length, map}
+use Rattle.std.proofs.Common.{subst, sym, ℕ}
+use Rattle.std.proofs.lemmas.List.{drop_all, drop_more, get_or_default, map-append}
+
+-- one more source is made, and its job is no longer left
+one_more : {A B C : Type 0} (f : A → C) (g : B → C) (made new : List A) (a : A) (from : List B) (i : ℕ) (b : B)
+    → new ≡ made ++ a ∷ [] → f a ≡ g b → b ≡ get_or from i b → i < length from
+    → map f made ++ map g (drop i from) ≡ map g from → map f new ++ map g (drop (i + 1) from) ≡ map g from
+one_more f g made new a from i b is same at here so_far =
+    ap (λ n. map f n ++ map g (drop (i + 1) from)) is
+    ∙ ap (λ n. n ++ map g (drop (i + 1) from)) (map-append f made (a ∷ []))
+    ∙ append_assoc (map f made) (f a ∷ []) (map g (drop (i + 1) from))
+    ∙ ap (λ x. map f made ++ x ∷ map g (drop (i + 1) from)) (same ∙ ap g at)
+    ∙ ap (λ l. map f made ++ map g l) (sym (drop_more from i b here))
+    ∙ so_far
+
+-- no job is left
+all_made : {A B C : Type 0} (f : A → C) (g : B → C) (made : List A) (from : List B) (i : ℕ) → length from ≤ i
+    → map f made ++ map g (drop i from) ≡ map g from → map f made ≡ map g from
+all_made f g made from i past so_far = sym (append-nil (map f made)) ∙ ap (λ l. map f made ++ map g l) (sym (drop_all i from past)) ∙ so_far
+
+up_to : (n i : ℕ) → n ≤ i → (j : ℕ) → j < n → j < i
+up_to n i le j lt = omega arith
+
+pub loop-job-preserved : goal.loop-job-preserved
+loop-job-preserved c = record {
+  made = one_more _ _ c.loop-job.sources.items c.push.new.self.items c.in_ok-source.source c.args.jobs.now c.loop-job.job-index
+      c.job-item.result
+      c.in_ok-push.ensures.items c.in_ok-source.ensures.fresh c.job-item.is c.loop-job-test.true c.loop-job.invariant.made;
+  filled = below_more (λ j. Filled (get_or c.args.jobs.now j no_job)) c.loop-job.job-index c.loop-job.invariant.filled
+      (subst Filled (c.job-item.is ∙ get_or_default c.args.jobs.now c.loop-job.job-index c.job-item.result no_job c.loop-job-test.true)
+      c.in_ok-source.ensures.filled);
+}
+
+pub returns-clause-fresh : goal.returns-clause-fresh
+returns-clause-fresh c = all_made _ _ c.loop-job.sources.items c.args.jobs.now c.loop-job.job-index c.loop-job-test.false
+    c.loop-job.invariant.made
+
+pub returns-clause-filled : goal.returns-clause-filled
+returns-clause-filled c j lt = c.loop-job.invariant.filled j (up_to (length c.args.jobs.now) c.loop-job.job-index
+    c.loop-job-test.false j lt)
