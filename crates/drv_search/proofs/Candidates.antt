@@ -1,18 +1,21 @@
-use Rattle.drv_search.specs.Search.{as_prefix, candidates, candidates_under, found, is_plain, given_of, is_prefix, library_folders, machine_folder, prefix_of, prefixes_of, program_folders}
+use Rattle.drv_search.specs.Search.{as_prefix, candidates, candidates_under, found, is_plain, given_of, is_prefix, library_folders}
+use Rattle.drv_search.specs.Search.{machine_folder, prefix_of, prefixes_of, program_folders}
 use Rattle.drv_system.specs.Facts.{Facts, kind_of}
 use Rattle.drv_system.specs.Known.{◌>>=◌, Is, Known, Unasked, asked}
 use Rattle.drv_system.specs.declared.event.PathKind.{PathKind}
-use Rattle.std.proofs.Common.{◌≡◌, ◌<◌, ◌+◌, ◌∙◌, Bool, List, [], ◌∷◌, ◌++◌, None, Option, Some, ap, append_assoc, drop, false, if◌then◌else◌, length, refl, sym, true, Result, IfOk, Ok, Err, ℕ}
+use Rattle.std.proofs.Common.{◌≡◌, ◌<◌, ◌+◌, ◌∙◌, Bool, List, [], ◌∷◌, ◌++◌, None, Option, Some, ap, append_assoc, drop, false}
+use Rattle.std.proofs.Common.{if◌then◌else◌, length, refl, sym, true, Result, IfOk, Ok, Err, ℕ}
 use Rattle.std.proofs.lemmas.List.{drop_more}
 use Rattle.std.specs.Prelude.{get_or}
 
--- Prefixes one after another, and a search among candidates one after another.
+-- For the searches: prefixes one after another, and candidates one after another.
 
--- the prefix of an argument that was asked for
-pub prefix_asked : (F : Facts) (dir prefix : List ℕ) (kind : PathKind) → is_prefix dir ≡ false → kind_of F dir ≡ Some kind → prefix ≡ as_prefix dir kind → prefix_of F dir ≡ Is prefix
+-- the prefix of an argument whose kind was asked for
+pub prefix_asked : (F : Facts) (dir prefix : List ℕ) (kind : PathKind) → is_prefix dir ≡ false → kind_of F dir ≡ Some kind
+    → prefix ≡ as_prefix dir kind → prefix_of F dir ≡ Is prefix
 prefix_asked F dir prefix kind bare known is = rw (bare, known, is) refl
 
--- the prefixes so far, and then others
+-- the prefixes so far, followed by others
 abbrev pub after_prefixes : List (List ℕ) → Known (List (List ℕ)) → Known (List (List ℕ))
 after_prefixes done others = others >>= λ prefixes. Is (done ++ prefixes)
 
@@ -21,7 +24,7 @@ following_more : (done after : List (List ℕ)) (prefix : List ℕ) (others : Kn
 following_more done after prefix Unasked is = refl
 following_more done after prefix (Is prefixes) is = rw (is, append_assoc) refl
 
--- one prefix more
+-- one more prefix
 pub prefix_more : (F : Facts) (dirs : List (List ℕ)) (i : ℕ) (dir prefix : List ℕ) (done after : List (List ℕ))
     → i < length dirs → dir ≡ get_or dirs i dir → prefix_of F dir ≡ Is prefix → after ≡ done ++ prefix ∷ []
     → after_prefixes done (given_of F (drop i dirs)) ≡ given_of F dirs
@@ -45,27 +48,31 @@ found_by : (F : Facts) (path : List ℕ) (paths others : List (List ℕ)) (known
 found_by F path paths others None later = refl
 found_by F path paths others (Some kind) later = by (is_plain kind) refl
   where
-    by : (plain : Bool) → is_plain kind ≡ plain → (if is_plain kind then Is (Some path) else found F (paths ++ others)) ≡ ((if is_plain kind then Is (Some path) else found F paths) >>= λ hit. or_found hit (found F others))
+    by : (plain : Bool) → is_plain kind ≡ plain → (if is_plain kind then Is (Some path) else found F (paths ++ others))
+        ≡ ((if is_plain kind then Is (Some path) else found F paths) >>= λ hit. or_found hit (found F others))
     by true is = rw is refl
     by false is = rw is later
 
-pub found-append : (F : Facts) (paths others : List (List ℕ)) → found F (paths ++ others) ≡ (found F paths >>= λ hit. or_found hit (found F others))
+pub found-append : (F : Facts) (paths others : List (List ℕ))
+    → found F (paths ++ others) ≡ (found F paths >>= λ hit. or_found hit (found F others))
 found-append F [] others = refl
 found-append F (path ∷ paths) others = found_by F path paths others (kind_of F path) (found-append F paths others)
 
--- what was found among candidates, and among those after them
-pub found_first : (F : Facts) (paths others : List (List ℕ)) (path : List ℕ) → found F paths ≡ Is (Some path) → found F (paths ++ others) ≡ Is (Some path)
+-- a file among the first candidates, or among those after them
+pub found_first : (F : Facts) (paths others : List (List ℕ)) (path : List ℕ) → found F paths ≡ Is (Some path)
+    → found F (paths ++ others) ≡ Is (Some path)
 found_first F paths others path is = found-append F paths others ∙ ap (λ known. known >>= λ hit. or_found hit (found F others)) is
 
 pub found_later : (F : Facts) (paths others : List (List ℕ)) → found F paths ≡ Is None → found F (paths ++ others) ≡ found F others
 found_later F paths others is = found-append F paths others ∙ ap (λ known. known >>= λ hit. or_found hit (found F others)) is
 
 pub prefix_given : {E : Type 0} (F : Facts) (dir : List ℕ) (kind : PathKind) (result : Result (List ℕ) E)
-    → is_prefix dir ≡ false → kind_of F dir ≡ Some kind → IfOk result (λ prefix. prefix ≡ as_prefix dir kind) → IfOk result (λ prefix. prefix_of F dir ≡ Is prefix)
+    → is_prefix dir ≡ false → kind_of F dir ≡ Some kind → IfOk result (λ prefix. prefix ≡ as_prefix dir kind)
+    → IfOk result (λ prefix. prefix_of F dir ≡ Is prefix)
 prefix_given F dir kind (Ok prefix) bare known is = prefix_asked F dir prefix kind bare known is
 prefix_given F dir kind (Err e) bare known is = tt
 
--- what is found under one prefix, where its machine's folder has nothing
+-- the result under one prefix if the folder of the machine has no such file
 pub under_second : {E : Type 0} (F : Facts) (prefix name : List ℕ) (hit : Option (List ℕ)) (result : Result (Option (List ℕ)) E)
     → found F ((prefix ++ machine_folder ++ name) ∷ []) ≡ Is hit → hit ≡ None
     → IfOk result (λ h. found F ((prefix ++ name) ∷ []) ≡ Is h) → IfOk result (λ h. found F (candidates_under name prefix) ≡ Is h)
@@ -73,24 +80,30 @@ under_second F prefix name hit (Err e) first none second = tt
 under_second F prefix name hit (Ok h) first none second =
     found_later F ((prefix ++ machine_folder ++ name) ∷ []) ((prefix ++ name) ∷ []) (first ∙ ap Is none) ∙ second
 
--- one prefix more, by its bytes, and what is left
-left_prefixes : (prefixes : List (List ℕ)) (i : ℕ) (prefix bytes : List ℕ) → i < length prefixes → prefix ≡ get_or prefixes i prefix → bytes ≡ prefix
+-- one more prefix, by its bytes, and the prefixes that are left
+left_prefixes : (prefixes : List (List ℕ)) (i : ℕ) (prefix bytes : List ℕ) → i < length prefixes → prefix ≡ get_or prefixes i prefix
+    → bytes ≡ prefix
     → drop i prefixes ≡ bytes ∷ drop (i + 1) prefixes
-left_prefixes prefixes i prefix bytes below here is = drop_more prefixes i prefix below ∙ ap (λ p. p ∷ drop (i + 1) prefixes) (sym here ∙ sym is)
+left_prefixes prefixes i prefix bytes below here is = drop_more prefixes i prefix below ∙ ap (λ p. p ∷ drop (i + 1) prefixes)
+    (sym here ∙ sym is)
 
-pub prefix_missed : (F : Facts) (prefixes : List (List ℕ)) (name : List ℕ) (i : ℕ) (prefix bytes : List ℕ) (hit : Option (List ℕ)) → i < length prefixes → prefix ≡ get_or prefixes i prefix → bytes ≡ prefix
-    → found F (candidates_under name bytes) ≡ Is hit → hit ≡ None → found F (candidates (drop (i + 1) prefixes) name) ≡ found F (candidates (drop i prefixes) name)
+pub prefix_missed : (F : Facts) (prefixes : List (List ℕ)) (name : List ℕ) (i : ℕ) (prefix bytes : List ℕ) (hit : Option (List ℕ))
+    → i < length prefixes → prefix ≡ get_or prefixes i prefix → bytes ≡ prefix
+    → found F (candidates_under name bytes) ≡ Is hit → hit ≡ None → found F (candidates (drop (i + 1) prefixes) name)
+    ≡ found F (candidates (drop i prefixes) name)
 prefix_missed F prefixes name i prefix bytes hit below here is given none =
     sym (ap (λ ps. found F (candidates ps name)) (left_prefixes prefixes i prefix bytes below here is)
     ∙ found_later F (candidates_under name bytes) (candidates (drop (i + 1) prefixes) name) (given ∙ ap Is none))
 
-pub prefix_hit : (F : Facts) (prefixes : List (List ℕ)) (name : List ℕ) (i : ℕ) (prefix bytes path : List ℕ) (hit : Option (List ℕ)) → i < length prefixes → prefix ≡ get_or prefixes i prefix → bytes ≡ prefix
+pub prefix_hit : (F : Facts) (prefixes : List (List ℕ)) (name : List ℕ) (i : ℕ) (prefix bytes path : List ℕ) (hit : Option (List ℕ))
+    → i < length prefixes → prefix ≡ get_or prefixes i prefix → bytes ≡ prefix
     → found F (candidates_under name bytes) ≡ Is hit → hit ≡ Some path → found F (candidates (drop i prefixes) name) ≡ Is (Some path)
 prefix_hit F prefixes name i prefix bytes path hit below here is given some =
     ap (λ ps. found F (candidates ps name)) (left_prefixes prefixes i prefix bytes below here is)
     ∙ found_first F (candidates_under name bytes) (candidates (drop (i + 1) prefixes) name) path (given ∙ ap Is some)
 
 -- the two lists of prefixes
-pub prefixes_made : (F : Facts) (dirs given programs libraries : List (List ℕ)) → given_of F dirs ≡ Is given → programs ≡ given ++ program_folders → libraries ≡ given ++ library_folders
+pub prefixes_made : (F : Facts) (dirs given programs libraries : List (List ℕ)) → given_of F dirs ≡ Is given
+    → programs ≡ given ++ program_folders → libraries ≡ given ++ library_folders
     → prefixes_of F dirs ≡ Is (record { programs = programs; libraries = libraries })
 prefixes_made F dirs given programs libraries known is is' = rw (known, is, is') refl

@@ -2,28 +2,32 @@ use Rattle.drv_search.specs.Search.{Adds, ends_with_slash, folders_under, is_dir
 use Rattle.drv_system.specs.Facts.{Facts, kind_of}
 use Rattle.drv_system.specs.Known.{◌>>=◌, Is, Known, Unasked, asked}
 use Rattle.drv_system.specs.declared.event.PathKind.{PathKind}
-use Rattle.std.proofs.Common.{◌≡◌, ◌<◌, ◌+◌, ◌∙◌, List, [], ◌∷◌, ◌++◌, None, OnOk, Err, Ok, Option, Result, Some, ap, append_assoc, codes, drop, false, length, flat_map, refl, sym, true, ℕ}
+use Rattle.std.proofs.Common.{◌≡◌, ◌<◌, ◌+◌, ◌∙◌, List, [], ◌∷◌, ◌++◌, None, OnOk, Err, Ok, Option, Result, Some, ap, append_assoc, codes}
+use Rattle.std.proofs.Common.{drop, false, length, flat_map, refl, sym, true, ℕ}
 use Rattle.std.proofs.lemmas.List.{append-nil, drop_more}
 use Rattle.std.specs.Prelude.{get_or}
 
--- Options for folders one after another.
+-- For `dir_options`: the options for folders, one after another.
 
--- the options so far, and then others
+-- the options so far, followed by others
 abbrev pub after_options : List (List ℕ) → Known (List (List ℕ)) → Known (List (List ℕ))
 after_options done others = others >>= λ options. Is (done ++ options)
 
-after_append : (done more : List (List ℕ)) (others : Known (List (List ℕ))) → (after_options done (after_options more others)) ≡ after_options (done ++ more) others
+after_append : (done more : List (List ℕ)) (others : Known (List (List ℕ))) → (after_options done (after_options more others))
+    ≡ after_options (done ++ more) others
 after_append done more Unasked = refl
 after_append done more (Is options) = rw append_assoc refl
 
 options_by : (F : Facts) (folder : List ℕ) (folders others : List (List ℕ)) (known : Option PathKind)
     → options_for F (folders ++ others) ≡ (options_for F folders >>= λ options. after_options options (options_for F others))
     → (asked known >>= λ kind. options_for F (folders ++ others) >>= λ options. Is (option_for folder kind ++ options))
-    ≡ ((asked known >>= λ kind. options_for F folders >>= λ options. Is (option_for folder kind ++ options)) >>= λ options. after_options options (options_for F others))
+    ≡ ((asked known >>= λ kind. options_for F folders >>= λ options. Is (option_for folder kind ++ options)) >>= λ options. after_options
+    options (options_for F others))
 options_by F folder folders others None later = refl
 options_by F folder folders others (Some kind) later = rw later (by (options_for F folders) (options_for F others))
   where
-    by : (first second : Known (List (List ℕ))) → ((first >>= λ options. after_options options second) >>= λ options. Is (option_for folder kind ++ options))
+    by : (first second : Known (List (List ℕ)))
+        → ((first >>= λ options. after_options options second) >>= λ options. Is (option_for folder kind ++ options))
         ≡ ((first >>= λ options. Is (option_for folder kind ++ options)) >>= λ options. after_options options second)
     by Unasked second = refl
     by (Is options) second = after_append (option_for folder kind) options second
@@ -32,54 +36,69 @@ following_none : (others : Known (List (List ℕ))) → after_options [] others 
 following_none Unasked = refl
 following_none (Is options) = refl
 
-pub options-append : (F : Facts) (folders others : List (List ℕ)) → options_for F (folders ++ others) ≡ (options_for F folders >>= λ options. after_options options (options_for F others))
+pub options-append : (F : Facts) (folders others : List (List ℕ))
+    → options_for F (folders ++ others) ≡ (options_for F folders >>= λ options. after_options options (options_for F others))
 options-append F [] others = sym (following_none (options_for F others))
 options-append F (folder ∷ folders) others = options_by F folder folders others (kind_of F folder) (options-append F folders others)
 
--- the options of some folders more
-pub options_more : (F : Facts) (done after more : List (List ℕ)) (folders others : List (List ℕ)) → options_for F folders ≡ Is more → after ≡ done ++ more
+-- the options of some more folders
+pub options_more : (F : Facts) (done after more : List (List ℕ)) (folders others : List (List ℕ)) → options_for F folders ≡ Is more
+    → after ≡ done ++ more
     → after_options after (options_for F others) ≡ after_options done (options_for F (folders ++ others))
 options_more F done after more folders others is grown =
     ap (λ before. after_options before (options_for F others)) grown
     ∙ sym (after_append done more (options_for F others))
-    ∙ ap (after_options done) (sym (options-append F folders others ∙ ap (λ known. known >>= λ options. after_options options (options_for F others)) is))
+    ∙ ap (after_options done)
+    (sym (options-append F folders others ∙ ap (λ known. known >>= λ options. after_options options (options_for F others)) is))
 
--- the folders under one prefix more
-pub prefix_options : (F : Facts) (done after : List (List ℕ)) (prefix : List ℕ) (others : List (List ℕ)) → Adds (options_for F (folders_under prefix)) done after
-    → after_options after (options_for F (flat_map folders_under others)) ≡ after_options done (options_for F (flat_map folders_under (prefix ∷ others)))
-prefix_options F done after prefix others (more, is, grown) = options_more F done after more (folders_under prefix) (flat_map folders_under others) is grown
+-- the folders under one more prefix
+pub prefix_options : (F : Facts) (done after : List (List ℕ)) (prefix : List ℕ) (others : List (List ℕ))
+    → Adds (options_for F (folders_under prefix)) done after
+    → after_options after (options_for F (flat_map folders_under others)) ≡ after_options done
+    (options_for F (flat_map folders_under (prefix ∷ others)))
+prefix_options F done after prefix others (more, is, grown) = options_more F done after more (folders_under prefix)
+    (flat_map folders_under others) is grown
 
--- a folder that was asked for
-pub no_option : (F : Facts) (folder : List ℕ) (kind : PathKind) (options : List (List ℕ)) → kind_of F folder ≡ Some kind → is_dir kind ≡ false → Adds (options_for F (folder ∷ [])) options options
+-- a path whose kind was asked for
+pub no_option : (F : Facts) (folder : List ℕ) (kind : PathKind) (options : List (List ℕ)) → kind_of F folder ≡ Some kind
+    → is_dir kind ≡ false → Adds (options_for F (folder ∷ [])) options options
 no_option F folder kind options known bare = ([], rw (known, bare) refl, sym (append-nil options))
 
-pub one_option : (F : Facts) (folder option : List ℕ) (kind : PathKind) (options after : List (List ℕ)) → kind_of F folder ≡ Some kind → is_dir kind ≡ true
+pub one_option : (F : Facts) (folder option : List ℕ) (kind : PathKind) (options after : List (List ℕ)) → kind_of F folder ≡ Some kind
+    → is_dir kind ≡ true
     → option ≡ codes "-L" ++ folder → after ≡ options ++ option ∷ [] → Adds (options_for F (folder ∷ [])) options after
 one_option F folder option kind options after known folds named grown = (option ∷ [], rw (known, folds, named) refl, grown)
 
 -- the folders under a prefix
 pub one_folder : (F : Facts) (prefix : List ℕ) (options after : List (List ℕ)) → ends_with_slash prefix ≡ false
-    → Adds (options_for F (without_slash (prefix ++ machine_folder) ∷ [])) options after → Adds (options_for F (folders_under prefix)) options after
+    → Adds (options_for F (without_slash (prefix ++ machine_folder) ∷ [])) options after
+    → Adds (options_for F (folders_under prefix)) options after
 one_folder F prefix options after bare (more, first, grown) = (more, rw bare first, grown)
 
-pub two_folders : {E : Type 0} (F : Facts) (prefix : List ℕ) (options mid after : List (List ℕ)) (result : Result (Unit {0}) E) → ends_with_slash prefix ≡ true
-    → Adds (options_for F (without_slash (prefix ++ machine_folder) ∷ [])) options mid → OnOk result (Adds (options_for F (without_slash prefix ∷ [])) mid after)
+pub two_folders : {E : Type 0} (F : Facts) (prefix : List ℕ) (options mid after : List (List ℕ)) (result : Result (Unit {0}) E)
+    → ends_with_slash prefix ≡ true
+    → Adds (options_for F (without_slash (prefix ++ machine_folder) ∷ [])) options mid
+    → OnOk result (Adds (options_for F (without_slash prefix ∷ [])) mid after)
     → OnOk result (Adds (options_for F (folders_under prefix)) options after)
 two_folders F prefix options mid after (Err e) ends added rest = tt
 two_folders F prefix options mid after (Ok u) ends (more, first, grown) (others, second, grown') = (
   more ++ others,
   rw ends (options-append F (without_slash (prefix ++ machine_folder) ∷ []) (without_slash prefix ∷ [])
-      ∙ ap (λ known. known >>= λ options. after_options options (options_for F (without_slash prefix ∷ []))) first ∙ ap (after_options more) second),
+      ∙ ap (λ known. known >>= λ options. after_options options (options_for F (without_slash prefix ∷ []))) first
+      ∙ ap (after_options more) second),
   grown' ∙ ap (λ os. os ++ others) grown ∙ append_assoc options more others,
 )
 
--- one prefix more, by its bytes, and the end
-pub prefix_done : (F : Facts) (prefixes : List (List ℕ)) (i : ℕ) (prefix bytes : List ℕ) (done after : List (List ℕ)) (all : Known (List (List ℕ))) → i < length prefixes → prefix ≡ get_or prefixes i prefix → bytes ≡ prefix
-    → Adds (options_for F (folders_under bytes)) done after → after_options done (options_for F (flat_map folders_under (drop i prefixes))) ≡ all
+-- one more prefix, by its bytes, and the end of the list
+pub prefix_done : (F : Facts) (prefixes : List (List ℕ)) (i : ℕ) (prefix bytes : List ℕ) (done after : List (List ℕ))
+    (all : Known (List (List ℕ))) → i < length prefixes → prefix ≡ get_or prefixes i prefix → bytes ≡ prefix
+    → Adds (options_for F (folders_under bytes)) done after
+    → after_options done (options_for F (flat_map folders_under (drop i prefixes))) ≡ all
     → after_options after (options_for F (flat_map folders_under (drop (i + 1) prefixes))) ≡ all
 prefix_done F prefixes i prefix bytes done after all below here is (more, given, grown) so_far =
     prefix_options F done after prefix (drop (i + 1) prefixes) (more, ap (λ p. options_for F (folders_under p)) (sym is) ∙ given, grown)
-    ∙ ap (λ ps. after_options done (options_for F (flat_map folders_under ps))) (sym (drop_more prefixes i prefix below ∙ ap (λ p. p ∷ drop (i + 1) prefixes) (sym here)))
+    ∙ ap (λ ps. after_options done (options_for F (flat_map folders_under ps)))
+    (sym (drop_more prefixes i prefix below ∙ ap (λ p. p ∷ drop (i + 1) prefixes) (sym here)))
     ∙ so_far
 
 added : (all : Known (List (List ℕ))) (before after : List (List ℕ)) → Is after ≡ after_options before all → Adds all before after
@@ -87,12 +106,14 @@ added Unasked before after is = absurd cc
 added (Is more) before after is = (more, refl, cc)
 
 pub all_added : (F : Facts) (prefixes before after : List (List ℕ)) (i : ℕ) → drop i prefixes ≡ []
-    → after_options after (options_for F (flat_map folders_under (drop i prefixes))) ≡ after_options before (options_for F (flat_map folders_under prefixes))
+    → after_options after (options_for F (flat_map folders_under (drop i prefixes))) ≡ after_options before
+    (options_for F (flat_map folders_under prefixes))
     → Adds (options_for F (flat_map folders_under prefixes)) before after
 all_added F prefixes before after i none so_far =
     added (options_for F (flat_map folders_under prefixes)) before after
     (ap Is (sym (append-nil after)) ∙ ap (λ ps. after_options after (options_for F (flat_map folders_under ps))) (sym none) ∙ so_far)
 
-pub all_options : (F : Facts) (prefixes start options : List (List ℕ)) → start ≡ [] → Adds (options_for F (flat_map folders_under prefixes)) start options
+pub all_options : (F : Facts) (prefixes start options : List (List ℕ)) → start ≡ []
+    → Adds (options_for F (flat_map folders_under prefixes)) start options
     → options_for F (flat_map folders_under prefixes) ≡ Is options
 all_options F prefixes start options none (more, is, grown) = is ∙ ap Is (sym (grown ∙ ap (λ s. s ++ more) none))

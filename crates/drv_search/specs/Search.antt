@@ -7,10 +7,11 @@ use Rattle.drv_system.specs.Known.{◌>>=◌, Is, Known, asked}
 use Rattle.drv_system.specs.declared.event.PathKind.TheVariants.{Dir, Missing, Other, Plain}
 use Rattle.drv_system.specs.declared.event.PathKind.{PathKind}
 use Rattle.std.specs.List.{ends_with, list_any}
-use Rattle.std.specs.Prelude.{◌≡◌, ◌-◌, ◌==◌, ◌∷◌, ◌++◌, ◌||◌, Bool, Err, List, [], None, Ok, Option, Result, Some, codes, false, flat_map, if◌then◌else◌, length, nat_eq, take, true, ℕ}
+use Rattle.std.specs.Prelude.{◌≡◌, ◌-◌, ◌==◌, ◌∷◌, ◌++◌, ◌||◌, Bool, Err, List, [], None, Ok, Option, Result, Some, codes, false, flat_map}
+use Rattle.std.specs.Prelude.{if◌then◌else◌, length, nat_eq, take, true, ℕ}
 
--- Where programs and files are looked for (GCC manual, "Directory Options", -B and -L; the folders that are searched without
--- being named are this project's profile).
+-- Where programs and files are searched for (GCC manual, "Directory Options", -B and -L). Which folders are always searched is this
+-- project's profile.
 
 abbrev pub ends_with_slash : List ℕ → Bool
 ends_with_slash path = ends_with nat_eq path (slash ∷ [])
@@ -21,14 +22,14 @@ machine_folder = codes "generic-elf/13/"
 
 -- The prefixes of -B.
 
--- a folder whose name lacks the slash at its end gets one
+-- a folder gets a slash at its end if it lacks one
 abbrev pub as_prefix : List ℕ → PathKind → List ℕ
 as_prefix dir Dir = dir ++ slash ∷ []
 as_prefix dir Plain = dir
 as_prefix dir Other = dir
 as_prefix dir Missing = dir
 
--- an argument that is empty or ends with a slash is a prefix as it stands
+-- an argument that is empty or ends with a slash is a prefix already
 abbrev pub is_prefix : List ℕ → Bool
 is_prefix dir = length dir == 0 || ends_with_slash dir
 
@@ -50,7 +51,7 @@ library_folders = codes "/usr/lib/gcc/" ∷ codes "/usr/local/lib/gcc/" ∷ code
 abbrev pub prefixes_of : Facts → List (List ℕ) → Known Prefixes
 prefixes_of F dirs = given_of F dirs >>= λ given. Is (record { programs = given ++ program_folders; libraries = given ++ library_folders })
 
--- Where a name is looked for, and what is found: the first plain file.
+-- The candidates for a name, and the result: the first plain file.
 
 abbrev pub candidates_under : List ℕ → List ℕ → List (List ℕ)
 candidates_under name prefix = (prefix ++ machine_folder ++ name) ∷ (prefix ++ name) ∷ []
@@ -68,12 +69,12 @@ abbrev pub found : Facts → List (List ℕ) → Known (Option (List ℕ))
 found F [] = Is None
 found F (path ∷ paths) = asked (kind_of F path) >>= λ kind. if is_plain kind then Is (Some path) else found F paths
 
--- a name that is empty or has a slash is looked for nowhere
+-- a name that is empty or has a slash is not searched for
 abbrev pub is_searched : List ℕ → Bool
 is_searched [] = false
 is_searched (b ∷ name) = if list_any (λ c. c == slash) (b ∷ name) then false else true
 
--- what is found, or else the name
+-- the file that was found, or else the name
 abbrev pub or_name : List ℕ → Option (List ℕ) → List ℕ
 or_name name None = name
 or_name name (Some path) = path
@@ -87,7 +88,7 @@ program_found F prefixes name = found_or_name F prefixes.programs name
 abbrev pub file_found : Facts → Prefixes → List ℕ → Known (List ℕ)
 file_found F prefixes name = found_or_name F prefixes.libraries name
 
--- a linker script: one with a slash is itself, if it is a plain file
+-- the candidates for a linker script: a name with a slash is the only one
 abbrev pub script_places : Prefixes → List ℕ → List (List ℕ)
 script_places prefixes name = if list_any (λ c. c == slash) name then name ∷ [] else candidates prefixes.libraries name
 
@@ -98,7 +99,7 @@ script_or_fault name (Some path) = Ok path
 abbrev pub script_found : Facts → Prefixes → List ℕ → Known (Result (List ℕ) SearchFault)
 script_found F prefixes name = found F (script_places prefixes name) >>= λ hit. Is (script_or_fault name hit)
 
--- The folders of libraries, as options: without the slash at their end, but for the root.
+-- The folders of libraries, as options: without the slash at their end, except for the root.
 
 abbrev pub is_dir : PathKind → Bool
 is_dir Dir = true
@@ -119,11 +120,12 @@ option_for folder kind = if is_dir kind then (codes "-L" ++ folder) ∷ [] else 
 
 abbrev pub options_for : Facts → List (List ℕ) → Known (List (List ℕ))
 options_for F [] = Is []
-options_for F (folder ∷ folders) = asked (kind_of F folder) >>= λ kind. options_for F folders >>= λ options. Is (option_for folder kind ++ options)
+options_for F (folder ∷ folders) =
+    asked (kind_of F folder) >>= λ kind. options_for F folders >>= λ options. Is (option_for folder kind ++ options)
 
 abbrev pub folder_options : Facts → Prefixes → Known (List (List ℕ))
 folder_options F prefixes = options_for F (flat_map folders_under prefixes.libraries)
 
--- a list that these options were added to
+-- the list to which these options were added
 abbrev pub Adds : Known (List (List ℕ)) → List (List ℕ) → List (List ℕ) → Type 0
 Adds more before after = (options : List (List ℕ)) × (more ≡ Is options) × (after ≡ before ++ options)

@@ -10,7 +10,7 @@ pub enum SearchFault {
     /// An allocation was refused.
     #[error("out of memory")]
     Memory,
-    /// There is no linker script of this name.
+    /// No linker script has this name.
     #[error("no such linker script")]
     ScriptMissing(Word),
 }

@@ -16,7 +16,7 @@ use drv_system::{FactTable, Outside, PathKind, System};
 use drv_words::{Listing, Word};
 use std::alloc::{AllocError, Global};
 
-/// A path without its last byte, but for the root.
+/// A path without its last byte, except for the root.
 fn without_slash(path: &[u8]) -> &[u8]
     ensures { result.now ≡ without_slash path.now }
 {
@@ -26,7 +26,7 @@ fn without_slash(path: &[u8]) -> &[u8]
     }
 }
 
-/// Whether a path is that of a folder.
+/// Whether a path of this kind is a folder.
 fn is_dir(kind: PathKind) -> bool
     ensures { result ≡ is_dir kind }
 {
@@ -42,7 +42,7 @@ fn folder_option(alloc: Global, folder: &Word) -> Result<Word, AllocError>
     Ok(option)
 }
 
-/// Adds the option for a path, if it is that of a folder.
+/// Adds the option for a path, if it is a folder.
 fn push_if_folder<S: System>(
     alloc: Global,
     options: &mut Listing<Word>,
@@ -61,7 +61,7 @@ fn push_if_folder<S: System>(
     Ok(())
 }
 
-/// Adds the option for a path without the slash at its end, if it is that of a folder.
+/// Adds the option for a path without the slash at its end, if it is a folder.
 fn push_option<S: System>(
     alloc: Global,
     options: &mut Listing<Word>,
@@ -129,8 +129,8 @@ fn push_all<S: System>(
     Ok(())
 }
 
-/// The options `-L` for the folders of libraries: under each prefix the machine's folder, and the
-/// prefix itself where it ends with a slash. Want of memory is the only error.
+/// The options `-L` for the folders of libraries. For each prefix these are the folder of the
+/// machine, and the prefix itself if it ends with a slash.
 #[tactic(auto, using(crate::proofs::Options::all_options))]
 pub fn dir_options<S: System>(
     alloc: Global,

@@ -1,4 +1,4 @@
-//! Where programs, files and linker scripts are looked for.
+//! Searches for programs, files and linker scripts.
 #![tactic(auto)]
 
 mod fault;

@@ -17,10 +17,10 @@ use std::alloc::{AllocError, Global};
 /// The folder of the machine under a prefix.
 const MACHINE_FOLDER: &[u8] = b"generic-elf/13/";
 
-/// Where programs are looked for after the prefixes of `-B`.
+/// The folders that are searched for programs after the prefixes of `-B`.
 const PROGRAM_FOLDERS: [&[u8]; 2] = [b"/usr/lib/gcc/", b"/usr/local/lib/gcc/"];
 
-/// Where other files are looked for after the prefixes of `-B`.
+/// The folders that are searched for other files after the prefixes of `-B`.
 const LIBRARY_FOLDERS: [&[u8]; 4] = [
     b"/usr/lib/gcc/",
     b"/usr/local/lib/gcc/",
@@ -28,7 +28,7 @@ const LIBRARY_FOLDERS: [&[u8]; 4] = [
     b"/usr/lib/",
 ];
 
-/// Where a name is looked for, in order.
+/// The prefixes of a search, in order.
 #[derive(Debug, Drop)]
 pub struct Prefixes {
     /// The prefixes of programs.
@@ -44,14 +44,14 @@ pub(crate) fn ends_with_slash(path: &[u8]) -> bool
     path.ends_with(b"/")
 }
 
-/// Whether an argument of `-B` is a prefix as it stands.
+/// Whether an argument of `-B` is a prefix already.
 fn is_prefix(dir: &[u8]) -> bool
     ensures { result ≡ is_prefix dir.now }
 {
     dir.is_empty() || ends_with_slash(dir)
 }
 
-/// A prefix of this kind: a folder's gets the slash that it lacks.
+/// The prefix for a path of this kind: a folder gets a slash at its end if it lacks one.
 fn as_prefix(dir: &Word, kind: PathKind) -> Result<Word, AllocError>
     ensures { IfOk result (λ prefix. prefix ≡ as_prefix dir.now kind) }
 {
@@ -63,7 +63,7 @@ fn as_prefix(dir: &Word, kind: PathKind) -> Result<Word, AllocError>
     Ok(prefix)
 }
 
-/// The prefix that an argument of `-B` stands for.
+/// The prefix for an argument of `-B`.
 fn prefix_of<S: System>(dir: &Word, outside: &mut Outside<'_, S>) -> Result<Word, AllocError>
     ensures asks { Asked S.events outside.old outside.new }
     ensures prefix { Tells outside.new result (λ F. prefix_of F dir.now) }
@@ -75,7 +75,7 @@ fn prefix_of<S: System>(dir: &Word, outside: &mut Outside<'_, S>) -> Result<Word
     as_prefix(dir, kind)
 }
 
-/// The prefixes that the arguments of `-B` stand for.
+/// The prefixes for the arguments of `-B`.
 #[tactic(auto, using(drv_system::proofs::AskedCalls::asked_further))]
 fn given_prefixes<S: System>(
     alloc: Global,
@@ -106,7 +106,7 @@ fn push_folders(
     Ok(())
 }
 
-/// These prefixes, and the folders after them.
+/// These prefixes, followed by the folders.
 fn with_folders(
     alloc: Global,
     given: &[Word],
@@ -124,8 +124,7 @@ fn with_folders(
 }
 
 impl Prefixes {
-    /// Where names are looked for with these arguments of `-B`: one that is a folder gets the slash
-    /// that it lacks. Want of memory is the only error.
+    /// The prefixes for these arguments of `-B`. A folder gets a slash at its end if it lacks one.
     #[tactic(auto, using(crate::proofs::Candidates::prefixes_made))]
     pub fn new<S: System>(
         alloc: Global,

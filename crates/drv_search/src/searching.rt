@@ -1,4 +1,4 @@
-//! Programs, files and linker scripts looked for.
+//! Searches for programs, files and linker scripts.
 
 ghost use Rattle.drv_search.specs.Search.{candidates, candidates_under, file_found, found};
 ghost use Rattle.drv_search.specs.Search.{found_or_name, is_plain, is_searched, machine_folder};
@@ -38,7 +38,7 @@ fn bare_path(alloc: Global, prefix: &[u8], name: &[u8]) -> Result<Word, AllocErr
     Ok(path)
 }
 
-/// Whether a path is that of a plain file.
+/// Whether a path of this kind is a plain file.
 fn is_plain(kind: PathKind) -> bool
     ensures { result ≡ is_plain kind }
 {
@@ -54,7 +54,7 @@ fn plain_at<S: System>(path: Word, outside: &mut Outside<'_, S>) -> Result<Optio
     Ok(if is_plain(kind) { Some(path) } else { None })
 }
 
-/// What is found in the machine's folder under a prefix.
+/// The file in the folder of the machine under a prefix.
 fn machine_hit<S: System>(
     alloc: Global,
     prefix: &[u8],
@@ -69,7 +69,7 @@ fn machine_hit<S: System>(
     plain_at(path, outside)
 }
 
-/// What is found in a prefix itself.
+/// The file in a prefix itself.
 fn bare_hit<S: System>(
     alloc: Global,
     prefix: &[u8],
@@ -83,7 +83,7 @@ fn bare_hit<S: System>(
     plain_at(path, outside)
 }
 
-/// What is found under one prefix: in the machine's folder, or else in the prefix itself.
+/// The file under one prefix: in the folder of the machine, or else in the prefix itself.
 #[tactic(auto, using(drv_system::proofs::AskedCalls::asked_further))]
 fn found_under<S: System>(
     alloc: Global,
@@ -100,7 +100,7 @@ fn found_under<S: System>(
     bare_hit(alloc, prefix, name, outside)
 }
 
-/// What is found under prefixes. After the first hit nothing is asked.
+/// The first file under these prefixes. After a hit no question is asked.
 #[tactic(auto, using(drv_system::proofs::AskedCalls::asked_further))]
 fn search<S: System>(
     alloc: Global,
@@ -126,14 +126,14 @@ fn has_slash(name: &[u8]) -> bool
     name.contains(&b'/')
 }
 
-/// Whether a name is looked for.
+/// Whether a name is searched for.
 fn is_searched(name: &[u8]) -> bool
     ensures { result ≡ is_searched name.now }
 {
     !name.is_empty() && !has_slash(name)
 }
 
-/// What is found, or else the name.
+/// The file that is found, or else the name.
 fn found_or_name<S: System>(
     alloc: Global,
     prefixes: &[Word],
@@ -152,9 +152,8 @@ fn found_or_name<S: System>(
     }
 }
 
-/// The program of that name: the first plain file among its places. A name that is empty, has a
-/// slash or isn't found is answered as it is (GCC manual, "Directory Options", -B). Want of memory
-/// is the only error.
+/// The program of that name: the first plain file among its candidates. A name that is empty, has a
+/// slash or isn't found is returned as it is (GCC manual, "Directory Options", -B).
 pub fn find_program<S: System>(
     alloc: Global,
     prefixes: &Prefixes,
@@ -170,9 +169,8 @@ pub fn find_program<S: System>(
     found_or_name(alloc, prefixes.programs.as_slice(), name, outside)
 }
 
-/// The file of that name, of the linker or of specs: the first plain file among its places. A name
-/// that is empty, has a slash or isn't found is answered as it is. Want of memory is the only
-/// error.
+/// The file of that name for the linker or the specs: the first plain file among its candidates. A
+/// name that is empty, has a slash or isn't found is returned as it is.
 pub fn find_file<S: System>(
     alloc: Global,
     prefixes: &Prefixes,
@@ -188,11 +186,11 @@ pub fn find_file<S: System>(
     found_or_name(alloc, prefixes.libraries.as_slice(), name, outside)
 }
 
-/// The linker script of that name: one with a slash if it is a plain file, any other where it is
-/// found.
+/// The linker script of that name. A name with a slash must be the path of a plain file; any other
+/// name is searched for.
 ///
 /// # Errors
-/// `ScriptMissing` with the name, where there is none.
+/// `ScriptMissing` with the name, if there is none.
 pub fn find_script<S: System>(
     alloc: Global,
     prefixes: &Prefixes,

@@ -8,7 +8,9 @@ pub loop-prefix-preserved : goal.loop-prefix-preserved
 loop-prefix-preserved g c = record {
   asks = asked_further c.loop-prefix.invariant.asks c.push_options.ensures.asks;
   rest = λ F e.
-      prefix_done F c.args.prefixes.now c.loop-prefix.prefix-index c.prefix-item.result c.as_bytes.result.now c.loop-prefix.options c.push_options.new.options
-      (after_options c.args.options.now (options_for F (flat_map folders_under c.args.prefixes.now))) c.loop-prefix-test.true c.prefix-item.is c.as_bytes.ensures (c.in_ok-push_options.ensures.options F e)
+      prefix_done F c.args.prefixes.now c.loop-prefix.prefix-index c.prefix-item.result c.as_bytes.result.now c.loop-prefix.options
+      c.push_options.new.options
+      (after_options c.args.options.now (options_for F (flat_map folders_under c.args.prefixes.now))) c.loop-prefix-test.true
+      c.prefix-item.is c.as_bytes.ensures (c.in_ok-push_options.ensures.options F e)
       (c.loop-prefix.invariant.rest F (extends_before c.push_options.ensures.asks e));
 }

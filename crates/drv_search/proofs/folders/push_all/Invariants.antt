@@ -9,5 +9,7 @@ use Rattle.drv_search.proofs.folders.push_all.Given as goal
 abbrev pub invariant-loop-prefix : goal.invariant-loop-prefix
 invariant-loop-prefix g l = record {
   asks : Asked g.S.System.events l.fn.outside l.outside;
-  rest : (F : Facts) → Extends l.outside.facts.now F → after_options l.options (options_for F (flat_map folders_under (drop l.prefix-index l.prefixes))) ≡ after_options l.fn.options (options_for F (flat_map folders_under l.prefixes));
+  rest : (F : Facts) → Extends l.outside.facts.now F
+      → after_options l.options (options_for F (flat_map folders_under (drop l.prefix-index l.prefixes))) ≡ after_options l.fn.options
+      (options_for F (flat_map folders_under l.prefixes));
 }

@@ -4,7 +4,8 @@ use Rattle.std.proofs.Common.{◌∙◌, sym}
 
 pub returns-then-not-is_dir-clause-option : goal.returns-then-not-is_dir-clause-option
 returns-then-not-is_dir-clause-option g c F e =
-    no_option F c.args.path.now c.in_ok-kind.kind c.args.options.now (e.kinds c.args.path.now c.in_ok-kind.kind c.in_ok-kind.ensures.known) (sym c.is_dir.ensures ∙ c.if-not-is_dir.true)
+    no_option F c.args.path.now c.in_ok-kind.kind c.args.options.now (e.kinds c.args.path.now c.in_ok-kind.kind c.in_ok-kind.ensures.known)
+    (sym c.is_dir.ensures ∙ c.if-not-is_dir.true)
 
 pub returns-clause-option : goal.returns-clause-option
 returns-clause-option g c F e =

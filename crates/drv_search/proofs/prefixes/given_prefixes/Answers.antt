@@ -7,5 +7,6 @@ loop-dir-preserved g c = record {
   asks = asked_further c.loop-dir.invariant.asks c.prefix_of.ensures.asks;
   rest = λ F e.
       prefix_more F c.args.dirs.now c.loop-dir.dir-index c.dir-item.result c.in_ok-prefix_of.field-0 c.loop-dir.given c.push.new.self
-      c.loop-dir-test.true c.dir-item.is (c.in_ok-prefix_of.ensures.prefix F e) c.in_ok-push.ensures.ok (c.loop-dir.invariant.rest F (extends_before c.prefix_of.ensures.asks e));
+      c.loop-dir-test.true c.dir-item.is (c.in_ok-prefix_of.ensures.prefix F e) c.in_ok-push.ensures.ok
+      (c.loop-dir.invariant.rest F (extends_before c.prefix_of.ensures.asks e));
 }

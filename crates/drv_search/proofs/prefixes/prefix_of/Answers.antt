@@ -4,4 +4,6 @@ use Rattle.drv_search.specs.Search.{is_prefix}
 use Rattle.std.proofs.Common.{◌∙◌, ap, sym}
 
 pub returns-clause-prefix : goal.returns-clause-prefix
-returns-clause-prefix g c F e = prefix_given F c.args.dir.now c.in_ok-kind.kind c.as_prefix.result (ap is_prefix (sym c.as_bytes.ensures) ∙ sym c.is_prefix.ensures ∙ c.if-is_prefix.false) (e.kinds c.args.dir.now c.in_ok-kind.kind c.in_ok-kind.ensures.known) c.as_prefix.ensures
+returns-clause-prefix g c F e = prefix_given F c.args.dir.now c.in_ok-kind.kind c.as_prefix.result (ap is_prefix (sym c.as_bytes.ensures)
+    ∙ sym c.is_prefix.ensures ∙ c.if-is_prefix.false) (e.kinds c.args.dir.now c.in_ok-kind.kind c.in_ok-kind.ensures.known)
+    c.as_prefix.ensures

@@ -2,4 +2,5 @@ use Rattle.std.proofs.Common.{◌≡◌, ◌++◌, drop, map}
 use Rattle.drv_search.proofs.prefixes.push_folders.Given as goal
 
 abbrev pub invariant-loop-folder : goal.invariant-loop-folder
-invariant-loop-folder l = l.prefixes ++ map (λ folder. folder.now) (drop l.folder-index l.folders) ≡ l.fn.prefixes ++ map (λ folder. folder.now) l.folders
+invariant-loop-folder l = l.prefixes ++ map (λ folder. folder.now) (drop l.folder-index l.folders) ≡ l.fn.prefixes
+    ++ map (λ folder. folder.now) l.folders

@@ -13,7 +13,8 @@ pub loop-prefix-preserved : goal.loop-prefix-preserved
 loop-prefix-preserved g c = record {
   asks = asked_further c.loop-prefix.invariant.asks c.found_under.ensures.asks;
   rest = λ F e.
-      prefix_missed F c.args.prefixes.now c.args.name.now c.loop-prefix.prefix-index c.prefix-item.result c.as_bytes.result.now c.in_ok-hit.field-0
+      prefix_missed F c.args.prefixes.now c.args.name.now c.loop-prefix.prefix-index c.prefix-item.result c.as_bytes.result.now
+      c.in_ok-hit.field-0
       c.loop-prefix-test.true c.prefix-item.is c.as_bytes.ensures (c.in_ok-hit.ensures.hit F e) c.in_default.is
       ∙ c.loop-prefix.invariant.rest F (extends_before c.found_under.ensures.asks e);
 }

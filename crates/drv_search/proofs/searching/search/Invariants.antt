@@ -8,5 +8,6 @@ use Rattle.drv_search.proofs.searching.search.Given as goal
 abbrev pub invariant-loop-prefix : goal.invariant-loop-prefix
 invariant-loop-prefix g l = record {
   asks : Asked g.S.System.events l.fn.outside l.outside;
-  rest : (F : Facts) → Extends l.outside.facts.now F → found F (candidates (drop l.prefix-index l.prefixes) l.name) ≡ found F (candidates l.prefixes l.name);
+  rest : (F : Facts) → Extends l.outside.facts.now F → found F (candidates (drop l.prefix-index l.prefixes) l.name)
+      ≡ found F (candidates l.prefixes l.name);
 }
