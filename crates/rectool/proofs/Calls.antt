@@ -1,5 +1,6 @@
 use Rattle.rectool.specs.Call.{code_after, code_of, file_named, number_after, with_digit}
-use Rattle.std.proofs.Common.{◌≡◌, ◌<◌, ◌≤◌, ◌*◌, ◌+◌, ◌-◌, ◌&&◌, ◌==◌, Bool, List, [], ◌∷◌, None, Option, Some, ap, arith, drop, false, get_or, refl, sym, true, ◌∙◌, ℕ}
+use Rattle.std.proofs.Common.{◌≡◌, ◌<◌, ◌≤◌, ◌*◌, ◌+◌, ◌-◌, ◌&&◌, ◌==◌, Bool, List, [], ◌∷◌, None, Option, Some, ap, arith, drop, false}
+use Rattle.std.proofs.Common.{get_or, refl, sym, true, ◌∙◌, ℕ}
 use Rattle.std.proofs.lemmas.Bool.Decides.{nat_tests}
 use Rattle.std.proofs.lemmas.List.{drop_all, drop_more}
 use Rattle.std.specs.Char.{is_ascii_digit}
@@ -7,19 +8,20 @@ use Rattle.std.specs.List.{last_or, list_all}
 use Rattle.std.specs.Option.{option_or, unwrap_or}
 use Rattle.std.specs.Prelude.{if◌then◌else◌, length, nat_le}
 
--- The last of the values that words have, whatever stood before the first.
+-- For `exit_status`: the last value that words have, whatever came before the first one.
 
 pub last_after : {X : Type 0} (d : X) (xs : List X) → unwrap_or (last_or (Some d) xs) d ≡ unwrap_or (last_or None xs) d
 last_after d [] = refl
 last_after d (x ∷ xs) = refl
 
--- What stands after the last `-o`, as far as a walk has come.
+-- For `output_file`: the word after the last `-o`, as far as a loop has come.
 
 pub none_named : (following : Option (Option (List ℕ))) → file_named (option_or following (Some None)) ≡ file_named following
 none_named None = refl
 none_named (Some path) = refl
 
-pub later_counts : {X : Type 0} (later : Option X) (here before : X) → option_or (option_or later (Some here)) (Some before) ≡ option_or later (Some here)
+pub later_counts : {X : Type 0} (later : Option X) (here before : X) → option_or (option_or later (Some here)) (Some before)
+    ≡ option_or later (Some here)
 later_counts None here before = refl
 later_counts (Some path) here before = refl
 
@@ -27,7 +29,7 @@ pub nothing_here : {X : Type 0} (later : Option X) (before : Option X) → optio
 nothing_here None before = refl
 nothing_here (Some path) before = refl
 
--- A number grows with each digit.
+-- For `code_of`: a number grows with each digit.
 
 grows : (n : ℕ) (digits : List ℕ) → n ≤ number_after n digits
 grows n [] = omega arith
@@ -41,7 +43,7 @@ no_code false small n is = refl
 above : (n m : ℕ) → n ≤ m → nat_le n 255 ≡ false → nat_le m 255 ≡ false
 above n m more large = grind (arith, nat_tests)
 
--- After one more digit, and after one that is none or too much.
+-- After one more digit, and after a byte that is not a digit or makes the number too great.
 
 some_is : {a b : ℕ} → Some a ≡ Some b → a ≡ b
 some_is {a} {b} e = ap (λ o. unwrap_or o 0) e
@@ -49,7 +51,8 @@ some_is {a} {b} e = ap (λ o. unwrap_or o 0) e
 pub one_more : (n digit m : ℕ) (digits : List ℕ) → with_digit n digit ≡ Some m → code_after n (digit ∷ digits) ≡ code_after m digits
 one_more n digit m digits is = by (is_ascii_digit digit) (nat_le (n * 10 + (digit - 48)) 255) refl is
   where
-    by : (is_digit is_small : Bool) → is_ascii_digit digit ≡ is_digit → (if is_digit && is_small then Some (n * 10 + (digit - 48)) else None) ≡ Some m
+    by : (is_digit is_small : Bool) → is_ascii_digit digit ≡ is_digit
+        → (if is_digit && is_small then Some (n * 10 + (digit - 48)) else None) ≡ Some m
         → code_after n (digit ∷ digits) ≡ code_after m digits
     by true true is_digit some = let same : n * 10 + (digit - 48) ≡ m = some_is some in rw is_digit (ap (λ k. code_after k digits) same)
     by true false is_digit some = absurd cc
@@ -77,13 +80,16 @@ pub some_digits : (digits : List ℕ) → (length digits == 0) ≡ false → cod
 some_digits [] some = absurd cc
 some_digits (digit ∷ digits) some = refl
 
--- what is left of the digits has their code, and so has none with them
-pub refused : (digits : List ℕ) (n i : ℕ) → (length digits == 0) ≡ false → i < length digits → code_after n (drop i digits) ≡ code_after 0 digits
+-- the digits that are left decide that there is no code
+pub refused : (digits : List ℕ) (n i : ℕ) → (length digits == 0) ≡ false → i < length digits
+    → code_after n (drop i digits) ≡ code_after 0 digits
     → with_digit n (get_or digits i 0) ≡ None → code_of digits ≡ None
 refused digits n i some below rest is =
-    some_digits digits some ∙ sym rest ∙ ap (λ xs. code_after n xs) (drop_more digits i 0 below) ∙ no_more n (get_or digits i 0) (drop (i + 1) digits) is
+    some_digits digits some ∙ sym rest ∙ ap (λ xs. code_after n xs) (drop_more digits i 0 below) ∙ no_more n (get_or digits i 0)
+    (drop (i + 1) digits) is
 
-pub accepted : (digits : List ℕ) (n i : ℕ) → (length digits == 0) ≡ false → length digits ≤ i → n < 256 → code_after n (drop i digits) ≡ code_after 0 digits
+pub accepted : (digits : List ℕ) (n i : ℕ) → (length digits == 0) ≡ false → length digits ≤ i → n < 256
+    → code_after n (drop i digits) ≡ code_after 0 digits
     → Some n ≡ code_of digits
 accepted digits n i some past small rest =
     sym (some_digits digits some ∙ sym rest ∙ ap (λ xs. code_after n xs) (drop_all i digits past) ∙ at_end n small)

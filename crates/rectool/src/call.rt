@@ -1,4 +1,4 @@
-//! What the words of a call ask for. The first of them is the role, and neither an option nor an
+//! What the words of a call request. The first word is the role, and neither an option nor an
 //! input.
 
 ghost use Rattle.rectool.specs.Call.{code_asked, code_of, exit_status, inputs_of, is_output_option};
@@ -9,7 +9,7 @@ ghost use Rattle.std.specs.Prelude.{◌≡◌, IfOk};
 use drv_words::{Listing, Word};
 use std::alloc::{AllocError, Global};
 
-/// The option that the status follows, in decimal.
+/// The option with the exit status, in decimal.
 const CODE_OPTION: &[u8] = b"-frec-exit=";
 
 /// The words after the role.
@@ -22,15 +22,14 @@ fn operands(words: &[Word]) -> &[Word]
     }
 }
 
-/// Whether a word is the option before the output.
+/// Whether a word is `-o`.
 fn is_output_option(word: &Word) -> bool
     ensures { result ≡ is_output_option word.now }
 {
     word.as_bytes() == b"-o".as_slice()
 }
 
-/// The file after the last `-o`; none for standard output, which `-`, or nothing after it, stands
-/// for too.
+/// The file after the last `-o`. `None` is standard output, which `-` and a missing word mean too.
 #[tactic(auto, using(crate::proofs::Calls::none_named, crate::proofs::Calls::later_counts, crate::proofs::Calls::nothing_here))]
 pub fn output_file(words: &[Word]) -> Option<&Word>
     ensures { option_copied result ≡ output_file words.now }
@@ -48,8 +47,7 @@ pub fn output_file(words: &[Word]) -> Option<&Word>
     }
 }
 
-/// The inputs of a call: each word that doesn't begin with `-` and doesn't stand directly after an
-/// `-o`.
+/// The inputs of a call: each word that doesn't begin with `-` and doesn't directly follow an `-o`.
 pub fn inputs(alloc: Global, words: &[Word]) -> Result<Listing<Word>, AllocError>
     ensures { IfOk result (λ inputs. inputs ≡ inputs_of words.now) }
 {
@@ -64,7 +62,7 @@ pub fn inputs(alloc: Global, words: &[Word]) -> Result<Listing<Word>, AllocError
     Ok(inputs)
 }
 
-/// A number with one more digit after it, if it is a digit and that number is at most 255.
+/// A number with one more digit, if the byte is a digit and the number is at most 255.
 fn with_digit(number: u8, digit: u8) -> Option<u8>
     ensures { result ≡ with_digit number digit }
 {
@@ -75,7 +73,7 @@ fn with_digit(number: u8, digit: u8) -> Option<u8>
     u8::try_from(more).ok()
 }
 
-/// The status that digits name, if they are digits alone and it is at most 255.
+/// The status of these digits, if all bytes are digits and the number is at most 255.
 #[tactic(auto, using(crate::proofs::Calls::one_more))]
 fn code_of(digits: &[u8]) -> Option<u8>
     ensures { result ≡ code_of digits.now }
@@ -90,7 +88,7 @@ fn code_of(digits: &[u8]) -> Option<u8>
     Some(code)
 }
 
-/// The status that a word asks for: `-frec-exit=N` asks for N.
+/// The status that a word requests: `-frec-exit=N` requests N.
 fn code_asked(word: &Word) -> Option<u8>
     ensures { result ≡ code_asked word.now }
 {
@@ -98,7 +96,7 @@ fn code_asked(word: &Word) -> Option<u8>
     code_of(digits)
 }
 
-/// The status that the last word asks for that asks for one, or else 0.
+/// The status that the last such word requests, or else 0.
 #[tactic(auto, using(crate::proofs::Calls::last_after))]
 pub fn exit_status(words: &[Word]) -> u8
     ensures { result ≡ exit_status words.now }

@@ -1,12 +1,11 @@
-//! A tool that stands in for a compiler's tools: it records how it was called and what it was given
-//! to read.
+//! A program that replaces the tools of a compiler: it records its call and its inputs.
 #![tactic(auto)]
 
 mod call;
 mod record;
 
 use crate::call::{exit_status, output_file};
-use crate::record::recorded;
+use crate::record::record_of;
 use drv_system::arguments;
 use drv_words::Word;
 use std::alloc::AllocError;
@@ -14,8 +13,8 @@ use std::io::{self, Write};
 use std::process::ExitCode;
 use std::{fs, str};
 
-/// Writes the record to the file of the call, or to standard output, and answers whether all of it
-/// was written.
+/// Writes the record to the file of the call, or to standard output. Returns whether all of it was
+/// written.
 fn write_record(rt: &HostRuntime, words: &[Word], record: &Word) -> bool {
     match output_file(words) {
         Some(path) => match str::from_utf8(path.as_bytes()) {
@@ -29,12 +28,12 @@ fn write_record(rt: &HostRuntime, words: &[Word], record: &Word) -> bool {
     }
 }
 
-/// Records the call, and answers the status that it asks for; none where nothing could be recorded.
+/// Records the call, and returns the status that it requests; `None` if the record failed.
 fn run(rt: &HostRuntime) -> Result<Option<u8>, AllocError> {
     let Ok(words) = arguments(rt) else {
         return Ok(None);
     };
-    let Some(record) = recorded(rt, words.as_slice())? else {
+    let Some(record) = record_of(rt, words.as_slice())? else {
         return Ok(None);
     };
     if write_record(rt, words.as_slice(), &record) {

@@ -1,4 +1,4 @@
-//! The record of a call: its line, and what its inputs hold.
+//! The record of a call: its line, and the contents of its inputs.
 
 ghost use Rattle.drv_words.specs.Bytes.{newline};
 ghost use Rattle.std.specs.Fmt.{decimal};
@@ -30,7 +30,7 @@ fn line(alloc: Global, words: &[Word]) -> Result<Word, AllocError> {
     render(alloc, &[line])
 }
 
-/// Adds what an input holds: its length, its bytes, and a newline.
+/// Adds the contents of an input: its length, its bytes, and a newline.
 fn push_input(alloc: Global, record: &mut Word, bytes: &[u8]) -> Result<(), AllocError> {
     let length = format!(in alloc; "= {}\n", bytes.len())?;
     record.extend_from_slice(length.as_bytes())?;
@@ -38,7 +38,7 @@ fn push_input(alloc: Global, record: &mut Word, bytes: &[u8]) -> Result<(), Allo
     record.push(b'\n')
 }
 
-/// Adds what files hold. One that can't be read is left out.
+/// Adds the contents of files. A file that can't be read is left out.
 fn push_files(rt: &HostRuntime, record: &mut Word, paths: &[Word]) -> Result<(), AllocError> {
     let mut sys = HostSystem::new(rt.clone()?);
     for path in paths {
@@ -49,7 +49,7 @@ fn push_files(rt: &HostRuntime, record: &mut Word, paths: &[Word]) -> Result<(),
     Ok(())
 }
 
-/// Adds what standard input holds, and answers whether it could be read.
+/// Adds the contents of standard input. Returns whether it could be read.
 fn push_standard_input(rt: &HostRuntime, record: &mut Word) -> Result<bool, AllocError> {
     match read_to_end(rt.alloc(), rt.stdin())? {
         ReadAnswer::Read(bytes) => {
@@ -60,8 +60,8 @@ fn push_standard_input(rt: &HostRuntime, record: &mut Word) -> Result<bool, Allo
     }
 }
 
-/// Adds what these inputs hold, and answers whether there is a record. Standard input is the one
-/// input where no word can be one.
+/// Adds the contents of these inputs, or of standard input if there are none. Returns whether there
+/// is a record.
 fn push_inputs(rt: &HostRuntime, record: &mut Word, inputs: &[Word]) -> Result<bool, AllocError> {
     if inputs.is_empty() {
         return push_standard_input(rt, record);
@@ -70,9 +70,9 @@ fn push_inputs(rt: &HostRuntime, record: &mut Word, inputs: &[Word]) -> Result<b
     Ok(true)
 }
 
-/// The record of a call. An input that can't be read is left out. Standard input is the one input
-/// where no word can be one; the record is none where that can't be read.
-pub fn recorded(rt: &HostRuntime, words: &[Word]) -> Result<Option<Word>, AllocError> {
+/// The record of a call. A file that can't be read is left out. Standard input is read if there are
+/// no inputs, and there is no record if that fails.
+pub fn record_of(rt: &HostRuntime, words: &[Word]) -> Result<Option<Word>, AllocError> {
     let inputs = inputs(rt.alloc(), words)?;
     let mut record = line(rt.alloc(), words)?;
     let is_read = push_inputs(rt, &mut record, inputs.as_slice())?;

@@ -4,9 +4,11 @@ use Rattle.std.proofs.Common.{sym, ◌∙◌}
 
 pub returns-in_err-code : goal.returns-in_err-code
 returns-in_err-code c =
-    c.from_residual.ensures ∙ sym (refused c.args.digits.now c.loop-digit.code c.loop-digit.digit-index (sym c.if-is_empty.ensures) c.loop-digit-test.true c.loop-digit.invariant.rest
+    c.from_residual.ensures ∙ sym (refused c.args.digits.now c.loop-digit.code c.loop-digit.digit-index (sym c.if-is_empty.ensures)
+    c.loop-digit-test.true c.loop-digit.invariant.rest
     (sym c.with_digit.ensures ∙ c.in_err-code.was))
 
 pub returns : goal.returns
 returns c =
-    accepted c.args.digits.now c.loop-digit.code c.loop-digit.digit-index (sym c.if-is_empty.ensures) c.loop-digit-test.false c.loop-digit.invariant.small c.loop-digit.invariant.rest
+    accepted c.args.digits.now c.loop-digit.code c.loop-digit.digit-index (sym c.if-is_empty.ensures) c.loop-digit-test.false
+    c.loop-digit.invariant.small c.loop-digit.invariant.rest

@@ -5,4 +5,5 @@ use Rattle.std.specs.List.{filter_map, last_or}
 use Rattle.std.specs.Option.{unwrap_or}
 
 abbrev pub invariant-loop-word : goal.invariant-loop-word
-invariant-loop-word l = unwrap_or (last_or (Some l.status) (filter_map code_asked (drop l.word-index l.word-items))) 0 ≡ exit_status l.fn.words
+invariant-loop-word l = unwrap_or (last_or (Some l.status) (filter_map code_asked (drop l.word-index l.word-items))) 0
+    ≡ exit_status l.fn.words

@@ -4,4 +4,5 @@ use Rattle.std.proofs.Common.{◌≡◌, ◌++◌, drop}
 use Rattle.std.specs.List.{filter_map}
 
 abbrev pub invariant-loop-word : goal.invariant-loop-word
-invariant-loop-word l = l.inputs ++ filter_map input_of (with_option_before l.is_after (drop l.word-index l.word-items)) ≡ inputs_of l.fn.words
+invariant-loop-word l = l.inputs ++ filter_map input_of (with_option_before l.is_after (drop l.word-index l.word-items))
+    ≡ inputs_of l.fn.words

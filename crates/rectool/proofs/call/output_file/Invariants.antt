@@ -4,4 +4,5 @@ use Rattle.std.proofs.Common.{◌≡◌, Some, drop}
 use Rattle.std.specs.Option.{option_copied, option_or}
 
 abbrev pub invariant-loop-index : goal.invariant-loop-index
-invariant-loop-index l = file_named (option_or (after_output (drop l.index l.operands)) (Some (option_copied l.following))) ≡ output_file l.fn.words
+invariant-loop-index l = file_named (option_or (after_output (drop l.index l.operands)) (Some (option_copied l.following)))
+    ≡ output_file l.fn.words
