@@ -1,0 +1,114 @@
+//! What the next byte is among the tests of braces.
+
+ghost use Rattle.drv_dump.specs.Grammar as grammar;
+ghost use Rattle.std.specs.Prelude.{◌≡◌};
+
+use crate::turn::{Part, Place, Side, Turn, call_kind, closes, reads};
+use crate::{Kind, Misfit};
+
+/// In a test: a letter, a digit, or one of `_-+=,.@`.
+fn is_test_byte(byte: u8) -> bool
+    ensures { result ≡ grammar.is_test_byte byte }
+{
+    byte.is_ascii_alphanumeric() || matches!(byte, b'_' | b'-' | b'+' | b'=' | b',' | b'.' | b'@')
+}
+
+/// White space beside a test.
+fn is_white(byte: u8) -> bool
+    ensures { result ≡ grammar.is_white byte }
+{
+    matches!(byte, b' ' | b'\t' | b'\n')
+}
+
+/// A byte that begins a test.
+fn asked_turn(side: Side, depth: usize, byte: u8) -> Turn
+    ensures { result ≡ grammar.asked_turn side depth byte }
+{
+    if byte == b'%' {
+        reads(
+            Part::First,
+            call_kind(side),
+            Place::TestPercent(side),
+            depth,
+        )
+    } else if is_test_byte(byte) {
+        reads(Part::First, Kind::Test, Place::Test, depth)
+    } else {
+        Turn::Refused(Misfit::BadTest)
+    }
+}
+
+/// A byte after the `!` of a test.
+pub(crate) fn negated_turn(depth: usize, byte: u8) -> Turn
+    ensures { result ≡ grammar.negated_turn depth byte }
+{
+    if is_white(byte) {
+        reads(Part::First, Kind::Blank, Place::Negated, depth)
+    } else {
+        asked_turn(Side::Negated, depth, byte)
+    }
+}
+
+/// A byte before a test.
+pub(crate) fn test_turn(depth: usize, byte: u8) -> Turn
+    ensures { result ≡ grammar.test_turn depth byte }
+{
+    if is_white(byte) {
+        reads(Part::First, Kind::Blank, Place::BeforeTest, depth)
+    } else if byte == b'!' {
+        reads(Part::First, Kind::Negation, Place::Negated, depth)
+    } else {
+        asked_turn(Side::AmongTests, depth, byte)
+    }
+}
+
+/// A byte before the tests of another alternative.
+pub(crate) fn choice_turn(depth: usize, byte: u8) -> Turn
+    ensures { result ≡ grammar.choice_turn depth byte }
+{
+    if is_white(byte) {
+        reads(Part::First, Kind::Blank, Place::BeforeChoice, depth)
+    } else if byte == b':' {
+        reads(Part::First, Kind::Then, Place::Ready, depth)
+    } else {
+        test_turn(depth, byte)
+    }
+}
+
+/// A byte after the `%` of a test.
+pub(crate) fn percent_test_turn(side: Side, depth: usize, byte: u8) -> Turn
+    ensures { result ≡ grammar.percent_test_turn side depth byte }
+{
+    if byte == b':' {
+        reads(Part::Later, call_kind(side), Place::Function(side), depth)
+    } else {
+        Turn::Refused(Misfit::BadTest)
+    }
+}
+
+/// A byte after a test.
+pub(crate) fn after_test_turn(depth: usize, byte: u8) -> Turn
+    ensures { result ≡ grammar.after_test_turn depth byte }
+{
+    match byte {
+        b' ' | b'\t' | b'\n' => reads(Part::First, Kind::Blank, Place::AfterTest, depth),
+        b'|' => reads(Part::First, Kind::Either, Place::BeforeTest, depth),
+        b'&' => reads(Part::First, Kind::Both, Place::BeforeTest, depth),
+        b':' => reads(Part::First, Kind::Then, Place::Ready, depth),
+        b'}' => closes(depth),
+        _ => Turn::Refused(Misfit::BadTest),
+    }
+}
+
+/// A byte in a test, or after it.
+pub(crate) fn inner_test_turn(depth: usize, byte: u8) -> Turn
+    ensures { result ≡ grammar.inner_test_turn depth byte }
+{
+    if is_test_byte(byte) {
+        reads(Part::Later, Kind::Test, Place::Test, depth)
+    } else if byte == b'*' {
+        reads(Part::Later, Kind::Test, Place::AfterTest, depth)
+    } else {
+        after_test_turn(depth, byte)
+    }
+}
