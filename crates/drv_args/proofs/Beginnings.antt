@@ -1,14 +1,15 @@
 use Rattle.drv_args.specs.Options.{form_fits}
 use Rattle.drv_args.specs.declared.option_table.Form.TheVariants.{Either, Exact, Joined, Separate}
 use Rattle.drv_args.specs.declared.option_table.Form.{Form}
-use Rattle.std.proofs.Common.{◌≡◌, ◌<◌, ◌≤◌, ◌==◌, ◌&&◌, ◌+◌, ◌∙◌, Bool, List, [], ◌∷◌, ◌++◌, ap, arith, drop, false, get_or, length, refl, sym, true, ℕ}
+use Rattle.std.proofs.Common.{◌≡◌, ◌<◌, ◌≤◌, ◌==◌, ◌&&◌, ◌+◌, ◌∙◌, Bool, List, [], ◌∷◌, ◌++◌, ap, arith, drop, false, get_or, length, refl}
+use Rattle.std.proofs.Common.{sym, true, ℕ}
 use Rattle.std.proofs.lemmas.Bool.{eqb-true, ne_eqb}
 use Rattle.std.proofs.lemmas.List.{drop_all, drop_more}
 use Rattle.std.specs.Cmp.Lexicographic.{pointwise}
 use Rattle.std.specs.List.{starts_with}
 use Rattle.std.specs.Prelude.{nat_eq}
 
--- Whether a word begins with an option, byte by byte.
+-- For the look-up of options: whether a word begins with an option, byte by byte.
 
 abbrev pub begins : List ℕ → List ℕ → Bool
 begins [] word = true
@@ -24,17 +25,22 @@ begins_nothing : (rest word : List ℕ) → rest ≡ [] → begins rest word ≡
 begins_nothing [] word e = refl
 begins_nothing (a ∷ rest) word e = absurd cc
 
-pub begins_whole : (option word : List ℕ) (i : ℕ) → length option ≤ i → begins (drop i option) (drop i word) ≡ begins option word → true ≡ starts_with nat_eq word option
-begins_whole option word i end same = sym (begins_is option word ∙ sym same ∙ begins_nothing (drop i option) (drop i word) (drop_all i option end))
+pub begins_whole : (option word : List ℕ) (i : ℕ) → length option ≤ i → begins (drop i option) (drop i word) ≡ begins option word
+    → true ≡ starts_with nat_eq word option
+begins_whole option word i end same = sym (begins_is option word ∙ sym same ∙ begins_nothing (drop i option) (drop i word)
+    (drop_all i option end))
 
 differs : (a b : ℕ) (option word : List ℕ) → (b ≡ a → ⊥) → begins (a ∷ option) (b ∷ word) ≡ false
 differs a b option word apart = rw (ne_eqb a b (λ e. apart (sym e))) refl
 
-pub begins_apart : (option word : List ℕ) (i : ℕ) → i < length option → length option ≤ length word → (get_or word i 0 ≡ get_or option i 0 → ⊥) → begins (drop i option) (drop i word) ≡ begins option word → false ≡ starts_with nat_eq word option
+pub begins_apart : (option word : List ℕ) (i : ℕ) → i < length option → length option ≤ length word
+    → (get_or word i 0 ≡ get_or option i 0 → ⊥) → begins (drop i option) (drop i word) ≡ begins option word
+    → false ≡ starts_with nat_eq word option
 begins_apart option word i below within apart same =
-    sym (begins_is option word ∙ sym same ∙ (rw (drop_more option i 0 below, drop_more word i 0 (omega (arith, below, within))) (differs (get_or option i 0) (get_or word i 0) (drop (i + 1) option) (drop (i + 1) word) apart)))
+    sym (begins_is option word ∙ sym same ∙ (rw (drop_more option i 0 below, drop_more word i 0 (omega (arith, below, within)))
+    (differs (get_or option i 0) (get_or word i 0) (drop (i + 1) option) (drop (i + 1) word) apart)))
 
--- A row's option and the rest of a word that it fits are the word.
+-- If a row fits a word, its option and the rest of the word make up the word.
 
 both_true : (a b : Bool) → (a && b) ≡ true → (a ≡ true) × (b ≡ true)
 both_true true b e = (refl, e)

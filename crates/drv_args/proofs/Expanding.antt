@@ -1,4 +1,5 @@
-use Rattle.drv_args.specs.Expansion.{Expands, Itself, Refuses, Responds, Text, following, by_answer, by_name, by_text, file_named, inside, itself, later, replacement_of, no_word, too_large, too_many}
+use Rattle.drv_args.specs.Expansion.{Expands, Itself, Refuses, Responds, Text, following, by_answer, by_name, by_text, file_named, inside}
+use Rattle.drv_args.specs.Expansion.{itself, later, replacement_of, no_word, too_large, too_many}
 use Rattle.drv_args.specs.Code.Replacing.{IsPut, IsReplaced}
 use Rattle.drv_args.specs.declared.fault.ArgsFault.TheVariants.{Memory, ResponseTooLarge, TooManyFiles}
 use Rattle.drv_args.specs.declared.fault.ArgsFault.{ArgsFault}
@@ -9,15 +10,17 @@ use Rattle.drv_system.specs.Known.{◌>>=◌, Is, asked}
 use Rattle.drv_system.specs.declared.event.ReadAnswer.TheVariants.{Failed, Missing}
 use Rattle.drv_system.specs.declared.event.ReadAnswer.{ReadAnswer}
 use Rattle.drv_words.specs.Response.{Splits, SplitsOnto}
-use Rattle.std.proofs.Common.{◌≡◌, ◌⊎◌, ◌||◌, drop, take, Bool, Err, List, None, Option, false, is_some, true, [], ◌∷◌, ◌++◌, IsErrAnd, Ok, Result, Some, reverse, refl, sym, subst, ap, ◌∙◌, append_assoc, inl, inr, ℕ, suc}
+use Rattle.std.proofs.Common.{◌≡◌, ◌⊎◌, ◌||◌, drop, take, Bool, Err, List, None, Option, false, is_some, true, [], ◌∷◌, ◌++◌, IsErrAnd, Ok}
+use Rattle.std.proofs.Common.{Result, Some, reverse, refl, sym, subst, ap, ◌∙◌, append_assoc, inl, inr, ℕ, suc}
 use Rattle.std.proofs.Math.Seq.{append_snoc, drop-append_seam, take-append_seam}
 use Rattle.std.specs.List.{list_any}
 use Rattle.std.proofs.lemmas.List.{append-nil, reverse-append, reverse-reverse}
 
--- Words that are expanded in front of others.
+-- For `expand`: the words in front are expanded, then the words after them.
 
--- what stands for a word by the facts after the call that asked
-pub replacement_is : (F G : Facts) (word path : List ℕ) (answer : ReadAnswer) → Extends G F → file_named word ≡ Some path → read_of G path ≡ Some answer → replacement_of F word ≡ Is (by_answer path answer)
+-- the replacement of a word, by the facts after the call that asked for its file
+pub replacement_is : (F G : Facts) (word path : List ℕ) (answer : ReadAnswer) → Extends G F → file_named word ≡ Some path
+    → read_of G path ≡ Some answer → replacement_of F word ≡ Is (by_answer path answer)
 replacement_is F G word path answer e named known =
     ap (by_name F) named ∙ ap (λ a. asked a >>= λ answer. Is (by_answer path answer)) (e.reads path answer known)
 
@@ -25,7 +28,7 @@ pub itself_by : (path : List ℕ) (answer : ReadAnswer) → (answer ≡ Missing)
 itself_by path answer (inl e) = ap (λ a. Is (by_answer path a)) e
 itself_by path answer (inr e) = ap (λ a. Is (by_answer path a)) e
 
--- what words in front and words after them respond to
+-- the expansion of words in front, and of those after them
 record Parts (F : Facts) (left : ℕ) (front words : List (List ℕ)) (left' : ℕ) (out : List (List ℕ)) : Type 0 where
   mid : ℕ
   out_front : List (List ℕ)
@@ -34,21 +37,45 @@ record Parts (F : Facts) (left : ℕ) (front words : List (List ℕ)) (left' : �
   first : Responds F left front mid out_front
   second : Responds F mid words left' out_after
 
-parts_of : {F : Facts} {left left' : ℕ} {out : List (List ℕ)} (front words : List (List ℕ)) → Responds F left (front ++ words) left' out → Parts F left front words left' out
-parts_of {left = left} {out = out} [] words all = record { mid = left; out_front = []; out_after = out; is = refl; first = no_word; second = all }
+parts_of : {F : Facts} {left left' : ℕ} {out : List (List ℕ)} (front words : List (List ℕ)) → Responds F left (front ++ words) left' out
+    → Parts F left front words left' out
+parts_of {left = left} {out = out} [] words all = record {
+  mid = left;
+  out_front = [];
+  out_after = out;
+  is = refl;
+  first = no_word;
+  second = all;
+}
 parts_of (word ∷ front) words (itself {word = w} m rest) =
     let p = parts_of front words rest in
-    record { mid = p.mid; out_front = w ∷ p.out_front; out_after = p.out_after; is = ap (λ o. w ∷ o) p.is; first = itself m p.first; second = p.second }
+    record {
+      mid = p.mid;
+      out_front = w ∷ p.out_front;
+      out_after = p.out_after;
+      is = ap (λ o. w ∷ o) p.is;
+      first = itself m p.first;
+      second = p.second;
+    }
 parts_of (word ∷ front) words (by_text {out = o} m splits inner rest) =
     let p = parts_of front words rest in
-    record { mid = p.mid; out_front = o ++ p.out_front; out_after = p.out_after; is = ap (λ b. o ++ b) p.is ∙ sym (append_assoc o p.out_front p.out_after); first = by_text m splits inner p.first; second = p.second }
+    record {
+      mid = p.mid;
+      out_front = o ++ p.out_front;
+      out_after = p.out_after;
+      is = ap (λ b. o ++ b) p.is
+          ∙ sym (append_assoc o p.out_front p.out_after);
+      first = by_text m splits inner p.first;
+      second = p.second;
+    }
 
--- a refusal in words in front, or in those after them
+-- a refusal in the words in front, or in those after them
 data Refused (F : Facts) (left : ℕ) (front words : List (List ℕ)) (fault : ArgsFault) : Type 0 where
   in_front : Refuses F left front fault → Refused F left front words fault
   in_rest : {mid : ℕ} {out : List (List ℕ)} → Responds F left front mid out → Refuses F mid words fault → Refused F left front words fault
 
-refused_of : {F : Facts} {left : ℕ} {fault : ArgsFault} (front words : List (List ℕ)) → Refuses F left (front ++ words) fault → Refused F left front words fault
+refused_of : {F : Facts} {left : ℕ} {fault : ArgsFault} (front words : List (List ℕ)) → Refuses F left (front ++ words) fault
+    → Refused F left front words fault
 refused_of [] words all = in_rest no_word all
 refused_of (word ∷ front) words (too_large m) = in_front (too_large m)
 refused_of (word ∷ front) words (too_many m) = in_front (too_many m)
@@ -58,13 +85,14 @@ refused_of {F = F} {left = left} {fault = fault} (word ∷ front) words (later m
     go (in_front r) = in_front (later m r)
     go (in_rest done r) = in_rest (itself m done) r
 refused_of (word ∷ front) words (inside m splits inner) = in_front (inside m splits inner)
-refused_of {F = F} {fault = fault} (word ∷ front) words (following {left = left} {mid = mid} m splits inner rest) = go (refused_of front words rest)
+refused_of {F = F} {fault = fault} (word ∷ front) words (following {left = left} {mid = mid} m splits inner rest) = go
+    (refused_of front words rest)
   where
     go : Refused F mid front words fault → Refused F (suc left) (word ∷ front) words fault
     go (in_front r) = in_front (following m splits inner r)
     go (in_rest done r) = in_rest (by_text m splits inner done) r
 
--- how what is done goes on to what all the arguments come to
+-- the expansion so far leads to that of all arguments
 pub record GoesOn (F : Facts) (left : ℕ) (words out args : List (List ℕ)) : Type 0 where
   pub responds : (left' : ℕ) (more : List (List ℕ)) → Responds F left words left' more → Responds F 2000 args left' (out ++ more)
   pub refuses : (fault : ArgsFault) → Refuses F left words fault → Refuses F 2000 args fault
@@ -80,7 +108,8 @@ goes_by_itself F left word words out args m goes = record {
 }
 
 pub goes_by_text : (F : Facts) (left : ℕ) (word text : List ℕ) (inner words out args : List (List ℕ))
-    → replacement_of F word ≡ Is (Text text) → Splits text inner → GoesOn F (suc left) (word ∷ words) out args → GoesOn F left (inner ++ words) out args
+    → replacement_of F word ≡ Is (Text text) → Splits text inner → GoesOn F (suc left) (word ∷ words) out args
+    → GoesOn F left (inner ++ words) out args
 goes_by_text F left word text inner words out args m splits goes = record {
   responds = λ left' more r.
       let p : Parts F left inner words left' more = parts_of inner words r in
@@ -93,44 +122,49 @@ goes_by_text F left word text inner words out args m splits goes = record {
     refused (in_front r) = inside m splits r
     refused (in_rest done r) = following m splits done r
 
--- The same of a stack, whose last word is the next one.
+-- The same for a stack, whose last word is the next one.
 
 next_is : (stack rest : List (List ℕ)) (word : List ℕ) → stack ≡ rest ++ word ∷ [] → reverse stack ≡ word ∷ reverse rest
 next_is stack rest word e = ap reverse e ∙ reverse-append rest (word ∷ [])
 
 pub itself_goes : (F : Facts) (left : ℕ) (stack rest : List (List ℕ)) (word : List ℕ) (out out' args : List (List ℕ))
-    → stack ≡ rest ++ word ∷ [] → out' ≡ out ++ word ∷ [] → replacement_of F word ≡ Is Itself → GoesOn F left (reverse stack) out args → GoesOn F left (reverse rest) out' args
+    → stack ≡ rest ++ word ∷ [] → out' ≡ out ++ word ∷ [] → replacement_of F word ≡ Is Itself → GoesOn F left (reverse stack) out args
+    → GoesOn F left (reverse rest) out' args
 itself_goes F left stack rest word out out' args popped pushed m goes =
     let P : List (List ℕ) → Type 0 = λ o. GoesOn F left (reverse rest) o args in
     let Q : List (List ℕ) → Type 0 = λ ws. GoesOn F left ws out args in
     subst P (sym pushed) (goes_by_itself F left word (reverse rest) out args m (subst Q (next_is stack rest word popped) goes))
 
--- a word that stands for words
+-- a word that is replaced by words
 abbrev pub StandsFor : Facts → List ℕ → List (List ℕ) → Type 0
 StandsFor F word inner = (text : List ℕ) × (replacement_of F word ≡ Is (Text text)) × Splits text inner
 
 pub text_goes : (F : Facts) (left left' : ℕ) (stack rest stack' : List (List ℕ)) (word : List ℕ) (inner out args : List (List ℕ))
-    → stack ≡ rest ++ word ∷ [] → left ≡ suc left' → stack' ≡ rest ++ reverse inner → StandsFor F word inner → GoesOn F left (reverse stack) out args → GoesOn F left' (reverse stack') out args
+    → stack ≡ rest ++ word ∷ [] → left ≡ suc left' → stack' ≡ rest ++ reverse inner → StandsFor F word inner
+    → GoesOn F left (reverse stack) out args → GoesOn F left' (reverse stack') out args
 text_goes F left left' stack rest stack' word inner out args popped one pushed (text, m, splits) goes =
     let P : List (List ℕ) → Type 0 = λ ws. GoesOn F left' ws out args in
     let Q : ℕ → Type 0 = λ n. GoesOn F n (word ∷ reverse rest) out args in
     let R : List (List ℕ) → Type 0 = λ ws. GoesOn F left ws out args in
     let is : reverse stack' ≡ inner ++ reverse rest = ap reverse pushed ∙ reverse-append rest (reverse inner) ∙ ap (λ ws. ws ++ reverse rest) (reverse-reverse inner) in
-    subst P (sym is) (goes_by_text F left' word text inner (reverse rest) out args m splits (subst Q one (subst R (next_is stack rest word popped) goes)))
+    subst P (sym is) (goes_by_text F left' word text inner (reverse rest) out args m splits
+    (subst Q one (subst R (next_is stack rest word popped) goes)))
 
--- a word that stands for words, which were put after those that stay
+-- a word that is replaced by words, which come after those that are done
 abbrev pub StandsAfter : Facts → List ℕ → List (List ℕ) → List (List ℕ) → Type 0
 StandsAfter F word out all = (text : List ℕ) × (replacement_of F word ≡ Is (Text text)) × SplitsOnto text out all
 
 pub many_refused : (F : Facts) (left : ℕ) (stack rest : List (List ℕ)) (word : List ℕ) (out all args : List (List ℕ))
-    → stack ≡ rest ++ word ∷ [] → left ≡ 0 → StandsAfter F word out all → GoesOn F left (reverse stack) out args → Refuses F 2000 args TooManyFiles
+    → stack ≡ rest ++ word ∷ [] → left ≡ 0 → StandsAfter F word out all → GoesOn F left (reverse stack) out args
+    → Refuses F 2000 args TooManyFiles
 many_refused F left stack rest word out all args popped none (text, m, (inner, is, splits)) goes =
     let P : ℕ → Type 0 = λ n. Refuses F n (word ∷ reverse rest) TooManyFiles in
     let Q : List (List ℕ) → Type 0 = λ ws. Refuses F left ws TooManyFiles in
     goes.refuses TooManyFiles (subst Q (sym (next_is stack rest word popped)) (subst P (sym none) (too_many m)))
 
 pub large_refused : (F : Facts) (left : ℕ) (stack rest : List (List ℕ)) (word : List ℕ) (out all args : List (List ℕ)) (fault : ArgsFault)
-    → stack ≡ rest ++ word ∷ [] → IsReplaced F word out all (Err fault) → GoesOn F left (reverse stack) out args → (fault ≡ Memory) ⊎ Refuses F 2000 args fault
+    → stack ≡ rest ++ word ∷ [] → IsReplaced F word out all (Err fault) → GoesOn F left (reverse stack) out args
+    → (fault ≡ Memory) ⊎ Refuses F 2000 args fault
 large_refused F left stack rest word out all args fault popped (inl memory) goes = inl memory
 large_refused F left stack rest word out all args fault popped (inr (path, m, e)) goes =
     let P : ArgsFault → Type 0 = λ f. Refuses F 2000 args f in
@@ -141,20 +175,25 @@ pub expands_refused : (F : Facts) (args : List (List ℕ)) (fault : ArgsFault) (
     → IsErrAnd result (λ e. e ≡ fault) → (fault ≡ Memory) ⊎ Refuses F 2000 args fault → Expands F 2000 args result
 expands_refused F args fault (Ok expanded) is refused = absurd is
 expands_refused F args fault (Err e) is (inl memory) = inl (is ∙ memory)
-expands_refused F args fault (Err e) is (inr refused) = let P : ArgsFault → Type 0 = λ f. Refuses F 2000 args f in inr (subst P (sym is) refused)
+expands_refused F args fault (Err e) is (inr refused) =
+    let P : ArgsFault → Type 0 = λ f. Refuses F 2000 args f in
+    inr (subst P (sym is) refused)
 
-pub expands_memory : (F : Facts) (args : List (List ℕ)) (result : Result Expanded ArgsFault) → IsErrAnd result (λ e. e ≡ Memory) → Expands F 2000 args result
+pub expands_memory : (F : Facts) (args : List (List ℕ)) (result : Result Expanded ArgsFault) → IsErrAnd result (λ e. e ≡ Memory)
+    → Expands F 2000 args result
 expands_memory F args result is = expands_refused F args Memory result is (inl refl)
 
-pub end_goes : (F : Facts) (left : ℕ) (stack out args : List (List ℕ)) → stack ≡ [] → GoesOn F left (reverse stack) out args → Responds F 2000 args left out
+pub end_goes : (F : Facts) (left : ℕ) (stack out args : List (List ℕ)) → stack ≡ [] → GoesOn F left (reverse stack) out args
+    → Responds F 2000 args left out
 end_goes F left stack out args empty goes =
     let P : List (List ℕ) → Type 0 = λ ws. Responds F left ws left [] in
     let Q : List (List ℕ) → Type 0 = λ o. Responds F 2000 args left o in
     subst Q (append-nil out) (goes.responds left [] (subst P (sym (ap reverse empty)) no_word))
 
--- words of which none names a file
+-- words that don't name files
 
-by_none : (F : Facts) (word : List ℕ) (named : Option (List ℕ)) → file_named word ≡ named → is_some named ≡ false → replacement_of F word ≡ Is Itself
+by_none : (F : Facts) (word : List ℕ) (named : Option (List ℕ)) → file_named word ≡ named → is_some named ≡ false
+    → replacement_of F word ≡ Is Itself
 by_none F word None e absent = ap (by_name F) e
 by_none F word (Some path) e absent = absurd cc
 
@@ -166,18 +205,22 @@ others_none : (a b : Bool) → a || b ≡ false → b ≡ false
 others_none false b e = e
 others_none true b e = absurd cc
 
-themselves : (F : Facts) (left : ℕ) (words : List (List ℕ)) → list_any (λ word. is_some (file_named word)) words ≡ false → Responds F left words left words
+themselves : (F : Facts) (left : ℕ) (words : List (List ℕ)) → list_any (λ word. is_some (file_named word)) words ≡ false
+    → Responds F left words left words
 themselves F left [] none = no_word
 themselves F left (word ∷ words) none =
-    itself (by_none F word (file_named word) refl (first_none (is_some (file_named word)) _ none)) (themselves F left words (others_none (is_some (file_named word)) _ none))
+    itself (by_none F word (file_named word) refl (first_none (is_some (file_named word)) _ none))
+    (themselves F left words (others_none (is_some (file_named word)) _ none))
 
-pub none_expanded : (F : Facts) (args : List (List ℕ)) → list_any (λ word. is_some (file_named word)) args ≡ false → Expands F 2000 args (Ok (record { words = args; from_file = false }))
+pub none_expanded : (F : Facts) (args : List (List ℕ)) → list_any (λ word. is_some (file_named word)) args ≡ false
+    → Expands F 2000 args (Ok (record { words = args; from_file = false }))
 none_expanded F args none = (2000, themselves F 2000 args none, refl)
 
--- the words of a file, put in place of the word that named it
+-- the words of a file replace the word that named it
 
 pub stay_goes : (F : Facts) (left left' : ℕ) (stack rest stack' : List (List ℕ)) (word : List ℕ) (inner out out' args : List (List ℕ))
-    → stack ≡ rest ++ word ∷ [] → left ≡ suc left' → stack' ≡ rest → out' ≡ out ++ inner → list_any (λ word. is_some (file_named word)) inner ≡ false
+    → stack ≡ rest ++ word ∷ [] → left ≡ suc left' → stack' ≡ rest → out' ≡ out ++ inner
+    → list_any (λ word. is_some (file_named word)) inner ≡ false
     → StandsFor F word inner → GoesOn F left (reverse stack) out args → GoesOn F left' (reverse stack') out' args
 stay_goes F left left' stack rest stack' word inner out out' args popped one same more none (text, m, splits) goes =
     let P : List (List ℕ) → Type 0 = λ o. GoesOn F left' (reverse stack') o args in
@@ -190,12 +233,14 @@ stay_goes F left left' stack rest stack' word inner out out' args popped one sam
     after_text goes = record {
       responds = λ last after r.
           let T : List (List ℕ) → Type 0 = λ o. Responds F 2000 args last o in
-          subst T (sym (append_assoc out inner after)) (goes.responds last (inner ++ after) (by_text m splits (themselves F left' inner none) r));
+          subst T (sym (append_assoc out inner after))
+          (goes.responds last (inner ++ after) (by_text m splits (themselves F left' inner none) r));
       refuses = λ fault r. goes.refuses fault (following m splits (themselves F left' inner none) r);
     }
 
 words_go : (F : Facts) (left left' : ℕ) (stack rest stack' : List (List ℕ)) (word : List ℕ) (inner out out' args : List (List ℕ))
-    → stack ≡ rest ++ word ∷ [] → left ≡ suc left' → IsPut inner rest stack' out out' → StandsFor F word inner → GoesOn F left (reverse stack) out args
+    → stack ≡ rest ++ word ∷ [] → left ≡ suc left' → IsPut inner rest stack' out out' → StandsFor F word inner
+    → GoesOn F left (reverse stack) out args
     → GoesOn F left' (reverse stack') out' args
 words_go F left left' stack rest stack' word inner out out' args popped one (inl (none, same, more)) stands goes =
     stay_goes F left left' stack rest stack' word inner out out' args popped one same more none stands goes
@@ -204,11 +249,13 @@ words_go F left left' stack rest stack' word inner out out' args popped one (inr
     subst P (sym same) (text_goes F left left' stack rest stack' word inner out args popped one pushed stands goes)
 
 pub put_goes : (F : Facts) (left left' start : ℕ) (stack rest stack' : List (List ℕ)) (word : List ℕ) (out all out' args : List (List ℕ))
-    → stack ≡ rest ++ word ∷ [] → left ≡ suc left' → IsReplaced F word out all (Ok (Some start)) → IsPut (drop start all) rest stack' (take start all) out'
+    → stack ≡ rest ++ word ∷ [] → left ≡ suc left' → IsReplaced F word out all (Ok (Some start))
+    → IsPut (drop start all) rest stack' (take start all) out'
     → GoesOn F left (reverse stack) out args → GoesOn F left' (reverse stack') out' args
 put_goes F left left' start stack rest stack' word out all out' args popped one (at, (text, m, (inner, is, splits))) put goes =
     let following_is : drop start all ≡ inner = ap (drop start) is ∙ ap (λ n. drop n (out ++ inner)) at ∙ drop-append_seam out inner in
     let front_is : take start all ≡ out = ap (take start) is ∙ ap (λ n. take n (out ++ inner)) at ∙ take-append_seam out inner in
     let P : List (List ℕ) → Type 0 = λ ws. IsPut ws rest stack' (take start all) out' in
     let Q : List (List ℕ) → Type 0 = λ ws. IsPut inner rest stack' ws out' in
-    words_go F left left' stack rest stack' word inner out out' args popped one (subst Q front_is (subst P following_is put)) (text, m, splits) goes
+    words_go F left left' stack rest stack' word inner out out' args popped one (subst Q front_is (subst P following_is put))
+    (text, m, splits) goes

@@ -1,18 +1,20 @@
-use Rattle.drv_args.specs.Fronts.{Alone, Bad, Fits, Offends, Reads, Start, Wants, alone, and_items, at_last, at_word, bad_jobs, front, item, items_of, lacks_argument, later, no_front, start_of, with_next}
+use Rattle.drv_args.specs.Fronts.{Alone, Bad, Fits, Offends, Reads, Start, Wants, alone, and_items, at_last, at_word, bad_jobs, front, item}
+use Rattle.drv_args.specs.Fronts.{items_of, lacks_argument, later, no_front, start_of, with_next}
 use Rattle.drv_args.specs.declared.fault.ArgsFault.TheVariants.{BadJobs}
 use Rattle.drv_args.specs.declared.fault.ArgsFault.{ArgsFault}
 use Rattle.drv_args.specs.declared.items.Item.{Item}
 use Rattle.drv_args.specs.declared.option_table.Effect.{Effect}
 use Rattle.std.proofs.Common.{◌≡◌, ◌↔◌, Err, List, [], ◌∷◌, ◌++◌, Ok, Result, refl, subst, ap, ◌∙◌, ℕ}
 
--- Items are those of fronts.
+-- For items_are_fronts: the items of words are those of their fronts.
 
--- what a list of words comes to, by the relations
+-- the result for a list of words, by the relations
 abbrev Comes : List (List ℕ) → Result (List Item) ArgsFault → Type 0
 Comes words (Ok items) = Reads words items
 Comes words (Err fault) = Offends words fault
 
-with_front : (words rest : List (List ℕ)) (i : Item) → Fits words i → (result : Result (List Item) ArgsFault) → Comes rest result → Comes (words ++ rest) (and_items i result)
+with_front : (words rest : List (List ℕ)) (i : Item) → Fits words i → (result : Result (List Item) ArgsFault) → Comes rest result
+    → Comes (words ++ rest) (and_items i result)
 with_front words rest i fits (Ok items) reads = front fits reads
 with_front words rest i fits (Err fault) offends = later fits offends
 
@@ -30,23 +32,27 @@ comes (word ∷ next ∷ words) = by (start_of word) refl (comes (next ∷ words
         → Comes (word ∷ next ∷ words) (at_word s word next (items_of (next ∷ words)) (items_of words))
     by (Alone i) e others following = with_front (word ∷ []) (next ∷ words) i (alone e) (items_of (next ∷ words)) others
     by Bad e others following = bad_jobs e
-    by (Wants effect option) e others following = with_front (word ∷ next ∷ []) words (item effect option next) (with_next e) (items_of words) following
+    by (Wants effect option) e others following = with_front (word ∷ next ∷ []) words (item effect option next) (with_next e)
+        (items_of words) following
 
--- a word that is a front by itself, and what is after it
-pub alone_first : (word : List ℕ) (i : Item) (words : List (List ℕ)) → start_of word ≡ Alone i → items_of (word ∷ words) ≡ and_items i (items_of words)
+-- a word that is a front, and the words after it
+pub alone_first : (word : List ℕ) (i : Item) (words : List (List ℕ)) → start_of word ≡ Alone i
+    → items_of (word ∷ words) ≡ and_items i (items_of words)
 alone_first word i [] e = ap (λ s. at_last s word) e
 alone_first word i (next ∷ words) e = ap (λ s. at_word s word next (items_of (next ∷ words)) (items_of words)) e
 
--- a word that wants the next one, and what is after the two
-pub with_next_first : (word next option : List ℕ) (effect : Effect) (words : List (List ℕ)) → start_of word ≡ Wants effect option → items_of (word ∷ next ∷ words) ≡ and_items (item effect option next) (items_of words)
+-- a word that needs the next one, and the words after both
+pub with_next_first : (word next option : List ℕ) (effect : Effect) (words : List (List ℕ)) → start_of word ≡ Wants effect option
+    → items_of (word ∷ next ∷ words) ≡ and_items (item effect option next) (items_of words)
 with_next_first word next option effect words e = ap (λ s. at_word s word next (items_of (next ∷ words)) (items_of words)) e
 
--- a word that is refused
+-- a refused word
 pub bad_first : (word : List ℕ) (words : List (List ℕ)) → start_of word ≡ Bad → items_of (word ∷ words) ≡ Err (BadJobs word)
 bad_first word [] e = ap (λ s. at_last s word) e
 bad_first word (next ∷ words) e = ap (λ s. at_word s word next (items_of (next ∷ words)) (items_of words)) e
 
-fits_items : {words : List (List ℕ)} {i : Item} → Fits words i → (rest : List (List ℕ)) → items_of (words ++ rest) ≡ and_items i (items_of rest)
+fits_items : {words : List (List ℕ)} {i : Item} → Fits words i → (rest : List (List ℕ))
+    → items_of (words ++ rest) ≡ and_items i (items_of rest)
 fits_items (alone {word} {i} e) rest = alone_first word i rest e
 fits_items (with_next {word} {argument} {option} {effect} e) rest = with_next_first word argument option effect rest e
 

@@ -10,12 +10,13 @@ use Rattle.drv_args.specs.declared.option_table.Effect.TheVariants as effect
 use Rattle.drv_args.specs.declared.option_table.Effect.{Effect}
 use Rattle.drv_words.specs.Bytes.{equals}
 use Rattle.drv_words.specs.Gives.{Gives}
-use Rattle.std.proofs.Common.{◌≡◌, ◌≤◌, ◌==◌, ◌&&◌, Bool, List, [], ◌∷◌, Err, None, Ok, Option, Result, Some, arith, false, length, refl, subst, true, ℕ}
+use Rattle.std.proofs.Common.{◌≡◌, ◌≤◌, ◌==◌, ◌&&◌, Bool, List, [], ◌∷◌, Err, None, Ok, Option, Result, Some, arith, false, length, refl}
+use Rattle.std.proofs.Common.{subst, true, ℕ}
 use Rattle.std.proofs.lemmas.Bool.{leb-true}
 use Rattle.std.specs.Option.{unwrap_or}
 use Rattle.std.specs.Prelude.{IfOk, IfSome, if◌then◌else◌, nat_le, nat_lt}
 
--- A line that was read has a number of jobs from 1 to 64.
+-- For `read` and `line_of`: the number of jobs is from 1 to 64.
 
 abbrev Few : ℕ → Type 0
 Few n = (1 ≤ n) × (n ≤ 64)
@@ -63,18 +64,21 @@ last_few : (jobs : ℕ) (items : List Item) → Few jobs → Few (last_jobs jobs
 last_few jobs [] few = few
 last_few jobs (i ∷ items) few = last_few (jobs_after i.effect i.argument jobs) items (after_few i.effect i.argument jobs few)
 
-judged_few : (whole line : Line) (found : Option ArgsFault) → Few whole.settings.jobs → judged whole found ≡ Ok line → Few line.settings.jobs
+judged_few : (whole line : Line) (found : Option ArgsFault) → Few whole.settings.jobs → judged whole found ≡ Ok line
+    → Few line.settings.jobs
 judged_few whole line (Some fault) few is = absurd cc
 judged_few whole line None few is = let same : whole ≡ line = cc in subst (λ (l : Line). Few l.settings.jobs) same few
 
-pub judged_jobs_are_few : (from_file : Bool) (items : List Item) (result : Result Line ArgsFault) → Gives Memory (λ line. line) result (line_judged from_file items)
+pub judged_jobs_are_few : (from_file : Bool) (items : List Item) (result : Result Line ArgsFault)
+    → Gives Memory (λ line. line) result (line_judged from_file items)
     → IfOk result (λ line. (1 ≤ line.settings.jobs) × (line.settings.jobs ≤ 64))
 judged_jobs_are_few from_file items (Ok line) is =
     let some : 1 ≤ 1 = omega arith in let most : 1 ≤ 64 = omega arith in
     judged_few (line_of from_file items) line (line_fault (line_of from_file items)) (last_few 1 items (some, most)) is
 judged_jobs_are_few from_file items (Err fault) is = tt
 
-items_few : (from_file : Bool) (items : Result (List Item) ArgsFault) (line : Line) → judged_line (line_of_items from_file items) ≡ Ok line → Few line.settings.jobs
+items_few : (from_file : Bool) (items : Result (List Item) ArgsFault) (line : Line) → judged_line (line_of_items from_file items) ≡ Ok line
+    → Few line.settings.jobs
 items_few from_file (Err fault) line is = absurd cc
 items_few from_file (Ok items) line is =
     let some : 1 ≤ 1 = omega arith in let most : 1 ≤ 64 = omega arith in
@@ -83,7 +87,8 @@ items_few from_file (Ok items) line is =
 line_few : (expanded : Expanded) (line : Line) → line_read expanded ≡ Ok line → Few line.settings.jobs
 line_few expanded line reads = by (nat_lt 65536 (length expanded.words)) reads
   where
-    by : (many : Bool) → (if many then Err TooManyArguments else judged_line (line_of_items expanded.from_file (items_of expanded.words))) ≡ Ok line → Few line.settings.jobs
+    by : (many : Bool) → (if many then Err TooManyArguments else judged_line (line_of_items expanded.from_file (items_of expanded.words)))
+        ≡ Ok line → Few line.settings.jobs
     by true is = absurd cc
     by false is = items_few expanded.from_file (items_of expanded.words) line is
 

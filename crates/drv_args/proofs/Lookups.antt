@@ -4,38 +4,43 @@ use Rattle.drv_args.specs.Options.{OptionRow, first_row, form_fits, option_table
 use Rattle.drv_args.specs.declared.option_table.Form.TheVariants.{Either, Exact, Joined, Separate}
 use Rattle.drv_args.specs.declared.option_table.Form.{Form}
 use Rattle.drv_words.specs.Bytes.{hyphen}
-use Rattle.std.proofs.Common.{◌≡◌, ◌==◌, ◌&&◌, ◌||◌, ◌≤◌, Bool, List, [], ◌∷◌, Option, ap, arith, cond, false, find, get_or, length, refl, subst, sym, take, true, ◌∙◌, ℕ}
+use Rattle.std.proofs.Common.{◌≡◌, ◌==◌, ◌&&◌, ◌||◌, ◌≤◌, Bool, List, [], ◌∷◌, Option, ap, arith, cond, false, find, get_or, length, refl}
+use Rattle.std.proofs.Common.{subst, sym, take, true, ◌∙◌, ℕ}
 use Rattle.std.proofs.lemmas.Bool.{ne_eqb}
 use Rattle.std.specs.Cmp.Lexicographic.{pointwise}
 use Rattle.std.specs.List.{filter, list_any}
 use Rattle.std.specs.Prelude.{nat_eq}
 
--- The first row of the table that fits a word is among those that may fit its second byte.
+-- For the look-up of options: the first row that fits a word is among the rows for its second byte.
 
 second_true : (a b c : Bool) → (a && (b && c)) ≡ true → b ≡ true
 second_true true true c e = refl
 second_true true false c e = e
 second_true false b c e = absurd cc
 
--- an option that fits a word begins as it does
+-- an option that fits a word has the same second byte
 same_begins : (letter : ℕ) (option rest : List ℕ) → pointwise nat_eq option (hyphen ∷ letter ∷ rest) ≡ true → may_begin letter option ≡ true
 same_begins letter [] rest e = refl
 same_begins letter (a ∷ []) rest e = refl
 same_begins letter (a ∷ b ∷ option) rest e = second_true (a == hyphen) (b == letter) (pointwise nat_eq option rest) e
 
-prefix_begins : (letter : ℕ) (option rest : List ℕ) → pointwise nat_eq option (take (length option) (hyphen ∷ letter ∷ rest)) ≡ true → may_begin letter option ≡ true
+prefix_begins : (letter : ℕ) (option rest : List ℕ) → pointwise nat_eq option (take (length option) (hyphen ∷ letter ∷ rest)) ≡ true
+    → may_begin letter option ≡ true
 prefix_begins letter [] rest e = refl
 prefix_begins letter (a ∷ []) rest e = refl
-prefix_begins letter (a ∷ b ∷ option) rest e = second_true (a == hyphen) (b == letter) (pointwise nat_eq option (take (length option) rest)) e
+prefix_begins letter (a ∷ b ∷ option) rest e = second_true (a == hyphen) (b == letter)
+    (pointwise nat_eq option (take (length option) rest)) e
 
-fits_begins : (form : Form) (letter : ℕ) (option rest : List ℕ) → form_fits form option (hyphen ∷ letter ∷ rest) ≡ true → may_begin letter option ≡ true
+fits_begins : (form : Form) (letter : ℕ) (option rest : List ℕ) → form_fits form option (hyphen ∷ letter ∷ rest) ≡ true
+    → may_begin letter option ≡ true
 fits_begins Exact letter option rest e = same_begins letter option rest e
 fits_begins Separate letter option rest e = same_begins letter option rest e
 fits_begins Joined letter option rest e = prefix_begins letter option rest e
 fits_begins Either letter option rest e = prefix_begins letter option rest e
 
--- what passes one test passes another, so that the first to pass may be looked for among those that pass the other
-find_among : (p q : OptionRow → Bool) → ((r : OptionRow) → p r ≡ true → q r ≡ true) → (rows : List OptionRow) → find p (filter q rows) ≡ find p rows
+-- if one test implies another, the first item that passes it can be found among those that pass the other
+find_among : (p q : OptionRow → Bool) → ((r : OptionRow) → p r ≡ true → q r ≡ true) → (rows : List OptionRow)
+    → find p (filter q rows) ≡ find p rows
 find_among p q passes [] = refl
 find_among p q passes (r ∷ rows) = by (p r) (q r) refl refl (find_among p q passes rows)
   where
@@ -44,15 +49,18 @@ find_among p q passes (r ∷ rows) = by (p r) (q r) refl refl (find_among p q pa
     by true false ep eq ih = absurd (let both : true ≡ false = sym (passes r ep) ∙ eq in cc)
     by false false ep eq ih = rw (eq, ep) ih
 
-first_among : (letter : ℕ) (rest : List ℕ) → find (row_fits (hyphen ∷ letter ∷ rest)) (filter (may_fit letter) option_table) ≡ first_row (hyphen ∷ letter ∷ rest)
-first_among letter rest = find_among (row_fits (hyphen ∷ letter ∷ rest)) (may_fit letter) (λ r. fits_begins r.form letter r.option rest) option_table
+first_among : (letter : ℕ) (rest : List ℕ) → find (row_fits (hyphen ∷ letter ∷ rest)) (filter (may_fit letter) option_table) ≡ first_row
+    (hyphen ∷ letter ∷ rest)
+first_among letter rest = find_among (row_fits (hyphen ∷ letter ∷ rest)) (may_fit letter)
+    (λ r. fits_begins r.form letter r.option rest) option_table
 
 at_dash : (letter : ℕ) (rest : List ℕ) (rows : List OptionRow) (found : Option OptionRow)
-    → rows ≡ filter (may_fit letter) option_table → found ≡ find (row_fits (hyphen ∷ letter ∷ rest)) rows → by_row found (hyphen ∷ letter ∷ rest) ≡ start_of (hyphen ∷ letter ∷ rest)
+    → rows ≡ filter (may_fit letter) option_table → found ≡ find (row_fits (hyphen ∷ letter ∷ rest)) rows
+    → by_row found (hyphen ∷ letter ∷ rest) ≡ start_of (hyphen ∷ letter ∷ rest)
 at_dash letter rest rows found is sought =
     ap (λ f. by_row f (hyphen ∷ letter ∷ rest)) (sought ∙ ap (find (row_fits (hyphen ∷ letter ∷ rest))) is ∙ first_among letter rest)
 
--- how a word begins a front by the row that was found for it
+-- how a word begins a front, by the row that was found for it
 pub looked_up : (word : List ℕ) (rows : List OptionRow) (found : Option OptionRow) → 2 ≤ length word → get_or word 0 0 ≡ hyphen
     → rows ≡ filter (may_fit (get_or word 1 0)) option_table → found ≡ find (row_fits word) rows → by_row found word ≡ start_of word
 looked_up [] rows found long first is sought = absurd (omega arith)
@@ -61,8 +69,9 @@ looked_up (a ∷ b ∷ rest) rows found long first is sought =
     let P : ℕ → Type 0 = λ d. found ≡ find (row_fits (d ∷ b ∷ rest)) rows → by_row found (d ∷ b ∷ rest) ≡ start_of (d ∷ b ∷ rest) in
     subst P (sym first) (at_dash b rest rows found is) sought
 
--- the rows at one letter
-pub rows_at : (at letter : ℕ) (rows : List OptionRow) → letter ≡ at → rows ≡ filter (may_fit at) option_table → rows ≡ filter (may_fit letter) option_table
+-- the rows for one letter
+pub rows_at : (at letter : ℕ) (rows : List OptionRow) → letter ≡ at → rows ≡ filter (may_fit at) option_table
+    → rows ≡ filter (may_fit letter) option_table
 rows_at at letter rows is same = same ∙ ap (λ l. filter (may_fit l) option_table) (sym is)
 
 none_pass : (p : OptionRow → Bool) (rows : List OptionRow) → list_any p rows ≡ false → [] ≡ filter p rows
@@ -76,7 +85,11 @@ none_pass p (r ∷ rows) e = by (p r) refl (none_pass p rows)
 not_at : (at letter : ℕ) → (letter ≡ at → ⊥) → (at == letter) ≡ false
 not_at at letter differs = ne_eqb at letter (λ e. differs (sym e))
 
--- no row is at any other letter
-pub no_rows : (letter : ℕ) → (letter ≡ 35 → ⊥) → (letter ≡ 45 → ⊥) → (letter ≡ 65 → ⊥) → (letter ≡ 66 → ⊥) → (letter ≡ 68 → ⊥) → (letter ≡ 69 → ⊥) → (letter ≡ 73 → ⊥) → (letter ≡ 76 → ⊥) → (letter ≡ 77 → ⊥) → (letter ≡ 83 → ⊥) → (letter ≡ 84 → ⊥) → (letter ≡ 85 → ⊥) → (letter ≡ 87 → ⊥) → (letter ≡ 88 → ⊥) → (letter ≡ 97 → ⊥) → (letter ≡ 99 → ⊥) → (letter ≡ 100 → ⊥) → (letter ≡ 101 → ⊥) → (letter ≡ 105 → ⊥) → (letter ≡ 108 → ⊥) → (letter ≡ 111 → ⊥) → (letter ≡ 112 → ⊥) → (letter ≡ 115 → ⊥) → (letter ≡ 117 → ⊥) → (letter ≡ 118 → ⊥) → (letter ≡ 120 → ⊥) → (letter ≡ 122 → ⊥) → [] ≡ filter (may_fit letter) option_table
+-- other letters have no rows
+pub no_rows : (letter : ℕ) → (letter ≡ 35 → ⊥) → (letter ≡ 45 → ⊥) → (letter ≡ 65 → ⊥) → (letter ≡ 66 → ⊥) → (letter ≡ 68 → ⊥)
+    → (letter ≡ 69 → ⊥) → (letter ≡ 73 → ⊥) → (letter ≡ 76 → ⊥) → (letter ≡ 77 → ⊥) → (letter ≡ 83 → ⊥) → (letter ≡ 84 → ⊥)
+    → (letter ≡ 85 → ⊥) → (letter ≡ 87 → ⊥) → (letter ≡ 88 → ⊥) → (letter ≡ 97 → ⊥) → (letter ≡ 99 → ⊥) → (letter ≡ 100 → ⊥)
+    → (letter ≡ 101 → ⊥) → (letter ≡ 105 → ⊥) → (letter ≡ 108 → ⊥) → (letter ≡ 111 → ⊥) → (letter ≡ 112 → ⊥) → (letter ≡ 115 → ⊥)
+    → (letter ≡ 117 → ⊥) → (letter ≡ 118 → ⊥) → (letter ≡ 120 → ⊥) → (letter ≡ 122 → ⊥) → [] ≡ filter (may_fit letter) option_table
 unfolding option_table
 no_rows letter n35 n45 n65 n66 n68 n69 n73 n76 n77 n83 n84 n85 n87 n88 n97 n99 n100 n101 n105 n108 n111 n112 n115 n117 n118 n120 n122 = none_pass (may_fit letter) option_table (rw (not_at 35 letter n35, not_at 45 letter n45, not_at 65 letter n65, not_at 66 letter n66, not_at 68 letter n68, not_at 69 letter n69, not_at 73 letter n73, not_at 76 letter n76, not_at 77 letter n77, not_at 83 letter n83, not_at 84 letter n84, not_at 85 letter n85, not_at 87 letter n87, not_at 88 letter n88, not_at 97 letter n97, not_at 99 letter n99, not_at 100 letter n100, not_at 101 letter n101, not_at 105 letter n105, not_at 108 letter n108, not_at 111 letter n111, not_at 112 letter n112, not_at 115 letter n115, not_at 117 letter n117, not_at 118 letter n118, not_at 120 letter n120, not_at 122 letter n122) refl)

@@ -1,4 +1,5 @@
-use Rattle.drv_args.specs.Expansion.{Itself, Large, Replacement, Refuses, Responds, Text, following, by_text, inside, itself, later, replacement_of, no_word, too_large, too_many}
+use Rattle.drv_args.specs.Expansion.{Itself, Large, Replacement, Refuses, Responds, Text, following, by_text, inside, itself, later}
+use Rattle.drv_args.specs.Expansion.{replacement_of, no_word, too_large, too_many}
 use Rattle.drv_args.specs.declared.fault.ArgsFault.TheVariants.{ResponseTooLarge}
 use Rattle.drv_args.specs.declared.fault.ArgsFault.{ArgsFault}
 use Rattle.drv_system.specs.Facts.{Facts}
@@ -7,7 +8,7 @@ use Rattle.drv_words.proofs.Splitting.{one_list}
 use Rattle.drv_words.specs.Response.{Splits}
 use Rattle.std.proofs.Common.{◌≡◌, List, ◌∷◌, ◌++◌, refl, sym, subst, ap, ◌∙◌, ℕ}
 
--- Words respond to one list of words, or are refused once.
+-- For one_expansion: the expansion of words is unique, and so is their refusal.
 
 one_replacement : (F : Facts) (word : List ℕ) (a b : Replacement) → replacement_of F word ≡ Is a → replacement_of F word ≡ Is b → a ≡ b
 one_replacement F word a b m m' = let same : Is a ≡ Is b = sym m ∙ m' in cc
@@ -21,9 +22,10 @@ not_large F word path m m' = let same : Large path ≡ Itself = one_replacement 
 not_text : (F : Facts) (word path text : List ℕ) → replacement_of F word ≡ Is (Large path) → replacement_of F word ≡ Is (Text text) → ⊥
 not_text F word path text m m' = let same : Large path ≡ Text text = one_replacement F word (Large path) (Text text) m m' in cc
 
--- the same words stand for a word
+-- a word has one replacement
 same_inner : (F : Facts) (word text text' : List ℕ) (inner inner' : List (List ℕ))
-    → replacement_of F word ≡ Is (Text text) → Splits text inner → replacement_of F word ≡ Is (Text text') → Splits text' inner' → inner' ≡ inner
+    → replacement_of F word ≡ Is (Text text) → Splits text inner → replacement_of F word ≡ Is (Text text') → Splits text' inner'
+    → inner' ≡ inner
 same_inner F word text text' inner inner' m splits m' splits' =
     let same : Text text' ≡ Text text = one_replacement F word (Text text') (Text text) m' m in
     let texts : text' ≡ text = cc in
@@ -33,24 +35,28 @@ record Same (left left' : ℕ) (out out' : List (List ℕ)) : Type 0 where
   lefts : left ≡ left'
   outs : out ≡ out'
 
-same : {F : Facts} {left a b : ℕ} {words out out' : List (List ℕ)} → Responds F left words a out → Responds F left words b out' → Same a b out out'
+same : {F : Facts} {left a b : ℕ} {words out out' : List (List ℕ)} → Responds F left words a out → Responds F left words b out'
+    → Same a b out out'
 same no_word no_word = record { lefts = refl; outs = refl }
 same (itself {word = word} m rest) (itself m' rest') =
     let s = same rest rest' in
     record { lefts = s.lefts; outs = ap (λ o. word ∷ o) s.outs }
 same {F = F} (itself {word = word} m rest) (by_text {text = text} m' splits inner rest') = absurd (not_itself F word text m m')
 same {F = F} (by_text {word = word} {text = text} m splits inner rest) (itself m' rest') = absurd (not_itself F word text m' m)
-same {F = F} (by_text {left = left} {mid = mid} {word = word} {text = text} {inner = inner} {words = words} {out = out} {out' = more} m splits first rest)
+same {F = F} (by_text {left = left} {mid = mid} {word = word} {text = text} {inner = inner} {words = words} {out = out} {out' = more} m
+    splits first rest)
     (by_text {mid = mid'} {left' = final} {text = text'} {inner = inner'} {out = out'} {out' = more'} m' splits' first' rest') =
     let s = same first (subst (λ (ws : List (List ℕ)). Responds F left ws mid' out') (same_inner F word text text' inner inner' m splits m' splits') first') in
     let t = same rest (subst (λ (n : ℕ). Responds F n words final more') (sym s.lefts) rest') in
     record { lefts = t.lefts; outs = ap (λ o. o ++ more) s.outs ∙ ap (λ o. out' ++ o) t.outs }
 
-pub responds_once : (F : Facts) (left a b : ℕ) (words out out' : List (List ℕ)) → Responds F left words a out → Responds F left words b out' → (a ≡ b) × (out ≡ out')
+pub responds_once : (F : Facts) (left a b : ℕ) (words out out' : List (List ℕ)) → Responds F left words a out → Responds F left words b out'
+    → (a ≡ b) × (out ≡ out')
 responds_once F left a b words out out' first second = let s = same first second in (s.lefts, s.outs)
 
--- words that respond aren't refused
-never_both : {F : Facts} {left a : ℕ} {words out : List (List ℕ)} {fault : ArgsFault} → Responds F left words a out → Refuses F left words fault → ⊥
+-- words with an expansion aren't refused
+never_both : {F : Facts} {left a : ℕ} {words out : List (List ℕ)} {fault : ArgsFault} → Responds F left words a out
+    → Refuses F left words fault → ⊥
 never_both no_word refused = elim refused [ ]
 never_both {F = F} (itself {word = word} m rest) (too_large {path = path} m') = not_large F word path m' m
 never_both {F = F} (itself {word = word} m rest) (too_many {text = text} m') = not_itself F word text m m'
@@ -59,14 +65,17 @@ never_both {F = F} (itself {word = word} m rest) (inside {text = text} m' splits
 never_both {F = F} (itself {word = word} m rest) (following {text = text} m' splits first refused) = not_itself F word text m m'
 never_both {F = F} (by_text {word = word} {text = text} m splits first rest) (too_large {path = path} m') = not_text F word path text m' m
 never_both {F = F} (by_text {word = word} {text = text} m splits first rest) (later m' refused) = not_itself F word text m' m
-never_both {F = F} (by_text {left = left} {word = word} {text = text} {inner = inner} m splits first rest) (inside {text = text'} {inner = inner'} {fault = fault} m' splits' refused) =
-    never_both first (subst (λ (ws : List (List ℕ)). Refuses F left ws fault) (same_inner F word text text' inner inner' m splits m' splits') refused)
+never_both {F = F} (by_text {left = left} {word = word} {text = text} {inner = inner} m splits first rest)
+    (inside {text = text'} {inner = inner'} {fault = fault} m' splits' refused) =
+    never_both first (subst (λ (ws : List (List ℕ)). Refuses F left ws fault) (same_inner F word text text' inner inner' m splits m'
+    splits') refused)
 never_both {F = F} (by_text {left = left} {mid = mid} {word = word} {text = text} {inner = inner} {words = words} m splits first rest)
     (following {mid = mid'} {text = text'} {inner = inner'} {out = out'} {fault = fault} m' splits' first' refused) =
     let s = same first (subst (λ (ws : List (List ℕ)). Responds F left ws mid' out') (same_inner F word text text' inner inner' m splits m' splits') first') in
     never_both rest (subst (λ (n : ℕ). Refuses F n words fault) (sym s.lefts) refused)
 
-pub responds_alone : (F : Facts) (left a : ℕ) (words out : List (List ℕ)) (fault : ArgsFault) → Responds F left words a out → Refuses F left words fault → ⊥
+pub responds_alone : (F : Facts) (left a : ℕ) (words out : List (List ℕ)) (fault : ArgsFault) → Responds F left words a out
+    → Refuses F left words fault → ⊥
 responds_alone F left a words out fault responds refused = never_both responds refused
 
 -- words are refused for one reason
@@ -77,8 +86,10 @@ one_refusal {F = F} (too_large {word = word} {path = path} m) (too_large {path =
     ap ResponseTooLarge paths
 one_refusal {F = F} (too_large {word = word} {path = path} m) (too_many {text = text} m') = absurd (not_text F word path text m m')
 one_refusal {F = F} (too_large {word = word} {path = path} m) (later m' refused) = absurd (not_large F word path m m')
-one_refusal {F = F} (too_large {word = word} {path = path} m) (inside {text = text} m' splits refused) = absurd (not_text F word path text m m')
-one_refusal {F = F} (too_large {word = word} {path = path} m) (following {text = text} m' splits first refused) = absurd (not_text F word path text m m')
+one_refusal {F = F} (too_large {word = word} {path = path} m) (inside {text = text} m' splits refused) = absurd
+    (not_text F word path text m m')
+one_refusal {F = F} (too_large {word = word} {path = path} m) (following {text = text} m' splits first refused) = absurd
+    (not_text F word path text m m')
 one_refusal {F = F} (too_many {word = word} {text = text} m) (too_large {path = path} m') = absurd (not_text F word path text m' m)
 one_refusal (too_many m) (too_many m') = refl
 one_refusal {F = F} (too_many {word = word} {text = text} m) (later m' refused) = absurd (not_itself F word text m' m)
@@ -86,21 +97,32 @@ one_refusal {F = F} (later {word = word} m refused) (too_large {path = path} m')
 one_refusal {F = F} (later {word = word} m refused) (too_many {text = text} m') = absurd (not_itself F word text m m')
 one_refusal (later m refused) (later m' refused') = one_refusal refused refused'
 one_refusal {F = F} (later {word = word} m refused) (inside {text = text} m' splits refused') = absurd (not_itself F word text m m')
-one_refusal {F = F} (later {word = word} m refused) (following {text = text} m' splits first refused') = absurd (not_itself F word text m m')
-one_refusal {F = F} (inside {word = word} {text = text} m splits refused) (too_large {path = path} m') = absurd (not_text F word path text m' m)
+one_refusal {F = F} (later {word = word} m refused) (following {text = text} m' splits first refused') = absurd
+    (not_itself F word text m m')
+one_refusal {F = F} (inside {word = word} {text = text} m splits refused) (too_large {path = path} m') = absurd
+    (not_text F word path text m' m)
 one_refusal {F = F} (inside {word = word} {text = text} m splits refused) (later m' refused') = absurd (not_itself F word text m' m)
-one_refusal {F = F} (inside {left = left} {word = word} {text = text} {inner = inner} m splits refused) (inside {text = text'} {inner = inner'} {fault = fault} m' splits' refused') =
-    one_refusal refused (subst (λ (ws : List (List ℕ)). Refuses F left ws fault) (same_inner F word text text' inner inner' m splits m' splits') refused')
-one_refusal {F = F} (inside {left = left} {word = word} {text = text} {inner = inner} {fault = fault} m splits refused) (following {mid = mid} {text = text'} {inner = inner'} {out = out} m' splits' first refused') =
-    absurd (never_both (subst (λ (ws : List (List ℕ)). Responds F left ws mid out) (same_inner F word text text' inner inner' m splits m' splits') first) refused)
-one_refusal {F = F} (following {word = word} {text = text} m splits first refused) (too_large {path = path} m') = absurd (not_text F word path text m' m)
-one_refusal {F = F} (following {word = word} {text = text} m splits first refused) (later m' refused') = absurd (not_itself F word text m' m)
-one_refusal {F = F} (following {left = left} {word = word} {text = text} {inner = inner} m splits first refused) (inside {text = text'} {inner = inner'} {fault = fault} m' splits' refused') =
-    absurd (never_both first (subst (λ (ws : List (List ℕ)). Refuses F left ws fault) (same_inner F word text text' inner inner' m splits m' splits') refused'))
+one_refusal {F = F} (inside {left = left} {word = word} {text = text} {inner = inner} m splits refused)
+    (inside {text = text'} {inner = inner'} {fault = fault} m' splits' refused') =
+    one_refusal refused (subst (λ (ws : List (List ℕ)). Refuses F left ws fault) (same_inner F word text text' inner inner' m splits m'
+    splits') refused')
+one_refusal {F = F} (inside {left = left} {word = word} {text = text} {inner = inner} {fault = fault} m splits refused)
+    (following {mid = mid} {text = text'} {inner = inner'} {out = out} m' splits' first refused') =
+    absurd (never_both (subst (λ (ws : List (List ℕ)). Responds F left ws mid out) (same_inner F word text text' inner inner' m splits m'
+    splits') first) refused)
+one_refusal {F = F} (following {word = word} {text = text} m splits first refused) (too_large {path = path} m') = absurd
+    (not_text F word path text m' m)
+one_refusal {F = F} (following {word = word} {text = text} m splits first refused) (later m' refused') = absurd
+    (not_itself F word text m' m)
+one_refusal {F = F} (following {left = left} {word = word} {text = text} {inner = inner} m splits first refused)
+    (inside {text = text'} {inner = inner'} {fault = fault} m' splits' refused') =
+    absurd (never_both first (subst (λ (ws : List (List ℕ)). Refuses F left ws fault) (same_inner F word text text' inner inner' m splits m'
+    splits') refused'))
 one_refusal {F = F} (following {left = left} {mid = mid} {word = word} {text = text} {inner = inner} {words = words} m splits first refused)
     (following {mid = mid'} {text = text'} {inner = inner'} {out = out'} {fault = fault} m' splits' first' refused') =
     let s = same first (subst (λ (ws : List (List ℕ)). Responds F left ws mid' out') (same_inner F word text text' inner inner' m splits m' splits') first') in
     one_refusal refused (subst (λ (n : ℕ). Refuses F n words fault) (sym s.lefts) refused')
 
-pub refused_once : (F : Facts) (left : ℕ) (words : List (List ℕ)) (f g : ArgsFault) → Refuses F left words f → Refuses F left words g → f ≡ g
+pub refused_once : (F : Facts) (left : ℕ) (words : List (List ℕ)) (f g : ArgsFault) → Refuses F left words f
+    → Refuses F left words g → f ≡ g
 refused_once F left words f g first second = one_refusal first second

@@ -5,13 +5,15 @@ use Rattle.drv_args.specs.declared.fault.ArgsFault.{ArgsFault}
 use Rattle.drv_args.specs.declared.line.Expanded.{Expanded}
 use Rattle.drv_args.specs.declared.line.Line.{Line}
 use Rattle.drv_words.specs.Gives.{Gives}
-use Rattle.std.proofs.Common.{◌≡◌, ◌⊎◌, ◌∙◌, ◌≤◌, Err, IsErrAnd, List, None, Ok, Option, Result, Some, ap, arith, false, inl, inr, length, refl, sym, true, ℕ}
+use Rattle.std.proofs.Common.{◌≡◌, ◌⊎◌, ◌∙◌, ◌≤◌, Err, IsErrAnd, List, None, Ok, Option, Result, Some, ap, arith, false, inl, inr, length}
+use Rattle.std.proofs.Common.{refl, sym, true, ℕ}
 use Rattle.std.proofs.lemmas.Bool.Decides.{nat_tests}
 use Rattle.std.specs.Prelude.{nat_lt}
 
--- Refusals of a line.
+-- For the refusals of a line: each follows from what the code tests.
 
-pub input_is_output : (output copy : List ℕ) (line : Line) → has_many line ≡ false → is_input output line ≡ true → copy ≡ output → output_fault (Some output) line ≡ Some (OutputIsInput copy)
+pub input_is_output : (output copy : List ℕ) (line : Line) → has_many line ≡ false → is_input output line ≡ true → copy ≡ output
+    → output_fault (Some output) line ≡ Some (OutputIsInput copy)
 input_is_output output copy line many input same = rw (same, many, input) refl
 
 pub found_is_judged : (line : Line) (found : Option ArgsFault) (fault : ArgsFault) → found ≡ Some fault → judged line found ≡ Err fault
@@ -20,7 +22,7 @@ found_is_judged line found fault e = ap (judged line) e
 pub none_is_judged : (line : Line) (found : Option ArgsFault) → found ≡ None → judged line found ≡ Ok line
 none_is_judged line found e = ap (judged line) e
 
--- The line of words that are not too many.
+-- A line whose words are not too many.
 
 not_many : (words : List (List ℕ)) → length words ≤ 65536 → nat_lt 65536 (length words) ≡ false
 not_many words few = grind (arith, nat_tests)
@@ -28,16 +30,22 @@ not_many words few = grind (arith, nat_tests)
 not_many_of : (e : Expanded) (words : List (List ℕ)) → words ≡ e.words → length words ≤ 65536 → nat_lt 65536 (length e.words) ≡ false
 not_many_of e words same few = ap (λ ws. nat_lt 65536 (length ws)) (sym same) ∙ not_many words few
 
-read_of : (e : Expanded) (words : List (List ℕ)) (read : Result Line ArgsFault) → words ≡ e.words → line_of_items e.from_file (items_of words) ≡ read
+read_of : (e : Expanded) (words : List (List ℕ)) (read : Result Line ArgsFault) → words ≡ e.words
+    → line_of_items e.from_file (items_of words) ≡ read
     → line_of_items e.from_file (items_of e.words) ≡ read
 read_of e words read same is = ap (λ ws. line_of_items e.from_file (items_of ws)) (sym same) ∙ is
 
-pub line_judged : (e : Expanded) (words : List (List ℕ)) (line : Line) (result : Result Line ArgsFault) → words ≡ e.words → length words ≤ 65536
-    → line_of_items e.from_file (items_of words) ≡ Ok line → Gives Memory (λ l. l) result (judged line (line_fault line)) → Gives Memory (λ l. l) result (line_read e)
+pub line_judged : (e : Expanded) (words : List (List ℕ)) (line : Line) (result : Result Line ArgsFault) → words ≡ e.words
+    → length words ≤ 65536
+    → line_of_items e.from_file (items_of words) ≡ Ok line → Gives Memory (λ l. l) result (judged line (line_fault line))
+    → Gives Memory (λ l. l) result (line_read e)
 line_judged e words line result same few is given = rw (not_many_of e words same few, read_of e words (Ok line) same is) given
 
-pub line_refused : (e : Expanded) (words : List (List ℕ)) (fault : ArgsFault) (result : Result Line ArgsFault) → words ≡ e.words → length words ≤ 65536
-    → (fault ≡ Memory) ⊎ (line_of_items e.from_file (items_of words) ≡ Err fault) → IsErrAnd result (λ f. f ≡ fault) → Gives Memory (λ l. l) result (line_read e)
+pub line_refused : (e : Expanded) (words : List (List ℕ)) (fault : ArgsFault) (result : Result Line ArgsFault) → words ≡ e.words
+    → length words ≤ 65536
+    → (fault ≡ Memory) ⊎ (line_of_items e.from_file (items_of words) ≡ Err fault) → IsErrAnd result (λ f. f ≡ fault)
+    → Gives Memory (λ l. l) result (line_read e)
 line_refused e words fault (Ok line) same few refused is = absurd is
 line_refused e words fault (Err f) same few (inl memory) is = inl (is ∙ memory)
-line_refused e words fault (Err f) same few (inr refused) is = inr (rw (not_many_of e words same few, read_of e words (Err fault) same refused) (ap Err (sym is)))
+line_refused e words fault (Err f) same few (inr refused) is = inr
+    (rw (not_many_of e words same few, read_of e words (Err fault) same refused) (ap Err (sym is)))

@@ -1,7 +1,8 @@
 use Rattle.drv_args.specs.Fronts.{item}
 use Rattle.drv_args.specs.Lines.{line_judged, line_read}
 use Rattle.drv_args.specs.Options.{option_table}
-use Rattle.drv_args.specs.declared.fault.ArgsFault.TheVariants.{BadJobs, MissingArgument, NoInputs, OutputIsInput, OutputWithMany, StdinNeedsLanguage}
+use Rattle.drv_args.specs.declared.fault.ArgsFault.TheVariants.{BadJobs, MissingArgument, NoInputs, OutputIsInput, OutputWithMany}
+use Rattle.drv_args.specs.declared.fault.ArgsFault.TheVariants.{StdinNeedsLanguage}
 use Rattle.drv_args.specs.declared.fault.ArgsFault.{ArgsFault}
 use Rattle.drv_args.specs.declared.line.Input.TheVariants.{File, Library, LinkWord}
 use Rattle.drv_args.specs.declared.line.Line.{Line}
@@ -13,24 +14,35 @@ use Rattle.std.proofs.Common.{◌≡◌, ◌==◌, List, [], ◌∷◌, codes, d
 use Rattle.std.specs.List.{slice_split}
 use Rattle.std.specs.Prelude.{Err, None, Ok, Result, Some}
 
--- Worked lines, by computation: each form of each option. The expected lines were worked out by hand from the manual
--- and the profile.
+-- Examples of lines, which the prover computes: each form of each option. The expected lines were derived by hand from the manual and the
+-- profile.
 
--- a switch of its own, and one with an argument
+-- a switch without an argument, and one with an argument
 abbrev alone : List ℕ → Switch
 alone name = record { name = name; arg = None }
 
 abbrev takes : List ℕ → List ℕ → Switch
 takes name arg = record { name = name; arg = Some arg }
 
--- settings that are all off, and a line that says nothing
+-- all settings off, and an empty line
 abbrev off : Settings
-off = record { dry = false; verbose = false; dump = false; pass_codes = false; pipe = false; from_file = false; output = None; specs = []; prefixes = []; jobs = 1 }
+off = record {
+  dry = false;
+  verbose = false;
+  dump = false;
+  pass_codes = false;
+  pipe = false;
+  from_file = false;
+  output = None;
+  specs = [];
+  prefixes = [];
+  jobs = 1;
+}
 
 abbrev empty : Line
 empty = record { switches = []; inputs = []; asm_opts = []; cpp_opts = []; settings = off }
 
--- what words are read as; in a text of words each blank stands between two
+-- the line of a text, whose words are separated by blanks
 abbrev read_words : List (List ℕ) → Result Line ArgsFault
 read_words words = line_read (record { words = words; from_file = false })
 
@@ -272,22 +284,27 @@ line_58 : read (codes "-dumpspecs --jobs=0") ≡ Err (BadJobs (codes "--jobs=0")
 unfolding option_table
 line_58 = refl
 
--- numbers of jobs, and words that are none
-numbers : map (λ word. read_words (word ∷ codes "a.c" ∷ [])) (codes "--jobs=1" ∷ codes "--jobs=8" ∷ codes "--jobs=30" ∷ codes "--jobs=63" ∷ codes "--jobs=64" ∷ [])
+-- numbers of jobs, and words that are not such numbers
+numbers : map (λ word. read_words (word ∷ codes "a.c" ∷ [])) (codes "--jobs=1" ∷ codes "--jobs=8" ∷ codes "--jobs=30" ∷ codes "--jobs=63" ∷
+    codes "--jobs=64" ∷ [])
     ≡ map (λ jobs. Ok (record empty { inputs = File (codes "a.c") None ∷ []; settings = record off { jobs = jobs } })) (1 ∷ 8 ∷ 30 ∷ 63 ∷ 64 ∷ [])
 unfolding option_table
 numbers = refl
 
 abbrev no_numbers : List (List ℕ)
-no_numbers = codes "--jobs" ∷ codes "--jobs=" ∷ codes "--jobs=0" ∷ codes "--jobs=65" ∷ codes "--jobs=99" ∷ codes "--jobs=100" ∷ codes "--jobs=08" ∷ codes "--jobs=00" ∷ codes "--jobs=064" ∷ codes "--jobs=+2" ∷ codes "--jobs=-1" ∷ codes "--jobs=2x" ∷ codes "--jobs=x" ∷ codes "--jobs=:" ∷ codes "--jobs=/" ∷ codes "--jobsx" ∷ codes "--jobs2" ∷ []
+no_numbers = codes "--jobs" ∷ codes "--jobs=" ∷ codes "--jobs=0" ∷ codes "--jobs=65" ∷ codes "--jobs=99" ∷ codes "--jobs=100" ∷ codes
+    "--jobs=08" ∷ codes "--jobs=00" ∷ codes "--jobs=064" ∷ codes "--jobs=+2" ∷ codes "--jobs=-1" ∷ codes "--jobs=2x" ∷ codes "--jobs=x" ∷
+    codes "--jobs=:" ∷ codes "--jobs=/" ∷ codes "--jobsx" ∷ codes "--jobs2" ∷ []
 
 not_numbers : map (λ word. read_words (word ∷ codes "a.c" ∷ [])) no_numbers ≡ map (λ word. Err (BadJobs word)) no_numbers
 unfolding option_table
 not_numbers = refl
 
--- options that take the next word, and no joined one
+-- options that take the next word, but have no joined form
 abbrev separate : List (List ℕ)
-separate = codes "-A" ∷ codes "-e" ∷ codes "-u" ∷ codes "-z" ∷ codes "-T" ∷ codes "-Tbss" ∷ codes "-Tdata" ∷ codes "-Ttext" ∷ codes "-MF" ∷ codes "-MT" ∷ codes "-MQ" ∷ codes "-include" ∷ codes "-imacros" ∷ codes "-idirafter" ∷ codes "-iprefix" ∷ codes "-iquote" ∷ codes "-isysroot" ∷ codes "-isystem" ∷ codes "-iwithprefix" ∷ codes "-iwithprefixbefore" ∷ codes "-aux-info" ∷ codes "--param" ∷ []
+separate = codes "-A" ∷ codes "-e" ∷ codes "-u" ∷ codes "-z" ∷ codes "-T" ∷ codes "-Tbss" ∷ codes "-Tdata" ∷ codes "-Ttext" ∷ codes "-MF" ∷
+    codes "-MT" ∷ codes "-MQ" ∷ codes "-include" ∷ codes "-imacros" ∷ codes "-idirafter" ∷ codes "-iprefix" ∷ codes "-iquote" ∷ codes
+    "-isysroot" ∷ codes "-isystem" ∷ codes "-iwithprefix" ∷ codes "-iwithprefixbefore" ∷ codes "-aux-info" ∷ codes "--param" ∷ []
 
 takes_next : map (λ option. read_words (codes "a.c" ∷ option ∷ codes "-x" ∷ [])) separate
     ≡ map (λ option. Ok (record empty { switches = takes (drop 1 option) (codes "-x") ∷ []; inputs = File (codes "a.c") None ∷ [] })) separate
@@ -298,16 +315,19 @@ lacks_next : map (λ option. read_words (codes "a.c" ∷ option ∷ [])) separat
 unfolding option_table
 lacks_next = refl
 
--- lines of items, which words may not give: an empty argument, and a name that begins as an option does
-given_1 : line_judged false (item effect.File (codes "a.c") [] ∷ item effect.Library (codes "-l") [] ∷ item effect.JoinedSwitch (codes "-L") [] ∷ [])
+-- lines of items that no words can give: an empty argument, and a file that begins like an option
+given_1 : line_judged false (item effect.File (codes "a.c") [] ∷ item effect.Library (codes "-l") [] ∷ item effect.JoinedSwitch
+    (codes "-L") [] ∷ [])
     ≡ Ok (record empty { switches = alone (codes "L") ∷ []; inputs = File (codes "a.c") None ∷ Library (codes "-l") ∷ [] })
 given_1 = refl
 
-given_2 : line_judged true (item effect.Switch (codes "--gdrv-dep=x.d") [] ∷ item effect.Output (codes "-o") (codes "x") ∷ item effect.File (codes "a.o") [] ∷ [])
+given_2 : line_judged true (item effect.Switch (codes "--gdrv-dep=x.d") [] ∷ item effect.Output (codes "-o") (codes "x") ∷ item effect.File
+    (codes "a.o") [] ∷ [])
     ≡ Ok (record empty { switches = alone (codes "-gdrv-dep=x.d") ∷ takes (codes "o") (codes "x") ∷ []; inputs = File (codes "a.o") None ∷ []; settings = record off { from_file = true; output = Some (codes "x") } })
 given_2 = refl
 
-given_3 : line_judged false (item effect.Output (codes "-o") (codes "a.c") ∷ item effect.File (codes "a.c") [] ∷ []) ≡ Err (OutputIsInput (codes "a.c"))
+given_3 : line_judged false (item effect.Output (codes "-o") (codes "a.c") ∷ item effect.File (codes "a.c") [] ∷ [])
+    ≡ Err (OutputIsInput (codes "a.c"))
 given_3 = refl
 
 given_4 : line_judged false [] ≡ Err NoInputs

@@ -1,4 +1,4 @@
--- How the code goes over its input, step by step: what stands between the code and the definitions. No public contract rests on these.
+-- How the code reads its input, step by step. Public contracts don't cite these.
 pub mod Building
 pub mod Judging
 pub mod Lookup

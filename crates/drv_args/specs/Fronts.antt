@@ -8,15 +8,17 @@ use Rattle.drv_args.specs.declared.option_table.Effect.{Effect}
 use Rattle.drv_args.specs.declared.option_table.Form.TheVariants.{Either, Exact, Joined, Separate}
 use Rattle.drv_args.specs.declared.option_table.Form.{Form}
 use Rattle.drv_words.specs.Bytes.{hyphen}
-use Rattle.std.specs.Prelude.{◌≡◌, ◌==◌, Bool, Err, List, [], ◌∷◌, ◌++◌, None, Ok, Option, Result, Some, drop, false, if◌then◌else◌, is_none, length, true, ℕ}
+use Rattle.std.specs.Prelude.{◌≡◌, ◌==◌, Bool, Err, List, [], ◌∷◌, ◌++◌, None, Ok, Option, Result, Some, drop, false, if◌then◌else◌}
+use Rattle.std.specs.Prelude.{is_none, length, true, ℕ}
 
--- A line of words is read front by front (GCC manual, "Overall Options"; this project's profile).
+-- How the words of a line are split into fronts: an option with its argument, or a file (GCC manual, "Overall Options"; this project's
+-- profile).
 
--- what a front gives: what its option does, the option, and its argument
+-- what a front adds to the line: the effect of its option, the option, and its argument
 abbrev pub item : Effect → List ℕ → List ℕ → Item
 item effect option argument = record { effect = effect; option = option; argument = argument }
 
--- how a word begins a front: it is one by itself, it wants the next word as its argument, or it is refused
+-- how a word begins a front: it is a whole front, it needs the next word as its argument, or it is refused
 pub data Start : Type 0 where
   Alone : Item → Start
   Wants : Effect → List ℕ → Start
@@ -32,7 +34,7 @@ by_form Separate effect option word = Wants effect option
 by_form Joined effect option word = Alone (item effect option (drop (length option) word))
 by_form Either effect option word = with_rest (length option == length word) effect option (drop (length option) word)
 
--- what stands after --jobs is a number of jobs, or the word is refused
+-- the word is refused if the text after --jobs is not a number of jobs
 abbrev pub is_bad : Effect → List ℕ → Bool
 is_bad effect.Jobs argument = is_none (jobs_named argument)
 is_bad _ argument = false
@@ -40,12 +42,12 @@ is_bad _ argument = false
 abbrev pub by_effect : Effect → OptionRow → List ℕ → Start
 by_effect effect r word = if is_bad effect (drop (length r.option) word) then Bad else by_form r.form effect r.option word
 
--- a word that fits no row is a switch
+-- a word that no row fits is a switch
 abbrev pub by_row : Option OptionRow → List ℕ → Start
 by_row (Some r) word = by_effect r.effect r word
 by_row None word = Alone (item effect.Switch word [])
 
--- a file: a word that doesn't begin with a hyphen, and the hyphen itself
+-- a file: a word that doesn't begin with a hyphen, or the hyphen itself
 abbrev pub is_file : List ℕ → Bool
 is_file [] = true
 is_file (b ∷ []) = true
@@ -58,15 +60,17 @@ start_of word = if is_file word then Alone (item effect.File word []) else by_ro
 
 pub data Fits : List (List ℕ) → Item → Type 0 where
   alone : {word : List ℕ} {i : Item} → start_of word ≡ Alone i → Fits (word ∷ []) i
-  with_next : {word argument option : List ℕ} {effect : Effect} → start_of word ≡ Wants effect option → Fits (word ∷ argument ∷ []) (item effect option argument)
+  with_next : {word argument option : List ℕ} {effect : Effect} → start_of word ≡ Wants effect option
+      → Fits (word ∷ argument ∷ []) (item effect option argument)
 
 pub data Reads : List (List ℕ) → List Item → Type 0 where
   no_front : Reads [] []
   front : {words rest : List (List ℕ)} {i : Item} {items : List Item} → Fits words i → Reads rest items → Reads (words ++ rest) (i ∷ items)
 
--- The first offending word: the last one where it wants an argument, or a bad number of jobs.
+-- The first offending word: a last word that needs an argument, or a bad number of jobs.
 pub data Offends : List (List ℕ) → ArgsFault → Type 0 where
-  lacks_argument : {word option : List ℕ} {effect : Effect} → start_of word ≡ Wants effect option → Offends (word ∷ []) (MissingArgument word)
+  lacks_argument : {word option : List ℕ} {effect : Effect} → start_of word ≡ Wants effect option
+      → Offends (word ∷ []) (MissingArgument word)
   bad_jobs : {word : List ℕ} {words : List (List ℕ)} → start_of word ≡ Bad → Offends (word ∷ words) (BadJobs word)
   later : {words rest : List (List ℕ)} {i : Item} {fault : ArgsFault} → Fits words i → Offends rest fault → Offends (words ++ rest) fault
 
@@ -82,7 +86,7 @@ at_last (Alone i) word = Ok (i ∷ [])
 at_last (Wants effect option) word = Err (MissingArgument word)
 at_last Bad word = Err (BadJobs word)
 
--- a word with others after it: what those come to, the next one included or not
+-- a word with others after it, by the results of these with the next word and without it
 abbrev pub at_word : Start → List ℕ → List ℕ → Result (List Item) ArgsFault → Result (List Item) ArgsFault → Result (List Item) ArgsFault
 at_word (Alone i) word next from_next after_next = and_items i from_next
 at_word (Wants effect option) word next from_next after_next = and_items (item effect option next) after_next

@@ -1,7 +1,7 @@
 use Rattle.drv_words.specs.Bytes.{equals}
 use Rattle.std.specs.Prelude.{◌+◌, ◌*◌, ◌-◌, ◌&&◌, ◌==◌, Bool, List, [], ◌∷◌, None, Option, Some, if◌then◌else◌, nat_le, ℕ}
 
--- How many sources are worked at once: a number from 1 to 64, in decimal digits without a leading zero (this project's profile).
+-- How many sources may be under way at once: a number from 1 to 64, in decimal digits without a leading zero (this project's profile).
 
 -- the byte 0
 abbrev pub digit_zero : ℕ
@@ -13,7 +13,7 @@ is_within low high n = nat_le low n && nat_le n high
 abbrev pub digit_of : ℕ → Option ℕ
 digit_of b = if is_within digit_zero (digit_zero + 9) b then Some (b - digit_zero) else None
 
--- a digit that a number of two digits begins with
+-- the first digit of a number of two digits
 abbrev pub tens_of : ℕ → Option ℕ
 tens_of b = if is_within (digit_zero + 1) (digit_zero + 9) b then Some (b - digit_zero) else None
 
@@ -22,7 +22,7 @@ joined None low = None
 joined (Some high) None = None
 joined (Some high) (Some low) = Some (high * 10 + low)
 
--- the number of one digit, or of two; no other number is small enough
+-- the number of one or two digits; longer numbers are too great
 abbrev pub number_of : List ℕ → Option ℕ
 number_of (a ∷ []) = digit_of a
 number_of (a ∷ b ∷ []) = joined (tens_of a) (digit_of b)
@@ -35,7 +35,7 @@ abbrev pub in_range : Option ℕ → Option ℕ
 in_range None = None
 in_range (Some n) = if is_within 1 most_jobs n then Some n else None
 
--- the number that stands after --jobs, an equals sign and digits, if one does
+-- the number after --jobs, if an equals sign and digits follow
 abbrev pub jobs_named : List ℕ → Option ℕ
 jobs_named [] = None
 jobs_named (b ∷ digits) = if b == equals then in_range (number_of digits) else None

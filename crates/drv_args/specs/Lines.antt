@@ -1,7 +1,8 @@
 use Rattle.drv_words.specs.Bytes.{comma}
 use Rattle.drv_args.specs.Fronts.{items_of}
 use Rattle.drv_args.specs.Jobs.{jobs_named}
-use Rattle.drv_args.specs.declared.fault.ArgsFault.TheVariants.{NoInputs, OutputIsInput, OutputWithMany, StdinNeedsLanguage, TooManyArguments}
+use Rattle.drv_args.specs.declared.fault.ArgsFault.TheVariants.{NoInputs, OutputIsInput, OutputWithMany, StdinNeedsLanguage}
+use Rattle.drv_args.specs.declared.fault.ArgsFault.TheVariants.{TooManyArguments}
 use Rattle.drv_args.specs.declared.fault.ArgsFault.{ArgsFault}
 use Rattle.drv_args.specs.declared.items.Item.{Item}
 use Rattle.drv_args.specs.declared.line.Expanded.{Expanded}
@@ -18,10 +19,10 @@ use Rattle.drv_words.specs.Bytes.{comma}
 use Rattle.std.specs.Cmp.Lexicographic.{pointwise}
 use Rattle.std.specs.List.{filter_map, flat_map, list_any, slice_split}
 use Rattle.std.specs.Option.{unwrap_or}
-use Rattle.std.specs.Prelude.{◌&&◌, ◌||◌, ◌==◌, Bool, Err, List, [], ◌∷◌, ◌++◌, None, Ok, Option, Result, Some, codes, count_by, drop, false, if◌then◌else◌, length, map, nat_eq, nat_lt, not, true, ℕ}
+use Rattle.std.specs.Prelude.{◌&&◌, ◌||◌, ◌==◌, Bool, Err, List, [], ◌∷◌, ◌++◌, None, Ok, Option, Result, Some, codes, count_by, drop}
+use Rattle.std.specs.Prelude.{false, if◌then◌else◌, length, map, nat_eq, nat_lt, not, true, ℕ}
 
--- The line that items make: each part is a filter of the one list (GCC manual, "Overall Options"; this project's
--- profile).
+-- The line that items give. Each part of it filters the one list of items (GCC manual, "Overall Options"; this project's profile).
 
 abbrev pub same : List ℕ → List ℕ → Bool
 same = pointwise nat_eq
@@ -30,7 +31,7 @@ same = pointwise nat_eq
 abbrev pub named : List ℕ → Option (List ℕ) → Option Switch
 named option argument = Some (record { name = drop 1 option; arg = argument })
 
--- an option that turns a setting on, and is a switch too
+-- a setting whose option is also a switch
 abbrev pub is_switch_too : Setting → Bool
 is_switch_too setting.Pipe = true
 is_switch_too setting.Verbose = true
@@ -49,7 +50,7 @@ switch_of _ option argument = None
 abbrev pub switches_of : List Item → List Switch
 switches_of = filter_map (λ i. switch_of i.effect i.option i.argument)
 
--- the pieces of a text, cut at each comma, empty pieces too
+-- the pieces of a text between its commas, including empty ones
 abbrev pub pieces_of : List ℕ → List (List ℕ)
 pieces_of = slice_split (λ b. b == comma)
 
@@ -63,7 +64,7 @@ preprocessor_pieces (effect.Pieces tool.Preprocessor) argument = pieces_of argum
 preprocessor_pieces (effect.Piece tool.Preprocessor) argument = argument ∷ []
 preprocessor_pieces _ argument = []
 
--- the language in force after -x: `none` turns it off
+-- the language after -x: `none` ends it
 abbrev pub language_of : List ℕ → Option (List ℕ)
 language_of word = if same word (codes "none") then None else Some word
 
@@ -78,10 +79,11 @@ inputs_at (effect.Pieces tool.Linker) option argument language = map input.LinkW
 inputs_at (effect.Piece tool.Linker) option argument language = input.LinkWord argument ∷ []
 inputs_at _ option argument language = []
 
--- the inputs, with the language that is in force before them
+-- the inputs, each with the language of the last -x before it
 abbrev pub inputs_of : Option (List ℕ) → List Item → List Input
 inputs_of language [] = []
-inputs_of language (i ∷ items) = inputs_at i.effect i.option i.argument language ++ inputs_of (language_after i.effect i.argument language) items
+inputs_of language (i ∷ items) =
+    inputs_at i.effect i.option i.argument language ++ inputs_of (language_after i.effect i.argument language) items
 
 abbrev pub turns_on : Setting → Effect → Bool
 turns_on setting.Dry (effect.TurnsOn setting.Dry) = true
@@ -94,7 +96,7 @@ turns_on _ _ = false
 abbrev pub is_on : Setting → List Item → Bool
 is_on setting = list_any (λ i. turns_on setting i.effect)
 
--- the last of what is there
+-- the output: the last -o counts
 abbrev pub output_following : Effect → List ℕ → Option (List ℕ) → Option (List ℕ)
 output_following effect.Output argument output = Some argument
 output_following _ argument output = output
@@ -111,7 +113,7 @@ abbrev pub prefix_of : Effect → List ℕ → Option (List ℕ)
 prefix_of effect.Prefix argument = Some argument
 prefix_of _ argument = None
 
--- how many sources are worked at once: the last number counts
+-- how many sources may be under way at once: the last number counts
 abbrev pub jobs_after : Effect → List ℕ → ℕ → ℕ
 jobs_after effect.Jobs argument jobs = unwrap_or (jobs_named argument) jobs
 jobs_after _ argument jobs = jobs
@@ -140,7 +142,7 @@ line_of from_file items = record {
   };
 }
 
--- The refusals of a whole line, in their order; none where the specs are dumped.
+-- The refusals of a whole line, in order. There are none if the specs are dumped.
 
 abbrev pub has_switch : List ℕ → Line → Bool
 has_switch name line = list_any (λ s. same s.name name) line.switches
@@ -158,7 +160,7 @@ abbrev pub is_file_named : List ℕ → Input → Bool
 is_file_named output (input.File name language) = same name output
 is_file_named output _ = false
 
--- standard input is an input, and neither a language nor -E says how it is worked
+-- standard input is an input, and neither a language nor -E says how to read it
 abbrev pub needs_language : Line → Bool
 needs_language line = list_any is_bare_stdin line.inputs && not (has_switch (codes "E") line)
 
@@ -166,11 +168,11 @@ needs_language line = list_any is_bare_stdin line.inputs && not (has_switch (cod
 abbrev pub stops : Line → Bool
 stops line = has_switch (codes "c") line || has_switch (codes "S") line || has_switch (codes "E") line
 
--- there is one output, and more than one file has one
+-- one output is named for several files
 abbrev pub has_many : Line → Bool
 has_many line = stops line && nat_lt 1 (count_by is_file_input line.inputs)
 
--- an output that is no file of its own
+-- an output that is no regular file of its own
 abbrev pub is_sink : List ℕ → Bool
 is_sink output = same output (codes "-") || same output (codes "/dev/null")
 
@@ -179,7 +181,8 @@ is_input output line = not (is_sink output) && list_any (is_file_named output) l
 
 abbrev pub output_fault : Option (List ℕ) → Line → Option ArgsFault
 output_fault None line = None
-output_fault (Some output) line = if has_many line then Some OutputWithMany else if is_input output line then Some (OutputIsInput output) else None
+output_fault (Some output) line =
+    if has_many line then Some OutputWithMany else if is_input output line then Some (OutputIsInput output) else None
 
 abbrev pub inputs_fault : Line → Option ArgsFault
 inputs_fault line =
@@ -194,7 +197,7 @@ abbrev pub judged : Line → Option ArgsFault → Result Line ArgsFault
 judged line None = Ok line
 judged line (Some fault) = Err fault
 
--- what items come to
+-- the result of items
 abbrev pub line_judged : Bool → List Item → Result Line ArgsFault
 line_judged from_file items = judged (line_of from_file items) (line_fault (line_of from_file items))
 
@@ -206,7 +209,7 @@ abbrev pub line_of_items : Bool → Result (List Item) ArgsFault → Result Line
 line_of_items from_file (Ok items) = Ok (line_of from_file items)
 line_of_items from_file (Err fault) = Err fault
 
--- what arguments are read as
+-- the result of arguments
 abbrev pub line_read : Expanded → Result Line ArgsFault
 line_read expanded =
     if nat_lt 65536 (length expanded.words) then Err TooManyArguments

@@ -8,8 +8,8 @@ use Rattle.std.specs.Cmp.Lexicographic.{pointwise}
 use Rattle.std.specs.List.{starts_with}
 use Rattle.std.specs.Prelude.{Bool, List, [], ◌∷◌, Option, codes, find, nat_eq, ℕ}
 
--- The option table (GCC manual, "Overall Options", "Directory Options", "Preprocessor Options", "Link Options";
--- which forms an option has is this project's profile). The first row that fits a word decides.
+-- The option table (GCC manual, "Overall Options", "Directory Options", "Preprocessor Options", "Link Options"; the forms of an option are
+-- this project's profile). The first row that fits a word decides.
 
 pub record OptionRow : Type 0 where
   pub option : List ℕ

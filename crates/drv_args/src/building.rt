@@ -14,7 +14,7 @@ use crate::{Input, Line, Settings, Switch};
 use drv_words::{Listing, Word};
 use std::alloc::{AllocError, Global};
 
-/// A line as far as it is built, and the language in force.
+/// A line so far, and the language of the last `-x`.
 #[derive(Drop)]
 pub(crate) struct LineBuilder {
     pub(crate) line: Line,
@@ -22,7 +22,7 @@ pub(crate) struct LineBuilder {
 }
 
 /// A word of two parts.
-fn joined(alloc: Global, front: &[u8], back: &[u8]) -> Result<Word, AllocError>
+fn join(alloc: Global, front: &[u8], back: &[u8]) -> Result<Word, AllocError>
     ensures { IfOk result (λ word. word ≡ front.now ++ back.now) }
 {
     let mut word = Word::from_bytes(alloc, front)?;
@@ -46,11 +46,11 @@ fn joined_name(alloc: Global, option: &[u8], argument: &[u8]) -> Result<Word, Al
 {
     match option {
         [] => Word::from_bytes(alloc, name_of(argument)),
-        [_, name @ ..] => joined(alloc, name, argument),
+        [_, name @ ..] => join(alloc, name, argument),
     }
 }
 
-/// The language that the argument of `-x` puts in force: `none` turns it off.
+/// The language that the argument of `-x` names: `none` ends it.
 fn language_for(alloc: Global, argument: &[u8]) -> Result<Option<Word>, AllocError>
     ensures { IfOk result (λ language. language ≡ language_of argument.now) }
 {
@@ -60,7 +60,7 @@ fn language_for(alloc: Global, argument: &[u8]) -> Result<Option<Word>, AllocErr
     Ok(Some(Word::from_bytes(alloc, argument)?))
 }
 
-/// A copy of the language in force.
+/// A copy of the language of the last `-x`.
 fn language_copy(language: &Option<Word>) -> Result<Option<Word>, AllocError>
     ensures { IfOk result (λ copy. copy ≡ language.now) }
 {
@@ -71,9 +71,8 @@ fn language_copy(language: &Option<Word>) -> Result<Option<Word>, AllocError>
 }
 
 impl LineBuilder {
-    /// A line without items, and whether a word of it was replaced by those of a response file. It
-    /// has room for so many switches and inputs, and up to there grows no list of them, which would
-    /// copy each item that is in it.
+    /// A line without items; `from_file` says whether words of a response file are in it. It has
+    /// room for a number of switches and inputs, so that short lists are never copied to grow.
     pub(crate) fn new(
         alloc: Global,
         room: usize,
@@ -113,14 +112,14 @@ impl LineBuilder {
         Ok(())
     }
 
-    /// Adds a switch of an option's name.
+    /// Adds a switch with an option's name.
     fn add_name(&mut self, alloc: Global, option: &[u8]) -> Result<(), AllocError>
         ensures { OnOk result (self.new ≡ with_switch self.old (drop 1 option.now) None) }
     {
         self.add_switch(Word::from_bytes(alloc, name_of(option))?, None)
     }
 
-    /// Adds a switch of an option's name and an argument.
+    /// Adds a switch with an option's name and an argument in one word.
     fn add_joined_name(
         &mut self,
         alloc: Global,
@@ -153,7 +152,7 @@ impl LineBuilder {
         Ok(())
     }
 
-    /// Adds a file with the language in force.
+    /// Adds a file with the language of the last `-x`.
     fn add_file(&mut self, alloc: Global, name: &[u8]) -> Result<(), AllocError>
         ensures { OnOk result
             (self.new ≡ with_inputs self.old (input.File name.now self.old.language ∷ [])) }
@@ -176,7 +175,7 @@ impl LineBuilder {
         }
     }
 
-    /// Takes the number of jobs that an argument names.
+    /// Sets the number of jobs that an argument names.
     fn set_jobs(&mut self, argument: &[u8])
         ensures { self.new ≡ with_jobs self.old argument.now }
     {
@@ -197,7 +196,7 @@ impl LineBuilder {
         Ok(())
     }
 
-    /// Adds the pieces of a text between commas, empty ones too, for a tool.
+    /// Adds the pieces of a text between its commas for a tool, including empty ones.
     fn add_pieces(&mut self, alloc: Global, tool: Tool, text: &[u8]) -> Result<(), AllocError>
         ensures { OnOk result (self.new ≡ with_pieces self.old tool (pieces_of text.now)) }
     {
@@ -207,7 +206,7 @@ impl LineBuilder {
         Ok(())
     }
 
-    /// Turns a setting on, and adds the switch that its option may be too.
+    /// Turns a setting on, and adds its switch if its option is also a switch.
     fn add_setting(
         &mut self,
         alloc: Global,
@@ -230,7 +229,7 @@ impl LineBuilder {
     {
         let specs = Word::from_bytes(alloc, argument)?;
         self.line.settings.specs.push(specs)?;
-        self.add_switch(joined(alloc, b"specs=", argument)?, None)
+        self.add_switch(join(alloc, b"specs=", argument)?, None)
     }
 
     /// Adds a prefix, and its switch.
@@ -248,7 +247,7 @@ impl LineBuilder {
         self.add_joined_name(alloc, option, argument)
     }
 
-    /// Takes the output, and adds its switch.
+    /// Sets the output, and adds its switch.
     fn set_output(
         &mut self,
         alloc: Global,
@@ -262,7 +261,7 @@ impl LineBuilder {
         self.add_switch_with(alloc, option, argument)
     }
 
-    /// Takes the language that is in force from here on.
+    /// Sets the language of the files after it.
     fn set_language(&mut self, alloc: Global, argument: &[u8]) -> Result<(), AllocError>
         ensures { OnOk result (self.new ≡ noted self.old (item given.Language [] argument.now)) }
     {
@@ -280,11 +279,10 @@ impl LineBuilder {
         ensures { OnOk result
             (self.new ≡ noted self.old (item given.Library option.now argument.now)) }
     {
-        self.add_input(Input::Library(joined(alloc, option, argument)?))
+        self.add_input(Input::Library(join(alloc, option, argument)?))
     }
 
-    /// Adds all that an item gives whose option and argument are one word. A library's word is
-    /// copied whole.
+    /// Adds an item whose option and argument are one word. The word of a library is copied whole.
     pub(crate) fn note_whole(
         &mut self,
         alloc: Global,
@@ -302,7 +300,7 @@ impl LineBuilder {
         }
     }
 
-    /// Adds all that an item gives.
+    /// Adds an item.
     pub(crate) fn note(
         &mut self,
         alloc: Global,

@@ -1,4 +1,4 @@
-//! Response files expanded.
+//! Expands response files.
 
 ghost use Rattle.drv_args.specs.Expansion.{Expands, file_named};
 ghost use Rattle.drv_args.specs.Code.Replacing.{IsPut, IsReplaced};
@@ -13,11 +13,11 @@ use drv_system::{FactTable, Outside, ReadAnswer, System};
 use drv_words::{Listing, Word, split_onto};
 use std::alloc::{AllocError, Global};
 
-/// How many words may be replaced.
+/// The most replacements.
 const MOST_FILES: u32 = 2000;
 
 /// The file that a word `@PATH` names.
-fn named_file(alloc: Global, word: &Word) -> Result<Option<Word>, AllocError>
+fn referenced_path(alloc: Global, word: &Word) -> Result<Option<Word>, AllocError>
     ensures { IfOk result (λ path. path ≡ file_named word.now) }
 {
     match word.as_bytes() {
@@ -26,8 +26,8 @@ fn named_file(alloc: Global, word: &Word) -> Result<Option<Word>, AllocError>
     }
 }
 
-/// Replaces a word by those of the response file that it names, if that can be read: they are put
-/// after the words that stay. Where the first of them stands there.
+/// If a word names a response file that can be read, adds the words of that file to `words`.
+/// Returns the index of the first of them.
 #[tactic(auto, using(drv_system::proofs::AskedCalls::asked_further))]
 fn replace_word<S: System>(
     alloc: Global,
@@ -39,7 +39,7 @@ fn replace_word<S: System>(
     ensures replaces { (F : Facts) → Extends outside.new.facts.now F
         → IsReplaced F word.now words.old words.new result }
 {
-    let Some(path) = named_file(alloc, word)? else {
+    let Some(path) = referenced_path(alloc, word)? else {
         return Ok(None);
     };
     outside.facts.read(outside.sys, &path)?;
@@ -54,7 +54,7 @@ fn replace_word<S: System>(
     }
 }
 
-/// Takes the words from a place on off the list, and puts them on the stack, the first on top.
+/// Moves the words from an index on to the stack, with the first on top.
 fn push_reversed(
     stack: &mut Vec<Word>,
     words: &mut Listing<Word>,
@@ -73,22 +73,22 @@ fn push_reversed(
     Ok(())
 }
 
-/// Whether a word names a file. It takes no memory.
-fn names_file(word: &Word) -> bool
+/// Whether a word names a file.
+fn is_reference(word: &Word) -> bool
     ensures { result ≡ is_some (file_named word.now) }
 {
     matches!(word.as_bytes(), [b'@', _, ..])
 }
 
-/// Whether a word among these names a file. It takes no memory.
-fn name_files(words: &[Word]) -> bool
+/// Whether one of these words names a file.
+fn have_references(words: &[Word]) -> bool
     ensures { result ≡ list_any (λ word. is_some (file_named word)) words.now }
 {
-    words.iter().any(names_file)
+    words.iter().any(is_reference)
 }
 
-/// The words of a file, which are those from a place on, stay after the others where none of them
-/// names a file, and are otherwise put on the stack, the first on top.
+/// Keeps the words of a file, which are those from an index on, if none of them names a file.
+/// Otherwise moves them to the stack, with the first on top.
 fn put_words(
     stack: &mut Vec<Word>,
     words: &mut Listing<Word>,
@@ -98,7 +98,7 @@ fn put_words(
         (take start words.old) words.new) }
 {
     let inner = words.as_slice().get(start..).unwrap_or(&[]);
-    if name_files(inner) {
+    if have_references(inner) {
         return push_reversed(stack, words, start);
     }
     Ok(())
@@ -135,11 +135,11 @@ fn expand_all<S: System>(
 }
 
 /// Replaces each argument `@PATH` by the words of that response file, expanded in turn (GCC manual,
-/// "Overall Options"). A file that is missing or can't be read leaves its argument as it is.
+/// "Overall Options"). If the file is missing or can't be read, the argument stays.
 ///
 /// # Errors
-/// `ResponseTooLarge` for a file of more than 16,777,216 bytes, and `TooManyFiles` where more than
-/// 2,000 words would be replaced; the first of them in the order of the words counts.
+/// The first of these in the order of the words: `ResponseTooLarge` for a file of more than
+/// 16,777,216 bytes, and `TooManyFiles` if more than 2,000 words would be replaced.
 pub fn expand<S: System>(
     alloc: Global,
     args: Listing<Word>,
@@ -149,7 +149,7 @@ pub fn expand<S: System>(
     ensures asks { Asks (S.events sys.old) (S.events sys.new) facts.old facts.new }
     ensures expands { (F : Facts) → Extends facts.new F → Expands F 2000 args result }
 {
-    if name_files(args.as_slice()) {
+    if have_references(args.as_slice()) {
         return expand_all(alloc, args, &mut Outside { sys, facts });
     }
     Ok(Expanded {

@@ -19,22 +19,22 @@ pub enum ArgsFault {
     /// There are more than 65,536 words.
     #[error("more than 65536 arguments")]
     TooManyArguments,
-    /// This option takes the next word, and is the last.
+    /// This option takes the next word, but is the last word.
     #[error("option without its argument")]
     MissingArgument(Word),
-    /// This word names no number of jobs from 1 to 64.
+    /// This word doesn't name a number of jobs from 1 to 64.
     #[error("no number of jobs from 1 to 64")]
     BadJobs(Word),
-    /// Nothing is to be worked or linked.
+    /// There is no input.
     #[error("no input files")]
     NoInputs,
-    /// Standard input is an input, and neither `-x` nor `-E` says how it is worked.
+    /// Standard input is an input, and neither `-x` nor `-E` says how to read it.
     #[error("-E or -x required when input is from standard input")]
     StdinNeedsLanguage,
-    /// `-o` stands with `-c`, `-S` or `-E` and more than one file.
+    /// `-o` is given with `-c`, `-S` or `-E` and more than one file.
     #[error("cannot specify -o with -c, -S or -E with multiple files")]
     OutputWithMany,
-    /// This input is the output too.
+    /// This input is also the output.
     #[error("an input is the output too")]
     OutputIsInput(Word),
 }

@@ -1,4 +1,4 @@
-//! A line that is made of items.
+//! Lines that are made from items.
 
 ghost use Rattle.drv_args.specs.Code.Building.{with_items};
 ghost use Rattle.drv_args.specs.Lines.{line_judged, line_of};
@@ -12,18 +12,18 @@ use crate::{ArgsFault, Effect, Line};
 use drv_words::Word;
 use std::alloc::{AllocError, Global};
 
-/// What an option or a file of a line gives.
+/// An option with its argument, or a file.
 #[derive(Drop)]
 pub struct Item {
-    /// What it does.
+    /// The effect of the option.
     pub effect: Effect,
     /// The option with its first `-`, or the file.
     pub option: Word,
-    /// The option's argument; empty where it has none.
+    /// The option's argument, or the empty word.
     pub argument: Word,
 }
 
-/// Adds what items give to a line.
+/// Adds items to a line.
 fn note_items(alloc: Global, builder: &mut LineBuilder, items: &[Item]) -> Result<(), AllocError>
     ensures { OnOk result (builder.new.line ≡ with_items builder.old items.now) }
 {
@@ -34,7 +34,7 @@ fn note_items(alloc: Global, builder: &mut LineBuilder, items: &[Item]) -> Resul
     Ok(())
 }
 
-/// Makes a line of items.
+/// Makes a line from items.
 fn made_line(alloc: Global, from_file: bool, items: &[Item]) -> Result<Line, AllocError>
     ensures { IfOk result (λ line. line ≡ line_of from_file items.now) }
 {
@@ -43,15 +43,15 @@ fn made_line(alloc: Global, from_file: bool, items: &[Item]) -> Result<Line, All
     Ok(builder.line)
 }
 
-/// Makes a line of items, and judges it.
+/// Makes a line from items, and judges it.
 fn judged_line(alloc: Global, from_file: bool, items: &[Item]) -> Result<Line, ArgsFault>
     ensures { Gives fault.Memory (λ line. line) result (line_judged from_file items.now) }
 {
     judge(made_line(alloc, from_file, items)?)
 }
 
-/// The line that items give, as `read` has it of the words whose items these are; `from_file` says
-/// whether a word of the line was replaced by those of a response file.
+/// The line of these items: the one that `read` returns for words with these items. `from_file`
+/// says whether words of a response file are in it.
 ///
 /// # Errors
 /// `Memory`; then, unless the specs are dumped, the first of `NoInputs`, `StdinNeedsLanguage`,

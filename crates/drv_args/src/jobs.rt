@@ -1,9 +1,9 @@
-//! How many sources are worked at once, as a word says it.
+//! The number of jobs that a word names.
 
 ghost use Rattle.drv_args.specs.Jobs.{digit_of, in_range, jobs_named, joined, number_of, tens_of};
 ghost use Rattle.std.specs.Prelude.{◌≡◌, ◌<◌, IfSome};
 
-/// How many sources may be worked at once.
+/// The most sources that may be under way at once.
 const MOST_JOBS: usize = 64;
 
 /// The value of a decimal digit.
@@ -17,7 +17,7 @@ fn digit(byte: u8) -> Option<usize>
     }
 }
 
-/// The value of a digit that a number of two digits begins with.
+/// The value of the first of two digits.
 fn tens(byte: u8) -> Option<usize>
     ensures is { result ≡ tens_of byte }
     ensures small { IfSome result (λ d. d < 10) }
@@ -46,7 +46,7 @@ fn number(digits: &[u8]) -> Option<usize>
     }
 }
 
-/// A number that is from 1 to the most.
+/// The number, if it is from 1 to 64.
 fn in_range(number: Option<usize>) -> Option<usize>
     ensures { result ≡ in_range number }
 {
@@ -57,8 +57,8 @@ fn in_range(number: Option<usize>) -> Option<usize>
     None
 }
 
-/// The number of jobs that stands after `--jobs`: an equals sign, and a number from 1 to 64 in
-/// decimal digits without a leading zero.
+/// The number of jobs after `--jobs`: an equals sign, and a number from 1 to 64 in decimal digits
+/// without a leading zero.
 pub(crate) fn jobs_named(following: &[u8]) -> Option<usize>
     ensures { result ≡ jobs_named following.now }
 {

@@ -46,7 +46,7 @@ fn has_bare_stdin(inputs: &[Input]) -> bool
     inputs.iter().any(is_bare_stdin)
 }
 
-/// Whether standard input is an input, and neither a language nor `-E` says how it is worked.
+/// Whether standard input is an input, and neither a language nor `-E` says how to read it.
 fn needs_language(line: &Line) -> bool
     ensures { result ≡ needs_language line.now }
 {
@@ -67,7 +67,7 @@ fn file_count(inputs: &[Input]) -> usize
     inputs.iter().filter(|input| is_file_input(input)).count()
 }
 
-/// Whether one output is to serve several files.
+/// Whether one output is named for several files.
 fn has_many(line: &Line) -> bool
     ensures { result ≡ has_many line.now }
 {
@@ -84,28 +84,28 @@ fn is_file_named(output: &[u8], input: &Input) -> bool
     }
 }
 
-/// Whether an output is no file of its own: standard output, or the file that takes everything.
+/// Whether an output is no file of its own: standard output, or `/dev/null`.
 fn is_sink(output: &[u8]) -> bool
     ensures { result ≡ is_sink output.now }
 {
     output == b"-".as_slice() || output == b"/dev/null".as_slice()
 }
 
-/// Whether an input is the file of this name.
+/// Whether one of the inputs is the file of this name.
 fn has_file(inputs: &[Input], name: &[u8]) -> bool
     ensures { result ≡ list_any (is_file_named name.now) inputs.now }
 {
     inputs.iter().any(|input| is_file_named(name, input))
 }
 
-/// Whether the output is an input too.
+/// Whether the output is also an input.
 fn is_input(output: &[u8], line: &Line) -> bool
     ensures { result ≡ is_input output.now line.now }
 {
     !is_sink(output) && has_file(line.inputs.as_slice(), output)
 }
 
-/// The refusal that an output calls for.
+/// The refusal that an output causes.
 fn output_fault(line: &Line, output: &Word) -> Result<(), ArgsFault>
     ensures { Finds result (output_fault (Some output.now) line.now) }
 {
@@ -118,7 +118,7 @@ fn output_fault(line: &Line, output: &Word) -> Result<(), ArgsFault>
     Ok(())
 }
 
-/// The first refusal that a line calls for: none where the specs are dumped.
+/// The first refusal of a line; there is none if the specs are dumped.
 fn line_fault(line: &Line) -> Result<(), ArgsFault>
     ensures { Finds result (line_fault line.now) }
 {
@@ -137,7 +137,7 @@ fn line_fault(line: &Line) -> Result<(), ArgsFault>
     }
 }
 
-/// The line, unless it calls for a refusal.
+/// The line, unless it is refused.
 #[tactic(auto, using(crate::proofs::Verdicts::found_is_judged, crate::proofs::Verdicts::none_is_judged))]
 pub(crate) fn judge(line: Line) -> Result<Line, ArgsFault>
     ensures { Gives fault.Memory (λ line. line) result (judged line (line_fault line)) }

@@ -1,4 +1,4 @@
-//! Laws of the definitions that the contracts cite.
+//! Laws about the definitions that the contracts cite.
 
 ghost use Rattle.drv_args.specs.Expansion.{Refuses, Responds};
 ghost use Rattle.drv_args.specs.Fronts.{Offends, Reads, items_of};
@@ -7,8 +7,8 @@ ghost use Rattle.drv_system.specs.Facts.{Facts};
 ghost use Rattle.std.specs.Prelude.{◌≡◌, ◌↔◌, Err, List, Ok, ℕ};
 ghost use Rattle.drv_args.specs.declared.items.Item.{Item};
 
-/// A law: words respond to one list of words and leave one number of replacements, or they are
-/// refused for one reason, and never both.
+/// A law: words have one expansion, which leaves one number of replacements, or they are refused
+/// for one reason, and never both.
 pub fn one_expansion()
     ensures responds { (F : Facts) (left a b : ℕ) (words out out' : List (List ℕ))
         → Responds F left words a out → Responds F left words b out' → (a ≡ b) × (out ≡ out') }
@@ -18,8 +18,8 @@ pub fn one_expansion()
         → Responds F left words a out → Refuses F left words fault → ⊥ }
 {}
 
-/// A law: the items that words are read as are those of a concatenation of fronts, each fitted by
-/// its first row, and a refusal is that of the first offending word.
+/// A law: the items of words are those of a concatenation of fronts, each fitted by its first row.
+/// A refusal is that of the first offending word.
 pub fn items_are_fronts()
     ensures reads { (words : List (List ℕ)) (items : List Item)
         → (Reads words items ↔ (items_of words ≡ Ok items)) }

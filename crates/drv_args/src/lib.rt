@@ -1,4 +1,4 @@
-//! The arguments of a driver: response files expanded, and words read by the option table.
+//! The arguments of a driver: expands response files, and reads words by the option table.
 #![tactic(auto)]
 
 mod building;

@@ -1,19 +1,18 @@
-//! A command line as it was read: switches, inputs and settings.
+//! A command line that was read: switches, inputs and settings.
 
 use drv_words::{Listing, Word};
 
-/// A switch: the word without its first `-`, and its argument, if it takes one as a word of its
-/// own.
+/// A switch: the word without its first `-`, and its argument, if it takes the next word as one.
 #[derive(Debug, Drop)]
 pub struct Switch {
     pub name: Word,
     pub arg: Option<Word>,
 }
 
-/// What the line names to be worked or linked, in its order.
+/// An input of the line or a word for the linker, in the order of the line.
 #[derive(Debug, Drop)]
 pub enum Input {
-    /// A file, and the language that `-x` gave it; none where its suffix decides.
+    /// A file, with the language that `-x` gave it. Without one its suffix decides.
     File { name: Word, lang: Option<Word> },
     /// A library, as `-lX`.
     Library(Word),
@@ -21,7 +20,7 @@ pub enum Input {
     LinkWord(Word),
 }
 
-/// What the line says of the call itself.
+/// What the line says about the call itself.
 #[derive(Debug, Drop)]
 pub struct Settings {
     /// `-###`: the plan is printed and nothing is started.
@@ -34,7 +33,8 @@ pub struct Settings {
     pub pass_codes: bool,
     /// `-pipe`.
     pub pipe: bool,
-    /// Whether a word of the line was replaced by those of a response file, also by none.
+    /// Whether a word of the line was replaced by the words of a response file, even if there were
+    /// none.
     pub from_file: bool,
     /// The argument of the last `-o`.
     pub output: Option<Word>,
@@ -42,11 +42,12 @@ pub struct Settings {
     pub specs: Listing<Word>,
     /// The prefixes of `-B`, in order.
     pub prefixes: Listing<Word>,
-    /// How many sources are worked at once, from 1 to 64: the number of the last `--jobs=N`, or 1.
+    /// How many sources may be under way at once, from 1 to 64: the number of the last `--jobs=N`,
+    /// or 1.
     pub jobs: usize,
 }
 
-/// A command line as it was read.
+/// A command line that was read.
 #[derive(Debug, Drop)]
 pub struct Line {
     pub switches: Listing<Switch>,
@@ -58,10 +59,10 @@ pub struct Line {
     pub settings: Settings,
 }
 
-/// Arguments with their response files expanded.
+/// Arguments after the expansion of response files.
 #[derive(Debug, Drop)]
 pub struct Expanded {
     pub words: Listing<Word>,
-    /// Whether a word was replaced by those of a response file, also by none.
+    /// Whether a word was replaced by the words of a response file, even if there were none.
     pub from_file: bool,
 }

@@ -1,4 +1,4 @@
-//! The option table: a row an option. The first row that fits a word decides.
+//! The option table, one row for each option. The first row that fits a word decides.
 
 ghost use Rattle.drv_args.specs.Lines.{is_switch_too};
 ghost use Rattle.drv_args.specs.Code.Lookup.{may_fit, shown};
@@ -6,7 +6,7 @@ ghost use Rattle.drv_args.specs.Options.{option_table};
 ghost use Rattle.std.specs.List.{filter};
 ghost use Rattle.std.specs.Prelude.{◌≡◌, map};
 
-/// How a row's option stands in a word.
+/// How a word or two contain an option and its argument.
 #[derive(Clone, Copy)]
 pub(crate) enum Form {
     /// The word is the option.
@@ -15,27 +15,27 @@ pub(crate) enum Form {
     Joined,
     /// The word is the option, and the next word is the argument.
     Separate,
-    /// Either of these two.
+    /// Either of `Joined` and `Separate`.
     Either,
 }
 
-/// A setting of the call that is on or off.
+/// A setting of the call.
 #[derive(Clone, Copy)]
 pub enum Setting {
-    /// The plan is printed and nothing is started.
+    /// The plan is printed, and nothing is started.
     Dry,
-    /// The plan is printed before it is run.
+    /// The plan is printed, and then run.
     Verbose,
     /// The specs are printed.
     Dump,
-    /// The status is the greatest of the commands'.
+    /// The status is the greatest one of the commands.
     PassCodes,
     /// Commands are piped.
     Pipe,
 }
 
 impl Setting {
-    /// Whether the option that turns it on is a switch too.
+    /// Whether the option is also a switch.
     pub(crate) fn is_switch_too(self) -> bool
         ensures { result ≡ is_switch_too self }
     {
@@ -43,7 +43,7 @@ impl Setting {
     }
 }
 
-/// A tool that the line has words for.
+/// A tool to which the line can pass words.
 #[derive(Clone, Copy)]
 pub enum Tool {
     /// `as`.
@@ -54,7 +54,7 @@ pub enum Tool {
     Linker,
 }
 
-/// What an option does.
+/// The effect of an option.
 #[derive(Clone, Copy)]
 pub enum Effect {
     /// It turns a setting on.
@@ -65,21 +65,21 @@ pub enum Effect {
     SwitchWithArgument,
     /// It is a switch with the argument in its name.
     JoinedSwitch,
-    /// It names a spec file, and is a switch too.
+    /// It names a spec file, and is also a switch.
     Specs,
-    /// It is a prefix, and a switch with the argument in its name too.
+    /// It is a prefix, and also a switch with the argument in its name.
     Prefix,
-    /// It names the output, and is a switch with this argument too.
+    /// It names the output, and is also a switch with this argument.
     Output,
     /// It is the language of the files that follow.
     Language,
     /// It is a library.
     Library,
-    /// It has pieces for a tool, between commas.
+    /// It gives pieces to a tool, separated by commas.
     Pieces(Tool),
-    /// It has one piece for a tool.
+    /// It gives one piece to a tool.
     Piece(Tool),
-    /// It says how many sources are worked at once.
+    /// It says how many sources may be under way at once.
     Jobs,
     /// It is an input file.
     File,
@@ -93,7 +93,7 @@ pub(crate) struct Row {
     pub(crate) effect: Effect,
 }
 
-/// A row of an option.
+/// The row of an option.
 macro_rules! row {
     ($option:literal, $form:ident, $effect:expr) => {
         Row {
@@ -104,7 +104,7 @@ macro_rules! row {
     };
 }
 
-/// Rows of options whose word is the option.
+/// Rows of options that are whole words.
 macro_rules! exact {
     ($option:literal, $effect:expr) => { &[row!($option, Exact, $effect)] };
 }
@@ -114,7 +114,7 @@ macro_rules! either {
     ($option:literal, $effect:expr) => { &[row!($option, Either, $effect)] };
 }
 
-/// Rows of options that are switches, and whose argument is the next word.
+/// Rows of switches whose argument is the next word.
 macro_rules! separate {
     ($($option:literal),+) => { &[$(row!($option, Separate, Effect::SwitchWithArgument)),+] };
 }
@@ -136,7 +136,7 @@ const WITH_P: [Row; 2] = [
     row!(b"-pipe", Exact, Effect::TurnsOn(Setting::Pipe)),
 ];
 
-/// The rows whose option begins with `-W`: first the one that most words have.
+/// The rows whose option begins with `-W`, the most frequent one first.
 const WITH_W: [Row; 3] = [
     row!(b"-Wl,", Joined, Effect::Pieces(Tool::Linker)),
     row!(b"-Wa,", Joined, Effect::Pieces(Tool::Assembler)),
@@ -168,8 +168,8 @@ const WITH_I: &[Row] = separate!(
 );
 
 /// The rows whose option begins with `-` and this byte, in the order of the table (GCC manual,
-/// "Overall Options", "Directory Options", "Preprocessor Options", "Link Options"; which forms an
-/// option has is this project's profile).
+/// "Overall Options", "Directory Options", "Preprocessor Options", "Link Options"; the forms of an
+/// option are this project's profile).
 pub(crate) fn rows_after(letter: u8) -> &'static [Row]
     ensures { map shown result.now ≡ filter (may_fit letter) option_table }
 {

@@ -1,4 +1,4 @@
-//! Words read by the option table.
+//! Reads words by the option table.
 
 ghost use Rattle.drv_args.specs.Code.Building.{is_whole, line_with, start_shown};
 ghost use Rattle.drv_args.specs.Fronts.{by_effect, is_bad, items_of, start_of};
@@ -20,11 +20,11 @@ use crate::{ArgsFault, Expanded, Line};
 use drv_words::Word;
 use std::alloc::Global;
 
-/// How many words a line may have.
+/// The most words of a line.
 const MOST_ARGUMENTS: usize = 65536;
 
-/// Whether the last byte of an option stands in its place in a word, as it does in each word that
-/// the option fits. Most options are told from a word by it alone.
+/// Whether the last byte of an option is in its place in a word, as in each word that the option
+/// fits. This test alone excludes most options.
 fn may_end(option: &[u8], word: &[u8]) -> bool
     ensures { (form : Form) → form_fits form option.now word.now ≡ true → result ≡ true }
 {
@@ -34,8 +34,7 @@ fn may_end(option: &[u8], word: &[u8]) -> bool
     }
 }
 
-/// Whether a word begins with an option. Options are short, so that their bytes are compared one by
-/// one in place.
+/// Whether a word begins with an option. Options are short, so their bytes are compared one by one.
 fn begins_with(word: &[u8], option: &[u8]) -> bool
     ensures { result ≡ starts_with nat_eq word.now option.now }
 {
@@ -79,13 +78,13 @@ fn first_fit(table: &[Row], word: &[u8]) -> Option<Row>
 /// How a word begins a front of the line.
 #[derive(Clone, Copy)]
 enum Start<'a> {
-    /// It is one by itself: its option, with its argument after it.
+    /// It is a whole front: an option followed by its argument.
     Alone {
         effect: Effect,
         option: &'a [u8],
         argument: &'a [u8],
     },
-    /// It wants the next word as its argument.
+    /// It needs the next word as its argument.
     Wants {
         effect: Effect,
         option: &'a [u8],
@@ -94,7 +93,7 @@ enum Start<'a> {
     Bad,
 }
 
-/// Whether the argument of an option is refused: it has to be a number of jobs, and is none.
+/// Whether the argument of an option is refused, since it should be a number of jobs but isn't.
 fn is_bad(effect: Effect, argument: &[u8]) -> bool
     ensures { result ≡ is_bad effect argument.now }
 {
@@ -104,14 +103,14 @@ fn is_bad(effect: Effect, argument: &[u8]) -> bool
     }
 }
 
-/// What stands in a word after an option.
+/// The rest of a word after an option.
 fn rest_of<'a>(word: &'a [u8], option: &[u8]) -> &'a [u8]
     ensures { result.now ≡ drop (length option.now) word.now }
 {
     word.get(option.len()..).unwrap_or(&[])
 }
 
-/// How a word begins a front by the row that fits it.
+/// How a word begins a front, by the row that fits it.
 fn start_by_row<'a>(row: Row, word: &'a [u8]) -> Start<'a>
     requires { row_fits word.now (shown row) ≡ true }
     ensures start { start_shown result ≡ by_effect row.effect (shown row) word.now }
@@ -164,7 +163,7 @@ fn start_of<'a>(word: &'a [u8]) -> Start<'a>
     }
 }
 
-/// Adds what words give to a line.
+/// Adds words to a line.
 fn note_words(alloc: Global, builder: &mut LineBuilder, words: &[Word]) -> Result<(), ArgsFault>
     ensures { Gives fault.Memory (λ u. builder.new.line) result
         (line_with builder.old (items_of words.now)) }
@@ -219,9 +218,9 @@ fn read_line(alloc: Global, expanded: &Expanded) -> Result<Line, ArgsFault>
 /// Options").
 ///
 /// # Errors
-/// `TooManyArguments` for more than 65,536 words; then at the first offending word
-/// `MissingArgument` or `BadJobs`, for each word that begins with `--jobs` but for `--jobs=N` with
-/// N from 1 to 64; then, unless the specs are dumped, the first of `NoInputs`,
+/// `TooManyArguments` for more than 65,536 words. Then `MissingArgument` or `BadJobs` at the first
+/// offending word; `BadJobs` is for each word that begins with `--jobs` but is not `--jobs=N` with
+/// N from 1 to 64. Then, unless the specs are dumped, the first of `NoInputs`,
 /// `StdinNeedsLanguage`, `OutputWithMany` and `OutputIsInput`.
 #[tactic(auto, using(crate::proofs::JobCounts::jobs_are_few))]
 pub fn read(alloc: Global, expanded: &Expanded) -> Result<Line, ArgsFault>

@@ -1,7 +1,8 @@
 use Rattle.drv_args.specs.Fronts as fronts
 use Rattle.drv_args.specs.Fronts.{Start, item}
 use Rattle.drv_args.specs.Jobs.{jobs_named}
-use Rattle.drv_args.specs.Lines.{assembler_pieces, inputs_of, is_on, language_after, last_jobs, last_output, line_of, prefix_of, preprocessor_pieces, spec_of, switches_of}
+use Rattle.drv_args.specs.Lines.{assembler_pieces, inputs_of, is_on, language_after, last_jobs, last_output, line_of, prefix_of}
+use Rattle.drv_args.specs.Lines.{preprocessor_pieces, spec_of, switches_of}
 use Rattle.drv_args.specs.declared.building.LineBuilder.{LineBuilder}
 use Rattle.drv_args.specs.declared.fault.ArgsFault.{ArgsFault}
 use Rattle.drv_args.specs.declared.items.Item.{Item}
@@ -19,13 +20,13 @@ use Rattle.std.specs.List.{filter_map, flat_map}
 use Rattle.std.specs.Option.{unwrap_or}
 use Rattle.std.specs.Prelude.{◌≡◌, ◌||◌, ⊤, Bool, Err, List, [], ◌∷◌, ◌++◌, None, Ok, Option, Result, map, true, ℕ}
 
--- A line that is built item by item. Private clauses alone cite it: what `read` answers is said by `line_read`.
+-- A line that is built item by item. Only private clauses cite it: `line_read` defines what `read` returns.
 
--- no item yet
+-- before the first item
 abbrev pub begun : Bool → LineBuilder
 begun from_file = record { line = line_of from_file []; language = None }
 
--- the line with what items give too
+-- the line with these items added
 abbrev pub with_items : LineBuilder → List Item → Line
 with_items b items = record {
   switches = b.line.switches ++ switches_of items;
@@ -45,11 +46,11 @@ with_items b items = record {
   };
 }
 
--- one item more
+-- one more item
 abbrev pub noted : LineBuilder → Item → LineBuilder
 noted b i = record { line = with_items b (i ∷ []); language = language_after i.effect i.argument b.language }
 
--- the line with what the rest of the words comes to
+-- the line with the result of the rest of the words
 abbrev pub line_with : LineBuilder → Result (List Item) ArgsFault → Result Line ArgsFault
 line_with b (Ok items) = Ok (with_items b items)
 line_with b (Err fault) = Err fault
@@ -86,7 +87,7 @@ start_shown (code.Alone effect option argument) = fronts.Alone (item effect opti
 start_shown (code.Wants effect option) = fronts.Wants effect option.now
 start_shown code.Bad = fronts.Bad
 
--- the option and the argument of an item that is a word by itself are the whole word
+-- the option and the argument of an item that is one word make up that word
 abbrev pub is_whole : List ℕ → CodeStart → Type 0
 is_whole word (code.Alone effect option argument) = option.now ++ argument.now ≡ word
 is_whole word (code.Wants effect option) = ⊤

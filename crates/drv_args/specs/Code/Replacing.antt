@@ -7,14 +7,16 @@ use Rattle.drv_words.specs.Response.{SplitsOnto}
 use Rattle.std.specs.List.{list_any}
 use Rattle.std.specs.Prelude.{◌≡◌, ◌⊎◌, ◌++◌, Err, List, None, Ok, Option, Result, Some, false, is_some, length, reverse, ℕ}
 
--- What replacing one word comes to, and the words that stay. Private clauses alone cite it: what `expand` answers is said by `Expands`.
+-- The replacement of one word, and the words that are done. Only private clauses cite it: `Expands` defines what `expand` returns.
 
 abbrev pub IsReplaced : Facts → List ℕ → List (List ℕ) → List (List ℕ) → Result (Option ℕ) ArgsFault → Type 0
 IsReplaced F word words words' (Ok None) = (replacement_of F word ≡ Is Itself) × (words' ≡ words)
-IsReplaced F word words words' (Ok (Some start)) = (start ≡ length words) × ((text : List ℕ) × (replacement_of F word ≡ Is (Text text)) × SplitsOnto text words words')
-IsReplaced F word words words' (Err fault) = (fault ≡ Memory) ⊎ ((path : List ℕ) × (replacement_of F word ≡ Is (Large path)) × (fault ≡ ResponseTooLarge path))
+IsReplaced F word words words' (Ok (Some start)) =
+    (start ≡ length words) × ((text : List ℕ) × (replacement_of F word ≡ Is (Text text)) × SplitsOnto text words words')
+IsReplaced F word words words' (Err fault) =
+    (fault ≡ Memory) ⊎ ((path : List ℕ) × (replacement_of F word ≡ Is (Large path)) × (fault ≡ ResponseTooLarge path))
 
--- The words of a file are put after those that stay, where none of them names a file, or on the stack, the first on top.
+-- The words of a file join those that are done if none of them names a file. Otherwise they go onto the stack, with the first on top.
 abbrev pub IsPut : List (List ℕ) → List (List ℕ) → List (List ℕ) → List (List ℕ) → List (List ℕ) → Type 0
 IsPut inner stack stack' words words' =
     ((list_any (λ word. is_some (file_named word)) inner ≡ false) × (stack' ≡ stack) × (words' ≡ words ++ inner))

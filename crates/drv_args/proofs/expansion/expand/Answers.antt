@@ -6,4 +6,5 @@ use Rattle.std.specs.List.{list_any}
 
 pub returns-clause-expands : goal.returns-clause-expands
 returns-clause-expands g c F e =
-    none_expanded F c.args.args (ap (list_any (λ word. is_some (file_named word))) (sym c.as_slice.ensures) ∙ sym c.name_files.ensures ∙ c.if-name_files.false)
+    none_expanded F c.args.args (ap (list_any (λ word. is_some (file_named word))) (sym c.as_slice.ensures) ∙ sym c.have_references.ensures
+    ∙ c.if-have_references.false)

@@ -40,8 +40,12 @@ loop-word-preserved g c = record {
 pub returns-clause-expands : goal.returns-clause-expands
 returns-clause-expands g c F e =
     let none : length c.loop-word.stack.items ≡ 0 = omega (arith, c.loop-word.stack.ok, c.in_default.ensures.cases.0) in
-    let empty = nil_from_length c.loop-word.stack.items none in
-    (c.loop-word.left, end_goes F c.loop-word.left c.loop-word.stack.items c.loop-word.words c.args.args empty (c.loop-word.invariant.goes F e), refl)
+    let empty = nil_from_length c.loop-word.stack.items none in (
+      c.loop-word.left,
+      end_goes F c.loop-word.left c.loop-word.stack.items c.loop-word.words c.args.args empty
+          (c.loop-word.invariant.goes F e),
+      refl,
+    )
 
 pub returns-in_err-replace_word-clause-asks : goal.returns-in_err-replace_word-clause-asks
 returns-in_err-replace_word-clause-asks g c = asked_further c.loop-word.invariant.asks c.replace_word.ensures.asks

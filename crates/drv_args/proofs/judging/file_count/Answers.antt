@@ -9,5 +9,6 @@ use Rattle.std.specs.Slice.Iter.{iter_rest}
 pub returns : goal.returns
 returns c =
     count_from_yields_List _ _ c.count.ensures.ran
-    (YieldsList-from_filter _ is_file_input (YieldsList-from_slice c.args.inputs.now (ap iter_rest c.filter.ensures.source ∙ c.iter.ensures.rest)) c.filter.ensures.closure (λ x r q k. search (rules, tests)))
+    (YieldsList-from_filter _ is_file_input (YieldsList-from_slice c.args.inputs.now (ap iter_rest c.filter.ensures.source
+    ∙ c.iter.ensures.rest)) c.filter.ensures.closure (λ x r q k. search (rules, tests)))
     ∙ length-filter is_file_input c.args.inputs.now

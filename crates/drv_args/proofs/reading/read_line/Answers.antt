@@ -4,7 +4,9 @@ use Rattle.std.proofs.Common.{arith, refl}
 
 pub returns-in_err-line : goal.returns-in_err-line
 returns-in_err-line c =
-    line_refused c.args.expanded.now c.args.expanded.now.words c.in_err-line.field-0.0 _ refl (omega arith) c.in_err-line.ensures c.from_residual.ensures.1
+    line_refused c.args.expanded.now c.args.expanded.now.words c.in_err-line.field-0.0 _ refl (omega arith) c.in_err-line.ensures
+    c.from_residual.ensures.1
 
 pub returns : goal.returns
-returns c = line_judged c.args.expanded.now c.args.expanded.now.words c.in_ok-line.line _ refl (omega arith) c.in_ok-line.ensures c.judge.ensures
+returns c = line_judged c.args.expanded.now c.args.expanded.now.words c.in_ok-line.line _ refl (omega arith) c.in_ok-line.ensures
+    c.judge.ensures
