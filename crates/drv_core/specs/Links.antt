@@ -30,8 +30,8 @@ calls_of k events = flat_map (λ e. call_of k e.step) events
 
 -- The link claims or starts something if every source succeeded and the link has a command; otherwise nothing.
 pub record LinksWhere (plan : Plan) (o : Answers) (events : List RunEvent) : Type 0 where
-  pub where_all : (job : Job) → plan.link ≡ Some job → none job.groups ≡ false → Filled job → none (calls_of (length plan.jobs) events)
-      ≡ not (all_succeeded o.jobs)
+  pub where_all : (job : Job) → plan.link ≡ Some job → none job.groups ≡ false → Filled job
+      → none (calls_of (length plan.jobs) events) ≡ not (all_succeeded o.jobs)
   pub without : plan.link ≡ None → calls_of (length plan.jobs) events ≡ []
 
 -- whether a step is a claim, a start or a wait of a job
@@ -50,5 +50,5 @@ codes_in k events = flat_map (work_code k) events
 
 -- A source failed exactly if one of these codes is not 0.
 abbrev pub FailsWhere : Plan → Answers → List RunEvent → Type 0
-FailsWhere plan o events = (k : ℕ) → k < length plan.jobs → job_failed (get_or o.jobs k no_answers)
-    ≡ not (nat_eq (greatest (λ c. c) (codes_in k events)) 0)
+FailsWhere plan o events = (k : ℕ) → k < length plan.jobs
+    → job_failed (get_or o.jobs k no_answers) ≡ not (nat_eq (greatest (λ c. c) (codes_in k events)) 0)

@@ -7,8 +7,8 @@ use Rattle.std.specs.Prelude.{◌+◌, ◌*◌, ◌^◌, ◌++◌, None, Option,
 -- The most events of a run (this project's profile): four for a command, which are its start and its wait, each with a report; two for the
 -- claim of a temporary; and two for each path that can be removed.
 abbrev pub job_events : Job → ℕ
-job_events job = sum_by (λ group. 4 * length group) job.groups + 2 * length job.temps + 2 *
-    (length job.temps + length job.marked + length job.on_failure)
+job_events job = sum_by (λ group. 4 * length group) job.groups + 2 * length job.temps
+    + 2 * (length job.temps + length job.marked + length job.on_failure)
 
 abbrev pub needed : Plan → ℕ
 needed plan = sum_by job_events (plan.jobs ++ option_to_list plan.link)

@@ -49,8 +49,8 @@ start_event k g n i a = event (step.Start (place.Command k g i) (nat_lt 0 i) (na
 abbrev pub starts_block : ℕ → ℕ → ℕ → ℕ → Bool → List StartAnswer → Block
 starts_block k g n i refused [] = []
 starts_block k g n i refused (Started id ∷ xs) = start_event k g n i (Started id) ∷ starts_block k g n (i + 1) refused xs
-starts_block k g n i refused (NotStarted why ∷ xs) = start_event k g n i (NotStarted why) ∷ report
-    (note.NotStarted (place.Command k g i)) refused
+starts_block k g n i refused (NotStarted why ∷ xs) =
+    start_event k g n i (NotStarted why) ∷ report (note.NotStarted (place.Command k g i)) refused
     ∷ (if nat_lt 0 i then event step.ClosePipe answer.Closed ∷ [] else [])
 
 -- one wait, with its report
@@ -60,8 +60,8 @@ wait_report p Signal told = report (note.Signalled p) told ∷ []
 wait_report p Lost told = report (note.Lost p) told ∷ []
 
 abbrev pub wait_block : ℕ → ℕ → ℕ → ℕ → Told WaitAnswer → Block
-wait_block k g i id w = event (step.Wait (place.Command k g i) id) (answer.Wait w.answer) ∷ wait_report (place.Command k g i)
-    w.answer w.told
+wait_block k g i id w =
+    event (step.Wait (place.Command k g i) id) (answer.Wait w.answer) ∷ wait_report (place.Command k g i) w.answer w.told
 
 abbrev pub wait_blocks : ℕ → ℕ → ℕ → List StartAnswer → List (Told WaitAnswer) → List Block
 wait_blocks k g i (Started id ∷ xs) (w ∷ ws) = wait_block k g i id w ∷ wait_blocks k g (i + 1) xs ws

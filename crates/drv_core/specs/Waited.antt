@@ -44,8 +44,8 @@ pub data Waited : List Child → List Act → Type 0 where
 -- Each place starts at most one child: the places ascend, from this one on.
 abbrev pub Ascends : ℕ → ℕ → List Act → Type 0
 Ascends g i [] = ⊤
-Ascends g i (Begins child ∷ acts) = ((g < child.group) ⊎ ((g ≡ child.group) × (i ≤ child.member))) × Ascends child.group
-    (child.member + 1) acts
+Ascends g i (Begins child ∷ acts) = ((g < child.group) ⊎ ((g ≡ child.group) × (i ≤ child.member)))
+    × Ascends child.group (child.member + 1) acts
 Ascends g i (Awaits child ∷ acts) = Ascends g i acts
 
 -- both, for job k

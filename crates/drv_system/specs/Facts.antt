@@ -69,6 +69,6 @@ first_kind path (event ∷ events) = first_kind path events
 
 abbrev pub first_variable : List ℕ → List Event → Option (Option (List ℕ))
 first_variable name [] = None
-first_variable name (Variable other value ∷ events) = if is_at (slice_cmp nat_cmp name) other then Some
-    value else first_variable name events
+first_variable name (Variable other value ∷ events) =
+    if is_at (slice_cmp nat_cmp name) other then Some value else first_variable name events
 first_variable name (event ∷ events) = first_variable name events

@@ -29,8 +29,10 @@ is_told tell.Failed = false
 
 -- whether the child of this number, started at this place, is open after one more event: a start opens it, and a wait there closes it
 abbrev pub open_with : Place → ℕ → Bool → RunEvent → Bool
-open_with place id was e = if is_start_at place e.step && is_child id e.answer then true else if is_wait_for place id
-    e.step then false else was
+open_with place id was e =
+    if is_start_at place e.step && is_child id e.answer then true
+    else if is_wait_for place id e.step then false
+    else was
 
 abbrev pub open_from : Place → ℕ → Bool → List RunEvent → Bool
 open_from place id was [] = was

@@ -53,8 +53,10 @@ abbrev pub scripted_read : Script → List ℕ → ReadAnswer
 scripted_read script path = read_as (lookup (pointwise nat_eq path) script.files)
 
 abbrev pub scripted_kind : Script → List ℕ → PathKind
-scripted_kind script path = if is_some (lookup (pointwise nat_eq path) script.files) then kind.Plain else if list_any
-    (pointwise nat_eq path) script.dirs then kind.Dir else kind.Missing
+scripted_kind script path =
+    if is_some (lookup (pointwise nat_eq path) script.files) then kind.Plain
+    else if list_any (pointwise nat_eq path) script.dirs then kind.Dir
+    else kind.Missing
 
 -- the value of the first variable of that name
 abbrev pub scripted_variable : Script → List ℕ → Option (List ℕ)

@@ -15,8 +15,7 @@ abbrev pub fresh_leftovers : List Leftover → ℕ → Leftovers
 fresh_leftovers files sources = record {
   files = files;
   gone = replicate (length files) false;
-  claimed = replicate sources 0
-      ++ 0 ∷ [];
+  claimed = replicate sources 0 ++ 0 ∷ [];
   sources = sources;
   linked = false;
   at = 0;

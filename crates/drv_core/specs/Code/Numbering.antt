@@ -14,8 +14,8 @@ first_with i p (f ∷ fs) = if pointwise nat_eq p f.path then Some i else first_
 -- each file with the number of the first file of its path; before: the files before them
 abbrev pub numbered_files : List File → List File → List Leftover
 numbered_files before [] = []
-numbered_files before (f ∷ fs) = record { place = f.place; first = unwrap_or (first_with 0 f.path before) (length before) } ∷ numbered_files
-    (before ++ f ∷ []) fs
+numbered_files before (f ∷ fs) =
+    record { place = f.place; first = unwrap_or (first_with 0 f.path before) (length before) } ∷ numbered_files (before ++ f ∷ []) fs
 
 -- the number of a path, looked up among keys that show a path
 abbrev pub number_in : {K : Type 0} → List (K × ℕ) → (K → List ℕ) → List ℕ → Option ℕ

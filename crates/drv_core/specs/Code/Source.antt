@@ -101,8 +101,9 @@ abbrev pub after_claim : Job → ℕ → ClaimAnswer → Stage
 after_claim job i x = if is_claimed x then enter_claims job (i + 1) else ClaimReport i x
 
 abbrev pub after_start : Job → ℕ → Bool → List ℕ → StartAnswer → Stage
-after_start job g was ids (start.Started id) = if nat_lt (length ids + 1) (length (group_at job g)) then Starts g was
-    (ids ++ id ∷ []) else enter_waits job g was (ids ++ id ∷ []) 0 false
+after_start job g was ids (start.Started id) =
+    if nat_lt (length ids + 1) (length (group_at job g)) then Starts g was (ids ++ id ∷ [])
+    else enter_waits job g was (ids ++ id ∷ []) 0 false
 after_start job g was ids (start.NotStarted why) = StartReport g was ids why
 
 abbrev pub after_refusal : Job → ℕ → Bool → List ℕ → NotStarted → Bool → Stage
@@ -137,8 +138,8 @@ wait_note k g i Lost = note.Lost (place.Command k g i)
 abbrev pub asks : ℕ → Job → Stage → Option Step
 asks k job (Claims i) = Some (step.Claim (place.Temp k i))
 asks k job (ClaimReport i x) = Some (step.Report (note.NotClaimed (place.Temp k i)))
-asks k job (Starts g was ids) = Some (step.Start (place.Command k g (length ids)) (nat_lt 0 (length ids))
-    (nat_lt (length ids + 1) (length (group_at job g))))
+asks k job (Starts g was ids) =
+    Some (step.Start (place.Command k g (length ids)) (nat_lt 0 (length ids)) (nat_lt (length ids + 1) (length (group_at job g))))
 asks k job (StartReport g was ids why) = Some (step.Report (note.NotStarted (place.Command k g (length ids))))
 asks k job (Closing g was ids why told) = Some step.ClosePipe
 asks k job (Waits g was ids i fault) = Some (step.Wait (place.Command k g i) (get_or ids i 0))
