@@ -112,8 +112,29 @@ fn carry_out<S: System>(
     Ok(())
 }
 
-/// A copy of entries, on which the directives of a settled text are carried out, in which so many
-/// more files may be read.
+/// Entries after the directives of a settled text, in which so many more files may be read.
+#[tactic(auto, using(drv_system::proofs::AskedCalls::asked_further))]
+fn worked_entries<S: System>(
+    entries: Entries,
+    files: usize,
+    text: &[u8],
+    prefixes: &Prefixes,
+    outside: &mut Outside<'_, S>,
+) -> Result<Entries, SpecsFault>
+    ensures asks { Asked S.events outside.old outside.new }
+    ensures works { (F : Facts) → Extends outside.new.facts.now F
+        → GivesKnown fault.Memory (λ worked. worked) result
+        (worked F prefixes.now entries files (read_settled text.now)) }
+{
+    let mut entries = entries;
+    let mut files = files;
+    let levels = MOST_LEVELS - 1;
+    carry_out(&mut entries, &mut files, levels, text, prefixes, outside)?;
+    Ok(entries)
+}
+
+/// A copy of entries after the directives of a settled text, in which so many more files may be
+/// read.
 #[tactic(auto, using(drv_system::proofs::AskedCalls::asked_further))]
 fn draft_of<S: System>(
     entries: &Entries,
@@ -127,11 +148,8 @@ fn draft_of<S: System>(
         → GivesKnown fault.Memory (λ draft. draft) result
         (worked F prefixes.now entries.now files (read_settled text.now)) }
 {
-    let mut draft = entries.copied()?;
-    let mut files = files;
-    let levels = MOST_LEVELS - 1;
-    carry_out(&mut draft, &mut files, levels, text, prefixes, outside)?;
-    Ok(draft)
+    let draft = entries.copied()?;
+    worked_entries(draft, files, text, prefixes, outside)
 }
 
 impl SpecSet {
@@ -155,6 +173,25 @@ impl SpecSet {
         let draft = draft_of(&self.entries, files, text, prefixes, outside)?;
         self.entries = draft;
         Ok(())
+    }
+
+    /// The set after the directives of a settled text, in which so many more files may be read.
+    fn worked<S: System>(
+        self,
+        files: usize,
+        text: &[u8],
+        prefixes: &Prefixes,
+        outside: &mut Outside<'_, S>,
+    ) -> Result<SpecSet, SpecsFault>
+        requires { IsSettled text.now }
+        ensures asks { Asked S.events outside.old outside.new }
+        ensures works { (F : Facts) → Extends outside.new.facts.now F
+            → GivesKnown fault.Memory (λ set. set) result
+            (worked F prefixes.now self files (read_settled text.now)) }
+    {
+        let entries = self.into_entries();
+        let entries = worked_entries(entries, files, text, prefixes, outside)?;
+        Ok(SpecSet { entries })
     }
 
     /// Carries out the directives of a text (GCC manual, "Spec Files"). After an error the set is
@@ -206,5 +243,28 @@ impl SpecSet {
         let alloc = self.entries.alloc();
         let text = file_text(alloc, IfMissing::Refuse, name.as_bytes(), prefixes, outside)?;
         self.work(MOST_FILES - 1, text.as_slice(), prefixes, outside)
+    }
+
+    /// The set with the directives of the file of this name carried out, as `load_file` does; no
+    /// copy of the set is made. After an error it doesn't come back.
+    ///
+    /// # Errors
+    /// Those of `load_file`.
+    pub fn with_file<S: System>(
+        self,
+        name: &Word,
+        prefixes: &Prefixes,
+        sys: &mut S,
+        facts: &mut FactTable,
+    ) -> Result<SpecSet, SpecsFault>
+        ensures asks { Asks (S.events sys.old) (S.events sys.new) facts.old facts.new }
+        ensures loads { (F : Facts) → Extends facts.new F
+            → GivesKnown fault.Memory (λ set. set) result
+            (file_loaded F prefixes.now self name.now) }
+    {
+        let outside = &mut Outside { sys, facts };
+        let alloc = self.entries.alloc();
+        let text = file_text(alloc, IfMissing::Refuse, name.as_bytes(), prefixes, outside)?;
+        self.worked(MOST_FILES - 1, text.as_slice(), prefixes, outside)
     }
 }

@@ -1,5 +1,6 @@
 //! Spec sets: named texts and suffix pairs.
 
+ghost use Rattle.drv_specs.specs.Kept.{Kept};
 ghost use Rattle.drv_specs.specs.Sets.{no_specs, text_of, worked_text};
 ghost use Rattle.std.specs.Option.{option_map};
 ghost use Rattle.std.specs.Prelude.{◌≡◌, option_and_then, slice_get};
@@ -9,6 +10,7 @@ use drv_syntax::SpecTree;
 use drv_words::Word;
 use std::alloc::Global;
 use std::marker::Model;
+use std::mem;
 
 /// Named texts in order and suffix pairs in order, each text that is worked with its tree.
 /// Contracts see the two lists.
@@ -42,6 +44,17 @@ impl SpecSet {
         SpecSet {
             entries: Entries::empty(alloc),
         }
+    }
+
+    /// The entries, which takes no memory.
+    #[tactic(auto, using(crate::proofs::BuiltinKept::kept_empty))]
+    pub(crate) fn into_entries(self) -> Entries
+        ensures same { result ≡ self }
+        ensures kept { Kept result }
+    {
+        let mut set = self;
+        let none = Entries::empty(set.entries.alloc());
+        mem::replace(&mut set.entries, none)
     }
 
     /// The text of a name. It takes no memory.

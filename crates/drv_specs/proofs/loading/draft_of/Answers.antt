@@ -1,14 +1,10 @@
-use Rattle.drv_specs.proofs.Carrying.{refusal_given, worked_fails, worked_given}
+use Rattle.drv_specs.proofs.Carrying.{given_alike}
 use Rattle.drv_specs.proofs.loading.draft_of.Goals as goal
 use Rattle.drv_specs.specs.Directives.{read_settled}
 use Rattle.drv_specs.specs.Loading.{worked}
-
-pub returns-in_err-carry_out-clause-works : goal.returns-in_err-carry_out-clause-works
-returns-in_err-carry_out-clause-works g c F e =
-    refusal_given c.in_err-carry_out.field-0.0 c.from_residual-in_err-carry_out.result _ (worked F c.args.prefixes.now c.args.entries.now c.args.files (read_settled c.args.text.now)) c.from_residual-in_err-carry_out.ensures.1
-    (worked_fails F c.args.prefixes.now c.in_ok-draft.draft c.args.entries.now c.in_ok-draft.ensures c.args.files (read_settled c.args.text.now) c.in_err-carry_out.field-0.0 (c.in_err-carry_out.ensures.carried F e))
+use Rattle.std.proofs.Common.{ap}
 
 pub returns-clause-works : goal.returns-clause-works
 returns-clause-works g c F e =
-    worked_given F c.args.prefixes.now c.in_ok-draft.draft c.args.entries.now c.in_ok-draft.ensures c.args.files (read_settled c.args.text.now) (record { set = c.carry_out.new.entries; files = c.carry_out.new.files })
-    (c.in_ok-carry_out.ensures.carried F e)
+    given_alike _ c.worked_entries.result (worked F c.args.prefixes.now c.in_ok-draft.draft c.args.files (read_settled c.args.text.now)) (worked F c.args.prefixes.now c.args.entries.now c.args.files (read_settled c.args.text.now))
+    (ap (λ set. worked F c.args.prefixes.now set c.args.files (read_settled c.args.text.now)) c.in_ok-draft.ensures) (c.worked_entries.ensures.works F e)

@@ -1,0 +1,8 @@
+use Rattle.drv_specs.proofs.Keeping.{settled_keeps}
+use Rattle.drv_specs.proofs.set.SpecSet.worked.Goals as goal
+use Rattle.drv_system.proofs.Asking.{extends_refl}
+
+pub invariant_of-result : goal.invariant_of-result
+invariant_of-result g c =
+    settled_keeps c.worked_entries.new.outside.facts.now c.args.prefixes.now c.into_entries-entries.result c.in_ok-entries.entries c.args.files c.args.text.now
+    c.requires c.into_entries-entries.ensures.kept (c.in_ok-entries.ensures.works c.worked_entries.new.outside.facts.now (extends_refl c.worked_entries.new.outside.facts.now))
