@@ -14,7 +14,7 @@ use Rattle.drv_words.specs.declared.steps.Place.{Place}
 use Rattle.drv_words.specs.declared.steps.Place.TheVariants as place
 use Rattle.drv_words.specs.declared.steps.Step.{Step}
 use Rattle.drv_words.specs.declared.steps.Step.TheVariants as step
-use Rattle.std.specs.Prelude.{◌&&◌, Bool, List, [], ◌∷◌, None, Option, Some, false, nat_eq, true, ℕ}
+use Rattle.std.specs.Prelude.{◌≡◌, ◌&&◌, Bool, List, [], ◌∷◌, None, Option, Some, false, nat_eq, true, ℕ}
 
 -- What the steps of a run are answered, where some answers are given ahead: the first that is given for the step's place and is of the
 -- step's kind, or else that all is well (this project's profile).
@@ -70,3 +70,17 @@ answer_to given n step.ClosePipe = answer.Closed
 answer_to given n (step.Wait p id) = answer.Wait (wait_at given p)
 answer_to given n (step.Remove p) = answer.Remove (removal_at given p)
 answer_to given n (step.Report note) = answer.Reported true
+
+-- a step at this place
+abbrev pub is_at : Place → Step → Bool
+is_at p (step.Claim q) = is_same q p
+is_at p (step.Start q from_pipe to_pipe) = is_same q p
+is_at p step.ClosePipe = false
+is_at p (step.Wait q id) = is_same q p
+is_at p (step.Remove q) = is_same q p
+is_at p (step.Report note) = false
+
+-- An answer that is given for a place changes the answers to the steps at that place alone.
+abbrev pub ChangesOnePlace : Type 0
+ChangesOnePlace = (g : Given) (given : List Given) (n : ℕ) (s : Step) → is_at g.place s ≡ false
+    → answer_to (g ∷ given) n s ≡ answer_to given n s

@@ -2,7 +2,17 @@
 #![tactic(auto)]
 
 mod answers;
+mod law;
+mod leaving;
+mod places;
 mod running;
+mod telling;
+mod worded;
 
 pub use answers::Given;
+pub use law::one_place_law;
+pub use leaving::left;
+pub use places::{command_at, name_at};
 pub use running::after;
+pub use telling::story;
+pub use worded::{GivenFault, given_of};

@@ -27,6 +27,7 @@ pub fn after<'a>(
     requires most { window ≤ 64 }
     ensures plan { IfOk result (λ run. run.plan ≡ plan.now) }
     ensures pass_codes { IfOk result (λ run. run.pass_codes ≡ pass_codes) }
+    ensures window { IfOk result (λ run. run.window ≡ window) }
     ensures after { IfOk result (λ run. After plan.now window given.now run.events) }
     ensures whole { IfOk result (λ run. IfMake run.action (λ step. ⊥)) }
 {

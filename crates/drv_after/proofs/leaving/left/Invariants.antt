@@ -1,0 +1,6 @@
+use Rattle.drv_after.proofs.leaving.left.Given as goal
+use Rattle.drv_after.specs.Left.{left_from}
+use Rattle.std.proofs.Common.{◌≡◌, [], drop}
+
+abbrev pub invariant-loop-event : goal.invariant-loop-event
+invariant-loop-event l = left_from l.plan l.left.items (drop l.event-index l.events) ≡ left_from l.plan [] l.events

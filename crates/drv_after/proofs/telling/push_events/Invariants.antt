@@ -1,0 +1,6 @@
+use Rattle.drv_after.proofs.telling.push_events.Given as goal
+use Rattle.drv_after.specs.Story.{events_text}
+use Rattle.std.proofs.Common.{◌≡◌, ◌++◌, drop}
+
+abbrev pub invariant-loop-event : goal.invariant-loop-event
+invariant-loop-event l = l.text ++ events_text l.plan (drop l.event-index l.events) ≡ l.fn.text ++ events_text l.plan l.events
