@@ -25,7 +25,7 @@ use Rattle.drv_syntax.specs.declared.tree.Parts.{Parts}
 use Rattle.drv_syntax.proofs.CutRows.{le_true}
 use Rattle.drv_syntax.proofs.Leads.{same}
 use Rattle.drv_syntax.proofs.WalkReads.{given_fault, given_parts, given_tree}
-use Rattle.std.proofs.Common.{◌≡◌, ◌∙◌, ◌⊎◌, inl, inr, ◌+◌, ◌-◌, ◌≤◌, ◌*◌, Bool, true, false, List, [], ◌∷◌, ◌++◌, ap, append_assoc, arith, length, length-append, refl, subst, suc, sym, ℕ}
+use Rattle.std.proofs.Common.{◌≡◌, ◌∙◌, ◌⊎◌, inl, inr, ◌+◌, ◌-◌, ◌≤◌, Bool, true, false, List, [], ◌∷◌, ◌++◌, ap, append_assoc, arith, length, length-append, refl, subst, suc, sym, ℕ}
 use Rattle.std.specs.Prelude.{◌==◌, if◌then◌else◌, IsErrAnd, nat_le, Result, Err, Ok}
 
 -- A text's walk, gone on over more bytes, is the walk of both.
@@ -134,32 +134,23 @@ goes_further endings.Word [] rest h = absurd cc
 goes_further endings.Word (b ∷ more) rest h = h
 goes_further endings.Message more rest h = absurd cc
 
-some : (ending : Ending) (more : List ℕ) → goes_on ending more ≡ true → 1 ≤ length more
-some endings.Item [] h = absurd cc
-some endings.Item (b ∷ more) h = omega arith
-some endings.Word [] h = absurd cc
-some endings.Word (b ∷ more) h = omega arith
-some endings.Message more h = absurd cc
-
 -- What the code keeps of a text.
 
 pub tree_first : (text : List ℕ) (e : Ended) → length text ≤ 1048576 → walk started 0 text ≡ Ok (state e.walk) → parsed text ≡ Ok (tree_of text)
-tree_first text e h is = given_tree text (e.walk.tokens.items, e.walk.labels) h (ap parts_in is)
+tree_first text e h is = given_tree text (e.walk.tokens, e.walk.labels) h (ap parts_in is)
 
 pub fault_first : (text : List ℕ) (fault : SyntaxFault) → length text ≤ 1048576 → walk started 0 text ≡ Err fault → parsed text ≡ Err fault
 fault_first text fault h is = given_fault text fault h (ap parts_in is)
 
 pub ended_first : (text : List ℕ) (e : Ended) → length text ≤ 1048576 → walk started 0 text ≡ Ok (state e.walk) → Follows e.ending started 0 text (state e.walk)
-    → length e.walk.tokens.items ≤ 4 * length text + 1 → e.walk.trailing ≤ 4 * length text + 1 → IsEnded text e
-ended_first text e h is follows size trail =
-    (given_parts text (e.walk.tokens.items, e.walk.labels) h (ap parts_in is), follows, h, (omega (arith, size), omega (arith, trail)))
+    → IsEnded text e
+ended_first text e h is follows = (given_parts text (e.walk.tokens, e.walk.labels) h (ap parts_in is), follows, h)
 
 pub ended_nothing : (text : List ℕ) (e : Ended) → text ≡ [] → state e.walk ≡ started → e.ending ≡ endings.Item → IsEnded text e
 ended_nothing text e none begun item =
     subst (λ (t : List ℕ). IsEnded t e) (sym none)
     (ended_first [] e (omega arith) (ap (λ (v : ReaderState). passed v) (sym begun))
-    (λ rest on. ap (λ (v : ReaderState). pass v 0 rest) (sym begun))
-    (omega (arith, ap (λ (v : ReaderState). length v.tokens) begun)) (omega (arith, ap (λ (v : ReaderState). v.trailing) begun)))
+    (λ rest on. ap (λ (v : ReaderState). pass v 0 rest) (sym begun)))
   where
     passed : ReaderState → Result ReaderState SyntaxFault
     passed v = Ok v
@@ -186,19 +177,15 @@ module _ (text more : List ℕ) (old : Ended) (is : IsEnded text old) (short : l
   fault_more fault h = fault_first (text ++ more) fault both_short (walk_both ∙ h)
 
   pub ended_more : (e : Ended) → walk (state old.walk) (length text) more ≡ Ok (state e.walk) → Follows e.ending (state old.walk) (length text) more (state e.walk)
-      → length e.walk.tokens.items ≤ length old.walk.tokens.items + 4 * length more + 1 → e.walk.trailing ≤ old.walk.trailing + 4 * length more + 1 → IsEnded (text ++ more) e
-  ended_more e h follows size trail = (
-    given_parts (text ++ more) (e.walk.tokens.items, e.walk.labels) both_short (ap parts_in (walk_both ∙ h)),
+      → IsEnded (text ++ more) e
+  ended_more e h follows = (
+    given_parts (text ++ more) (e.walk.tokens, e.walk.labels) both_short (ap parts_in (walk_both ∙ h)),
     λ rest on.
         ap (λ (t : List ℕ). pass started 0 t) (append_assoc text more rest)
         ∙ following (more ++ rest) (goes_further old.ending more rest goes)
         ∙ follows rest on
         ∙ ap (λ (i : ℕ). pass (state e.walk) i rest) (omega (arith, length-append text more)),
     both_short,
-    (
-      omega (arith, length-append text more, size, is.3.0, some old.ending more goes),
-      omega (arith, length-append text more, trail, is.3.1, some old.ending more goes),
-    ),
   )
 
 -- the same where the text is seen as this list, and the place after it is this
@@ -225,11 +212,11 @@ module _ (text self more all : List ℕ) (n : ℕ) (old : Ended) (is : IsEnded t
       failed x = Err x
 
   pub ended_there : (e : Ended) → all ≡ text ++ more → walk (state old.walk) n more ≡ Ok (state e.walk) → Follows e.ending (state old.walk) n more (state e.walk)
-      → length e.walk.tokens.items ≤ length old.walk.tokens.items + 4 * length more + 1 → e.walk.trailing ≤ old.walk.trailing + 4 * length more + 1 → IsEnded all e
-  ended_there e whole h follows size trail =
+      → IsEnded all e
+  ended_there e whole h follows =
       subst (λ (t : List ℕ). IsEnded t e) (sym whole)
       (ended_more text more old is within goes e (sym (there (λ i. walk (state old.walk) i more)) ∙ h)
-      (λ rest on. sym (there (λ i. pass (state old.walk) i (more ++ rest))) ∙ follows rest on ∙ there (λ i. pass (state e.walk) (i + length more) rest)) size trail)
+      (λ rest on. sym (there (λ i. pass (state old.walk) i (more ++ rest))) ∙ follows rest on ∙ there (λ i. pass (state e.walk) (i + length more) rest)))
 
 -- a text that has a tree is no longer than a text may be
 short_listed : (text : List ℕ) (parts : List Token × List Label) → listed (parsed text) ≡ Ok parts → length text ≤ 1048576

@@ -4,7 +4,8 @@ use Rattle.drv_syntax.specs.Bytes.{is_name_byte, is_suffix, is_word}
 use Rattle.drv_syntax.specs.Labels.{Label, word_label}
 use Rattle.drv_syntax.specs.Code.Marks.{byte_labels}
 use Rattle.drv_syntax.specs.Code.States.{Reads, Turns}
-use Rattle.drv_syntax.specs.Code.Steps.{ReaderState, at_stage, pass, plain_tokens, runs, said, step, step_at, then_walk, with_part, with_plains, with_word}
+use Rattle.drv_syntax.specs.Code.Steps.{ReaderState, at_stage, pass, runs, said, step, step_at, then_walk, with_part, with_plains, with_word}
+use Rattle.drv_syntax.specs.Code.Tokens.{plain_tokens}
 use Rattle.drv_syntax.specs.Code.Turns.{part}
 use Rattle.drv_syntax.specs.declared.directives.SayKind.{SayKind}
 use Rattle.drv_syntax.specs.declared.fault.SyntaxFault.TheVariants.{Memory}

@@ -9,7 +9,7 @@ use Rattle.drv_syntax.specs.Tree as tree
 use Rattle.drv_syntax.specs.Tree.{Asked, Brace, Choices, Item, Items, Pattern, Span, Tests, first_place, last_place, trimmed}
 use Rattle.drv_syntax.specs.Code.Turns as w
 use Rattle.drv_syntax.specs.Code.Steps as s
-use Rattle.drv_syntax.specs.Code.Steps.{ReaderState, open_token}
+use Rattle.drv_syntax.specs.Code.Steps.{ReaderState}
 use Rattle.drv_syntax.specs.declared.fault.SyntaxFault.TheVariants.{EmptyTest}
 use Rattle.drv_syntax.specs.declared.directives.BraceKind.TheVariants as braces
 use Rattle.drv_syntax.specs.declared.directives.BraceKind.{BraceKind}

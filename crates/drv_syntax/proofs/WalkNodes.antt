@@ -4,7 +4,7 @@ use Rattle.drv_syntax.specs.Spelling.{span}
 use Rattle.drv_syntax.specs.Tokens.{asked_tokens, brace_tokens, choice_tokens, inner_tokens, item_tokens, kind_of, pattern_tokens, test_tokens, token, tokens_of}
 use Rattle.drv_syntax.specs.Tree as tree
 use Rattle.drv_syntax.specs.Tree.{Asked, Brace, Choices, Item, Items, Pattern, Span, Tests, kept, last_place, trimmed}
-use Rattle.drv_syntax.specs.Code.Steps.{open_token}
+use Rattle.drv_syntax.specs.Code.Tokens.{open_token}
 use Rattle.drv_syntax.specs.declared.token.Token.{Token}
 use Rattle.drv_syntax.specs.declared.token.TokenKind.TheVariants as kinds
 use Rattle.drv_syntax.specs.declared.token.TokenKind.{TokenKind}

@@ -8,7 +8,7 @@ use Rattle.drv_syntax.specs.Tree.{Asked, Brace, Choices, Item, Items, Pattern, S
 use Rattle.drv_syntax.specs.Code.Turns as w
 use Rattle.drv_syntax.specs.Code.States.{parts_in}
 use Rattle.drv_syntax.specs.Code.Steps as s
-use Rattle.drv_syntax.specs.Code.Steps.{ReaderState, open_token}
+use Rattle.drv_syntax.specs.Code.Steps.{ReaderState}
 use Rattle.drv_syntax.specs.declared.fault.SyntaxFault.TheVariants.{TextTooLong, Unclosed}
 use Rattle.drv_syntax.specs.declared.fault.SyntaxFault.{SyntaxFault}
 use Rattle.drv_syntax.specs.declared.reader.stages.ListContext.{ListContext}

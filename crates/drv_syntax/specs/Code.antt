@@ -7,4 +7,5 @@ pub mod Parts
 pub mod Resuming
 pub mod States
 pub mod Steps
+pub mod Tokens
 pub mod Turns

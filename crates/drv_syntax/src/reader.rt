@@ -17,6 +17,7 @@ mod stages;
 mod state;
 mod steps;
 mod test_turns;
+mod tokens;
 mod turns;
 
 pub use ending::Ended;

@@ -1,4 +1,5 @@
 use Rattle.drv_syntax.specs.Code.Steps.{ReaderState, after_item, brace_token, with_label, with_leaf}
+use Rattle.drv_syntax.specs.Code.Tokens.{whole_token}
 use Rattle.drv_syntax.specs.Code.Turns.{after_pattern}
 use Rattle.drv_syntax.specs.Labels.{no_label}
 use Rattle.drv_syntax.specs.declared.directives.BraceKind.{BraceKind}
@@ -15,4 +16,4 @@ with_filled kind at start end starred word w =
     (with_label (after_pattern (operands.Switch start end false starred) word)
     (with_leaf kinds.Pattern start end
     (with_label no_label
-    (record w { tokens = w.tokens ++ record { kind = brace_token kind true; start = at; end = end + 1; next = length w.tokens + 2 } ∷ [] }))))
+    (record w { tokens = w.tokens ++ whole_token (brace_token kind true) at (end + 1) (length w.tokens + 2) ∷ [] }))))

@@ -9,7 +9,7 @@ use Rattle.drv_syntax.specs.declared.reader.ending.Ending.{Ending}
 use Rattle.drv_syntax.specs.declared.reader.stages.ListStage.TheVariants as stages
 use Rattle.drv_syntax.specs.declared.reader.stages.Stage.TheVariants as at
 use Rattle.drv_syntax.specs.declared.reader.stages.Stage.{Stage}
-use Rattle.std.specs.Prelude.{◌≡◌, ◌+◌, ◌*◌, ◌≤◌, Bool, false, true, List, [], ◌∷◌, ◌++◌, length, Ok, ℕ}
+use Rattle.std.specs.Prelude.{◌≡◌, ◌+◌, ◌≤◌, Bool, false, true, List, [], ◌∷◌, ◌++◌, length, Ok, ℕ}
 
 -- Where a text can be read on after its end (this project's profile). For the clauses of the code alone.
 
@@ -39,14 +39,9 @@ goes_on endings.Message more = false
 abbrev pub Follows : Ending → ReaderState → ℕ → List ℕ → ReaderState → Type 0
 Follows ending v n text w = (more : List ℕ) → goes_on ending more ≡ true → pass v n (text ++ more) ≡ pass w (n + length text) more
 
--- a state holds few tokens for so many bytes
-abbrev pub Small : ℕ → Ended → Type 0
-Small n e = (length e.walk.tokens.items ≤ 5 * n + 1) × (e.walk.trailing ≤ 5 * n + 1)
-
 -- what a text has come to
 abbrev pub IsEnded : List ℕ → Ended → Type 0
 IsEnded text e =
-    (listed (parsed text) ≡ Ok (e.walk.tokens.items, e.walk.labels))
+    (listed (parsed text) ≡ Ok (e.walk.tokens, e.walk.labels))
     × Follows e.ending started 0 text (state e.walk)
     × (length text ≤ 1048576)
-    × Small (length text) e

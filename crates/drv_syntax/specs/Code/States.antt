@@ -9,11 +9,7 @@ use Rattle.std.specs.Prelude.{◌≡◌, ◌⊎◌, ◌+◌, ◌≤◌, drop, le
 -- The state of the code, as its clauses see it.
 
 abbrev pub state : code.ReaderState → ReaderState
-state w = record { stage = w.stage; context = w.context; waiting = reverse w.waiting.items; tokens = w.tokens.items; labels = w.labels; word = w.word.items; kept = w.kept; trailing = w.trailing; holds_star = w.holds_star }
-
--- a step adds few tokens
-abbrev pub Fits : code.ReaderState → code.ReaderState → Type 0
-Fits old new = (length new.tokens.items ≤ length old.tokens.items + 3) × (new.trailing ≤ old.trailing + 1)
+state w = record { stage = w.stage; context = w.context; waiting = reverse w.waiting.items; tokens = w.tokens; labels = w.labels; word = w.word.items; kept = w.kept; trailing = w.trailing; holds_star = w.holds_star }
 
 -- the tokens that a state holds, and their labels
 abbrev pub parts_in : Result ReaderState SyntaxFault → Result (List Token × List Label) SyntaxFault

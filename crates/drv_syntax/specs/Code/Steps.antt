@@ -2,6 +2,7 @@ use Rattle.drv_words.specs.Bytes as ascii
 use Rattle.drv_syntax.specs.Bytes.{is_of, is_white}
 use Rattle.drv_syntax.specs.Labels.{Label, no_label, star_label, word_label}
 use Rattle.drv_syntax.specs.Code.Marks.{byte_labels}
+use Rattle.drv_syntax.specs.Code.Tokens.{open_token, plain_tokens, whole_token}
 use Rattle.drv_syntax.specs.Code.Turns.{after_pattern, after_test, called_label, chooses, choice_action, emits, head_action, single_kind, single_label, list_turn, percent_action, start_action, taken_word}
 use Rattle.drv_syntax.specs.declared.fault.SyntaxFault.TheVariants.{BadDirective, EmptyTest, Unclosed}
 use Rattle.drv_syntax.specs.declared.fault.SyntaxFault.{SyntaxFault}
@@ -53,9 +54,6 @@ pub record ReaderState : Type 0 where
   pub trailing : ℕ  -- how many bytes of white space it ends in
   pub holds_star : Bool  -- the innermost X has a %* of its own so far
 
-abbrev pub open_token : TokenKind → ℕ → Token
-open_token kind start = record { kind = kind; start = start; end = start; next = 0 }
-
 -- where the next token goes
 abbrev pub next_open : ReaderState → ℕ → Open
 next_open w start = record { token = length w.tokens; start = start }
@@ -68,10 +66,10 @@ with_label label w = record w { labels = w.labels ++ label ∷ [] }
 
 -- a token without tokens inside it
 abbrev pub with_leaf : TokenKind → ℕ → ℕ → ReaderState → ReaderState
-with_leaf kind start end w = record w { tokens = w.tokens ++ record { kind = kind; start = start; end = end; next = length w.tokens + 1 } ∷ [] }
+with_leaf kind start end w = record w { tokens = w.tokens ++ whole_token kind start end (length w.tokens + 1) ∷ [] }
 
 abbrev pub close_token : TokenKind → Open → ℕ → ReaderState → ReaderState
-close_token kind part end w = record w { tokens = slice_set w.tokens part.token (record { kind = kind; start = part.start; end = end; next = length w.tokens }) }
+close_token kind part end w = record w { tokens = slice_set w.tokens part.token (whole_token kind part.start end (length w.tokens)) }
 
 abbrev pub is_white_single : Single → Bool
 is_white_single singles.Blank = true
@@ -82,6 +80,10 @@ abbrev pub is_star : Single → Bool
 is_star singles.Star = true
 is_star _ = false
 
+-- one more byte of white space at the end of the innermost list
+abbrev pub count_white : ReaderState → ReaderState
+count_white w = record w { trailing = w.trailing + 1 }
+
 -- an item without parts inside it
 abbrev pub with_part : Part → ReaderState → ReaderState
 with_part p w =
@@ -89,7 +91,7 @@ with_part p w =
       stage = at.List stages.Start;
       context = w.context;
       waiting = w.waiting;
-      tokens = w.tokens ++ record { kind = single_kind p.single; start = p.start; end = p.end; next = length w.tokens + 1 } ∷ [];
+      tokens = w.tokens ++ whole_token (single_kind p.single) p.start p.end (length w.tokens + 1) ∷ [];
       labels = w.labels ++ single_label p.single (taken_word p.taken w.word) ∷ [];
       word = [];
       kept = if is_white_single p.single then w.kept else p.end;
@@ -114,11 +116,6 @@ said_stops lists.InArguments = ascii.backslash ∷ ascii.newline ∷ []
 
 abbrev pub said : ListKind → ℕ → Bool
 said kind b = not (is_of (said_stops kind) b)
-
--- the tokens of bytes that stand for themselves, the first at the place n, with the place in the list after it
-abbrev pub plain_tokens : ℕ → ℕ → List ℕ → List Token
-plain_tokens n next [] = []
-plain_tokens n next (b ∷ run) = record { kind = kinds.Plain; start = n; end = n + 1; next = next } ∷ plain_tokens (n + 1) (next + 1) run
 
 abbrev pub with_plains : ℕ → List ℕ → ReaderState → ReaderState
 with_plains n run w =

@@ -1,6 +1,6 @@
 //! What ends a test, braces or a list.
 
-ghost use Rattle.drv_syntax.specs.Code.States.{Fits, state};
+ghost use Rattle.drv_syntax.specs.Code.States.{state};
 ghost use Rattle.drv_syntax.specs.Code.Steps as steps;
 ghost use Rattle.drv_syntax.specs.Code.Turns as turns;
 ghost use Rattle.drv_words.specs.Gives.{Gives};
@@ -8,7 +8,6 @@ ghost use Rattle.std.specs.Prelude.{◌≡◌, ◌<◌, ◌≤◌, ◌^◌, ◌+
 
 use crate::fault::SyntaxFault;
 use crate::reader::bytes::is_white;
-use crate::reader::edits::close_token;
 use crate::reader::nesting::{
     after_item, alternative_of, ask, chooses, close_braces, emits, first_of, lent_pattern,
     lent_test, negates, starred_of, stars, tests, untested, with_pattern, with_test,
@@ -28,11 +27,9 @@ pub fn act_ends(
     n: u32,
     w: &mut ReaderState,
 ) -> Result<(), SyntaxFault>
-    requires room { length w.old.tokens.items < 2 ^ 31 }
-    requires place { n < 2 ^ 31 }
-    ensures does { Gives SyntaxFault.Memory (λ _. state w.new) result
+    requires { n < 2 ^ 31 }
+    ensures { Gives SyntaxFault.Memory (λ _. state w.new) result
         (steps.act_ends head form operand n (state w.old)) }
-    ensures fits { OnOk result (Fits w.old w.new) }
 {
     if !emits(form, negates(operand)) {
         return Err(SyntaxFault::BadDirective(head.part.start as usize));
@@ -49,10 +46,8 @@ pub fn act_joins(
     operand: Operand,
     w: &mut ReaderState,
 ) -> Result<(), SyntaxFault>
-    requires room { length w.old.tokens.items < 2 ^ 31 }
-    ensures does { Gives SyntaxFault.Memory (λ _. state w.new) result
+    ensures { Gives SyntaxFault.Memory (λ _. state w.new) result
         (steps.act_joins head form operand (state w.old)) }
-    ensures fits { OnOk result (Fits w.old w.new) }
 {
     if !emits(form, negates(operand)) {
         return Err(SyntaxFault::BadDirective(head.part.start as usize));
@@ -75,11 +70,9 @@ pub fn act_asks(
     n: u32,
     w: &mut ReaderState,
 ) -> Result<(), SyntaxFault>
-    requires room { length w.old.tokens.items < 2 ^ 31 }
-    requires place { n < 2 ^ 31 }
-    ensures does { Gives SyntaxFault.Memory (λ _. state w.new) result
+    requires { n < 2 ^ 31 }
+    ensures { Gives SyntaxFault.Memory (λ _. state w.new) result
         (steps.act_asks head form operand n (state w.old)) }
-    ensures fits { OnOk result (Fits w.old w.new) }
 {
     if !(tests(operand) && chooses(form)) {
         return Err(untested(head.part.start, operand));
@@ -103,10 +96,8 @@ pub fn act_bars(
     operand: Operand,
     w: &mut ReaderState,
 ) -> Result<(), SyntaxFault>
-    requires room { length w.old.tokens.items < 2 ^ 31 }
-    ensures does { Gives SyntaxFault.Memory (λ _. state w.new) result
+    ensures { Gives SyntaxFault.Memory (λ _. state w.new) result
         (steps.act_bars head form operand (state w.old)) }
-    ensures fits { OnOk result (Fits w.old w.new) }
 {
     if !(tests(operand) && chooses(form)) {
         return Err(untested(head.part.start, operand));
@@ -134,11 +125,9 @@ fn ends_with(
     n: u32,
     w: &mut ReaderState,
 ) -> Result<(), SyntaxFault>
-    requires room { length w.old.tokens.items < 2 ^ 31 }
-    requires place { n < 2 ^ 31 }
-    ensures does { Gives SyntaxFault.Memory (λ _. state w.new) result
+    requires { n < 2 ^ 31 }
+    ensures { Gives SyntaxFault.Memory (λ _. state w.new) result
         (steps.act_ends head form operand n (steps.with_word word.now (state w.old))) }
-    ensures fits { OnOk result (Fits w.old w.new) }
 {
     if !emits(form, negates(operand)) {
         return Err(SyntaxFault::BadDirective(head.part.start as usize));
@@ -158,11 +147,9 @@ fn asks_with(
     n: u32,
     w: &mut ReaderState,
 ) -> Result<(), SyntaxFault>
-    requires room { length w.old.tokens.items < 2 ^ 31 }
-    requires place { n < 2 ^ 31 }
-    ensures does { Gives SyntaxFault.Memory (λ _. state w.new) result
+    requires { n < 2 ^ 31 }
+    ensures { Gives SyntaxFault.Memory (λ _. state w.new) result
         (steps.act_asks head form operand n (steps.with_word word.now (state w.old))) }
-    ensures fits { OnOk result (Fits w.old w.new) }
 {
     if !(tests(operand) && chooses(form)) {
         return Err(untested(head.part.start, operand));
@@ -191,12 +178,10 @@ pub fn act_lent(
     w: &mut ReaderState,
 ) -> Result<(), SyntaxFault>
     requires end { steps.ends_word b ≡ true }
-    requires room { length w.old.tokens.items < 2 ^ 31 }
     requires place { n < 2 ^ 31 }
-    ensures does { Gives SyntaxFault.Memory (λ _. state w.new) result
+    ensures { Gives SyntaxFault.Memory (λ _. state w.new) result
         (steps.act_head head form (turns.after_action head.part.start operand b) n b
         (steps.with_word word.now (state w.old))) }
-    ensures fits { OnOk result (Fits w.old w.new) }
 {
     if b == b'}' {
         ends_with(head, form, operand, word, n, w)
@@ -207,28 +192,22 @@ pub fn act_lent(
 
 #[tactic(auto, using(crate::proofs::Trims::untrimmed))]
 fn trim(w: &mut ReaderState)
-    ensures does { state w.new ≡ steps.trim (state w.old) }
-    ensures size { length w.new.tokens.items ≤ length w.old.tokens.items }
-    ensures trail { w.new.trailing ≡ w.old.trailing }
+    ensures { state w.new ≡ steps.trim (state w.old) }
 {
     if w.trailing == 0 {
         return;
     }
-    let left = w.tokens.len().saturating_sub(w.trailing as usize);
-    w.tokens.truncate(left);
+    w.tokens.drop_last(w.trailing);
     let left = w.labels.len().saturating_sub(w.trailing as usize);
     w.labels.truncate(left);
 }
 
 /// An alternative ends, where the X around it has a `%*` of its own so far or has none.
 fn close_alternative(part: Open, around: bool, w: &mut ReaderState)
-    requires { length w.old.tokens.items < 2 ^ 32 }
-    ensures does { state w.new ≡ steps.close_alternative part around (state w.old) }
-    ensures size { length w.new.tokens.items ≤ length w.old.tokens.items }
-    ensures trail { w.new.trailing ≡ w.old.trailing }
+    ensures { state w.new ≡ steps.close_alternative part around (state w.old) }
 {
     trim(w);
-    close_token(TokenKind::Alternative, part, w.kept, w);
+    w.tokens.close(TokenKind::Alternative, part, w.kept);
     w.labels.hold(part.token as usize, w.holds_star);
     w.holds_star = around;
 }
@@ -241,11 +220,9 @@ fn close_x(
     b: u8,
     w: &mut ReaderState,
 ) -> Result<(), SyntaxFault>
-    requires room { length w.old.tokens.items < 2 ^ 31 }
-    requires place { n < 2 ^ 31 }
-    ensures does { Gives SyntaxFault.Memory (λ _. state w.new) result
+    requires { n < 2 ^ 31 }
+    ensures { Gives SyntaxFault.Memory (λ _. state w.new) result
         (steps.close_x c head tested n b (state w.old)) }
-    ensures fits { OnOk result (Fits w.old w.new) }
 {
     if b == b'}' {
         close_braces(head, false, n + 1, c, w);
@@ -260,11 +237,9 @@ fn close_x(
 }
 
 fn close_frame(frame: Suspended, n: u32, b: u8, w: &mut ReaderState) -> Result<(), SyntaxFault>
-    requires room { length w.old.tokens.items < 2 ^ 31 }
-    requires place { n < 2 ^ 31 }
-    ensures does { Gives SyntaxFault.Memory (λ _. state w.new) result
+    requires { n < 2 ^ 31 }
+    ensures { Gives SyntaxFault.Memory (λ _. state w.new) result
         (steps.close_frame frame n b (state w.old)) }
-    ensures fits { OnOk result (Fits w.old w.new) }
 {
     match frame {
         Suspended::X {
@@ -279,7 +254,7 @@ fn close_frame(frame: Suspended, n: u32, b: u8, w: &mut ReaderState) -> Result<(
             close_x(c, head, tested, n, b, w)
         }
         Suspended::Call { context: c, part } => {
-            close_token(TokenKind::Function, part, n + 1, w);
+            w.tokens.close(TokenKind::Function, part, n + 1);
             after_item(c, n + 1, w);
             Ok(())
         }
@@ -290,7 +265,7 @@ fn close_frame(frame: Suspended, n: u32, b: u8, w: &mut ReaderState) -> Result<(
             part,
             chosen,
         } => {
-            close_token(TokenKind::Test, part, n + 1, w);
+            w.tokens.close(TokenKind::Test, part, n + 1);
             after_item(c, 0, w);
             w.stage = Stage::Result {
                 head,
@@ -304,11 +279,9 @@ fn close_frame(frame: Suspended, n: u32, b: u8, w: &mut ReaderState) -> Result<(
 
 /// The innermost list ends with this byte.
 pub fn close(n: u32, b: u8, w: &mut ReaderState) -> Result<(), SyntaxFault>
-    requires room { length w.old.tokens.items < 2 ^ 31 }
-    requires place { n < 2 ^ 31 }
-    ensures does { Gives SyntaxFault.Memory (λ _. state w.new) result
+    requires { n < 2 ^ 31 }
+    ensures { Gives SyntaxFault.Memory (λ _. state w.new) result
         (steps.close (state w.old).waiting n b (state w.old)) }
-    ensures fits { OnOk result (Fits w.old w.new) }
 {
     match w.waiting.pop() {
         Some(frame) => close_frame(frame, n, b, w),
@@ -325,13 +298,9 @@ pub fn act_result(
     b: u8,
     w: &mut ReaderState,
 ) -> Result<(), SyntaxFault>
-    requires room { length w.old.tokens.items < 2 ^ 30 }
-    requires place { n < 2 ^ 31 }
-    requires trail { w.old.trailing < 2 ^ 30 }
-    ensures does { Gives SyntaxFault.Memory (λ _. state w.new) result
+    requires { n < 2 ^ 31 }
+    ensures { Gives SyntaxFault.Memory (λ _. state w.new) result
         (steps.act_result head part chosen n b (state w.old)) }
-    ensures size { OnOk result (length w.new.tokens.items ≤ length w.old.tokens.items + 4) }
-    ensures trail { OnOk result (w.new.trailing ≤ w.old.trailing + 4) }
 {
     if is_white(b) {
         Ok(())

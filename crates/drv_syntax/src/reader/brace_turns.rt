@@ -16,7 +16,7 @@ use crate::reader::runs::{front, word_length};
 use crate::reader::stages::{Head, ListStage, Stage};
 use crate::reader::state::ReaderState;
 use crate::reader::turns::run;
-use crate::token::{Token, TokenKind};
+use crate::token::TokenKind;
 
 /// Where braces of this kind open and do not begin with a word that fills them.
 #[inline(never)]
@@ -27,31 +27,13 @@ fn opened_turn(
     inside: &[u8],
     w: &mut ReaderState,
 ) -> Result<usize, SyntaxFault>
-    requires room { length w.old.tokens.items < 2 ^ 28 }
-    requires place { n + length inside.now < 2 ^ 30 }
-    requires trail { w.old.trailing < 2 ^ 28 }
-    ensures does { Reads n inside.now (steps.open_braces at kind (state w.old))
+    requires { n + length inside.now < 2 ^ 30 }
+    ensures { Reads n inside.now (steps.open_braces at kind (state w.old))
         (state w.new) result }
-    ensures size { IfOk result (λ taken. length w.new.tokens.items
-        ≤ length w.old.tokens.items + 4 * (taken + 1)) }
-    ensures trail { IfOk result (λ taken. w.new.trailing ≤ w.old.trailing + 4 * (taken + 1)) }
 {
     open_braces(at, kind, w)?;
     let taken = run(n, inside, w)?;
     Ok(taken)
-}
-
-/// A part that opens here.
-#[inline(always)]
-fn opened(kind: TokenKind, start: u32) -> Token
-    ensures { result ≡ steps.open_token kind start }
-{
-    Token {
-        kind,
-        start,
-        end: start,
-        next: 0,
-    }
 }
 
 /// Braces in place whose first test is this word, which a colon ends.
@@ -64,30 +46,19 @@ fn with_asked(
     word: &[u8],
     w: &mut ReaderState,
 ) -> Result<(), SyntaxFault>
-    requires room { length w.old.tokens.items < 2 ^ 28 }
-    requires place { end < 2 ^ 31 }
-    ensures does { Gives SyntaxFault.Memory (λ _. state w.new) result
+    requires { end < 2 ^ 31 }
+    ensures { Gives SyntaxFault.Memory (λ _. state w.new) result
         (Ok (steps.with_asked at start end negated word.now (state w.old))) }
-    ensures size { OnOk result (length w.new.tokens.items ≤ length w.old.tokens.items + 3) }
-    ensures trail { OnOk result (w.new.trailing ≡ 0) }
 {
-    w.tokens.reserve(3)?;
     w.labels.push_asked(word, negated)?;
     let head = Head {
         kind: BraceKind::InPlace,
         part: next_open(w, at),
     };
-    w.tokens.push_reserved(opened(TokenKind::Choose, at));
+    w.tokens.open(TokenKind::Choose, at)?;
     let alternative = next_open(w, start);
-    w.tokens
-        .push_reserved(opened(TokenKind::Alternative, start));
-    let next = w.tokens.len() as u32 + 1;
-    w.tokens.push_reserved(Token {
-        kind: TokenKind::Test,
-        start,
-        end,
-        next,
-    });
+    w.tokens.open(TokenKind::Alternative, start)?;
+    w.tokens.push(TokenKind::Test, start, end)?;
     ask(head, alternative, true, false, end, w)
 }
 
@@ -96,14 +67,9 @@ fn with_asked(
 fn negation_turn(at: u32, n: u32, inside: &[u8], w: &mut ReaderState) -> Result<usize, SyntaxFault>
     requires mark { get_or inside.now 0 0 ≡ ascii.exclamation_mark }
     requires some { 0 < length inside.now }
-    requires room { length w.old.tokens.items < 2 ^ 28 }
     requires place { n + length inside.now < 2 ^ 30 }
-    requires trail { w.old.trailing < 2 ^ 28 }
-    ensures does { Reads n inside.now (steps.open_braces at BraceKind.InPlace (state w.old))
+    ensures { Reads n inside.now (steps.open_braces at BraceKind.InPlace (state w.old))
         (state w.new) result }
-    ensures size { IfOk result (λ taken. length w.new.tokens.items
-        ≤ length w.old.tokens.items + 4 * (taken + 1)) }
-    ensures trail { IfOk result (λ taken. w.new.trailing ≤ w.old.trailing + 4 * (taken + 1)) }
 {
     let following = &inside[1..];
     if following.is_empty() || !begins_word(following[0]) {
@@ -127,14 +93,9 @@ pub fn braces_turn(
     w: &mut ReaderState,
 ) -> Result<usize, SyntaxFault>
     requires here { w.old.stage ≡ Stage.List ListStage.Start }
-    requires room { length w.old.tokens.items < 2 ^ 28 }
     requires place { n + length inside.now < 2 ^ 30 }
-    requires trail { w.old.trailing < 2 ^ 28 }
-    ensures does { Reads n inside.now (steps.open_braces at BraceKind.InPlace (state w.old))
+    ensures { Reads n inside.now (steps.open_braces at BraceKind.InPlace (state w.old))
         (state w.new) result }
-    ensures size { IfOk result (λ taken. length w.new.tokens.items
-        ≤ length w.old.tokens.items + 4 * (taken + 1)) }
-    ensures trail { IfOk result (λ taken. w.new.trailing ≤ w.old.trailing + 4 * (taken + 1)) }
 {
     if inside.is_empty() {
         return opened_turn(BraceKind::InPlace, at, n, inside, w);
@@ -176,14 +137,9 @@ pub fn marked_turn(
     w: &mut ReaderState,
 ) -> Result<usize, SyntaxFault>
     requires here { w.old.stage ≡ Stage.List ListStage.Start }
-    requires room { length w.old.tokens.items < 2 ^ 28 }
     requires place { n + length inside.now < 2 ^ 30 }
-    requires trail { w.old.trailing < 2 ^ 28 }
-    ensures does { Reads n inside.now (steps.open_braces at kind (state w.old))
+    ensures { Reads n inside.now (steps.open_braces at kind (state w.old))
         (state w.new) result }
-    ensures size { IfOk result (λ taken. length w.new.tokens.items
-        ≤ length w.old.tokens.items + 4 * (taken + 1)) }
-    ensures trail { IfOk result (λ taken. w.new.trailing ≤ w.old.trailing + 4 * (taken + 1)) }
 {
     if inside.is_empty() || !begins_word(inside[0]) {
         return opened_turn(kind, at, n, inside, w);

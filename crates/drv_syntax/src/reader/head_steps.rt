@@ -1,6 +1,6 @@
 //! What a byte does in braces, to the left of a colon.
 
-ghost use Rattle.drv_syntax.specs.Code.States.{Fits, state};
+ghost use Rattle.drv_syntax.specs.Code.States.{state};
 ghost use Rattle.drv_syntax.specs.Code.Steps as steps;
 ghost use Rattle.drv_syntax.specs.Code.Turns as turns;
 ghost use Rattle.drv_words.specs.Gives.{Gives};
@@ -43,11 +43,9 @@ pub fn after_test(
     b: u8,
     w: &mut ReaderState,
 ) -> Result<(), SyntaxFault>
-    requires room { length w.old.tokens.items < 2 ^ 31 }
-    requires place { n < 2 ^ 31 }
-    ensures does { Gives SyntaxFault.Memory (λ _. state w.new) result
+    requires { n < 2 ^ 31 }
+    ensures { Gives SyntaxFault.Memory (λ _. state w.new) result
         (steps.act_head head form (turns.after_action head.part.start operand b) n b (state w.old)) }
-    ensures fits { OnOk result (Fits w.old w.new) }
 {
     if is_white(b) {
         keep(at(head, form, HeadStage::AfterTest(operand)), w)
@@ -75,12 +73,10 @@ pub fn test_word(
     b: u8,
     w: &mut ReaderState,
 ) -> Result<(), SyntaxFault>
-    requires room { length w.old.tokens.items < 2 ^ 31 }
-    requires place { n < 2 ^ 31 }
-    ensures does { Gives SyntaxFault.Memory (λ _. state w.new) result
+    requires { n < 2 ^ 31 }
+    ensures { Gives SyntaxFault.Memory (λ _. state w.new) result
         (steps.act_head head form (turns.word_action head.part.start start negated n b) n b
         (state w.old)) }
-    ensures fits { OnOk result (Fits w.old w.new) }
 {
     if b == b'\\' {
         keep(
@@ -119,12 +115,10 @@ fn bare_mark(
     b: u8,
     w: &mut ReaderState,
 ) -> Result<(), SyntaxFault>
-    requires room { length w.old.tokens.items < 2 ^ 31 }
-    requires place { n < 2 ^ 31 }
-    ensures does { Gives SyntaxFault.Memory (λ _. state w.new) result
+    requires { n < 2 ^ 31 }
+    ensures { Gives SyntaxFault.Memory (λ _. state w.new) result
         (steps.act_head head form (turns.bare_action head.part.start start negated mark n b) n b
         (state w.old)) }
-    ensures fits { OnOk result (Fits w.old w.new) }
 {
     let bare = Operand::Bare {
         start,
@@ -162,12 +156,10 @@ fn test_mark(
     b: u8,
     w: &mut ReaderState,
 ) -> Result<(), SyntaxFault>
-    requires room { length w.old.tokens.items < 2 ^ 31 }
-    requires place { n < 2 ^ 31 }
-    ensures does { Gives SyntaxFault.Memory (λ _. state w.new) result
+    requires { n < 2 ^ 31 }
+    ensures { Gives SyntaxFault.Memory (λ _. state w.new) result
         (steps.act_head head form (turns.mark_action head.part.start form start negated mark n b) n
         b (state w.old)) }
-    ensures fits { OnOk result (Fits w.old w.new) }
 {
     if b == b'\\' {
         let stage = HeadStage::MarkedEscape {
@@ -201,12 +193,10 @@ fn marked_word(
     b: u8,
     w: &mut ReaderState,
 ) -> Result<(), SyntaxFault>
-    requires room { length w.old.tokens.items < 2 ^ 31 }
-    requires place { n < 2 ^ 31 }
-    ensures does { Gives SyntaxFault.Memory (λ _. state w.new) result
+    requires { n < 2 ^ 31 }
+    ensures { Gives SyntaxFault.Memory (λ _. state w.new) result
         (steps.act_head head form (turns.marked_action head.part.start form start negated mark n b)
         n b (state w.old)) }
-    ensures fits { OnOk result (Fits w.old w.new) }
 {
     if b == b'\\' {
         let stage = HeadStage::MarkedEscape {
@@ -253,12 +243,10 @@ fn asked(
     b: u8,
     w: &mut ReaderState,
 ) -> Result<(), SyntaxFault>
-    requires room { length w.old.tokens.items < 2 ^ 31 }
-    requires place { n < 2 ^ 31 }
-    ensures does { Gives SyntaxFault.Memory (λ _. state w.new) result
+    requires { n < 2 ^ 31 }
+    ensures { Gives SyntaxFault.Memory (λ _. state w.new) result
         (steps.act_head head form (turns.asked_action w.old.context.levels head.part.start start
         negated n b) n b (state w.old)) }
-    ensures fits { OnOk result (Fits w.old w.new) }
 {
     if b == b'\\' {
         clear(
@@ -298,12 +286,10 @@ fn asked(
 
 /// Where a test begins.
 fn due(head: Head, form: HeadForm, n: u32, b: u8, w: &mut ReaderState) -> Result<(), SyntaxFault>
-    requires room { length w.old.tokens.items < 2 ^ 31 }
-    requires place { n < 2 ^ 31 }
-    ensures does { Gives SyntaxFault.Memory (λ _. state w.new) result
+    requires { n < 2 ^ 31 }
+    ensures { Gives SyntaxFault.Memory (λ _. state w.new) result
         (steps.act_head head form (turns.due_action w.old.context.levels head.part.start n b) n b
         (state w.old)) }
-    ensures fits { OnOk result (Fits w.old w.new) }
 {
     if b == b'!' {
         keep(at(head, form, HeadStage::TestNegated { start: n }), w)
@@ -320,11 +306,9 @@ fn pattern_due(
     b: u8,
     w: &mut ReaderState,
 ) -> Result<(), SyntaxFault>
-    requires room { length w.old.tokens.items < 2 ^ 31 }
-    requires place { n < 2 ^ 31 }
-    ensures does { Gives SyntaxFault.Memory (λ _. state w.new) result
+    requires { n < 2 ^ 31 }
+    ensures { Gives SyntaxFault.Memory (λ _. state w.new) result
         (steps.act_head head form (turns.pattern_action head.part.start n b) n b (state w.old)) }
-    ensures fits { OnOk result (Fits w.old w.new) }
 {
     let start = n;
     let negated = false;
@@ -361,12 +345,10 @@ fn test_function(
     b: u8,
     w: &mut ReaderState,
 ) -> Result<(), SyntaxFault>
-    requires room { length w.old.tokens.items < 2 ^ 31 }
-    requires place { n < 2 ^ 31 }
-    ensures does { Gives SyntaxFault.Memory (λ _. state w.new) result
+    requires { n < 2 ^ 31 }
+    ensures { Gives SyntaxFault.Memory (λ _. state w.new) result
         (steps.act_head head form (turns.test_call_action start negated percent w.old.word.items b)
         n b (state w.old)) }
-    ensures fits { OnOk result (Fits w.old w.new) }
 {
     if is_function_front(&w.word, b) {
         let stage = HeadStage::TestFunction {
@@ -391,12 +373,10 @@ pub fn head_step(
     b: u8,
     w: &mut ReaderState,
 ) -> Result<(), SyntaxFault>
-    requires room { length w.old.tokens.items < 2 ^ 31 }
-    requires place { n < 2 ^ 31 }
-    ensures does { Gives SyntaxFault.Memory (λ _. state w.new) result
+    requires { n < 2 ^ 31 }
+    ensures { Gives SyntaxFault.Memory (λ _. state w.new) result
         (steps.act_head head form (turns.head_action stage w.old.context.levels head.part.start form
         w.old.word.items n b) n b (state w.old)) }
-    ensures fits { OnOk result (Fits w.old w.new) }
 {
     match stage {
         HeadStage::TestDue if is_white(b) => keep(at(head, form, stage), w),
@@ -471,12 +451,10 @@ pub fn choice_step(
     b: u8,
     w: &mut ReaderState,
 ) -> Result<(), SyntaxFault>
-    requires room { length w.old.tokens.items < 2 ^ 31 }
-    requires place { n < 2 ^ 31 }
-    ensures does { Gives SyntaxFault.Memory (λ _. state w.new) result
+    requires { n < 2 ^ 31 }
+    ensures { Gives SyntaxFault.Memory (λ _. state w.new) result
         (steps.act_choice head later (turns.choice_action later w.old.context.levels head.part.start
         n b) n b (state w.old)) }
-    ensures fits { OnOk result (Fits w.old w.new) }
 {
     if later && b == b':' {
         let part = next_open(w, n);

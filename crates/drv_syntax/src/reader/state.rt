@@ -2,7 +2,7 @@
 
 use crate::labels::Labels;
 use crate::reader::stages::{ListContext, Stage, Suspended};
-use crate::token::Token;
+use crate::reader::tokens::Tokens;
 
 /// What has been read of a text.
 #[derive(Drop)]
@@ -14,7 +14,7 @@ pub struct ReaderState {
     /// The directives that wait for the end of a list in them, outermost first.
     pub waiting: Vec<Suspended>,
     /// The tokens, with those that are still open.
-    pub tokens: Vec<Token>,
+    pub tokens: Tokens,
     /// Their labels.
     pub labels: Labels,
     /// What has been read of a word.

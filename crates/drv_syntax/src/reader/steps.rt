@@ -14,13 +14,9 @@ use crate::reader::state::ReaderState;
 
 /// What the byte at this place makes of the state.
 pub fn step(n: u32, b: u8, w: &mut ReaderState) -> Result<(), SyntaxFault>
-    requires room { length w.old.tokens.items < 2 ^ 30 }
-    requires place { n < 2 ^ 31 }
-    requires trail { w.old.trailing < 2 ^ 30 }
-    ensures does { Gives SyntaxFault.Memory (λ _. state w.new) result
+    requires { n < 2 ^ 31 }
+    ensures { Gives SyntaxFault.Memory (λ _. state w.new) result
         (steps.step (state w.old) n b) }
-    ensures size { OnOk result (length w.new.tokens.items ≤ length w.old.tokens.items + 4) }
-    ensures trail { OnOk result (w.new.trailing ≤ w.old.trailing + 4) }
 {
     match w.stage {
         Stage::List(stage) => list_step(stage, n, b, w),

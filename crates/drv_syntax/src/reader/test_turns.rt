@@ -26,13 +26,8 @@ fn word_end(
     w: &mut ReaderState,
 ) -> Result<usize, SyntaxFault>
     requires here { w.old.stage ≡ Stage.Braces head form (HeadStage.TestWord start negated) }
-    requires room { length w.old.tokens.items < 2 ^ 29 }
     requires place { n + length text.now < 2 ^ 30 }
-    requires trail { w.old.trailing < 2 ^ 29 }
-    ensures does { Reads n text.now (state w.old) (state w.new) result }
-    ensures size { IfOk result (λ taken. length w.new.tokens.items
-        ≤ length w.old.tokens.items + 4 * taken) }
-    ensures trail { IfOk result (λ taken. w.new.trailing ≤ w.old.trailing + 4 * taken) }
+    ensures { Reads n text.now (state w.old) (state w.new) result }
 {
     if text.is_empty() {
         return Ok(0);
@@ -64,13 +59,8 @@ pub fn word_turn(
     w: &mut ReaderState,
 ) -> Result<usize, SyntaxFault>
     requires here { w.old.stage ≡ Stage.Braces head form (HeadStage.TestWord start negated) }
-    requires room { length w.old.tokens.items < 2 ^ 29 }
     requires place { n + length text.now < 2 ^ 30 }
-    requires trail { w.old.trailing < 2 ^ 29 }
-    ensures does { Reads n text.now (state w.old) (state w.new) result }
-    ensures size { IfOk result (λ taken. length w.new.tokens.items
-        ≤ length w.old.tokens.items + 4 * taken) }
-    ensures trail { IfOk result (λ taken. w.new.trailing ≤ w.old.trailing + 4 * taken) }
+    ensures { Reads n text.now (state w.old) (state w.new) result }
 {
     let size = word_length(text);
     extend(size, text, w)?;
@@ -98,14 +88,9 @@ fn put_end(
     text: &[u8],
     w: &mut ReaderState,
 ) -> Result<usize, SyntaxFault>
-    requires room { length w.old.tokens.items < 2 ^ 29 }
-    requires place { n + length text.now < 2 ^ 30 }
-    requires trail { w.old.trailing < 2 ^ 29 }
-    ensures does { Reads n text.now (steps.in_word head form start negated word.now (state w.old))
+    requires { n + length text.now < 2 ^ 30 }
+    ensures { Reads n text.now (steps.in_word head form start negated word.now (state w.old))
         (state w.new) result }
-    ensures size { IfOk result (λ taken. length w.new.tokens.items
-        ≤ length w.old.tokens.items + 4 * taken) }
-    ensures trail { IfOk result (λ taken. w.new.trailing ≤ w.old.trailing + 4 * taken) }
 {
     w.stage = at(head, form, HeadStage::TestWord { start, negated });
     w.word.clear();
@@ -125,14 +110,9 @@ fn lent_end(
     text: &[u8],
     w: &mut ReaderState,
 ) -> Result<usize, SyntaxFault>
-    requires room { length w.old.tokens.items < 2 ^ 29 }
-    requires place { n + length text.now < 2 ^ 30 }
-    requires trail { w.old.trailing < 2 ^ 29 }
-    ensures does { Reads n text.now (steps.in_word head form start negated word.now (state w.old))
+    requires { n + length text.now < 2 ^ 30 }
+    ensures { Reads n text.now (steps.in_word head form start negated word.now (state w.old))
         (state w.new) result }
-    ensures size { IfOk result (λ taken. length w.new.tokens.items
-        ≤ length w.old.tokens.items + 4 * taken) }
-    ensures trail { IfOk result (λ taken. w.new.trailing ≤ w.old.trailing + 4 * taken) }
 {
     match text {
         [b'*', b, ..] if ends_word(*b) => {
@@ -174,13 +154,8 @@ fn begun_turn(
     requires begins { steps.step (state w.old) n (get_or text.now 0 0)
         ≡ Ok (steps.at_stage (Stage.Braces head form (HeadStage.TestWord start negated))
         (steps.with_word (get_or text.now 0 0 ∷ []) (state w.old))) }
-    requires room { length w.old.tokens.items < 2 ^ 29 }
     requires place { n + length text.now < 2 ^ 30 }
-    requires trail { w.old.trailing < 2 ^ 29 }
-    ensures does { Reads n text.now (state w.old) (state w.new) result }
-    ensures size { IfOk result (λ taken. length w.new.tokens.items
-        ≤ length w.old.tokens.items + 4 * taken) }
-    ensures trail { IfOk result (λ taken. w.new.trailing ≤ w.old.trailing + 4 * taken) }
+    ensures { Reads n text.now (state w.old) (state w.new) result }
 {
     let size = word_length(text);
     let more = lent_end(
@@ -208,13 +183,8 @@ fn mark_turn(
     requires some { 0 < length text.now }
     requires begins { steps.step (state w.old) n (get_or text.now 0 0)
         ≡ Ok (steps.at_stage (Stage.Braces head form (HeadStage.TestNegated n)) (state w.old)) }
-    requires room { length w.old.tokens.items < 2 ^ 29 }
     requires place { n + length text.now < 2 ^ 30 }
-    requires trail { w.old.trailing < 2 ^ 29 }
-    ensures does { Reads n text.now (state w.old) (state w.new) result }
-    ensures size { IfOk result (λ taken. length w.new.tokens.items
-        ≤ length w.old.tokens.items + 4 * taken) }
-    ensures trail { IfOk result (λ taken. w.new.trailing ≤ w.old.trailing + 4 * taken) }
+    ensures { Reads n text.now (state w.old) (state w.new) result }
 {
     w.stage = at(head, form, HeadStage::TestNegated { start: n });
     let more = negated_turn(head, form, n, n + 1, &text[1..], w)?;
@@ -232,13 +202,8 @@ pub fn choice_turn(
     w: &mut ReaderState,
 ) -> Result<usize, SyntaxFault>
     requires here { w.old.stage ≡ Stage.Choice head later }
-    requires room { length w.old.tokens.items < 2 ^ 29 }
     requires place { n + length text.now < 2 ^ 30 }
-    requires trail { w.old.trailing < 2 ^ 29 }
-    ensures does { Reads n text.now (state w.old) (state w.new) result }
-    ensures size { IfOk result (λ taken. length w.new.tokens.items
-        ≤ length w.old.tokens.items + 4 * taken) }
-    ensures trail { IfOk result (λ taken. w.new.trailing ≤ w.old.trailing + 4 * taken) }
+    ensures { Reads n text.now (state w.old) (state w.new) result }
 {
     if text.is_empty() {
         return Ok(0);
@@ -267,13 +232,8 @@ pub fn due_turn(
     w: &mut ReaderState,
 ) -> Result<usize, SyntaxFault>
     requires here { w.old.stage ≡ Stage.Braces head form HeadStage.TestDue }
-    requires room { length w.old.tokens.items < 2 ^ 29 }
     requires place { n + length text.now < 2 ^ 30 }
-    requires trail { w.old.trailing < 2 ^ 29 }
-    ensures does { Reads n text.now (state w.old) (state w.new) result }
-    ensures size { IfOk result (λ taken. length w.new.tokens.items
-        ≤ length w.old.tokens.items + 4 * taken) }
-    ensures trail { IfOk result (λ taken. w.new.trailing ≤ w.old.trailing + 4 * taken) }
+    ensures { Reads n text.now (state w.old) (state w.new) result }
 {
     if text.is_empty() || !begins_word(text[0]) {
         return Ok(0);
@@ -292,13 +252,8 @@ pub fn negated_turn(
     w: &mut ReaderState,
 ) -> Result<usize, SyntaxFault>
     requires here { w.old.stage ≡ Stage.Braces head form (HeadStage.TestNegated start) }
-    requires room { length w.old.tokens.items < 2 ^ 29 }
     requires place { n + length text.now < 2 ^ 30 }
-    requires trail { w.old.trailing < 2 ^ 29 }
-    ensures does { Reads n text.now (state w.old) (state w.new) result }
-    ensures size { IfOk result (λ taken. length w.new.tokens.items
-        ≤ length w.old.tokens.items + 4 * taken) }
-    ensures trail { IfOk result (λ taken. w.new.trailing ≤ w.old.trailing + 4 * taken) }
+    ensures { Reads n text.now (state w.old) (state w.new) result }
 {
     if text.is_empty() || !begins_word(text[0]) {
         return Ok(0);

@@ -31,13 +31,8 @@ fn suffix_turn(
     w: &mut ReaderState,
 ) -> Result<usize, SyntaxFault>
     requires here { w.old.stage ≡ Stage.List (ListStage.SuffixRun at kind) }
-    requires room { length w.old.tokens.items < 2 ^ 29 }
     requires place { n + length text.now < 2 ^ 30 }
-    requires trail { w.old.trailing < 2 ^ 29 }
-    ensures does { Reads n text.now (state w.old) (state w.new) result }
-    ensures size { IfOk result (λ taken. length w.new.tokens.items
-        ≤ length w.old.tokens.items + 4 * taken) }
-    ensures trail { IfOk result (λ taken. w.new.trailing ≤ w.old.trailing + 4 * taken) }
+    ensures { Reads n text.now (state w.old) (state w.new) result }
 {
     let size = suffix_length(text);
     extend(size, text, w)?;
@@ -52,13 +47,8 @@ fn suffix_turn(
 #[inline(never)]
 fn name_turn(at: u32, n: u32, text: &[u8], w: &mut ReaderState) -> Result<usize, SyntaxFault>
     requires here { w.old.stage ≡ Stage.List (ListStage.NameText at) }
-    requires room { length w.old.tokens.items < 2 ^ 29 }
     requires place { n + length text.now < 2 ^ 30 }
-    requires trail { w.old.trailing < 2 ^ 29 }
-    ensures does { Reads n text.now (state w.old) (state w.new) result }
-    ensures size { IfOk result (λ taken. length w.new.tokens.items
-        ≤ length w.old.tokens.items + 4 * taken) }
-    ensures trail { IfOk result (λ taken. w.new.trailing ≤ w.old.trailing + 4 * taken) }
+    ensures { Reads n text.now (state w.old) (state w.new) result }
 {
     let size = name_length(text);
     if w.word.len() > 255 || size > 255 - w.word.len() {
@@ -76,14 +66,9 @@ fn name_turn(at: u32, n: u32, text: &[u8], w: &mut ReaderState) -> Result<usize,
 #[inline(always)]
 fn named_turn(at: u32, n: u32, inside: &[u8], w: &mut ReaderState) -> Result<usize, SyntaxFault>
     requires here { w.old.stage ≡ Stage.List ListStage.Start }
-    requires room { length w.old.tokens.items < 2 ^ 28 }
     requires place { n + length inside.now < 2 ^ 30 }
-    requires trail { w.old.trailing < 2 ^ 28 }
-    ensures does { Reads n inside.now (steps.at_stage (Stage.List (ListStage.NameText at))
+    ensures { Reads n inside.now (steps.at_stage (Stage.List (ListStage.NameText at))
         (steps.with_word [] (state w.old))) (state w.new) result }
-    ensures size { IfOk result (λ taken. length w.new.tokens.items
-        ≤ length w.old.tokens.items + 4 * (taken + 1)) }
-    ensures trail { IfOk result (λ taken. w.new.trailing ≤ w.old.trailing + 4 * (taken + 1)) }
 {
     let size = name_length(inside);
     if size != 0 && size <= 255 && size < inside.len() && inside[size] == b')' {
@@ -100,13 +85,8 @@ fn named_turn(at: u32, n: u32, inside: &[u8], w: &mut ReaderState) -> Result<usi
 #[inline(never)]
 fn hide_turn(at: u32, n: u32, text: &[u8], w: &mut ReaderState) -> Result<usize, SyntaxFault>
     requires here { w.old.stage ≡ Stage.List (ListStage.HideWord at) }
-    requires room { length w.old.tokens.items < 2 ^ 29 }
     requires place { n + length text.now < 2 ^ 30 }
-    requires trail { w.old.trailing < 2 ^ 29 }
-    ensures does { Reads n text.now (state w.old) (state w.new) result }
-    ensures size { IfOk result (λ taken. length w.new.tokens.items
-        ≤ length w.old.tokens.items + 4 * taken) }
-    ensures trail { IfOk result (λ taken. w.new.trailing ≤ w.old.trailing + 4 * taken) }
+    ensures { Reads n text.now (state w.old) (state w.new) result }
 {
     let size = word_length(text);
     extend(size, text, w)?;
@@ -127,13 +107,8 @@ fn saying_turn(
     w: &mut ReaderState,
 ) -> Result<usize, SyntaxFault>
     requires here { w.old.stage ≡ Stage.List (ListStage.SayingText at kind) }
-    requires room { length w.old.tokens.items < 2 ^ 29 }
     requires place { n + length text.now < 2 ^ 30 }
-    requires trail { w.old.trailing < 2 ^ 29 }
-    ensures does { Reads n text.now (state w.old) (state w.new) result }
-    ensures size { IfOk result (λ taken. length w.new.tokens.items
-        ≤ length w.old.tokens.items + 4 * taken) }
-    ensures trail { IfOk result (λ taken. w.new.trailing ≤ w.old.trailing + 4 * taken) }
+    ensures { Reads n text.now (state w.old) (state w.new) result }
 {
     let size = said_length(w.context.kind, text);
     extend(size, text, w)?;
@@ -154,13 +129,8 @@ fn begins_directive(text: &[u8]) -> bool {
 #[inline(always)]
 fn plain_turn(n: u32, text: &[u8], w: &mut ReaderState) -> Result<usize, SyntaxFault>
     requires here { w.old.stage ≡ Stage.List ListStage.Start }
-    requires room { length w.old.tokens.items < 2 ^ 29 }
     requires place { n + length text.now < 2 ^ 30 }
-    requires trail { w.old.trailing < 2 ^ 29 }
-    ensures does { Reads n text.now (state w.old) (state w.new) result }
-    ensures size { IfOk result (λ taken. length w.new.tokens.items
-        ≤ length w.old.tokens.items + 4 * taken) }
-    ensures trail { IfOk result (λ taken. w.new.trailing ≤ w.old.trailing + 4 * taken) }
+    ensures { Reads n text.now (state w.old) (state w.new) result }
 {
     let size = run_length(w.context.kind, text);
     if size != 0 {
@@ -173,13 +143,8 @@ fn plain_turn(n: u32, text: &[u8], w: &mut ReaderState) -> Result<usize, SyntaxF
 /// with the byte after them: how many.
 #[inline(always)]
 pub fn run(n: u32, text: &[u8], w: &mut ReaderState) -> Result<usize, SyntaxFault>
-    requires room { length w.old.tokens.items < 2 ^ 29 }
-    requires place { n + length text.now < 2 ^ 30 }
-    requires trail { w.old.trailing < 2 ^ 29 }
-    ensures does { Reads n text.now (state w.old) (state w.new) result }
-    ensures size { IfOk result (λ taken. length w.new.tokens.items
-        ≤ length w.old.tokens.items + 4 * taken) }
-    ensures trail { IfOk result (λ taken. w.new.trailing ≤ w.old.trailing + 4 * taken) }
+    requires { n + length text.now < 2 ^ 30 }
+    ensures { Reads n text.now (state w.old) (state w.new) result }
 {
     match w.stage {
         Stage::List(ListStage::SuffixRun { at, kind }) => suffix_turn(at, kind, n, text, w),
@@ -203,13 +168,8 @@ pub fn run(n: u32, text: &[u8], w: &mut ReaderState) -> Result<usize, SyntaxFaul
 /// after it.
 #[inline(never)]
 fn byte_turn(n: u32, b: u8, following: &[u8], w: &mut ReaderState) -> Result<usize, SyntaxFault>
-    requires room { length w.old.tokens.items < 2 ^ 28 }
-    requires place { n + 1 + length following.now < 2 ^ 30 }
-    requires trail { w.old.trailing < 2 ^ 28 }
-    ensures does { Turns n b following.now (state w.old) (state w.new) result }
-    ensures size { IfOk result (λ taken. length w.new.tokens.items
-        ≤ length w.old.tokens.items + 4 * (taken + 1)) }
-    ensures trail { IfOk result (λ taken. w.new.trailing ≤ w.old.trailing + 4 * (taken + 1)) }
+    requires { n + 1 + length following.now < 2 ^ 30 }
+    ensures { Turns n b following.now (state w.old) (state w.new) result }
 {
     step(n, b, w)?;
     let taken = run(n + 1, following, w)?;
@@ -220,13 +180,8 @@ fn byte_turn(n: u32, b: u8, following: &[u8], w: &mut ReaderState) -> Result<usi
 #[inline(always)]
 fn percent_turn(n: u32, following: &[u8], w: &mut ReaderState) -> Result<usize, SyntaxFault>
     requires here { w.old.stage ≡ Stage.List ListStage.Start }
-    requires room { length w.old.tokens.items < 2 ^ 28 }
     requires place { n + 1 + length following.now < 2 ^ 30 }
-    requires trail { w.old.trailing < 2 ^ 28 }
-    ensures does { Turns n ascii.percent following.now (state w.old) (state w.new) result }
-    ensures size { IfOk result (λ taken. length w.new.tokens.items
-        ≤ length w.old.tokens.items + 4 * (taken + 1)) }
-    ensures trail { IfOk result (λ taken. w.new.trailing ≤ w.old.trailing + 4 * (taken + 1)) }
+    ensures { Turns n ascii.percent following.now (state w.old) (state w.new) result }
 {
     w.stage = Stage::List(ListStage::Percent { at: n });
     match following {
@@ -244,13 +199,8 @@ fn percent_turn(n: u32, following: &[u8], w: &mut ReaderState) -> Result<usize, 
 #[inline(always)]
 fn directive_turn(n: u32, following: &[u8], w: &mut ReaderState) -> Result<usize, SyntaxFault>
     requires here { w.old.stage ≡ Stage.List ListStage.Start }
-    requires room { length w.old.tokens.items < 2 ^ 28 }
     requires place { n + 1 + length following.now < 2 ^ 30 }
-    requires trail { w.old.trailing < 2 ^ 28 }
-    ensures does { Turns n ascii.percent following.now (state w.old) (state w.new) result }
-    ensures size { IfOk result (λ taken. length w.new.tokens.items
-        ≤ length w.old.tokens.items + 4 * (taken + 1)) }
-    ensures trail { IfOk result (λ taken. w.new.trailing ≤ w.old.trailing + 4 * (taken + 1)) }
+    ensures { Turns n ascii.percent following.now (state w.old) (state w.new) result }
 {
     match following {
         [b'{', inside @ ..] if w.context.levels != 0 => {
@@ -277,13 +227,8 @@ fn directive_turn(n: u32, following: &[u8], w: &mut ReaderState) -> Result<usize
 #[inline(always)]
 fn first_turn(n: u32, b: u8, following: &[u8], w: &mut ReaderState) -> Result<usize, SyntaxFault>
     requires here { w.old.stage ≡ Stage.List ListStage.Start }
-    requires room { length w.old.tokens.items < 2 ^ 28 }
     requires place { n + 1 + length following.now < 2 ^ 30 }
-    requires trail { w.old.trailing < 2 ^ 28 }
-    ensures does { Turns n b following.now (state w.old) (state w.new) result }
-    ensures size { IfOk result (λ taken. length w.new.tokens.items
-        ≤ length w.old.tokens.items + 4 * (taken + 1)) }
-    ensures trail { IfOk result (λ taken. w.new.trailing ≤ w.old.trailing + 4 * (taken + 1)) }
+    ensures { Turns n b following.now (state w.old) (state w.new) result }
 {
     start(n, b, w)?;
     if b != b';' {
@@ -306,13 +251,8 @@ fn start_turn(
     requires here { w.old.stage ≡ Stage.List ListStage.Start }
     requires text { text.now ≡ b ∷ following.now }
     requires longer { length text.now ≡ 1 + length following.now }
-    requires room { length w.old.tokens.items < 2 ^ 28 }
     requires place { n + 1 + length following.now < 2 ^ 30 }
-    requires trail { w.old.trailing < 2 ^ 28 }
-    ensures does { Turns n b following.now (state w.old) (state w.new) result }
-    ensures size { IfOk result (λ taken. length w.new.tokens.items
-        ≤ length w.old.tokens.items + 4 * (taken + 1)) }
-    ensures trail { IfOk result (λ taken. w.new.trailing ≤ w.old.trailing + 4 * (taken + 1)) }
+    ensures { Turns n b following.now (state w.old) (state w.new) result }
 {
     if is_blank(b) {
         with_blank(n, w)?;
@@ -341,13 +281,8 @@ pub fn turn(
 ) -> Result<usize, SyntaxFault>
     requires text { text.now ≡ b ∷ following.now }
     requires longer { length text.now ≡ 1 + length following.now }
-    requires room { length w.old.tokens.items < 2 ^ 28 }
     requires place { n + 1 + length following.now < 2 ^ 30 }
-    requires trail { w.old.trailing < 2 ^ 28 }
-    ensures does { Turns n b following.now (state w.old) (state w.new) result }
-    ensures size { IfOk result (λ taken. length w.new.tokens.items
-        ≤ length w.old.tokens.items + 4 * (taken + 1)) }
-    ensures trail { IfOk result (λ taken. w.new.trailing ≤ w.old.trailing + 4 * (taken + 1)) }
+    ensures { Turns n b following.now (state w.old) (state w.new) result }
 {
     match w.stage {
         Stage::List(ListStage::Start) if b == b'%' => directive_turn(n, following, w),

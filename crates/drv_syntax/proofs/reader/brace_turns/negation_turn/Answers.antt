@@ -4,8 +4,8 @@ use Rattle.drv_syntax.specs.Code.States.{state}
 use Rattle.std.proofs.Common.{◌-◌, arith, drop, length, rules, take}
 use Rattle.std.proofs.lemmas.List.{take_rest}
 
-pub returns-clause-does : goal.returns-clause-does
-returns-clause-does c =
+pub returns : goal.returns
+returns c =
     negated_asks (state c.args.w.now) (state c.with_asked.new.w) c.args.at c.word_length-size.result c.args.n c.args.inside.now (take (length c.args.inside.now - 1) (drop 1 c.args.inside.now)) c.front.result.now c.requires.some
     c.requires.mark (take_rest c.args.inside.now 1) (search rules) c.word_length-size.ensures.run c.front.ensures.bytes (omega (arith, c.word_length-size.ensures.within, c.if-size-following.false)) c.if-following-size-ne58.false
-    c.in_ok-with_asked.ensures.does
+    c.in_ok-with_asked.ensures

@@ -1,4 +1,4 @@
-use Rattle.std.proofs.Common.{◌≡◌, ◌≤◌, ◌+◌, ◌*◌, length}
+use Rattle.std.proofs.Common.{◌≡◌, ◌+◌, length}
 use Rattle.drv_syntax.specs.Code.Steps as steps
 use Rattle.drv_syntax.specs.Code.States.{state}
 use Rattle.drv_syntax.proofs.reader.reading.read.Given as goal
@@ -8,8 +8,6 @@ invariant-loop-left l =
     record {
       same : steps.pass (state l.w) l.n l.left ≡ steps.pass (state l.fn.w) l.start l.text;
       place : l.n + length l.left ≡ l.start + length l.text;
-      room : length l.w.tokens.items + 4 * l.start ≤ length l.fn.w.tokens.items + 4 * l.n;
-      trail : l.w.trailing + 4 * l.start ≤ l.fn.w.trailing + 4 * l.n;
     }
 
 abbrev pub decreases-loop-left : goal.decreases-loop-left

@@ -7,9 +7,9 @@ use Rattle.drv_syntax.specs.declared.reader.stages.Stage.{Stage}
 use Rattle.std.proofs.Common.{◌∙◌, ◌-◌, ap, drop, length, sym, take}
 use Rattle.std.proofs.lemmas.List.{take_rest}
 
-pub returns-clause-does : goal.returns-clause-does
-returns-clause-does c =
+pub returns : goal.returns
+returns c =
     reads_on (state c.args.w.now) (at_stage c.at-w.result (state c.args.w.now)) c.args.n 1 c.args.text.now (take (length c.args.text.now - 1) (drop 1 c.args.text.now)) c.requires.some (take_rest c.args.text.now 1)
     (step_takes (state c.args.w.now) (at_stage c.at-w.result (state c.args.w.now)) c.args.n c.args.text.now c.requires.some
     (c.requires.begins ∙ ap (λ (s : Stage). walked (at_stage s (state c.args.w.now))) (sym c.at-w.ensures))).1
-    (state c.negated_turn.new.w) c.in_ok-more.more c.in_ok-more.ensures.does
+    (state c.negated_turn.new.w) c.in_ok-more.more c.in_ok-more.ensures

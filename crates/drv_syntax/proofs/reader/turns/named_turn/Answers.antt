@@ -6,7 +6,7 @@ use Rattle.drv_syntax.specs.declared.reader.stages.ListStage.TheVariants as stag
 use Rattle.drv_syntax.specs.declared.reader.stages.Stage.TheVariants as at
 use Rattle.std.proofs.Common.{[], arith, refl}
 
-pub returns-then-inside-size-eq41-clause-does : goal.returns-then-inside-size-eq41-clause-does
-returns-then-inside-size-eq41-clause-does c =
+pub returns-then-inside-size-eq41 : goal.returns-then-inside-size-eq41
+returns-then-inside-size-eq41 c =
     named_takes (at_stage (at.List (stages.NameText c.args.at)) (with_word [] (state c.args.w.now))) (state c.with_name.new.w) c.args.at c.name_length-size.result c.args.n c.args.inside.now c.front.result.now refl refl
-    c.name_length-size.ensures.run (omega (arith, c.if-size-ne0.true)) (omega (arith, c.if-size-le255.true)) (omega (arith, c.if-size-inside.true)) c.if-inside-size-eq41.true c.front.ensures.bytes c.in_ok-with_name.ensures.does
+    c.name_length-size.ensures.run (omega (arith, c.if-size-ne0.true)) (omega (arith, c.if-size-le255.true)) (omega (arith, c.if-size-inside.true)) c.if-inside-size-eq41.true c.front.ensures.bytes c.in_ok-with_name.ensures

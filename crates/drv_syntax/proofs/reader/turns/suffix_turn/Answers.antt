@@ -5,17 +5,17 @@ use Rattle.drv_syntax.specs.declared.reader.stages.ListStage.TheVariants as stag
 use Rattle.drv_syntax.specs.declared.reader.stages.Stage.TheVariants as at
 use Rattle.std.proofs.Common.{arith}
 
-pub returns-then-size-text-clause-does : goal.returns-then-size-text-clause-does
-returns-then-size-text-clause-does c = (c.suffix_length-size.ensures.within, suffix_takes (state c.args.w.now) (state c.extend.new.w) c.args.at c.args.kind c.suffix_length-size.result c.args.n c.args.text.now c.requires.here c.suffix_length-size.ensures.run c.in_ok-extend.ensures.does)
+pub returns-then-size-text : goal.returns-then-size-text
+returns-then-size-text c = (c.suffix_length-size.ensures.within, suffix_takes (state c.args.w.now) (state c.extend.new.w) c.args.at c.args.kind c.suffix_length-size.result c.args.n c.args.text.now c.requires.here c.suffix_length-size.ensures.run c.in_ok-extend.ensures)
 
-pub returns-in_err-suffix_run-clause-does : goal.returns-in_err-suffix_run-clause-does
-returns-in_err-suffix_run-clause-does c =
-    end_fails (state c.args.w.now) (state c.extend.new.w) _ (at.List (stages.SuffixRun c.args.at c.args.kind)) c.args.n c.suffix_length-size.result c.args.text.now c.requires.here c.in_ok-extend.ensures.does
-    (omega (arith, c.suffix_length-size.ensures.within, c.if-size-text.false)) (suffix_takes (state c.args.w.now) (state c.extend.new.w) c.args.at c.args.kind c.suffix_length-size.result c.args.n c.args.text.now c.requires.here c.suffix_length-size.ensures.run c.in_ok-extend.ensures.does)
-    (state c.suffix_run.new.w) c.from_residual-in_err-suffix_run.result c.in_err-suffix_run.field-0.0 c.from_residual-in_err-suffix_run.ensures.1 c.in_err-suffix_run.ensures.does
+pub returns-in_err-suffix_run : goal.returns-in_err-suffix_run
+returns-in_err-suffix_run c =
+    end_fails (state c.args.w.now) (state c.extend.new.w) _ (at.List (stages.SuffixRun c.args.at c.args.kind)) c.args.n c.suffix_length-size.result c.args.text.now c.requires.here c.in_ok-extend.ensures
+    (omega (arith, c.suffix_length-size.ensures.within, c.if-size-text.false)) (suffix_takes (state c.args.w.now) (state c.extend.new.w) c.args.at c.args.kind c.suffix_length-size.result c.args.n c.args.text.now c.requires.here c.suffix_length-size.ensures.run c.in_ok-extend.ensures)
+    (state c.suffix_run.new.w) c.from_residual-in_err-suffix_run.result c.in_err-suffix_run.field-0.0 c.from_residual-in_err-suffix_run.ensures.1 c.in_err-suffix_run.ensures
 
-pub returns-clause-does : goal.returns-clause-does
-returns-clause-does c =
-    end_steps (state c.args.w.now) (state c.extend.new.w) _ (at.List (stages.SuffixRun c.args.at c.args.kind)) c.args.n c.suffix_length-size.result c.args.text.now c.requires.here c.in_ok-extend.ensures.does
-    (omega (arith, c.suffix_length-size.ensures.within, c.if-size-text.false)) (suffix_takes (state c.args.w.now) (state c.extend.new.w) c.args.at c.args.kind c.suffix_length-size.result c.args.n c.args.text.now c.requires.here c.suffix_length-size.ensures.run c.in_ok-extend.ensures.does)
-    (state c.suffix_run.new.w) c.in_ok-suffix_run.ensures.does
+pub returns : goal.returns
+returns c =
+    end_steps (state c.args.w.now) (state c.extend.new.w) _ (at.List (stages.SuffixRun c.args.at c.args.kind)) c.args.n c.suffix_length-size.result c.args.text.now c.requires.here c.in_ok-extend.ensures
+    (omega (arith, c.suffix_length-size.ensures.within, c.if-size-text.false)) (suffix_takes (state c.args.w.now) (state c.extend.new.w) c.args.at c.args.kind c.suffix_length-size.result c.args.n c.args.text.now c.requires.here c.suffix_length-size.ensures.run c.in_ok-extend.ensures)
+    (state c.suffix_run.new.w) c.in_ok-suffix_run.ensures

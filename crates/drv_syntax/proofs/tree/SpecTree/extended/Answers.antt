@@ -13,7 +13,7 @@ pub invariant_of-result : goal.invariant_of-result
 invariant_of-result c =
     ended_there c.self.inside.text.items c.args.self c.args.more.now c.extend_from_slice.new.self.items (length c.text-start.result.now) c.in-Read.ended (read_of c.self.inside.text.items c.in-Read.is c.self.invariant) c.self.view_is
     (ap length c.text-start.ensures) (omega (arith, c.if-more-start.false)) (sym c.if-not-goes_on.ensures) c.in_ok-ended.ended c.in_ok-extend_from_slice.ensures.items c.in_ok-ended.ensures.does
-    c.in_ok-ended.ensures.resumes c.in_ok-ended.ensures.size c.in_ok-ended.ensures.trail
+    c.in_ok-ended.ensures.resumes
 
 pub returns-then-more-start-clause-refused : goal.returns-then-more-start-clause-refused
 returns-then-more-start-clause-refused c =

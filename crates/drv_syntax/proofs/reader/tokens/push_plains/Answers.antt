@@ -1,12 +1,12 @@
 use Rattle.drv_syntax.proofs.Runs.{tokens_step}
-use Rattle.drv_syntax.proofs.reader.edits.push_plains.Goals as goal
+use Rattle.drv_syntax.proofs.reader.tokens.push_plains.Goals as goal
 use Rattle.std.proofs.Common.{arith, ◌∙◌}
 
 pub loop-byte-preserved : goal.loop-byte-preserved
 loop-byte-preserved c =
     record {
       same =
-          tokens_step c.loop-byte.tokens.items c.push_reserved.new.self.items _ c.loop-byte.place c.loop-byte.next c.loop-byte._byte-index c.args.run.now c.loop-byte-test.true c.push_reserved.ensures.items
+          tokens_step c.loop-byte.list.items c.push_reserved.new.self.items _ c.loop-byte.place c.loop-byte.next c.loop-byte._byte-index c.args.run.now c.loop-byte-test.true c.push_reserved.ensures.items
           c.loop-byte.invariant.same;
       place = omega (arith, c.loop-byte.invariant.place);
       next = omega (arith, c.loop-byte.invariant.next);

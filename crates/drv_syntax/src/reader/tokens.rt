@@ -1,0 +1,208 @@
+//! The tokens of a text, while it is read.
+
+ghost use Rattle.drv_syntax.specs.Code.Tokens.{open_token, plain_tokens, whole_token};
+ghost use Rattle.drv_words.specs.Gives.{Gives};
+ghost use Rattle.std.specs.Prelude.{◌≡◌, ◌<◌, ◌≤◌, ◌^◌, ◌+◌, ◌-◌, ◌++◌, ◌∷◌, [], Ok, length};
+ghost use Rattle.std.specs.Prelude.{slice_set, take, vec_capacity, vec_len};
+
+use crate::fault::SyntaxFault;
+use crate::reader::stages::Open;
+use crate::token::{Token, TokenKind};
+use std::alloc::Global;
+use std::marker::Model;
+
+/// The most tokens of a text: their places are `u32`.
+const TOKEN_LIMIT: usize = 4_294_967_295;
+
+/// The tokens read so far, with those that are still open.
+#[derive(Drop)]
+pub struct Tokens {
+    list: Vec<Token>,
+}
+
+impl Model for Tokens {
+    ghost use Rattle.drv_syntax.specs.declared.token.Token.{Token};
+    ghost use Rattle.std.specs.Prelude.{◌<◌, ◌^◌, List, length};
+
+    ghost Value = { List Token };
+
+    ghost view = { λ t. t.list.items };
+
+    ghost invariant = { λ t. length t.list.items < 2 ^ 32 };
+}
+
+/// The tokens of bytes that stand for themselves, the first of them at this place.
+fn push_plains(n: u32, run: &[u8], list: &mut Vec<Token>)
+    requires room { length list.old.items + length run.now < 2 ^ 32 }
+    requires place { n + length run.now < 2 ^ 31 }
+    requires reserved { vec_len list.old + length run.now ≤ vec_capacity list.old }
+    ensures does { list.new.items ≡ list.old.items
+        ++ plain_tokens n (length list.old.items + 1) run.now }
+    ensures size { length list.new.items ≡ length list.old.items + length run.now }
+{
+    let mut place = n;
+    let mut next = list.len() as u32;
+    for _byte in run {
+        next += 1;
+        list.push_reserved(Token {
+            kind: TokenKind::Plain,
+            start: place,
+            end: place + 1,
+            next,
+        });
+        place += 1;
+    }
+}
+
+/// A part that opens here.
+fn opened(kind: TokenKind, start: u32) -> Token
+    ensures { result ≡ open_token kind start }
+{
+    Token {
+        kind,
+        start,
+        end: start,
+        next: 0,
+    }
+}
+
+impl Tokens {
+    /// None yet, which takes no memory.
+    pub fn new(alloc: Global) -> Tokens
+        ensures { result ≡ [] }
+    {
+        Tokens {
+            list: Vec::new(alloc),
+        }
+    }
+
+    /// None yet, with room for so many.
+    pub fn with_capacity(alloc: Global, count: usize) -> Result<Tokens, SyntaxFault>
+        ensures { Gives SyntaxFault.Memory (λ made. made) result (Ok []) }
+    {
+        Ok(Tokens {
+            list: Vec::with_capacity(alloc, count)?,
+        })
+    }
+
+    /// How many there are, which is the place of the next one.
+    pub fn len(&self) -> u32
+        ensures { result ≡ length self.now }
+    {
+        self.list.len() as u32
+    }
+
+    /// The list.
+    pub fn as_slice(&self) -> &[Token]
+        ensures { result.now ≡ self.now }
+    {
+        self.list.as_slice()
+    }
+
+    /// A part opens here.
+    #[inline(always)]
+    pub fn open(&mut self, kind: TokenKind, start: u32) -> Result<(), SyntaxFault>
+        ensures { Gives SyntaxFault.Memory (λ _. self.new) result
+            (Ok (self.old ++ open_token kind start ∷ [])) }
+    {
+        if self.list.len() == TOKEN_LIMIT {
+            return Err(SyntaxFault::Memory);
+        }
+        self.list.push(opened(kind, start))?;
+        Ok(())
+    }
+
+    /// A part that is whole.
+    #[inline(always)]
+    pub fn push(&mut self, kind: TokenKind, start: u32, end: u32) -> Result<(), SyntaxFault>
+        ensures { Gives SyntaxFault.Memory (λ _. self.new) result
+            (Ok (self.old ++ whole_token kind start end (length self.old + 1) ∷ [])) }
+    {
+        if self.list.len() == TOKEN_LIMIT {
+            return Err(SyntaxFault::Memory);
+        }
+        let next = self.list.len() as u32 + 1;
+        self.list.push(Token {
+            kind,
+            start,
+            end,
+            next,
+        })?;
+        Ok(())
+    }
+
+    /// Bytes that stand for themselves, the first of them at this place.
+    #[inline(always)]
+    pub fn push_run(&mut self, n: u32, run: &[u8]) -> Result<(), SyntaxFault>
+        requires { n + length run.now < 2 ^ 31 }
+        ensures { Gives SyntaxFault.Memory (λ _. self.new) result
+            (Ok (self.old ++ plain_tokens n (length self.old + 1) run.now)) }
+    {
+        if run.len() > TOKEN_LIMIT - self.list.len() {
+            return Err(SyntaxFault::Memory);
+        }
+        self.list.reserve(run.len())?;
+        push_plains(n, run, &mut self.list);
+        Ok(())
+    }
+
+    /// A part that is whole, and the one part inside it.
+    #[inline(always)]
+    pub fn push_filled(
+        &mut self,
+        outer: TokenKind,
+        at: u32,
+        end: u32,
+        inner: TokenKind,
+        start: u32,
+        stop: u32,
+    ) -> Result<(), SyntaxFault>
+        ensures { Gives SyntaxFault.Memory (λ _. self.new) result
+            (Ok ((self.old ++ whole_token outer at end (length self.old + 2) ∷ [])
+            ++ whole_token inner start stop (length self.old + 2) ∷ [])) }
+    {
+        if self.list.len() >= TOKEN_LIMIT - 1 {
+            return Err(SyntaxFault::Memory);
+        }
+        let next = self.list.len() as u32 + 2;
+        self.list.reserve(2)?;
+        self.list.push_reserved(Token {
+            kind: outer,
+            start: at,
+            end,
+            next,
+        });
+        self.list.push_reserved(Token {
+            kind: inner,
+            start,
+            end: stop,
+            next,
+        });
+        Ok(())
+    }
+
+    /// The part that opened there ends here, after those inside it.
+    pub fn close(&mut self, kind: TokenKind, part: Open, end: u32)
+        ensures { self.new ≡ slice_set self.old part.token
+            (whole_token kind part.start end (length self.old)) }
+    {
+        let next = self.list.len() as u32;
+        let place = part.token as usize;
+        if place < self.list.len() {
+            self.list[place] = Token {
+                kind,
+                start: part.start,
+                end,
+                next,
+            };
+        }
+    }
+
+    /// Without the last ones, so many.
+    pub fn drop_last(&mut self, count: u32)
+        ensures { self.new ≡ take (length self.old - count) self.old }
+    {
+        let left = self.list.len().saturating_sub(count as usize);
+        self.list.truncate(left);
+    }
+}
