@@ -10,7 +10,7 @@ use std::rt::Env;
 use std::str::from_utf8;
 
 /// The room for an argument at first, in bytes.
-const ROOM: usize = 4096;
+const ROOM: usize = 1024;
 
 /// The number of arguments for which there is room at first. A long line isn't copied as it grows,
 /// and unused room is never touched.
