@@ -2,7 +2,8 @@ use Rattle.drv_match.proofs.ByName.{far_names}
 use Rattle.drv_match.specs.Matching.{is_named, name_at}
 use Rattle.drv_match.specs.Order.{IsBlock, IsOrder}
 use Rattle.drv_match.specs.Pattern.{Pattern}
-use Rattle.std.proofs.Common.{◌≡◌, ◌<◌, ◌≤◌, ◌∙◌, ◌||◌, ◌==◌, Bool, false, true, List, [], ◌∷◌, Ordering, ap, arith, get_or, if◌then◌else◌, length, nat_eq, not, refl, sym, ℕ}
+use Rattle.std.proofs.Common.{◌≡◌, ◌<◌, ◌≤◌, ◌∙◌, ◌||◌, ◌==◌, Bool, false, true, List, [], ◌∷◌, Ordering, ap, arith, get_or, if◌then◌else◌}
+use Rattle.std.proofs.Common.{length, nat_eq, not, refl, sym, ℕ}
 use Rattle.std.proofs.Math.Bool.{and-false, or-true}
 use Rattle.std.proofs.lemmas.Bool.Decides.{nat_tests}
 use Rattle.std.proofs.lemmas.Cmp.{nat_eq_equiv, nat_list_cmp_total, ranked, upto}
@@ -14,14 +15,15 @@ use Rattle.std.specs.Ordering.{is_eq, is_gt, is_lt, nat_cmp, ordering_reverse, o
 use Rattle.std.specs.Prelude.{nat_le}
 use Rattle.std.specs.declared.cmp.Ordering.TheVariants.{Less, Equal, Greater}
 
--- The names that begin with a pattern's stand together, in the order of names.
+-- For the look-up of a pattern: in the order of names, the names that begin with the pattern's name are next to each other.
 
--- a name stands before another
+-- a name comes before another
 abbrev before : List ℕ → List ℕ → Bool
 before name other = is_lt (slice_cmp nat_cmp name other)
 
--- what stands before a name that begins with these bytes, or before the bytes, does so too
-prefix_down : (least a b : List ℕ) → before b a ≡ false → (before b least || starts_with nat_eq b least) ≡ true → (before a least || starts_with nat_eq a least) ≡ true
+-- a name that comes before one that begins with these bytes, or before the bytes, begins with them or comes before them too
+prefix_down : (least a b : List ℕ) → before b a ≡ false → (before b least || starts_with nat_eq b least) ≡ true
+    → (before a least || starts_with nat_eq a least) ≡ true
 prefix_down [] a b up so = or-true (before a [])
 prefix_down (p ∷ least) [] b up so = refl
 prefix_down (p ∷ least) (x ∷ a) [] up so = absurd cc
@@ -34,7 +36,9 @@ prefix_down (p ∷ least) (x ∷ a) (y ∷ b) up so = by (nat_cmp x p) (nat_cmp 
         let clash : false ≡ true = (rw (e, other) refl) ∙ so in
         cc
 
-    by : (u v : Ordering) → nat_cmp x p ≡ u → nat_cmp y x ≡ v → (before b a ≡ false → (before b least || starts_with nat_eq b least) ≡ true → (before a least || starts_with nat_eq a least) ≡ true) → (before (x ∷ a) (p ∷ least) || starts_with nat_eq (x ∷ a) (p ∷ least)) ≡ true
+    by : (u v : Ordering) → nat_cmp x p ≡ u → nat_cmp y x ≡ v → (before b a ≡ false → (before b least || starts_with nat_eq b least) ≡ true
+        → (before a least || starts_with nat_eq a least) ≡ true)
+        → (before (x ∷ a) (p ∷ least) || starts_with nat_eq (x ∷ a) (p ∷ least)) ≡ true
     by Less v e e' ih = rw e refl
     by u Less e e' ih = absurd (let clash : is_lt (ordering_then (nat_cmp y x) (slice_cmp nat_cmp b a)) ≡ true = rw e' refl in cc)
     by Equal Equal e e' ih =
@@ -59,14 +63,15 @@ prefix_down (p ∷ least) (x ∷ a) (y ∷ b) up so = by (nat_cmp x p) (nat_cmp 
         let two : x < y = ranked y x Greater (sym e') in
         absurd (beyond (omega (arith, one, two)))
 
--- what stands before the bytes doesn't begin with them
+-- a name that comes before the bytes doesn't begin with them
 before_prefix : (least name : List ℕ) → before name least ≡ true → starts_with nat_eq name least ≡ false
 before_prefix [] [] e = absurd cc
 before_prefix [] (x ∷ name) e = absurd cc
 before_prefix (p ∷ least) [] e = refl
 before_prefix (p ∷ least) (x ∷ name) e = by (nat_cmp x p) refl (before_prefix least name)
   where
-    by : (u : Ordering) → nat_cmp x p ≡ u → (before name least ≡ true → starts_with nat_eq name least ≡ false) → starts_with nat_eq (x ∷ name) (p ∷ least) ≡ false
+    by : (u : Ordering) → nat_cmp x p ≡ u → (before name least ≡ true → starts_with nat_eq name least ≡ false)
+        → starts_with nat_eq (x ∷ name) (p ∷ least) ≡ false
     by Less is ih =
         let low : x < p = ranked x p Less (sym is) in
         let other : (p == x) ≡ false = grind (arith, nat_tests) in
@@ -97,7 +102,8 @@ turned Greater e = refl
 no_more : (a b : List ℕ) → before b a ≡ false → is_gt (slice_cmp nat_cmp a b) ≡ false
 no_more a b up = rw (nat_list_cmp_total.antisymm a b) (turned (slice_cmp nat_cmp b a) up)
 
-exact_down : (least a b : List ℕ) → before b a ≡ false → (before b least || pointwise nat_eq b least) ≡ true → (before a least || pointwise nat_eq a least) ≡ true
+exact_down : (least a b : List ℕ) → before b a ≡ false → (before b least || pointwise nat_eq b least) ≡ true
+    → (before a least || pointwise nat_eq a least) ≡ true
 exact_down least a b up so =
     let low : is_gt (slice_cmp nat_cmp b least) ≡ false = opposite _ (sym (upto_bytes b least) ∙ so) in
     upto_bytes a least ∙ ap not (upto nat_list_cmp_total a b least (no_more a b up) low)
@@ -110,11 +116,13 @@ before_exact least name e = texts_ties name least ∙ by (slice_cmp nat_cmp name
     by Equal e = absurd cc
     by Greater e = absurd cc
 
--- the same of a pattern
-pub named_down : (pattern : Pattern) (a b : List ℕ) → before b a ≡ false → (before b pattern.name || is_named pattern b) ≡ true → (before a pattern.name || is_named pattern a) ≡ true
+-- the same for a pattern
+pub named_down : (pattern : Pattern) (a b : List ℕ) → before b a ≡ false → (before b pattern.name || is_named pattern b) ≡ true
+    → (before a pattern.name || is_named pattern a) ≡ true
 named_down pattern a b up so = by pattern.star so
   where
-    by : (t : Bool) → (before b pattern.name || (if t then starts_with nat_eq b pattern.name else pointwise nat_eq b pattern.name)) ≡ true → (before a pattern.name || (if t then starts_with nat_eq a pattern.name else pointwise nat_eq a pattern.name)) ≡ true
+    by : (t : Bool) → (before b pattern.name || (if t then starts_with nat_eq b pattern.name else pointwise nat_eq b pattern.name)) ≡ true
+        → (before a pattern.name || (if t then starts_with nat_eq a pattern.name else pointwise nat_eq a pattern.name)) ≡ true
     by true so = prefix_down pattern.name a b up so
     by false so = exact_down pattern.name a b up so
 
@@ -132,20 +140,24 @@ before_down least a b up so = by (before a least) refl
     by true e = refl
     by false e = absurd (let clash : true ≡ false = sym so ∙ (ranks_by nat_list_cmp_total (λ name. name)).chain b a least up e in cc)
 
--- Two searches find the block.
+-- Two binary searches find the block.
 
--- what the first search asks of a place, and the second
+-- the tests of the first search and of the second
 abbrev pub asks_start : List (List ℕ) → Pattern → ℕ → Bool
 asks_start names pattern i = before (name_at names i) pattern.name
 
 abbrev pub asks_end : List (List ℕ) → Pattern → ℕ → Bool
 asks_end names pattern i = before (name_at names i) pattern.name || is_named pattern (name_at names i)
 
-pub start_parts : (names : List (List ℕ)) (order : List ℕ) (pattern : Pattern) → IsOrder names order → IsPartitionedBy (asks_start names pattern) order
-start_parts names order pattern o = λ i j d below within so. before_down pattern.name (name_at names (get_or order i d)) (name_at names (get_or order j d)) (far_names names order o i j d below within) so
+pub start_parts : (names : List (List ℕ)) (order : List ℕ) (pattern : Pattern) → IsOrder names order
+    → IsPartitionedBy (asks_start names pattern) order
+start_parts names order pattern o = λ i j d below within so. before_down pattern.name (name_at names (get_or order i d))
+    (name_at names (get_or order j d)) (far_names names order o i j d below within) so
 
-pub end_parts : (names : List (List ℕ)) (order : List ℕ) (pattern : Pattern) → IsOrder names order → IsPartitionedBy (asks_end names pattern) order
-end_parts names order pattern o = λ i j d below within so. named_down pattern (name_at names (get_or order i d)) (name_at names (get_or order j d)) (far_names names order o i j d below within) so
+pub end_parts : (names : List (List ℕ)) (order : List ℕ) (pattern : Pattern) → IsOrder names order
+    → IsPartitionedBy (asks_end names pattern) order
+end_parts names order pattern o = λ i j d below within so. named_down pattern (name_at names (get_or order i d))
+    (name_at names (get_or order j d)) (far_names names order o i j d below within) so
 
 neither : (t u : Bool) → (t || u) ≡ false → u ≡ false
 neither true u e = absurd cc
@@ -159,7 +171,10 @@ alone : (t u : Bool) → t ≡ false → (t || u) ≡ true → u ≡ true
 alone true u e so = absurd cc
 alone false u e so = so
 
-pub block_found : (names : List (List ℕ)) (order : List ℕ) (pattern : Pattern) (start end : ℕ) → start ≤ length order → end ≤ length order → IsPartitionPoint (λ i. asks_start names pattern i ≡ true) (λ i. asks_start names pattern i ≡ false) order start → IsPartitionPoint (λ i. asks_end names pattern i ≡ true) (λ i. asks_end names pattern i ≡ false) order end → IsBlock names order pattern start end
+pub block_found : (names : List (List ℕ)) (order : List ℕ) (pattern : Pattern) (start end : ℕ) → start ≤ length order → end ≤ length order
+    → IsPartitionPoint (λ i. asks_start names pattern i ≡ true) (λ i. asks_start names pattern i ≡ false) order start
+    → IsPartitionPoint (λ i. asks_end names pattern i ≡ true) (λ i. asks_end names pattern i ≡ false) order end
+    → IsBlock names order pattern start end
 block_found names order pattern start end low high first second = record {
   ascends = rises;
   within = high;

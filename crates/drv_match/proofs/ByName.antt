@@ -2,11 +2,13 @@ use Rattle.drv_match.proofs.Tallies.{same_order, tally_permutation}
 use Rattle.drv_match.specs.Matching.{name_at}
 use Rattle.drv_match.specs.Order.{IsBlock, IsOrder, by_name}
 use Rattle.drv_match.specs.Pattern.{Pattern}
-use Rattle.std.proofs.Common.{◌≡◌, ◌<◌, ◌≤◌, ◌+◌, ◌∙◌, ◌==◌, Bool, false, true, List, Ordering, ap, arith, cond, get_or, length, nat_lt, refl, sym, ℕ}
+use Rattle.std.proofs.Common.{◌≡◌, ◌<◌, ◌≤◌, ◌+◌, ◌∙◌, ◌==◌, Bool, false, true, List, Ordering, ap, arith, cond, get_or, length, nat_lt}
+use Rattle.std.proofs.Common.{refl, sym, ℕ}
 use Rattle.std.proofs.lemmas.Bool.Decides.{nat_tests}
 use Rattle.std.proofs.lemmas.Cmp.{nat_cmp_total, nat_list_cmp_total, on_total, then_total, tied_back}
 use Rattle.std.proofs.lemmas.List.FromFn.{get_or-range_with_len, length-range_with_len}
-use Rattle.std.proofs.lemmas.List.Sorted.{All-permutation, Contains-permutation, IsStrictWeakOrder-by_number, length_permutation, ranks_by, sorted_far, ties_stay_sorted}
+use Rattle.std.proofs.lemmas.List.Sorted.{All-permutation, Contains-permutation, IsStrictWeakOrder-by_number, length_permutation, ranks_by}
+use Rattle.std.proofs.lemmas.List.Sorted.{sorted_far, ties_stay_sorted}
 use Rattle.std.specs.Cmp.{IsStrictWeakOrder}
 use Rattle.std.specs.Cmp.Lexicographic.{slice_cmp}
 use Rattle.std.specs.List.{Contains, range_with_len}
@@ -14,9 +16,9 @@ use Rattle.std.specs.List.Sorted.{IsPermutation, IsSortedBy, IsStableBy, ties}
 use Rattle.std.specs.Ordering.{is_lt, nat_cmp, ordering_reverse, ordering_then}
 use Rattle.std.specs.declared.cmp.Ordering.TheVariants.{Less, Equal, Greater}
 
--- The places of a line by name, then by place.
+-- For the look-up of a pattern: the places of a line, ordered by name and then by place.
 
--- the name at one place stands before that at another
+-- the name at one place comes before the name at another
 abbrev pub is_before : List (List ℕ) → ℕ → ℕ → Bool
 is_before names i j = is_lt (slice_cmp nat_cmp (name_at names i) (name_at names j))
 
@@ -44,15 +46,20 @@ tied : (names : List (List ℕ)) (i j : ℕ) → slice_cmp nat_cmp (name_at name
 tied names i j equal = rw (equal, tied_back nat_list_cmp_total (name_at names j) (name_at names i) equal) refl
 
 -- a stable sort by name of all places
-pub in_order : (names : List (List ℕ)) (places order : List ℕ) → places ≡ range_with_len 0 (length names) → IsPermutation places order → IsSortedBy (is_before names) order → IsStableBy (is_before names) places order → IsOrder names order
+pub in_order : (names : List (List ℕ)) (places order : List ℕ) → places ≡ range_with_len 0 (length names) → IsPermutation places order
+    → IsSortedBy (is_before names) order → IsStableBy (is_before names) places order → IsOrder names order
 in_order names places order all moved up kept = record {
   places = rw (← all) moved;
-  sorted = λ k d low high. by_both (slice_cmp nat_cmp (name_at names (get_or order (k + 1) d)) (name_at names (get_or order k d))) (get_or order (k + 1) d) (get_or order k d) (up k d low high) (λ equal. ties_stay_sorted (λ i j. nat_lt i j) (is_before names) (IsStrictWeakOrder-by_number (λ i. i)) (names_rank names) places order (rw all (rising (length names))) kept k d high (tied names (get_or order k d) (get_or order (k + 1) d) equal));
+  sorted = λ k d low high. by_both (slice_cmp nat_cmp (name_at names (get_or order (k + 1) d)) (name_at names (get_or order k d)))
+      (get_or order (k + 1) d) (get_or order k d) (up k d low high) (λ equal. ties_stay_sorted (λ i j. nat_lt i j) (is_before names)
+      (IsStrictWeakOrder-by_number (λ i. i)) (names_rank names) places order (rw all (rising (length names))) kept k d high
+      (tied names (get_or order k d) (get_or order (k + 1) d) equal));
 }
 
--- What stands far apart in the order.
+-- Places that are far apart in the order.
 
-far : (names : List (List ℕ)) (order : List ℕ) → IsOrder names order → (j k d : ℕ) → j ≤ k → k < length order → is_lt (by_name names (get_or order k d) (get_or order j d)) ≡ false
+far : (names : List (List ℕ)) (order : List ℕ) → IsOrder names order → (j k d : ℕ) → j ≤ k → k < length order
+    → is_lt (by_name names (get_or order k d) (get_or order j d)) ≡ false
 far names order o j k d below within = sorted_far (λ i j. is_lt (by_name names i j)) (places_rank names) order o.sorted j k d below within
 
 first_part : (o p : Ordering) → is_lt (ordering_then o p) ≡ false → is_lt o ≡ false
@@ -65,27 +72,33 @@ second_part Less p equal e = absurd cc
 second_part Equal p equal e = e
 second_part Greater p equal e = absurd cc
 
--- no later name stands before an earlier one
-pub far_names : (names : List (List ℕ)) (order : List ℕ) → IsOrder names order → (j k d : ℕ) → j ≤ k → k < length order → is_before names (get_or order k d) (get_or order j d) ≡ false
+-- no later name comes before an earlier one
+pub far_names : (names : List (List ℕ)) (order : List ℕ) → IsOrder names order → (j k d : ℕ) → j ≤ k → k < length order
+    → is_before names (get_or order k d) (get_or order j d) ≡ false
 far_names names order o j k d below within = first_part _ _ (far names order o j k d below within)
 
 at_most : (a b : ℕ) → is_lt (nat_cmp b a) ≡ false → a ≤ b
 at_most a b e = grind (arith, nat_tests)
 
--- and of one name, no later place is an earlier one
-pub far_places : (names : List (List ℕ)) (order : List ℕ) → IsOrder names order → (j k d : ℕ) → j ≤ k → k < length order → slice_cmp nat_cmp (name_at names (get_or order k d)) (name_at names (get_or order j d)) ≡ Equal → get_or order j d ≤ get_or order k d
+-- places with the same name ascend
+pub far_places : (names : List (List ℕ)) (order : List ℕ) → IsOrder names order → (j k d : ℕ) → j ≤ k → k < length order
+    → slice_cmp nat_cmp (name_at names (get_or order k d)) (name_at names (get_or order j d)) ≡ Equal → get_or order j d ≤ get_or order k d
 far_places names order o j k d below within equal = at_most _ _ (second_part _ _ equal (far names order o j k d below within))
 
--- The order has each place.
+-- The order has each place once.
 
 pub length_order : (names : List (List ℕ)) (order : List ℕ) → IsOrder names order → length order ≡ length names
 length_order names order o = length_permutation _ order o.places ∙ length-range_with_len 0 (length names)
 
-pub in_range : (names : List (List ℕ)) (order : List ℕ) → IsOrder names order → (k d : ℕ) → k < length order → get_or order k d < length names
-in_range names order o k d within = All-permutation (λ i. i < length names) (range_with_len 0 (length names)) order o.places below k d within
+pub in_range : (names : List (List ℕ)) (order : List ℕ) → IsOrder names order → (k d : ℕ) → k < length order
+    → get_or order k d < length names
+in_range names order o k d within = All-permutation (λ i. i < length names) (range_with_len 0 (length names)) order o.places
+    below k d within
   where
     below : (k d : ℕ) → k < length (range_with_len 0 (length names)) → get_or (range_with_len 0 (length names)) k d < length names
-    below k d h = let in' : k < length names = omega (arith, length-range_with_len 0 (length names)) in rw (get_or-range_with_len 0 (length names) k d in') (omega (arith, in'))
+    below k d h =
+        let in' : k < length names = omega (arith, length-range_with_len 0 (length names)) in
+        rw (get_or-range_with_len 0 (length names) k d in') (omega (arith, in'))
 
 pub has_place : (names : List (List ℕ)) (order : List ℕ) → IsOrder names order → (i : ℕ) → i < length names → Contains order i
 has_place names order o i within = Contains-permutation (range_with_len 0 (length names)) order i o.places here
@@ -93,19 +106,28 @@ has_place names order o i within = Contains-permutation (range_with_len 0 (lengt
     here : Contains (range_with_len 0 (length names)) i
     here = (i, omega (arith, length-range_with_len 0 (length names)), (let same : 0 + i ≡ i = omega arith in get_or-range_with_len 0 (length names) i i within ∙ same))
 
--- There is one such order.
+-- There is only one such order.
 
-levels : (o : Ordering) (a b : ℕ) → is_lt (ordering_then o (nat_cmp a b)) ≡ false → is_lt (ordering_then (ordering_reverse o) (nat_cmp b a)) ≡ false → a ≡ b
+levels : (o : Ordering) (a b : ℕ) → is_lt (ordering_then o (nat_cmp a b)) ≡ false → is_lt (ordering_then (ordering_reverse o) (nat_cmp b a))
+    ≡ false → a ≡ b
 levels Less a b e e' = absurd cc
 levels Equal a b e e' = grind (arith, nat_tests)
 levels Greater a b e e' = absurd cc
 
 one_place : (names : List (List ℕ)) (i j : ℕ) → is_lt (by_name names i j) ≡ false → is_lt (by_name names j i) ≡ false → i ≡ j
-one_place names i j e e' = levels (slice_cmp nat_cmp (name_at names i) (name_at names j)) i j e (ap (λ o. is_lt (ordering_then o (nat_cmp j i))) (sym (nat_list_cmp_total.antisymm (name_at names j) (name_at names i))) ∙ e')
+one_place names i j e e' = levels (slice_cmp nat_cmp (name_at names i) (name_at names j)) i j e
+    (ap (λ o. is_lt (ordering_then o (nat_cmp j i))) (sym (nat_list_cmp_total.antisymm (name_at names j) (name_at names i))) ∙ e')
 
 pub only_order : (names : List (List ℕ)) (one other : List ℕ) → IsOrder names one → IsOrder names other → one ≡ other
-only_order names one other o o' = same_order (λ i j. is_lt (by_name names i j)) (one_place names) one other (λ i j below within. far names one o i j 0 below within) (λ i j below within. far names other o' i j 0 below within) (λ n. sym (tally_permutation n (range_with_len 0 (length names)) one o.places) ∙ tally_permutation n (range_with_len 0 (length names)) other o'.places)
+only_order names one other o o' = same_order (λ i j. is_lt (by_name names i j)) (one_place names) one other
+    (λ i j below within. far names one o i j 0 below within) (λ i j below within. far names other o' i j 0 below within)
+    (λ n. sym (tally_permutation n (range_with_len 0 (length names)) one o.places) ∙ tally_permutation n (range_with_len 0 (length names))
+    other o'.places)
 
--- a block of the order that was found is one of any such order
-pub block_of_any : (names inside : List (List ℕ)) (order other items : List ℕ) (pattern : Pattern) (start end : ℕ) → inside ≡ names → other ≡ items → IsOrder inside items → IsOrder names order → IsBlock inside other pattern start end → IsBlock names order pattern start end
-block_of_any names inside order other items pattern start end e f o o' b = let same : order ≡ other = only_order names order other o' (rw (f, ← e) o) in rw (same, ← e) b
+-- a block of one such order is a block of any other
+pub block_of_any : (names inside : List (List ℕ)) (order other items : List ℕ) (pattern : Pattern) (start end : ℕ) → inside ≡ names
+    → other ≡ items → IsOrder inside items → IsOrder names order → IsBlock inside other pattern start end
+    → IsBlock names order pattern start end
+block_of_any names inside order other items pattern start end e f o o' b =
+    let same : order ≡ other = only_order names order other o' (rw (f, ← e) o) in
+    rw (same, ← e) b

@@ -1,13 +1,14 @@
 use Rattle.drv_match.specs.Code.Indexed.{positive}
 use Rattle.drv_match.specs.Matching.{cancels, has_negative, is_level, is_negative_of, negative}
-use Rattle.std.proofs.Common.{◌≡◌, ◌∙◌, ◌==◌, ◌||◌, ◌&&◌, Bool, false, true, List, [], ◌∷◌, None, Option, Some, if◌then◌else◌, nat_eq, refl, sym, ℕ}
+use Rattle.std.proofs.Common.{◌≡◌, ◌∙◌, ◌==◌, ◌||◌, ◌&&◌, Bool, false, true, List, [], ◌∷◌, None, Option, Some, if◌then◌else◌, nat_eq, refl}
+use Rattle.std.proofs.Common.{sym, ℕ}
 use Rattle.std.proofs.Math.Bool.{and-false}
 use Rattle.std.proofs.lemmas.Bool.{eqb-true}
 use Rattle.std.proofs.lemmas.Cmp.{nat_eq_equiv, nat_list_eq_equiv}
 use Rattle.std.specs.Cmp.Lexicographic.{pointwise}
 use Rattle.std.specs.Str.{byte}
 
--- What cancels a name: any level a level, and a negative form and its positive one each other.
+-- For liveness: what cancels a name. Any level cancels a level, and a negative form and its positive form cancel each other.
 
 -- a level has no negative form
 level_alone : (name : List ℕ) → is_level name ≡ true → has_negative name ≡ false
@@ -24,12 +25,13 @@ same_letter (b ∷ other) [] e = by (has_negative (b ∷ other)) e
     by false e = absurd cc
 same_letter (b ∷ other) (a ∷ name) e = by (has_negative (b ∷ other)) (b == a) refl refl e
   where
-    by : (t u : Bool) → has_negative (b ∷ other) ≡ t → (b == a) ≡ u → (t && (u && pointwise nat_eq (byte "n" ∷ byte "o" ∷ byte "-" ∷ other) name)) ≡ true → has_negative (a ∷ name) ≡ true
+    by : (t u : Bool) → has_negative (b ∷ other) ≡ t → (b == a) ≡ u
+        → (t && (u && pointwise nat_eq (byte "n" ∷ byte "o" ∷ byte "-" ∷ other) name)) ≡ true → has_negative (a ∷ name) ≡ true
     by true true h is e = let same : b ≡ a = eqb-true b a is in rw (← same) h
     by true false h is e = absurd cc
     by false u h is e = absurd cc
 
--- a name that has no negative form isn't one
+-- a name without a negative form has none of another name's
 no_negative : (other name : List ℕ) → has_negative name ≡ false → is_negative_of name other ≡ false
 no_negative other name none = by (is_negative_of name other) refl
   where
@@ -37,12 +39,12 @@ no_negative other name none = by (is_negative_of name other) refl
     by false e = refl
     by true e = absurd (let clash : true ≡ false = sym (same_letter other name e) ∙ none in cc)
 
--- the name is this one, if there is one
+-- whether a name is this one, if there is one
 abbrev pub is_this : Option (List ℕ) → List ℕ → Bool
 is_this None other = false
 is_this (Some name) other = pointwise nat_eq name other
 
--- a name that has a negative form is the negative form of `other` where `other` is the name without `no-`
+-- a name that has a negative form is the negative form of `other` if `other` is the name without `no-`
 as_positive : (other name : List ℕ) → has_negative name ≡ true → is_negative_of name other ≡ is_this (positive name) other
 as_positive other [] h = absurd cc
 as_positive [] (a ∷ []) h = refl
@@ -58,7 +60,8 @@ as_positive (b ∷ other) (a ∷ x ∷ []) h = rw (and-false, and-false, and-fal
 as_positive (b ∷ other) (a ∷ x ∷ y ∷ []) h = rw (and-false, and-false, and-false, and-false) refl
 as_positive (b ∷ other) (a ∷ x ∷ y ∷ z ∷ rest) h = by (b == a) refl
   where
-    tests : (u v w : Bool) → (u && (v && (w && pointwise nat_eq other rest))) ≡ is_this (if u && v && w then Some (a ∷ rest) else None) (a ∷ other)
+    tests : (u v w : Bool) → (u && (v && (w && pointwise nat_eq other rest)))
+        ≡ is_this (if u && v && w then Some (a ∷ rest) else None) (a ∷ other)
     tests true true true = rw (nat_eq_equiv.refl a) (nat_list_eq_equiv.symm other rest)
     tests true true false = refl
     tests true false w = refl
@@ -68,13 +71,15 @@ as_positive (b ∷ other) (a ∷ x ∷ y ∷ z ∷ rest) h = by (b == a) refl
     apart true e = rw (nat_eq_equiv.symm a b, e) refl
     apart false e = refl
 
-    by : (t : Bool) → (b == a) ≡ t → is_negative_of (a ∷ x ∷ y ∷ z ∷ rest) (b ∷ other) ≡ is_this (positive (a ∷ x ∷ y ∷ z ∷ rest)) (b ∷ other)
+    by : (t : Bool) → (b == a) ≡ t → is_negative_of (a ∷ x ∷ y ∷ z ∷ rest) (b ∷ other)
+        ≡ is_this (positive (a ∷ x ∷ y ∷ z ∷ rest)) (b ∷ other)
     by true e =
         let same : b ≡ a = eqb-true b a e in
-        rw (same, h, nat_eq_equiv.refl a, nat_eq_equiv.symm (byte "n") x, nat_eq_equiv.symm (byte "o") y, nat_eq_equiv.symm (byte "-") z) (tests (x == byte "n") (y == byte "o") (z == byte "-"))
+        rw (same, h, nat_eq_equiv.refl a, nat_eq_equiv.symm (byte "n") x, nat_eq_equiv.symm (byte "o") y, nat_eq_equiv.symm (byte "-") z)
+        (tests (x == byte "n") (y == byte "o") (z == byte "-"))
     by false e = rw (e, and-false) (sym (apart (x == byte "n" && y == byte "o" && z == byte "-") e))
 
--- what a level is cancelled by
+-- what cancels a level
 pub level_cancels : (other name : List ℕ) → is_level name ≡ true → cancels other name ≡ is_level other
 level_cancels other name e = rw (e, level_alone name e, no_negative other name (level_alone name e)) (by (is_level other))
   where
@@ -82,8 +87,9 @@ level_cancels other name e = rw (e, level_alone name e, no_negative other name (
     by true = refl
     by false = refl
 
--- what any other name is cancelled by
-pub other_cancels : (other name : List ℕ) → is_level name ≡ false → has_negative name ≡ true → cancels other name ≡ (pointwise nat_eq (negative name) other || is_this (positive name) other)
+-- what cancels any other name
+pub other_cancels : (other name : List ℕ) → is_level name ≡ false → has_negative name ≡ true
+    → cancels other name ≡ (pointwise nat_eq (negative name) other || is_this (positive name) other)
 other_cancels other name e h = rw (e, and-false, h, as_positive other name h) refl
 
 pub none_cancels : (other name : List ℕ) → is_level name ≡ false → has_negative name ≡ false → cancels other name ≡ false

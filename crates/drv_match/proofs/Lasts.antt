@@ -3,7 +3,8 @@ use Rattle.drv_match.proofs.Cancelling.{level_cancels, none_cancels, other_cance
 use Rattle.drv_match.specs.Code.Indexed.{IsLast, IsLiveness, positive}
 use Rattle.drv_match.specs.Matching.{cancels, has_negative, is_level, is_live, name_at, negative}
 use Rattle.drv_match.specs.Order.{IsOrder}
-use Rattle.std.proofs.Common.{◌≡◌, ◌<◌, ◌≤◌, ◌+◌, ◌-◌, ◌∙◌, ◌==◌, ◌||◌, Bool, false, true, List, [], None, Ordering, Some, ap, arith, drop, get_or, if◌then◌else◌, length, max, nat_eq, nat_le, not, refl, set, sym, ℕ}
+use Rattle.std.proofs.Common.{◌≡◌, ◌<◌, ◌≤◌, ◌+◌, ◌-◌, ◌∙◌, ◌==◌, ◌||◌, Bool, false, true, List, [], None, Ordering, Some, ap, arith, drop}
+use Rattle.std.proofs.Common.{get_or, if◌then◌else◌, length, max, nat_eq, nat_le, not, refl, set, sym, ℕ}
 use Rattle.std.proofs.Math.Bool.{or-false}
 use Rattle.std.proofs.lemmas.Bool.{eqb-true}
 use Rattle.std.proofs.lemmas.Bool.Decides.{nat_tests}
@@ -19,10 +20,11 @@ use Rattle.std.specs.List.Sorted.{IsPartitionPoint, IsPartitionedBy}
 use Rattle.std.specs.Ordering.{is_eq, is_gt, is_le, is_lt, nat_cmp, ordering_reverse}
 use Rattle.std.specs.declared.cmp.Ordering.TheVariants.{Less, Equal, Greater}
 
--- The last name that passes a test, and what it says of liveness.
+-- For liveness: the last name that passes a test.
 
--- two tests that answer alike have the same last name
-pub last_same : (f g : List ℕ → Bool) (names : List (List ℕ)) (place : ℕ) → ((name : List ℕ) → f name ≡ g name) → IsLast g names place → IsLast f names place
+-- two equal tests have the same last name
+pub last_same : (f g : List ℕ → Bool) (names : List (List ℕ)) (place : ℕ) → ((name : List ℕ) → f name ≡ g name) → IsLast g names place
+    → IsLast f names place
 last_same f g names place same last = record {
   none_after = λ i following within. same (name_at names i) ∙ last.none_after i following within;
   within = last.within;
@@ -48,8 +50,9 @@ or_right : (t u : Bool) → u ≡ true → (t || u) ≡ true
 or_right true u e = refl
 or_right false u e = e
 
--- the last that passes either of two tests
-pub last_either : (f g : List ℕ → Bool) (names : List (List ℕ)) (one other place : ℕ) → place ≡ max one other → IsLast f names one → IsLast g names other → IsLast (λ name. f name || g name) names place
+-- the last name that passes one of two tests
+pub last_either : (f g : List ℕ → Bool) (names : List (List ℕ)) (one other place : ℕ) → place ≡ max one other → IsLast f names one
+    → IsLast g names other → IsLast (λ name. f name || g name) names place
 last_either f g names one other place is last last' = by (nat_le one other) refl
   where
     by : (t : Bool) → nat_le one other ≡ t → IsLast (λ name. f name || g name) names place
@@ -57,7 +60,8 @@ last_either f g names one other place is last last' = by (nat_le one other) refl
         let low : one ≤ other = grind (arith, nat_tests) in
         let here : place ≡ other = omega (arith, is, low) in
         rw here (record {
-          none_after = λ i following within. both_no _ _ (last.none_after i (omega (arith, following, low)) within) (last'.none_after i following within);
+          none_after = λ i following within. both_no _ _ (last.none_after i (omega (arith, following, low)) within)
+              (last'.none_after i following within);
           within = last'.within;
           passes = λ some. or_right _ _ (last'.passes some);
         })
@@ -65,28 +69,39 @@ last_either f g names one other place is last last' = by (nat_le one other) refl
         let low : other < one = grind (arith, nat_tests) in
         let here : place ≡ one = omega (arith, is, low) in
         rw here (record {
-          none_after = λ i following within. both_no _ _ (last.none_after i following within) (last'.none_after i (omega (arith, following, low)) within);
+          none_after = λ i following within. both_no _ _ (last.none_after i following within)
+              (last'.none_after i (omega (arith, following, low)) within);
           within = last.within;
           passes = λ some. or_left _ _ (last.passes some);
         })
 
--- What cancels a name last.
+-- The last name that cancels a name.
 
-pub level_last : (names : List (List ℕ)) (name : List ℕ) (place : ℕ) → is_level name ≡ true → IsLast is_level names place → IsLast (λ later. cancels later name) names place
+pub level_last : (names : List (List ℕ)) (name : List ℕ) (place : ℕ) → is_level name ≡ true → IsLast is_level names place
+    → IsLast (λ later. cancels later name) names place
 level_last names name place e last = last_same (λ later. cancels later name) is_level names place (λ later. level_cancels later name e) last
 
-pub none_last : (names : List (List ℕ)) (name : List ℕ) → is_level name ≡ false → has_negative name ≡ false → IsLast (λ later. cancels later name) names 0
+pub none_last : (names : List (List ℕ)) (name : List ℕ) → is_level name ≡ false → has_negative name ≡ false
+    → IsLast (λ later. cancels later name) names 0
 none_last names name e h = no_last (λ later. cancels later name) names (λ later. none_cancels later name e h)
 
-pub negative_last : (names : List (List ℕ)) (name form : List ℕ) (place : ℕ) → is_level name ≡ false → has_negative name ≡ true → positive name ≡ None → form ≡ negative name → IsLast (pointwise nat_eq form) names place → IsLast (λ later. cancels later name) names place
-negative_last names name form place e h alone is last = last_same (λ later. cancels later name) (pointwise nat_eq form) names place (λ later. other_cancels later name e h ∙ rw (alone, ← is) (or-false (pointwise nat_eq form later))) last
+pub negative_last : (names : List (List ℕ)) (name form : List ℕ) (place : ℕ) → is_level name ≡ false → has_negative name ≡ true
+    → positive name ≡ None → form ≡ negative name → IsLast (pointwise nat_eq form) names place
+    → IsLast (λ later. cancels later name) names place
+negative_last names name form place e h alone is last = last_same (λ later. cancels later name) (pointwise nat_eq form) names place
+    (λ later. other_cancels later name e h ∙ rw (alone, ← is) (or-false (pointwise nat_eq form later))) last
 
-pub both_last : (names : List (List ℕ)) (name form form' : List ℕ) (one other place : ℕ) → is_level name ≡ false → has_negative name ≡ true → positive name ≡ Some form' → form ≡ negative name → IsLast (pointwise nat_eq form) names one → IsLast (pointwise nat_eq form') names other → place ≡ max one other → IsLast (λ later. cancels later name) names place
-both_last names name form form' one other place e h found is last last' greatest = last_same (λ later. cancels later name) (λ later. pointwise nat_eq form later || pointwise nat_eq form' later) names place (λ later. other_cancels later name e h ∙ rw (found, ← is) refl) (last_either (pointwise nat_eq form) (pointwise nat_eq form') names one other place greatest last last')
+pub both_last : (names : List (List ℕ)) (name form form' : List ℕ) (one other place : ℕ) → is_level name ≡ false → has_negative name ≡ true
+    → positive name ≡ Some form' → form ≡ negative name → IsLast (pointwise nat_eq form) names one
+    → IsLast (pointwise nat_eq form') names other → place ≡ max one other → IsLast (λ later. cancels later name) names place
+both_last names name form form' one other place e h found is last last' greatest = last_same (λ later. cancels later name)
+    (λ later. pointwise nat_eq form later || pointwise nat_eq form' later) names place (λ later. other_cancels later name e h
+    ∙ rw (found, ← is) refl) (last_either (pointwise nat_eq form) (pointwise nat_eq form') names one other place greatest last last')
 
--- A switch is live from the place of the last one that cancels it on.
+-- A switch is live if its place is not before the last switch that cancels it.
 
-pub live_from : (names : List (List ℕ)) (place first : ℕ) → place < length names → IsLast (λ later. cancels later (name_at names place)) names first → nat_le first place ≡ is_live names place
+pub live_from : (names : List (List ℕ)) (place first : ℕ) → place < length names
+    → IsLast (λ later. cancels later (name_at names place)) names first → nat_le first place ≡ is_live names place
 live_from names place first within last = by (nat_le first place) refl
   where
     later : List (List ℕ)
@@ -95,7 +110,8 @@ live_from names place first within last = by (nat_le first place) refl
     by : (t : Bool) → nat_le first place ≡ t → t ≡ not (list_any (λ other. cancels other (name_at names place)) (drop (place + 1) names))
     by true e =
         let low : first ≤ place = grind (arith, nat_tests) in
-        rw (list_any_none (λ other. cancels other (name_at names place)) (drop (place + 1) names) (All-from_get_or (λ other. cancels other (name_at names place) ≡ false) (drop (place + 1) names) [] (λ i inside.
+        rw (list_any_none (λ other. cancels other (name_at names place)) (drop (place + 1) names)
+        (All-from_get_or (λ other. cancels other (name_at names place) ≡ false) (drop (place + 1) names) [] (λ i inside.
         let in' : place + 1 + i < length names = omega (arith, length-drop (place + 1) names, inside) in
         rw (get_or-drop (place + 1) names i []) (last.none_after (place + 1 + i) (omega (arith, low)) in')))) refl
     by false e =
@@ -106,7 +122,7 @@ live_from names place first within last = by (nat_le first place) refl
         let here : cancels (get_or (drop (place + 1) names) (first - (place + 1)) []) (name_at names place) ≡ true = rw (get_or-drop (place + 1) names (first - (place + 1)) [], back) (last.passes some) in
         rw (list_any_at (λ other. cancels other (name_at names place)) (drop (place + 1) names) (first - (place + 1)) [] (omega (arith, length-drop (place + 1) names, in', high)) here) refl
 
--- The last of a name, looked up in the order.
+-- The last place of a name, looked up in the order.
 
 abbrev pub is_upto : List (List ℕ) → List ℕ → ℕ → Bool
 is_upto names name i = is_le (slice_cmp nat_cmp (name_at names i) name)
@@ -127,11 +143,14 @@ turned Equal e = refl
 turned Greater e = refl
 
 -- an earlier name of the order is at most a later one
-earlier : (names : List (List ℕ)) (order : List ℕ) → IsOrder names order → (j k d : ℕ) → j ≤ k → k < length order → is_gt (slice_cmp nat_cmp (name_at names (get_or order j d)) (name_at names (get_or order k d))) ≡ false
-earlier names order o j k d below within = ap is_gt (nat_list_cmp_total.antisymm (name_at names (get_or order j d)) (name_at names (get_or order k d))) ∙ turned _ (far_names names order o j k d below within)
+earlier : (names : List (List ℕ)) (order : List ℕ) → IsOrder names order → (j k d : ℕ) → j ≤ k → k < length order
+    → is_gt (slice_cmp nat_cmp (name_at names (get_or order j d)) (name_at names (get_or order k d))) ≡ false
+earlier names order o j k d below within = ap is_gt (nat_list_cmp_total.antisymm (name_at names (get_or order j d))
+    (name_at names (get_or order k d))) ∙ turned _ (far_names names order o j k d below within)
 
 pub upto_parts : (names : List (List ℕ)) (order : List ℕ) (name : List ℕ) → IsOrder names order → IsPartitionedBy (is_upto names name) order
-upto_parts names order name o = λ i j d below within so. at_most _ (upto nat_list_cmp_total (name_at names (get_or order i d)) (name_at names (get_or order j d)) name (earlier names order o i j d below within) (not_greater _ so))
+upto_parts names order name o = λ i j d below within so. at_most _ (upto nat_list_cmp_total (name_at names (get_or order i d))
+    (name_at names (get_or order j d)) name (earlier names order o i j d below within) (not_greater _ so))
 
 equal_upto : (o : Ordering) → is_eq o ≡ true → is_le o ≡ false → ⊥
 equal_upto Less e e' = absurd cc
@@ -143,12 +162,15 @@ is_equal Less e = absurd cc
 is_equal Equal e = refl
 is_equal Greater e = absurd cc
 
--- a name of the order that is this one stands before the end
-below_end : (names : List (List ℕ)) (order : List ℕ) (name : List ℕ) (end k : ℕ) → IsPartitionPoint (λ i. is_upto names name i ≡ true) (λ i. is_upto names name i ≡ false) order end → k < length order → pointwise nat_eq name (name_at names (get_or order k 0)) ≡ true → k < end
+-- each place of this name comes before the end in the order
+below_end : (names : List (List ℕ)) (order : List ℕ) (name : List ℕ) (end k : ℕ) → IsPartitionPoint (λ i. is_upto names name i ≡ true)
+    (λ i. is_upto names name i ≡ false) order end → k < length order → pointwise nat_eq name (name_at names (get_or order k 0))
+    ≡ true → k < end
 below_end names order name end k point within same = by (nat_le end k) refl
   where
     turned_same : is_eq (slice_cmp nat_cmp (name_at names (get_or order k 0)) name) ≡ true
-    turned_same = sym (texts_ties (name_at names (get_or order k 0)) name) ∙ nat_list_eq_equiv.symm (name_at names (get_or order k 0)) name ∙ same
+    turned_same = sym (texts_ties (name_at names (get_or order k 0)) name) ∙ nat_list_eq_equiv.symm (name_at names (get_or order k 0)) name
+        ∙ same
 
     by : (t : Bool) → nat_le end k ≡ t → k < end
     by true e =
@@ -156,8 +178,10 @@ below_end names order name end k point within same = by (nat_le end k) refl
         absurd (equal_upto _ turned_same (point.1 k 0 from within))
     by false e = grind (arith, nat_tests)
 
--- where there is none up to the end, there is none
-pub named_none : (names : List (List ℕ)) (order : List ℕ) (name : List ℕ) (end : ℕ) → IsOrder names order → IsPartitionPoint (λ i. is_upto names name i ≡ true) (λ i. is_upto names name i ≡ false) order end → end ≡ 0 → IsLast (pointwise nat_eq name) names 0
+-- if the name is not before the end, no switch has it
+pub named_none : (names : List (List ℕ)) (order : List ℕ) (name : List ℕ) (end : ℕ) → IsOrder names order
+    → IsPartitionPoint (λ i. is_upto names name i ≡ true) (λ i. is_upto names name i ≡ false) order end → end ≡ 0
+    → IsLast (pointwise nat_eq name) names 0
 named_none names order name end o point is = record {
   none_after = λ i following within. by i within (pointwise nat_eq name (name_at names i)) refl;
   within = λ some. absurd (omega (arith, some));
@@ -172,12 +196,16 @@ named_none names order name end o point is = record {
         let low : found.0 < end = below_end names order name end found.0 point found.1 (rw at e) in
         absurd (omega (arith, low, is))
 
--- the entry before the end is the last of the name, or there is none
-pub named_last : (names : List (List ℕ)) (order : List ℕ) (name : List ℕ) (end place : ℕ) → IsOrder names order → end ≤ length order → IsPartitionPoint (λ i. is_upto names name i ≡ true) (λ i. is_upto names name i ≡ false) order end → 0 < end → place ≡ get_or order (end - 1) 0 → IsLast (pointwise nat_eq name) names (if pointwise nat_eq (name_at names place) name then place else 0)
+-- the entry before the end is the last place of the name, or no switch has the name
+pub named_last : (names : List (List ℕ)) (order : List ℕ) (name : List ℕ) (end place : ℕ) → IsOrder names order → end ≤ length order
+    → IsPartitionPoint (λ i. is_upto names name i ≡ true) (λ i. is_upto names name i ≡ false) order end → 0 < end
+    → place ≡ get_or order (end - 1) 0
+    → IsLast (pointwise nat_eq name) names (if pointwise nat_eq (name_at names place) name then place else 0)
 named_last names order name end place o high point some is = by (pointwise nat_eq (name_at names place) name) refl
   where
-    -- the place of one of that name is at most this one, which has it too
-    upper : (i : ℕ) → i < length names → pointwise nat_eq name (name_at names i) ≡ true → (pointwise nat_eq (name_at names place) name ≡ true) × (i ≤ place)
+    -- a place of this name is at most the place found, which has the name too
+    upper : (i : ℕ) → i < length names → pointwise nat_eq name (name_at names i) ≡ true
+        → (pointwise nat_eq (name_at names place) name ≡ true) × (i ≤ place)
     upper i within same =
         let found = has_place names order o i within in
         let at : get_or order found.0 0 ≡ i = grind (arith, get_or_default_zero order found.0 i found.1, found.2) in
@@ -222,17 +250,27 @@ named_last names order name end place o high point some is = by (pointwise nat_e
 pub same_bytes : (xs ys : List ℕ) → pointwise nat_eq xs ys ≡ true → xs ≡ ys
 same_bytes xs ys e = exact_bytes xs ys (is_equal _ (sym (texts_ties xs ys) ∙ e))
 
--- an entry of the same name as the one before it
-pub known_again : (names : List (List ℕ)) (before name : List ℕ) (first place : ℕ) → IsLast (λ later. cancels later before) names first → pointwise nat_eq name before ≡ true → name ≡ name_at names place → IsLast (λ later. cancels later (name_at names place)) names first
-known_again names before name first place last same at = let one : before ≡ name_at names place = sym (same_bytes name before same) ∙ at in rw (← one) last
+-- an entry with the name of the entry before it
+pub known_again : (names : List (List ℕ)) (before name : List ℕ) (first place : ℕ) → IsLast (λ later. cancels later before) names first
+    → pointwise nat_eq name before ≡ true → name ≡ name_at names place → IsLast (λ later. cancels later (name_at names place)) names first
+known_again names before name first place last same at =
+    let one : before ≡ name_at names place = sym (same_bytes name before same) ∙ at in
+    rw (← one) last
 
-pub flags_next : (names : List (List ℕ)) (order : List ℕ) (flags after : List Bool) (k first : ℕ) → length flags ≡ length names → get_or order k 0 < length names → ((j : ℕ) → j < k → get_or flags (get_or order j 0) false ≡ is_live names (get_or order j 0)) → IsLast (λ later. cancels later (name_at names (get_or order k 0))) names first → after ≡ set flags (get_or order k 0) (nat_le first (get_or order k 0)) → (j : ℕ) → j < k + 1 → get_or after (get_or order j 0) false ≡ is_live names (get_or order j 0)
-flags_next names order flags after k first same within told last is j below = rw is (by (get_or order j 0 == get_or order k 0) (nat_eq j k) refl refl)
+pub flags_next : (names : List (List ℕ)) (order : List ℕ) (flags after : List Bool) (k first : ℕ) → length flags ≡ length names
+    → get_or order k 0 < length names → ((j : ℕ) → j < k → get_or flags (get_or order j 0) false ≡ is_live names (get_or order j 0))
+    → IsLast (λ later. cancels later (name_at names (get_or order k 0))) names first
+    → after ≡ set flags (get_or order k 0) (nat_le first (get_or order k 0)) → (j : ℕ) → j < k + 1
+    → get_or after (get_or order j 0) false ≡ is_live names (get_or order j 0)
+flags_next names order flags after k first same within told last is j below = rw is (by (get_or order j 0 == get_or order k 0)
+    (nat_eq j k) refl refl)
   where
     here : nat_le first (get_or order k 0) ≡ is_live names (get_or order k 0)
     here = live_from names (get_or order k 0) first within last
 
-    by : (t u : Bool) → (get_or order j 0 == get_or order k 0) ≡ t → nat_eq j k ≡ u → get_or (set flags (get_or order k 0) (nat_le first (get_or order k 0))) (get_or order j 0) false ≡ is_live names (get_or order j 0)
+    by : (t u : Bool) → (get_or order j 0 == get_or order k 0) ≡ t → nat_eq j k ≡ u
+        → get_or (set flags (get_or order k 0) (nat_le first (get_or order k 0))) (get_or order j 0) false ≡ is_live names
+        (get_or order j 0)
     by true u e e' =
         let place : get_or order j 0 ≡ get_or order k 0 = eqb-true _ _ e in
         rw (place, get_or-set_same flags (get_or order k 0) (nat_le first (get_or order k 0)) false (rw same within)) here
@@ -241,7 +279,9 @@ flags_next names order flags after k first same within told last is j below = rw
         let lower : j < k = grind (arith, nat_tests) in
         rw (get_or-set_other flags (get_or order k 0) (get_or order j 0) (nat_le first (get_or order k 0)) false (λ place. absurd (let clash : true ≡ false = sym (nat_eq_equiv.refl (get_or order j 0)) ∙ ap (λ m. get_or order j 0 == m) place ∙ e in cc))) (told j lower)
 
-pub flags_all : (names : List (List ℕ)) (order : List ℕ) (flags : List Bool) (k : ℕ) → IsOrder names order → length flags ≡ length names → length order ≤ k → ((j : ℕ) → j < k → get_or flags (get_or order j 0) false ≡ is_live names (get_or order j 0)) → IsLiveness names flags
+pub flags_all : (names : List (List ℕ)) (order : List ℕ) (flags : List Bool) (k : ℕ) → IsOrder names order → length flags ≡ length names
+    → length order ≤ k → ((j : ℕ) → j < k → get_or flags (get_or order j 0) false ≡ is_live names (get_or order j 0))
+    → IsLiveness names flags
 flags_all names order flags k o same whole told = record {
   as_many = same;
   at = λ i within.
@@ -250,13 +290,15 @@ flags_all names order flags k o same whole told = record {
       rw (← place) (told found.0 (omega (arith, whole, found.1)));
 }
 
--- which of the two a test chose
+-- the one of two that a test chose
 
-pub chosen : (test : List ℕ → Bool) (names : List (List ℕ)) (place : ℕ) (t : Bool) → t ≡ true → IsLast test names (if t then place else 0) → IsLast test names place
+pub chosen : (test : List ℕ → Bool) (names : List (List ℕ)) (place : ℕ) (t : Bool) → t ≡ true → IsLast test names (if t then place else 0)
+    → IsLast test names place
 chosen test names place true e last = last
 chosen test names place false e last = absurd cc
 
-pub passed : (test : List ℕ → Bool) (names : List (List ℕ)) (place : ℕ) (t : Bool) → t ≡ false → IsLast test names (if t then place else 0) → IsLast test names 0
+pub passed : (test : List ℕ → Bool) (names : List (List ℕ)) (place : ℕ) (t : Bool) → t ≡ false → IsLast test names (if t then place else 0)
+    → IsLast test names 0
 passed test names place true e last = absurd cc
 passed test names place false e last = last
 

@@ -3,7 +3,9 @@ use Rattle.drv_match.proofs.Parts.{all_hidden, any_filter, at_place, block_has, 
 use Rattle.drv_match.specs.Code.Indexed.{AreNamed, SameHits}
 use Rattle.drv_match.specs.Matching.{IsNextHit, any_hits, hits, is_any_hit, is_broad, is_hit, is_named, name_at}
 use Rattle.drv_match.specs.Pattern.{Pattern}
-use Rattle.std.proofs.Common.{◌≡◌, ◌<◌, ◌≤◌, ◌+◌, ◌-◌, ◌∙◌, ◌&&◌, ◌||◌, ◌==◌, All, Bool, false, true, List, [], ◌∷◌, ◌++◌, None, Option, Some, ap, append_assoc, append-nil, arith, cond, drop, filter, get_or, if◌then◌else◌, length, MatchOption, nat_eq, nat_lt, not, refl, set, subst, suc, sym, take, zero, ℕ}
+use Rattle.std.proofs.Common.{◌≡◌, ◌<◌, ◌≤◌, ◌+◌, ◌-◌, ◌∙◌, ◌&&◌, ◌||◌, ◌==◌, All, Bool, false, true, List, [], ◌∷◌, ◌++◌, None, Option}
+use Rattle.std.proofs.Common.{Some, ap, append_assoc, append-nil, arith, cond, drop, filter, get_or, if◌then◌else◌, length, MatchOption}
+use Rattle.std.proofs.Common.{nat_eq, nat_lt, not, refl, set, subst, suc, sym, take, zero, ℕ}
 use Rattle.std.proofs.Math.Bool.{or-false}
 use Rattle.std.proofs.lemmas.Bool.{eqb-true}
 use Rattle.std.proofs.lemmas.Bool.Decides.{nat_tests}
@@ -16,14 +18,16 @@ use Rattle.std.proofs.lemmas.List.Sums.{prefix_len-le-length}
 use Rattle.std.specs.List.{list_any, position, position_or_len, range_with_len}
 use Rattle.std.specs.Prelude.{unwrap_or}
 
--- Places that one of several patterns hits, and the next place that one hits.
+-- For any_hits and next_hit: the places that one of several patterns hits, and the next place that one pattern hits.
 
-range_same : (f g : ℕ → Bool) (start n : ℕ) → ((i : ℕ) → start ≤ i → i < start + n → f i ≡ g i) → filter f (range_with_len start n) ≡ filter g (range_with_len start n)
+range_same : (f g : ℕ → Bool) (start n : ℕ) → ((i : ℕ) → start ≤ i → i < start + n → f i ≡ g i)
+    → filter f (range_with_len start n) ≡ filter g (range_with_len start n)
 range_same f g start zero same = refl
 range_same f g start (suc n) same =
     let here : f start ≡ g start = same start (omega arith) (omega arith) in
     let rest : filter f (range_with_len (start + 1) n) ≡ filter g (range_with_len (start + 1) n) = range_same f g (start + 1) n (λ i low high. same i (omega (arith, low)) (omega (arith, high))) in
-    ap (λ b. if b then start ∷ filter f (range_with_len (start + 1) n) else filter f (range_with_len (start + 1) n)) here ∙ ap (λ is. if g start then start ∷ is else is) rest
+    ap (λ b. if b then start ∷ filter f (range_with_len (start + 1) n) else filter f (range_with_len (start + 1) n)) here
+    ∙ ap (λ is. if g start then start ∷ is else is) rest
 
 below : (f : ℕ → Bool) (n : ℕ) → All (λ i. i < n) (filter f (range_with_len 0 n))
 below f n = All-filter f (λ i. i < n) (range_with_len 0 n) (All-from_all_within (λ i. i < n) (range_with_len 0 n) (λ k d low high.
@@ -47,30 +51,39 @@ pub is_none_left : (patterns : List Pattern) → (length patterns == 0) ≡ true
 is_none_left [] e = refl
 is_none_left (p ∷ patterns) e = absurd (omega (arith, eqb-true (suc (length patterns)) 0 e))
 
-pub front_is : (patterns : List Pattern) (first : Pattern) → 1 ≤ length patterns → first ≡ get_or patterns 0 first → patterns ≡ first ∷ take (length patterns - 1) (drop 1 patterns)
+pub front_is : (patterns : List Pattern) (first : Pattern) → 1 ≤ length patterns → first ≡ get_or patterns 0 first
+    → patterns ≡ first ∷ take (length patterns - 1) (drop 1 patterns)
 front_is [] first some is = absurd (omega (arith, some))
-front_is (p ∷ patterns) first some is = ap (λ q. q ∷ patterns) (sym is) ∙ ap (λ ps. first ∷ ps) (sym (take_whole (length (p ∷ patterns) - 1) patterns (omega arith)))
+front_is (p ∷ patterns) first some is = ap (λ q. q ∷ patterns) (sym is)
+    ∙ ap (λ ps. first ∷ ps) (sym (take_whole (length (p ∷ patterns) - 1) patterns (omega arith)))
 
 module _ (names : List (List ℕ)) (hidden : List Bool) where
-  pub all_same : (some others : List Pattern) → SameHits names hidden some others → any_hits names hidden some ≡ any_hits names hidden others
-  all_same some others same = range_same (is_any_hit names hidden some) (is_any_hit names hidden others) 0 (length names) (λ i low high. same i (omega (arith, high)))
+  pub all_same : (some others : List Pattern) → SameHits names hidden some others
+      → any_hits names hidden some ≡ any_hits names hidden others
+  all_same some others same = range_same (is_any_hit names hidden some) (is_any_hit names hidden others) 0 (length names)
+      (λ i low high. same i (omega (arith, high)))
 
-  -- where none is left that hits, nothing is hit
+  -- if no pattern is left that hits, no place is hit
   pub none_hit : (left patterns : List Pattern) → left ≡ [] → SameHits names hidden left patterns → [] ≡ any_hits names hidden patterns
   none_hit left patterns none same = sym (none_of 0 (length names)) ∙ ap (any_hits names hidden) (sym none) ∙ all_same left patterns same
 
-  pub any_within : (patterns : List Pattern) (places : List ℕ) → places ≡ any_hits names hidden patterns → All (λ i. i < length names) places
+  pub any_within : (patterns : List Pattern) (places : List ℕ) → places ≡ any_hits names hidden patterns
+      → All (λ i. i < length names) places
   any_within patterns places is = rw is (below (is_any_hit names hidden patterns) (length names))
 
-  -- the first that hits something, and others that are left after it
-  pub front_same : (left patterns : List Pattern) (first : Pattern) (others rest : List Pattern) → SameHits names hidden left patterns → left ≡ first ∷ rest → SameHits names hidden others rest → SameHits names hidden (first ∷ others) patterns
+  -- the first pattern that hits a switch, and the patterns after it
+  pub front_same : (left patterns : List Pattern) (first : Pattern) (others rest : List Pattern) → SameHits names hidden left patterns
+      → left ≡ first ∷ rest → SameHits names hidden others rest → SameHits names hidden (first ∷ others) patterns
   front_same left patterns first others rest same is following = λ i within.
       ap (λ t. is_hit names hidden first i || t) (following i within) ∙ ap (λ ps. is_any_hit names hidden ps i) (sym is) ∙ same i within
 
-  -- what none of the others hits is what the first hits
-  pub first_alone : (first : Pattern) (others none : List Pattern) → none ≡ [] → SameHits names hidden none others → hits names hidden first ≡ any_hits names hidden (first ∷ others)
-  first_alone first others none is same = range_same (is_hit names hidden first) (is_any_hit names hidden (first ∷ others)) 0 (length names) (λ i low high.
-      by (is_hit names hidden first i) (is_any_hit names hidden others i) (sym (same i (omega (arith, high))) ∙ ap (λ ps. is_any_hit names hidden ps i) is))
+  -- if the others hit nothing, the first pattern's hits are all
+  pub first_alone : (first : Pattern) (others none : List Pattern) → none ≡ [] → SameHits names hidden none others
+      → hits names hidden first ≡ any_hits names hidden (first ∷ others)
+  first_alone first others none is same = range_same (is_hit names hidden first) (is_any_hit names hidden (first ∷ others)) 0
+      (length names) (λ i low high.
+      by (is_hit names hidden first i) (is_any_hit names hidden others i) (sym (same i (omega (arith, high)))
+      ∙ ap (λ ps. is_any_hit names hidden ps i) is))
     where
       by : (t u : Bool) → u ≡ false → t ≡ (t || u)
       by true u e = refl
@@ -87,13 +100,15 @@ module _ (names : List (List ℕ)) (hidden : List Bool) where
           sym found ∙ none
 
   -- a pattern without a hit hits no place
-  pub hits_none : (pattern : Pattern) (i : ℕ) → nat_lt 0 (length (hits names hidden pattern)) ≡ false → i < length names → is_hit names hidden pattern i ≡ false
-  hits_none pattern i none within = not_in (is_hit names hidden pattern) (length names) i (any_filter (is_hit names hidden pattern) (range_with_len 0 (length names)) ∙ none) within
+  pub hits_none : (pattern : Pattern) (i : ℕ) → nat_lt 0 (length (hits names hidden pattern)) ≡ false → i < length names
+      → is_hit names hidden pattern i ≡ false
+  hits_none pattern i none within = not_in (is_hit names hidden pattern) (length names) i (any_filter (is_hit names hidden pattern)
+      (range_with_len 0 (length names)) ∙ none) within
 
   abbrev has_hit : Pattern → Bool
   has_hit pattern = nat_lt 0 (length (hits names hidden pattern))
 
-  -- the patterns from the first on that hits a switch hit the same
+  -- the patterns from the first hit on hit the same as all
   pub from_first : (patterns : List Pattern) → SameHits names hidden (drop (position_or_len has_hit patterns) patterns) patterns
   from_first [] i low = refl
   from_first (p ∷ patterns) i low = by (has_hit p) refl (from_first patterns i low)
@@ -127,18 +142,20 @@ module _ (names : List (List ℕ)) (hidden : List Bool) where
       → SameHits names hidden (take (length patterns - at) (drop at patterns)) patterns
   from_place patterns at is i low =
       ap (λ ps. is_any_hit names hidden ps i)
-      (take_all (length patterns - at) (drop at patterns) (omega (arith, length-drop at patterns)) ∙ ap (λ n. drop n patterns) (is ∙ or_length patterns))
+      (take_all (length patterns - at) (drop at patterns) (omega (arith, length-drop at patterns))
+      ∙ ap (λ n. drop n patterns) (is ∙ or_length patterns))
       ∙ from_first patterns i low
 
-  -- the first place from one on that is hit
+  -- the first place that is hit, from one place on
   pub next_found : (pattern : Pattern) (from end : ℕ) (found : Option ℕ) → end ≡ length names
       → MatchOption found ((k : ℕ) → from ≤ k → k < end → is_hit names hidden pattern k ≡ false)
-      (λ i. (from ≤ i) × (i < end) × (is_hit names hidden pattern i ≡ true) × ((k : ℕ) → from ≤ k → k < i → is_hit names hidden pattern k ≡ false))
+      (λ i. (from ≤ i) × (i < end) × (is_hit names hidden pattern i ≡ true) × ((k : ℕ) → from ≤ k → k < i
+      → is_hit names hidden pattern k ≡ false))
       → IsNextHit names hidden pattern from found
   next_found pattern from end None is none = λ i low high. none i low (omega (arith, is, high))
   next_found pattern from end (Some next) is (low, high, hit, before) = (low, omega (arith, is, high), hit, before)
 
-  -- Flags of the places that are hit.
+  -- Flags for the places that are hit.
 
   any_kept : (test other : ℕ → Bool) (xs : List ℕ) → list_any other (filter test xs) ≡ list_any (λ x. test x && other x) xs
   any_kept test other [] = refl
@@ -149,8 +166,9 @@ module _ (names : List (List ℕ)) (hidden : List Bool) where
       by true ih = ap (λ u. other x || u) ih
       by false ih = ih
 
-  -- a place is among those that count of the named ones where it is hit
-  hit_among : (pattern : Pattern) (named : List ℕ) (i : ℕ) → AreNamed names pattern named → i < length names → list_any (nat_eq i) (filter (counts names hidden (is_broad pattern)) named) ≡ is_hit names hidden pattern i
+  -- a named place counts exactly if it is hit
+  hit_among : (pattern : Pattern) (named : List ℕ) (i : ℕ) → AreNamed names pattern named → i < length names
+      → list_any (nat_eq i) (filter (counts names hidden (is_broad pattern)) named) ≡ is_hit names hidden pattern i
   hit_among pattern named i n within =
       let found = has_place names n.order n.in_order i within in
       let here : list_any (nat_eq i) n.order ≡ true = list_any_at (nat_eq i) n.order found.0 i found.1 (rw found.2 (nat_eq_equiv.refl i)) in
@@ -165,25 +183,28 @@ module _ (names : List (List ℕ)) (hidden : List Bool) where
       by true = refl
       by false = refl
 
-  -- as these places are marked
+  -- the flags after these places are marked
   abbrev pub marking : Pattern → List ℕ → List Bool → List Bool
   marking pattern places flags = all_hidden (filter (counts names hidden (is_broad pattern)) places) flags
 
-  pub mark_next : (pattern : Pattern) (flags after whole : List Bool) (named : List ℕ) (k : ℕ) → k < length named → counts names hidden (is_broad pattern) (get_or named k 0) ≡ true → after ≡ set flags (get_or named k 0) true
+  pub mark_next : (pattern : Pattern) (flags after whole : List Bool) (named : List ℕ) (k : ℕ) → k < length named
+      → counts names hidden (is_broad pattern) (get_or named k 0) ≡ true → after ≡ set flags (get_or named k 0) true
       → marking pattern (drop k named) flags ≡ whole → marking pattern (drop (k + 1) named) after ≡ whole
   mark_next pattern flags after whole named k within hit is done = rw is (step ∙ done)
     where
       step : marking pattern (drop (k + 1) named) (set flags (get_or named k 0) true) ≡ marking pattern (drop k named) flags
       step = rw (drop_more named k 0 within, hit) refl
 
-  pub mark_pass : (pattern : Pattern) (flags whole : List Bool) (named : List ℕ) (k : ℕ) → k < length named → counts names hidden (is_broad pattern) (get_or named k 0) ≡ false
+  pub mark_pass : (pattern : Pattern) (flags whole : List Bool) (named : List ℕ) (k : ℕ) → k < length named
+      → counts names hidden (is_broad pattern) (get_or named k 0) ≡ false
       → marking pattern (drop k named) flags ≡ whole → marking pattern (drop (k + 1) named) flags ≡ whole
   mark_pass pattern flags whole named k within missed done = step ∙ done
     where
       step : marking pattern (drop (k + 1) named) flags ≡ marking pattern (drop k named) flags
       step = rw (drop_more named k 0 within, missed) refl
 
-  pub mark_done : (pattern : Pattern) (flags before : List Bool) (named : List ℕ) (k i : ℕ) → AreNamed names pattern named → length before ≡ length names → length named ≤ k → marking pattern (drop k named) flags ≡ marking pattern named before
+  pub mark_done : (pattern : Pattern) (flags before : List Bool) (named : List ℕ) (k i : ℕ) → AreNamed names pattern named
+      → length before ≡ length names → length named ≤ k → marking pattern (drop k named) flags ≡ marking pattern named before
       → i < length names → get_or flags i false ≡ (get_or before i false || is_hit names hidden pattern i)
   mark_done pattern flags before named k i n many past done within =
       ap (λ fs. get_or fs i false) (whole ∙ done)
@@ -193,11 +214,14 @@ module _ (names : List (List ℕ)) (hidden : List Bool) where
       whole : flags ≡ marking pattern (drop k named) flags
       whole = rw (drop_all k named past) refl
 
-  -- the flags of some patterns, and then those that are left
+  -- the flags of some patterns, and then of those that are left
   abbrev pub Flagged : List Bool → List Pattern → List Pattern → Type 0
-  Flagged flags left all = (i : ℕ) → i < length names → (get_or flags i false || is_any_hit names hidden left i) ≡ is_any_hit names hidden all i
+  Flagged flags left all = (i : ℕ) → i < length names → (get_or flags i false || is_any_hit names hidden left i)
+      ≡ is_any_hit names hidden all i
 
-  pub flag_first : (flags before : List Bool) (first : Pattern) (others : List Pattern) → ((i : ℕ) → i < length names → get_or before i false ≡ false) → ((i : ℕ) → i < length names → get_or flags i false ≡ (get_or before i false || is_hit names hidden first i))
+  pub flag_first : (flags before : List Bool) (first : Pattern) (others : List Pattern)
+      → ((i : ℕ) → i < length names → get_or before i false ≡ false)
+      → ((i : ℕ) → i < length names → get_or flags i false ≡ (get_or before i false || is_hit names hidden first i))
       → Flagged flags others (first ∷ others)
   flag_first flags before first others none marked = λ i within.
       ap (λ t. t || is_any_hit names hidden others i) (marked i within ∙ ap (λ t. t || is_hit names hidden first i) (none i within))
@@ -206,44 +230,56 @@ module _ (names : List (List ℕ)) (hidden : List Bool) where
   or_in true u v = refl
   or_in false u v = refl
 
-  pub flag_next : (flags after : List Bool) (patterns all : List Pattern) (k : ℕ) (pattern : Pattern) → k < length patterns → pattern ≡ get_or patterns k pattern
-      → ((i : ℕ) → i < length names → get_or after i false ≡ (get_or flags i false || is_hit names hidden pattern i)) → Flagged flags (drop k patterns) all → Flagged after (drop (k + 1) patterns) all
+  pub flag_next : (flags after : List Bool) (patterns all : List Pattern) (k : ℕ) (pattern : Pattern) → k < length patterns
+      → pattern ≡ get_or patterns k pattern
+      → ((i : ℕ) → i < length names → get_or after i false ≡ (get_or flags i false || is_hit names hidden pattern i))
+      → Flagged flags (drop k patterns) all → Flagged after (drop (k + 1) patterns) all
   flag_next flags after patterns all k pattern low is marked flagged = λ i within.
       ap (λ t. t || is_any_hit names hidden (drop (k + 1) patterns) i) (marked i within)
       ∙ or_in (get_or flags i false) (is_hit names hidden pattern i) (is_any_hit names hidden (drop (k + 1) patterns) i)
-      ∙ ap (λ ps. get_or flags i false || is_any_hit names hidden ps i) (sym (drop_more patterns k pattern low ∙ ap (λ p. p ∷ drop (k + 1) patterns) (sym is)))
+      ∙ ap (λ ps. get_or flags i false || is_any_hit names hidden ps i)
+      (sym (drop_more patterns k pattern low ∙ ap (λ p. p ∷ drop (k + 1) patterns) (sym is)))
       ∙ flagged i within
 
-  -- the places of flags
+  -- the places whose flags are set
   abbrev pub flagged_from : List Bool → ℕ → List ℕ
   flagged_from flags place = filter (λ i. get_or flags i false) (range_with_len place (length names - place))
 
-  pub flagged_all : (flags : List Bool) (patterns all : List Pattern) (k : ℕ) → length patterns ≤ k → Flagged flags (drop k patterns) all → flagged_from flags 0 ≡ any_hits names hidden all
+  pub flagged_all : (flags : List Bool) (patterns all : List Pattern) (k : ℕ) → length patterns ≤ k → Flagged flags (drop k patterns) all
+      → flagged_from flags 0 ≡ any_hits names hidden all
   flagged_all flags patterns all k past flagged =
       by (length names - 0) (omega arith)
     where
       at : (i : ℕ) → i < length names → get_or flags i false ≡ is_any_hit names hidden all i
-      at i within = sym (or-false (get_or flags i false)) ∙ ap (λ ps. get_or flags i false || is_any_hit names hidden ps i) (sym (drop_all k patterns past)) ∙ flagged i within
+      at i within = sym (or-false (get_or flags i false)) ∙ ap (λ ps. get_or flags i false || is_any_hit names hidden ps i)
+          (sym (drop_all k patterns past)) ∙ flagged i within
 
       by : (n : ℕ) → n ≡ length names → filter (λ i. get_or flags i false) (range_with_len 0 n) ≡ any_hits names hidden all
-      by n e = ap (λ m. filter (λ i. get_or flags i false) (range_with_len 0 m)) e ∙ range_same (λ i. get_or flags i false) (is_any_hit names hidden all) 0 (length names) (λ i low high. at i (omega (arith, high)))
+      by n e = ap (λ m. filter (λ i. get_or flags i false) (range_with_len 0 m)) e ∙ range_same (λ i. get_or flags i false)
+          (is_any_hit names hidden all) 0 (length names) (λ i low high. at i (omega (arith, high)))
 
-  range_more : (place : ℕ) → place < length names → range_with_len place (length names - place) ≡ place ∷ range_with_len (place + 1) (length names - (place + 1))
+  range_more : (place : ℕ) → place < length names → range_with_len place (length names - place) ≡ place ∷ range_with_len (place + 1)
+      (length names - (place + 1))
   range_more place within = by (length names - place) (length names - (place + 1)) (omega (arith, within))
     where
       by : (n m : ℕ) → n ≡ suc m → range_with_len place n ≡ place ∷ range_with_len (place + 1) m
       by n m e = ap (range_with_len place) e
 
-  pub place_kept : (flags : List Bool) (places after whole : List ℕ) (place : ℕ) → place < length names → get_or flags place false ≡ true → after ≡ places ++ place ∷ [] → places ++ flagged_from flags place ≡ whole → after ++ flagged_from flags (place + 1) ≡ whole
+  pub place_kept : (flags : List Bool) (places after whole : List ℕ) (place : ℕ) → place < length names → get_or flags place false ≡ true
+      → after ≡ places ++ place ∷ [] → places ++ flagged_from flags place ≡ whole → after ++ flagged_from flags (place + 1) ≡ whole
   place_kept flags places after whole place within hit is done =
       ap (λ ps. ps ++ flagged_from flags (place + 1)) is ∙ append_assoc places (place ∷ []) (flagged_from flags (place + 1))
-      ∙ ap (λ ps. places ++ ps) (ap (λ b. if b then place ∷ flagged_from flags (place + 1) else flagged_from flags (place + 1)) (sym hit) ∙ ap (filter (λ i. get_or flags i false)) (sym (range_more place within))) ∙ done
+      ∙ ap (λ ps. places ++ ps) (ap (λ b. if b then place ∷ flagged_from flags (place + 1) else flagged_from flags (place + 1)) (sym hit)
+      ∙ ap (filter (λ i. get_or flags i false)) (sym (range_more place within))) ∙ done
 
-  pub place_passed : (flags : List Bool) (places whole : List ℕ) (place : ℕ) → place < length names → get_or flags place false ≡ false → places ++ flagged_from flags place ≡ whole → places ++ flagged_from flags (place + 1) ≡ whole
+  pub place_passed : (flags : List Bool) (places whole : List ℕ) (place : ℕ) → place < length names → get_or flags place false ≡ false
+      → places ++ flagged_from flags place ≡ whole → places ++ flagged_from flags (place + 1) ≡ whole
   place_passed flags places whole place within missed done =
-      ap (λ ps. places ++ ps) (ap (λ b. if b then place ∷ flagged_from flags (place + 1) else flagged_from flags (place + 1)) (sym missed) ∙ ap (filter (λ i. get_or flags i false)) (sym (range_more place within))) ∙ done
+      ap (λ ps. places ++ ps) (ap (λ b. if b then place ∷ flagged_from flags (place + 1) else flagged_from flags (place + 1)) (sym missed)
+      ∙ ap (filter (λ i. get_or flags i false)) (sym (range_more place within))) ∙ done
 
-  pub places_done : (flags : List Bool) (places whole : List ℕ) (place : ℕ) → length names ≤ place → places ++ flagged_from flags place ≡ whole → places ≡ whole
+  pub places_done : (flags : List Bool) (places whole : List ℕ) (place : ℕ) → length names ≤ place
+      → places ++ flagged_from flags place ≡ whole → places ≡ whole
   places_done flags places whole place past done = by (length names - place) (omega (arith, past)) done
     where
       by : (n : ℕ) → n ≡ 0 → places ++ filter (λ i. get_or flags i false) (range_with_len place n) ≡ whole → places ≡ whole
@@ -252,11 +288,12 @@ module _ (names : List (List ℕ)) (hidden : List Bool) where
   -- The next place.
 
   module _ (pattern : Pattern) (from : ℕ) where
-    -- so far it is the first of the places that are hit from one on
+    -- so far, it is the first place of a hit from one place on
     pub record LeastOf (named : List ℕ) (k next : ℕ) : Type 0 where
       pub within : next ≤ length names
       pub is : next < length names → (from ≤ next) × (is_hit names hidden pattern next ≡ true)
-      pub least : (j : ℕ) → j < k → from ≤ get_or named j 0 → is_hit names hidden pattern (get_or named j 0) ≡ true → next ≤ get_or named j 0
+      pub least : (j : ℕ) → j < k → from ≤ get_or named j 0 → is_hit names hidden pattern (get_or named j 0) ≡ true
+          → next ≤ get_or named j 0
 
     pub least_none : (named : List ℕ) (n : ℕ) → n ≡ length names → LeastOf named 0 n
     least_none named n e = record {
@@ -266,17 +303,20 @@ module _ (names : List (List ℕ)) (hidden : List Bool) where
     }
 
     counted_hit : (i : ℕ) → is_hit names hidden pattern i ≡ true → counts names hidden (is_broad pattern) i ≡ true
-    counted_hit i hit = by (is_named pattern (name_at names i)) (counts names hidden (is_broad pattern) i) (sym (named_first names hidden pattern i) ∙ hit)
+    counted_hit i hit = by (is_named pattern (name_at names i)) (counts names hidden (is_broad pattern) i)
+        (sym (named_first names hidden pattern i) ∙ hit)
       where
         by : (t u : Bool) → (t && u) ≡ true → u ≡ true
         by true u e = e
         by false u e = absurd cc
 
-    hit_counted : (i : ℕ) → is_named pattern (name_at names i) ≡ true → counts names hidden (is_broad pattern) i ≡ true → is_hit names hidden pattern i ≡ true
+    hit_counted : (i : ℕ) → is_named pattern (name_at names i) ≡ true → counts names hidden (is_broad pattern) i ≡ true
+        → is_hit names hidden pattern i ≡ true
     hit_counted i name count = named_first names hidden pattern i ∙ ap (λ t. t && counts names hidden (is_broad pattern) i) name ∙ count
 
     named_hit : (i : ℕ) → is_hit names hidden pattern i ≡ true → is_named pattern (name_at names i) ≡ true
-    named_hit i hit = by (is_named pattern (name_at names i)) (counts names hidden (is_broad pattern) i) (sym (named_first names hidden pattern i) ∙ hit)
+    named_hit i hit = by (is_named pattern (name_at names i)) (counts names hidden (is_broad pattern) i)
+        (sym (named_first names hidden pattern i) ∙ hit)
       where
         by : (t u : Bool) → (t && u) ≡ true → t ≡ true
         by true u e = refl
@@ -286,20 +326,26 @@ module _ (names : List (List ℕ)) (hidden : List Bool) where
     any_placed i [] e = absurd cc
     any_placed i (x ∷ xs) e = by (i == x) refl e (any_placed i xs)
       where
-        by : (t : Bool) → (i == x) ≡ t → (t || list_any (nat_eq i) xs) ≡ true → (list_any (nat_eq i) xs ≡ true → (j : ℕ) × (j < length xs) × (get_or xs j 0 ≡ i)) → (j : ℕ) × (j < length (x ∷ xs)) × (get_or (x ∷ xs) j 0 ≡ i)
+        by : (t : Bool) → (i == x) ≡ t → (t || list_any (nat_eq i) xs) ≡ true
+            → (list_any (nat_eq i) xs ≡ true → (j : ℕ) × (j < length xs) × (get_or xs j 0 ≡ i))
+            → (j : ℕ) × (j < length (x ∷ xs)) × (get_or (x ∷ xs) j 0 ≡ i)
         by true is so rest = (0, omega arith, sym (eqb-true i x is))
         by false is so rest = let r = rest so in (suc r.0, omega (arith, r.1), r.2)
 
-    -- a place that is hit is one of those that are named
-    placed : (named : List ℕ) → AreNamed names pattern named → (i : ℕ) → i < length names → is_hit names hidden pattern i ≡ true → (j : ℕ) × (j < length named) × (get_or named j 0 ≡ i)
+    -- a place that is hit is one of the named places
+    placed : (named : List ℕ) → AreNamed names pattern named → (i : ℕ) → i < length names → is_hit names hidden pattern i ≡ true
+        → (j : ℕ) × (j < length named) × (get_or named j 0 ≡ i)
     placed named n i within hit =
-        any_placed i named (ap (list_any (nat_eq i)) n.part ∙ block_has names n.order pattern n.start n.end i n.in_order n.block within ∙ named_hit i hit)
+        any_placed i named (ap (list_any (nat_eq i)) n.part ∙ block_has names n.order pattern n.start n.end i n.in_order n.block within
+        ∙ named_hit i hit)
 
-    next_least : (i j : ℕ) (named : List ℕ) (k next : ℕ) → LeastOf named k next → j < k → get_or named j 0 ≡ i → from ≤ i → is_hit names hidden pattern i ≡ true → next ≤ i
+    next_least : (i j : ℕ) (named : List ℕ) (k next : ℕ) → LeastOf named k next → j < k → get_or named j 0 ≡ i → from ≤ i
+        → is_hit names hidden pattern i ≡ true → next ≤ i
     next_least i j named k next l below is low hit =
         let bound : next ≤ get_or named j 0 = l.least j below (omega (arith, is, low)) (ap (is_hit names hidden pattern) is ∙ hit) in omega (arith, is, bound)
 
-    none_before : (named : List ℕ) → AreNamed names pattern named → (k next : ℕ) → length named ≤ k → LeastOf named k next → (i : ℕ) → from ≤ i → i < next → is_hit names hidden pattern i ≡ false
+    none_before : (named : List ℕ) → AreNamed names pattern named → (k next : ℕ) → length named ≤ k → LeastOf named k next → (i : ℕ)
+        → from ≤ i → i < next → is_hit names hidden pattern i ≡ false
     none_before named n k next past l i low high = by (is_hit names hidden pattern i) refl
       where
         by : (t : Bool) → is_hit names hidden pattern i ≡ t → t ≡ false
@@ -310,16 +356,19 @@ module _ (names : List (List ℕ)) (hidden : List Bool) where
             let bound : next ≤ i = next_least i at.0 named k next l (omega (arith, at.1, past)) at.2 low e in
             absurd (omega (arith, bound, high))
 
-    pub is_next : (named : List ℕ) → AreNamed names pattern named → (k next n : ℕ) → length named ≤ k → n ≡ length names → LeastOf named k next → next < n → IsNextHit names hidden pattern from (Some next)
+    pub is_next : (named : List ℕ) → AreNamed names pattern named → (k next n : ℕ) → length named ≤ k → n ≡ length names
+        → LeastOf named k next → next < n → IsNextHit names hidden pattern from (Some next)
     is_next named a k next n past e l below =
         let within : next < length names = omega (arith, e, below) in
         ((l.is within).0, within, (l.is within).1, none_before named a k next past l)
 
-    pub is_none : (named : List ℕ) → AreNamed names pattern named → (k next n : ℕ) → length named ≤ k → n ≡ length names → LeastOf named k next → n ≤ next → IsNextHit names hidden pattern from None
+    pub is_none : (named : List ℕ) → AreNamed names pattern named → (k next n : ℕ) → length named ≤ k → n ≡ length names
+        → LeastOf named k next → n ≤ next → IsNextHit names hidden pattern from None
     is_none named a k next n past e l above = λ i low high. none_before named a k next past l i low (omega (arith, e, above, high))
 
     -- every place of the block is named
-    is_one_named : (named : List ℕ) → AreNamed names pattern named → (k : ℕ) → k < length named → is_named pattern (name_at names (get_or named k 0)) ≡ true
+    is_one_named : (named : List ℕ) → AreNamed names pattern named → (k : ℕ) → k < length named
+        → is_named pattern (name_at names (get_or named k 0)) ≡ true
     is_one_named named a k below =
         let within : get_or named k 0 < length names = named_within names pattern named a k below in
         sym (block_has names a.order pattern a.start a.end (get_or named k 0) a.in_order a.block within)
@@ -334,20 +383,24 @@ module _ (names : List (List ℕ)) (hidden : List Bool) where
         by false e = let less : j < k = grind (arith, nat_tests) in before less
 
     -- a place that comes before the others
-    pub least_first : (named : List ℕ) → AreNamed names pattern named → (k next after : ℕ) → k < length named → from ≤ get_or named k 0 → get_or named k 0 < next → counts names hidden (is_broad pattern) (get_or named k 0) ≡ true → after ≡ get_or named k 0
+    pub least_first : (named : List ℕ) → AreNamed names pattern named → (k next after : ℕ) → k < length named → from ≤ get_or named k 0
+        → get_or named k 0 < next → counts names hidden (is_broad pattern) (get_or named k 0) ≡ true → after ≡ get_or named k 0
         → LeastOf named k next → LeastOf named (k + 1) after
     least_first named a k next after below low high count is l = rw is (record {
       within = omega (arith, high, l.within);
       is = λ less. (low, hit_counted (get_or named k 0) (is_one_named named a k below) count);
-      least = λ j past low' hit. at_last (λ i. from ≤ get_or named i 0 → is_hit names hidden pattern (get_or named i 0) ≡ true → get_or named k 0 ≤ get_or named i 0) k j past
+      least = λ j past low' hit. at_last (λ i. from ≤ get_or named i 0 → is_hit names hidden pattern (get_or named i 0) ≡ true
+          → get_or named k 0 ≤ get_or named i 0) k j past
           (λ less from_here so. let bound : next ≤ get_or named j 0 = l.least j less from_here so in omega (arith, bound, high)) (λ from_here so. omega arith) low' hit;
     })
 
-    -- one that doesn't
-    pub least_stays : (named : List ℕ) (k next : ℕ) → (from ≤ get_or named k 0 → counts names hidden (is_broad pattern) (get_or named k 0) ≡ true → next ≤ get_or named k 0) → LeastOf named k next → LeastOf named (k + 1) next
+    -- a place that doesn't
+    pub least_stays : (named : List ℕ) (k next : ℕ) → (from ≤ get_or named k 0 → counts names hidden (is_broad pattern) (get_or named k 0)
+        ≡ true → next ≤ get_or named k 0) → LeastOf named k next → LeastOf named (k + 1) next
     least_stays named k next stays l = record {
       within = l.within;
       is = l.is;
-      least = λ j past low hit. at_last (λ i. from ≤ get_or named i 0 → is_hit names hidden pattern (get_or named i 0) ≡ true → next ≤ get_or named i 0) k j past
+      least = λ j past low hit. at_last (λ i. from ≤ get_or named i 0 → is_hit names hidden pattern (get_or named i 0) ≡ true
+          → next ≤ get_or named i 0) k j past
           (λ less. l.least j less) (λ from_here so. stays from_here (counted_hit (get_or named k 0) so)) low hit;
     }

@@ -4,7 +4,9 @@ use Rattle.drv_match.specs.Code.Indexed.{AreNamed}
 use Rattle.drv_match.specs.Matching.{hidden_by, hits, is_broad, is_hit, is_live, is_named, name_at}
 use Rattle.drv_match.specs.Order.{IsBlock, IsOrder}
 use Rattle.drv_match.specs.Pattern.{Pattern}
-use Rattle.std.proofs.Common.{◌≡◌, ◌<◌, ◌≤◌, ◌+◌, ◌-◌, ◌∙◌, ◌&&◌, ◌||◌, ◌==◌, Bool, false, true, List, [], ◌∷◌, ◌++◌, ap, append_assoc, append-nil, arith, drop, filter, get_or, if◌then◌else◌, length, nat_eq, nat_lt, not, refl, set, suc, sym, take, zero, ℕ}
+use Rattle.std.proofs.Common.{◌≡◌, ◌<◌, ◌≤◌, ◌+◌, ◌-◌, ◌∙◌, ◌&&◌, ◌||◌, ◌==◌, Bool, false, true, List, [], ◌∷◌, ◌++◌, ap, append_assoc}
+use Rattle.std.proofs.Common.{append-nil, arith, drop, filter, get_or, if◌then◌else◌, length, nat_eq, nat_lt, not, refl, set, suc, sym}
+use Rattle.std.proofs.Common.{take, zero, ℕ}
 use Rattle.std.proofs.Math.Bool.{or-false, or-true}
 use Rattle.std.proofs.lemmas.Bool.{eqb-true, lt-ltb}
 use Rattle.std.proofs.lemmas.Cmp.{nat_eq_equiv}
@@ -17,15 +19,16 @@ use Rattle.std.proofs.lemmas.List.Sorted.{list_any-IsPermutation}
 use Rattle.std.specs.List.{AllWithin, list_any, range_with_len}
 use Rattle.std.specs.List.Sorted.{IsNonDecreasing, IsPermutation}
 
--- What a pattern hits stands in its block.
+-- For hits: the places that a pattern hits are in its block.
 
--- in a list, a test holds from a start up to an end and nowhere else
+-- in a list, a test holds exactly from a start to an end
 record IsPart (test : ℕ → Bool) (xs : List ℕ) (start end : ℕ) : Type 0 where
   before : AllWithin (λ x. test x ≡ false) xs 0 start
   inside : AllWithin (λ x. test x ≡ true) xs start end
   following : AllWithin (λ x. test x ≡ false) xs end (length xs)
 
-part_filter : (test other : ℕ → Bool) (xs : List ℕ) (start end : ℕ) → start ≤ end → end ≤ length xs → IsPart test xs start end → filter (λ x. test x && other x) xs ≡ filter other (take (end - start) (drop start xs))
+part_filter : (test other : ℕ → Bool) (xs : List ℕ) (start end : ℕ) → start ≤ end → end ≤ length xs → IsPart test xs start end
+    → filter (λ x. test x && other x) xs ≡ filter other (take (end - start) (drop start xs))
 part_filter test other [] zero zero low high p = refl
 part_filter test other [] zero (suc end) low high p = absurd (omega (arith, high))
 part_filter test other [] (suc start) end low high p = absurd (omega (arith, low, high))
@@ -57,12 +60,13 @@ part_filter test other (x ∷ xs) (suc start) (suc end) low high p =
     let size : suc end - suc start ≡ end - start = omega arith in
     rw (no, size) (part_filter test other xs start end (omega (arith, low)) (omega (arith, high)) rest)
 
--- the same whether any does
+-- the same for whether any item passes
 pub any_filter : (test : ℕ → Bool) (xs : List ℕ) → list_any test xs ≡ nat_lt 0 (length (filter test xs))
 any_filter test [] = refl
 any_filter test (x ∷ xs) = by (test x) refl (any_filter test xs)
   where
-    by : (t : Bool) → test x ≡ t → list_any test xs ≡ nat_lt 0 (length (filter test xs)) → list_any test (x ∷ xs) ≡ nat_lt 0 (length (filter test (x ∷ xs)))
+    by : (t : Bool) → test x ≡ t → list_any test xs ≡ nat_lt 0 (length (filter test xs))
+        → list_any test (x ∷ xs) ≡ nat_lt 0 (length (filter test (x ∷ xs)))
     by true e ih = rw e (sym (lt-ltb 0 (suc (length (filter test xs))) (omega arith)))
     by false e ih = rw e ih
 
@@ -70,45 +74,58 @@ filter_same : (f g : ℕ → Bool) → ((x : ℕ) → f x ≡ g x) → (xs : Lis
 filter_same f g same [] = refl
 filter_same f g same (x ∷ xs) = rw (same x, filter_same f g same xs) refl
 
--- what counts of the places that a pattern names
+-- which of the places that a pattern names count
 abbrev pub counts : List (List ℕ) → List Bool → Bool → ℕ → Bool
 counts names hidden broad i = not (get_or hidden i false) && (broad || is_live names i)
 
-pub named_first : (names : List (List ℕ)) (hidden : List Bool) (pattern : Pattern) (i : ℕ) → is_hit names hidden pattern i ≡ (is_named pattern (name_at names i) && counts names hidden (is_broad pattern) i)
-named_first names hidden pattern i = by (not (get_or hidden i false)) (is_named pattern (name_at names i)) (is_broad pattern || is_live names i)
+pub named_first : (names : List (List ℕ)) (hidden : List Bool) (pattern : Pattern) (i : ℕ)
+    → is_hit names hidden pattern i ≡ (is_named pattern (name_at names i) && counts names hidden (is_broad pattern) i)
+named_first names hidden pattern i = by (not (get_or hidden i false)) (is_named pattern (name_at names i))
+    (is_broad pattern || is_live names i)
   where
     by : (t u v : Bool) → ((t && u) && v) ≡ (u && (t && v))
     by true u v = refl
     by false true v = refl
     by false false v = refl
 
-as_part : (names : List (List ℕ)) (order : List ℕ) (pattern : Pattern) (start end : ℕ) → IsBlock names order pattern start end → IsPart (λ i. is_named pattern (name_at names i)) order start end
+as_part : (names : List (List ℕ)) (order : List ℕ) (pattern : Pattern) (start end : ℕ) → IsBlock names order pattern start end
+    → IsPart (λ i. is_named pattern (name_at names i)) order start end
 as_part names order pattern start end b = record { before = b.before; inside = b.named; following = b.following }
 
--- the hits of an order are those of the block
-pub order_hits : (names : List (List ℕ)) (order : List ℕ) (hidden : List Bool) (pattern : Pattern) (start end : ℕ) → IsBlock names order pattern start end → filter (is_hit names hidden pattern) order ≡ filter (counts names hidden (is_broad pattern)) (take (end - start) (drop start order))
+-- the hits in the whole order are those in the block
+pub order_hits : (names : List (List ℕ)) (order : List ℕ) (hidden : List Bool) (pattern : Pattern) (start end : ℕ)
+    → IsBlock names order pattern start end → filter (is_hit names hidden pattern) order ≡ filter (counts names hidden (is_broad pattern))
+    (take (end - start) (drop start order))
 order_hits names order hidden pattern start end b =
-    filter_same (is_hit names hidden pattern) (λ i. is_named pattern (name_at names i) && counts names hidden (is_broad pattern) i) (named_first names hidden pattern) order
-    ∙ part_filter (λ i. is_named pattern (name_at names i)) (counts names hidden (is_broad pattern)) order start end b.ascends b.within (as_part names order pattern start end b)
+    filter_same (is_hit names hidden pattern) (λ i. is_named pattern (name_at names i) && counts names hidden (is_broad pattern) i)
+    (named_first names hidden pattern) order
+    ∙ part_filter (λ i. is_named pattern (name_at names i)) (counts names hidden (is_broad pattern)) order start end b.ascends b.within
+    (as_part names order pattern start end b)
 
 range_rises : (n : ℕ) → IsNonDecreasing (range_with_len 0 n)
 range_rises n = λ i j d low high.
     let within : j < n = omega (arith, length-range_with_len 0 n, high) in
     rw (get_or-range_with_len 0 n i d (omega (arith, low, within)), get_or-range_with_len 0 n j d within) (omega (arith, low))
 
--- what counts of the block, sorted by place, is what is hit
-pub hits_sorted : (names : List (List ℕ)) (order found places : List ℕ) (hidden : List Bool) (pattern : Pattern) (start end : ℕ) → IsOrder names order → IsBlock names order pattern start end → found ≡ filter (counts names hidden (is_broad pattern)) (take (end - start) (drop start order)) → IsPermutation found places → IsNonDecreasing places → places ≡ hits names hidden pattern
-hits_sorted names order found places hidden pattern start end o b is moved up = same_rising places (hits names hidden pattern) up (IsNonDecreasingBy-filter (λ x. x) (is_hit names hidden pattern) (range_with_len 0 (length names)) (range_rises (length names))) same
+-- the places that count in the block, sorted, are the hits
+pub hits_sorted : (names : List (List ℕ)) (order found places : List ℕ) (hidden : List Bool) (pattern : Pattern) (start end : ℕ)
+    → IsOrder names order → IsBlock names order pattern start end → found ≡ filter (counts names hidden (is_broad pattern))
+    (take (end - start) (drop start order)) → IsPermutation found places → IsNonDecreasing places → places ≡ hits names hidden pattern
+hits_sorted names order found places hidden pattern start end o b is moved up = same_rising places (hits names hidden pattern) up
+    (IsNonDecreasingBy-filter (λ x. x) (is_hit names hidden pattern) (range_with_len 0 (length names)) (range_rises (length names))) same
   where
     same : (n : ℕ) → tally n places ≡ tally n (hits names hidden pattern)
     same n = sym (tally_permutation n found places moved)
         ∙ ap (tally n) (is ∙ sym (order_hits names order hidden pattern start end b))
         ∙ tally_filter (is_hit names hidden pattern) n order
-        ∙ ap (λ m. if is_hit names hidden pattern n then m else 0) (sym (tally_permutation n (range_with_len 0 (length names)) order o.places))
+        ∙ ap (λ m. if is_hit names hidden pattern n then m else 0)
+        (sym (tally_permutation n (range_with_len 0 (length names)) order o.places))
         ∙ sym (tally_filter (is_hit names hidden pattern) n (range_with_len 0 (length names)))
 
--- any counts where any is hit
-pub any_hit : (names : List (List ℕ)) (order : List ℕ) (hidden : List Bool) (pattern : Pattern) (start end : ℕ) → IsOrder names order → IsBlock names order pattern start end → list_any (counts names hidden (is_broad pattern)) (take (end - start) (drop start order)) ≡ nat_lt 0 (length (hits names hidden pattern))
+-- a place of the block counts exactly if there is a hit
+pub any_hit : (names : List (List ℕ)) (order : List ℕ) (hidden : List Bool) (pattern : Pattern) (start end : ℕ) → IsOrder names order
+    → IsBlock names order pattern start end → list_any (counts names hidden (is_broad pattern)) (take (end - start) (drop start order))
+    ≡ nat_lt 0 (length (hits names hidden pattern))
 any_hit names order hidden pattern start end o b =
     any_filter (counts names hidden (is_broad pattern)) (take (end - start) (drop start order))
     ∙ ap (λ xs. nat_lt 0 (length xs)) (sym (order_hits names order hidden pattern start end b))
@@ -116,9 +133,9 @@ any_hit names order hidden pattern start end o b =
     ∙ sym (list_any-IsPermutation (is_hit names hidden pattern) (range_with_len 0 (length names)) order o.places)
     ∙ any_filter (is_hit names hidden pattern) (range_with_len 0 (length names))
 
--- Hiding, place by place.
+-- Hiding places one by one.
 
--- these places are hidden too
+-- the flags with these places hidden too
 abbrev pub all_hidden : List ℕ → List Bool → List Bool
 all_hidden [] hidden = hidden
 all_hidden (i ∷ places) hidden = all_hidden places (set hidden i true)
@@ -127,12 +144,16 @@ pub hidden_length : (places : List ℕ) (hidden : List Bool) → length (all_hid
 hidden_length [] hidden = refl
 hidden_length (i ∷ places) hidden = hidden_length places (set hidden i true) ∙ length-set hidden i true
 
-pub hidden_at : (places : List ℕ) (hidden : List Bool) (i : ℕ) → i < length hidden → get_or (all_hidden places hidden) i false ≡ (get_or hidden i false || list_any (nat_eq i) places)
+pub hidden_at : (places : List ℕ) (hidden : List Bool) (i : ℕ) → i < length hidden → get_or (all_hidden places hidden) i false
+    ≡ (get_or hidden i false || list_any (nat_eq i) places)
 hidden_at [] hidden i within = sym (or-false (get_or hidden i false))
 hidden_at (j ∷ places) hidden i within = hidden_at places (set hidden j true) i (rw (length-set hidden j true) within) ∙ by (i == j) refl
   where
-    by : (t : Bool) → (i == j) ≡ t → (get_or (set hidden j true) i false || list_any (nat_eq i) places) ≡ (get_or hidden i false || (nat_eq i j || list_any (nat_eq i) places))
-    by true e = let same : i ≡ j = eqb-true i j e in rw (e, ← same, get_or-set_same hidden i true false within) (sym (or-true (get_or hidden i false)))
+    by : (t : Bool) → (i == j) ≡ t → (get_or (set hidden j true) i false || list_any (nat_eq i) places)
+        ≡ (get_or hidden i false || (nat_eq i j || list_any (nat_eq i) places))
+    by true e =
+        let same : i ≡ j = eqb-true i j e in
+        rw (e, ← same, get_or-set_same hidden i true false within) (sym (or-true (get_or hidden i false)))
     by false e = rw (e, get_or-set_other hidden j i true false (λ same. absurd (let clash : true ≡ false = sym (nat_eq_equiv.refl i) ∙ ap (λ z. i == z) same ∙ e in cc))) refl
 
 any_same : (f g : ℕ → Bool) → ((x : ℕ) → f x ≡ g x) → (xs : List ℕ) → list_any f xs ≡ list_any g xs
@@ -147,21 +168,29 @@ at_place test i [] = by (test i)
     by false = refl
 at_place test i (x ∷ xs) = by (i == x) (test i) refl refl (at_place test i xs)
   where
-    second : (t : Bool) → list_any (λ y. test y && nat_eq i y) xs ≡ (test i && list_any (nat_eq i) xs) → ((t && false) || list_any (λ y. test y && nat_eq i y) xs) ≡ (test i && list_any (nat_eq i) xs)
+    second : (t : Bool) → list_any (λ y. test y && nat_eq i y) xs ≡ (test i && list_any (nat_eq i) xs)
+        → ((t && false) || list_any (λ y. test y && nat_eq i y) xs) ≡ (test i && list_any (nat_eq i) xs)
     second true ih = ih
     second false ih = ih
 
-    by : (t u : Bool) → (i == x) ≡ t → test i ≡ u → list_any (λ y. test y && nat_eq i y) xs ≡ (test i && list_any (nat_eq i) xs) → list_any (λ y. test y && nat_eq i y) (x ∷ xs) ≡ (test i && list_any (nat_eq i) (x ∷ xs))
+    by : (t u : Bool) → (i == x) ≡ t → test i ≡ u → list_any (λ y. test y && nat_eq i y) xs ≡ (test i && list_any (nat_eq i) xs)
+        → list_any (λ y. test y && nat_eq i y) (x ∷ xs) ≡ (test i && list_any (nat_eq i) (x ∷ xs))
     by true true e is ih = let same : i ≡ x = eqb-true i x e in let yes : test x ≡ true = sym (ap test same) ∙ is in rw (e, yes, is) refl
-    by true false e is ih = let same : i ≡ x = eqb-true i x e in let no : test x ≡ false = sym (ap test same) ∙ is in rw (no, is) (ih ∙ rw is refl)
+    by true false e is ih =
+        let same : i ≡ x = eqb-true i x e in
+        let no : test x ≡ false = sym (ap test same) ∙ is in
+        rw (no, is) (ih ∙ rw is refl)
     by false u e is ih = rw e (second (test x) ih)
 
-pub block_has : (names : List (List ℕ)) (order : List ℕ) (pattern : Pattern) (start end i : ℕ) → IsOrder names order → IsBlock names order pattern start end → i < length names → list_any (nat_eq i) (take (end - start) (drop start order)) ≡ is_named pattern (name_at names i)
+pub block_has : (names : List (List ℕ)) (order : List ℕ) (pattern : Pattern) (start end i : ℕ) → IsOrder names order
+    → IsBlock names order pattern start end → i < length names → list_any (nat_eq i) (take (end - start) (drop start order))
+    ≡ is_named pattern (name_at names i)
 block_has names order pattern start end i o b within =
     let found = has_place names order o i within in
     let here : list_any (nat_eq i) order ≡ true = list_any_at (nat_eq i) order found.0 i found.1 (rw found.2 (nat_eq_equiv.refl i)) in
     any_filter (nat_eq i) (take (end - start) (drop start order))
-    ∙ ap (λ xs. nat_lt 0 (length xs)) (sym (part_filter (λ j. is_named pattern (name_at names j)) (nat_eq i) order start end b.ascends b.within (as_part names order pattern start end b)))
+    ∙ ap (λ xs. nat_lt 0 (length xs)) (sym (part_filter (λ j. is_named pattern (name_at names j)) (nat_eq i) order start end b.ascends
+    b.within (as_part names order pattern start end b)))
     ∙ sym (any_filter (λ j. is_named pattern (name_at names j) && nat_eq i j) order)
     ∙ at_place (λ j. is_named pattern (name_at names j)) i order
     ∙ ap (λ t. is_named pattern (name_at names i) && t) here
@@ -171,16 +200,19 @@ block_has names order pattern start end i o b within =
     all_of true = refl
     all_of false = refl
 
-hidden_by-length : (pattern : Pattern) (names : List (List ℕ)) (hidden : List Bool) → length hidden ≡ length names → length (hidden_by pattern names hidden) ≡ length names
+hidden_by-length : (pattern : Pattern) (names : List (List ℕ)) (hidden : List Bool) → length hidden ≡ length names
+    → length (hidden_by pattern names hidden) ≡ length names
 hidden_by-length pattern [] hidden same = refl
 hidden_by-length pattern (name ∷ names) [] same = absurd (omega (arith, same))
 hidden_by-length pattern (name ∷ names) (h ∷ hidden) same = ap suc (hidden_by-length pattern names hidden (omega (arith, same)))
 
-hidden_by-at : (pattern : Pattern) (names : List (List ℕ)) (hidden : List Bool) (i : ℕ) → length hidden ≡ length names → i < length names → get_or (hidden_by pattern names hidden) i false ≡ (get_or hidden i false || is_named pattern (name_at names i))
+hidden_by-at : (pattern : Pattern) (names : List (List ℕ)) (hidden : List Bool) (i : ℕ) → length hidden ≡ length names → i < length names
+    → get_or (hidden_by pattern names hidden) i false ≡ (get_or hidden i false || is_named pattern (name_at names i))
 hidden_by-at pattern [] hidden i same within = absurd (omega (arith, within))
 hidden_by-at pattern (name ∷ names) [] i same within = absurd (omega (arith, same))
 hidden_by-at pattern (name ∷ names) (h ∷ hidden) zero same within = refl
-hidden_by-at pattern (name ∷ names) (h ∷ hidden) (suc i) same within = hidden_by-at pattern names hidden i (omega (arith, same)) (omega (arith, within))
+hidden_by-at pattern (name ∷ names) (h ∷ hidden) (suc i) same within = hidden_by-at pattern names hidden i (omega (arith, same))
+    (omega (arith, within))
 
 same_flags : (xs ys : List Bool) → length xs ≡ length ys → ((i : ℕ) → i < length xs → get_or xs i false ≡ get_or ys i false) → xs ≡ ys
 same_flags [] [] same at = refl
@@ -191,9 +223,12 @@ same_flags (x ∷ xs) (y ∷ ys) same at =
     ap (λ z. z ∷ xs) (at 0 (omega arith)) ∙ ap (λ zs. y ∷ zs) rest
 
 -- hiding the places of the block hides what the pattern names
-pub hidden_block : (names : List (List ℕ)) (order : List ℕ) (hidden : List Bool) (pattern : Pattern) (start end : ℕ) → IsOrder names order → IsBlock names order pattern start end → length hidden ≡ length names → all_hidden (take (end - start) (drop start order)) hidden ≡ hidden_by pattern names hidden
+pub hidden_block : (names : List (List ℕ)) (order : List ℕ) (hidden : List Bool) (pattern : Pattern) (start end : ℕ) → IsOrder names order
+    → IsBlock names order pattern start end → length hidden ≡ length names → all_hidden (take (end - start) (drop start order)) hidden
+    ≡ hidden_by pattern names hidden
 hidden_block names order hidden pattern start end o b same =
-    same_flags (all_hidden places hidden) (hidden_by pattern names hidden) (hidden_length places hidden ∙ same ∙ sym (hidden_by-length pattern names hidden same)) (λ i within.
+    same_flags (all_hidden places hidden) (hidden_by pattern names hidden) (hidden_length places hidden ∙ same
+    ∙ sym (hidden_by-length pattern names hidden same)) (λ i within.
     let in' : i < length hidden = omega (arith, hidden_length places hidden, within) in
     let in'' : i < length names = omega (arith, in', same) in
     hidden_at places hidden i in' ∙ ap (λ t. get_or hidden i false || t) (block_has names order pattern start end i o b in'') ∙ sym (hidden_by-at pattern names hidden i same in''))
@@ -201,56 +236,77 @@ hidden_block names order hidden pattern start end o b same =
     places : List ℕ
     places = take (end - start) (drop start order)
 
--- a place of the block is one of the line
-pub block_within : (names : List (List ℕ)) (order : List ℕ) (pattern : Pattern) (start end : ℕ) → IsOrder names order → IsBlock names order pattern start end → (k : ℕ) → k < length (take (end - start) (drop start order)) → get_or (take (end - start) (drop start order)) k 0 < length names
-block_within names order pattern start end o b k within = All-get_or (λ i. i < length names) (take (end - start) (drop start order)) k 0 within (All-take (λ i. i < length names) (end - start) (drop start order) (All-drop (λ i. i < length names) start order (λ j d inside. in_range names order o j d inside)))
+-- the places of the block are places of the line
+pub block_within : (names : List (List ℕ)) (order : List ℕ) (pattern : Pattern) (start end : ℕ) → IsOrder names order
+    → IsBlock names order pattern start end → (k : ℕ) → k < length (take (end - start) (drop start order))
+    → get_or (take (end - start) (drop start order)) k 0 < length names
+block_within names order pattern start end o b k within = All-get_or (λ i. i < length names) (take (end - start) (drop start order)) k 0
+    within (All-take (λ i. i < length names) (end - start) (drop start order) (All-drop (λ i. i < length names) start order
+    (λ j d inside. in_range names order o j d inside)))
 
--- The same of the places that a pattern names.
+-- The same for the places that a pattern names.
 
-pub named_within : (names : List (List ℕ)) (pattern : Pattern) (places : List ℕ) → AreNamed names pattern places → (k : ℕ) → k < length places → get_or places k 0 < length names
-named_within names pattern places n k within = rw n.part (block_within names n.order pattern n.start n.end n.in_order n.block k (rw (← n.part) within))
+pub named_within : (names : List (List ℕ)) (pattern : Pattern) (places : List ℕ) → AreNamed names pattern places → (k : ℕ)
+    → k < length places → get_or places k 0 < length names
+named_within names pattern places n k within = rw n.part (block_within names n.order pattern n.start n.end n.in_order n.block k
+    (rw (← n.part) within))
 
-pub named_place : (names : List (List ℕ)) (pattern : Pattern) (places : List ℕ) → AreNamed names pattern places → (k x : ℕ) → k < length places → x ≡ get_or places k x → x < length names
-named_place names pattern places n k x within is = let at : x ≡ get_or places k 0 = is ∙ get_or_default places k x 0 within in rw at (named_within names pattern places n k within)
+pub named_place : (names : List (List ℕ)) (pattern : Pattern) (places : List ℕ) → AreNamed names pattern places → (k x : ℕ)
+    → k < length places → x ≡ get_or places k x → x < length names
+named_place names pattern places n k x within is =
+    let at : x ≡ get_or places k 0 = is ∙ get_or_default places k x 0 within in
+    rw at (named_within names pattern places n k within)
 
-pub named_hits : (names : List (List ℕ)) (named found places : List ℕ) (hidden : List Bool) (pattern : Pattern) → AreNamed names pattern named → found ≡ filter (counts names hidden (is_broad pattern)) named → IsPermutation found places → IsNonDecreasing places → places ≡ hits names hidden pattern
-named_hits names named found places hidden pattern n is moved up = hits_sorted names n.order found places hidden pattern n.start n.end n.in_order n.block (is ∙ ap (filter (counts names hidden (is_broad pattern))) n.part) moved up
+pub named_hits : (names : List (List ℕ)) (named found places : List ℕ) (hidden : List Bool) (pattern : Pattern)
+    → AreNamed names pattern named → found ≡ filter (counts names hidden (is_broad pattern)) named → IsPermutation found places
+    → IsNonDecreasing places → places ≡ hits names hidden pattern
+named_hits names named found places hidden pattern n is moved up = hits_sorted names n.order found places hidden pattern n.start n.end
+    n.in_order n.block (is ∙ ap (filter (counts names hidden (is_broad pattern))) n.part) moved up
 
-pub named_any : (names : List (List ℕ)) (named : List ℕ) (hidden : List Bool) (pattern : Pattern) → AreNamed names pattern named → list_any (counts names hidden (is_broad pattern)) named ≡ nat_lt 0 (length (hits names hidden pattern))
-named_any names named hidden pattern n = ap (list_any (counts names hidden (is_broad pattern))) n.part ∙ any_hit names n.order hidden pattern n.start n.end n.in_order n.block
+pub named_any : (names : List (List ℕ)) (named : List ℕ) (hidden : List Bool) (pattern : Pattern) → AreNamed names pattern named
+    → list_any (counts names hidden (is_broad pattern)) named ≡ nat_lt 0 (length (hits names hidden pattern))
+named_any names named hidden pattern n = ap (list_any (counts names hidden (is_broad pattern))) n.part
+    ∙ any_hit names n.order hidden pattern n.start n.end n.in_order n.block
 
-pub named_hidden : (names : List (List ℕ)) (named : List ℕ) (hidden : List Bool) (pattern : Pattern) → AreNamed names pattern named → length hidden ≡ length names → all_hidden named hidden ≡ hidden_by pattern names hidden
-named_hidden names named hidden pattern n same = ap (λ places. all_hidden places hidden) n.part ∙ hidden_block names n.order hidden pattern n.start n.end n.in_order n.block same
+pub named_hidden : (names : List (List ℕ)) (named : List ℕ) (hidden : List Bool) (pattern : Pattern) → AreNamed names pattern named
+    → length hidden ≡ length names → all_hidden named hidden ≡ hidden_by pattern names hidden
+named_hidden names named hidden pattern n same = ap (λ places. all_hidden places hidden) n.part ∙ hidden_block names n.order hidden pattern
+    n.start n.end n.in_order n.block same
 
 -- One step of a loop over places.
 
--- the place at i counts, and what counts so far takes it in
-pub count_next : (test : ℕ → Bool) (places after whole xs : List ℕ) (i : ℕ) → i < length xs → test (get_or xs i 0) ≡ true → after ≡ places ++ get_or xs i 0 ∷ [] → places ++ filter test (drop i xs) ≡ whole → after ++ filter test (drop (i + 1) xs) ≡ whole
+-- the place at i counts and is added
+pub count_next : (test : ℕ → Bool) (places after whole xs : List ℕ) (i : ℕ) → i < length xs → test (get_or xs i 0) ≡ true
+    → after ≡ places ++ get_or xs i 0 ∷ [] → places ++ filter test (drop i xs) ≡ whole → after ++ filter test (drop (i + 1) xs) ≡ whole
 count_next test places after whole xs i below hit is done = rw (is, append_assoc) (step ∙ done)
   where
     step : places ++ (get_or xs i 0 ∷ filter test (drop (i + 1) xs)) ≡ places ++ filter test (drop i xs)
     step = rw (drop_more xs i 0 below, hit) refl
 
--- it doesn't
-pub pass_next : (test : ℕ → Bool) (places whole xs : List ℕ) (i : ℕ) → i < length xs → test (get_or xs i 0) ≡ false → places ++ filter test (drop i xs) ≡ whole → places ++ filter test (drop (i + 1) xs) ≡ whole
+-- the place at i doesn't count
+pub pass_next : (test : ℕ → Bool) (places whole xs : List ℕ) (i : ℕ) → i < length xs → test (get_or xs i 0) ≡ false
+    → places ++ filter test (drop i xs) ≡ whole → places ++ filter test (drop (i + 1) xs) ≡ whole
 pass_next test places whole xs i below passed done = step ∙ done
   where
     step : places ++ filter test (drop (i + 1) xs) ≡ places ++ filter test (drop i xs)
     step = rw (drop_more xs i 0 below, passed) refl
 
-pub any_here : (test : ℕ → Bool) (whole : Bool) (xs : List ℕ) (i : ℕ) → i < length xs → test (get_or xs i 0) ≡ true → list_any test (drop i xs) ≡ whole → true ≡ whole
+pub any_here : (test : ℕ → Bool) (whole : Bool) (xs : List ℕ) (i : ℕ) → i < length xs → test (get_or xs i 0) ≡ true
+    → list_any test (drop i xs) ≡ whole → true ≡ whole
 any_here test whole xs i below hit done = step ∙ done
   where
     step : true ≡ list_any test (drop i xs)
     step = rw (drop_more xs i 0 below, hit) refl
 
-pub any_next : (test : ℕ → Bool) (whole : Bool) (xs : List ℕ) (i : ℕ) → i < length xs → test (get_or xs i 0) ≡ false → list_any test (drop i xs) ≡ whole → list_any test (drop (i + 1) xs) ≡ whole
+pub any_next : (test : ℕ → Bool) (whole : Bool) (xs : List ℕ) (i : ℕ) → i < length xs → test (get_or xs i 0) ≡ false
+    → list_any test (drop i xs) ≡ whole → list_any test (drop (i + 1) xs) ≡ whole
 any_next test whole xs i below passed done = step ∙ done
   where
     step : list_any test (drop (i + 1) xs) ≡ list_any test (drop i xs)
     step = rw (drop_more xs i 0 below, passed) refl
 
-pub hide_next : (hidden after whole : List Bool) (xs : List ℕ) (i : ℕ) → i < length xs → after ≡ set hidden (get_or xs i 0) true → all_hidden (drop i xs) hidden ≡ whole → all_hidden (drop (i + 1) xs) after ≡ whole
+pub hide_next : (hidden after whole : List Bool) (xs : List ℕ) (i : ℕ) → i < length xs → after ≡ set hidden (get_or xs i 0) true
+    → all_hidden (drop i xs) hidden ≡ whole → all_hidden (drop (i + 1) xs) after ≡ whole
 hide_next hidden after whole xs i below is done = rw is (step ∙ done)
   where
     step : all_hidden (drop (i + 1) xs) (set hidden (get_or xs i 0) true) ≡ all_hidden (drop i xs) hidden
@@ -258,7 +314,8 @@ hide_next hidden after whole xs i below is done = rw is (step ∙ done)
 
 -- A loop over places is done.
 
-pub counted : (test : ℕ → Bool) (found xs : List ℕ) (i : ℕ) → length xs ≤ i → found ++ filter test (drop i xs) ≡ filter test xs → found ≡ filter test xs
+pub counted : (test : ℕ → Bool) (found xs : List ℕ) (i : ℕ) → length xs ≤ i → found ++ filter test (drop i xs) ≡ filter test xs
+    → found ≡ filter test xs
 counted test found xs i whole done = step ∙ done
   where
     step : found ≡ found ++ filter test (drop i xs)

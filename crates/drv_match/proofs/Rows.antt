@@ -5,7 +5,7 @@ use Rattle.std.proofs.Common.{◌≡◌, Bool, List, [], ◌∷◌, arith, codes
 use Rattle.std.specs.List.Sorted.{IsSorted}
 use Rattle.std.specs.List.{AllWithin}
 
--- Worked lines, by computation.
+-- Examples of lines, which the prover computes.
 
 abbrev starred : List ℕ → Pattern
 starred name = record { name = name; star = true }
@@ -13,7 +13,7 @@ starred name = record { name = name; star = true }
 abbrev named : List ℕ → Pattern
 named name = record { name = name; star = false }
 
--- two names that a starred one names with others, and two levels
+-- two names that a starred pattern names with others, and two levels
 abbrev line : List (List ℕ)
 line = codes "mcu=a" ∷ codes "O1" ∷ codes "mcu=b" ∷ codes "m" ∷ codes "O2" ∷ []
 
@@ -30,7 +30,7 @@ with_mcu = refl
 others_with_mcu : hits line (hidden_by (named (codes "mcu=a")) line shown) (starred (codes "mcu=")) ≡ 2 ∷ []
 others_with_mcu = refl
 
--- a starred name of one byte hits the level that a later one cancels, its name alone doesn't
+-- a starred pattern of one byte hits a level that a later one cancels; a pattern without a star doesn't
 with_level : hits line shown (starred (codes "O")) ≡ 1 ∷ 4 ∷ []
 with_level = refl
 
@@ -52,9 +52,20 @@ ascending (suc (suc (suc zero))) d low high = refl
 ascending (suc (suc (suc (suc k)))) d low high = absurd (omega (arith, high))
 
 in_order : IsOrder line places
-in_order = record { places = record { moves = (3, 4) ∷ (2, 3) ∷ (1, 4) ∷ (0, 1) ∷ []; below = (omega arith, omega arith, (omega arith, omega arith, (omega arith, omega arith, (omega arith, omega arith, tt)))); is = refl }; sorted = ascending }
+in_order = record {
+  places = record {
+    moves = (3, 4) ∷ (2, 3) ∷ (1, 4) ∷ (0, 1) ∷ [];
+    below = (
+      omega arith,
+      omega arith,
+      (omega arith, omega arith, (omega arith, omega arith, (omega arith, omega arith, tt))),
+    );
+    is = refl;
+  };
+  sorted = ascending;
+}
 
--- those that the starred `m` names stand after the levels, `m` itself first among them
+-- the places that the starred `m` names come after the levels, and `m` itself comes first
 
 levels_before : AllWithin (λ i. is_named (starred (codes "m")) (name_at line i) ≡ false) places 0 2
 levels_before zero d low high = refl
@@ -70,7 +81,13 @@ all_named (suc (suc (suc (suc zero)))) d low high = refl
 all_named (suc (suc (suc (suc (suc k))))) d low high = absurd (omega (arith, high))
 
 starred_block : IsBlock line places (starred (codes "m")) 2 5
-starred_block = record { ascends = omega arith; within = omega arith; before = levels_before; named = all_named; following = λ k d low high. absurd (omega (arith, low, high)) }
+starred_block = record {
+  ascends = omega arith;
+  within = omega arith;
+  before = levels_before;
+  named = all_named;
+  following = λ k d low high. absurd (omega (arith, low, high));
+}
 
 levels_before_one : AllWithin (λ i. is_named (named (codes "m")) (name_at line i) ≡ false) places 0 2
 levels_before_one zero d low high = refl
@@ -92,14 +109,20 @@ longer_after (suc (suc (suc (suc zero)))) d low high = refl
 longer_after (suc (suc (suc (suc (suc k))))) d low high = absurd (omega (arith, high))
 
 named_block : IsBlock line places (named (codes "m")) 2 3
-named_block = record { ascends = omega arith; within = omega arith; before = levels_before_one; named = one_named; following = longer_after }
+named_block = record {
+  ascends = omega arith;
+  within = omega arith;
+  before = levels_before_one;
+  named = one_named;
+  following = longer_after;
+}
 
--- No switches: no pattern hits any.
+-- Without switches no pattern hits any.
 
 no_switch : (pattern : Pattern) → hits [] [] pattern ≡ []
 no_switch pattern = refl
 
--- Negative forms: the later one of two that cancel each other is live, and both levels are hit by a starred letter.
+-- Negative forms: of two switches that cancel each other the later one is live. A starred letter hits both levels.
 
 abbrev forms : List (List ℕ)
 forms = codes "fno-x" ∷ codes "fx" ∷ codes "O1" ∷ codes "O2" ∷ []

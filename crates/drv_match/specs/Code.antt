@@ -1,2 +1,2 @@
--- How the code goes over its input, step by step: what stands between the code and the definitions. No public contract rests on these.
+-- How the code finds switches, step by step. Public contracts don't cite these.
 pub mod Indexed

@@ -7,10 +7,10 @@ use Rattle.std.specs.Ordering.{nat_cmp, ordering_then}
 use Rattle.std.specs.declared.cmp.Ordering.{Ordering}
 use Rattle.std.specs.Prelude.{◌≡◌, ◌≤◌, List, false, length, true, ℕ}
 
--- The places of a line in the order of their names, in which the switches that a pattern names stand together (this
--- project's profile).
+-- The places of a line in the order of their names, where the switches that a pattern names are next to each other (this project's
+-- profile).
 
--- how two places stand: by name, byte by byte, then by place
+-- the order of two places: by name, byte by byte, then by place
 abbrev pub by_name : List (List ℕ) → ℕ → ℕ → Ordering
 by_name names i j = ordering_then (slice_cmp nat_cmp (name_at names i) (name_at names j)) (nat_cmp i j)
 
@@ -19,7 +19,7 @@ pub record IsOrder (names : List (List ℕ)) (order : List ℕ) : Type 0 where
   pub places : IsPermutation (range_with_len 0 (length names)) order
   pub sorted : IsSorted (by_name names) order
 
--- within that order, the pattern names the places from the start up to the end, and no other ones
+-- in that order, the pattern names exactly the places from the start to before the end
 pub record IsBlock (names : List (List ℕ)) (order : List ℕ) (pattern : Pattern) (start end : ℕ) : Type 0 where
   pub ascends : start ≤ end
   pub within : end ≤ length order

@@ -1,4 +1,4 @@
-//! Which switches of a line are hidden.
+//! The hidden switches of a line.
 
 ghost use Rattle.std.specs.Prelude.{◌≡◌, ◌<◌, Bool, IfOk, List, Some, false, length, replicate};
 ghost use Rattle.std.specs.Prelude.{set, slice_get, true};
@@ -7,7 +7,7 @@ use crate::switches::Switches;
 use std::alloc::{AllocError, Global};
 use std::marker::Model;
 
-/// For each switch of a line whether it is hidden, so that no pattern hits it.
+/// For each switch of a line, whether it is hidden. No pattern hits a hidden switch.
 #[derive(Debug, Drop)]
 pub struct Hidden {
     flags: Vec<bool>,
@@ -20,7 +20,7 @@ impl Model for Hidden {
 }
 
 impl Hidden {
-    /// No switch of these is hidden. Want of memory is the only error.
+    /// No switch is hidden.
     pub fn new(alloc: Global, switches: &Switches<'_>) -> Result<Hidden, AllocError>
         ensures { IfOk result (λ hidden. hidden ≡ replicate (length switches.now) false) }
     {

@@ -1,4 +1,4 @@
-//! Switch matching: which switches of a command line are live, and which of them a pattern hits.
+//! Matches switches: which switches of a command line are live, and which of these a pattern hits.
 #![tactic(auto)]
 
 mod hidden;

@@ -1,4 +1,4 @@
-//! Which switches of a line are live, worked out once by look-ups in the places by name.
+//! Which switches of a line are live, computed once by look-ups in the places by name.
 
 ghost use Rattle.drv_match.specs.Code.Indexed.{IsLast, IsLiveness, positive};
 ghost use Rattle.drv_match.specs.Matching.{cancels, has_negative, is_level, negative};
@@ -9,9 +9,9 @@ ghost use Rattle.std.specs.Prelude.{◌≡◌, IfOk, None, OnOk, Some, if◌then
 use crate::names::Names;
 use std::alloc::{AllocError, Global};
 
-/// For each switch whether no later one cancels it. The order is that of the places by name, so
-/// that switches of one name stand together, and what cancels them is looked up once. Want of
-/// memory is the only error.
+/// For each switch, whether no later switch cancels it. `order` has the places by name. So switches
+/// of the same name are next to each other, and the last switch that cancels them is looked up
+/// once.
 pub fn live_flags(
     alloc: Global,
     names: &Names<'_>,
@@ -25,7 +25,7 @@ pub fn live_flags(
     Ok(flags)
 }
 
-/// Marks in as many flags as there are switches which of those are live.
+/// Sets the flags of the live switches. There are as many flags as switches.
 fn mark_live(
     alloc: Global,
     names: &Names<'_>,
@@ -64,8 +64,8 @@ fn last_level(names: &Names<'_>) -> usize
     0
 }
 
-/// The place of the last switch that cancels an earlier one of this name, or 0 if there is none.
-/// What is cancelled are switches before that place. The form is room for a name that is looked up.
+/// The place of the last switch that cancels this name, or 0 if there is none. It cancels the
+/// switches of this name before that place. `form` is room for a name to look up.
 fn last_cancelling(
     names: &Names<'_>,
     order: &[usize],
@@ -104,7 +104,7 @@ fn last_named(names: &Names<'_>, order: &[usize], name: &[u8]) -> usize
     if names.get(place) == name { place } else { 0 }
 }
 
-/// Whether this is an optimization level, as `O2`.
+/// Whether this is an optimization level, such as `O2`.
 fn is_level(name: &[u8]) -> bool
     ensures { result ≡ is_level name.now }
 {
@@ -131,7 +131,7 @@ fn write_negative(name: &[u8], form: &mut Vec<u8>) -> Result<(), AllocError>
     Ok(())
 }
 
-/// Writes the name that this is the negative form of, if it is one, and says whether it is.
+/// If this is a negative form, writes the name without `no-` and returns true.
 fn write_positive(name: &[u8], form: &mut Vec<u8>) -> Result<bool, AllocError>
     ensures { IfOk result (λ is. positive name.now ≡ (if is then Some form.new.items else None)) }
 {

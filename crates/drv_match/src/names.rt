@@ -6,7 +6,8 @@ ghost use Rattle.std.specs.Prelude.{◌≡◌, length, map};
 use drv_args::Switch;
 use std::marker::Model;
 
-/// The names of the switches of a line, which are lent, seen as the list of these names in order.
+/// The names of a line's switches, which are borrowed. Contracts see the list of these names in
+/// order.
 #[derive(Debug, Drop)]
 pub struct Names<'a> {
     switches: &'a [Switch],
@@ -21,7 +22,7 @@ impl<'a> Model for Names<'a> {
 }
 
 impl<'a> Names<'a> {
-    /// The names of these switches. It takes no memory.
+    /// The names of these switches.
     pub fn of(switches: &'a [Switch]) -> Names<'a>
         ensures { result ≡ map (λ switch. switch.name) switches.now }
     {
@@ -35,7 +36,7 @@ impl<'a> Names<'a> {
         self.switches.len()
     }
 
-    /// The name at this place; after the last one there are empty names.
+    /// The name at this place, or the empty name after the last one.
     pub fn get(&self, place: usize) -> &'a [u8]
         ensures { result.now ≡ name_at self.now place }
     {

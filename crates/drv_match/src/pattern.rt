@@ -1,12 +1,12 @@
-//! What names switches in a spec: `S` and `S*`.
+//! Patterns of a spec that name switches: `S` and `S*`.
 
 ghost use Rattle.drv_match.specs.Matching.{is_broad, is_named};
 ghost use Rattle.std.specs.Prelude.{◌≡◌};
 
 use std::marker::Model;
 
-/// A pattern of switches: those of this name, or with a star those whose name begins with it. It is
-/// lent its name, so that asking takes no memory.
+/// A pattern of switches. It names the switches of this name or, with a star, those whose names
+/// begin with it. It borrows its name.
 #[derive(Debug, Drop)]
 pub struct Pattern<'a> {
     pub name: &'a [u8],
@@ -33,7 +33,7 @@ impl<'a> Pattern<'a> {
         }
     }
 
-    /// Whether the pattern hits cancelled switches too: it has a star and a name of at most one
+    /// Whether the pattern also hits cancelled switches: it has a star and a name of at most one
     /// byte.
     pub(crate) fn is_broad(&self) -> bool
         ensures { result ≡ is_broad self.now }

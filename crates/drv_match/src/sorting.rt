@@ -1,4 +1,4 @@
-//! The places of a line by name, and the block of them that a pattern names.
+//! The places of a line by name, and the block that a pattern names.
 
 ghost use Rattle.drv_match.specs.Order.{IsBlock, IsOrder};
 ghost use Rattle.std.specs.Prelude.{IfOk};
@@ -7,7 +7,7 @@ use crate::names::Names;
 use crate::pattern::Pattern;
 use std::alloc::{AllocError, Global};
 
-/// All places of these names, by name, then by place. Want of memory is the only error.
+/// All places of these names, by name, then by place.
 pub fn places_by_name(alloc: Global, names: &Names<'_>) -> Result<Vec<usize>, AllocError>
     ensures { IfOk result (λ order. IsOrder names.now order.items) }
 {
@@ -16,8 +16,7 @@ pub fn places_by_name(alloc: Global, names: &Names<'_>) -> Result<Vec<usize>, Al
     Ok(order)
 }
 
-/// Where, within the places by name, those stand that the pattern names: the start, and the end
-/// after them.
+/// The block that the pattern names in the places by name: its start, and the end after it.
 pub fn block_of(names: &Names<'_>, order: &[usize], pattern: &Pattern<'_>) -> (usize, usize)
     requires { IsOrder names.now order.now }
     ensures { IsBlock names.now order.now pattern.now result.0 result.1 }

@@ -1,4 +1,4 @@
-//! The switches of a line, and which of them a pattern hits.
+//! The switches of a line, and which of these a pattern hits.
 
 ghost use Rattle.drv_match.specs.Code.Indexed.{AreNamed, SameHits};
 ghost use Rattle.drv_match.specs.Matching.{IsNextHit, any_hits, hidden_by, hits, is_broad};
@@ -18,13 +18,14 @@ use drv_words::Listing;
 use std::alloc::{AllocError, Global};
 use std::marker::Model;
 
-/// The switches of a command line, which are lent, seen as the list of their names in order.
+/// The switches of a command line, which are borrowed. Contracts see the list of their names in
+/// order.
 #[derive(Debug, Drop)]
 pub struct Switches<'a> {
     names: Names<'a>,
     /// All places, by name, then by place.
     order: Vec<usize>,
-    /// For each switch whether no later one cancels it.
+    /// For each switch, whether no later one cancels it.
     live: Vec<bool>,
 }
 
@@ -40,7 +41,7 @@ impl<'a> Model for Switches<'a> {
 }
 
 impl<'a> Switches<'a> {
-    /// The switches of a line, ready for patterns. Want of memory is the only error.
+    /// The switches of a line, indexed for look-ups.
     pub fn new(alloc: Global, switches: &'a [Switch]) -> Result<Switches<'a>, AllocError>
         ensures { IfOk result (λ made. made ≡ map (λ switch. switch.name) switches.now) }
     {
@@ -50,14 +51,14 @@ impl<'a> Switches<'a> {
         Ok(Switches { names, order, live })
     }
 
-    /// The number of switches of the line. It takes no memory.
+    /// The number of switches of the line.
     pub fn len(&self) -> usize
         ensures { result ≡ length self.now }
     {
         self.names.len()
     }
 
-    /// The name of the switch at this place, without its first `-`. It takes no memory.
+    /// The name of the switch at this place, without its first `-`.
     pub fn name(&self, i: usize) -> &'a [u8]
         requires { i < length self.now }
         ensures { result.now ≡ name_at self.now i }
@@ -65,7 +66,7 @@ impl<'a> Switches<'a> {
         self.names.get(i)
     }
 
-    /// The name of the switch at this place after so many bytes. It takes no memory.
+    /// The name of the switch at this place, without its first `size` bytes.
     pub fn rest(&self, i: usize, size: usize) -> &'a [u8]
         requires { i < length self.now }
         ensures { result.now ≡ drop size (name_at self.now i) }
@@ -78,7 +79,7 @@ impl<'a> Switches<'a> {
         }
     }
 
-    /// Whether no later switch cancels the one at this place. It takes no memory.
+    /// Whether no later switch cancels the one at this place.
     pub fn live(&self, i: usize) -> bool
         requires { i < length self.now }
         ensures { result ≡ is_live self.now i }
@@ -86,15 +87,14 @@ impl<'a> Switches<'a> {
         self.live[i]
     }
 
-    /// All places, by name, then by place. It takes no memory.
+    /// All places, by name, then by place.
     pub fn order(&self) -> &[usize]
         ensures { IsOrder self.now result.now }
     {
         self.order.as_slice()
     }
 
-    /// Where, within the order, the switches stand that a pattern names: the start, and the end
-    /// after them. It takes no memory.
+    /// The block that a pattern names in the order: its start, and the end after it.
     pub fn block(&self, pattern: &Pattern<'_>) -> (usize, usize)
         ensures { (order : List ℕ) → IsOrder self.now order
             → IsBlock self.now order pattern.now result.0 result.1 }
@@ -102,7 +102,7 @@ impl<'a> Switches<'a> {
         block_of(&self.names, &self.order, pattern)
     }
 
-    /// The places of the switches that a pattern hits, in order. Want of memory is the only error.
+    /// The places of the switches that a pattern hits, in order.
     pub fn hits(
         &self,
         alloc: Global,
@@ -112,7 +112,7 @@ impl<'a> Switches<'a> {
         requires { length hidden.now ≡ length self.now }
         ensures { IfOk result (λ places. places ≡ hits self.now hidden.now pattern.now) }
     {
-        let named = self.named(pattern);
+        let named = self.named_places(pattern);
         let mut places = Vec::new(alloc);
         for place in named {
             if self.counts(pattern, hidden, *place) {
@@ -123,8 +123,7 @@ impl<'a> Switches<'a> {
         Ok(Listing::from_vec(places))
     }
 
-    /// The places of the switches that one of these patterns hits, in order. Want of memory is the
-    /// only error.
+    /// The places of the switches that one of these patterns hits, in order.
     pub fn any_hits(
         &self,
         alloc: Global,
@@ -146,14 +145,14 @@ impl<'a> Switches<'a> {
         self.hits(alloc, first, hidden)
     }
 
-    /// The first switch from a place on that a pattern hits, if it hits one. It takes no memory.
+    /// The first switch from a place on that a pattern hits, if there is one.
     pub fn next_hit(&self, pattern: &Pattern<'_>, hidden: &Hidden, from: usize) -> Option<usize>
         requires { length hidden.now ≡ length self.now }
         ensures { IsNextHit self.now hidden.now pattern.now from result }
     {
-        let named = self.named(pattern);
-        // What is named few times is looked for among its places, in any order of these; else the
-        // line is gone over.
+        let named = self.named_places(pattern);
+        // If a pattern names few switches, their places are tested in any order; otherwise the line
+        // is searched in order.
         if named.len() <= self.len() / named.len().max(1) {
             self.next_of(named, pattern, hidden, from)
         } else {
@@ -161,19 +160,19 @@ impl<'a> Switches<'a> {
         }
     }
 
-    /// Whether a pattern hits any switch. It takes no memory.
+    /// Whether a pattern hits any switch.
     pub fn has_hit(&self, pattern: &Pattern<'_>, hidden: &Hidden) -> bool
         requires { length hidden.now ≡ length self.now }
         ensures { result ≡ nat_lt 0 (length (hits self.now hidden.now pattern.now)) }
     {
-        let named = self.named(pattern);
+        let named = self.named_places(pattern);
         named
             .iter()
             .any(|place| self.counts(pattern, hidden, *place))
     }
 
-    /// Whether a pattern hits the switch at this place: it names the switch, which isn't hidden,
-    /// and which is live if the pattern takes live ones alone. It takes no memory.
+    /// Whether a pattern hits the switch at this place: the pattern names it, it isn't hidden, and
+    /// it is live unless the pattern is broad.
     pub fn is_hit(&self, pattern: &Pattern<'_>, hidden: &Hidden, i: usize) -> bool
         requires in_range { i < length self.now }
         requires of_these { length hidden.now ≡ length self.now }
@@ -184,19 +183,19 @@ impl<'a> Switches<'a> {
             && (pattern.is_broad() || self.live(i))
     }
 
-    /// Hides every switch that a pattern names, live or not. It takes no memory.
+    /// Hides every switch that a pattern names, live or not.
     pub fn hide(&self, pattern: &Pattern<'_>, hidden: &mut Hidden)
         requires { length hidden.old ≡ length self.now }
         ensures named { hidden.new ≡ hidden_by pattern.now self.now hidden.old }
         ensures as_many { length hidden.new ≡ length self.now }
     {
-        let named = self.named(pattern);
+        let named = self.named_places(pattern);
         for place in named {
             hidden.add(*place);
         }
     }
 
-    /// These patterns from the first one on that hits a switch.
+    /// These patterns, from the first one on that hits a switch.
     #[tactic(auto, using(crate::proofs::Merging::place_within))]
     fn from_first_hit<'p, 'n>(
         &self,
@@ -210,7 +209,7 @@ impl<'a> Switches<'a> {
         &patterns[at.unwrap_or(patterns.len())..]
     }
 
-    /// Where the first of these patterns stands that hits a switch.
+    /// The index of the first of these patterns that hits a switch.
     fn hit_place(&self, patterns: &[Pattern<'_>], hidden: &Hidden) -> Option<usize>
         requires { length hidden.now ≡ length self.now }
         ensures { result ≡ position
@@ -221,10 +220,10 @@ impl<'a> Switches<'a> {
             .position(|pattern| self.has_hit(pattern, hidden))
     }
 
-    /// Whether a pattern names so many switches of several names that to go over the line is less
-    /// work than to sort their places. Those of one name are in order.
+    /// Whether a pattern names so many switches of different names that searching the line takes
+    /// less work than sorting their places. Places of the same name are already in order.
     fn is_spread(&self, pattern: &Pattern<'_>) -> bool {
-        match self.named(pattern) {
+        match self.named_places(pattern) {
             named @ [first, .., last] => {
                 self.len() / 8 <= named.len() && self.names.get(*first) != self.names.get(*last)
             }
@@ -259,7 +258,7 @@ impl<'a> Switches<'a> {
         Ok(Listing::from_vec(places))
     }
 
-    /// Marks the places that a pattern hits.
+    /// Sets the flags of the places that a pattern hits.
     fn mark_hits(&self, pattern: &Pattern<'_>, hidden: &Hidden, flags: &mut Vec<bool>)
         requires of_these { length hidden.now ≡ length self.now }
         requires as_many { length flags.old.items ≡ length self.now }
@@ -267,7 +266,7 @@ impl<'a> Switches<'a> {
             ≡ (get_or flags.old.items i false || is_hit self.now hidden.now pattern.now i) }
         ensures as_many { length flags.new.items ≡ length self.now }
     {
-        let named = self.named(pattern);
+        let named = self.named_places(pattern);
         for place in named {
             if self.counts(pattern, hidden, *place) {
                 flags[*place] = true;
@@ -275,7 +274,7 @@ impl<'a> Switches<'a> {
         }
     }
 
-    /// The first of these places from one on that a pattern hits, which names no other ones.
+    /// The first place of a hit from one place on, among these places that the pattern names.
     fn next_of(
         &self,
         named: &[usize],
@@ -296,7 +295,7 @@ impl<'a> Switches<'a> {
         if next < self.len() { Some(next) } else { None }
     }
 
-    /// The first place of the line from one on that a pattern hits, if it hits one.
+    /// The first place of a hit from one place on, in the order of the line.
     fn next_on_line(&self, pattern: &Pattern<'_>, hidden: &Hidden, from: usize) -> Option<usize>
         requires { length hidden.now ≡ length self.now }
         ensures { IsNextHit self.now hidden.now pattern.now from result }
@@ -305,15 +304,15 @@ impl<'a> Switches<'a> {
     }
 
     /// The places that a pattern names, by name, then by place.
-    fn named(&self, pattern: &Pattern<'_>) -> &[usize]
+    fn named_places(&self, pattern: &Pattern<'_>) -> &[usize]
         ensures { AreNamed self.now pattern.now result.now }
     {
         let (start, end) = self.block(pattern);
         &self.order()[start..end]
     }
 
-    /// Whether a switch that a pattern names is hit: it isn't hidden, and it is live or the pattern
-    /// is broad.
+    /// Whether a switch that the pattern names is hit: it isn't hidden, and it is live or the
+    /// pattern is broad.
     #[inline(always)]
     fn counts(&self, pattern: &Pattern<'_>, hidden: &Hidden, i: usize) -> bool
         requires in_range { i < length self.now }

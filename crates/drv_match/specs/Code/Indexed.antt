@@ -1,17 +1,18 @@
 use Rattle.drv_match.specs.Matching.{is_any_hit, is_live, name_at}
 use Rattle.drv_match.specs.Order.{IsBlock, IsOrder}
 use Rattle.drv_match.specs.Pattern.{Pattern}
-use Rattle.std.specs.Prelude.{◌≡◌, ◌&&◌, ◌<◌, ◌==◌, ◌∷◌, Bool, List, None, Option, Some, false, get_or, if◌then◌else◌, length, slice_range, true, ℕ}
+use Rattle.std.specs.Prelude.{◌≡◌, ◌&&◌, ◌<◌, ◌==◌, ◌∷◌, Bool, List, None, Option, Some, false, get_or, if◌then◌else◌, length, slice_range}
+use Rattle.std.specs.Prelude.{true, ℕ}
 use Rattle.std.specs.Str.{byte}
 
--- What is worked out once of a line. Private clauses alone cite it.
+-- What the code computes once for a line. Only private clauses cite it.
 
--- for each switch whether it is live
+-- for each switch, whether it is live
 pub record IsLiveness (names : List (List ℕ)) (live : List Bool) : Type 0 where
   pub as_many : length live ≡ length names
   pub at : (i : ℕ) → i < length names → get_or live i false ≡ is_live names i
 
--- the order of the names, and which are live
+-- the order of the names, and which switches are live
 pub record IsIndex (names : List (List ℕ)) (order : List ℕ) (live : List Bool) : Type 0 where
   pub in_order : IsOrder names order
   pub by_rule : IsLiveness names live
@@ -29,12 +30,12 @@ pub record AreNamed (names : List (List ℕ)) (pattern : Pattern) (places : List
 abbrev pub SameHits : List (List ℕ) → List Bool → List Pattern → List Pattern → Type 0
 SameHits names hidden some others = (i : ℕ) → i < length names → is_any_hit names hidden some i ≡ is_any_hit names hidden others i
 
--- a name that is a negative form, without its `no-`
+-- the name without `no-`, if it is a negative form
 abbrev pub positive : List ℕ → Option (List ℕ)
 positive (letter ∷ n ∷ o ∷ dash ∷ rest) = if n == byte "n" && o == byte "o" && dash == byte "-" then Some (letter ∷ rest) else None
 positive _ = None
 
--- the place of the last name that passes a test, or 0 where none does
+-- the place of the last name that passes a test, or 0 if none does
 pub record IsLast (test : List ℕ → Bool) (names : List (List ℕ)) (place : ℕ) : Type 0 where
   pub none_after : (i : ℕ) → place < i → i < length names → test (name_at names i) ≡ false
   pub within : 0 < place → place < length names

@@ -10,7 +10,8 @@ returns-then-not-branch c =
     let paired : has_negative c.args.name.now ≡ true = search rules in
     let alone : positive c.args.name.now ≡ None = search rules in
     let form : c.deref.result.now ≡ negative c.args.name.now = search rules in
-    negative_last c.args.names.now c.args.name.now c.deref.result.now c.last_named-negative.result no_level paired alone form c.last_named-negative.ensures
+    negative_last c.args.names.now c.args.name.now c.deref.result.now c.last_named-negative.result no_level paired alone form
+    c.last_named-negative.ensures
 
 pub returns : goal.returns
 returns c =
@@ -18,4 +19,5 @@ returns c =
     let paired : has_negative c.args.name.now ≡ true = search rules in
     let found : positive c.args.name.now ≡ Some c.deref-2.result.now = search rules in
     let form : c.deref.result.now ≡ negative c.args.name.now = search rules in
-    both_last c.args.names.now c.args.name.now c.deref.result.now c.deref-2.result.now c.last_named-negative.result c.last_named.result c.max.result no_level paired found form c.last_named-negative.ensures c.last_named.ensures (search rules)
+    both_last c.args.names.now c.args.name.now c.deref.result.now c.deref-2.result.now c.last_named-negative.result c.last_named.result
+    c.max.result no_level paired found form c.last_named-negative.ensures c.last_named.ensures (search rules)

@@ -20,13 +20,18 @@ loop-k-preserved c =
       | then-k-eq0+in_ok-first_live w ↦ rw (w.first_live-is, ← c.get-name.ensures) w.in_ok-first_live.ensures
       | else-k-eq0+else-ne w ↦
           let some : 0 < c.loop-k.k = omega arith in
-          rw w.first_live-is (known_again c.args.names.now (name_at c.args.names.now (get_or c.args.order.now (c.loop-k.k - 1) 0)) c.get-name.result.now c.loop-k.first_live (get_or c.args.order.now c.loop-k.k 0) (c.loop-k.invariant.known some) (rw (← w.get.ensures) (unturned (pointwise nat_eq c.get-name.result.now w.get.result.now) (sym w.ne.ensures ∙ w.if-ne.false))) c.get-name.ensures)
+          rw w.first_live-is (known_again c.args.names.now (name_at c.args.names.now (get_or c.args.order.now (c.loop-k.k - 1) 0))
+          c.get-name.result.now c.loop-k.first_live (get_or c.args.order.now c.loop-k.k 0) (c.loop-k.invariant.known some)
+          (rw (← w.get.ensures) (unturned (pointwise nat_eq c.get-name.result.now w.get.result.now) (sym w.ne.ensures ∙ w.if-ne.false)))
+          c.get-name.ensures)
     ] in
     record {
       as_many = grind (arith, common_steps);
-      told = flags_next c.args.names.now c.args.order.now c.loop-k.flags.items _ c.loop-k.k c.if-k-eq0.first_live c.loop-k.invariant.as_many within c.loop-k.invariant.told known refl;
+      told = flags_next c.args.names.now c.args.order.now c.loop-k.flags.items _ c.loop-k.k c.if-k-eq0.first_live c.loop-k.invariant.as_many
+          within c.loop-k.invariant.told known refl;
       known = λ some. let back : c.loop-k.k + 1 - 1 ≡ c.loop-k.k = omega arith in rw back known;
     }
 
 pub returns : goal.returns
-returns c = flags_all c.args.names.now c.args.order.now c.loop-k.flags.items c.loop-k.k c.requires.in_order c.loop-k.invariant.as_many (omega arith) c.loop-k.invariant.told
+returns c = flags_all c.args.names.now c.args.order.now c.loop-k.flags.items c.loop-k.k c.requires.in_order c.loop-k.invariant.as_many
+    (omega arith) c.loop-k.invariant.told

@@ -5,6 +5,11 @@ use Rattle.std.proofs.lemmas.List.Sorted.{IsPartitionPoint-from_clause}
 
 pub returns : goal.returns
 returns c =
-    block_found c.args.names.now c.args.order.now c.args.pattern.now _ _ c.partition_point-start.ensures.bound c.partition_point-end.ensures.bound
-    (IsPartitionPoint-from_clause (asks_start c.args.names.now c.args.pattern.now) c.args.order.now _ c.partition_point-start.ensures.partitioned (start_parts c.args.names.now c.args.order.now c.args.pattern.now c.requires) (λ a r q k. search rules))
-    (IsPartitionPoint-from_clause (asks_end c.args.names.now c.args.pattern.now) c.args.order.now _ c.partition_point-end.ensures.partitioned (end_parts c.args.names.now c.args.order.now c.args.pattern.now c.requires) (λ a r q k. search rules))
+    block_found c.args.names.now c.args.order.now c.args.pattern.now _ _ c.partition_point-start.ensures.bound
+    c.partition_point-end.ensures.bound
+    (IsPartitionPoint-from_clause (asks_start c.args.names.now c.args.pattern.now) c.args.order.now _
+    c.partition_point-start.ensures.partitioned (start_parts c.args.names.now c.args.order.now c.args.pattern.now c.requires)
+    (λ a r q k. search rules))
+    (IsPartitionPoint-from_clause (asks_end c.args.names.now c.args.pattern.now) c.args.order.now _
+    c.partition_point-end.ensures.partitioned (end_parts c.args.names.now c.args.order.now c.args.pattern.now c.requires)
+    (λ a r q k. search rules))

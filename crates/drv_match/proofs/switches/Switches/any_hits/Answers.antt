@@ -6,29 +6,39 @@ use Rattle.std.proofs.lemmas.Result.{IfOk-weaker}
 
 pub returns-in_default-clause-places : goal.returns-in_default-clause-places
 returns-in_default-clause-places c =
-    c.new.ensures ∙ none_hit c.args.self.now c.args.hidden.now c.from_first_hit.result.now c.args.patterns.now (no_patterns c.from_first_hit.result.now c.in_default.len_below) c.from_first_hit.ensures
+    c.new.ensures ∙ none_hit c.args.self.now c.args.hidden.now c.from_first_hit.result.now c.args.patterns.now
+    (no_patterns c.from_first_hit.result.now c.in_default.len_below) c.from_first_hit.ensures
 
 pub returns-clause-places : goal.returns-clause-places
 returns-clause-places c =
     subst (λ (xs : List ℕ). IfOk c.hits.result (λ places. places ≡ xs))
-    (first_alone c.args.self.now c.args.hidden.now c.first-item.result (take (length c.from_first_hit.result.now - 1) (drop 1 c.from_first_hit.result.now)) c.from_first_hit-others.result.now (is_none_left c.from_first_hit-others.result.now (sym c.is_empty.ensures ∙ c.if-not-is_empty.false)) c.from_first_hit-others.ensures
-    ∙ all_same c.args.self.now c.args.hidden.now (c.first-item.result ∷ take (length c.from_first_hit.result.now - 1) (drop 1 c.from_first_hit.result.now)) c.args.patterns.now
-    (front_same c.args.self.now c.args.hidden.now c.from_first_hit.result.now c.args.patterns.now c.first-item.result (take (length c.from_first_hit.result.now - 1) (drop 1 c.from_first_hit.result.now)) (take (length c.from_first_hit.result.now - 1) (drop 1 c.from_first_hit.result.now)) c.from_first_hit.ensures
+    (first_alone c.args.self.now c.args.hidden.now c.first-item.result (take (length c.from_first_hit.result.now - 1)
+    (drop 1 c.from_first_hit.result.now)) c.from_first_hit-others.result.now (is_none_left c.from_first_hit-others.result.now
+    (sym c.is_empty.ensures ∙ c.if-not-is_empty.false)) c.from_first_hit-others.ensures
+    ∙ all_same c.args.self.now c.args.hidden.now (c.first-item.result ∷ take (length c.from_first_hit.result.now - 1)
+    (drop 1 c.from_first_hit.result.now)) c.args.patterns.now
+    (front_same c.args.self.now c.args.hidden.now c.from_first_hit.result.now c.args.patterns.now c.first-item.result
+    (take (length c.from_first_hit.result.now - 1) (drop 1 c.from_first_hit.result.now)) (take (length c.from_first_hit.result.now - 1)
+    (drop 1 c.from_first_hit.result.now)) c.from_first_hit.ensures
     (front_is c.from_first_hit.result.now c.first-item.result c.in-len1-up.len_at_least c.first-item.is) (λ i within. refl))) c.hits.ensures
 
 pub returns-then-not-is_empty-clause-places : goal.returns-then-not-is_empty-clause-places
 returns-then-not-is_empty-clause-places c =
     subst (λ (xs : List ℕ). IfOk c.merged_hits.result (λ places. places ≡ xs))
     (all_same c.args.self.now c.args.hidden.now (c.first-item.result ∷ c.from_first_hit-others.result.now) c.args.patterns.now
-    (front_same c.args.self.now c.args.hidden.now c.from_first_hit.result.now c.args.patterns.now c.first-item.result c.from_first_hit-others.result.now (take (length c.from_first_hit.result.now - 1) (drop 1 c.from_first_hit.result.now)) c.from_first_hit.ensures
+    (front_same c.args.self.now c.args.hidden.now c.from_first_hit.result.now c.args.patterns.now c.first-item.result
+    c.from_first_hit-others.result.now (take (length c.from_first_hit.result.now - 1) (drop 1 c.from_first_hit.result.now))
+    c.from_first_hit.ensures
     (front_is c.from_first_hit.result.now c.first-item.result c.in-len1-up.len_at_least c.first-item.is) c.from_first_hit-others.ensures)) c.merged_hits.ensures
 
 pub returns-clause-within : goal.returns-clause-within
 returns-clause-within c =
-    IfOk-weaker c.hits.result (λ (places : List ℕ). places ≡ any_hits c.args.self.now c.args.hidden.now c.args.patterns.now) (λ (places : List ℕ). All (λ place. place < length c.args.self.now) places)
+    IfOk-weaker c.hits.result (λ (places : List ℕ). places ≡ any_hits c.args.self.now c.args.hidden.now c.args.patterns.now)
+    (λ (places : List ℕ). All (λ place. place < length c.args.self.now) places)
     (λ places is. any_within c.args.self.now c.args.hidden.now c.args.patterns.now places is) (returns-clause-places c)
 
 pub returns-then-not-is_empty-clause-within : goal.returns-then-not-is_empty-clause-within
 returns-then-not-is_empty-clause-within c =
-    IfOk-weaker c.merged_hits.result (λ (places : List ℕ). places ≡ any_hits c.args.self.now c.args.hidden.now c.args.patterns.now) (λ (places : List ℕ). All (λ place. place < length c.args.self.now) places)
+    IfOk-weaker c.merged_hits.result (λ (places : List ℕ). places ≡ any_hits c.args.self.now c.args.hidden.now c.args.patterns.now)
+    (λ (places : List ℕ). All (λ place. place < length c.args.self.now) places)
     (λ places is. any_within c.args.self.now c.args.hidden.now c.args.patterns.now places is) (returns-then-not-is_empty-clause-places c)

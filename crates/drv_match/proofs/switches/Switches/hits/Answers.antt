@@ -5,7 +5,11 @@ use Rattle.std.proofs.Common.{◌∙◌, arith}
 use Rattle.std.proofs.lemmas.List.Sorted.{IsNonDecreasingBy-from_sort}
 
 pub counts-requires-clause-in_range : goal.counts-requires-clause-in_range
-counts-requires-clause-in_range c = named_within c.args.self.now c.args.pattern.now c.named-named.result.now c.named-named.ensures c.loop-place.place-index (omega arith)
+counts-requires-clause-in_range c = named_within c.args.self.now c.args.pattern.now c.named_places-named.result.now c.named_places-named.ensures
+    c.loop-place.place-index (omega arith)
 
 pub returns : goal.returns
-returns c = c.from_vec.ensures ∙ named_hits c.args.self.now c.named-named.result.now c.loop-place.places.items _ c.args.hidden.now c.args.pattern.now c.named-named.ensures (counted (counts c.args.self.now c.args.hidden.now (is_broad c.args.pattern.now)) c.loop-place.places.items c.named-named.result.now c.loop-place.place-index (omega arith) c.loop-place.invariant) c.sort_unstable.ensures.permutation (IsNonDecreasingBy-from_sort (λ i. i) _ c.sort_unstable.ensures.sorted)
+returns c = c.from_vec.ensures ∙ named_hits c.args.self.now c.named_places-named.result.now c.loop-place.places.items _ c.args.hidden.now
+    c.args.pattern.now c.named_places-named.ensures (counted (counts c.args.self.now c.args.hidden.now (is_broad c.args.pattern.now))
+    c.loop-place.places.items c.named_places-named.result.now c.loop-place.place-index (omega arith) c.loop-place.invariant)
+    c.sort_unstable.ensures.permutation (IsNonDecreasingBy-from_sort (λ i. i) _ c.sort_unstable.ensures.sorted)

@@ -4,4 +4,5 @@ use Rattle.drv_match.proofs.switches.Switches.hits.Given as goal
 use Rattle.std.proofs.Common.{◌≡◌, ◌++◌, drop, filter}
 
 abbrev pub invariant-loop-place : goal.invariant-loop-place
-invariant-loop-place l = l.places.items ++ filter (counts l.self l.hidden (is_broad l.pattern)) (drop l.place-index l.named) ≡ filter (counts l.self l.hidden (is_broad l.pattern)) l.named
+invariant-loop-place l = l.places.items ++ filter (counts l.self l.hidden (is_broad l.pattern)) (drop l.place-index l.named)
+    ≡ filter (counts l.self l.hidden (is_broad l.pattern)) l.named

@@ -5,5 +5,6 @@ use Rattle.std.proofs.Common.{◌≡◌, drop, length}
 abbrev pub invariant-loop-place : goal.invariant-loop-place
 invariant-loop-place l = record {
   as_many : length l.flags.items ≡ length l.self;
-  done : marking l.self l.hidden l.pattern (drop l.place-index l.named) l.flags.items ≡ marking l.self l.hidden l.pattern l.named l.fn.flags.items;
+  done : marking l.self l.hidden l.pattern (drop l.place-index l.named) l.flags.items ≡ marking l.self l.hidden l.pattern l.named
+      l.fn.flags.items;
 }

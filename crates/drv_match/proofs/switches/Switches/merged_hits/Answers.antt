@@ -6,16 +6,20 @@ use Rattle.std.proofs.lemmas.List.{get_or_read}
 pub loop-place-init : goal.loop-place-init
 loop-place-init c =
     ap (λ ps. ps ++ flagged_from c.args.self.now c.args.hidden.now c.loop-pattern.flags.items 0) c.new-places.ensures.items
-    ∙ flagged_all c.args.self.now c.args.hidden.now c.loop-pattern.flags.items c.args.others.now (c.args.first.now ∷ c.args.others.now) c.loop-pattern.pattern-index (omega arith) c.loop-pattern.invariant.flagged
+    ∙ flagged_all c.args.self.now c.args.hidden.now c.loop-pattern.flags.items c.args.others.now (c.args.first.now ∷ c.args.others.now)
+    c.loop-pattern.pattern-index (omega arith) c.loop-pattern.invariant.flagged
 
 pub loop-place-preserved-then-not-index : goal.loop-place-preserved-then-not-index
 loop-place-preserved-then-not-index c =
     let within : c.loop-place.place < length c.args.self.now = omega (arith, c.loop-place-test.true, c.loop-pattern.flags.ok.0, c.len-place-end.ensures, c.loop-pattern.invariant.as_many) in
     place_passed c.args.self.now c.args.hidden.now c.loop-pattern.flags.items c.loop-place.places.items _ c.loop-place.place within
-    (sym (get_or_read c.loop-pattern.flags.items _ _ (omega (arith, within, c.loop-pattern.invariant.as_many)) c.index.ensures false) ∙ c.if-not-index.true) c.loop-place.invariant
+    (sym (get_or_read c.loop-pattern.flags.items _ _ (omega (arith, within, c.loop-pattern.invariant.as_many)) c.index.ensures false)
+    ∙ c.if-not-index.true) c.loop-place.invariant
 
 pub loop-place-preserved : goal.loop-place-preserved
 loop-place-preserved c =
     let within : c.loop-place.place < length c.args.self.now = omega (arith, c.loop-place-test.true, c.loop-pattern.flags.ok.0, c.len-place-end.ensures, c.loop-pattern.invariant.as_many) in
-    place_kept c.args.self.now c.args.hidden.now c.loop-pattern.flags.items c.loop-place.places.items c.push.new.self.items _ c.loop-place.place within
-    (sym (get_or_read c.loop-pattern.flags.items _ _ (omega (arith, within, c.loop-pattern.invariant.as_many)) c.index.ensures false) ∙ c.if-not-index.false) c.in_ok-push.ensures.items c.loop-place.invariant
+    place_kept c.args.self.now c.args.hidden.now c.loop-pattern.flags.items c.loop-place.places.items c.push.new.self.items _
+    c.loop-place.place within
+    (sym (get_or_read c.loop-pattern.flags.items _ _ (omega (arith, within, c.loop-pattern.invariant.as_many)) c.index.ensures false)
+    ∙ c.if-not-index.false) c.in_ok-push.ensures.items c.loop-place.invariant

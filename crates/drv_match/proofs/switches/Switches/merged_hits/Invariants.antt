@@ -10,4 +10,5 @@ invariant-loop-pattern l = record {
 }
 
 abbrev pub invariant-loop-place : goal.invariant-loop-place
-invariant-loop-place l = l.places.items ++ flagged_from l.self l.hidden l.flags.items l.place ≡ any_hits l.self l.hidden (l.first ∷ l.others)
+invariant-loop-place l = l.places.items ++ flagged_from l.self l.hidden l.flags.items l.place ≡ any_hits l.self l.hidden
+    (l.first ∷ l.others)

@@ -4,8 +4,10 @@ use Rattle.std.proofs.Common.{arith}
 
 pub returns-then-next-len : goal.returns-then-next-len
 returns-then-next-len c =
-    is_next c.args.self.now c.args.hidden.now c.args.pattern.now c.args.from c.args.named.now c.requires.named c.loop-place.place-index c.loop-place.next c.len.result (omega arith) c.len.ensures c.loop-place.invariant c.if-next-len.true
+    is_next c.args.self.now c.args.hidden.now c.args.pattern.now c.args.from c.args.named.now c.requires.named c.loop-place.place-index
+    c.loop-place.next c.len.result (omega arith) c.len.ensures c.loop-place.invariant c.if-next-len.true
 
 pub returns-else-next-len : goal.returns-else-next-len
 returns-else-next-len c =
-    is_none c.args.self.now c.args.hidden.now c.args.pattern.now c.args.from c.args.named.now c.requires.named c.loop-place.place-index c.loop-place.next c.len.result (omega arith) c.len.ensures c.loop-place.invariant c.if-next-len.false
+    is_none c.args.self.now c.args.hidden.now c.args.pattern.now c.args.from c.args.named.now c.requires.named c.loop-place.place-index
+    c.loop-place.next c.len.result (omega arith) c.len.ensures c.loop-place.invariant c.if-next-len.false

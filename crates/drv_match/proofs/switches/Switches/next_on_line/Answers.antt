@@ -8,4 +8,5 @@ pub returns : goal.returns
 returns c =
     let hit = is_hit c.args.self.now c.args.hidden.now c.args.pattern.now in
     next_found c.args.self.now c.args.hidden.now c.args.pattern.now c.args.from c.len.result c.find.result c.len.ensures
-    (first_from_Range _ _ _ c.find.result (λ i. hit i ≡ true) (λ i. hit i ≡ false) c.find.ensures.ran (λ x q k. search (rules, tests)) (λ x q k. search (rules, tests)))
+    (first_from_Range _ _ _ c.find.result (λ i. hit i ≡ true) (λ i. hit i ≡ false) c.find.ensures.ran (λ x q k. search (rules, tests))
+    (λ x q k. search (rules, tests)))
