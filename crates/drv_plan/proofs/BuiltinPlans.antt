@@ -12,7 +12,7 @@ use Rattle.std.proofs.Common.{◌≡◌, List, [], ◌∷◌, None, Ok, Some, re
 use Rattle.std.specs.Fmt.{digits}
 use Rattle.std.specs.Prelude.{codes}
 
--- Plans of the built-in specs, by computation, where nothing is searched for and TMPDIR is unset.
+-- Examples of plans by the built-in specs, which the prover computes. No name is searched for, and TMPDIR is unset.
 
 abbrev facts : Facts
 facts = record no_facts { variables = (codes "TMPDIR", None) ∷ [] }
@@ -20,7 +20,7 @@ facts = record no_facts { variables = (codes "TMPDIR", None) ∷ [] }
 abbrev plan : List Switch → List Input → Planned Plan
 plan switches inputs = planned facts builtin_specs inputs (context_of (line_of switches inputs) builtin_specs no_prefixes 42)
 
--- a job that makes a file which isn't a temporary of its own: it is removed where the job fails
+-- a job that makes a file which isn't one of its temporaries; the file is removed if the job fails
 abbrev making : List ℕ → Job → Job
 making file job = record job { on_failure = file ∷ [] }
 
@@ -39,34 +39,38 @@ source_and_object : plan [] (file (codes "a.c") ∷ file (codes "b.o") ∷ Libra
           (codes "/tmp/cc0000002a_1.s" ∷ codes "/tmp/cc0000002a_2.o" ∷ []) (Some (codes "/tmp/cc0000002a_2.o"))
           ∷ [];
       link = Some (linking
-          (codes "link" ∷ codes "-o" ∷ codes "a.out" ∷ codes "crt1.o" ∷ codes "crti.o" ∷ codes "/tmp/cc0000002a_2.o" ∷ codes "b.o" ∷ codes "-lm" ∷ codes "-lgcc" ∷ codes "-lc" ∷ codes "crtend.o" ∷ codes "crtn.o" ∷ []));
+          (codes "link" ∷ codes "-o" ∷ codes "a.out" ∷ codes "crt1.o" ∷ codes "crti.o" ∷ codes "/tmp/cc0000002a_2.o" ∷ codes "b.o" ∷ codes
+          "-lm" ∷ codes "-lgcc" ∷ codes "-lc" ∷ codes "crtend.o" ∷ codes "crtn.o" ∷ []));
     }))
 unfolding builtin_named builtin_pairs digits
 source_and_object = refl
 
--- words for the linker stand in their places
+-- words for the linker keep their places
 words_for_linker : plan [] (LinkWord (codes "-z") ∷ LinkWord (codes "now") ∷ file (codes "a.o") ∷ [])
     ≡ Is (Ok (record {
       notices = [];
       jobs = [];
       link = Some (linking
-          (codes "link" ∷ codes "-o" ∷ codes "a.out" ∷ codes "crt1.o" ∷ codes "crti.o" ∷ codes "-z" ∷ codes "now" ∷ codes "a.o" ∷ codes "-lgcc" ∷ codes "-lc" ∷ codes "crtend.o" ∷ codes "crtn.o" ∷ []));
+          (codes "link" ∷ codes "-o" ∷ codes "a.out" ∷ codes "crt1.o" ∷ codes "crti.o" ∷ codes "-z" ∷ codes "now" ∷ codes "a.o" ∷ codes
+          "-lgcc" ∷ codes "-lc" ∷ codes "crtend.o" ∷ codes "crtn.o" ∷ []));
     }))
 unfolding builtin_named builtin_pairs
 words_for_linker = refl
 
--- up to the assembly alone; a text of a suffix that no pair has is the linker's
+-- only up to the assembly; a .txt file is the linker's, since no pair has that suffix
 assembly_alone : plan (record { name = codes "S"; arg = None } ∷ []) (File (codes "a.txt") (Some (codes "c")) ∷ file (codes "b.txt") ∷ [])
     ≡ Is (Ok (record {
       notices = codes "warning: b.txt: linker input file unused because linking not done" ∷ [];
-      jobs = making (codes "a.s") (job (Some 0) (command (codes "rectool") (codes "cc1" ∷ codes "a.txt" ∷ codes "-o" ∷ codes "a.s" ∷ []) ∷ []) [] (Some (codes "a.s"))) ∷ [];
+      jobs = making (codes "a.s") (job (Some 0) (command (codes "rectool") (codes "cc1" ∷ codes "a.txt" ∷ codes "-o" ∷ codes "a.s" ∷ []) ∷
+          []) [] (Some (codes "a.s"))) ∷ [];
       link = None;
     }))
 unfolding builtin_named builtin_pairs
 assembly_alone = refl
 
--- up to the object file alone, which is a failure file
-object_alone : plan (record { name = codes "c"; arg = None } ∷ record { name = codes "o"; arg = Some (codes "x.o") } ∷ []) (file (codes "a.c") ∷ [])
+-- only up to the object file, which is a failure file
+object_alone : plan (record { name = codes "c"; arg = None } ∷ record { name = codes "o"; arg = Some (codes "x.o") } ∷ [])
+    (file (codes "a.c") ∷ [])
     ≡ Is (Ok (record {
       notices = [];
       jobs = making (codes "x.o") (job (Some 0)

@@ -7,17 +7,20 @@ use Rattle.std.proofs.lemmas.Slice.Eq.{slice_eq-Decides}
 use Rattle.std.specs.List.{ends_with}
 use Rattle.std.specs.Prelude.{nat_eq, nat_lt, not}
 
--- A text that ends with another has its last byte.
+-- For the look-up of suffixes: if a text ends with another, both have the same last byte.
 
-last_is : (text end : List ℕ) → 0 < length end → ends_with nat_eq text end ≡ true → get_or text (length text - 1) 0 ≡ get_or end (length end - 1) 0
+last_is : (text end : List ℕ) → 0 < length end → ends_with nat_eq text end ≡ true
+    → get_or text (length text - 1) 0 ≡ get_or end (length end - 1) 0
 last_is text end some ends =
     let before : ℕ = length text - length end in
     let is : end ≡ drop before text = (slice_eq-Decides Decides-eqb end (drop before text) (ends_with nat_eq text end) refl).0 ends in
     let size : length end ≡ length text - (length text - length end) = ap length is ∙ length-drop (length text - length end) text in
     let place : length text - 1 ≡ (length text - length end) + (length end - 1) = omega (arith, size, some) in
-    ap (λ n. get_or text n 0) place ∙ sym (get_or-drop (length text - length end) text (length end - 1) 0) ∙ ap (λ t. get_or t (length end - 1) 0) (sym is)
+    ap (λ n. get_or text n 0) place ∙ sym (get_or-drop (length text - length end) text (length end - 1) 0)
+    ∙ ap (λ t. get_or t (length end - 1) 0) (sym is)
 
-pub not_alike : (text end : List ℕ) (last wanted : ℕ) → 0 < length end → last ≡ get_or text (length text - 1) 0 → wanted ≡ get_or end (length end - 1) 0
+pub not_alike : (text end : List ℕ) (last wanted : ℕ) → 0 < length end → last ≡ get_or text (length text - 1) 0
+    → wanted ≡ get_or end (length end - 1) 0
     → (last == wanted) ≡ false → ends_with nat_eq text end ≡ false
 not_alike text end last wanted some last_at wanted_at differ = by (ends_with nat_eq text end) refl
   where
@@ -28,7 +31,7 @@ not_alike text end last wanted some last_at wanted_at differ = by (ends_with nat
 pub some_there : (n : ℕ) (empty : Bool) → empty ≡ (n == 0) → empty ≡ false → 0 < n
 some_there n empty tests is = grind (arith, nat_tests)
 
--- so a key that ends otherwise is no suffix
+-- so a key with another end is not a suffix
 pub is_no_suffix : (name key : List ℕ) → ends_with nat_eq name key ≡ false → false ≡ is_suffix_of name key
 is_no_suffix name key differ = sym (by (begins_with_at key) (nat_lt (length key) (length name)) (ends_with nat_eq name key) differ)
   where

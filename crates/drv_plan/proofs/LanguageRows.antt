@@ -8,7 +8,7 @@ use Rattle.drv_specs.specs.Sets.{Set, no_specs}
 use Rattle.std.proofs.Common.{◌≡◌, ◌++◌, Err, List, [], ◌∷◌, None, Ok, Option, Result, Some, refl, ℕ}
 use Rattle.std.specs.Prelude.{codes}
 
--- The languages of inputs, by computation. The built-in texts of languages are told apart by their first bytes.
+-- Examples of the languages of inputs, which the prover computes. Built-in texts of languages are recognized by their first bytes.
 
 abbrev file : List ℕ → Input
 file name = File name None
@@ -17,15 +17,15 @@ file name = File name None
 abbrev in_language : List ℕ → List ℕ → Input
 in_language language name = File name (Some language)
 
--- the built-in specs with further pairs
+-- the built-in specs with more pairs
 abbrev with_pairs : List (List ℕ × List ℕ) → Set
 with_pairs pairs = record { named = builtin_named; pairs = builtin_pairs ++ pairs }
 
--- a set of these pairs alone
+-- a set of only these pairs
 abbrev of_pairs : List (List ℕ × List ℕ) → Set
 of_pairs pairs = record { named = []; pairs = pairs }
 
--- what is chosen: no language for a text of a suffix
+-- the chosen language; a text of a suffix has none
 pub data Shown : Type 0 where
   InLanguage : List ℕ → Shown
   InText : List ℕ → Shown
@@ -180,13 +180,14 @@ end_of_the_name : shown (chosen_for builtin_specs (file (codes "d.o/.c"))) ≡ I
 unfolding builtin_named builtin_pairs
 end_of_the_name = refl
 
--- standard input is in C
+-- standard input is C
 standard_input : shown (chosen_for builtin_specs (file (codes "-"))) ≡ InLanguage (codes "c")
 unfolding builtin_named builtin_pairs
 standard_input = refl
 
--- unless -x says otherwise
-standard_input_in_a_language : shown (chosen_for builtin_specs (in_language (codes "assembler") (codes "-"))) ≡ InLanguage (codes "assembler")
+-- unless -x names another language
+standard_input_in_a_language : shown (chosen_for builtin_specs (in_language (codes "assembler") (codes "-"))) ≡ InLanguage
+    (codes "assembler")
 unfolding builtin_named builtin_pairs
 standard_input_in_a_language = refl
 
@@ -195,7 +196,7 @@ language_before_suffix : shown (chosen_for builtin_specs (in_language (codes "cp
 unfolding builtin_named builtin_pairs
 language_before_suffix = refl
 
--- -x c, for a file of no suffix
+-- -x c, for a file without a suffix
 language_without_suffix : shown (chosen_for builtin_specs (in_language (codes "c") (codes "f"))) ≡ InLanguage (codes "c")
 unfolding builtin_named builtin_pairs
 language_without_suffix = refl
@@ -230,7 +231,7 @@ empty_language : shown (chosen_for builtin_specs (in_language [] (codes "a.c")))
 unfolding builtin_named builtin_pairs
 empty_language = refl
 
--- a suffix is no language
+-- a suffix is not a language
 suffix_is_no_language : shown (chosen_for builtin_specs (in_language (codes ".c") (codes "a.c"))) ≡ Unknown (codes ".c")
 unfolding builtin_named builtin_pairs
 suffix_is_no_language = refl
@@ -245,28 +246,32 @@ a_word_for_the_linker : shown (chosen_for builtin_specs (LinkWord (codes "x.c"))
 unfolding builtin_named builtin_pairs
 a_word_for_the_linker = refl
 
--- a further suffix
+-- one more suffix
 further_suffix : shown (chosen_for (with_pairs ((codes ".ZZ", codes "@c") ∷ [])) (file (codes "f.ZZ"))) ≡ InLanguage (codes "c")
 unfolding builtin_named builtin_pairs
 further_suffix = refl
 
 -- the last pair counts
-last_pair : shown (chosen_for (with_pairs ((codes ".ZZ", codes "@c") ∷ (codes ".ZZ", codes "#Zed") ∷ [])) (file (codes "f.ZZ"))) ≡ Absent (codes "Zed")
+last_pair : shown (chosen_for (with_pairs ((codes ".ZZ", codes "@c") ∷ (codes ".ZZ", codes "#Zed") ∷ [])) (file (codes "f.ZZ")))
+    ≡ Absent (codes "Zed")
 unfolding builtin_named builtin_pairs
 last_pair = refl
 
--- and not the last refusal
-last_pair_again : shown (chosen_for (with_pairs ((codes ".ZZ", codes "#Zed") ∷ (codes ".ZZ", codes "@c") ∷ [])) (file (codes "f.ZZ"))) ≡ InLanguage (codes "c")
+-- even if a refusal comes before it
+last_pair_again : shown (chosen_for (with_pairs ((codes ".ZZ", codes "#Zed") ∷ (codes ".ZZ", codes "@c") ∷ [])) (file (codes "f.ZZ")))
+    ≡ InLanguage (codes "c")
 unfolding builtin_named builtin_pairs
 last_pair_again = refl
 
--- a later pair counts, though a longer suffix stands before it
-later_counts : shown (chosen_for (of_pairs ((codes ".tar.q", codes "#long") ∷ (codes ".q", codes "#short") ∷ [])) (file (codes "f.tar.q"))) ≡ Absent (codes "short")
+-- a later pair counts, even after a longer suffix
+later_counts : shown (chosen_for (of_pairs ((codes ".tar.q", codes "#long") ∷ (codes ".q", codes "#short") ∷ [])) (file (codes "f.tar.q")))
+    ≡ Absent (codes "short")
 unfolding builtin_named builtin_pairs
 later_counts = refl
 
--- and the longer one where it is the later
-later_counts_again : shown (chosen_for (of_pairs ((codes ".q", codes "#short") ∷ (codes ".tar.q", codes "#long") ∷ [])) (file (codes "f.tar.q"))) ≡ Absent (codes "long")
+-- and the longer suffix counts if it comes later
+later_counts_again : shown (chosen_for (of_pairs ((codes ".q", codes "#short") ∷ (codes ".tar.q", codes "#long") ∷ []))
+    (file (codes "f.tar.q"))) ≡ Absent (codes "long")
 unfolding builtin_named builtin_pairs
 later_counts_again = refl
 
@@ -280,12 +285,12 @@ whole_name : shown (chosen_for (of_pairs ((codes ".q", codes "#Q") ∷ [])) (fil
 unfolding builtin_named builtin_pairs
 whole_name = refl
 
--- a suffix with a text of its own
+-- a suffix with its own text
 text_of_a_suffix : shown (chosen_for (of_pairs ((codes ".q", codes "prog %i") ∷ [])) (file (codes "f.q"))) ≡ InText (codes "prog %i")
 unfolding builtin_named builtin_pairs
 text_of_a_suffix = refl
 
--- and with an empty one
+-- and with an empty text
 empty_text_of_a_suffix : shown (chosen_for (of_pairs ((codes ".q", []) ∷ [])) (file (codes "f.q"))) ≡ InText []
 unfolding builtin_named builtin_pairs
 empty_text_of_a_suffix = refl
@@ -295,8 +300,9 @@ alias_of_an_unknown_language : shown (chosen_for (of_pairs ((codes ".q", codes "
 unfolding builtin_named builtin_pairs
 alias_of_an_unknown_language = refl
 
--- an alias of one that is not installed
-alias_of_an_absent_language : shown (chosen_for (of_pairs ((codes ".q", codes "@Q") ∷ (codes "@Q", codes "#Queue") ∷ [])) (file (codes "f.q"))) ≡ Absent (codes "Queue")
+-- an alias of a language that isn't installed
+alias_of_an_absent_language : shown (chosen_for (of_pairs ((codes ".q", codes "@Q") ∷ (codes "@Q", codes "#Queue") ∷ []))
+    (file (codes "f.q"))) ≡ Absent (codes "Queue")
 unfolding builtin_named builtin_pairs
 alias_of_an_absent_language = refl
 
@@ -306,21 +312,23 @@ unfolding builtin_named builtin_pairs
 last_pair_of_a_language = refl
 
 -- an alias is followed once
-alias_followed_once : shown (chosen_for (of_pairs ((codes ".q", codes "@Q") ∷ (codes "@Q", codes "@R") ∷ (codes "@R", codes "prog") ∷ [])) (file (codes "f.q"))) ≡ Unknown (codes "Q")
+alias_followed_once : shown (chosen_for (of_pairs ((codes ".q", codes "@Q") ∷ (codes "@Q", codes "@R") ∷ (codes "@R", codes "prog") ∷ []))
+    (file (codes "f.q"))) ≡ Unknown (codes "Q")
 unfolding builtin_named builtin_pairs
 alias_followed_once = refl
 
--- an @ and no name is a text
-no_alias : shown (chosen_for (of_pairs ((codes ".q", codes "@Q x") ∷ (codes ".r", codes "@") ∷ [])) (file (codes "f.q"))) ≡ InText (codes "@Q x")
+-- an @ without a name is a text
+no_alias : shown (chosen_for (of_pairs ((codes ".q", codes "@Q x") ∷ (codes ".r", codes "@") ∷ [])) (file (codes "f.q")))
+    ≡ InText (codes "@Q x")
 unfolding builtin_named builtin_pairs
 no_alias = refl
 
--- standard input where no pair has the language c
+-- standard input if no pair has the language c
 standard_input_without_c : shown (chosen_for no_specs (file (codes "-"))) ≡ Unknown (codes "c")
 unfolding builtin_named builtin_pairs
 standard_input_without_c = refl
 
--- a key of a language is no suffix
+-- the key of a language is not a suffix
 key_of_a_language : shown (chosen_for (of_pairs ((codes "@c", codes "#C") ∷ [])) (file (codes "f@c"))) ≡ ForLinker
 unfolding builtin_named builtin_pairs
 key_of_a_language = refl

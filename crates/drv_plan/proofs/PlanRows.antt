@@ -17,7 +17,7 @@ use Rattle.std.proofs.Common.{◌≡◌, Err, List, [], ◌∷◌, None, Ok, Opt
 use Rattle.std.specs.Fmt.{digits}
 use Rattle.std.specs.Prelude.{codes}
 
--- Plans by computation, where nothing is searched for and TMPDIR is unset.
+-- Examples of plans, which the prover computes. No name is searched for, and TMPDIR is unset.
 
 abbrev facts : Facts
 facts = record no_facts { variables = (codes "TMPDIR", None) ∷ [] }
@@ -31,7 +31,18 @@ line_of switches inputs = record {
   inputs = inputs;
   asm_opts = [];
   cpp_opts = [];
-  settings = record { dry = false; verbose = false; dump = false; pass_codes = false; pipe = false; from_file = false; output = None; specs = []; prefixes = []; jobs = 1 };
+  settings = record {
+    dry = false;
+    verbose = false;
+    dump = false;
+    pass_codes = false;
+    pipe = false;
+    from_file = false;
+    output = None;
+    specs = [];
+    prefixes = [];
+    jobs = 1;
+  };
 }
 
 -- a plan with the seed 0000002a
@@ -49,9 +60,16 @@ abbrev pub temps_of : List (List ℕ) → List Temp
 temps_of paths = map (λ path. record { path = path; contents = [] }) paths
 
 abbrev pub job : Option ℕ → List (List Command) → List (List ℕ) → Option (List ℕ) → Job
-job source groups temps output = record { source = source; groups = groups; temps = temps_of temps; marked = []; on_failure = []; output = output }
+job source groups temps output = record {
+  source = source;
+  groups = groups;
+  temps = temps_of temps;
+  marked = [];
+  on_failure = [];
+  output = output;
+}
 
--- files of C are worked with this text, and the link with that one
+-- C files use the first text, and the link uses the second
 abbrev with_texts : List ℕ → List ℕ → Set
 with_texts text link = record {
   named = (codes "link_command", link) ∷ [];
@@ -64,29 +82,34 @@ no_link = record (with_texts [] []) { named = [] }
 abbrev compiling : Set
 compiling = with_texts (codes "cc %i -o %w%u.o %x{-q}") (codes "ld %o %X")
 
--- files, libraries and words in their places; the running number and the options of %x go on
-outputs_in_order : plan compiling [] (file (codes "a.c") ∷ Library (codes "-lm") ∷ file (codes "b.o") ∷ LinkWord (codes "-z") ∷ file (codes "c.c") ∷ [])
+-- files, libraries and words keep their places; the number of temporaries and the options of %x go on from text to text
+outputs_in_order : plan compiling [] (file (codes "a.c") ∷ Library (codes "-lm") ∷ file (codes "b.o") ∷ LinkWord (codes "-z") ∷ file
+    (codes "c.c") ∷ [])
     ≡ Is (Ok (record {
       notices = [];
       jobs =
-          job (Some 0) (command (codes "cc") (codes "a.c" ∷ codes "-o" ∷ codes "/tmp/cc0000002a_1.o" ∷ []) ∷ []) (codes "/tmp/cc0000002a_1.o" ∷ []) (Some (codes "/tmp/cc0000002a_1.o"))
-          ∷ job (Some 4) (command (codes "cc") (codes "c.c" ∷ codes "-o" ∷ codes "/tmp/cc0000002a_2.o" ∷ []) ∷ []) (codes "/tmp/cc0000002a_2.o" ∷ []) (Some (codes "/tmp/cc0000002a_2.o"))
+          job (Some 0) (command (codes "cc") (codes "a.c" ∷ codes "-o" ∷ codes "/tmp/cc0000002a_1.o" ∷ []) ∷ [])
+          (codes "/tmp/cc0000002a_1.o" ∷ []) (Some (codes "/tmp/cc0000002a_1.o"))
+          ∷ job (Some 4) (command (codes "cc") (codes "c.c" ∷ codes "-o" ∷ codes "/tmp/cc0000002a_2.o" ∷ []) ∷ [])
+          (codes "/tmp/cc0000002a_2.o" ∷ []) (Some (codes "/tmp/cc0000002a_2.o"))
           ∷ [];
-      link = Some (job None (command (codes "ld") (codes "/tmp/cc0000002a_1.o" ∷ codes "-lm" ∷ codes "b.o" ∷ codes "-z" ∷ codes "/tmp/cc0000002a_2.o" ∷ codes "-q" ∷ []) ∷ []) [] None);
+      link = Some (job None (command (codes "ld") (codes "/tmp/cc0000002a_1.o" ∷ codes "-lm" ∷ codes "b.o" ∷ codes "-z" ∷ codes
+          "/tmp/cc0000002a_2.o" ∷ codes "-q" ∷ []) ∷ []) [] None);
     }))
 unfolding digits
 outputs_in_order = refl
 
--- without a text for the link each file of the linker's is told, and no library
+-- without a text for the link there is a notice for each file of the linker, but not for libraries
 unused_files : plan no_link [] (file (codes "a.o") ∷ Library (codes "-lm") ∷ file (codes "b") ∷ [])
     ≡ Is (Ok (record {
-      notices = codes "warning: a.o: linker input file unused because linking not done" ∷ codes "warning: b: linker input file unused because linking not done" ∷ [];
+      notices = codes "warning: a.o: linker input file unused because linking not done" ∷ codes
+          "warning: b: linker input file unused because linking not done" ∷ [];
       jobs = [];
       link = None;
     }))
 unused_files = refl
 
--- what texts tell comes first, that of the link's too; a link without a command is none
+-- the notices of texts come first, including that of the link's text; a link without a command is none
 notices_in_order : plan (with_texts (codes "%nhello\nprog") (codes "%nlinked\n")) [] (file (codes "b.o") ∷ file (codes "a.c") ∷ [])
     ≡ Is (Ok (record {
       notices = codes "note: hello" ∷ codes "note: linked" ∷ codes "warning: b.o: linker input file unused because linking not done" ∷ [];
@@ -95,30 +118,36 @@ notices_in_order : plan (with_texts (codes "%nhello\nprog") (codes "%nlinked\n")
     }))
 notices_in_order = refl
 
--- a switch that one text hides is there for the next one
-hidden_in_one_text : plan (with_texts (codes "prog %{a} %<a") []) (record { name = codes "a"; arg = None } ∷ []) (file (codes "a.c") ∷ file (codes "b.c") ∷ [])
+-- a switch that one text hides is visible in the next one
+hidden_in_one_text : plan (with_texts (codes "prog %{a} %<a") []) (record { name = codes "a"; arg = None } ∷ [])
+    (file (codes "a.c") ∷ file (codes "b.c") ∷ [])
     ≡ Is (Ok (record {
       notices = [];
-      jobs = job (Some 0) (command (codes "prog") (codes "-a" ∷ []) ∷ []) [] None ∷ job (Some 1) (command (codes "prog") (codes "-a" ∷ []) ∷ []) [] None ∷ [];
+      jobs = job (Some 0) (command (codes "prog") (codes "-a" ∷ []) ∷ []) [] None ∷ job (Some 1)
+          (command (codes "prog") (codes "-a" ∷ []) ∷ []) [] None ∷ [];
       link = None;
     }))
 hidden_in_one_text = refl
 
--- without an output the text of the link isn't worked
+-- without an output the text of the link isn't used
 nothing_linked : plan (with_texts (codes "prog %i") (codes "%ebad")) [] (file (codes "a.c") ∷ [])
     ≡ Is (Ok (record { notices = []; jobs = job (Some 0) (command (codes "prog") (codes "a.c" ∷ []) ∷ []) [] None ∷ []; link = None }))
 nothing_linked = refl
 
--- the first refusal in the order of the inputs, with the link after them
-first_refusal : plan compiling [] (file (codes "a.c") ∷ file (codes "b.z") ∷ File (codes "c") (Some (codes "foo")) ∷ []) ≡ Is (Err (NotInstalled (codes "Zed")))
+-- the first refusal in the order of the inputs; the link comes last
+first_refusal : plan compiling [] (file (codes "a.c") ∷ file (codes "b.z") ∷ File (codes "c") (Some (codes "foo")) ∷ [])
+    ≡ Is (Err (NotInstalled (codes "Zed")))
 unfolding digits
 first_refusal = refl
 
-other_first_refusal : plan compiling [] (File (codes "c") (Some (codes "foo")) ∷ file (codes "b.z") ∷ []) ≡ Is (Err (UnknownLanguage (codes "foo")))
+other_first_refusal : plan compiling [] (File (codes "c") (Some (codes "foo")) ∷ file (codes "b.z") ∷ [])
+    ≡ Is (Err (UnknownLanguage (codes "foo")))
 other_first_refusal = refl
 
-refused_before_link : plan (with_texts (codes "%etext") (codes "%elink")) [] (file (codes "b.o") ∷ file (codes "a.c") ∷ []) ≡ Is (Err (Machine (UserError (codes "text"))))
+refused_before_link : plan (with_texts (codes "%etext") (codes "%elink")) [] (file (codes "b.o") ∷ file (codes "a.c") ∷ [])
+    ≡ Is (Err (Machine (UserError (codes "text"))))
 refused_before_link = refl
 
-refused_in_link : plan (with_texts (codes "%etext") (codes "%elink")) [] (file (codes "b.o") ∷ []) ≡ Is (Err (Machine (UserError (codes "link"))))
+refused_in_link : plan (with_texts (codes "%etext") (codes "%elink")) [] (file (codes "b.o") ∷ [])
+    ≡ Is (Err (Machine (UserError (codes "link"))))
 refused_in_link = refl

@@ -3,20 +3,23 @@ use Rattle.drv_args.specs.declared.line.Input.{Input}
 use Rattle.drv_args.specs.declared.line.Line.{Line}
 use Rattle.drv_machine.specs.Context.{Context}
 use Rattle.drv_plan.specs.Denoted.{Planned, begun, context_of, denoted, finished, planned, then_by, with_file, with_input, with_inputs}
-use Rattle.drv_plan.specs.Languages.{Alias, Missing, PairText, Worked, by_language, by_suffix, chosen, in_language, is_of_language, is_standard_input, is_suffix_of, chosen_for, last_pair, last_text, or_before, pair_meaning, with_suffix}
+use Rattle.drv_plan.specs.Languages.{Alias, Missing, PairText, Worked, by_language, by_suffix, chosen, in_language, is_of_language}
+use Rattle.drv_plan.specs.Languages.{is_standard_input, is_suffix_of, chosen_for, last_pair, last_text, or_before, pair_meaning}
+use Rattle.drv_plan.specs.Languages.{with_suffix}
 use Rattle.drv_plan.specs.declared.progress.Progress.{Progress}
 use Rattle.drv_search.specs.Search.{prefixes_of}
 use Rattle.drv_specs.specs.Dumping.{doubled}
 use Rattle.drv_specs.specs.Sets.{Set}
 use Rattle.drv_system.specs.Facts.{Facts}
 use Rattle.drv_system.specs.Known.{◌>>=◌, Is, Known, Unasked}
-use Rattle.std.proofs.Common.{◌≡◌, ◌+◌, ◌∙◌, Bool, List, [], ◌∷◌, ◌++◌, Err, None, Ok, Option, Some, ap, false, if◌then◌else◌, refl, true, ℕ}
+use Rattle.std.proofs.Common.{◌≡◌, ◌+◌, ◌∙◌, Bool, List, [], ◌∷◌, ◌++◌, Err, None, Ok, Option, Some, ap, false, if◌then◌else◌, refl, true}
+use Rattle.std.proofs.Common.{ℕ}
 use Rattle.std.specs.Option.{option_map}
 use Rattle.std.specs.Prelude.{codes}
 
--- A set whose pairs stand once more after themselves gives the same plans.
+-- For reload_law: a set whose list of pairs is repeated gives the same plans.
 
--- of two, the later one where it is there
+-- the later of two, if there is one
 abbrev or_first : Option (List ℕ) → Option (List ℕ) → Option (List ℕ)
 or_first None first = first
 or_first (Some later) first = Some later
@@ -29,15 +32,18 @@ or_same : (later : Option (List ℕ)) → or_first later later ≡ later
 or_same None = refl
 or_same (Some later) = refl
 
-before_first : (later first : Option (List ℕ)) (hit : Bool) (text : List ℕ) → or_before (or_first later first) hit text ≡ or_first later (or_before first hit text)
+before_first : (later first : Option (List ℕ)) (hit : Bool) (text : List ℕ) → or_before (or_first later first) hit text ≡ or_first later
+    (or_before first hit text)
 before_first None first hit text = refl
 before_first (Some later) first hit text = refl
 
--- the last pair of two lists is that of the second one where it has one
-last_both : (fits : List ℕ → Bool) (front back : List (List ℕ × List ℕ)) → last_text fits (front ++ back) ≡ or_first (last_text fits back) (last_text fits front)
+-- the last pair of two lists is that of the second list, if that has one
+last_both : (fits : List ℕ → Bool) (front back : List (List ℕ × List ℕ)) → last_text fits (front ++ back) ≡ or_first (last_text fits back)
+    (last_text fits front)
 last_both fits [] back = or_none (last_text fits back)
 last_both fits (pair ∷ front) back =
-    ap (λ others. or_before others (fits pair.0) pair.1) (last_both fits front back) ∙ before_first (last_text fits back) (last_text fits front) (fits pair.0) pair.1
+    ap (λ others. or_before others (fits pair.0) pair.1) (last_both fits front back) ∙ before_first (last_text fits back)
+    (last_text fits front) (fits pair.0) pair.1
 
 last_doubled : (fits : List ℕ → Bool) (pairs : List (List ℕ × List ℕ)) → last_text fits (pairs ++ pairs) ≡ last_text fits pairs
 last_doubled fits pairs = last_both fits pairs pairs ∙ or_same (last_text fits pairs)
@@ -65,36 +71,43 @@ either_alike false a a' b b' first second = second
 pub language_doubled : (set : Set) (input : Input) → chosen_for (doubled set) input ≡ chosen_for set input
 language_doubled set (File name (Some language)) = ap chosen (by_language_doubled set language)
 language_doubled set (File name None) =
-    either_alike (is_standard_input name) (chosen (by_language (doubled set) (codes "c"))) (chosen (by_language set (codes "c"))) (by_suffix (doubled set) name) (by_suffix set name)
+    either_alike (is_standard_input name) (chosen (by_language (doubled set) (codes "c"))) (chosen (by_language set (codes "c")))
+    (by_suffix (doubled set) name) (by_suffix set name)
     (ap chosen (by_language_doubled set (codes "c"))) (by_suffix_doubled set name)
 language_doubled set (Library word) = refl
 language_doubled set (LinkWord word) = refl
 
--- the plan sees of a set the languages of inputs and the named texts
-then_alike : {X Y : Type 0} (step : Planned X) (next next' : X → Planned Y) → ((x : X) → next x ≡ next' x) → then_by step next ≡ then_by step next'
+-- a plan depends on a set only by the languages of inputs and by the named texts
+then_alike : {X Y : Type 0} (step : Planned X) (next next' : X → Planned Y) → ((x : X) → next x ≡ next' x)
+    → then_by step next ≡ then_by step next'
 then_alike Unasked next next' same = refl
 then_alike (Is (Ok x)) next next' same = same x
 then_alike (Is (Err fault)) next next' same = refl
 
-input_doubled : (F : Facts) (set : Set) (place : ℕ) (input : Input) (g : Progress) → with_input F (doubled set) place input g ≡ with_input F set place input g
+input_doubled : (F : Facts) (set : Set) (place : ℕ) (input : Input) (g : Progress) → with_input F (doubled set) place input g
+    ≡ with_input F set place input g
 input_doubled F set place (File name language) g = ap (λ r. with_file F place name r g) (language_doubled set (File name language))
 input_doubled F set place (Library word) g = refl
 input_doubled F set place (LinkWord word) g = refl
 
-inputs_doubled : (F : Facts) (set : Set) (place : ℕ) (inputs : List Input) (g : Progress) → with_inputs F (doubled set) place inputs g ≡ with_inputs F set place inputs g
+inputs_doubled : (F : Facts) (set : Set) (place : ℕ) (inputs : List Input) (g : Progress) → with_inputs F (doubled set) place inputs g
+    ≡ with_inputs F set place inputs g
 inputs_doubled F set place [] g = refl
 inputs_doubled F set place (input ∷ inputs) g =
     ap (λ step. then_by step (λ g'. with_inputs F (doubled set) (place + 1) inputs g')) (input_doubled F set place input g)
-    ∙ then_alike (with_input F set place input g) (λ g'. with_inputs F (doubled set) (place + 1) inputs g') (λ g'. with_inputs F set (place + 1) inputs g') (λ g'. inputs_doubled F set (place + 1) inputs g')
+    ∙ then_alike (with_input F set place input g) (λ g'. with_inputs F (doubled set) (place + 1) inputs g')
+    (λ g'. with_inputs F set (place + 1) inputs g') (λ g'. inputs_doubled F set (place + 1) inputs g')
 
 planned_doubled : (F : Facts) (set : Set) (inputs : List Input) (C : Context) → planned F (doubled set) inputs C ≡ planned F set inputs C
 planned_doubled F set inputs C = ap (λ step. then_by step (λ g. finished F set g)) (inputs_doubled F set 0 inputs (begun C))
 
-known_alike : {X Y : Type 0} (known : Known X) (next next' : X → Known Y) → ((x : X) → next x ≡ next' x) → (known >>= next) ≡ (known >>= next')
+known_alike : {X Y : Type 0} (known : Known X) (next next' : X → Known Y) → ((x : X) → next x ≡ next' x)
+    → (known >>= next) ≡ (known >>= next')
 known_alike Unasked next next' same = refl
 known_alike (Is x) next next' same = same x
 
 pub denoted_doubled : (F : Facts) (line : Line) (set : Set) (seed : ℕ) → denoted F line (doubled set) seed ≡ denoted F line set seed
 denoted_doubled F line set seed =
-    known_alike (prefixes_of F line.settings.prefixes) (λ prefixes. planned F (doubled set) line.inputs (context_of line (doubled set) prefixes seed)) (λ prefixes. planned F set line.inputs (context_of line set prefixes seed))
+    known_alike (prefixes_of F line.settings.prefixes) (λ prefixes. planned F (doubled set) line.inputs
+    (context_of line (doubled set) prefixes seed)) (λ prefixes. planned F set line.inputs (context_of line set prefixes seed))
     (λ prefixes. planned_doubled F set line.inputs (context_of line set prefixes seed))

@@ -5,9 +5,12 @@ use Rattle.drv_machine.specs.Context.{Context, Source}
 use Rattle.drv_machine.specs.Outcome.{outcome}
 use Rattle.drv_machine.specs.Working.{Answer}
 use Rattle.drv_machine.specs.declared.outcome.Outcome.{Outcome}
-use Rattle.drv_plan.specs.Denoted.{Planned, after_job, after_text, begun, context_of, denoted, finished, for_link, for_source, linked, of_source, of_text, output_list, plan_of, planned, then_by, unused, with_file, with_inputs, with_link, with_text}
+use Rattle.drv_plan.specs.Denoted.{Planned, after_job, after_text, begun, context_of, denoted, finished, for_link, for_source, linked}
+use Rattle.drv_plan.specs.Denoted.{of_source, of_text, output_list, plan_of, planned, then_by, unused, with_file, with_inputs, with_link}
+use Rattle.drv_plan.specs.Denoted.{with_text}
 use Rattle.drv_plan.specs.Languages.{Chosen, chosen_for}
-use Rattle.drv_plan.specs.Plans.{EachWorked, IsPlanOf, LinkIs, Object, Part, Word, context_after, file_part, jobs_of, last, link_text, link_words, objects, parts}
+use Rattle.drv_plan.specs.Plans.{EachWorked, IsPlanOf, LinkIs, Object, Part, Word, context_after, file_part, jobs_of, last, link_text}
+use Rattle.drv_plan.specs.Plans.{link_words, objects, parts}
 use Rattle.drv_plan.specs.declared.fault.PlanFault.{PlanFault}
 use Rattle.drv_plan.specs.declared.progress.Progress.{Progress}
 use Rattle.drv_search.specs.Search.{prefixes_of}
@@ -18,13 +21,14 @@ use Rattle.drv_system.specs.Facts.{Facts}
 use Rattle.drv_system.specs.Known.{◌>>=◌, Is, Known, Unasked}
 use Rattle.drv_words.specs.declared.plan.Job.{Job}
 use Rattle.drv_words.specs.declared.plan.Plan.{Plan}
-use Rattle.std.proofs.Common.{[], ◌≡◌, ◌+◌, ◌∙◌, Bool, List, ◌∷◌, ◌++◌, Err, None, Ok, Option, Result, Some, ap, append-nil, append_assoc, false, if◌then◌else◌, length, refl, subst, sym, true, ℕ}
+use Rattle.std.proofs.Common.{[], ◌≡◌, ◌+◌, ◌∙◌, Bool, List, ◌∷◌, ◌++◌, Err, None, Ok, Option, Result, Some, ap, append-nil, append_assoc}
+use Rattle.std.proofs.Common.{false, if◌then◌else◌, length, refl, subst, sym, true, ℕ}
 use Rattle.std.specs.List.{flat_map}
 use Rattle.std.specs.Prelude.{◌==◌, codes}
 
--- The definition of a plan gives the plan that its texts tell.
+-- For plan_law: the defined plan is the one that the outcomes of its texts give.
 
--- how far a plan is after a text
+-- the progress after a text
 abbrev state : Context → Option Outcome → Option Source → List (List ℕ) → List Job → List (List ℕ) → List (List ℕ) → Progress
 state C before input notes jobs words names = record {
   context = record (context_after before C) { input = input };
@@ -34,27 +38,32 @@ state C before input notes jobs words names = record {
   passed_on = names;
 }
 
--- after these parts as well, with what they come to
+-- the progress after these parts too, with their results
 record Ran (F : Facts) (C : Context) (before : Option Outcome) (ps : List Part) (notes : List (List ℕ)) (jobs : List Job) (words names : List (List ℕ)) (g : Progress) : Type 0 where
   outcomes : List Outcome
   input : Option Source
   each : EachWorked F C before ps outcomes
-  is : g ≡ state C (last before outcomes) input (notes ++ flat_map (λ o. o.notices) outcomes) (jobs ++ jobs_of ps outcomes) (words ++ link_words ps outcomes) (names ++ objects ps)
+  is : g ≡ state C (last before outcomes) input (notes ++ flat_map (λ o. o.notices) outcomes) (jobs ++ jobs_of ps outcomes)
+      (words ++ link_words ps outcomes) (names ++ objects ps)
 
-same_state : (C : Context) (b : Option Outcome) (i : Option Source) {ns ns' : List (List ℕ)} {js js' : List Job} {ws ws' zs zs' : List (List ℕ)}
+same_state : (C : Context) (b : Option Outcome) (i : Option Source) {ns ns' : List (List ℕ)} {js js' : List Job}
+    {ws ws' zs zs' : List (List ℕ)}
     → ns ≡ ns' → js ≡ js' → ws ≡ ws' → zs ≡ zs' → state C b i ns js ws zs ≡ state C b i ns' js' ws' zs'
-same_state C b i {ns' = ns'} {js = js} {js' = js'} {ws = ws} {ws' = ws'} {zs = zs} p q r s = ap (λ l. state C b i l js ws zs) p ∙ ap (λ l. state C b i ns' l ws zs) q ∙ ap (λ l. state C b i ns' js' l zs) r ∙ ap (λ l. state C b i ns' js' ws' l) s
+same_state C b i {ns' = ns'} {js = js} {js' = js'} {ws = ws} {ws' = ws'} {zs = zs} p q r s = ap (λ l. state C b i l js ws zs) p
+    ∙ ap (λ l. state C b i ns' l ws zs) q ∙ ap (λ l. state C b i ns' js' l zs) r ∙ ap (λ l. state C b i ns' js' ws' l) s
 
--- what a text comes to: its job, and how far the plan is then
+-- the result of a text: its job, and the progress after it
 abbrev with_outcome : Progress → Outcome → Planned (Job × Progress)
 with_outcome g o = Is (Ok (o.job, after_text o g))
 
--- what follows a part, if it leads on
+-- the rest of the plan after a part, if that succeeds
 abbrev Follows : Facts → Context → List Part → (Progress → Planned Progress) → Progress → Type 0
-Follows F C ps next g = (before : Option Outcome) (input : Option Source) (notes : List (List ℕ)) (jobs : List Job) (words names : List (List ℕ))
+Follows F C ps next g = (before : Option Outcome) (input : Option Source) (notes : List (List ℕ)) (jobs : List Job)
+    (words names : List (List ℕ))
     → next (state C before input notes jobs words names) ≡ Is (Ok g) → Ran F C before ps notes jobs words names g
 
-a_word : (F : Facts) (C : Context) (before : Option Outcome) (word : List ℕ) (ps : List Part) (notes : List (List ℕ)) (jobs : List Job) (words names : List (List ℕ)) (g : Progress)
+a_word : (F : Facts) (C : Context) (before : Option Outcome) (word : List ℕ) (ps : List Part) (notes : List (List ℕ)) (jobs : List Job)
+    (words names : List (List ℕ)) (g : Progress)
     → Ran F C before ps notes jobs (words ++ word ∷ []) names g → Ran F C before (Word word ∷ ps) notes jobs words names g
 a_word F C before word ps notes jobs words names g r = record {
   outcomes = r.outcomes;
@@ -63,50 +72,67 @@ a_word F C before word ps notes jobs words names g r = record {
   is = r.is ∙ same_state C (last before r.outcomes) r.input refl refl (append_assoc words (word ∷ []) (link_words ps r.outcomes)) refl;
 }
 
-an_object : (F : Facts) (C : Context) (before : Option Outcome) (name : List ℕ) (ps : List Part) (notes : List (List ℕ)) (jobs : List Job) (words names : List (List ℕ)) (g : Progress)
+an_object : (F : Facts) (C : Context) (before : Option Outcome) (name : List ℕ) (ps : List Part) (notes : List (List ℕ)) (jobs : List Job)
+    (words names : List (List ℕ)) (g : Progress)
     → Ran F C before ps notes jobs (words ++ name ∷ []) (names ++ name ∷ []) g → Ran F C before (Object name ∷ ps) notes jobs words names g
 an_object F C before name ps notes jobs words names g r = record {
   outcomes = r.outcomes;
   input = r.input;
   each = r.each;
-  is = r.is ∙ same_state C (last before r.outcomes) r.input refl refl (append_assoc words (name ∷ []) (link_words ps r.outcomes)) (append_assoc names (name ∷ []) (objects ps));
+  is = r.is ∙ same_state C (last before r.outcomes) r.input refl refl (append_assoc words (name ∷ []) (link_words ps r.outcomes))
+      (append_assoc names (name ∷ []) (objects ps));
 }
 
-a_file : (F : Facts) (C : Context) (before : Option Outcome) (input : Option Source) (place : ℕ) (name : List ℕ) (r : Result (Option Chosen) PlanFault) (ps : List Part) (next : Progress → Planned Progress) (notes : List (List ℕ)) (jobs : List Job) (words names : List (List ℕ)) (g : Progress)
-    → Follows F C ps next g → then_by (with_file F place name r (state C before input notes jobs words names)) next ≡ Is (Ok g) → Ran F C before (file_part place name r ++ ps) notes jobs words names g
+a_file : (F : Facts) (C : Context) (before : Option Outcome) (input : Option Source) (place : ℕ) (name : List ℕ)
+    (r : Result (Option Chosen) PlanFault) (ps : List Part) (next : Progress → Planned Progress) (notes : List (List ℕ)) (jobs : List Job)
+    (words names : List (List ℕ)) (g : Progress)
+    → Follows F C ps next g → then_by (with_file F place name r (state C before input notes jobs words names)) next ≡ Is (Ok g)
+    → Ran F C before (file_part place name r ++ ps) notes jobs words names g
 a_file F C before input place name (Err fault) ps next notes jobs words names g follows e = absurd cc
-a_file F C before input place name (Ok None) ps next notes jobs words names g follows e = an_object F C before name ps notes jobs words names g (follows before input notes jobs (words ++ name ∷ []) (names ++ name ∷ []) e)
+a_file F C before input place name (Ok None) ps next notes jobs words names g follows e = an_object F C before name ps notes jobs words
+    names g (follows before input notes jobs (words ++ name ∷ []) (names ++ name ∷ []) e)
 a_file F C before input place name (Ok (Some c)) ps next notes jobs words names g follows e = by (outcome F (record (context_after before C) { input = Some source }) (tree_of c.text)) refl e
   where
     source : Source
     source = record { name = name; language = c.name }
 
     by : (answer : Answer Outcome) → outcome F (record (context_after before C) { input = Some (record { name = name; language = c.name }) }) (tree_of c.text) ≡ answer
-        → then_by (then_by (then_by (of_text answer) (with_outcome (for_source (record { name = name; language = c.name }) (state C before input notes jobs words names)))) (λ done. Is (Ok (after_job (of_source place done.0) done.1)))) next ≡ Is (Ok g)
+        → then_by (then_by (then_by (of_text answer)
+        (with_outcome (for_source (record { name = name; language = c.name }) (state C before input notes jobs words names))))
+        (λ done. Is (Ok (after_job (of_source place done.0) done.1)))) next ≡ Is (Ok g)
         → Ran F C before (file_part place name (Ok (Some c)) ++ ps) notes jobs words names g
     by Unasked is e = absurd cc
     by (Is (Err fault)) is e = absurd cc
-    by (Is (Ok o)) is e = let r = follows (Some o) (Some (record { name = name; language = c.name })) (notes ++ o.notices) (jobs ++ of_source place o.job ∷ []) (words ++ output_list o.job.output) names e in record {
-      outcomes = o ∷ r.outcomes;
-      input = r.input;
-      each = (is, r.each);
-      is = r.is ∙ same_state C (last (Some o) r.outcomes) r.input (append_assoc notes o.notices (flat_map (λ o. o.notices) r.outcomes)) (append_assoc jobs (of_source place o.job ∷ []) (jobs_of ps r.outcomes))
-          (append_assoc words (output_list o.job.output) (link_words ps r.outcomes)) refl;
-    }
+    by (Is (Ok o)) is e =
+        let r = follows (Some o) (Some (record { name = name; language = c.name })) (notes ++ o.notices) (jobs ++ of_source place o.job ∷ []) (words ++ output_list o.job.output) names e in
+        record {
+          outcomes = o ∷ r.outcomes;
+          input = r.input;
+          each = (is, r.each);
+          is = r.is ∙ same_state C (last (Some o) r.outcomes) r.input (append_assoc notes o.notices (flat_map (λ o. o.notices) r.outcomes))
+              (append_assoc jobs (of_source place o.job ∷ []) (jobs_of ps r.outcomes))
+              (append_assoc words (output_list o.job.output) (link_words ps r.outcomes)) refl;
+        }
 
-ran : (F : Facts) (C : Context) (set : Set) (place : ℕ) (inputs : List Input) (g : Progress) → Follows F C (parts set place inputs) (λ p. with_inputs F set place inputs p) g
+ran : (F : Facts) (C : Context) (set : Set) (place : ℕ) (inputs : List Input) (g : Progress)
+    → Follows F C (parts set place inputs) (λ p. with_inputs F set place inputs p) g
 ran F C set place [] g before input notes jobs words names e = record {
   outcomes = [];
   input = input;
   each = tt;
-  is = let at : g ≡ state C before input notes jobs words names = cc in at ∙ same_state C before input (sym (append-nil notes)) (sym (append-nil jobs)) (sym (append-nil words)) (sym (append-nil names));
+  is =
+      let at : g ≡ state C before input notes jobs words names = cc in
+      at ∙ same_state C before input (sym (append-nil notes)) (sym (append-nil jobs)) (sym (append-nil words)) (sym (append-nil names));
 }
 ran F C set place (File name language ∷ inputs) g before input notes jobs words names e =
-    a_file F C before input place name (chosen_for set (File name language)) (parts set (place + 1) inputs) (λ p. with_inputs F set (place + 1) inputs p) notes jobs words names g (ran F C set (place + 1) inputs g) e
+    a_file F C before input place name (chosen_for set (File name language)) (parts set (place + 1) inputs)
+    (λ p. with_inputs F set (place + 1) inputs p) notes jobs words names g (ran F C set (place + 1) inputs g) e
 ran F C set place (Library word ∷ inputs) g before input notes jobs words names e =
-    a_word F C before word (parts set (place + 1) inputs) notes jobs words names g (ran F C set (place + 1) inputs g before input notes jobs (words ++ word ∷ []) names e)
+    a_word F C before word (parts set (place + 1) inputs) notes jobs words names g (ran F C set (place + 1) inputs g before input notes jobs
+    (words ++ word ∷ []) names e)
 ran F C set place (LinkWord word ∷ inputs) g before input notes jobs words names e =
-    a_word F C before word (parts set (place + 1) inputs) notes jobs words names g (ran F C set (place + 1) inputs g before input notes jobs (words ++ word ∷ []) names e)
+    a_word F C before word (parts set (place + 1) inputs) notes jobs words names g (ran F C set (place + 1) inputs g before input notes jobs
+    (words ++ word ∷ []) names e)
 
 -- the link
 
@@ -117,46 +143,65 @@ record Ends (F : Facts) (C : Context) (text : Option (List ℕ)) (g : Progress) 
   notices_are : plan.notices ≡ g.notes ++ link_notes ++ unused plan.link g.passed_on
 
 with_no_link : (F : Facts) (C : Context) (g : Progress) → Ends F C None g (plan_of (None, g))
-with_no_link F C g = record { jobs_are = refl; link_notes = []; link_is = (refl, refl); notices_are = ap (λ l. l ++ unused None g.passed_on) (sym (append-nil g.notes)) }
+with_no_link F C g = record {
+  jobs_are = refl;
+  link_notes = [];
+  link_is = (refl, refl);
+  notices_are = ap (λ l. l ++ unused None g.passed_on)
+      (sym (append-nil g.notes));
+}
 
-ended : (F : Facts) (C : Context) (text : Option (List ℕ)) (g : Progress) (plan : Plan) → then_by (with_text F text g) (λ done. Is (Ok (plan_of done))) ≡ Is (Ok plan) → Ends F C text g plan
+ended : (F : Facts) (C : Context) (text : Option (List ℕ)) (g : Progress) (plan : Plan)
+    → then_by (with_text F text g) (λ done. Is (Ok (plan_of done))) ≡ Is (Ok plan) → Ends F C text g plan
 ended F C None g plan e = let at : plan_of (None, g) ≡ plan = cc in subst (λ p. Ends F C None g p) at (with_no_link F C g)
 ended F C (Some text) g plan e = by (outcome F (record g.context { input = None; outputs = g.outputs }) (tree_of text)) refl e
   where
     by : (answer : Answer Outcome) → outcome F (record g.context { input = None; outputs = g.outputs }) (tree_of text) ≡ answer
-        → then_by (then_by (then_by (of_text answer) (with_outcome (for_link g))) (λ done. Is (Ok (linked done)))) (λ done. Is (Ok (plan_of done))) ≡ Is (Ok plan)
+        → then_by (then_by (then_by (of_text answer) (with_outcome (for_link g))) (λ done. Is (Ok (linked done))))
+        (λ done. Is (Ok (plan_of done))) ≡ Is (Ok plan)
         → Ends F C (Some text) g plan
     by Unasked is e = absurd cc
     by (Is (Err fault)) is e = absurd cc
-    by (Is (Ok o)) is e = let at : plan_of (linked (o.job, after_text o (for_link g))) ≡ plan = cc in subst (λ p. Ends F C (Some text) g p) at (record {
-      jobs_are = refl;
-      link_notes = o.notices;
-      link_is = record { o = o; is = is; link_is = refl; notes_are = refl };
-      notices_are = refl;
-    })
+    by (Is (Ok o)) is e =
+        let at : plan_of (linked (o.job, after_text o (for_link g))) ≡ plan = cc in
+        subst (λ p. Ends F C (Some text) g p) at (record {
+          jobs_are = refl;
+          link_notes = o.notices;
+          link_is = record { o = o; is = is; link_is = refl; notes_are = refl };
+          notices_are = refl;
+        })
 
 with_link_is : (F : Facts) (set : Set) (g : Progress) → with_link F set g ≡ with_text F (link_text set g.outputs) g
 with_link_is F set g = by (length g.outputs == 0)
   where
-    by : (t : Bool) → (if t then Is (Ok (None, g)) else with_text F (text_of set (codes "link_command")) g) ≡ with_text F (if t then None else text_of set (codes "link_command")) g
+    by : (t : Bool) → (if t then Is (Ok (None, g)) else with_text F (text_of set (codes "link_command")) g) ≡ with_text F
+        (if t then None else text_of set (codes "link_command")) g
     by true = refl
     by false = refl
 
 -- a line
 
-over : (F : Facts) (line : Line) (set : Set) (seed : ℕ) (plan : Plan) (prefixes : Prefixes) → prefixes_of F line.settings.prefixes ≡ Is prefixes → planned F set line.inputs (context_of line set prefixes seed) ≡ Is (Ok plan) → IsPlanOf F line set seed plan
+over : (F : Facts) (line : Line) (set : Set) (seed : ℕ) (plan : Plan) (prefixes : Prefixes)
+    → prefixes_of F line.settings.prefixes ≡ Is prefixes → planned F set line.inputs (context_of line set prefixes seed) ≡ Is (Ok plan)
+    → IsPlanOf F line set seed plan
 over F line set seed plan prefixes known e = by (with_inputs F set 0 line.inputs (begun (context_of line set prefixes seed))) refl e
   where
-    by : (found : Planned Progress) → with_inputs F set 0 line.inputs (begun (context_of line set prefixes seed)) ≡ found → then_by found (λ g. finished F set g) ≡ Is (Ok plan) → IsPlanOf F line set seed plan
+    by : (found : Planned Progress) → with_inputs F set 0 line.inputs (begun (context_of line set prefixes seed)) ≡ found
+        → then_by found (λ g. finished F set g) ≡ Is (Ok plan) → IsPlanOf F line set seed plan
     by Unasked is e = absurd cc
     by (Is (Err fault)) is e = absurd cc
     by (Is (Ok g)) is e = whole g (ran F (context_of line set prefixes seed) set 0 line.inputs g None None [] [] [] [] is) e
       where
-        whole : (g : Progress) → Ran F (context_of line set prefixes seed) None (parts set 0 line.inputs) [] [] [] [] g → finished F set g ≡ Is (Ok plan) → IsPlanOf F line set seed plan
-        whole g r e = told (subst (λ p. Ends F (context_of line set prefixes seed) (link_text set p.outputs) p plan) r.is (ended F (context_of line set prefixes seed) (link_text set g.outputs) g plan (ap (λ l. then_by l (λ done. Is (Ok (plan_of done)))) (sym (with_link_is F set g)) ∙ e)))
+        whole : (g : Progress) → Ran F (context_of line set prefixes seed) None (parts set 0 line.inputs) [] [] [] [] g
+            → finished F set g ≡ Is (Ok plan) → IsPlanOf F line set seed plan
+        whole g r e = told (subst (λ p. Ends F (context_of line set prefixes seed) (link_text set p.outputs) p plan) r.is
+            (ended F (context_of line set prefixes seed) (link_text set g.outputs) g plan
+            (ap (λ l. then_by l (λ done. Is (Ok (plan_of done)))) (sym (with_link_is F set g)) ∙ e)))
           where
             told : Ends F (context_of line set prefixes seed) (link_text set (link_words (parts set 0 line.inputs) r.outcomes))
-                (state (context_of line set prefixes seed) (last None r.outcomes) r.input (flat_map (λ o. o.notices) r.outcomes) (jobs_of (parts set 0 line.inputs) r.outcomes) (link_words (parts set 0 line.inputs) r.outcomes) (objects (parts set 0 line.inputs))) plan
+                (state (context_of line set prefixes seed) (last None r.outcomes) r.input (flat_map (λ o. o.notices) r.outcomes)
+                (jobs_of (parts set 0 line.inputs) r.outcomes) (link_words (parts set 0 line.inputs) r.outcomes)
+                (objects (parts set 0 line.inputs))) plan
                 → IsPlanOf F line set seed plan
             told x = record {
               prefixes = prefixes;
@@ -169,9 +214,12 @@ over F line set seed plan prefixes known e = by (with_inputs F set 0 line.inputs
               notices_are = x.notices_are;
             }
 
-pub is_plan_of : (F : Facts) (line : Line) (set : Set) (seed : ℕ) (plan : Plan) → denoted F line set seed ≡ Is (Ok plan) → IsPlanOf F line set seed plan
+pub is_plan_of : (F : Facts) (line : Line) (set : Set) (seed : ℕ) (plan : Plan) → denoted F line set seed ≡ Is (Ok plan)
+    → IsPlanOf F line set seed plan
 is_plan_of F line set seed plan e = by (prefixes_of F line.settings.prefixes) refl e
   where
-    by : (found : Known Prefixes) → prefixes_of F line.settings.prefixes ≡ found → (found >>= λ prefixes. planned F set line.inputs (context_of line set prefixes seed)) ≡ Is (Ok plan) → IsPlanOf F line set seed plan
+    by : (found : Known Prefixes) → prefixes_of F line.settings.prefixes ≡ found
+        → (found >>= λ prefixes. planned F set line.inputs (context_of line set prefixes seed)) ≡ Is (Ok plan)
+        → IsPlanOf F line set seed plan
     by Unasked is e = absurd cc
     by (Is prefixes) is e = over F line set seed plan prefixes is e

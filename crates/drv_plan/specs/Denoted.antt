@@ -21,10 +21,10 @@ use Rattle.drv_words.specs.declared.plan.Job.{Job}
 use Rattle.drv_words.specs.declared.plan.Plan.{Plan}
 use Rattle.std.specs.Prelude.{◌+◌, ◌==◌, Err, List, [], ◌∷◌, ◌++◌, None, Ok, Option, Result, Some, codes, if◌then◌else◌, length, map, ℕ}
 
--- The plan of a line over its specs: every source, and the link (GCC manual, "Overall Options" and "Spec Files"; the wording of
--- notices, and when there is a link, is this project's profile).
+-- The plan of a line with its specs: each source, and the link (GCC manual, "Overall Options" and "Spec Files"). The wording of notices,
+-- and when there is a link, are this project's profile.
 
--- an answer of the facts, a refusal, or the want of an answer
+-- a value, a refusal, or a question that the facts don't answer
 abbrev pub Planned : Type 0 → Type 0
 Planned X = Known (Result X PlanFault)
 
@@ -33,18 +33,18 @@ then_by Unasked next = Unasked
 then_by (Is (Ok x)) next = next x
 then_by (Is (Err fault)) next = Is (Err fault)
 
--- why a line has no plan, by why a text has no job
+-- why a line has no plan, if a text has no job
 abbrev pub lifted : MachineFault → PlanFault
 lifted machine.Memory = Memory
 lifted fault = Machine fault
 
--- what a text comes to, its refusal as the line's
+-- the result of a text, where its refusal is that of the line
 abbrev pub of_text : {X : Type 0} → Answer X → Planned X
 of_text Unasked = Unasked
 of_text (Is (Ok x)) = Is (Ok x)
 of_text (Is (Err fault)) = Is (Err (lifted fault))
 
--- what the texts of a line are worked for: at first no option was added, and names are numbered from 1
+-- the context of a line's first text: no option was added, and temporaries are numbered from 1
 abbrev pub context_of : Line → Set → Prefixes → ℕ → Context
 context_of line set prefixes seed = record {
   switches = line.switches;
@@ -61,18 +61,18 @@ context_of line set prefixes seed = record {
   outputs = [];
 }
 
--- nothing was worked yet
+-- before the first text
 abbrev pub begun : Context → Progress
 begun C = record { context = C; notes = []; jobs = []; outputs = []; passed_on = [] }
 
--- after a text: the options of %x and the number of the next name go on to the next one, and hidden switches don't
+-- after a text: the options of %x and the number of the next temporary go on to the next text; hidden switches don't
 abbrev pub after_text : Outcome → Progress → Progress
 after_text worked g = record g {
   context = record g.context { options = worked.accumulated; number = worked.next_number };
   notes = g.notes ++ worked.notices;
 }
 
--- a text is worked: its job, and what goes on
+-- a text is run: its job, and the progress after it
 abbrev pub worked : Facts → List ℕ → Progress → Planned (Job × Progress)
 worked F text g = then_by (of_text (outcome F g.context (tree_of text))) (λ done. Is (Ok (done.job, after_text done g)))
 
@@ -91,23 +91,24 @@ output_list (Some output) = output ∷ []
 abbrev pub of_source : ℕ → Job → Job
 of_source place job = record job { source = Some place }
 
--- a source that has a job: its output is one of the link's
+-- after the job of a source: its output goes to the link
 abbrev pub after_job : Job → Progress → Progress
 after_job job g = record g { jobs = g.jobs ++ job ∷ []; outputs = g.outputs ++ output_list job.output }
 
--- a word of the link: a library, or what -Wl and -Xlinker say
+-- after a word for the link: a library, or a word of -Wl and -Xlinker
 abbrev pub after_word : List ℕ → Progress → Progress
 after_word word g = record g { outputs = g.outputs ++ word ∷ [] }
 
--- a file that is the linker's
+-- after a file of the linker
 abbrev pub after_object : List ℕ → Progress → Progress
 after_object name g = record g { outputs = g.outputs ++ name ∷ []; passed_on = g.passed_on ++ name ∷ [] }
 
--- the source at this place of the line, which is worked with this text
+-- the source at this place of the line, which uses this text
 abbrev pub with_source : Facts → ℕ → Source → List ℕ → Progress → Planned Progress
-with_source F place source text g = then_by (worked F text (for_source source g)) (λ done. Is (Ok (after_job (of_source place done.0) done.1)))
+with_source F place source text g = then_by (worked F text (for_source source g))
+    (λ done. Is (Ok (after_job (of_source place done.0) done.1)))
 
--- a file, by what it is worked with
+-- a file, by its language
 abbrev pub with_file : Facts → ℕ → List ℕ → Result (Option Chosen) PlanFault → Progress → Planned Progress
 with_file F place name (Err fault) g = Is (Err fault)
 with_file F place name (Ok None) g = Is (Ok (after_object name g))
@@ -118,7 +119,7 @@ with_input F set place (File name language) g = with_file F place name (chosen_f
 with_input F set place (Library word) g = Is (Ok (after_word word g))
 with_input F set place (LinkWord word) g = Is (Ok (after_word word g))
 
--- inputs, of which the first has this place in the line
+-- the inputs; the first one has this place in the line
 abbrev pub with_inputs : Facts → Set → ℕ → List Input → Progress → Planned Progress
 with_inputs F set place [] g = Is (Ok g)
 with_inputs F set place (input ∷ inputs) g = then_by (with_input F set place input g) (λ g'. with_inputs F set (place + 1) inputs g')
@@ -130,7 +131,7 @@ with_command job = if length job.groups == 0 then None else Some job
 abbrev pub linked : Job × Progress → Option Job × Progress
 linked done = (with_command done.0, done.1)
 
--- the link, where there is anything to be linked and a text for it
+-- the link, if there is something to link and a text for it
 abbrev pub with_text : Facts → Option (List ℕ) → Progress → Planned (Option Job × Progress)
 with_text F None g = Is (Ok (None, g))
 with_text F (Some text) g = then_by (worked F text (for_link g)) (λ done. Is (Ok (linked done)))
@@ -142,19 +143,19 @@ with_link F set g = if length g.outputs == 0 then Is (Ok (None, g)) else with_te
 abbrev pub between : List ℕ → List ℕ → List ℕ → List ℕ
 between before after word = before ++ word ++ after
 
--- without a link each file that is the linker's is told
+-- without a link there is a notice for each file of the linker
 abbrev pub unused : Option Job → List (List ℕ) → List (List ℕ)
 unused (Some link) names = []
 unused None names = map (between (codes "warning: ") (codes ": linker input file unused because linking not done")) names
 
--- the notices: what texts tell, and after it the files that no link takes
+-- the notices of the texts, followed by those for files that no link takes
 abbrev pub notices : Option Job → Progress → List (List ℕ)
 notices link g = g.notes ++ unused link g.passed_on
 
 abbrev pub plan_of : Option Job × Progress → Plan
 plan_of done = record { notices = notices done.0 done.1; jobs = done.1.jobs; link = done.0 }
 
--- the plan, once all inputs were worked
+-- the plan, once all inputs are done
 abbrev pub finished : Facts → Set → Progress → Planned Plan
 finished F set g = then_by (with_link F set g) (λ done. Is (Ok (plan_of done)))
 
@@ -162,7 +163,7 @@ finished F set g = then_by (with_link F set g) (λ done. Is (Ok (plan_of done)))
 abbrev pub planned : Facts → Set → List Input → Context → Planned Plan
 planned F set inputs C = then_by (with_inputs F set 0 inputs (begun C)) (λ g. finished F set g)
 
--- The plan of a line, or the first refusal in the order of its inputs, with the link after them. It looks at none of `dry`,
--- `verbose`, `pass_codes` and `jobs` of the settings.
+-- The plan of a line, or the first refusal in the order of its inputs, with the link last. It doesn't depend on the settings `dry`,
+-- `verbose`, `pass_codes` and `jobs`.
 abbrev pub denoted : Facts → Line → Set → ℕ → Planned Plan
 denoted F line set seed = prefixes_of F line.settings.prefixes >>= λ prefixes. planned F set line.inputs (context_of line set prefixes seed)

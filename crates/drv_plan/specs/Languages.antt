@@ -7,10 +7,11 @@ use Rattle.drv_words.specs.Bytes.{at_sign, hyphen}
 use Rattle.std.specs.Cmp.Lexicographic.{pointwise}
 use Rattle.std.specs.List.{ends_with}
 use Rattle.std.specs.Option.{option_map}
-use Rattle.std.specs.Prelude.{◌&&◌, Bool, Err, List, [], ◌∷◌, None, Ok, Option, Result, Some, codes, drop, if◌then◌else◌, length, nat_eq, nat_lt, not, ℕ}
+use Rattle.std.specs.Prelude.{◌&&◌, Bool, Err, List, [], ◌∷◌, None, Ok, Option, Result, Some, codes, drop, if◌then◌else◌, length, nat_eq}
+use Rattle.std.specs.Prelude.{nat_lt, not, ℕ}
 
--- The language of an input, and the text that it is worked with (GCC manual, "Overall Options", -x, and "Spec Files"; which
--- of several pairs counts is this project's profile).
+-- The language of an input, and its text (GCC manual, "Overall Options", -x, and "Spec Files"). Which of several pairs counts is this
+-- project's profile.
 
 -- the text of the last pair whose key fits
 abbrev pub or_before : Option (List ℕ) → Bool → List ℕ → Option (List ℕ)
@@ -29,7 +30,7 @@ is_of_language language key = pointwise nat_eq key (at_sign ∷ language)
 abbrev pub is_suffix_of : List ℕ → List ℕ → Bool
 is_suffix_of name key = not (begins_with_at key) && (nat_lt (length key) (length name) && ends_with nat_eq name key)
 
--- what the text of a pair is
+-- the meaning of a pair's text
 pub data PairText : Type 0 where
   Missing : List ℕ → PairText  -- the compiler of this name isn't installed
   Alias : List ℕ → PairText  -- another name of this language
@@ -41,12 +42,12 @@ pair_meaning text = if is_not_installed text then Missing (drop 1 text) else if 
 abbrev pub last_pair : Set → (List ℕ → Bool) → Option PairText
 last_pair set fits = option_map pair_meaning (last_text fits set.pairs)
 
--- the text that an input is worked with, and the name of its language, which a suffix with a text of its own doesn't have
+-- the text of an input, and the name of its language; a suffix with its own text has no language
 pub record Chosen : Type 0 where
   pub name : Option (List ℕ)
   pub text : List ℕ
 
--- a language of this name: an alias of one is followed no further (no file that is loaded makes an alias of an alias)
+-- a language of this name; the alias of an alias is not followed (no file that is loaded makes one)
 abbrev pub in_language : List ℕ → Option PairText → Result Chosen PlanFault
 in_language language None = Err (UnknownLanguage language)
 in_language language (Some (Alias other)) = Err (UnknownLanguage language)
@@ -61,7 +62,7 @@ abbrev pub chosen : Result Chosen PlanFault → Result (Option Chosen) PlanFault
 chosen (Ok c) = Ok (Some c)
 chosen (Err fault) = Err fault
 
--- a file with this suffix; without one it is the linker's
+-- a file with this suffix; without one it belongs to the linker
 abbrev pub with_suffix : Set → Option PairText → Result (Option Chosen) PlanFault
 with_suffix set None = Ok None
 with_suffix set (Some (Alias language)) = chosen (by_language set language)
@@ -75,8 +76,8 @@ by_suffix set name = with_suffix set (last_pair set (is_suffix_of name))
 abbrev pub is_standard_input : List ℕ → Bool
 is_standard_input name = pointwise nat_eq name (hyphen ∷ [])
 
--- What an input is worked with, or none where it is the linker's. A file is worked in the language that -x gave it;
--- without one standard input is in C, and the suffix of any other decides.
+-- The text of an input, or None if the input belongs to the linker. A file has the language that -x gave it. Otherwise standard input is C,
+-- and any other file is what its suffix says.
 abbrev pub chosen_for : Set → Input → Result (Option Chosen) PlanFault
 chosen_for set (File name (Some language)) = chosen (by_language set language)
 chosen_for set (File name None) = if is_standard_input name then chosen (by_language set (codes "c")) else by_suffix set name

@@ -18,21 +18,21 @@ use Rattle.drv_words.specs.declared.plan.Plan.{Plan}
 use Rattle.std.specs.List.{flat_map}
 use Rattle.std.specs.Prelude.{◌≡◌, ◌+◌, ◌==◌, ⊤, Err, List, [], ◌∷◌, ◌++◌, None, Ok, Option, Result, Some, codes, if◌then◌else◌, length, ℕ}
 
--- The plan of a line, told by what its texts come to (GCC manual, "Overall Options" and "Spec Files").
+-- The plan of a line, by the outcomes of its texts (GCC manual, "Overall Options" and "Spec Files").
 
--- a text that is worked for a source: the source's place in the line, the source, and the text
+-- a text that is run for a source: the source's place in the line, the source, and the text
 pub record Text : Type 0 where
   pub place : ℕ
   pub source : Source
   pub text : List ℕ
 
--- what an input is to the plan
+-- the part of an input in the plan
 pub data Part : Type 0 where
   Work : Text → Part  -- a file that is worked with a text
   Object : List ℕ → Part  -- a file that is the linker's
   Word : List ℕ → Part  -- a library, or what -Wl and -Xlinker say
 
--- a file, by what it is worked with; a line with a refused one has no plan
+-- a file, by its language; a line with a refused file has no plan
 abbrev pub file_part : ℕ → List ℕ → Result (Option Chosen) PlanFault → List Part
 file_part place name (Ok (Some c)) = Work (record { place = place; source = record { name = name; language = c.name }; text = c.text }) ∷ []
 file_part place name (Ok None) = Object name ∷ []
@@ -44,7 +44,7 @@ parts set place (File name language ∷ inputs) = file_part place name (chosen_f
 parts set place (Library word ∷ inputs) = Word word ∷ parts set (place + 1) inputs
 parts set place (LinkWord word ∷ inputs) = Word word ∷ parts set (place + 1) inputs
 
--- what the text before leaves to the next one: the options that %x has added, and the number of the next name
+-- what the text before passes to the next one: the options that %x has added, and the number of the next temporary
 abbrev pub options_after : Option Outcome → List (List ℕ)
 options_after None = []
 options_after (Some o) = o.accumulated
@@ -61,7 +61,7 @@ abbrev pub last : Option Outcome → List Outcome → Option Outcome
 last before [] = before
 last before (o ∷ os) = last (Some o) os
 
--- The k-th of these is what the k-th text comes to, in the context that the text before it leaves.
+-- The k-th outcome is that of the k-th text, in the context that the text before it leaves.
 abbrev pub EachWorked : Facts → Context → Option Outcome → List Part → List Outcome → Type 0
 EachWorked F C before [] [] = ⊤
 EachWorked F C before [] (o ∷ os) = ⊥
@@ -78,7 +78,7 @@ jobs_of (Object name ∷ ps) os = jobs_of ps os
 jobs_of (Word word ∷ ps) os = jobs_of ps os
 jobs_of [] os = []
 
--- the words of the link, each in the place of its input: of a source its output if it has one
+-- the words of the link, each at the place of its input; for a source this is its output, if it has one
 abbrev pub link_words : List Part → List Outcome → List (List ℕ)
 link_words (Work t ∷ ps) (o ∷ os) = output_list o.job.output ++ link_words ps os
 link_words (Work t ∷ ps) [] = []
@@ -86,18 +86,18 @@ link_words (Object name ∷ ps) os = name ∷ link_words ps os
 link_words (Word word ∷ ps) os = word ∷ link_words ps os
 link_words [] os = []
 
--- the files that are the linker's
+-- the files of the linker
 abbrev pub objects : List Part → List (List ℕ)
 objects [] = []
 objects (Work t ∷ ps) = objects ps
 objects (Object name ∷ ps) = name ∷ objects ps
 objects (Word word ∷ ps) = objects ps
 
--- the text of the link, where there is something to be linked
+-- the text of the link, if there is something to link
 abbrev pub link_text : Set → List (List ℕ) → Option (List ℕ)
 link_text set words = if length words == 0 then None else text_of set (codes "link_command")
 
--- the link is what its text comes to, if its job has a command; what it tells are these notes
+-- the link is the outcome of its text, if the job has a command; its notices are these
 pub record LinkWorked (F : Facts) (C : Context) (text : List ℕ) (link : Option Job) (notes : List (List ℕ)) : Type 0 where
   pub o : Outcome
   pub is : outcome F C (tree_of text) ≡ Is (Ok o)
@@ -108,9 +108,9 @@ abbrev pub LinkIs : Facts → Context → Option (List ℕ) → Option Job → L
 LinkIs F C None link notes = (link ≡ None) × (notes ≡ [])
 LinkIs F C (Some text) link notes = LinkWorked F C text link notes
 
--- Each source's text is worked in the order of the line, with the options and numbers that the text before it leaves. Their jobs are
--- those of the plan. The link's text is worked last, over the words of the link. The notices are those of the texts in this order, and
--- after them the files that no link takes.
+-- Each source's text is run in the order of the line, with the options and numbers that the text before it leaves. These jobs are the jobs
+-- of the plan. The link's text is run last, over the words of the link. The notices are those of the texts in this order, followed by those
+-- for the files that no link takes.
 pub record IsPlanOf (F : Facts) (line : Line) (set : Set) (seed : ℕ) (plan : Plan) : Type 0 where
   pub prefixes : Prefixes
   pub prefixes_are : prefixes_of F line.settings.prefixes ≡ Is prefixes

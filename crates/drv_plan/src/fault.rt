@@ -11,11 +11,11 @@ pub enum PlanFault {
     /// An allocation was refused.
     #[error("out of memory")]
     Memory,
-    /// A spec text that is worked for the line has no job. The refusal isn't `Memory`, which is the
-    /// plan's own.
+    /// A spec text of the line has no job. The refusal is not `Memory`, which the plan reports
+    /// itself.
     #[error("{0}")]
     Machine(MachineFault),
-    /// No pair is that of this language.
+    /// No pair has this language.
     #[error("language not recognized")]
     UnknownLanguage(Word),
     /// The compiler of this name isn't installed.

@@ -1,4 +1,4 @@
-//! The language of an input, and the text that it is worked with.
+//! The language of an input, and its text.
 
 ghost use Rattle.drv_plan.specs.Languages.{by_language, by_suffix, is_of_language};
 ghost use Rattle.drv_plan.specs.Languages.{is_standard_input, is_suffix_of, chosen_for, last_pair};
@@ -23,10 +23,10 @@ use std::marker::Model;
 /// The language of standard input.
 const LANGUAGE_OF_STANDARD_INPUT: &[u8] = b"c";
 
-/// What an input is worked with. It is lent.
+/// The text of an input, which is borrowed.
 #[derive(Drop)]
 pub struct Chosen<'a> {
-    /// The name of its language. A file whose suffix has a text of its own has none.
+    /// The name of its language. A file whose suffix has its own text has none.
     pub name: Option<&'a [u8]>,
     /// The text.
     pub tree: &'a SpecTree,
@@ -41,7 +41,7 @@ impl<'a> Model for Chosen<'a> {
     ghost view = { λ c. record { name = option_map (λ name. name.now) c.name; text = c.tree.now } };
 }
 
-/// What is looked for among the keys of pairs.
+/// What is searched for among the keys of pairs.
 #[derive(Clone, Copy)]
 enum Wanted<'a> {
     /// The language of this name.
@@ -50,7 +50,7 @@ enum Wanted<'a> {
     Suffix(&'a [u8]),
 }
 
-/// Whether a key is that of a suffix or a language that begins with `@`.
+/// Whether a key belongs to a language, or to a suffix that begins with `@`.
 fn begins_with_at(key: &[u8]) -> bool
     ensures { result ≡ begins_with_at key.now }
 {
@@ -67,8 +67,7 @@ fn is_of_language(language: &[u8], key: &[u8]) -> bool
     }
 }
 
-/// Whether two texts end with the same byte, or one has none: most texts that don't end with
-/// another show it by this alone.
+/// Whether two texts have the same last byte, or one is empty. This test alone excludes most keys.
 fn end_alike(text: &[u8], end: &[u8]) -> bool
     ensures { result ≡ false → ends_with nat_eq text.now end.now ≡ false }
 {
@@ -89,7 +88,7 @@ fn is_suffix_of(name: &[u8], key: &[u8]) -> bool
     !begins_with_at(key) && key.len() < name.len() && name.ends_with(key)
 }
 
-/// Whether a key is what is looked for.
+/// Whether a key is the one that is searched for.
 fn fits(wanted: Wanted<'_>, key: &[u8]) -> bool
     ensures { result ≡ fits wanted.entry key.now }
 {
@@ -99,7 +98,7 @@ fn fits(wanted: Wanted<'_>, key: &[u8]) -> bool
     }
 }
 
-/// The place of the last pair whose key fits.
+/// The index of the last pair whose key fits.
 fn last_place(wanted: Wanted<'_>, pairs: &[(Word, Word)]) -> Option<usize>
     ensures { option_map (λ pair. pair.1) (option_and_then (slice_get pairs.now) result)
         ≡ last_text (fits wanted.entry) pairs.now }
@@ -114,18 +113,18 @@ fn last_place(wanted: Wanted<'_>, pairs: &[(Word, Word)]) -> Option<usize>
     None
 }
 
-/// What a pair's text is.
+/// The meaning of a pair's text.
 #[derive(Clone, Copy)]
 enum PairText<'a> {
     /// The compiler of this name isn't installed.
     Missing(&'a [u8]),
     /// Another name of this language.
     Alias(&'a [u8]),
-    /// A text that is worked.
+    /// A text to run.
     Worked(&'a SpecTree),
 }
 
-/// What a pair's text is, which has a tree if it is one that is worked.
+/// The meaning of a pair's text. It has a tree if it is a text to run.
 fn pair_meaning<'a>(tree: Option<&'a SpecTree>, text: &'a [u8]) -> PairText<'a>
     requires { option_map (λ tree. tree.now) tree
         ≡ (if is_no_text text.now then None else Some text.now) }
@@ -139,7 +138,7 @@ fn pair_meaning<'a>(tree: Option<&'a SpecTree>, text: &'a [u8]) -> PairText<'a>
     }
 }
 
-/// What the text is of the last pair whose key fits.
+/// The meaning of the last pair whose key fits.
 fn last_pair<'a>(set: &'a SpecSet, wanted: Wanted<'_>) -> Option<PairText<'a>>
     ensures { option_map shown result ≡ last_pair set.now (fits wanted.entry) }
 {
@@ -148,7 +147,7 @@ fn last_pair<'a>(set: &'a SpecSet, wanted: Wanted<'_>) -> Option<PairText<'a>>
     Some(pair_meaning(set.pair_tree(place), text.as_bytes()))
 }
 
-/// What a file in a language is worked with.
+/// The text of a file in this language.
 fn by_language<'a>(
     alloc: Global,
     set: &'a SpecSet,
@@ -171,7 +170,7 @@ fn by_language<'a>(
     }
 }
 
-/// What a file is worked with whose suffix decides.
+/// The text of a file whose suffix decides.
 fn by_suffix<'a>(
     alloc: Global,
     set: &'a SpecSet,
@@ -196,13 +195,13 @@ fn is_standard_input(name: &[u8]) -> bool
     matches!(name, [b'-'])
 }
 
-/// What an input is worked with, or none where it is the linker's (GCC manual, "Overall Options",
-/// -x): a file is worked in the language that `-x` gave it; without one standard input is in C, and
-/// the suffix of any other decides.
+/// The text of an input, or `None` if the input belongs to the linker (GCC manual, "Overall
+/// Options", -x). A file has the language that `-x` gave it. Otherwise standard input is C, and any
+/// other file is what its suffix says.
 ///
 /// # Errors
-/// `UnknownLanguage` with the language that no pair has, and `NotInstalled` with the compiler that
-/// a pair says isn't installed.
+/// `UnknownLanguage` with the language, if no pair has it; `NotInstalled` with the compiler, if a
+/// pair says that it isn't installed.
 pub fn language<'a>(
     alloc: Global,
     input: &'a Input,

@@ -1,4 +1,4 @@
-//! Laws of the plan.
+//! Laws about plans.
 
 ghost use Rattle.drv_args.specs.declared.line.Line.{Line};
 ghost use Rattle.drv_plan.specs.Denoted.{denoted};
@@ -14,8 +14,8 @@ ghost use Rattle.std.specs.Prelude.{◌≡◌, Ok, ℕ};
 
 use drv_specs::SpecSet;
 
-/// The law that the dump of a set, loaded over the set, changes no plan, unless a named text begins
-/// with `+` and a blank: then that text would be taken as an addition. It gives nothing.
+/// A law: loading the dump of a set over that set changes no plan, unless a named text begins with
+/// `+` and a blank, since such a text would be read as an addition. The function returns nothing.
 pub fn reload_law(set: &SpecSet)
     ensures { Plain set.now → (F : Facts) (prefixes : Prefixes)
         → (after : Set) × (loaded F prefixes set.now (dumped set.now) ≡ Is (Ok after))
@@ -25,9 +25,9 @@ pub fn reload_law(set: &SpecSet)
     set.reloads_over_itself();
 }
 
-/// The law that the plan of a line has, source by source in the order of the line, the job of the
-/// source's text, worked with the options and the numbers that the text before it leaves; the link
-/// over their outputs, last; and the notices of these texts in that order.
+/// A law: the plan of a line has, for each source in the order of the line, the job of the source's
+/// text, run with the options and the numbers that the text before it leaves. The link comes last
+/// and takes the outputs. The notices are those of these texts in order.
 pub fn plan_law()
     ensures { (F : Facts) (line : Line) (set : Set) (seed : ℕ) (plan : Plan)
         → denoted F line set seed ≡ Is (Ok plan) → IsPlanOf F line set seed plan }

@@ -8,10 +8,10 @@ use drv_words::{Job, Listing, Word};
 use std::alloc::{AllocError, Global};
 use std::mem;
 
-/// What stands before the name of a file that no link takes.
+/// The text before the name of a file that no link takes.
 const UNUSED_FRONT: &[u8] = b"warning: ";
 
-/// And after it.
+/// The text after it.
 const UNUSED_END: &[u8] = b": linker input file unused because linking not done";
 
 /// A word between two texts, in one allocation.
@@ -26,7 +26,7 @@ fn between(alloc: Global, before: &[u8], after: &[u8], word: &[u8]) -> Result<Wo
     Ok(Word::from_vec(text))
 }
 
-/// Adds each of these words between two texts.
+/// Adds each of these words, put between two texts.
 fn push_all(
     alloc: Global,
     list: &mut Listing<Word>,
@@ -42,8 +42,7 @@ fn push_all(
     Ok(())
 }
 
-/// Adds the notices of files that are the linker's, of which there is one for each where there is
-/// no link.
+/// Adds the notices for the files of the linker, one for each, if there is no link.
 fn push_unused(
     alloc: Global,
     list: &mut Listing<Word>,
@@ -58,8 +57,8 @@ fn push_unused(
     }
 }
 
-/// The notices of a plan with this link: those of texts, which are moved, and after them those of
-/// files that no link takes.
+/// The notices of a plan with this link: those of texts, which are moved, and then those for files
+/// that no link takes.
 pub(crate) fn notices_of(
     alloc: Global,
     link: &Option<Job>,

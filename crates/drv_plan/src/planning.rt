@@ -37,7 +37,7 @@ fn with_command(job: Job) -> Option<Job>
     }
 }
 
-/// Whether nothing is to be linked.
+/// Whether there is nothing to link.
 fn is_empty_link(outputs: &[Word]) -> bool
     ensures { result ≡ (length outputs.now == 0) }
 {
@@ -61,7 +61,7 @@ fn link_with<S: System>(
     Ok(with_command(job))
 }
 
-/// The link, where there is anything to be linked and a text for it.
+/// The link, if there is something to link and a text for it.
 fn link_of<S: System>(
     alloc: Global,
     set: &SpecSet,
@@ -83,7 +83,7 @@ fn link_of<S: System>(
     }
 }
 
-/// The plan with this link. Jobs and notices are moved out of what the inputs have given.
+/// The plan with this link. Jobs and notices are moved out of the progress.
 fn plan_of(
     alloc: Global,
     link: Option<Job>,
@@ -99,7 +99,7 @@ fn plan_of(
     })
 }
 
-/// The plan, once all inputs were worked. Jobs and notices are moved out of what they have given.
+/// The plan, once all inputs are done. Jobs and notices are moved out of the progress.
 fn finish<S: System>(
     alloc: Global,
     set: &SpecSet,
@@ -115,7 +115,7 @@ fn finish<S: System>(
     Ok(plan_of(alloc, link, progress)?)
 }
 
-/// The plan of inputs, after what was worked before them.
+/// The plan of the inputs after those that are done.
 #[tactic(auto, using(drv_system::proofs::AskedCalls::asked_further))]
 fn plan_inputs<'a, S: System>(
     alloc: Global,
@@ -152,14 +152,13 @@ fn planned<'a, S: System>(
     plan_inputs(alloc, set, inputs, &mut progress, outside)
 }
 
-/// The plan of a line over its specs: each source worked with the text of its language, in the
-/// order of the line, and the link, where there is one (GCC manual, "Overall Options" and "Spec
-/// Files"). Names of temporaries have this seed. It asks the system only where the table has no
-/// answer.
+/// The plan of a line with its specs: each source, with the text of its language, in the order of
+/// the line, and the link, if there is one (GCC manual, "Overall Options" and "Spec Files"). Names
+/// of temporaries contain this seed. The system is asked only if the table has no answer.
 ///
 /// # Errors
-/// The first refusal in the order of the inputs, with the link after them: `UnknownLanguage` and
-/// `NotInstalled` of a file, and the machine's refusal of a text.
+/// The first refusal in the order of the inputs, with the link last: `UnknownLanguage` and
+/// `NotInstalled` for a file, and the machine's refusal of a text.
 #[tactic(auto, using(drv_system::proofs::Asking::asks_then))]
 pub fn plan<S: System>(
     alloc: Global,

@@ -1,4 +1,4 @@
-//! How far a plan is: what goes on from one input of the line to the next.
+//! The progress of a plan: what goes on from one input of the line to the next.
 
 ghost use Rattle.drv_machine.specs.declared.fault.MachineFault.TheVariants as machine;
 ghost use Rattle.drv_plan.specs.Denoted.{begun, after_job, after_object, after_text, after_word};
@@ -17,18 +17,18 @@ use drv_words::{Job, Listing, Word};
 use std::alloc::{AllocError, Global};
 use std::mem;
 
-/// How far a plan is: what goes on from one input to the next, and what they have given so far.
+/// The progress of a plan: what goes on from one input to the next, and the results so far.
 #[derive(Drop)]
 pub(crate) struct Progress<'a> {
-    /// What the last text was worked for, with what it left to the next one.
+    /// The context of the last text, with what that passed to the next one.
     pub(crate) context: Context<'a>,
-    /// What texts tell the user.
+    /// The notices of the texts.
     pub(crate) notes: Listing<Word>,
     /// The jobs of the sources.
     pub(crate) jobs: Listing<Job>,
     /// The words of the link.
     pub(crate) outputs: Listing<Word>,
-    /// The names of the files that are the linker's.
+    /// The names of the files of the linker.
     pub(crate) passed_on: Listing<Word>,
 }
 
@@ -70,7 +70,8 @@ fn into_job(done: Outcome) -> Job
 }
 
 impl<'a> Progress<'a> {
-    /// Nothing was worked yet. There is room for the words of the link that so many inputs give.
+    /// The progress before the first text. It has room for the words of the link from so many
+    /// inputs.
     pub(crate) fn new(
         alloc: Global,
         context: Context<'a>,
@@ -87,7 +88,7 @@ impl<'a> Progress<'a> {
         })
     }
 
-    /// Adds the name of a file that is the linker's.
+    /// Adds the name of a file of the linker.
     pub(crate) fn add_object(&mut self, name: &Word) -> Result<(), AllocError>
         ensures { OnOk result (self.new ≡ after_object name.now self.old) }
     {
@@ -124,8 +125,8 @@ impl<'a> Progress<'a> {
         Ok(())
     }
 
-    /// Works a text for what the context has, and keeps what goes on to the next one. It asks the
-    /// system only where the table has no answer.
+    /// Runs a text in the context, and keeps what goes on to the next one. The system is asked only
+    /// if the table has no answer.
     ///
     /// # Errors
     /// The machine's refusal of the text.
@@ -146,7 +147,7 @@ impl<'a> Progress<'a> {
         Ok(into_job(done))
     }
 
-    /// Works the text of the source at this place of the line, and adds its job.
+    /// Runs the text of the source at this place of the line, and adds its job.
     ///
     /// # Errors
     /// The machine's refusal of the text.
@@ -170,7 +171,7 @@ impl<'a> Progress<'a> {
         Ok(())
     }
 
-    /// Works the text of the link, which takes the outputs: none stay behind.
+    /// Runs the text of the link, which takes all outputs.
     ///
     /// # Errors
     /// The machine's refusal of the text.

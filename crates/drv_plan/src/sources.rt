@@ -1,4 +1,4 @@
-//! The inputs of a line, one after another: a source is worked with the text of its language.
+//! The inputs of a line, one after another. For a source the text of its language is run.
 
 ghost use Rattle.drv_machine.specs.declared.fault.MachineFault.TheVariants as machine;
 ghost use Rattle.drv_plan.specs.Denoted.{with_file, with_input, with_inputs};
@@ -18,7 +18,7 @@ use drv_system::{Outside, System};
 use drv_words::Word;
 use std::alloc::Global;
 
-/// The source of this name, by what it is worked with.
+/// The source of this name, with the language that was chosen for it.
 fn source_of<'a>(name: &'a Word, chosen: &Chosen<'a>) -> Source<'a>
     ensures { result ≡ record { name = name.now; language = chosen.now.name } }
 {
@@ -28,7 +28,7 @@ fn source_of<'a>(name: &'a Word, chosen: &Chosen<'a>) -> Source<'a>
     }
 }
 
-/// A file: its text is worked, or it is the linker's.
+/// Adds a file: runs its text, or leaves it to the linker.
 fn add_file<'a, S: System>(
     alloc: Global,
     place: usize,
@@ -51,7 +51,7 @@ fn add_file<'a, S: System>(
     progress.add_source(alloc, place, source, chosen.tree, outside)
 }
 
-/// An input: a file in its language, or a word of the link, which has none.
+/// Adds an input: a file in its language, or a word for the link, which has none.
 fn add_input<'a, S: System>(
     alloc: Global,
     set: &'a SpecSet,
@@ -80,11 +80,11 @@ fn add_input<'a, S: System>(
     }
 }
 
-/// The inputs of a line in their order. It asks the system only where the table has no answer.
+/// Adds the inputs of a line in order. The system is asked only if the table has no answer.
 ///
 /// # Errors
-/// The first refusal in the order of the inputs: of a file's language, or the machine's of its
-/// text.
+/// The first refusal in the order of the inputs: that of a file's language, or the machine's
+/// refusal of its text.
 #[tactic(auto, using(drv_system::proofs::AskedCalls::asked_further))]
 pub(crate) fn add_inputs<'a, S: System>(
     alloc: Global,

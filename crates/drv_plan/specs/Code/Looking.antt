@@ -6,7 +6,7 @@ use Rattle.drv_plan.specs.declared.languages.Wanted.TheVariants.{Language, Suffi
 use Rattle.drv_plan.specs.declared.languages.Wanted.{Wanted}
 use Rattle.std.specs.Prelude.{Bool, List, ℕ}
 
--- What the code looks for among the keys of pairs and finds there, for the code alone.
+-- What the code searches for among the keys of pairs, and the result. For the code alone.
 
 abbrev pub fits : Wanted → List ℕ → Bool
 fits (Language name) key = is_of_language name.now key

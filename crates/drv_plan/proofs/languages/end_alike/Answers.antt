@@ -4,5 +4,7 @@ use Rattle.std.proofs.Common.{◌-◌, get_or, length, refl}
 
 pub returns : goal.returns
 returns c differ =
-    not_alike c.args.text.now c.args.end.now (get_or c.args.text.now (length c.args.text.now - 1) 0) (get_or c.args.end.now (length c.args.end.now - 1) 0)
-    (some_there (length c.args.end.now) c.is_empty-else-is_empty.result c.is_empty-else-is_empty.ensures c.if-is_empty-2.false) refl refl differ
+    not_alike c.args.text.now c.args.end.now (get_or c.args.text.now (length c.args.text.now - 1) 0)
+    (get_or c.args.end.now (length c.args.end.now - 1) 0)
+    (some_there (length c.args.end.now) c.is_empty-else-is_empty.result c.is_empty-else-is_empty.ensures c.if-is_empty-2.false)
+    refl refl differ

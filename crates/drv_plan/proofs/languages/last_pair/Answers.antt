@@ -9,11 +9,13 @@ pub pair_meaning-requires : goal.pair_meaning-requires
 pair_meaning-requires c =
     c.pair_tree.ensures
     ∙ ap (option_and_then worked_text)
-    (pair_at c.pairs-2.result.now c.args.set.now.pairs c.in_ok-place.place c.in_ok-text.field-0.now c.pairs-2.ensures c.in_ok-text.ensures.lookup.3.0 c.in_ok-text.ensures.lookup.1)
+    (pair_at c.pairs-2.result.now c.args.set.now.pairs c.in_ok-place.place c.in_ok-text.field-0.now c.pairs-2.ensures
+    c.in_ok-text.ensures.lookup.3.0 c.in_ok-text.ensures.lookup.1)
     ∙ ap (λ text. if is_no_text text then None else Some text) (sym c.as_bytes.ensures)
 
 pub returns : goal.returns
 returns c =
     ap Some (c.pair_meaning.ensures ∙ ap pair_meaning c.as_bytes.ensures)
-    ∙ sym (text_found (fits c.args.wanted) c.args.set.now c.pairs.result.now c.pairs-2.result.now c.in_ok-place.place c.in_ok-text.field-0.now
+    ∙ sym (text_found (fits c.args.wanted) c.args.set.now c.pairs.result.now c.pairs-2.result.now c.in_ok-place.place
+    c.in_ok-text.field-0.now
     c.pairs.ensures c.pairs-2.ensures c.in_ok-text.ensures.lookup.3.0 c.in_ok-text.ensures.lookup.1 c.in_ok-place.ensures)

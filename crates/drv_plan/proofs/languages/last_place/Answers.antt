@@ -6,13 +6,17 @@ use Rattle.std.proofs.Common.{◌-◌, ◌∙◌, ap, arith, sym}
 
 pub returns-then-fits : goal.returns-then-fits
 returns-then-fits c =
-    pair_hit (fits c.args.wanted) c.args.pairs.now c.loop-left.left (c.loop-left.left - 1) c.index-pairs-left.result c.as_bytes.result.now c.fits.result (last_text (fits c.args.wanted) c.args.pairs.now)
-    (omega (arith, c.loop-left-test.true)) (omega (arith, c.loop-left-test.true, c.loop-left.invariant.within)) c.index-pairs-left.is (c.as_bytes.ensures ∙ ap (λ pair. pair.0) (sym c.index-pairs-left.is)) c.fits.ensures c.if-fits.true c.loop-left.invariant.rest
+    pair_hit (fits c.args.wanted) c.args.pairs.now c.loop-left.left (c.loop-left.left - 1) c.index-pairs-left.result c.as_bytes.result.now
+    c.fits.result (last_text (fits c.args.wanted) c.args.pairs.now)
+    (omega (arith, c.loop-left-test.true)) (omega (arith, c.loop-left-test.true, c.loop-left.invariant.within)) c.index-pairs-left.is
+    (c.as_bytes.ensures ∙ ap (λ pair. pair.0) (sym c.index-pairs-left.is)) c.fits.ensures c.if-fits.true c.loop-left.invariant.rest
 
 pub loop-left-preserved : goal.loop-left-preserved
 loop-left-preserved c = record {
   within = omega (arith, c.loop-left.invariant.within);
   rest =
-      pair_missed (fits c.args.wanted) c.args.pairs.now c.loop-left.left (c.loop-left.left - 1) c.index-pairs-left.result c.as_bytes.result.now c.fits.result (last_text (fits c.args.wanted) c.args.pairs.now)
-      (omega (arith, c.loop-left-test.true)) (omega (arith, c.loop-left-test.true, c.loop-left.invariant.within)) c.index-pairs-left.is (c.as_bytes.ensures ∙ ap (λ pair. pair.0) (sym c.index-pairs-left.is)) c.fits.ensures c.if-fits.false c.loop-left.invariant.rest;
+      pair_missed (fits c.args.wanted) c.args.pairs.now c.loop-left.left (c.loop-left.left - 1) c.index-pairs-left.result
+      c.as_bytes.result.now c.fits.result (last_text (fits c.args.wanted) c.args.pairs.now)
+      (omega (arith, c.loop-left-test.true)) (omega (arith, c.loop-left-test.true, c.loop-left.invariant.within)) c.index-pairs-left.is
+      (c.as_bytes.ensures ∙ ap (λ pair. pair.0) (sym c.index-pairs-left.is)) c.fits.ensures c.if-fits.false c.loop-left.invariant.rest;
 }

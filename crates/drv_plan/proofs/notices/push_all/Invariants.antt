@@ -3,4 +3,5 @@ use Rattle.drv_plan.specs.Denoted.{between}
 use Rattle.std.proofs.Common.{◌≡◌, ◌++◌, drop, map}
 
 abbrev pub invariant-loop-word : goal.invariant-loop-word
-invariant-loop-word l = l.list ++ map (between l.before l.after) (drop l.word-index l.words) ≡ l.fn.list ++ map (between l.before l.after) l.words
+invariant-loop-word l = l.list ++ map (between l.before l.after) (drop l.word-index l.words) ≡ l.fn.list
+    ++ map (between l.before l.after) l.words

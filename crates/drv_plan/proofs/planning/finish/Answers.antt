@@ -3,4 +3,5 @@ use Rattle.drv_plan.proofs.planning.finish.Goals as goal
 
 pub returns-clause-works : goal.returns-clause-works
 returns-clause-works g c F e =
-    plan_finished F c.args.set.now c.args.progress.now c.link_of.new.progress c.in_ok-link.link c.in_ok-plan_of.field-0 (c.in_ok-link.ensures.works F e) c.in_ok-plan_of.ensures
+    plan_finished F c.args.set.now c.args.progress.now c.link_of.new.progress c.in_ok-link.link c.in_ok-plan_of.field-0
+    (c.in_ok-link.ensures.works F e) c.in_ok-plan_of.ensures

@@ -8,7 +8,10 @@ use Rattle.std.proofs.Common.{rules}
 pub returns-clause-plans : goal.returns-clause-plans
 returns-clause-plans g c F e =
     let known : Extends c.planned.new.outside.facts.now F = search rules in
-    given_alike _ c.planned.result (planned F c.args.set.now c.as_slice-2.result.now c.in_ok-context.context) (denoted F c.args.line.now c.args.set.now c.args.seed)
-    (prefixes_first F c.args.line.now c.args.set.now c.args.seed c.as_slice.result.now c.as_slice-2.result.now c.in_ok-prefixes.prefixes c.in_ok-context.context
-    c.as_slice.ensures c.as_slice-2.ensures (c.in_ok-prefixes.ensures.prefixes F (extends_before c.planned.ensures.asks known)) c.in_ok-context.ensures)
+    given_alike _ c.planned.result (planned F c.args.set.now c.as_slice-2.result.now c.in_ok-context.context)
+    (denoted F c.args.line.now c.args.set.now c.args.seed)
+    (prefixes_first F c.args.line.now c.args.set.now c.args.seed c.as_slice.result.now c.as_slice-2.result.now c.in_ok-prefixes.prefixes
+    c.in_ok-context.context
+    c.as_slice.ensures c.as_slice-2.ensures (c.in_ok-prefixes.ensures.prefixes F (extends_before c.planned.ensures.asks known))
+    c.in_ok-context.ensures)
     (c.planned.ensures.works F known)

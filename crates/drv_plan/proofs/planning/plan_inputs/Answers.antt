@@ -5,11 +5,16 @@ use Rattle.drv_system.proofs.AskedCalls.{extends_before}
 
 pub returns-in_err-add_inputs-clause-works : goal.returns-in_err-add_inputs-clause-works
 returns-in_err-add_inputs-clause-works g c F e =
-    refusal_given c.in_err-add_inputs.field-0.0 c.from_residual.result _ (then_by (with_inputs F c.args.set.now 0 c.args.inputs.now c.args.progress.now) (λ g'. finished F c.args.set.now g')) c.from_residual.ensures.1
-    (inputs_refused F c.args.set.now c.args.inputs.now c.args.progress.now c.in_err-add_inputs.field-0.0 (c.in_err-add_inputs.ensures.works F e))
+    refusal_given c.in_err-add_inputs.field-0.0 c.from_residual.result _
+    (then_by (with_inputs F c.args.set.now 0 c.args.inputs.now c.args.progress.now) (λ g'. finished F c.args.set.now g'))
+    c.from_residual.ensures.1
+    (inputs_refused F c.args.set.now c.args.inputs.now c.args.progress.now c.in_err-add_inputs.field-0.0
+    (c.in_err-add_inputs.ensures.works F e))
 
 pub returns-clause-works : goal.returns-clause-works
 returns-clause-works g c F e =
-    given_alike _ c.finish.result (finished F c.args.set.now c.add_inputs.new.progress) (then_by (with_inputs F c.args.set.now 0 c.args.inputs.now c.args.progress.now) (λ g'. finished F c.args.set.now g'))
-    (inputs_worked F c.args.set.now c.args.inputs.now c.args.progress.now c.add_inputs.new.progress (c.in_ok-add_inputs.ensures.works F (extends_before c.finish.ensures.asks e)))
+    given_alike _ c.finish.result (finished F c.args.set.now c.add_inputs.new.progress)
+    (then_by (with_inputs F c.args.set.now 0 c.args.inputs.now c.args.progress.now) (λ g'. finished F c.args.set.now g'))
+    (inputs_worked F c.args.set.now c.args.inputs.now c.args.progress.now c.add_inputs.new.progress
+    (c.in_ok-add_inputs.ensures.works F (extends_before c.finish.ensures.asks e)))
     (c.finish.ensures.works F e)

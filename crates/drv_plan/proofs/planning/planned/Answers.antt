@@ -4,6 +4,7 @@ use Rattle.drv_plan.specs.Denoted.{finished, planned, then_by, with_inputs}
 
 pub returns-clause-works : goal.returns-clause-works
 returns-clause-works g c F e =
-    given_alike _ c.plan_inputs.result (then_by (with_inputs F c.args.set.now 0 c.args.inputs.now c.in_ok-progress.progress) (λ g'. finished F c.args.set.now g')) (planned F c.args.set.now c.args.inputs.now c.args.context)
+    given_alike _ c.plan_inputs.result (then_by (with_inputs F c.args.set.now 0 c.args.inputs.now c.in_ok-progress.progress)
+    (λ g'. finished F c.args.set.now g')) (planned F c.args.set.now c.args.inputs.now c.args.context)
     (plan_begun F c.args.set.now c.args.inputs.now c.args.context c.in_ok-progress.progress c.in_ok-progress.ensures)
     (c.plan_inputs.ensures.works F e)

@@ -11,7 +11,8 @@ returns-in_err-chosen-clause-apart g c =
 
 pub returns-in_err-chosen-clause-works : goal.returns-in_err-chosen-clause-works
 returns-in_err-chosen-clause-works g c F e =
-    refusal_given c.in_err-chosen.field-0.0 c.from_residual.result _ (with_input F c.args.set.now c.args.place c.args.input.now c.args.progress.now) c.from_residual.ensures.1
+    refusal_given c.in_err-chosen.field-0.0 c.from_residual.result _ (with_input F c.args.set.now c.args.place c.args.input.now
+    c.args.progress.now) c.from_residual.ensures.1
     (language_refused F c.args.set.now c.args.place c.args.input.now c.args.progress.now c.in_err-chosen.field-0.0 c.in_err-chosen.ensures)
 
 pub returns-in-File-clause-works : goal.returns-in-File-clause-works

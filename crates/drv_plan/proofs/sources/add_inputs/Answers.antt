@@ -5,14 +5,19 @@ use Rattle.drv_system.proofs.AskedCalls.{asked_further, extends_before}
 
 pub returns-in_err-add_input-clause-works : goal.returns-in_err-add_input-clause-works
 returns-in_err-add_input-clause-works g c F e =
-    refusal_given c.in_err-add_input.field-0.0 c.from_residual.result _ (with_inputs F c.args.set.now 0 c.args.inputs.now c.args.progress.now) c.from_residual.ensures.1
-    (input_refused F c.args.set.now c.args.inputs.now c.loop-place.place c.index-inputs-place.result c.loop-place.progress c.in_err-add_input.field-0.0 (with_inputs F c.args.set.now 0 c.args.inputs.now c.args.progress.now)
-    c.loop-place-test.true c.index-inputs-place.is (c.in_err-add_input.ensures.works F e) (c.loop-place.invariant.rest F (extends_before c.add_input.ensures.asks e)))
+    refusal_given c.in_err-add_input.field-0.0 c.from_residual.result _
+    (with_inputs F c.args.set.now 0 c.args.inputs.now c.args.progress.now) c.from_residual.ensures.1
+    (input_refused F c.args.set.now c.args.inputs.now c.loop-place.place c.index-inputs-place.result c.loop-place.progress
+    c.in_err-add_input.field-0.0 (with_inputs F c.args.set.now 0 c.args.inputs.now c.args.progress.now)
+    c.loop-place-test.true c.index-inputs-place.is (c.in_err-add_input.ensures.works F e)
+    (c.loop-place.invariant.rest F (extends_before c.add_input.ensures.asks e)))
 
 pub loop-place-preserved : goal.loop-place-preserved
 loop-place-preserved g c = record {
   asks = asked_further c.loop-place.invariant.asks c.add_input.ensures.asks;
   rest = λ F e.
-      input_taken F c.args.set.now c.args.inputs.now c.loop-place.place c.index-inputs-place.result c.loop-place.progress c.add_input.new.progress (with_inputs F c.args.set.now 0 c.args.inputs.now c.args.progress.now)
-      c.loop-place-test.true c.index-inputs-place.is (c.in_ok-add_input.ensures.works F e) (c.loop-place.invariant.rest F (extends_before c.add_input.ensures.asks e));
+      input_taken F c.args.set.now c.args.inputs.now c.loop-place.place c.index-inputs-place.result c.loop-place.progress
+      c.add_input.new.progress (with_inputs F c.args.set.now 0 c.args.inputs.now c.args.progress.now)
+      c.loop-place-test.true c.index-inputs-place.is (c.in_ok-add_input.ensures.works F e)
+      (c.loop-place.invariant.rest F (extends_before c.add_input.ensures.asks e));
 }

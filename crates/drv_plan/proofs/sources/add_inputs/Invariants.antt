@@ -8,5 +8,6 @@ use Rattle.std.proofs.Common.{◌≡◌, drop}
 abbrev pub invariant-loop-place : goal.invariant-loop-place
 invariant-loop-place g l = record {
   asks : Asked g.S.System.events l.fn.outside l.outside;
-  rest : (F : Facts) → Extends l.outside.facts.now F → with_inputs F l.set l.place (drop l.place l.inputs) l.progress ≡ with_inputs F l.set 0 l.inputs l.fn.progress;
+  rest : (F : Facts) → Extends l.outside.facts.now F → with_inputs F l.set l.place (drop l.place l.inputs) l.progress
+      ≡ with_inputs F l.set 0 l.inputs l.fn.progress;
 }

@@ -4,4 +4,5 @@ use Rattle.std.proofs.Common.{◌∙◌}
 
 pub returns-clause-works : goal.returns-clause-works
 returns-clause-works g c F e =
-    text_worked F c.args.text.now c.args.self.now c.go_on.new.self c.in_ok-done.done c.into_job.result (c.in_ok-done.ensures.works F e) c.in_ok-go_on.ensures.keeps (c.into_job.ensures ∙ c.go_on.ensures.job)
+    text_worked F c.args.text.now c.args.self.now c.go_on.new.self c.in_ok-done.done c.into_job.result (c.in_ok-done.ensures.works F e)
+    c.in_ok-go_on.ensures.keeps (c.into_job.ensures ∙ c.go_on.ensures.job)
