@@ -1,6 +1,8 @@
 use Rattle.drv_funcs.specs.Code.Reading.{read_on}
 use Rattle.drv_funcs.specs.Versions.{is_part, number, parts, version}
-use Rattle.std.proofs.Common.{◌≡◌, ◌<◌, ◌≤◌, ◌+◌, ◌-◌, ◌*◌, ◌∙◌, ◌==◌, ◌&&◌, Bool, false, true, List, [], ◌∷◌, ◌++◌, None, Option, Some, ap, append-nil, append_assoc, arith, drop, get_or, if◌then◌else◌, length, length-append, map, nat_le, nat_lt, refl, suc, sym, zero, ℕ}
+use Rattle.std.proofs.Common.{◌≡◌, ◌<◌, ◌≤◌, ◌+◌, ◌-◌, ◌*◌, ◌∙◌, ◌==◌, ◌&&◌, Bool, false, true, List, [], ◌∷◌, ◌++◌, None, Option, Some, ap}
+use Rattle.std.proofs.Common.{append-nil, append_assoc, arith, drop, get_or, if◌then◌else◌, length, length-append, map, nat_le, nat_lt}
+use Rattle.std.proofs.Common.{refl, suc, sym, zero, ℕ}
 use Rattle.std.proofs.Math.Bool.{and-false}
 use Rattle.std.proofs.lemmas.Bool.{eqb-true, lt-ltb}
 use Rattle.std.proofs.lemmas.Bool.Decides.{nat_tests}
@@ -9,18 +11,18 @@ use Rattle.std.specs.Char.{is_ascii_digit}
 use Rattle.std.specs.List.{fold, list_all, onto_first, slice_split}
 use Rattle.std.specs.Str.{byte}
 
--- A version read byte by byte is the list of the numbers between its dots.
+-- For version_of: reading a version byte by byte gives the list of the numbers between its dots.
 
--- bytes stand before the first part
+-- bytes in front of the first part
 abbrev prefixed : List ℕ → List (List ℕ) → List (List ℕ)
 prefixed part [] = part ∷ []
 prefixed part (first ∷ rest) = (part ++ first) ∷ rest
 
--- these numbers, and those of parts, if they are well formed and few enough
+-- these numbers, and those of the parts, if they are well formed and few enough
 abbrev taken : List ℕ → List (List ℕ) → Option (List ℕ)
 taken numbers all = if nat_le (length numbers + length all) 32 && list_all is_part all then Some (numbers ++ map number all) else None
 
--- a byte goes over to what stands before
+-- a byte moves to the bytes in front
 prefixed_onto : (part : List ℕ) (b : ℕ) (ps : List (List ℕ)) → prefixed part (onto_first b ps) ≡ prefixed (part ++ b ∷ []) ps
 prefixed_onto part b [] = refl
 prefixed_onto part b (first ∷ rest) = ap (λ p. p ∷ rest) (sym (append_assoc part (b ∷ []) first))
@@ -30,7 +32,8 @@ prefixed_empty : (text : List ℕ) → prefixed [] (parts text) ≡ parts text
 prefixed_empty [] = refl
 prefixed_empty (b ∷ text) = by (b == byte ".") (slice_split (λ c. c == byte ".") text) refl
   where
-    by : (t : Bool) (ps : List (List ℕ)) → (b == byte ".") ≡ t → prefixed [] (if b == byte "." then [] ∷ ps else onto_first b ps) ≡ (if b == byte "." then [] ∷ ps else onto_first b ps)
+    by : (t : Bool) (ps : List (List ℕ)) → (b == byte ".") ≡ t → prefixed [] (if b == byte "." then [] ∷ ps else onto_first b ps)
+        ≡ (if b == byte "." then [] ∷ ps else onto_first b ps)
     by true ps e = rw e refl
     by false [] e = rw e refl
     by false (p ∷ ps) e = rw e refl
@@ -43,11 +46,13 @@ all_append : (test : ℕ → Bool) (xs ys : List ℕ) → list_all test (xs ++ y
 all_append test [] ys = refl
 all_append test (x ∷ xs) ys = by (test x) (all_append test xs ys)
   where
-    by : (t : Bool) → list_all test (xs ++ ys) ≡ (list_all test xs && list_all test ys) → (t && list_all test (xs ++ ys)) ≡ ((t && list_all test xs) && list_all test ys)
+    by : (t : Bool) → list_all test (xs ++ ys) ≡ (list_all test xs && list_all test ys)
+        → (t && list_all test (xs ++ ys)) ≡ ((t && list_all test xs) && list_all test ys)
     by true e = e
     by false e = refl
 
-fold_append : (n : ℕ) (xs : List ℕ) (b : ℕ) → fold (λ m d. m * 10 + (d - byte "0")) n (xs ++ b ∷ []) ≡ fold (λ m d. m * 10 + (d - byte "0")) n xs * 10 + (b - byte "0")
+fold_append : (n : ℕ) (xs : List ℕ) (b : ℕ) → fold (λ m d. m * 10 + (d - byte "0")) n (xs ++ b ∷ []) ≡ fold (λ m d. m * 10 + (d - byte "0"))
+    n xs * 10 + (b - byte "0")
 fold_append n [] b = refl
 fold_append n (x ∷ xs) b = fold_append (n * 10 + (x - byte "0")) xs b
 
@@ -77,7 +82,7 @@ part_is part digits short =
     by true = refl
     by false = refl
 
--- no part begins with ten digits, or with another byte among its digits
+-- a part doesn't begin with ten digits, nor does it have any other byte
 too_long : (part tail : List ℕ) → 9 < length part → is_part (part ++ tail) ≡ false
 too_long part tail long =
     let over : nat_le (length (part ++ tail)) 9 ≡ false = let more : 9 < length (part ++ tail) = omega (arith, length-append part tail, long) in grind (arith, nat_tests) in
@@ -88,7 +93,8 @@ too_long part tail long =
     by false u = refl
 
 no_digits : (part tail : List ℕ) → list_all is_ascii_digit part ≡ false → is_part (part ++ tail) ≡ false
-no_digits part tail other = rw (all_append is_ascii_digit part tail, other) (by (nat_le 1 (length (part ++ tail)) && nat_le (length (part ++ tail)) 9))
+no_digits part tail other = rw (all_append is_ascii_digit part tail, other)
+    (by (nat_le 1 (length (part ++ tail)) && nat_le (length (part ++ tail)) 9))
   where
     by : (t : Bool) → (t && false) ≡ false
     by true = refl
@@ -103,26 +109,36 @@ first_bad : (s t : Bool) → s ≡ false → (s && t) ≡ false
 first_bad true t e = absurd cc
 first_bad false t e = refl
 
-bad_first : (numbers part : List ℕ) (ps : List (List ℕ)) → ((tail : List ℕ) → is_part (part ++ tail) ≡ false) → taken numbers (prefixed part ps) ≡ None
-bad_first numbers part [] bad = none_of (nat_le (length numbers + length (part ∷ [])) 32) (list_all is_part (part ∷ [])) _ (first_bad (is_part part) true (ap is_part (sym (append-nil part)) ∙ bad []))
-bad_first numbers part (first ∷ rest) bad = none_of (nat_le (length numbers + length ((part ++ first) ∷ rest)) 32) (list_all is_part ((part ++ first) ∷ rest)) _ (first_bad (is_part (part ++ first)) (list_all is_part rest) (bad first))
+bad_first : (numbers part : List ℕ) (ps : List (List ℕ)) → ((tail : List ℕ) → is_part (part ++ tail) ≡ false)
+    → taken numbers (prefixed part ps) ≡ None
+bad_first numbers part [] bad = none_of (nat_le (length numbers + length (part ∷ [])) 32) (list_all is_part (part ∷ [])) _
+    (first_bad (is_part part) true (ap is_part (sym (append-nil part)) ∙ bad []))
+bad_first numbers part (first ∷ rest) bad = none_of (nat_le (length numbers + length ((part ++ first) ∷ rest)) 32)
+    (list_all is_part ((part ++ first) ∷ rest)) _ (first_bad (is_part (part ++ first)) (list_all is_part rest) (bad first))
 
 -- the last part
-at_end : (numbers part : List ℕ) → list_all is_ascii_digit part ≡ true → length part ≤ 9 → (if nat_lt 0 (length part) && nat_lt (length numbers) 32 then Some (numbers ++ number part ∷ []) else None) ≡ taken numbers (part ∷ [])
+at_end : (numbers part : List ℕ) → list_all is_ascii_digit part ≡ true → length part ≤ 9
+    → (if nat_lt 0 (length part) && nat_lt (length numbers) 32 then Some (numbers ++ number part ∷ []) else None)
+    ≡ taken numbers (part ∷ [])
 at_end numbers part digits short =
     rw (le_lt (length numbers) 32, part_is part digits short) (by (nat_lt 0 (length part)) (nat_lt (length numbers) 32))
   where
-    by : (t u : Bool) → (if t && u then Some (numbers ++ number part ∷ []) else None) ≡ (if u && (t && true) then Some (numbers ++ number part ∷ []) else None)
+    by : (t u : Bool) → (if t && u then Some (numbers ++ number part ∷ []) else None)
+        ≡ (if u && (t && true) then Some (numbers ++ number part ∷ []) else None)
     by true true = refl
     by true false = refl
     by false true = refl
     by false false = refl
 
 -- a part before others
-at_dot : (numbers part : List ℕ) (ps : List (List ℕ)) → list_all is_ascii_digit part ≡ true → length part ≤ 9 → (if nat_lt 0 (length part) && nat_lt (length numbers) 32 then taken (numbers ++ number part ∷ []) ps else None) ≡ taken numbers (part ∷ ps)
+at_dot : (numbers part : List ℕ) (ps : List (List ℕ)) → list_all is_ascii_digit part ≡ true → length part ≤ 9
+    → (if nat_lt 0 (length part) && nat_lt (length numbers) 32 then taken (numbers ++ number part ∷ []) ps else None)
+    ≡ taken numbers (part ∷ ps)
 at_dot numbers part ps digits short = rw (part_is part digits short) (by (nat_lt 0 (length part)) (nat_lt (length numbers) 32) refl)
   where
-    by : (t u : Bool) → nat_lt (length numbers) 32 ≡ u → (if t && u then taken (numbers ++ number part ∷ []) ps else None) ≡ (if nat_le (length numbers + suc (length ps)) 32 && (t && list_all is_part ps) then Some (numbers ++ (number part ∷ map number ps)) else None)
+    by : (t u : Bool) → nat_lt (length numbers) 32 ≡ u → (if t && u then taken (numbers ++ number part ∷ []) ps else None)
+        ≡ (if nat_le (length numbers + suc (length ps)) 32 && (t && list_all is_part ps) then Some
+        (numbers ++ (number part ∷ map number ps)) else None)
     by true true e =
         let longer : length (numbers ++ number part ∷ []) + length ps ≡ length numbers + suc (length ps) = omega (arith, length-append numbers (number part ∷ [])) in
         rw (longer, append_assoc numbers (number part ∷ []) (map number ps)) refl
@@ -140,15 +156,19 @@ digit_no_dot b digit = by (b == byte ".") refl
     by false e = refl
     by true e = absurd (let is : b ≡ byte "." = eqb-true b (byte ".") e in let clash : true ≡ false = sym digit ∙ ap is_ascii_digit is in cc)
 
-read_whole : (numbers part text : List ℕ) → list_all is_ascii_digit part ≡ true → length part ≤ 9 → read_on numbers (number part) (length part) text ≡ taken numbers (prefixed part (parts text))
+read_whole : (numbers part text : List ℕ) → list_all is_ascii_digit part ≡ true → length part ≤ 9
+    → read_on numbers (number part) (length part) text ≡ taken numbers (prefixed part (parts text))
 read_whole numbers part [] digits short = at_end numbers part digits short ∙ ap (λ p. taken numbers (p ∷ [])) (sym (append-nil part))
-read_whole numbers part (b ∷ text) digits short = by (is_ascii_digit b) (nat_lt (length part) 9) (b == byte ".") refl refl refl (λ few. read_whole numbers (part ++ b ∷ []) text few) (read_whole (numbers ++ number part ∷ []) [] text refl (omega arith))
+read_whole numbers part (b ∷ text) digits short = by (is_ascii_digit b) (nat_lt (length part) 9) (b == byte ".") refl refl refl
+    (λ few. read_whole numbers (part ++ b ∷ []) text few) (read_whole (numbers ++ number part ∷ []) [] text refl (omega arith))
   where
     onto : (b == byte ".") ≡ false → prefixed part (parts (b ∷ text)) ≡ prefixed (part ++ b ∷ []) (parts text)
     onto e = (rw e refl) ∙ prefixed_onto part b (parts text)
 
     by : (d n p : Bool) → is_ascii_digit b ≡ d → nat_lt (length part) 9 ≡ n → (b == byte ".") ≡ p
-        → (list_all is_ascii_digit (part ++ b ∷ []) ≡ true → length (part ++ b ∷ []) ≤ 9 → read_on numbers (number (part ++ b ∷ [])) (length (part ++ b ∷ [])) text ≡ taken numbers (prefixed (part ++ b ∷ []) (parts text)))
+        → (list_all is_ascii_digit (part ++ b ∷ []) ≡ true → length (part ++ b ∷ []) ≤ 9
+        → read_on numbers (number (part ++ b ∷ [])) (length (part ++ b ∷ [])) text ≡ taken numbers
+        (prefixed (part ++ b ∷ []) (parts text)))
         → read_on (numbers ++ number part ∷ []) 0 0 text ≡ taken (numbers ++ number part ∷ []) (prefixed [] (parts text))
         → read_on numbers (number part) (length part) (b ∷ text) ≡ taken numbers (prefixed part (parts (b ∷ text)))
     by true true p e e' e'' ih ih' =
@@ -160,18 +180,22 @@ read_whole numbers part (b ∷ text) digits short = by (is_ascii_digit b) (nat_l
     by true false p e e' e'' ih ih' =
         let dot : (b == byte ".") ≡ false = digit_no_dot b e in
         let many : 9 < length (part ++ b ∷ []) = let enough : 9 ≤ length part = grind (arith, nat_tests) in omega (arith, length-append part (b ∷ []), enough) in
-        (rw (e, e', dot) refl) ∙ sym (ap (taken numbers) (onto dot) ∙ bad_first numbers (part ++ b ∷ []) (parts text) (λ tail. too_long (part ++ b ∷ []) tail many))
+        (rw (e, e', dot) refl) ∙ sym (ap (taken numbers) (onto dot) ∙ bad_first numbers (part ++ b ∷ []) (parts text)
+        (λ tail. too_long (part ++ b ∷ []) tail many))
     by false n true e e' e'' ih ih' =
-        (rw (e, e'') refl) ∙ ap (λ rest. if nat_lt 0 (length part) && nat_lt (length numbers) 32 then rest else None) (ih' ∙ ap (taken (numbers ++ number part ∷ [])) (prefixed_empty text)) ∙ at_dot numbers part (parts text) digits short ∙ (rw (e'', append-nil part) refl)
+        (rw (e, e'') refl) ∙ ap (λ rest. if nat_lt 0 (length part) && nat_lt (length numbers) 32 then rest else None)
+        (ih' ∙ ap (taken (numbers ++ number part ∷ [])) (prefixed_empty text)) ∙ at_dot numbers part (parts text) digits short
+        ∙ (rw (e'', append-nil part) refl)
     by false n false e e' e'' ih ih' =
         let broken : list_all is_ascii_digit (part ++ b ∷ []) ≡ false = all_append is_ascii_digit part (b ∷ []) ∙ (rw e (and-false (list_all is_ascii_digit part))) in
-        (rw (e, e'') refl) ∙ sym (ap (taken numbers) (onto e'') ∙ bad_first numbers (part ++ b ∷ []) (parts text) (λ tail. no_digits (part ++ b ∷ []) tail broken))
+        (rw (e, e'') refl) ∙ sym (ap (taken numbers) (onto e'') ∙ bad_first numbers (part ++ b ∷ []) (parts text)
+        (λ tail. no_digits (part ++ b ∷ []) tail broken))
 
--- from the start on
+-- from the start
 pub read_version : (text : List ℕ) → read_on [] 0 0 text ≡ version text
 read_version text = read_whole [] [] text refl (omega arith) ∙ ap (taken []) (prefixed_empty text) ∙ (let same : 0 + length (parts text) ≡ length (parts text) = omega arith in rw same refl)
 
--- What so many digits can write.
+-- The number that so many digits can express.
 
 abbrev pub ten_to : ℕ → ℕ
 ten_to zero = 1
@@ -204,14 +228,19 @@ digit_small b digit = by (nat_le (byte "0") b) (nat_le b (byte "9")) refl refl d
     by false u e e' both = absurd cc
 
 -- a digit
-pub digit_step : (numbers : List ℕ) (number digits : ℕ) (text : List ℕ) (i : ℕ) (whole : Option (List ℕ)) → i < length text → is_ascii_digit (get_or text i 0) ≡ true → digits < 9 → read_on numbers number digits (drop i text) ≡ whole → read_on numbers (number * 10 + (get_or text i 0 - byte "0")) (digits + 1) (drop (i + 1) text) ≡ whole
+pub digit_step : (numbers : List ℕ) (number digits : ℕ) (text : List ℕ) (i : ℕ) (whole : Option (List ℕ)) → i < length text
+    → is_ascii_digit (get_or text i 0) ≡ true → digits < 9 → read_on numbers number digits (drop i text) ≡ whole
+    → read_on numbers (number * 10 + (get_or text i 0 - byte "0")) (digits + 1) (drop (i + 1) text) ≡ whole
 digit_step numbers number digits text i whole below digit few done = step ∙ done
   where
-    step : read_on numbers (number * 10 + (get_or text i 0 - byte "0")) (digits + 1) (drop (i + 1) text) ≡ read_on numbers number digits (drop i text)
+    step : read_on numbers (number * 10 + (get_or text i 0 - byte "0")) (digits + 1) (drop (i + 1) text) ≡ read_on numbers number
+        digits (drop i text)
     step = rw (drop_more text i 0 below, digit, lt-ltb digits 9 few) refl
 
 -- a dot after a part
-pub dot_step : (numbers after : List ℕ) (number digits : ℕ) (text : List ℕ) (i : ℕ) (whole : Option (List ℕ)) → i < length text → get_or text i 0 ≡ byte "." → 0 < digits → length numbers < 32 → after ≡ numbers ++ number ∷ [] → read_on numbers number digits (drop i text) ≡ whole → read_on after 0 0 (drop (i + 1) text) ≡ whole
+pub dot_step : (numbers after : List ℕ) (number digits : ℕ) (text : List ℕ) (i : ℕ) (whole : Option (List ℕ)) → i < length text
+    → get_or text i 0 ≡ byte "." → 0 < digits → length numbers < 32 → after ≡ numbers ++ number ∷ []
+    → read_on numbers number digits (drop i text) ≡ whole → read_on after 0 0 (drop (i + 1) text) ≡ whole
 dot_step numbers after number digits text i whole below dot some room is done = rw is (step ∙ done)
   where
     step : read_on (numbers ++ number ∷ []) 0 0 (drop (i + 1) text) ≡ read_on numbers number digits (drop i text)

@@ -14,9 +14,9 @@ use Rattle.std.specs.List.{list_all}
 use Rattle.std.specs.Ordering.{is_eq, is_gt, is_lt, is_some_and}
 use Rattle.std.specs.Prelude.{codes, is_some}
 
--- Worked values of the definitions, by computation.
+-- Examples, which the prover computes from the definitions.
 
--- versions, each earlier than the other of its pair
+-- pairs of versions whose first one is earlier
 abbrev earlier : List (List ℕ × List ℕ)
 earlier =
     (codes "1", codes "2") ∷ (codes "1", codes "10") ∷ (codes "9", codes "10") ∷ (codes "09", codes "10") ∷ (codes "1.2", codes "1.3")
@@ -26,23 +26,26 @@ earlier =
     ∷ (codes "10.3", codes "10.30") ∷ (codes "10.4.9", codes "10.5") ∷ (codes "2", codes "11") ∷ (codes "999999998", codes "999999999")
     ∷ (codes "1.999999999", codes "2") ∷ (codes "10.15.7", codes "11.0.1") ∷ (codes "1.1.1.1.1.1.1.1", codes "1.1.1.1.1.1.1.2") ∷ []
 
-earlier_holds : list_all (λ pair. is_some_and is_lt (compared (version pair.0) (version pair.1)) && is_some_and is_gt (compared (version pair.1) (version pair.0))) earlier ≡ true
+earlier_holds : list_all (λ pair. is_some_and is_lt (compared (version pair.0) (version pair.1)) && is_some_and is_gt
+    (compared (version pair.1) (version pair.0))) earlier ≡ true
 earlier_holds = refl
 
--- pairs of one version
+-- pairs of equal versions
 abbrev alike : List (List ℕ × List ℕ)
 alike =
     (codes "1", codes "1") ∷ (codes "1", codes "01") ∷ (codes "0", codes "00") ∷ (codes "0", codes "000000000") ∷ (codes "1.2", codes "1.2")
     ∷ (codes "1.2", codes "1.02") ∷ (codes "01.02", codes "1.2") ∷ (codes "10.3", codes "10.3") ∷ (codes "10.3", codes "010.003")
     ∷ (codes "999999999", codes "999999999") ∷ (codes "1.0.0", codes "1.0.0") ∷ (codes "1.0.0", codes "1.00.000") ∷ []
 
-alike_hold : list_all (λ pair. is_some_and is_eq (compared (version pair.0) (version pair.1)) && is_some_and is_eq (compared (version pair.1) (version pair.0))) alike ≡ true
+alike_hold : list_all (λ pair. is_some_and is_eq (compared (version pair.0) (version pair.1)) && is_some_and is_eq
+    (compared (version pair.1) (version pair.0))) alike ≡ true
 alike_hold = refl
 
--- pairs of which one text, or both, is no version
+-- pairs with a text that is not a version
 abbrev no_versions : List (List ℕ × List ℕ)
 no_versions =
-    (codes "", codes "1") ∷ (codes "1", codes "") ∷ (codes ".", codes "1") ∷ (codes "1", codes "1.") ∷ (codes "1.", codes "1.") ∷ (codes ".1", codes "1")
+    (codes "", codes "1") ∷ (codes "1", codes "") ∷ (codes ".", codes "1") ∷ (codes "1", codes "1.") ∷ (codes "1.", codes "1.") ∷
+    (codes ".1", codes "1")
     ∷ (codes "1..2", codes "1.2") ∷ (codes "1", codes "1a") ∷ (codes "a", codes "b") ∷ (codes "1-2", codes "1.2") ∷ (codes "1 ", codes "1")
     ∷ (codes " 1", codes "1") ∷ (codes "+1", codes "1") ∷ (codes "-1", codes "1") ∷ (codes "1,2", codes "1.2") ∷ (codes "1", codes "x")
     ∷ (codes "1000000000", codes "1") ∷ (codes "0000000001", codes "1") ∷ (codes "1.1234567890", codes "1")
@@ -56,9 +59,10 @@ no_versions_hold = refl
 most_parts : is_some (version (codes "1.1.1.1.1.1.1.1.1.1.1.1.1.1.1.1.1.1.1.1.1.1.1.1.1.1.1.1.1.1.1.1")) ≡ true
 most_parts = refl
 
--- what a comparison with 2 and 4 says of values below the first version, at it, between them, at the second, and above
+-- the comparisons with 2 and 4, for values below the first version, at it, between the two, at the second, and above it
 abbrev judgements : Operator → List (Result Bool FuncsFault)
-judgements operator = map (judged operator (codes "2") (codes "4")) (Some (codes "1.9") ∷ Some (codes "2") ∷ Some (codes "3") ∷ Some (codes "4") ∷ Some (codes "4.0") ∷ None ∷ [])
+judgements operator = map (judged operator (codes "2") (codes "4")) (Some (codes "1.9") ∷ Some (codes "2") ∷ Some (codes "3") ∷ Some
+    (codes "4") ∷ Some (codes "4.0") ∷ None ∷ [])
 
 at_least : judgements AtLeast ≡ Ok false ∷ Ok true ∷ Ok true ∷ Ok true ∷ Ok true ∷ Ok false ∷ []
 at_least = refl
@@ -78,7 +82,7 @@ between = refl
 outside : judgements Outside ≡ Ok true ∷ Ok false ∷ Ok false ∷ Ok true ∷ Ok true ∷ Ok false ∷ []
 outside = refl
 
--- the versions are judged in order, and then the value
+-- the first version is judged first, then the second, then the value
 first_version : judged AtLeast (codes "1..2") (codes "x") (Some (codes "y")) ≡ Err (BadVersion (codes "1..2"))
 first_version = refl
 
@@ -104,7 +108,8 @@ no_switch = refl
 no_switch_not : compare [] (codes "!>" ∷ codes "10.3" ∷ codes "mv=" ∷ codes "-lmx" ∷ []) ≡ Ok (Some (codes "-lmx"))
 no_switch_not = refl
 
-last_switch : compare (codes "mv=1" ∷ codes "mv=11" ∷ codes "g" ∷ []) (codes ">=" ∷ codes "10" ∷ codes "mv=" ∷ codes "x" ∷ []) ≡ Ok (Some (codes "x"))
+last_switch : compare (codes "mv=1" ∷ codes "mv=11" ∷ codes "g" ∷ []) (codes ">=" ∷ codes "10" ∷ codes "mv=" ∷ codes "x" ∷ [])
+    ≡ Ok (Some (codes "x"))
 last_switch = refl
 
 bad_operator : compare [] (codes "=" ∷ codes "1" ∷ codes "mv=" ∷ codes "x" ∷ []) ≡ Err (BadOperator (codes "="))
@@ -118,7 +123,12 @@ bad_version = refl
 
 -- files and variables
 abbrev facts : Facts
-facts = record { reads = []; kinds = (codes "/here", Plain) ∷ (codes "/no", Missing) ∷ []; variables = (codes "HERE", Some (codes "/opt")) ∷ (codes "NOPE", None) ∷ [] }
+facts = record {
+  reads = [];
+  kinds = (codes "/here", Plain) ∷ (codes "/no", Missing) ∷ [];
+  variables = (codes "HERE", Some (codes "/opt")) ∷
+      (codes "NOPE", None) ∷ [];
+}
 
 set_variable : getenv facts (codes "HERE" ∷ codes "/x" ∷ []) ≡ Is (Ok (Some (codes "/opt/x")))
 set_variable = refl
@@ -148,7 +158,8 @@ there_nothing = refl
 abbrev outputs : List (List ℕ)
 outputs = codes "-lm" ∷ codes "a.o" ∷ codes "-lm" ∷ []
 
-replaces : called facts [] [] Link ReplaceOutfile (codes "-lm" ∷ codes "-lq" ∷ []) outputs ≡ Is (Ok (record { given = None; outputs = codes "-lq" ∷ codes "a.o" ∷ codes "-lq" ∷ [] }))
+replaces : called facts [] [] Link ReplaceOutfile (codes "-lm" ∷ codes "-lq" ∷ []) outputs
+    ≡ Is (Ok (record { given = None; outputs = codes "-lq" ∷ codes "a.o" ∷ codes "-lq" ∷ [] }))
 replaces = refl
 
 removes : called facts [] [] Link RemoveOutfile (codes "-lm" ∷ []) outputs ≡ Is (Ok (record { given = None; outputs = codes "a.o" ∷ [] }))

@@ -1,3 +1,3 @@
--- How the code goes over its input, step by step: what stands between the code and the definitions. No public contract rests on these.
+-- How the code works, step by step. Public contracts don't cite these.
 pub mod Reading
 pub mod Telling

@@ -10,13 +10,14 @@ use Rattle.std.specs.Prelude.{◌&&◌, ◌||◌, Bool, List, [], ◌∷◌, Opt
 
 abbrev pub operators : List (List ℕ × Operator)
 operators =
-    (codes ">=", AtLeast) ∷ (codes "!>", NotAtLeast) ∷ (codes "<", Below) ∷ (codes "!<", NotBelow) ∷ (codes "><", Between) ∷ (codes "<>", Outside) ∷ []
+    (codes ">=", AtLeast) ∷ (codes "!>", NotAtLeast) ∷ (codes "<", Below) ∷ (codes "!<", NotBelow) ∷ (codes "><", Between) ∷
+    (codes "<>", Outside) ∷ []
 
--- the comparison that a word names
+-- the comparison with this name
 abbrev pub operator_of : List ℕ → Option Operator
 operator_of word = lookup (pointwise nat_eq word) operators
 
--- it is with two versions
+-- it compares with two versions
 abbrev pub takes_two : Operator → Bool
 takes_two Between = true
 takes_two Outside = true
@@ -26,7 +27,7 @@ takes_two operator = false
 abbrev pub is_earlier : List ℕ → List ℕ → Bool
 is_earlier one other = is_lt (order one other)
 
--- a version stands so to the first one, and to the second if the comparison is with two
+-- how a version compares with the first version, and with the second if the comparison takes two
 abbrev pub holds : Operator → List ℕ → List ℕ → List ℕ → Bool
 holds AtLeast value first second = not (is_earlier value first)
 holds NotAtLeast value first second = is_earlier value first
@@ -35,7 +36,7 @@ holds NotBelow value first second = not (is_earlier value first)
 holds Between value first second = not (is_earlier value first) && is_earlier value second
 holds Outside value first second = is_earlier value first || not (is_earlier value second)
 
--- what is answered where no switch has the prefix: a comparison that begins with `!` holds
+-- the answer if no switch has the prefix: a comparison that begins with `!` holds
 abbrev pub holds_of_none : Operator → Bool
 holds_of_none NotAtLeast = true
 holds_of_none NotBelow = true

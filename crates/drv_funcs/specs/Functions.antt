@@ -1,10 +1,11 @@
 use Rattle.drv_funcs.specs.declared.function.Function.{Function}
-use Rattle.drv_funcs.specs.declared.function.Function.TheVariants.{Getenv, IfExists, IfExistsElse, IfExistsThenElse, RemoveOutfile, ReplaceOutfile, VersionCompare}
+use Rattle.drv_funcs.specs.declared.function.Function.TheVariants.{Getenv, IfExists, IfExistsElse, IfExistsThenElse, RemoveOutfile}
+use Rattle.drv_funcs.specs.declared.function.Function.TheVariants.{ReplaceOutfile, VersionCompare}
 use Rattle.std.specs.Cmp.Lexicographic.{pointwise}
 use Rattle.std.specs.Map.{lookup}
 use Rattle.std.specs.Prelude.{List, [], ◌∷◌, Option, codes, nat_eq, ℕ}
 
--- The functions of spec texts by name (GCC manual, "Spec Files"; which ones there are is this project's profile).
+-- The names of the functions of spec texts (GCC manual, "Spec Files"; which functions there are is this project's profile).
 
 abbrev pub name_of : Function → List ℕ
 name_of Getenv = codes "getenv"
@@ -21,6 +22,6 @@ functions =
     ∷ (codes "if-exists-then-else", IfExistsThenElse) ∷ (codes "replace-outfile", ReplaceOutfile)
     ∷ (codes "remove-outfile", RemoveOutfile) ∷ (codes "version-compare", VersionCompare) ∷ []
 
--- the function that a name denotes
+-- the function with this name
 abbrev pub function_of : List ℕ → Option Function
 function_of name = lookup (pointwise nat_eq name) functions

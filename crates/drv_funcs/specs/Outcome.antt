@@ -3,7 +3,8 @@ use Rattle.drv_funcs.specs.Versions.{version}
 use Rattle.drv_funcs.specs.declared.fault.FuncsFault.{FuncsFault}
 use Rattle.drv_funcs.specs.declared.fault.FuncsFault.TheVariants.{BadOperator, BadVersion, NotInLink, VariableMissing, WrongCount}
 use Rattle.drv_funcs.specs.declared.function.Function.{Function}
-use Rattle.drv_funcs.specs.declared.function.Function.TheVariants.{Getenv, IfExists, IfExistsElse, IfExistsThenElse, RemoveOutfile, ReplaceOutfile, VersionCompare}
+use Rattle.drv_funcs.specs.declared.function.Function.TheVariants.{Getenv, IfExists, IfExistsElse, IfExistsThenElse, RemoveOutfile}
+use Rattle.drv_funcs.specs.declared.function.Function.TheVariants.{ReplaceOutfile, VersionCompare}
 use Rattle.drv_funcs.specs.declared.operator.Operator.{Operator}
 use Rattle.drv_funcs.specs.declared.site.Site.TheVariants.{Link, Source}
 use Rattle.drv_funcs.specs.declared.site.Site.{Site}
@@ -15,12 +16,13 @@ use Rattle.drv_system.specs.declared.event.PathKind.{PathKind}
 use Rattle.drv_system.specs.declared.event.PathKind.TheVariants.{Missing}
 use Rattle.std.specs.Cmp.Lexicographic.{pointwise}
 use Rattle.std.specs.List.{filter, starts_with}
-use Rattle.std.specs.Prelude.{◌-◌, Bool, Err, List, [], ◌∷◌, ◌++◌, None, Ok, Option, Result, Some, codes, drop, false, if◌then◌else◌, length, map, nat_eq, not, option_map, slice_get, true, ℕ}
+use Rattle.std.specs.Prelude.{◌-◌, Bool, Err, List, [], ◌∷◌, ◌++◌, None, Ok, Option, Result, Some, codes, drop, false, if◌then◌else◌}
+use Rattle.std.specs.Prelude.{length, map, nat_eq, not, option_map, slice_get, true, ℕ}
 
--- What each function of spec texts gives: a word, or nothing, or a refusal (GCC manual, "Spec Files"; what it leaves open is
--- this project's profile). One equation a function and number of arguments; any other number is refused.
+-- The result of each function of spec texts: a word, nothing, or a refusal (GCC manual, "Spec Files"; what it leaves open is this project's
+-- profile). There is one equation for each function and number of arguments; any other number is refused.
 
--- what a function gives that changes nothing
+-- the result of a function that changes nothing
 abbrev pub Given : Type 0
 Given = Result (Option (List ℕ)) FuncsFault
 
@@ -33,7 +35,7 @@ abbrev pub getenv : Facts → List (List ℕ) → Known Given
 getenv F (name ∷ string ∷ []) = asked (variable_of F name) >>= λ value. Is (with_value name string value)
 getenv F args = Is (Err (WrongCount Getenv))
 
--- a path is there: it begins with a slash, and something has it
+-- a path exists: it begins with a slash and leads to a file
 abbrev pub is_missing : PathKind → Bool
 is_missing Missing = true
 is_missing kind = false
@@ -57,17 +59,17 @@ if_exists_then_else F (path ∷ first ∷ []) = exists F path >>= λ there. Is (
 if_exists_then_else F (path ∷ first ∷ second ∷ []) = exists F path >>= λ there. Is (Ok (Some (if there then first else second)))
 if_exists_then_else F args = Is (Err (WrongCount IfExistsThenElse))
 
--- `replace-outfile OLD NEW`: the outputs, of which each that is the old word becomes the new one
+-- `replace-outfile OLD NEW`: in the outputs, each old word becomes the new one
 abbrev pub replaced : List (List ℕ) → List (List ℕ) → Result (List (List ℕ)) FuncsFault
 replaced (old ∷ new ∷ []) outputs = Ok (map (λ output. if pointwise nat_eq output old then new else output) outputs)
 replaced args outputs = Err (WrongCount ReplaceOutfile)
 
--- `remove-outfile OLD`: the outputs without those that are this word
+-- `remove-outfile OLD`: the outputs without this word
 abbrev pub removed : List (List ℕ) → List (List ℕ) → Result (List (List ℕ)) FuncsFault
 removed (old ∷ []) outputs = Ok (filter (λ output. not (pointwise nat_eq output old)) outputs)
 removed args outputs = Err (WrongCount RemoveOutfile)
 
--- both are for the link alone, which is judged before the number of arguments
+-- both are allowed only in the link, which is checked before the number of arguments
 abbrev pub in_link_alone : Site → Function → Result (List (List ℕ)) FuncsFault → Result (List (List ℕ)) FuncsFault
 in_link_alone Link function changed = changed
 in_link_alone Source function changed = Err (NotInLink function)
@@ -76,7 +78,7 @@ in_link_alone Source function changed = Err (NotInLink function)
 abbrev pub last : List ℕ → Option ℕ
 last places = slice_get places (length places - 1)
 
--- the pattern of what begins with these bytes
+-- the pattern of the names that begin with these bytes
 abbrev pub starred : List ℕ → Pattern
 starred prefix = record { name = prefix; star = true }
 
@@ -84,28 +86,31 @@ starred prefix = record { name = prefix; star = true }
 abbrev pub value_of : List (List ℕ) → List Bool → List ℕ → Option (List ℕ)
 value_of names hidden prefix = option_map (λ place. drop (length prefix) (name_at names place)) (last (hits names hidden (starred prefix)))
 
--- what comes of a word that is a version
+-- the result for a version
 abbrev pub with_version : {Y : Type 0} → List ℕ → Option (List ℕ) → (List ℕ → Result Y FuncsFault) → Result Y FuncsFault
 with_version word None next = Err (BadVersion word)
 with_version word (Some numbers) next = next numbers
 
--- a switch's value compared; with no switch the comparison alone decides
+-- a comparison with a switch's value; without a switch the operator alone decides
 abbrev pub of_value : Operator → List ℕ → List ℕ → Option (List ℕ) → Result Bool FuncsFault
 of_value operator one two None = Ok (holds_of_none operator)
 of_value operator one two (Some value) = with_version value (version value) (λ numbers. Ok (holds operator numbers one two))
 
 -- the versions are judged in the order of the arguments, and then the value
 abbrev pub judged : Operator → List ℕ → List ℕ → Option (List ℕ) → Result Bool FuncsFault
-judged operator first second value = with_version first (version first) (λ one. with_version second (version second) (λ two. of_value operator one two value))
+judged operator first second value = with_version first (version first) (λ one. with_version second (version second)
+    (λ two. of_value operator one two value))
 
 abbrev pub word_if : List ℕ → Result Bool FuncsFault → Given
 word_if word (Ok holds) = Ok (if holds then Some word else None)
 word_if word (Err fault) = Err fault
 
--- the arguments after the comparison: one version or two, the prefix of a switch, and the word that is given
+-- the arguments after the operator: one version or two, the prefix of a switch, and the resulting word
 abbrev pub with_versions : List (List ℕ) → List Bool → Operator → Bool → List (List ℕ) → Given
-with_versions names hidden operator false (first ∷ prefix ∷ word ∷ []) = word_if word (judged operator first first (value_of names hidden prefix))
-with_versions names hidden operator true (first ∷ second ∷ prefix ∷ word ∷ []) = word_if word (judged operator first second (value_of names hidden prefix))
+with_versions names hidden operator false (first ∷ prefix ∷ word ∷ []) =
+    word_if word (judged operator first first (value_of names hidden prefix))
+with_versions names hidden operator true (first ∷ second ∷ prefix ∷ word ∷ []) =
+    word_if word (judged operator first second (value_of names hidden prefix))
 with_versions names hidden operator two args = Err (WrongCount VersionCompare)
 
 abbrev pub by_operator : List (List ℕ) → List Bool → List ℕ → List (List ℕ) → Option Operator → Given
@@ -117,24 +122,24 @@ abbrev pub version_compare : List (List ℕ) → List Bool → List (List ℕ) �
 version_compare names hidden [] = Err (WrongCount VersionCompare)
 version_compare names hidden (word ∷ args) = by_operator names hidden word args (operator_of word)
 
--- What a call comes to: what the function gives, and the outputs after it.
+-- The result of a call: that of the function, and the outputs after it.
 
 pub record Called : Type 0 where
   pub given : Option (List ℕ)
   pub outputs : List (List ℕ)
 
--- the outputs stay
+-- the outputs stay the same
 abbrev pub unchanged : List (List ℕ) → Given → Result Called FuncsFault
 unchanged outputs (Ok word) = Ok (record { given = word; outputs = outputs })
 unchanged outputs (Err fault) = Err fault
 
--- nothing is given
+-- the function has no result
 abbrev pub changed : Result (List (List ℕ)) FuncsFault → Result Called FuncsFault
 changed (Ok outputs) = Ok (record { given = None; outputs = outputs })
 changed (Err fault) = Err fault
 
--- the table of the functions: the facts, the names of the line's switches and which are hidden, whether the link's text is
--- worked, the function, its arguments, and the outputs
+-- The table of the functions. Its arguments: the facts, the names of the line's switches, which of them are hidden, whether the text is the
+-- link's, the function, its arguments, and the outputs.
 abbrev pub called : Facts → List (List ℕ) → List Bool → Site → Function → List (List ℕ) → List (List ℕ) → Known (Result Called FuncsFault)
 called F names hidden site Getenv args outputs = getenv F args >>= λ given. Is (unchanged outputs given)
 called F names hidden site IfExists args outputs = if_exists F args >>= λ given. Is (unchanged outputs given)

@@ -6,29 +6,29 @@ use Rattle.std.specs.declared.cmp.Ordering.{Ordering}
 use Rattle.std.specs.Prelude.{◌&&◌, ◌*◌, ◌+◌, ◌-◌, ◌==◌, Bool, List, None, Option, Some, if◌then◌else◌, length, map, nat_le, ℕ}
 use Rattle.std.specs.Str.{byte}
 
--- Versions: 1 to 32 parts of 1 to 9 digits, with dots between (GCC manual, "Spec Files", `version-compare`; the limits are
--- this project's profile).
+-- Versions: 1 to 32 parts of 1 to 9 digits, separated by dots (GCC manual, "Spec Files", `version-compare`; the limits are this project's
+-- profile).
 
--- what stands between the dots
+-- the parts between the dots
 abbrev pub parts : List ℕ → List (List ℕ)
 parts text = slice_split (λ b. b == byte ".") text
 
 abbrev pub is_part : List ℕ → Bool
 is_part part = nat_le 1 (length part) && nat_le (length part) 9 && list_all is_ascii_digit part
 
--- the number that digits write in decimal
+-- the decimal number of these digits
 abbrev pub number : List ℕ → ℕ
 number digits = fold (λ n digit. n * 10 + (digit - byte "0")) 0 digits
 
--- the numbers of a version, or none for a text that isn't one
+-- the numbers of a version; None for another text
 abbrev pub version : List ℕ → Option (List ℕ)
 version text = if nat_le (length (parts text)) 32 && list_all is_part (parts text) then Some (map number (parts text)) else None
 
--- how two versions stand: part by part as numbers, and a version that the other only goes on is earlier
+-- the order of two versions: part by part as numbers, and a version is earlier than any that continues it
 abbrev pub order : List ℕ → List ℕ → Ordering
 order = slice_cmp nat_cmp
 
--- how two texts stand, if both are versions
+-- the order of two texts, if both are versions
 abbrev pub compared : Option (List ℕ) → Option (List ℕ) → Option Ordering
 compared (Some one) (Some other) = Some (order one other)
 compared one other = None

@@ -1,4 +1,4 @@
-//! A function of a spec text called.
+//! Calls a function of a spec text.
 
 ghost use Rattle.drv_funcs.specs.Outcome.{called};
 ghost use Rattle.drv_system.specs.Asking.{Asks, Extends};
@@ -16,15 +16,15 @@ use drv_system::{FactTable, Outside, System};
 use drv_words::{Listing, Word};
 use std::alloc::Global;
 
-/// What a function gives for these arguments: a word, or nothing (GCC manual, "Spec Files"). In the
-/// link two functions change the outputs, which are otherwise as they were, also after an error.
+/// The result of a function for these arguments: a word, or nothing (GCC manual, "Spec Files"). In
+/// the link two functions change the outputs. Otherwise, and after an error, the outputs stay the
+/// same.
 ///
 /// # Errors
-/// The first of these: `NotInLink` for a function that is for the link alone; `WrongCount` where
-/// the function takes another number of arguments, but `BadOperator` before it where there is a
-/// first argument that names no comparison; `BadVersion` for the versions in order, and then for
-/// the value of the switch; `VariableMissing`.
-#[tactic(auto, using(crate::proofs::Asked::asks_nothing_more, crate::proofs::Giving::known_given, crate::proofs::Giving::given_known))]
+/// The first of these. `NotInLink`: the function is allowed only in the link. `WrongCount`: it takes
+/// another number of arguments; but `BadOperator` comes first if there is a first argument that is
+/// not a comparison. `BadVersion`: for the versions in order, and then for the value of the switch.
+/// `VariableMissing`.
 pub fn call<S: System>(
     alloc: Global,
     function: Function,

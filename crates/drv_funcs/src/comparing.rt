@@ -1,4 +1,4 @@
-//! The function that compares the version that a switch names.
+//! The function that compares the version of a switch.
 
 ghost use Rattle.drv_funcs.specs.Comparing.{takes_two};
 ghost use Rattle.drv_funcs.specs.Outcome.{judged, value_of, version_compare, with_versions};
@@ -37,7 +37,7 @@ fn value_of(
     }
 }
 
-/// Whether the value of a switch stands so to the versions; with no value the comparison alone
+/// Whether the value of a switch compares so with the versions. Without a value the operator alone
 /// decides.
 fn judge(
     operator: Operator,
@@ -63,7 +63,7 @@ fn judge(
     Ok(operator.holds(numbers.as_slice(), one.as_slice(), two.as_slice()))
 }
 
-/// The word, if the value of a switch stands so to the versions.
+/// The word, if the value of a switch compares so with the versions.
 fn word_if(
     operator: Operator,
     first: &Word,
@@ -80,7 +80,7 @@ fn word_if(
     Ok(None)
 }
 
-/// The word that is the last argument, if the version that a switch names compares so.
+/// The last argument, if the version of a switch compares so.
 pub fn version_compare(
     alloc: Global,
     args: &[Word],
@@ -100,8 +100,8 @@ pub fn version_compare(
     with_versions(alloc, operator, args, switches, hidden)
 }
 
-/// The word that is the last argument, if the version that a switch names stands so to the first,
-/// or the first two.
+/// The last argument, if the version of a switch compares so with the first version, or the first
+/// two.
 fn with_versions(
     alloc: Global,
     operator: Operator,

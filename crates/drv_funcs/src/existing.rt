@@ -14,7 +14,7 @@ use drv_system::{Outside, PathKind, System};
 use drv_words::Word;
 use std::alloc::AllocError;
 
-/// The value of the variable that the first argument names, and the second argument after it.
+/// The value of the variable that the first argument names, followed by the second argument.
 pub fn getenv<S: System>(
     args: &[Word],
     outside: &mut Outside<'_, S>,
@@ -36,7 +36,7 @@ pub fn getenv<S: System>(
     }
 }
 
-/// The path, if it is there.
+/// The path, if it exists.
 pub fn if_exists<S: System>(
     args: &[Word],
     outside: &mut Outside<'_, S>,
@@ -53,7 +53,7 @@ pub fn if_exists<S: System>(
     Ok(None)
 }
 
-/// The path, if it is there, or else the other word.
+/// The path if it exists, otherwise the other word.
 pub fn if_exists_else<S: System>(
     args: &[Word],
     outside: &mut Outside<'_, S>,
@@ -70,7 +70,7 @@ pub fn if_exists_else<S: System>(
     Ok(Some(other.clone()?))
 }
 
-/// One word if the path is there, else another one, or nothing.
+/// One word if the path exists, otherwise another one, or nothing.
 pub fn if_exists_then_else<S: System>(
     args: &[Word],
     outside: &mut Outside<'_, S>,
@@ -95,7 +95,7 @@ pub fn if_exists_then_else<S: System>(
     }
 }
 
-/// Whether a path begins with a slash and something has it.
+/// Whether a path begins with a slash and exists.
 fn exists<S: System>(path: &Word, outside: &mut Outside<'_, S>) -> Result<bool, AllocError>
     ensures asks { Asked S.events outside.old outside.new }
     ensures tells { (F : Facts) → Extends outside.new.facts.now F
@@ -108,7 +108,7 @@ fn exists<S: System>(path: &Word, outside: &mut Outside<'_, S>) -> Result<bool, 
     Ok(!is_missing(kind))
 }
 
-/// Whether nothing has a path of this kind.
+/// Whether a path of this kind doesn't exist.
 fn is_missing(kind: PathKind) -> bool
     ensures { result ≡ is_missing kind }
 {

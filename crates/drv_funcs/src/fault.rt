@@ -17,13 +17,13 @@ pub enum FuncsFault {
     /// This function takes another number of arguments.
     #[error("function with another number of arguments")]
     WrongCount(Function),
-    /// This word is no version.
+    /// This word is not a version.
     #[error("no version")]
     BadVersion(Word),
-    /// This function is for the link alone.
+    /// This function is allowed only in the link.
     #[error("function for the link alone")]
     NotInLink(Function),
-    /// This word names no comparison.
+    /// This word is not a comparison.
     #[error("no such comparison")]
     BadOperator(Word),
 }

@@ -1,4 +1,4 @@
-//! The functions of spec texts by name.
+//! The functions of spec texts and their names.
 
 ghost use Rattle.drv_funcs.specs.Functions.{function_of, name_of};
 ghost use Rattle.std.specs.Prelude.{◌≡◌};
@@ -6,24 +6,24 @@ ghost use Rattle.std.specs.Prelude.{◌≡◌};
 /// A function of spec texts (GCC manual, "Spec Files").
 #[derive(Clone, Copy, Debug)]
 pub enum Function {
-    /// The value of a variable, and a string after it.
+    /// The value of a variable, followed by a string.
     Getenv,
-    /// A path that is there.
+    /// A path that exists.
     IfExists,
-    /// A path that is there, or else another word.
+    /// A path that exists, or else another word.
     IfExistsElse,
-    /// One word if a path is there, else another word or nothing.
+    /// One word if a path exists, otherwise another word or nothing.
     IfExistsThenElse,
-    /// An output becomes another one, in the link.
+    /// Replaces an output, in the link.
     ReplaceOutfile,
-    /// An output goes, in the link.
+    /// Removes an output, in the link.
     RemoveOutfile,
-    /// A word if the version that a switch names compares so.
+    /// A word, if the version of a switch compares so.
     VersionCompare,
 }
 
 impl Function {
-    /// The function that a name denotes. It takes no memory.
+    /// The function with this name.
     pub fn named(name: &[u8]) -> Option<Function>
         ensures { result ≡ function_of name.now }
     {
@@ -46,7 +46,7 @@ impl Function {
         }
     }
 
-    /// The function's name. It takes no memory.
+    /// The function's name.
     pub fn name(self) -> &'static [u8]
         ensures { result.now ≡ name_of self }
     {

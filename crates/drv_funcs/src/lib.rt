@@ -1,4 +1,4 @@
-//! The functions of spec texts: what each gives, and how versions compare.
+//! The functions of spec texts: the result of each, and the order of versions.
 #![tactic(auto)]
 
 mod calling;

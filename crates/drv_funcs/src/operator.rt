@@ -22,7 +22,7 @@ pub enum Operator {
 }
 
 impl Operator {
-    /// The comparison that a word names.
+    /// The comparison with this name.
     pub fn named(word: &[u8]) -> Option<Operator>
         ensures { result ≡ operator_of word.now }
     {
@@ -44,15 +44,15 @@ impl Operator {
         matches!(self, Operator::Between | Operator::Outside)
     }
 
-    /// Whether it holds where no switch has the prefix.
+    /// Whether it holds if no switch has the prefix.
     pub fn holds_of_none(self) -> bool
         ensures { result ≡ holds_of_none self }
     {
         matches!(self, Operator::NotAtLeast | Operator::NotBelow)
     }
 
-    /// Whether a version stands so to the first one, and to the second if the comparison is with
-    /// two.
+    /// Whether a version compares so with the first version, and with the second if the comparison
+    /// takes two.
     pub fn holds(self, value: &[u32], first: &[u32], second: &[u32]) -> bool
         ensures { result ≡ holds self value.now first.now second.now }
     {

@@ -19,8 +19,8 @@ fn is_output(outputs: &[Word], word: &Word) -> bool
     outputs.contains(word)
 }
 
-/// Each output that is the old word becomes the new one, in the link alone. On an error they are as
-/// they were.
+/// Replaces each output that is the old word by the new one, only in the link. On an error the
+/// outputs stay the same.
 pub fn replace_outfile(
     alloc: Global,
     args: &[Word],
@@ -49,7 +49,7 @@ pub fn replace_outfile(
     Ok(())
 }
 
-/// Each output that is the word goes, in the link alone. On an error they are as they were.
+/// Removes each output that is the word, only in the link. On an error the outputs stay the same.
 pub fn remove_outfile(
     alloc: Global,
     args: &[Word],

@@ -1,6 +1,6 @@
-//! Where a function is called.
+//! The text that calls a function.
 
-/// The text that a function is called in.
+/// The text that calls a function.
 #[derive(Clone, Copy, Debug)]
 pub enum Site {
     /// That of a source.

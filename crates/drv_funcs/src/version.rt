@@ -7,13 +7,13 @@ ghost use Rattle.std.specs.Prelude.{◌≡◌, [], option_map};
 use arrayvec::ArrayVec;
 use std::cmp::Ordering;
 
-/// How many parts a version may have.
+/// The most parts of a version.
 pub const MOST_PARTS: usize = 32;
 
-/// How many digits a part may have.
+/// The most digits of a part.
 const MOST_DIGITS: u32 = 9;
 
-/// The numbers of a version, or none for a text that isn't one. It takes no memory.
+/// The numbers of a version, or `None` for another text.
 #[tactic(auto, using(crate::proofs::Reading::read_version, crate::proofs::Reading::has_room, crate::proofs::Reading::one_more))]
 pub fn version_of(text: &[u8]) -> Option<ArrayVec<u32, MOST_PARTS>>
     ensures { option_map (λ numbers. numbers.items) result ≡ version text.now }
@@ -41,8 +41,8 @@ pub fn version_of(text: &[u8]) -> Option<ArrayVec<u32, MOST_PARTS>>
     }
 }
 
-/// How two versions stand, part by part as numbers; a version that the other only goes on is
-/// earlier. It answers none where one of the texts is no version, and takes no memory.
+/// The order of two versions: part by part as numbers, where a version is earlier than any that
+/// continues it. `None` if one of the texts is not a version.
 pub fn compare_versions(one: &[u8], other: &[u8]) -> Option<Ordering>
     ensures { result ≡ compared (version one.now) (version other.now) }
 {

@@ -2,8 +2,8 @@ use Rattle.std.specs.Char.{is_ascii_digit}
 use Rattle.std.specs.Prelude.{◌&&◌, ◌*◌, ◌+◌, ◌-◌, ◌==◌, List, [], ◌∷◌, ◌++◌, None, Option, Some, if◌then◌else◌, length, nat_lt, ℕ}
 use Rattle.std.specs.Str.{byte}
 
--- How the code goes over a version byte by byte: the numbers before, and the number and the digits of the part that is
--- read. Private clauses alone cite it.
+-- How the code reads a version byte by byte: the numbers so far, and the number and the count of digits of the open part. Only private
+-- clauses cite it.
 abbrev pub read_on : List ℕ → ℕ → ℕ → List ℕ → Option (List ℕ)
 read_on numbers number digits [] = if nat_lt 0 digits && nat_lt (length numbers) 32 then Some (numbers ++ number ∷ []) else None
 read_on numbers number digits (b ∷ text) =
