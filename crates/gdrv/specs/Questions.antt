@@ -3,7 +3,7 @@ use Rattle.gdrv.specs.declared.question.Question.{Question}
 use Rattle.std.specs.Cmp.Lexicographic.{pointwise}
 use Rattle.std.specs.Prelude.{List, [], ◌∷◌, None, Option, Some, codes, if◌then◌else◌, nat_eq, ℕ}
 
--- What a call of the program asks of it and not of the driver: its only word says so (this project's profile).
+-- A call whose only word asks something about the program itself (this project's profile).
 
 abbrev pub asked : List ℕ → Option Question
 asked word =

@@ -1,5 +1,5 @@
-//! The driver: a command line in, its commands carried out; its plan or its refusal on standard
-//! error, or the specs on standard output.
+//! The driver program: carries out a command line. It prints a plan or a refusal to standard error,
+//! and the specs to standard output.
 #![tactic(auto)]
 
 ghost use Rattle.drv_run.specs.Exits.{exit_status_of};
@@ -21,7 +21,7 @@ const OUT_OF_MEMORY: &[u8] = b"gdrv: out of memory\n";
 
 const BAD_ARGUMENT: &[u8] = b"gdrv: bad argument\n";
 
-/// Tells the user of an ending, and gives its exit status.
+/// Reports an ending to the user, and returns its exit status.
 fn finish(rt: &HostRuntime, ending: &Ending) -> ExitCode
     ensures { result.status ≡ exit_status_of ending.now }
 {
@@ -32,7 +32,7 @@ fn finish(rt: &HostRuntime, ending: &Ending) -> ExitCode
     ExitCode::from(ending.exit_status())
 }
 
-/// Ends with status 1 for want of arguments, and says why.
+/// Reports that the arguments can't be read, and returns status 1.
 fn without_arguments(rt: &HostRuntime, error: &io::Error) -> ExitCode
     ensures { result.status ≡ 1 }
 {
@@ -44,8 +44,8 @@ fn without_arguments(rt: &HostRuntime, error: &io::Error) -> ExitCode
     ExitCode::from(1)
 }
 
-/// Answers a question, on standard output, and gives the exit status: 1 where it couldn't be
-/// written.
+/// Answers a question on standard output. Returns the exit status, which is 1 if the answer
+/// couldn't be written.
 fn answer(rt: &HostRuntime, asked: Question) -> ExitCode {
     let stream = rt.stdout();
     match asked.answer(&mut io::writer(&stream)) {
@@ -54,8 +54,8 @@ fn answer(rt: &HostRuntime, asked: Question) -> ExitCode {
     }
 }
 
-/// Drives this process's call. On a terminal it says of a call by the built-in specs that nothing
-/// was compiled.
+/// Runs the driver for this process. On a terminal it adds a line if built-in specs were used,
+/// since then nothing was compiled.
 fn call(rt: &HostRuntime, args: Listing<Word>) -> Result<ExitCode, AllocError> {
     let seed = clock_seed(rt)?;
     let mut sys = HostSystem::new(rt.clone()?);

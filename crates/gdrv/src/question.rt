@@ -21,10 +21,10 @@ records its call: nothing is compiled.
 The manual pages gdrv(1) and gdrv-cc(1) say more. To compile C, use gdrv-cc.
 ";
 
-/// What a call asks of the program itself.
+/// A question about the program itself.
 #[derive(Clone, Copy)]
 pub enum Question {
-    /// How it is used.
+    /// The usage text.
     Help,
     /// Its version.
     Version,
@@ -47,7 +47,7 @@ impl Question {
     }
 }
 
-/// The question of a call, if its only word is one. Beside other words the driver reads these words
+/// The question of a call, if that is its only word. With other words, the driver reads these words
 /// as switches.
 pub fn question_of(args: &[Word]) -> Option<Question>
     ensures { result ≡ question_of args.now }
