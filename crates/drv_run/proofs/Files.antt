@@ -45,15 +45,11 @@ specs_from F settings dirs names prefixes set dirs_are names_are made =
     ap (λ known. known >>= λ p. files_loaded F p set settings.specs) (ap (prefixes_of F) (sym dirs_are) ∙ made)
     ∙ ap (files_loaded F prefixes set) (sym names_are)
 
-pub specs_given : (F : Facts) (settings : Settings) (dirs names : List (List ℕ)) (prefixes : Prefixes) (set after : Set) → dirs ≡ settings.prefixes → names ≡ settings.specs
-    → prefixes_of F dirs ≡ Is prefixes → files_loaded F prefixes set names ≡ Is (Ok after) → specs_over F set settings ≡ Is (Ok after)
-specs_given F settings dirs names prefixes set after dirs_are names_are made loads = specs_from F settings dirs names prefixes set dirs_are names_are made ∙ loads
-
-pub specs_refused : (F : Facts) (settings : Settings) (dirs names : List (List ℕ)) (prefixes : Prefixes) (set : Set) (fault : SpecsFault) → dirs ≡ settings.prefixes → names ≡ settings.specs
-    → prefixes_of F dirs ≡ Is prefixes → (fault ≡ specs_fault.Memory) ⊎ (files_loaded F prefixes set names ≡ Is (Err fault))
-    → (fault ≡ specs_fault.Memory) ⊎ (specs_over F set settings ≡ Is (Err fault))
-specs_refused F settings dirs names prefixes set fault dirs_are names_are made (inl memory) = inl memory
-specs_refused F settings dirs names prefixes set fault dirs_are names_are made (inr refused) = inr (specs_from F settings dirs names prefixes set dirs_are names_are made ∙ refused)
+pub specs_loaded : (F : Facts) (settings : Settings) (dirs names : List (List ℕ)) (prefixes : Prefixes) (set : Set) (result : Result Set SpecsFault) → dirs ≡ settings.prefixes → names ≡ settings.specs
+    → prefixes_of F dirs ≡ Is prefixes → GivesKnown specs_fault.Memory (λ loaded. loaded) result (files_loaded F prefixes set names)
+    → GivesKnown specs_fault.Memory (λ loaded. loaded) result (specs_over F set settings)
+specs_loaded F settings dirs names prefixes set result dirs_are names_are made gives =
+    subst (GivesKnown specs_fault.Memory (λ loaded. loaded) result) (sym (specs_from F settings dirs names prefixes set dirs_are names_are made)) gives
 
 -- over the built-in ones
 pub builtin_given : (F : Facts) (settings : Settings) (set : Set) (result : Result Set SpecsFault) → set ≡ builtin_specs

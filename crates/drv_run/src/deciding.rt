@@ -23,23 +23,24 @@ use drv_system::{FactTable, Outside, System};
 use drv_words::{Listing, Word};
 use std::alloc::Global;
 
-/// Loads files of specs, in their order.
+/// A set with files of specs loaded, in their order. No copy of it is made.
 #[tactic(auto, using(drv_system::proofs::AskedCalls::asked_further))]
 fn load_files<S: System>(
-    set: &mut SpecSet,
+    set: SpecSet,
     names: &[Word],
     prefixes: &Prefixes,
     outside: &mut Outside<'_, S>,
-) -> Result<(), SpecsFault>
+) -> Result<SpecSet, SpecsFault>
     ensures asks { Asked S.events outside.old outside.new }
     ensures loads { (F : Facts) → Extends outside.new.facts.now F
-        → GivesKnown specs_fault.Memory (λ _. set.new) result
-        (files_loaded F prefixes.now set.old names.now) }
+        → GivesKnown specs_fault.Memory (λ loaded. loaded) result
+        (files_loaded F prefixes.now set names.now) }
 {
+    let mut loaded = set;
     for name in names {
-        set.load_file(name, prefixes, outside.sys, outside.facts)?;
+        loaded = loaded.with_file(name, prefixes, outside.sys, outside.facts)?;
     }
-    Ok(())
+    Ok(loaded)
 }
 
 /// The specs of a line over a set: what the files of `-specs=` make of it, in the line's order. Each
@@ -61,14 +62,12 @@ pub fn load_specs<S: System>(
         (specs_over F set settings.now) }
 {
     let prefixes = Prefixes::new(alloc, settings.prefixes.as_slice(), sys, facts)?;
-    let mut set = set;
     load_files(
-        &mut set,
+        set,
         settings.specs.as_slice(),
         &prefixes,
         &mut Outside { sys, facts },
-    )?;
-    Ok(set)
+    )
 }
 
 /// The specs of a line: the built-in ones, and what the files of `-specs=` make of them.
