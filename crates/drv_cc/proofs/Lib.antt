@@ -7,6 +7,7 @@ mod Noted
 mod OtherOptions
 mod Prefixes
 mod Rings
+mod Staying
 pub mod LevelLaws
 pub mod WorkedItems
 pub mod WorkedLines

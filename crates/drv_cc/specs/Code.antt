@@ -3,3 +3,4 @@ pub mod Building
 pub mod Groups
 pub mod Looking
 pub mod Rings
+pub mod Staying

@@ -1,16 +1,17 @@
 //! What stands on a line, and which of its items stay.
 
-ghost use Rattle.drv_cc.specs.Kept.{goes, has, has_input, is_asked, is_input, is_question, kept};
+ghost use Rattle.drv_cc.specs.Code.Staying.{Notes, is_seen, stays_before};
+ghost use Rattle.drv_cc.specs.Kept.{has, has_input, is_asked, is_input, is_question, kept};
 ghost use Rattle.drv_cc.specs.Kept.{last_argument, tells};
-ghost use Rattle.drv_cc.specs.Items.{same};
 ghost use Rattle.std.specs.List.{list_any};
 ghost use Rattle.std.specs.Option.{option_map};
-ghost use Rattle.std.specs.Prelude.{◌≡◌, IfOk};
+ghost use Rattle.std.specs.Prelude.{◌≡◌, IfOk, OnOk, reverse};
 
 use crate::item::Item;
 use crate::table::Part;
-use drv_words::Listing;
+use drv_words::{Listing, Word};
 use std::alloc::{AllocError, Global};
+use std::collections::HashSet;
 
 /// Whether an option of this name stands among items.
 pub(crate) fn has(items: &[Item], name: &[u8]) -> bool
@@ -81,32 +82,43 @@ pub(crate) fn is_asked(items: &[Item]) -> bool
     has_question(items) | (has_telling(items) & !has_input(items))
 }
 
-/// Whether an item of this class stands there.
-fn has_class(items: &[Item], class: &[u8]) -> bool
-    ensures { result ≡ list_any (λ other. same class.now other.class) items.now }
+/// Notes the class of an item, and tells whether the item stays: whether none after it, whose
+/// classes were noted before, is of its class.
+#[tactic(auto, using(crate::proofs::Staying::not_noted))]
+fn note_class<'i>(seen: &mut HashSet<&'i Word>, class: &'i Word) -> Result<bool, AllocError>
+    ensures stays { IfOk result (λ stays. stays ≡ stays_before class.now
+        (is_seen seen.old.keys (λ k. k.now))) }
+    ensures noted { OnOk result (Notes class.now (is_seen seen.old.keys (λ k. k.now))
+        (is_seen seen.new.keys (λ k. k.now))) }
 {
-    items.iter().any(|other| class == other.class.as_bytes())
+    if class.is_empty() {
+        return Ok(true);
+    }
+    Ok(seen.insert(class)?)
 }
 
-/// Whether an item goes, by those after it.
-fn goes(item: &Item, following: &[Item]) -> bool
-    ensures { result ≡ goes item.now following.now }
+/// The items that stay, the last one first.
+#[tactic(auto, using(crate::proofs::Staying::keeping_starts, crate::proofs::Staying::keeping_stays, crate::proofs::Staying::keeping_goes, crate::proofs::Staying::keeping_ends))]
+fn kept_backwards(alloc: Global, items: &[Item]) -> Result<Vec<Item>, AllocError>
+    ensures { IfOk result (λ stay. reverse stay.items ≡ kept items.now) }
 {
-    let class = item.class.as_bytes();
-    (0 < class.len()) & has_class(following, class)
+    let mut seen = HashSet::new(alloc);
+    let mut stay = Vec::new(alloc);
+    let mut left = items;
+    while let [before @ .., item] = left {
+        if note_class(&mut seen, &item.class)? {
+            stay.push(item.clone()?)?;
+        }
+        left = before;
+    }
+    Ok(stay)
 }
 
 /// The items that stay: of each class the last, and those of no class.
 pub(crate) fn kept(alloc: Global, items: &[Item]) -> Result<Listing<Item>, AllocError>
     ensures { IfOk result (λ stay. stay ≡ kept items.now) }
 {
-    let mut stay = Listing::new(alloc);
-    let mut left = items;
-    while let [item, following @ ..] = left {
-        if !goes(item, following) {
-            stay.push(item.clone()?)?;
-        }
-        left = following;
-    }
-    Ok(stay)
+    let mut stay = kept_backwards(alloc, items)?;
+    stay.as_mut_slice().reverse();
+    Ok(Listing::from_vec(stay))
 }

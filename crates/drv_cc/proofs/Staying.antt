@@ -1,0 +1,83 @@
+use Rattle.drv_cc.specs.Code.Staying.{Keeping, Notes, stays_before}
+use Rattle.drv_cc.specs.Items.{same}
+use Rattle.drv_cc.specs.Kept.{goes, kept}
+use Rattle.drv_cc.specs.declared.item.Item.{Item}
+use Rattle.std.proofs.Common.{◌≡◌, ◌<◌, ◌∙◌, ◌&&◌, ◌||◌, Bool, List, [], ◌∷◌, ◌++◌, ap, append-nil, append_assoc, arith, cond, false, if◌then◌else◌, length, nat_lt, not, refl, subst, sym, true, ℕ}
+use Rattle.std.proofs.lemmas.Cmp.{nat_list_eq_equiv}
+use Rattle.std.proofs.lemmas.List.{reverse-append}
+use Rattle.std.specs.List.{list_any}
+use Rattle.std.specs.Prelude.{reverse}
+
+-- The items that stay, from the last one on.
+
+-- nothing was seen yet
+pub keeping_starts : (items stay : List Item) (seen : List ℕ → Bool) → stay ≡ [] → ((p : List ℕ) → seen p ≡ false) → Keeping items items stay seen
+keeping_starts items stay seen nothing none = record {
+  following = [];
+  parts = append-nil items;
+  stays = ap reverse nothing;
+  seen_are = λ p some. none p;
+}
+
+-- whether an item goes, by what was seen of those after it
+goes_by : (i : Item) (following : List Item) (seen : List ℕ → Bool) → ((p : List ℕ) → 0 < length p → seen p ≡ list_any (λ j. same p j.class) following)
+    → goes i following ≡ (nat_lt 0 (length i.class) && seen i.class)
+goes_by i following seen are = by i.class refl
+  where
+    by : (class : List ℕ) → class ≡ i.class → (nat_lt 0 (length class) && list_any (λ j. same class j.class) following) ≡ (nat_lt 0 (length class) && seen class)
+    by [] is = refl
+    by (b ∷ class) is = ap (λ t. nat_lt 0 (length (b ∷ class)) && t) (sym (are (b ∷ class) (omega arith)))
+
+kept_on : (i : Item) (following : List Item) (stays : Bool) → stays ≡ not (goes i following) → kept (i ∷ following) ≡ (if stays then i ∷ kept following else kept following)
+kept_on i following stays is = by (goes i following) refl
+  where
+    by : (t : Bool) → goes i following ≡ t → (if t then kept following else i ∷ kept following) ≡ (if stays then i ∷ kept following else kept following)
+    by true e = ap (λ b. if b then i ∷ kept following else kept following) (sym (is ∙ ap not e))
+    by false e = ap (λ b. if b then i ∷ kept following else kept following) (sym (is ∙ ap not e))
+
+-- what an item that is of a class does to what was seen
+pub noted_class : (p class : List ℕ) (new old : Bool) → new ≡ cond (same class p) true old → new ≡ (same p class || old)
+noted_class p class new old is = is ∙ by (same class p) ∙ ap (λ b. b || old) (nat_list_eq_equiv.symm class p)
+  where
+    by : (t : Bool) → cond t true old ≡ (t || old)
+    by true = refl
+    by false = refl
+
+-- and one that is of none
+not_same : (p : List ℕ) → 0 < length p → same p [] ≡ false
+not_same [] some = absurd (omega (arith, some))
+not_same (b ∷ p) some = refl
+
+pub not_noted : (p class : List ℕ) (old : Bool) → 0 < length p → class ≡ [] → old ≡ (same p class || old)
+not_noted p class old some none = ap (λ b. b || old) (sym (ap (same p) none ∙ not_same p some))
+
+-- one item more
+keeping_more : (items left before stay : List Item) (i : Item) (seen new : List ℕ → Bool) (stays : Bool)
+    → Keeping items left stay seen → left ≡ before ++ i ∷ [] → stays ≡ stays_before i.class seen → Notes i.class seen new
+    → Keeping items before (if stays then stay ++ i ∷ [] else stay) new
+keeping_more items left before stay i seen new stays h parts is notes = record {
+  following = i ∷ h.following;
+  parts = sym (append_assoc before (i ∷ []) h.following) ∙ ap (λ l. l ++ h.following) (sym parts) ∙ h.parts;
+  stays = by stays refl ∙ sym (kept_on i h.following stays (is ∙ ap not (sym (goes_by i h.following seen h.seen_are))));
+  seen_are = λ p some. notes p some ∙ ap (λ b. same p i.class || b) (h.seen_are p some);
+}
+  where
+    by : (t : Bool) → stays ≡ t → reverse (if stays then stay ++ i ∷ [] else stay) ≡ (if stays then i ∷ kept h.following else kept h.following)
+    by true e = rw e (reverse-append stay (i ∷ []) ∙ ap (λ l. i ∷ l) h.stays)
+    by false e = rw e h.stays
+
+pub keeping_stays : (items left before stay now : List Item) (i : Item) (seen new : List ℕ → Bool) (stays : Bool)
+    → Keeping items left stay seen → left ≡ before ++ i ∷ [] → stays ≡ stays_before i.class seen → Notes i.class seen new
+    → stays ≡ true → now ≡ stay ++ i ∷ [] → Keeping items before now new
+keeping_stays items left before stay now i seen new stays h parts is notes e now_is =
+    subst (λ l. Keeping items before l new) (ap (λ b. if b then stay ++ i ∷ [] else stay) e ∙ sym now_is) (keeping_more items left before stay i seen new stays h parts is notes)
+
+pub keeping_goes : (items left before stay : List Item) (i : Item) (seen new : List ℕ → Bool) (stays : Bool)
+    → Keeping items left stay seen → left ≡ before ++ i ∷ [] → stays ≡ stays_before i.class seen → Notes i.class seen new
+    → stays ≡ false → Keeping items before stay new
+keeping_goes items left before stay i seen new stays h parts is notes e =
+    subst (λ l. Keeping items before l new) (ap (λ b. if b then stay ++ i ∷ [] else stay) e) (keeping_more items left before stay i seen new stays h parts is notes)
+
+-- none is left
+pub keeping_ends : (items left stay : List Item) (seen : List ℕ → Bool) → Keeping items left stay seen → left ≡ [] → reverse stay ≡ kept items
+keeping_ends items left stay seen h none = h.stays ∙ ap kept (ap (λ l. l ++ h.following) (sym none) ∙ h.parts)

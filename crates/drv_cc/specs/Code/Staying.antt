@@ -1,0 +1,25 @@
+use Rattle.drv_cc.specs.Items.{same}
+use Rattle.drv_cc.specs.Kept.{kept}
+use Rattle.drv_cc.specs.declared.item.Item.{Item}
+use Rattle.std.specs.List.{list_any}
+use Rattle.std.specs.Prelude.{◌≡◌, ◌<◌, ◌&&◌, ◌||◌, Bool, List, ◌++◌, length, nat_lt, not, reverse, ℕ}
+
+-- How the code goes over items from the last one on, with the classes of those that it has seen. Private clauses alone cite it.
+
+-- whether a class is that of a key
+abbrev pub is_seen : {K : Type 0} → List K → (K → List ℕ) → List ℕ → Bool
+is_seen keys class_of class = list_any (λ k. same class (class_of k)) keys
+
+abbrev pub stays_before : List ℕ → (List ℕ → Bool) → Bool
+stays_before class seen = not (nat_lt 0 (length class) && seen class)
+
+-- one more class was seen, if it is one
+abbrev pub Notes : List ℕ → (List ℕ → Bool) → (List ℕ → Bool) → Type 0
+Notes class old new = (p : List ℕ) → 0 < length p → new p ≡ (same p class || old p)
+
+-- what was seen are the classes of the items after those that are left, and these items stay, the last one first
+pub record Keeping (items left stay : List Item) (seen : List ℕ → Bool) : Type 0 where
+  pub following : List Item
+  pub parts : left ++ following ≡ items
+  pub stays : reverse stay ≡ kept following
+  pub seen_are : (p : List ℕ) → 0 < length p → seen p ≡ list_any (λ j. same p j.class) following
