@@ -81,8 +81,36 @@ abbrev pub folder_of : Option (List ℕ) → List ℕ
 folder_of None = []
 folder_of (Some output) = folder output
 
+-- the last option that says where -save-temps keeps files counts
+abbrev pub is_place : List ℕ → Bool
+is_place name = is_among (texts (codes "-save-temps=cwd -save-temps=obj")) name
+
+abbrev pub here_after : Bool → List ℕ → Bool
+here_after here name = if is_place name then same name (codes "-save-temps=cwd") else here
+
+abbrev pub here_from : Bool → List Item → Bool
+here_from here [] = here
+here_from here (i ∷ items) = here_from (here_after here i.name) items
+
 abbrev pub own_folder : List Item → List ℕ
-own_folder items = if has (codes "-save-temps=cwd") items then [] else folder_of (output items)
+own_folder items = if here_from false items then [] else folder_of (output items)
+
+-- the folder of -dumpdir, or one's own where such an option stands after it
+abbrev pub placed : List ℕ → Option (List ℕ) → Option (List ℕ)
+placed own None = None
+placed own (Some given) = Some own
+
+abbrev pub given_after : List ℕ → Option (List ℕ) → Item → Option (List ℕ)
+given_after own given i =
+    if same i.name (codes "-dumpdir") then Some i.argument
+    else if is_place i.name then placed own given else given
+
+abbrev pub given_from : List ℕ → Option (List ℕ) → List Item → Option (List ℕ)
+given_from own given [] = given
+given_from own given (i ∷ items) = given_from own (given_after own given i) items
+
+abbrev pub given_folder : List Item → Option (List ℕ)
+given_folder items = given_from (own_folder items) None items
 
 -- the name of the program
 abbrev pub program_of : Option (List ℕ) → List ℕ
@@ -109,10 +137,10 @@ given_or own (Some given) = given
 
 -- what their names begin with, and for the link's
 abbrev pub beginning : List Item → List ℕ
-beginning items = given_or (own_beginning items) (last_argument (codes "-dumpdir") items)
+beginning items = given_or (own_beginning items) (given_folder items)
 
 abbrev pub link_beginning : List Item → List ℕ
-link_beginning items = given_or (own_folder items ++ program items ++ codes ".") (last_argument (codes "-dumpdir") items)
+link_beginning items = given_or (own_folder items ++ program items ++ codes ".") (given_folder items)
 
 -- the name of a source's side files: the output's where there is one and no link, else its own
 abbrev pub stem_by : Bool → Option (List ℕ) → List ℕ → List ℕ

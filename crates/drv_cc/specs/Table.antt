@@ -86,7 +86,7 @@ sections =
     ∷ section Nothing Nowhere Switch
     (codes "-no-canonical-prefixes --no-canonical-prefixes")
     ∷ section Nothing Alone Switch
-    (codes "-fcompare-debug= -fno-compare-debug>-fcompare-debug=")
+    (codes "-fcompare-debug= -fno-compare-debug>-fcompare-debug= -save-temps=object>-save-temps=obj")
     ∷ section Next Separate Refused
     (codes "-wrapper -dumpbase --dumpbase -dumpbase-ext --dumpbase-ext")
     ∷ section Next Joined Switch

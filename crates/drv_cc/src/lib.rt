@@ -18,6 +18,7 @@ mod line_items;
 mod names;
 mod piping;
 mod places;
+mod placing;
 mod quoting;
 mod reading;
 mod refusal;

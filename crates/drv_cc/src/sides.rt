@@ -15,6 +15,7 @@ use crate::classes::is;
 use crate::item::Item;
 use crate::keeping::{has, last_argument};
 use crate::names::{folder, suffix};
+use crate::placing::{given_folder, stay_here};
 use crate::sources::{Kinds, has_source, only_file, only_source};
 use crate::words::{add_joined, add_parts};
 use drv_words::{Listing, Word, base, parted, stem};
@@ -43,7 +44,7 @@ fn output(items: &[Item]) -> Option<&[u8]>
 fn own_folder(items: &[Item]) -> &[u8]
     ensures { result.now ≡ own_folder items.now }
 {
-    if has(items, b"-save-temps=cwd") {
+    if stay_here(items) {
         return &[];
     }
     match output(items) {
@@ -90,7 +91,7 @@ fn folder_and_program(alloc: Global, items: &[Item], mark: u8) -> Result<Word, A
 fn beginning(alloc: Global, items: &[Item]) -> Result<Word, AllocError>
     ensures { IfOk result (λ word. word ≡ beginning items.now) }
 {
-    if let Some(given) = last_argument(items, b"-dumpdir") {
+    if let Some(given) = given_folder(own_folder(items), items) {
         return Word::from_bytes(alloc, given);
     }
     if stops(items) || is_named(items) {
@@ -103,7 +104,7 @@ fn beginning(alloc: Global, items: &[Item]) -> Result<Word, AllocError>
 pub(crate) fn link_beginning(alloc: Global, items: &[Item]) -> Result<Word, AllocError>
     ensures { IfOk result (λ word. word ≡ link_beginning items.now) }
 {
-    match last_argument(items, b"-dumpdir") {
+    match given_folder(own_folder(items), items) {
         Some(given) => Word::from_bytes(alloc, given),
         None => folder_and_program(alloc, items, b'.'),
     }

@@ -267,6 +267,7 @@ const GROUP_17: &[Row] = group! {
     b"-C" b"-C" Nothing Alone Switch
     b"-rdynamic" b"-rdynamic" Nothing Alone Switch
     b"-print-libgcc-file-name" b"-print-libgcc-file-name" Nothing Alone Question
+    b"-save-temps=object" b"-save-temps=obj" Nothing Alone Switch
     b"-gnatO" b"-gnatO" Next Nowhere Switch
     b"-Wno-format-truncation" b"-Wformat-truncation=0" Nothing Alone Switch
     b"-Wno-stringop-overflow" b"-Wstringop-overflow=0" Nothing Alone Switch
