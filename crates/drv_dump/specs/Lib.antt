@@ -1,3 +1,6 @@
 pub mod Dumps
+pub mod Forms
 pub mod Grammar
+pub mod OurDump
+pub mod Ours
 pub mod Texts

@@ -109,7 +109,7 @@ impl DumpReader {
 }
 
 /// The texts of a dump, unread.
-fn entries(alloc: Global, dump: &[u8]) -> Result<Listing<Entry>, DumpFault>
+pub(crate) fn entries(alloc: Global, dump: &[u8]) -> Result<Listing<Entry>, DumpFault>
     ensures { Gives Memory (λ entries. entries) result (entries_of dump.now) }
 {
     let mut reader = DumpReader::new(alloc);

@@ -49,6 +49,20 @@ pub enum DumpFault {
     InText(Word, Misfit, usize),
 }
 
+/// Why a text of gcc can't be put into this driver's spec language.
+#[derive(Debug, Drop, Error)]
+pub enum OursFault {
+    /// An allocation was refused.
+    #[error("out of memory")]
+    Memory,
+    /// This is wrong at this byte, counted from the start of the text whose forms are replaced.
+    #[error("spec text that can't be read")]
+    Unreadable(Misfit, usize),
+    /// Nothing stands for this directive, or for this function that is a test.
+    #[error("nothing stands for a directive or a test")]
+    Lacking(Word),
+}
+
 impl From<AllocError> for TextFault {
     ghost use Rattle.drv_dump.specs.declared.fault.TextFault.TheVariants.{Memory};
     ghost use Rattle.std.specs.Prelude.{◌≡◌};
@@ -90,5 +104,16 @@ impl<T: Drop> From<AllocFailed<T>> for DumpFault {
 
     fn from(_refused: AllocFailed<T>) -> DumpFault {
         DumpFault::Memory
+    }
+}
+
+impl From<AllocError> for OursFault {
+    ghost use Rattle.drv_dump.specs.declared.fault.OursFault.TheVariants.{Memory};
+    ghost use Rattle.std.specs.Prelude.{◌≡◌};
+
+    ghost from_gives = { λ _ fault. fault ≡ Memory };
+
+    fn from(_refused: AllocError) -> OursFault {
+        OursFault::Memory
     }
 }

@@ -1,9 +1,13 @@
-//! What a gcc prints of its own spec texts: a dump, and each text in pieces.
+//! What a gcc prints of its own spec texts: a dump, each text in pieces, and the same in this
+//! driver's spec language.
 #![tactic(auto)]
 
 mod dump;
 mod fault;
+mod forms;
 mod laws;
+mod our_dump;
+mod ours;
 mod piece;
 mod reading;
 mod turn;
@@ -11,8 +15,10 @@ mod turns_of_tests;
 mod writing;
 
 pub use dump::{DumpedText, read_dump, write_dump};
-pub use fault::{DumpFault, Misfit, TextFault};
+pub use fault::{DumpFault, Misfit, OursFault, TextFault};
 pub use laws::{dump_is_kept, text_is_kept};
+pub use our_dump::{OurDump, translate_dump};
+pub use ours::translate_text;
 pub use piece::{Kind, Piece};
 pub use reading::read_text;
 pub use writing::write_text;

@@ -1,0 +1,68 @@
+use Rattle.drv_dump.specs.Ours.{ours_of}
+use Rattle.drv_dump.specs.Texts.{pieces_of}
+use Rattle.drv_dump.specs.declared.fault.Misfit.TheVariants.{BadTest, BareBrace, EscapedMark, Unclosed, UnknownDirective}
+use Rattle.drv_dump.specs.declared.fault.OursFault.TheVariants.{Lacking}
+use Rattle.drv_dump.specs.declared.fault.TextFault.TheVariants.{Unreadable}
+use Rattle.drv_dump.specs.declared.fault.TextFault.{TextFault}
+use Rattle.drv_dump.specs.declared.piece.Piece.{Piece}
+use Rattle.std.proofs.Common.{◌≡◌, Err, List, [], ◌∷◌, Ok, Result, codes, map, refl, ℕ}
+
+-- Worked texts, by computation.
+
+-- the bytes of each piece
+abbrev spread : Result (List Piece) TextFault → Result (List (List ℕ)) TextFault
+spread (Ok pieces) = Ok (map (λ (piece : Piece). piece.bytes) pieces)
+spread (Err fault) = Err fault
+
+in_one_another :
+    spread (pieces_of (codes "%{m32|!x:;:-a %{b*}}"))
+    ≡ Ok (codes "%{" ∷ codes "m32" ∷ codes "|" ∷ codes "!" ∷ codes "x" ∷ codes ":" ∷ codes ";" ∷ codes ":" ∷ codes "-a " ∷ codes "%{" ∷ codes "b*" ∷ codes "}" ∷ codes "}" ∷ [])
+in_one_another = refl
+
+arguments_to_their_end : spread (pieces_of (codes "%:f(a(b)%{c:d})e")) ≡ Ok (codes "%:f(a(b)%{c:d})" ∷ codes "e" ∷ [])
+arguments_to_their_end = refl
+
+message_to_its_end :
+    spread (pieces_of (codes "%{a:%eno %i;:b}%n{x}")) ≡ Ok (codes "%{" ∷ codes "a" ∷ codes ":" ∷ codes "%eno %i" ∷ codes ";" ∷ codes ":" ∷ codes "b" ∷ codes "}" ∷ codes "%n{x}" ∷ [])
+message_to_its_end = refl
+
+no_brace_is_open : pieces_of (codes "a}") ≡ Err (Unreadable BareBrace 1)
+no_brace_is_open = refl
+
+no_such_directive : pieces_of (codes "a%q") ≡ Err (Unreadable UnknownDirective 2)
+no_such_directive = refl
+
+no_second_alternative_of_patterns : pieces_of (codes "%{a;b:c}") ≡ Err (Unreadable BadTest 3)
+no_second_alternative_of_patterns = refl
+
+no_tests_at_first : pieces_of (codes "%{:a}") ≡ Err (Unreadable BadTest 2)
+no_tests_at_first = refl
+
+backslash_hides_no_end : pieces_of (codes "%{a:b\\;c}") ≡ Err (Unreadable EscapedMark 6)
+backslash_hides_no_end = refl
+
+braces_without_an_end : pieces_of (codes "%{a:b") ≡ Err (Unreadable Unclosed 5)
+braces_without_an_end = refl
+
+level_of_debug_information : ours_of (codes "%{%:debug-level-gt(0):-g %I}") ≡ Ok (codes "%{-gdrv-level=*:-g %(include_words)}")
+level_of_debug_information = refl
+
+several_tests_for_one : ours_of (codes "%{%:dwarf-version-gt(3):-g}") ≡ Ok (codes "%{-gdrv-dwarf=4|-gdrv-dwarf=5:-g}")
+several_tests_for_one = refl
+
+no_negation_of_several : ours_of (codes "%{!%:dwarf-version-gt(3):-g}") ≡ Err (Lacking (codes "%:dwarf-version-gt(3)"))
+no_negation_of_several = refl
+
+whole_forms_in_a_row : ours_of (codes "%{c:%W{o*}%{!o*:-o %w%b%O}}%{!c:-o %d%w%u%O} %{o*}") ≡ Ok (codes "%(object) %W{o*}")
+whole_forms_in_a_row = refl
+
+unknown_function_in_place :
+    ours_of (codes "%{march=*:%:rewrite_march(%{march=*:%*})}")
+    ≡ Ok (codes "%{march=*:%{-gdrv-none:;:%efunction %:rewrite_march is not in this spec file}}")
+unknown_function_in_place = refl
+
+text_of_a_file : ours_of (codes "%:include(libgomp.spec)%(link_gomp)") ≡ Ok (codes "%(include_libgomp.spec)%(link_gomp)")
+text_of_a_file = refl
+
+own_function_stays : ours_of (codes "%:if-exists(a.o%s)") ≡ Ok (codes "%:if-exists(a.o%s)")
+own_function_stays = refl
