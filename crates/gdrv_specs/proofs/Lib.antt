@@ -1,2 +1,4 @@
 mod Calls
 mod Plans
+mod Runs
+mod Told

@@ -1,20 +1,22 @@
-use Rattle.gdrv_specs.specs.declared.calling.Call.TheVariants.{Ask, Plan}
+use Rattle.gdrv_specs.specs.declared.calling.Call.TheVariants.{After, Ask, Plan}
 use Rattle.gdrv_specs.specs.declared.calling.Call.{Call}
-use Rattle.gdrv_specs.specs.declared.calling.CallFault.TheVariants.{NoCommand, UnknownCommand}
+use Rattle.gdrv_specs.specs.declared.calling.CallFault.TheVariants.{MissingAnswer, NoCommand, TooManyAnswers, UnknownCommand}
 use Rattle.gdrv_specs.specs.declared.calling.CallFault.{CallFault}
 use Rattle.gdrv_specs.specs.declared.calling.Command.TheVariants as command
 use Rattle.gdrv_specs.specs.declared.calling.Command.{Command}
+use Rattle.gdrv_specs.specs.declared.cutting.Cut.{Cut}
 use Rattle.gdrv_specs.specs.declared.forms.Form.TheVariants.{Json, Lines, Script}
 use Rattle.gdrv_specs.specs.declared.forms.Form.{Form}
 use Rattle.gdrv_specs.specs.declared.help.Question.TheVariants.{Help, Version}
 use Rattle.std.specs.Cmp.Lexicographic.{pointwise}
-use Rattle.std.specs.Prelude.{Err, List, [], ◌∷◌, None, Ok, Option, Result, Some, codes, drop, if◌then◌else◌, nat_eq, ℕ}
+use Rattle.std.specs.Prelude.{Err, List, [], ◌∷◌, ◌++◌, None, Ok, Option, Result, Some, codes, drop, false, if◌then◌else◌, length, nat_eq, nat_lt, true, ℕ}
 
 -- What a call of the program asks for: its first word is the command (this project's profile).
 
 abbrev pub command_named : List ℕ → Option Command
 command_named word =
     if pointwise nat_eq word (codes "plan") then Some command.Plan
+    else if pointwise nat_eq word (codes "after") then Some command.After
     else if pointwise nat_eq word (codes "--help") then Some (command.Ask Help)
     else if pointwise nat_eq word (codes "--version") then Some (command.Ask Version) else None
 
@@ -43,10 +45,36 @@ after_form (Some form) words = drop 1 words
 abbrev pub line_of : List (List ℕ) → List (List ℕ)
 line_of words = after_form (form_asked words) words
 
+-- Answers that are given ahead: each word --fail takes the word after it for one, and the line is what is left.
+
+abbrev pub no_words : Cut
+no_words = record { line = []; given = []; awaits = false }
+
+abbrev pub taken : Cut → List ℕ → Cut
+taken cut word =
+    if cut.awaits then record cut { given = cut.given ++ word ∷ []; awaits = false }
+    else if pointwise nat_eq word (codes "--fail") then record cut { awaits = true }
+    else record cut { line = cut.line ++ word ∷ [] }
+
+abbrev pub cut_from : Cut → List (List ℕ) → Cut
+cut_from cut [] = cut
+cut_from cut (word ∷ words) = cut_from (taken cut word) words
+
+-- the most answers
+abbrev pub most_answers : ℕ
+most_answers = 1000
+
+abbrev pub run_asked : Cut → Result Call CallFault
+run_asked cut =
+    if cut.awaits then Err MissingAnswer
+    else if nat_lt most_answers (length cut.given) then Err TooManyAnswers
+    else Ok (After cut.given cut.line)
+
 abbrev pub asked_by : List ℕ → List (List ℕ) → Option Command → Result Call CallFault
 asked_by word words None = Err (UnknownCommand word)
 asked_by word words (Some (command.Ask question)) = Ok (Ask question)
 asked_by word words (Some command.Plan) = Ok (Plan (form_of words) (line_of words))
+asked_by word words (Some command.After) = run_asked (cut_from no_words words)
 
 abbrev pub call_of : List (List ℕ) → Result Call CallFault
 call_of [] = Err NoCommand

@@ -1,9 +1,11 @@
+use Rattle.drv_after.specs.declared.worded.GivenFault.TheVariants.{NoAnswer, NoForm, NoPlace}
+use Rattle.drv_after.specs.declared.worded.GivenFault.{GivenFault}
 use Rattle.drv_run.specs.Exits.{exit_status_of}
 use Rattle.drv_run.specs.Texts.{around, refusal_text}
 use Rattle.drv_run.specs.declared.ending.Ending.TheVariants.{Done, OutOfMemory, Refused}
-use Rattle.gdrv_specs.specs.declared.calling.CallFault.TheVariants.{NoCommand, UnknownCommand}
+use Rattle.gdrv_specs.specs.declared.calling.CallFault.TheVariants.{Memory, MissingAnswer, NoCommand, TooManyAnswers, UnknownCommand}
 use Rattle.gdrv_specs.specs.declared.calling.CallFault.{CallFault}
-use Rattle.gdrv_specs.specs.declared.outcome.Outcome.TheVariants.{Ended, Misused, NoPlan}
+use Rattle.gdrv_specs.specs.declared.outcome.Outcome.TheVariants.{Ended, Misused, NoPlan, NoRun, Unanswered}
 use Rattle.gdrv_specs.specs.declared.outcome.Outcome.{Outcome}
 use Rattle.std.specs.Prelude.{List, [], ◌++◌, codes, ℕ}
 
@@ -12,13 +14,23 @@ use Rattle.std.specs.Prelude.{List, [], ◌++◌, codes, ℕ}
 abbrev pub status_of : Outcome → ℕ
 status_of (Ended ending) = exit_status_of ending
 status_of NoPlan = 1
+status_of NoRun = 1
+status_of (Unanswered word fault) = 1
 status_of (Misused fault) = 1
 
 -- a line that tells of these words
 abbrev pub told_line : List ℕ → List ℕ
 told_line words = codes "gdrv-specs: " ++ words ++ codes "\n"
 
+abbrev pub unanswered_text : List ℕ → GivenFault → List ℕ
+unanswered_text word NoForm = told_line (around (codes "'") word (codes "' is not PLACE=ANSWER"))
+unanswered_text word NoPlace = told_line (around (codes "'") word (codes "': the plan has no such place"))
+unanswered_text word NoAnswer = told_line (around (codes "'") word (codes "': no step there has such an answer"))
+
 abbrev pub misuse_text : CallFault → List ℕ
+misuse_text Memory = told_line (codes "out of memory")
+misuse_text MissingAnswer = told_line (codes "missing argument to '--fail'")
+misuse_text TooManyAnswers = told_line (codes "more than 1000 answers")
 misuse_text NoCommand = told_line (codes "no command; 'gdrv-specs --help' lists them")
 misuse_text (UnknownCommand word) = told_line (around (codes "unknown command '") word (codes "'; 'gdrv-specs --help' lists them"))
 
@@ -28,4 +40,6 @@ text_of (Ended (Done status)) = []
 text_of (Ended (Refused refusal)) = told_line (refusal_text refusal)
 text_of (Ended OutOfMemory) = told_line (codes "out of memory")
 text_of NoPlan = told_line (codes "a line with '-dumpspecs' has no plan")
+text_of NoRun = told_line (codes "a line with '-###' carries nothing out")
+text_of (Unanswered word fault) = unanswered_text word fault
 text_of (Misused fault) = misuse_text fault

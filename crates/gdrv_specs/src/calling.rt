@@ -1,12 +1,16 @@
 //! What a call of the program asks for.
 
 ghost use Rattle.gdrv_specs.specs.Calls.{call_of, command_named, form_asked, form_named};
-ghost use Rattle.gdrv_specs.specs.Calls.{form_of, line_of};
+ghost use Rattle.gdrv_specs.specs.Calls.{cut_from, form_of, line_of, no_words, run_asked};
+ghost use Rattle.drv_words.specs.Gives.{Gives};
+ghost use Rattle.gdrv_specs.specs.declared.calling.CallFault.TheVariants.{Memory};
 ghost use Rattle.std.specs.Prelude.{◌≡◌};
 
+use crate::cutting::{Cut, cut_words};
 use crate::forms::Form;
 use crate::help::Question;
 use drv_words::{Listing, Word};
+use std::alloc::{AllocError, Global};
 
 /// What a call asks for.
 #[derive(Debug, Drop)]
@@ -14,16 +18,41 @@ pub enum Call {
     /// What the program says of itself.
     Ask(Question),
     /// The plan of a line of the driver, in a form.
-    Plan { form: Form, line: Listing<Word> },
+    Plan {
+        form: Form,
+        line: Listing<Word>,
+    },
+    /// The run of a line of the driver, where these words give some answers ahead.
+    After {
+        given: Listing<Word>,
+        line: Listing<Word>,
+    },
 }
 
 /// Why a call asks for nothing.
 #[derive(Debug, Drop)]
 pub enum CallFault {
+    /// Memory was wanted.
+    Memory,
     /// It has no word.
     NoCommand,
     /// No command has the name that is its first word.
     UnknownCommand(Word),
+    /// No word follows the last `--fail`.
+    MissingAnswer,
+    /// There are more answers than 1000.
+    TooManyAnswers,
+}
+
+impl From<AllocError> for CallFault {
+    ghost use Rattle.gdrv_specs.specs.declared.calling.CallFault.TheVariants.{Memory};
+    ghost use Rattle.std.specs.Prelude.{◌≡◌};
+
+    ghost from_gives = { λ _ fault. fault ≡ Memory };
+
+    fn from(_error: AllocError) -> CallFault {
+        CallFault::Memory
+    }
 }
 
 /// What a first word asks for.
@@ -31,7 +60,11 @@ pub enum CallFault {
 enum Command {
     Ask(Question),
     Plan,
+    After,
 }
+
+/// The most answers that a call gives ahead.
+const MOST_ANSWERS: usize = 1000;
 
 /// The command of this name.
 fn command_named(word: &[u8]) -> Option<Command>
@@ -39,6 +72,9 @@ fn command_named(word: &[u8]) -> Option<Command>
 {
     if word == b"plan".as_slice() {
         return Some(Command::Plan);
+    }
+    if word == b"after".as_slice() {
+        return Some(Command::After);
     }
     if word == b"--help".as_slice() {
         return Some(Command::Ask(Question::Help));
@@ -87,12 +123,38 @@ fn cut_form(mut words: Vec<Word>) -> (Form, Listing<Word>)
     }
 }
 
+/// The run that these words ask for.
+fn run_asked(cut: Cut) -> Result<Call, CallFault>
+    ensures { result ≡ run_asked cut }
+{
+    if cut.awaits {
+        return Err(CallFault::MissingAnswer);
+    }
+    if cut.given.len() > MOST_ANSWERS {
+        return Err(CallFault::TooManyAnswers);
+    }
+    Ok(Call::After {
+        given: cut.given,
+        line: cut.line,
+    })
+}
+
+/// The run that the words after the command ask for.
+#[tactic(auto, using(crate::proofs::Calls::gives_call))]
+fn run_of_words(alloc: Global, words: &[Word]) -> Result<Call, CallFault>
+    ensures { Gives Memory (λ call. call) result (run_asked (cut_from no_words words.now)) }
+{
+    let cut = cut_words(alloc, words)?;
+    run_asked(cut)
+}
+
 /// What a call with these arguments asks for.
 ///
 /// # Errors
-/// It has no arguments, or the first one is no command.
-pub fn call_of(args: Listing<Word>) -> Result<Call, CallFault>
-    ensures { result ≡ call_of args }
+/// Want of memory; it has no arguments, the first one is no command, or the words of `--fail` are too
+/// few or too many.
+pub fn call_of(alloc: Global, args: Listing<Word>) -> Result<Call, CallFault>
+    ensures { Gives Memory (λ call. call) result (call_of args) }
 {
     let mut words = args.into_vec();
     if words.is_empty() {
@@ -105,6 +167,7 @@ pub fn call_of(args: Listing<Word>) -> Result<Call, CallFault>
             let (form, line) = cut_form(words);
             Ok(Call::Plan { form, line })
         }
+        Some(Command::After) => run_of_words(alloc, words.as_slice()),
         None => Err(CallFault::UnknownCommand(first)),
     }
 }

@@ -4,11 +4,14 @@
 ghost use Rattle.gdrv_specs.specs.Outcomes.{status_of};
 ghost use Rattle.std.specs.Prelude.{◌≡◌};
 
+mod answers;
 mod calling;
+mod cutting;
 mod forms;
 mod help;
 mod outcome;
 mod planning;
+mod running;
 
 use calling::{Call, call_of};
 use drv_run::Ending;
@@ -18,6 +21,7 @@ use forms::Form;
 use help::Question;
 use outcome::Outcome;
 use planning::tell_plan;
+use running::tell_after;
 use std::alloc::AllocError;
 use std::io::{self, ErrorKind};
 use std::process::ExitCode;
@@ -65,20 +69,33 @@ fn tell(rt: &HostRuntime, form: Form, line: Listing<Word>) -> Result<Outcome, Al
     Ok(tell_plan(rt.alloc(), &mut sys, form, line, seed))
 }
 
+/// Tells the run of a line to this process's user.
+fn tell_run(rt: &HostRuntime, given: &[Word], line: Listing<Word>) -> Result<Outcome, AllocError> {
+    let seed = clock_seed(rt)?;
+    let mut sys = HostSystem::new(rt.clone()?);
+    Ok(tell_after(rt.alloc(), &mut sys, given, line, seed))
+}
+
+/// What a telling comes to, for which memory may have been wanted first.
+fn ended(outcome: Result<Outcome, AllocError>) -> Outcome {
+    match outcome {
+        Ok(outcome) => outcome,
+        Err(_) => Outcome::Ended(Ending::OutOfMemory),
+    }
+}
+
 /// Does what a call asks for.
 fn act(rt: &HostRuntime, call: Call) -> Outcome {
     match call {
         Call::Ask(asked) => answer(rt, asked),
-        Call::Plan { form, line } => match tell(rt, form, line) {
-            Ok(outcome) => outcome,
-            Err(_) => Outcome::Ended(Ending::OutOfMemory),
-        },
+        Call::Plan { form, line } => ended(tell(rt, form, line)),
+        Call::After { given, line } => ended(tell_run(rt, given.as_slice(), line)),
     }
 }
 
 /// What the arguments of this process come to.
 fn whole(rt: &HostRuntime, args: Listing<Word>) -> Outcome {
-    match call_of(args) {
+    match call_of(rt.alloc(), args) {
         Ok(call) => act(rt, call),
         Err(fault) => Outcome::Misused(fault),
     }

@@ -1,10 +1,12 @@
 //! How a call of the program ends.
 
 ghost use Rattle.gdrv_specs.specs.Outcomes.{misuse_text, status_of, text_of, told_line};
-ghost use Rattle.drv_run.specs.Texts.{refusal_text};
+ghost use Rattle.gdrv_specs.specs.Outcomes.{unanswered_text};
+ghost use Rattle.drv_run.specs.Texts.{around, refusal_text};
 ghost use Rattle.std.specs.Prelude.{◌≡◌, IfOk};
 
 use crate::calling::CallFault;
+use drv_after::GivenFault;
 use drv_run::{Ending, Refusal, refusal_text};
 use drv_words::Word;
 use std::alloc::{AllocError, Global};
@@ -16,6 +18,10 @@ pub enum Outcome {
     Ended(Ending),
     /// The line asks for the specs, so it has no plan.
     NoPlan,
+    /// The line asks for its plan alone, so nothing is carried out.
+    NoRun,
+    /// This word gives no answer.
+    Unanswered(Word, GivenFault),
     /// The call asks for nothing.
     Misused(CallFault),
 }
@@ -41,6 +47,29 @@ fn refusal_line(alloc: Global, refusal: &Refusal) -> Result<Word, AllocError>
     line_of(alloc, words.as_bytes())
 }
 
+/// A line that tells of a word between two texts.
+fn line_around(alloc: Global, before: &[u8], word: &Word, after: &[u8]) -> Result<Word, AllocError>
+    ensures { IfOk result (λ line. line ≡ told_line (around before.now word.now after.now)) }
+{
+    let mut words = Word::from_bytes(alloc, before)?;
+    words.extend_from_slice(word.as_bytes())?;
+    words.extend_from_slice(after)?;
+    line_of(alloc, words.as_bytes())
+}
+
+/// What is told of a word that gives no answer.
+fn unanswered_line(alloc: Global, word: &Word, fault: GivenFault) -> Result<Word, AllocError>
+    ensures { IfOk result (λ line. line ≡ unanswered_text word.now fault) }
+{
+    match fault {
+        GivenFault::NoForm => line_around(alloc, b"'", word, b"' is not PLACE=ANSWER"),
+        GivenFault::NoPlace => line_around(alloc, b"'", word, b"': the plan has no such place"),
+        GivenFault::NoAnswer => {
+            line_around(alloc, b"'", word, b"': no step there has such an answer")
+        }
+    }
+}
+
 /// What is told of a call that asks for nothing.
 fn misuse_line(alloc: Global, fault: &CallFault) -> Result<Word, AllocError>
     ensures { IfOk result (λ line. line ≡ misuse_text fault.now) }
@@ -48,11 +77,12 @@ fn misuse_line(alloc: Global, fault: &CallFault) -> Result<Word, AllocError>
     match fault {
         CallFault::NoCommand => line_of(alloc, b"no command; 'gdrv-specs --help' lists them"),
         CallFault::UnknownCommand(word) => {
-            let mut words = Word::from_bytes(alloc, b"unknown command '")?;
-            words.extend_from_slice(word.as_bytes())?;
-            words.extend_from_slice(b"'; 'gdrv-specs --help' lists them")?;
-            line_of(alloc, words.as_bytes())
+            let after = b"'; 'gdrv-specs --help' lists them";
+            line_around(alloc, b"unknown command '", word, after)
         }
+        CallFault::MissingAnswer => line_of(alloc, b"missing argument to '--fail'"),
+        CallFault::TooManyAnswers => line_of(alloc, b"more than 1000 answers"),
+        CallFault::Memory => line_of(alloc, b"out of memory"),
     }
 }
 
@@ -63,7 +93,8 @@ impl Outcome {
     {
         match self {
             Outcome::Ended(ending) => ending.exit_status(),
-            Outcome::NoPlan | Outcome::Misused(_) => 1,
+            Outcome::NoPlan | Outcome::NoRun => 1,
+            Outcome::Unanswered(..) | Outcome::Misused(_) => 1,
         }
     }
 
@@ -76,6 +107,8 @@ impl Outcome {
             Outcome::Ended(Ending::Refused(refusal)) => refusal_line(alloc, refusal),
             Outcome::Ended(Ending::OutOfMemory) => line_of(alloc, b"out of memory"),
             Outcome::NoPlan => line_of(alloc, b"a line with '-dumpspecs' has no plan"),
+            Outcome::NoRun => line_of(alloc, b"a line with '-###' carries nothing out"),
+            Outcome::Unanswered(word, fault) => unanswered_line(alloc, word, *fault),
             Outcome::Misused(fault) => misuse_line(alloc, fault),
         }
     }

@@ -1,6 +1,7 @@
 //! The plan of a line is told.
 
-ghost use Rattle.gdrv_specs.specs.Plans.{PutsText, TellsPlan, TellsWork, plan_in};
+ghost use Rattle.gdrv_specs.specs.Plans.{TellsOf, TellsPlan, plan_in};
+ghost use Rattle.gdrv_specs.specs.Told.{PutsText, TellsWork};
 ghost use Rattle.drv_run.specs.declared.work.Work.{Work};
 ghost use Rattle.gdrv_specs.specs.Forms.{form_text};
 ghost use Rattle.std.specs.Prelude.{◌≡◌, IfOk, OnErr, Some};
@@ -31,7 +32,7 @@ fn put_plan<S: System>(
 #[tactic(auto, using(crate::proofs::Plans::tells_put, crate::proofs::Plans::tells_short))]
 fn tell_planned<S: System>(alloc: Global, sys: &mut S, form: Form, plan: &Plan) -> Outcome
     ensures { (work : Work) → plan_in work ≡ Some plan.now
-        → TellsWork (S.events sys.old) (S.events sys.new) form work result }
+        → TellsWork (TellsOf form) (S.events sys.old) (S.events sys.new) work result }
 {
     match put_plan(alloc, sys, form, plan) {
         Ok(status) => Outcome::Ended(Ending::Done(status)),
@@ -42,7 +43,7 @@ fn tell_planned<S: System>(alloc: Global, sys: &mut S, form: Form, plan: &Plan) 
 /// Tells the plan of a work, which a dump of the specs has not.
 #[tactic(auto, using(crate::proofs::Plans::tells_dump))]
 fn tell_work<S: System>(alloc: Global, sys: &mut S, form: Form, work: &Work) -> Outcome
-    ensures { TellsWork (S.events sys.old) (S.events sys.new) form work.now result }
+    ensures { TellsWork (TellsOf form) (S.events sys.old) (S.events sys.new) work.now result }
 {
     match work {
         Work::Dump(_) => Outcome::NoPlan,

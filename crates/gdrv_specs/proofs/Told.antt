@@ -1,0 +1,54 @@
+use Rattle.drv_run.specs.Drives.{Comes}
+use Rattle.drv_run.specs.declared.ending.Ending.TheVariants.{Done, OutOfMemory, Refused}
+use Rattle.drv_run.specs.declared.ending.Ending.{Ending}
+use Rattle.drv_run.specs.declared.work.Work.{Work}
+use Rattle.drv_system.proofs.Asking.{extends_refl}
+use Rattle.drv_system.specs.Asking.{AreNew, Asks, Extends}
+use Rattle.drv_system.specs.Facts.{Facts, learn, no_facts}
+use Rattle.drv_system.specs.declared.event.Event.{Event}
+use Rattle.gdrv_specs.specs.Told.{Stops, Telling, Tells, TellsWork}
+use Rattle.gdrv_specs.specs.declared.outcome.Outcome.TheVariants.{Ended}
+use Rattle.gdrv_specs.specs.declared.outcome.Outcome.{Outcome}
+use Rattle.std.proofs.Common.{◌≡◌, ◌∙◌, ◌++◌, Err, List, Ok, [], ap, inl, inr, refl, subst, sym, ℕ}
+use Rattle.std.proofs.lemmas.List.{append-nil}
+
+-- A call that tells something of a line.
+
+-- the answers to the questions of a call that began with an empty table
+known : {journal journal' : List Event} {F F' : Facts} → F ≡ no_facts → (asks : Asks journal journal' F F') → F' ≡ learn no_facts asks.asked
+known empty asks = asks.facts_grow ∙ ap (λ G. learn G asks.asked) empty
+
+stops : (F : Facts) (line : List (List ℕ)) (seed : ℕ) (ending : Ending) → Comes F line seed (Err ending)
+    → Stops F line seed (Ended ending) []
+stops F line seed (Done status) comes = absurd comes
+stops F line seed (Refused refusal) comes = (comes, refl)
+stops F line seed OutOfMemory comes = refl
+
+-- before its work is told
+pub tells_before : {journal journal' : List Event} {F F' : Facts} (T : Telling) (line : List (List ℕ)) (seed : ℕ) (ending : Ending)
+    → F ≡ no_facts
+    → Asks journal journal' F F' → ((G : Facts) → Extends F' G → Comes G line seed (Err ending))
+    → Tells T journal journal' line seed (Ended ending)
+tells_before {journal} {F' = F'} T line seed ending empty asks comes = record {
+  asked = asks.asked;
+  told = [];
+  questions = subst (λ G. AreNew G asks.asked) empty asks.questions;
+  journal_grows = asks.journal_grows ∙ sym (append-nil (journal ++ asks.asked));
+  ends =
+      inl (stops (learn no_facts asks.asked) line seed ending (subst (λ G. Comes G line seed (Err ending)) (known empty asks) (comes F'
+      (extends_refl F'))));
+}
+
+-- with its work told
+pub tells_after : {journal journal' journal'' : List Event} {F F' : Facts} (T : Telling) (line : List (List ℕ)) (seed : ℕ) (work : Work)
+    (outcome : Outcome)
+    → F ≡ no_facts → Asks journal journal' F F' → ((G : Facts) → Extends F' G → Comes G line seed (Ok work))
+    → TellsWork T journal' journal'' work outcome
+    → Tells T journal journal'' line seed outcome
+tells_after {F' = F'} T line seed work outcome empty asks comes tells = record {
+  asked = asks.asked;
+  told = tells.0;
+  questions = subst (λ G. AreNew G asks.asked) empty asks.questions;
+  journal_grows = tells.1 ∙ ap (λ events. events ++ tells.0) asks.journal_grows;
+  ends = inr (work, subst (λ G. Comes G line seed (Ok work)) (known empty asks) (comes F' (extends_refl F')), tells.2);
+}

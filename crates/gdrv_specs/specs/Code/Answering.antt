@@ -1,0 +1,8 @@
+use Rattle.drv_after.specs.declared.answers.Given.{Given}
+use Rattle.gdrv_specs.specs.declared.answers.AnswerFault.{AnswerFault}
+use Rattle.std.specs.Prelude.{◌++◌, Err, List, Ok, Result}
+
+-- The answers of words after those of the words before them.
+abbrev pub after_answers : List Given → Result (List Given) AnswerFault → Result (List Given) AnswerFault
+after_answers front (Ok others) = Ok (front ++ others)
+after_answers front (Err fault) = Err fault
