@@ -1,6 +1,6 @@
 mod Asked
 mod Giving
+pub mod Places
 mod Reading
 mod Rows
-pub mod Untouched
 mod Values
