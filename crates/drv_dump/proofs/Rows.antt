@@ -66,3 +66,8 @@ text_of_a_file = refl
 
 own_function_stays : ours_of (codes "%:if-exists(a.o%s)") ≡ Ok (codes "%:if-exists(a.o%s)")
 own_function_stays = refl
+
+files_by_their_names :
+    ours_of (codes "a.o%s -T %{static:crt1.o%s;:-b libasan_preinit%O%s} %{T*}c%s")
+    ≡ Ok (codes "%(file_a.o) -T %{static:%(file_crt1.o);:-b %(file_libasan_preinit.o)} %{T*}c%s")
+files_by_their_names = refl

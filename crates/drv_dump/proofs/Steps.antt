@@ -1,14 +1,13 @@
 use Rattle.drv_dump.specs.Dumps as dumps
 use Rattle.drv_dump.specs.Texts.{read_at, read_from, then_read}
 use Rattle.drv_dump.specs.declared.dump.DumpReader.{DumpReader}
-use Rattle.drv_dump.specs.declared.dump.DumpedText.{DumpedText}
 use Rattle.drv_dump.specs.declared.dump.Entry.{Entry}
 use Rattle.drv_dump.specs.declared.fault.DumpFault.{DumpFault}
 use Rattle.drv_dump.specs.declared.fault.TextFault.{TextFault}
 use Rattle.drv_dump.specs.declared.piece.Piece.{Piece}
 use Rattle.drv_dump.specs.declared.reading.Reader.{Reader}
 use Rattle.drv_words.specs.Gives.{Gives}
-use Rattle.std.proofs.Common.{◌≡◌, ◌+◌, ◌<◌, ◌∙◌, ◌⊎◌, Err, IsErrAnd, List, ◌∷◌, Ok, Result, ap, drop, get_or, inl, inr, length, sym, ℕ}
+use Rattle.std.proofs.Common.{◌≡◌, ◌+◌, ◌<◌, ◌∙◌, ◌⊎◌, Err, IsErrAnd, List, Ok, Result, ap, drop, get_or, inl, inr, length, sym, ℕ}
 use Rattle.std.proofs.lemmas.List.{at_drop_more}
 
 -- The steps of the loops.

@@ -1,7 +1,7 @@
 use Rattle.drv_dump.specs.declared.forms.WholeForm.TheVariants as form
 use Rattle.drv_dump.specs.declared.forms.WholeForm.{WholeForm}
 use Rattle.std.specs.List.{starts_with}
-use Rattle.std.specs.Prelude.{◌-◌, List, [], ◌∷◌, ◌++◌, None, Option, Some, codes, if◌then◌else◌, length, nat_eq, ℕ}
+use Rattle.std.specs.Prelude.{◌-◌, List, [], ◌∷◌, None, Option, Some, codes, if◌then◌else◌, length, nat_eq, ℕ}
 
 -- The forms of gcc's spec texts that this driver has in other words (GCC manual, "Spec Files"; the functions of gcc.cc by these names).
 -- Named texts on the right side are those of the spec file that is written: what they say is known when it is written, or told by

@@ -33,7 +33,7 @@ is_function_byte b = is_ascii_alphanumeric b || is_of (codes "-_") b
 abbrev pub is_test_byte : ℕ → Bool
 is_test_byte b = is_ascii_alphanumeric b || is_of (codes "_-+=,.@") b
 
--- beside a test
+-- beside a test, or between words
 abbrev pub is_white : ℕ → Bool
 is_white b = is_of (byte.space ∷ byte.tab ∷ byte.newline ∷ []) b
 

@@ -1,4 +1,5 @@
 pub mod Dumps
+pub mod Files
 pub mod Forms
 pub mod Grammar
 pub mod OurDump

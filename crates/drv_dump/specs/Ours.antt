@@ -1,9 +1,11 @@
+use Rattle.drv_dump.specs.Files.{files_from}
 use Rattle.drv_dump.specs.Forms.{calls, directives, either_tests, form_at, lacking_directives, others, ours, own_calls, tests}
 use Rattle.drv_dump.specs.Texts.{pieces_of}
 use Rattle.drv_dump.specs.declared.fault.OursFault.TheVariants as ours_fault
 use Rattle.drv_dump.specs.declared.fault.OursFault.{OursFault}
 use Rattle.drv_dump.specs.declared.fault.TextFault.TheVariants as text_fault
 use Rattle.drv_dump.specs.declared.fault.TextFault.{TextFault}
+use Rattle.drv_dump.specs.declared.files.Joint.TheVariants.{Open}
 use Rattle.drv_dump.specs.declared.forms.WholeForm.{WholeForm}
 use Rattle.drv_dump.specs.declared.piece.Kind.TheVariants as kind
 use Rattle.drv_dump.specs.declared.piece.Kind.{Kind}
@@ -12,7 +14,7 @@ use Rattle.drv_words.specs.Bytes as byte
 use Rattle.std.specs.Cmp.Lexicographic.{pointwise}
 use Rattle.std.specs.List.{list_any, starts_with}
 use Rattle.std.specs.Map.{lookup}
-use Rattle.std.specs.Prelude.{◌==◌, Bool, Err, List, [], ◌∷◌, ◌++◌, None, Ok, Option, Result, Some, codes, if◌then◌else◌, nat_eq, suc, zero, ℕ}
+use Rattle.std.specs.Prelude.{◌==◌, Err, List, [], ◌∷◌, ◌++◌, None, Ok, Option, Result, Some, codes, if◌then◌else◌, nat_eq, suc, zero, ℕ}
 
 -- A text of gcc in this driver's spec language.
 
@@ -94,7 +96,7 @@ all_words [] = Ok []
 all_words (piece ∷ pieces) = with_words (words_of piece.kind piece.bytes) piece.bytes (all_words pieces)
 
 abbrev pub with_pieces : Result (List Piece) TextFault → Result (List ℕ) OursFault
-with_pieces (Ok pieces) = all_words pieces
+with_pieces (Ok pieces) = all_words (files_from zero Open pieces)
 with_pieces (Err text_fault.Memory) = Err ours_fault.Memory
 with_pieces (Err (text_fault.Unreadable misfit at)) = Err (ours_fault.Unreadable misfit at)
 

@@ -1,6 +1,5 @@
 use Rattle.drv_dump.specs.Grammar.{is_whole, turn}
 use Rattle.drv_dump.specs.declared.fault.Misfit.TheVariants.{Unclosed}
-use Rattle.drv_dump.specs.declared.fault.Misfit.{Misfit}
 use Rattle.drv_dump.specs.declared.fault.TextFault.TheVariants.{Unreadable}
 use Rattle.drv_dump.specs.declared.fault.TextFault.{TextFault}
 use Rattle.drv_dump.specs.declared.piece.Kind.TheVariants as kind

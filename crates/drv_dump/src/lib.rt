@@ -4,6 +4,7 @@
 
 mod dump;
 mod fault;
+mod files;
 mod forms;
 mod laws;
 mod our_dump;

@@ -11,6 +11,7 @@ ghost use Rattle.std.specs.Map.{lookup};
 ghost use Rattle.std.specs.Option.{option_map};
 ghost use Rattle.std.specs.Prelude.{◌≡◌, ◌≤◌, ◌++◌, OnOk, length, nat_eq};
 
+use crate::files::name_files;
 use crate::forms::{call_of, directive_of, either_test_of, form_at, is_lacking, is_ours, test_of};
 use crate::{Kind, OursFault, Piece, TextFault, read_text};
 use drv_words::Word;
@@ -176,8 +177,9 @@ pub fn translate_text(alloc: Global, text: &[u8]) -> Result<Word, OursFault>
         Err(TextFault::Memory) => return Err(OursFault::Memory),
         Err(TextFault::Unreadable(misfit, at)) => return Err(OursFault::Unreadable(misfit, at)),
     };
+    let named = name_files(alloc, pieces.as_slice())?;
     let mut word = Word::empty(alloc);
-    for piece in pieces.as_slice() {
+    for piece in named.as_slice() {
         push_piece(alloc, piece, &mut word)?;
     }
     Ok(word)

@@ -13,8 +13,8 @@ fn is_test_byte(byte: u8) -> bool
     byte.is_ascii_alphanumeric() || matches!(byte, b'_' | b'-' | b'+' | b'=' | b',' | b'.' | b'@')
 }
 
-/// White space beside a test.
-fn is_white(byte: u8) -> bool
+/// White space beside a test, or between words.
+pub(crate) fn is_white(byte: u8) -> bool
     ensures { result ≡ grammar.is_white byte }
 {
     matches!(byte, b' ' | b'\t' | b'\n')
