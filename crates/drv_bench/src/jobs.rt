@@ -11,14 +11,14 @@ use drv_system::{FactTable, ScriptSystem, System};
 use drv_words::{Command, Group, Job, Listing, Plan, Word, plan_lines, render, split};
 use std::alloc::{AllocError, Global};
 
-/// A word of so many letters.
+/// A word of `length` letters.
 fn letters(alloc: Global, length: usize) -> Result<Word, AllocError>
     ensures { IfOk result (λ word. word ≡ replicate length 120) }
 {
     Ok(Word::from_vec(vec![in alloc; b'x'; length]?))
 }
 
-/// So many words of ten letters.
+/// `count` words of ten letters.
 fn words(alloc: Global, count: usize) -> Result<Listing<Word>, AllocError> {
     let mut words = Listing::new(alloc);
     for _ in 0..count {
@@ -36,7 +36,7 @@ fn words_of(alloc: Global, texts: &[&[u8]]) -> Result<Listing<Word>, AllocError>
     Ok(words)
 }
 
-/// A command with so many words.
+/// A command with `count` words.
 fn command(alloc: Global, count: usize) -> Result<Command, AllocError> {
     Ok(Command {
         program: letters(alloc, 7)?,
@@ -54,7 +54,7 @@ fn groups(alloc: Global, command: Command) -> Result<Listing<Group>, AllocError>
     Ok(groups)
 }
 
-/// A job of one command with so many words.
+/// A job of one command with `count` words.
 fn job(alloc: Global, count: usize) -> Result<Job, AllocError> {
     Ok(Job {
         source: Some(0),
@@ -66,7 +66,7 @@ fn job(alloc: Global, count: usize) -> Result<Job, AllocError> {
     })
 }
 
-/// A plan of one command with so many words.
+/// A plan of one command with `count` words.
 fn plan(alloc: Global, count: usize) -> Result<Plan, AllocError> {
     let mut jobs = Listing::new(alloc);
     jobs.push(job(alloc, count)?)?;
@@ -77,20 +77,20 @@ fn plan(alloc: Global, count: usize) -> Result<Plan, AllocError> {
     })
 }
 
-/// The bytes of the text of a plan.
+/// The number of bytes in the text of a plan.
 fn text_length(alloc: Global, plan: &Plan) -> Result<usize, AllocError> {
     let lines = plan_lines(alloc, plan)?;
     let text = render(alloc, lines.as_slice())?;
     Ok(text.len())
 }
 
-/// The bytes of the text of a plan of so many words.
-fn rendered(alloc: Global, count: usize) -> Result<usize, AllocError> {
+/// The number of bytes in the text of a plan of `count` words.
+fn rendered_length(alloc: Global, count: usize) -> Result<usize, AllocError> {
     let plan = plan(alloc, count)?;
     text_length(alloc, &plan)
 }
 
-/// Adds an option of so many bytes, and a newline.
+/// Adds an option of `length` bytes, and a newline.
 fn add_option(text: &mut Word, length: usize) -> Result<(), AllocError> {
     text.extend_from_slice(b"-D")?;
     for _ in 2..length {
@@ -99,7 +99,7 @@ fn add_option(text: &mut Word, length: usize) -> Result<(), AllocError> {
     text.push(b'\n')
 }
 
-/// A response text of so many options, each with a newline after it.
+/// A response text of `count` options, each followed by a newline.
 fn response(alloc: Global, count: usize, length: usize) -> Result<Word, AllocError> {
     let mut text = Word::empty(alloc);
     for _ in 0..count {
@@ -108,7 +108,7 @@ fn response(alloc: Global, count: usize, length: usize) -> Result<Word, AllocErr
     Ok(text)
 }
 
-/// How many words a response text has.
+/// The number of words in a response text.
 fn split_words(alloc: Global, count: usize, length: usize) -> Result<usize, AllocError> {
     let text = response(alloc, count, length)?;
     let words = split(alloc, text.as_bytes())?;
@@ -134,7 +134,7 @@ fn file_of(alloc: Global, text: Word) -> Result<Listing<(Word, Option<Word>)>, A
     Ok(files)
 }
 
-/// How many switches words have; none where they are refused.
+/// The number of switches in these words; 0 if they are refused.
 fn switches_of(alloc: Global, expanded: &Result<Expanded, ArgsFault>) -> usize {
     match expanded {
         Ok(expanded) => read(alloc, expanded).map_or(0, |line| line.switches.len()),
@@ -142,21 +142,21 @@ fn switches_of(alloc: Global, expanded: &Result<Expanded, ArgsFault>) -> usize {
     }
 }
 
-/// How many switches arguments have on a system.
+/// The number of switches in these arguments, on a system.
 fn switches_on(alloc: Global, sys: &mut ScriptSystem, arguments: Listing<Word>) -> usize {
     let mut facts = FactTable::new(alloc);
     switches_of(alloc, &expand(alloc, arguments, sys, &mut facts))
 }
 
-/// How many switches one response file of so many options gives.
+/// The number of switches from one response file of `count` options.
 fn switches(alloc: Global, count: usize, length: usize) -> Result<usize, AllocError> {
     let arguments = words_of(alloc, &[b"a.c", b"@f"])?;
     let mut sys = system(alloc, file_of(alloc, response(alloc, count, length)?)?);
     Ok(switches_on(alloc, &mut sys, arguments))
 }
 
-/// How many items a spec text of so many plain bytes has.
-fn parsed(alloc: Global, count: usize) -> Result<usize, AllocError> {
+/// The number of items in a spec text of `count` plain bytes.
+fn item_count(alloc: Global, count: usize) -> Result<usize, AllocError> {
     match parse(alloc, letters(alloc, count)?.as_bytes()) {
         Ok(tree) => Ok(tree.tokens().len()),
         Err(_) => Ok(0),
@@ -186,7 +186,7 @@ const NAMES: [&'static [u8]; 19] = [
     b"link_command",
 ];
 
-/// How many bytes a spec text has, if it has a tree.
+/// The length of a spec text, if it has a tree.
 fn tree_bytes(alloc: Global, text: &[u8]) -> usize {
     match parse(alloc, text) {
         Ok(tree) => tree.text().len(),
@@ -194,7 +194,7 @@ fn tree_bytes(alloc: Global, text: &[u8]) -> usize {
     }
 }
 
-/// How many bytes the named texts of a set have, each parsed once.
+/// The length of the named texts of a set, each of which is parsed once.
 fn named_bytes(alloc: Global, set: &SpecSet) -> usize {
     let mut bytes: usize = 0;
     for name in &NAMES {
@@ -205,7 +205,7 @@ fn named_bytes(alloc: Global, set: &SpecSet) -> usize {
     bytes
 }
 
-/// How many bytes the texts of a set's pairs have, each parsed once.
+/// The length of the texts of a set's pairs, each of which is parsed once.
 fn pair_bytes(alloc: Global, set: &SpecSet) -> usize {
     let mut bytes: usize = 0;
     for place in 0..set.pairs().len() {
@@ -216,7 +216,7 @@ fn pair_bytes(alloc: Global, set: &SpecSet) -> usize {
     bytes
 }
 
-/// How many bytes the built-in spec texts have, each parsed so many times.
+/// The length of the built-in spec texts, each of which is parsed `count` times.
 fn text_bytes(alloc: Global, count: usize) -> Result<usize, AllocError> {
     let set = builtin(alloc)?;
     let mut bytes: usize = 0;
@@ -228,7 +228,7 @@ fn text_bytes(alloc: Global, count: usize) -> Result<usize, AllocError> {
     Ok(bytes)
 }
 
-/// No folder is searched.
+/// No folder to search.
 fn nowhere(alloc: Global) -> Prefixes {
     Prefixes {
         programs: Listing::new(alloc),
@@ -245,7 +245,7 @@ fn line_of_file(alloc: Global) -> Result<Line, ArgsFault> {
     read(alloc, &expanded)
 }
 
-/// What it cost to work a text; nothing where it was refused.
+/// The cost of running a text; 0 if it was refused.
 fn cost(worked: &Result<Outcome, MachineFault>) -> usize {
     match worked {
         Ok(outcome) => outcome.cost,
@@ -253,19 +253,19 @@ fn cost(worked: &Result<Outcome, MachineFault>) -> usize {
     }
 }
 
-/// What it costs to work a text in a context, on a system.
+/// The cost of running a text in a context, on a system.
 fn cost_on(alloc: Global, tree: &SpecTree, context: &Context<'_>, sys: &mut ScriptSystem) -> usize {
     let mut facts = FactTable::new(alloc);
     cost(&drv_machine::run(alloc, tree, context, sys, &mut facts))
 }
 
-/// What it costs to work a text in a context.
+/// The cost of running a text in a context.
 fn cost_in(alloc: Global, tree: &SpecTree, context: &Context<'_>) -> usize {
     let mut sys = system(alloc, Listing::new(alloc));
     cost_on(alloc, tree, context, &mut sys)
 }
 
-/// What it costs to work a text for a line.
+/// The cost of running a text for a line.
 fn cost_for(alloc: Global, tree: &SpecTree, line: &Line) -> Result<usize, AllocError> {
     let prefixes = nowhere(alloc);
     let texts = SpecSet::empty(alloc);
@@ -273,7 +273,7 @@ fn cost_for(alloc: Global, tree: &SpecTree, line: &Line) -> Result<usize, AllocE
     Ok(cost_in(alloc, tree, &context))
 }
 
-/// What it costs to work a text for a line of one file.
+/// The cost of running a text for a line of one file.
 fn cost_of(alloc: Global, tree: &SpecTree) -> Result<usize, AllocError> {
     match line_of_file(alloc) {
         Ok(line) => cost_for(alloc, tree, &line),
@@ -281,16 +281,16 @@ fn cost_of(alloc: Global, tree: &SpecTree) -> Result<usize, AllocError> {
     }
 }
 
-/// What it costs to work a spec text of so many plain bytes.
-fn worked(alloc: Global, count: usize) -> Result<usize, AllocError> {
+/// The cost of running a spec text of `count` plain bytes.
+fn cost_of_bytes(alloc: Global, count: usize) -> Result<usize, AllocError> {
     match parse(alloc, letters(alloc, count)?.as_bytes()) {
         Ok(tree) => cost_of(alloc, &tree),
         Err(_) => Ok(0),
     }
 }
 
-/// A path for each number. All of them end in the bytes that make an unkeyed folding hash forget
-/// what stood before.
+/// A path for each number. All of them have the same end, which makes an unkeyed folding hash
+/// forget the bytes before it.
 fn hostile_path(alloc: Global, number: u32) -> Result<Word, AllocError> {
     let mut path = Word::from_bytes(alloc, b"/some/long/folder/")?;
     path.extend_from_slice(&number.to_be_bytes())?;
@@ -299,7 +299,7 @@ fn hostile_path(alloc: Global, number: u32) -> Result<Word, AllocError> {
     Ok(path)
 }
 
-/// Asks for the kinds of so many paths.
+/// Asks for the kinds of `count` paths.
 fn ask(
     alloc: Global,
     sys: &mut ScriptSystem,
@@ -312,15 +312,15 @@ fn ask(
     Ok(())
 }
 
-/// Asks for the kinds of so many paths twice.
+/// Asks twice for the kinds of `count` paths.
 fn ask_twice(alloc: Global, sys: &mut ScriptSystem, count: u32) -> Result<(), AllocError> {
     let mut facts = FactTable::new(alloc);
     ask(alloc, sys, &mut facts, count)?;
     ask(alloc, sys, &mut facts, count)
 }
 
-/// How many questions it takes to learn the kinds of so many paths, each asked for twice.
-fn asked(alloc: Global, count: u32) -> Result<usize, AllocError> {
+/// The number of questions to learn the kinds of `count` paths, each of which is asked for twice.
+fn question_count(alloc: Global, count: u32) -> Result<usize, AllocError> {
     let mut sys = system(alloc, Listing::new(alloc));
     ask_twice(alloc, &mut sys, count)?;
     Ok(sys.journal().len())
@@ -333,7 +333,7 @@ fn add_named_text(file: &mut Word, number: usize) -> Result<(), AllocError> {
     file.extend_from_slice(b":\n%{O*} -lx\n\n")
 }
 
-/// A spec file of so many named texts.
+/// A spec file of `count` named texts.
 fn spec_file(alloc: Global, count: usize) -> Result<Word, AllocError> {
     let mut file = Word::empty(alloc);
     for number in 0..count {
@@ -342,21 +342,20 @@ fn spec_file(alloc: Global, count: usize) -> Result<Word, AllocError> {
     Ok(file)
 }
 
-/// Loads a spec file into a set on a system, and tells whether the set took it.
+/// Loads a spec file into a set, on a system. Returns whether it was accepted.
 fn load_on(alloc: Global, sys: &mut ScriptSystem, set: &mut SpecSet, file: &[u8]) -> bool {
     let mut facts = FactTable::new(alloc);
     set.load(file, &nowhere(alloc), sys, &mut facts).is_ok()
 }
 
-/// Loads a spec file into a set, and tells whether the set took it.
+/// Loads a spec file into a set. Returns whether it was accepted.
 fn load(alloc: Global, set: &mut SpecSet, file: &[u8]) -> bool {
     let mut sys = system(alloc, Listing::new(alloc));
     load_on(alloc, &mut sys, set, file)
 }
 
-/// How many bytes the first text has that a spec file of so many named texts puts into the empty
-/// set.
-fn loaded(alloc: Global, count: usize) -> Result<usize, AllocError> {
+/// The length of the first text that a spec file of `count` named texts puts into the empty set.
+fn loaded_length(alloc: Global, count: usize) -> Result<usize, AllocError> {
     let file = spec_file(alloc, count)?;
     let mut set = SpecSet::empty(alloc);
     if load(alloc, &mut set, file.as_bytes()) {
@@ -365,7 +364,7 @@ fn loaded(alloc: Global, count: usize) -> Result<usize, AllocError> {
     Ok(0)
 }
 
-/// How many pairs the built-in set has, which is made so many times.
+/// The number of pairs of the built-in set, which is made `count` times.
 fn built_in(alloc: Global, count: usize) -> Result<usize, AllocError> {
     let mut pairs = 0;
     for _ in 0..count {
@@ -374,21 +373,21 @@ fn built_in(alloc: Global, count: usize) -> Result<usize, AllocError> {
     Ok(pairs)
 }
 
-/// Does a job, and answers the size of what came of it; none if there is no such job, or memory ran
+/// Does a job and returns the size of its result. `None` if there is no such job, or if memory ran
 /// out.
 pub fn run(alloc: Global, job: &str, count: &str, length: &str) -> Option<usize> {
     let count = count.parse::<usize>().ok()?;
     let length = length.parse::<usize>().ok()?;
     match job {
-        "render" => rendered(alloc, count).ok(),
+        "render" => rendered_length(alloc, count).ok(),
         "split" => split_words(alloc, count, length).ok(),
         "arguments" => switches(alloc, count, length).ok(),
-        "parse" => parsed(alloc, count).ok(),
+        "parse" => item_count(alloc, count).ok(),
         "texts" => text_bytes(alloc, count).ok(),
-        "work" => worked(alloc, count).ok(),
-        "specs" => loaded(alloc, count).ok(),
+        "work" => cost_of_bytes(alloc, count).ok(),
+        "specs" => loaded_length(alloc, count).ok(),
         "builtin" => built_in(alloc, count).ok(),
-        "facts" => asked(alloc, u32::try_from(count).ok()?).ok(),
+        "facts" => question_count(alloc, u32::try_from(count).ok()?).ok(),
         _ => None,
     }
 }

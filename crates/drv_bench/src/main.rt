@@ -1,4 +1,5 @@
-//! What the benchmarks run: one job of the library on made input, named by the arguments.
+//! The program that the benchmarks run: one job of the library on generated input. The arguments
+//! name the job.
 #![tactic(auto)]
 
 mod jobs;
