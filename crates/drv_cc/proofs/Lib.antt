@@ -2,6 +2,7 @@ mod Counts
 mod Cuts
 mod Folders
 mod Groups
+mod Left
 mod NoChecks
 mod Noted
 mod OtherOptions
@@ -9,5 +10,6 @@ mod Prefixes
 mod Rings
 mod Staying
 pub mod LevelLaws
+pub mod WorkedGiven
 pub mod WorkedItems
 pub mod WorkedLines

@@ -12,20 +12,20 @@ use Rattle.std.specs.Prelude.{None, Option, Some}
 -- Worked lines of gcc, by computation. What stays of each was compared with COLLECT_GCC_OPTIONS of gcc 12 and with the words that it
 -- hands to the compiler.
 
-abbrev known : List (List ℕ)
+abbrev pub known : List (List ℕ)
 known = texts (codes "-Wno-unused -fno-inline -msse3 -gstrict-dwarf -fvisibility=")
 
 -- names that a spec file of the line has
 abbrev named : List (List ℕ)
 named = texts (codes "q r* *")
 
-abbrev nowhere : Surroundings
+abbrev pub nowhere : Surroundings
 nowhere = record { compiler = codes "/usr/bin/gcc"; folders = codes "/g/" ∷ []; compiler_path = None; library_path = None }
 
 abbrev front : List ℕ → Answer
 front line = front_of known [] nowhere (texts line)
 
-abbrev words_given : Answer → Option (List (List ℕ))
+abbrev pub words_given : Answer → Option (List (List ℕ))
 words_given (Run call) = Some call.words
 words_given _ = None
 
@@ -36,7 +36,7 @@ children_given _ = []
 abbrev line : List ℕ → Option (List (List ℕ))
 line text = words_given (front text)
 
-abbrev gives : List ℕ → Option (List (List ℕ))
+abbrev pub gives : List ℕ → Option (List (List ℕ))
 gives text = Some (texts text)
 
 one_source : line (codes "-c a.c") ≡ gives (codes "-c a.c --gdrv-base=a.c --gdrv-ext=.c -pipe")

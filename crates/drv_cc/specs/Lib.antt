@@ -5,5 +5,6 @@ pub mod Kept
 pub mod LevelRules
 pub mod Levels
 pub mod LineItems
+pub mod SelfSpecs
 pub mod SideFiles
 pub mod Table

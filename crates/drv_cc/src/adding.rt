@@ -156,7 +156,7 @@ fn add_program_words(
 }
 
 /// Adds the folders of the surroundings.
-fn add_folder_words(
+pub(crate) fn add_folder_words(
     alloc: Global,
     around: &Surroundings,
     items: &[Item],

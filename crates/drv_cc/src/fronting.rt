@@ -19,7 +19,7 @@ use drv_words::{Listing, Word};
 use std::alloc::{AllocError, Global};
 
 /// Adds the words that items are spelled as.
-fn add_spelled(items: &[Item], words: &mut Listing<Word>) -> Result<(), AllocError>
+pub(crate) fn add_spelled(items: &[Item], words: &mut Listing<Word>) -> Result<(), AllocError>
     ensures { OnOk result (words.new ≡ words.old ++ flat_map words_of items.now) }
 {
     for item in items {

@@ -53,7 +53,11 @@ fn is_named(named: &[Word], word: &[u8]) -> bool
 }
 
 /// Adds the refusal of an item, if it is refused.
-fn refuse(named: &[Word], item: &Item, refusals: &mut Listing<Refusal>) -> Result<(), AllocError>
+pub(crate) fn refuse(
+    named: &[Word],
+    item: &Item,
+    refusals: &mut Listing<Refusal>,
+) -> Result<(), AllocError>
     ensures { OnOk result (refusals.new ≡ refusals.old ++ refused_item named.now item.now) }
 {
     match item.part {

@@ -3,6 +3,7 @@
 ghost use Rattle.drv_cc.specs.Levels.{asks_for_records, debug_words, debug_words_of, debugged};
 ghost use Rattle.drv_cc.specs.Levels.{debugged_by, level_named, level_words, no_debugging};
 ghost use Rattle.drv_cc.specs.Levels.{raised_by, toggle_named, toggled, version_named};
+ghost use Rattle.drv_cc.specs.SelfSpecs.{debugged_with, levels_with, settled};
 ghost use Rattle.std.specs.Prelude.{◌≡◌, ◌++◌, OnOk};
 
 use crate::classes::{is, stands_in};
@@ -125,21 +126,47 @@ impl Debugging {
             (true, _) => b'0',
         }
     }
+
+    /// The same with the level that the toggle gives, and without a toggle.
+    fn settled(self) -> Debugging
+        ensures { result ≡ settled self }
+    {
+        Debugging {
+            level: self.level(),
+            version: self.version,
+            toggled: false,
+        }
+    }
+}
+
+/// The debugging information after items.
+fn debugged_after(before: Debugging, items: &[Item]) -> Debugging
+    ensures { result ≡ debugged before items.now }
+{
+    let mut so_far = before;
+    for item in items {
+        so_far = so_far.after(item.name.as_bytes());
+    }
+    so_far
 }
 
 /// The debugging information of a line.
 fn debugged(items: &[Item]) -> Debugging
     ensures { result ≡ debugged no_debugging items.now }
 {
-    let mut so_far = Debugging {
+    let none = Debugging {
         level: b'0',
         version: b'5',
         toggled: false,
     };
-    for item in items {
-        so_far = so_far.after(item.name.as_bytes());
-    }
-    so_far
+    debugged_after(none, items)
+}
+
+/// The debugging information of a line to which these options are given.
+fn debugged_with(items: &[Item], given: &[Item]) -> Debugging
+    ensures { result ≡ debugged_with items.now given.now }
+{
+    debugged_after(debugged(items).settled(), given)
 }
 
 /// Adds the words of a level above 0 and a version.
@@ -180,4 +207,17 @@ pub(crate) fn add_debug_words(
 {
     let debugging = debugged(items);
     add_levels(alloc, words, debugging.level(), debugging.version)
+}
+
+/// Adds the words of the level and the version of a line to which these options are given.
+pub(crate) fn add_levels_with(
+    alloc: Global,
+    items: &[Item],
+    given: &[Item],
+    words: &mut Listing<Word>,
+) -> Result<(), AllocError>
+    ensures { OnOk result (words.new ≡ words.old ++ levels_with (debugged_with items.now given.now)) }
+{
+    let debugging = debugged_with(items, given);
+    add_levels(alloc, words, debugging.level, debugging.version)
 }

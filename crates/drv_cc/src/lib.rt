@@ -6,7 +6,10 @@ mod answer;
 mod beginnings;
 mod checks;
 mod classes;
+mod collecting;
 mod fronting;
+mod giving;
+mod hiding;
 mod item;
 mod judging;
 mod keeping;
@@ -32,6 +35,7 @@ mod words;
 
 pub use answer::{Answer, Call, Compilation, Reading, Stages, Surroundings, Variable};
 pub use fronting::front;
+pub use giving::{Given, front_with, seen_items};
 pub use laws::last_level_counts;
 pub use line::read_line;
 pub use refusal::Refusal;

@@ -81,7 +81,7 @@ fn option_effect(spelling: Spelling, name: &[u8]) -> Option<Effect>
 }
 
 /// What an item of the line does, if it is handed on.
-fn effect_of(part: Part, spelling: Spelling, name: &[u8]) -> Option<Effect>
+pub(crate) fn effect_of(part: Part, spelling: Spelling, name: &[u8]) -> Option<Effect>
     ensures { result ≡ effect_of part spelling name.now }
 {
     match part {

@@ -41,7 +41,7 @@ fn quote(word: &[u8], text: &mut Word) -> Result<(), AllocError>
 }
 
 /// Words between single quotes, with a blank between two.
-fn quoted_line(alloc: Global, words: &[Word]) -> Result<Word, AllocError>
+pub(crate) fn quoted_line(alloc: Global, words: &[Word]) -> Result<Word, AllocError>
     ensures { IfOk result (λ text. text ≡ quoted_line words.now) }
 {
     let mut text = Word::empty(alloc);
@@ -64,7 +64,7 @@ fn is_switch(item: &Item) -> bool
 }
 
 /// Adds the words of the switches.
-fn add_switches(items: &[Item], words: &mut Listing<Word>) -> Result<(), AllocError>
+pub(crate) fn add_switches(items: &[Item], words: &mut Listing<Word>) -> Result<(), AllocError>
     ensures { OnOk result (words.new ≡ words.old ++ switch_words items.now) }
 {
     for item in items {
@@ -161,7 +161,7 @@ fn has_pieces(items: &[Item]) -> bool
 }
 
 /// Adds a variable.
-fn add_variable(
+pub(crate) fn add_variable(
     alloc: Global,
     name: &[u8],
     value: Word,
@@ -186,7 +186,7 @@ fn add_piece_variable(
 }
 
 /// Adds the variable of the pieces for the assembler, if there are some.
-fn add_assembler_variables(
+pub(crate) fn add_assembler_variables(
     alloc: Global,
     items: &[Item],
     children: &mut Listing<Variable>,

@@ -15,6 +15,12 @@ pub enum Refusal {
     /// This option of gcc's is not carried out.
     #[error("option that is not carried out")]
     NotTaken(Word),
+    /// A spec file of the line gives this word as an option, and it is a file's name.
+    #[error("file among the options of a spec file")]
+    GivenFile(Word),
+    /// A spec file of the line gives more than options: another command, a pipe or a temporary.
+    #[error("more than options in a spec file")]
+    GivenMore,
     /// There is neither a file nor a library.
     #[error("no input files")]
     NoInput,

@@ -6,4 +6,6 @@ pub mod Parts
 pub mod Places
 pub mod Reading
 pub mod Runs
+pub mod Said
+pub mod SelfSpecs
 pub mod Written

@@ -2,7 +2,7 @@ use Rattle.drv_cc.specs.Front.{front_of}
 use Rattle.drv_cc.specs.declared.answer.Answer.TheVariants.{Ask, Refuse, Run}
 use Rattle.drv_cc.specs.declared.answer.Answer.{Answer}
 use Rattle.drv_cc.specs.declared.answer.Surroundings.{Surroundings}
-use Rattle.drv_cc.specs.declared.refusal.Refusal.TheVariants.{NoArgument, NoInput, NotTaken, UnknownOption}
+use Rattle.drv_cc.specs.declared.refusal.Refusal.TheVariants.{GivenFile, GivenMore, NoArgument, NoInput, NotTaken, UnknownOption}
 use Rattle.drv_cc.specs.declared.refusal.Refusal.{Refusal}
 use Rattle.drv_compile.specs.Beside.{known_names}
 use Rattle.drv_compile.specs.Compilers.{names_in, value_in}
@@ -25,6 +25,8 @@ abbrev pub is_unknown : Refusal → Bool
 is_unknown (UnknownOption word) = true
 is_unknown (NoArgument option) = false
 is_unknown (NotTaken option) = false
+is_unknown (GivenFile name) = false
+is_unknown GivenMore = false
 is_unknown NoInput = false
 
 abbrev pub has_unknown : Answer → Bool
@@ -41,6 +43,8 @@ abbrev pub unknown_switch : Refusal → List (List ℕ)
 unknown_switch (UnknownOption word) = without_hyphen word
 unknown_switch (NoArgument option) = []
 unknown_switch (NotTaken option) = []
+unknown_switch (GivenFile name) = []
+unknown_switch GivenMore = []
 unknown_switch NoInput = []
 
 abbrev pub unknown_switches : List Refusal → List (List ℕ)

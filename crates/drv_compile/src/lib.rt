@@ -10,6 +10,8 @@ mod parts;
 mod places;
 mod reading;
 mod running;
+mod saying;
+mod self_specs;
 mod written;
 
 pub use calling::{Calling, Front, calling_of};
@@ -18,3 +20,5 @@ pub use parts::{Texts, texts_of};
 pub use places::{beside, companion};
 pub use reading::Reading;
 pub use running::carry_out;
+pub use saying::said;
+pub use self_specs::answer_given;

@@ -81,7 +81,7 @@ fn unknown_switches(alloc: Global, refusals: &[Refusal]) -> Result<Listing<Word>
 }
 
 /// The files of `-specs=` among words of the driver.
-fn specs_given(alloc: Global, words: &[Word]) -> Result<Listing<Word>, AllocError>
+pub(crate) fn specs_given(alloc: Global, words: &[Word]) -> Result<Listing<Word>, AllocError>
     ensures { IfOk result (λ files. files ≡ specs_given words.now) }
 {
     let mut files = Listing::new(alloc);
@@ -168,7 +168,7 @@ fn files_names<S: System>(
 }
 
 /// The names that stand in the spec files of words of the driver.
-fn words_names<S: System>(
+pub(crate) fn words_names<S: System>(
     alloc: Global,
     words: &[Word],
     outside: &mut Outside<'_, S>,

@@ -20,7 +20,7 @@ use drv_system::{FactTable, Outside, System};
 use std::alloc::Global;
 
 /// The specs of a line: the built-in ones, and what the files of `-specs=` make of them.
-fn specs_of<S: System>(
+pub(crate) fn specs_of<S: System>(
     alloc: Global,
     settings: &Settings,
     outside: &mut Outside<'_, S>,

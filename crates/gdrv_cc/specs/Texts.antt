@@ -1,8 +1,9 @@
-use Rattle.drv_cc.specs.declared.refusal.Refusal.TheVariants.{NoArgument, NoInput, NotTaken, UnknownOption}
+use Rattle.drv_cc.specs.declared.answer.Variable.{Variable}
+use Rattle.drv_cc.specs.declared.refusal.Refusal.TheVariants.{GivenFile, GivenMore, NoArgument, NoInput, NotTaken, UnknownOption}
 use Rattle.drv_cc.specs.declared.refusal.Refusal.{Refusal}
 use Rattle.drv_words.specs.Bytes.{at_sign}
 use Rattle.std.specs.Cmp.Lexicographic.{pointwise}
-use Rattle.std.specs.List.{list_any, starts_with}
+use Rattle.std.specs.List.{flat_map}
 use Rattle.std.specs.Prelude.{◌==◌, ◌||◌, Bool, List, [], ◌∷◌, ◌++◌, None, Option, Some, codes, if◌then◌else◌, nat_eq, ℕ}
 
 -- What the user is told, in the words of gcc's driver where it has them.
@@ -52,11 +53,21 @@ meant (Some option) = quoted (codes "'; did you mean '") option (codes "'?")
 abbrev pub unknown_text : List ℕ → Option (List ℕ) → List ℕ
 unknown_text word near = codes "unrecognized command-line option '" ++ word ++ meant near
 
+-- what the specs of a line give and is no option (GCC, "gcc.cc", do_self_spec)
+abbrev pub given_text : List ℕ → List ℕ
+given_text word =
+    if is word (codes "-") then codes "spec-generated switch is just '-'" else quoted (codes "switch '") word (codes "' does not start with '-'")
+
+abbrev pub fatal_line : List ℕ → List ℕ → List ℕ
+fatal_line name text = name ++ codes ": fatal error: " ++ text ++ codes "\ncompilation terminated.\n"
+
 -- a refusal of the front
 abbrev pub refusal_text : List ℕ → Refusal → Option (List ℕ) → List ℕ
 refusal_text name (UnknownOption word) near = error_line name (unknown_text word near)
 refusal_text name (NoArgument option) near = error_line name (lacking option ++ option ++ codes "'")
 refusal_text name (NotTaken option) near = error_line name (quoted (codes "option '") option (codes "' is not carried out"))
+refusal_text name (GivenFile word) near = fatal_line name (given_text word)
+refusal_text name GivenMore near = error_line name (quoted (codes "the spec files of the line give more than options: 'self_spec' is not one command") [] [])
 refusal_text name NoInput near = name ++ codes ": fatal error: no input files\ncompilation terminated.\n"
 
 -- a file that is not there; of a response file the name is said
@@ -72,6 +83,16 @@ abbrev pub overwritten_text : List ℕ → List ℕ → List ℕ
 overwritten_text name output =
     name ++ codes ": fatal error: input file '" ++ output ++ codes "' is the same as output file\ncompilation terminated.\n"
 
+-- before a run whose commands are shown: what the compiler says of itself, and the switches of a link (GCC manual, "Overall Options", -v)
+abbrev pub line_of : List ℕ → List ℕ
+line_of line = line ++ codes "\n"
+
+abbrev pub switches_line : Variable → List ℕ
+switches_line v = if is v.name (codes "COLLECT_GCC_OPTIONS") then codes "COLLECT_GCC_OPTIONS=" ++ v.value ++ codes "\n" else []
+
+abbrev pub said_text : List (List ℕ) → List Variable → List ℕ
+said_text lines children = flat_map line_of lines ++ flat_map switches_line children
+
 -- the command that writes the spec file of a machine
 abbrev pub writing : List ℕ → List ℕ → List ℕ
 writing specs machine = codes "'write_specs -o " ++ specs ++ codes " " ++ machine ++ codes "' writes it"
@@ -83,14 +104,3 @@ unwritten_text name before path specs machine = error_line name (quoted before p
 -- after a run that did not find a program
 abbrev pub gone_text : List ℕ → List ℕ → List ℕ → List ℕ
 gone_text name specs machine = name ++ codes ": note: where the compiler of the spec file is gone, " ++ writing specs machine ++ codes " anew\n"
-
--- An option that a self spec of a spec file gives (GCC manual, "Spec Files"; GCC Internals, "Driver") is no program, and is what such a run
--- did not find.
-abbrev pub names_specs : List ℕ → Bool
-names_specs word = starts_with nat_eq word (codes "-specs=")
-
-abbrev pub unworked_text : List ℕ → List ℕ
-unworked_text name = name ++ codes ": note: an option that a 'self_spec' of the line's spec files gives is not carried out\n"
-
-abbrev pub hint_text : List ℕ → List ℕ → List ℕ → List (List ℕ) → List ℕ
-hint_text name specs machine words = (if list_any names_specs words then unworked_text name else []) ++ gone_text name specs machine

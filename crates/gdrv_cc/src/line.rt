@@ -5,7 +5,7 @@ use crate::outcome::Outcome;
 use crate::texts::add_refusal;
 use drv_cc::Refusal;
 use drv_compile::Calling;
-use drv_words::{Listing, Word};
+use drv_words::Word;
 use std::alloc::{AllocError, Global};
 
 /// Adds what is told of a refusal, with the option that was meant, if one is near.
@@ -30,18 +30,12 @@ fn add_told(
 pub fn refused(
     alloc: Global,
     calling: &Calling,
-    known: &Listing<Word>,
+    known: &[Word],
     refusals: &[Refusal],
 ) -> Result<Outcome, AllocError> {
     let mut text = Word::empty(alloc);
     for refusal in refusals {
-        add_told(
-            alloc,
-            calling.name.as_bytes(),
-            known.as_slice(),
-            refusal,
-            &mut text,
-        )?;
+        add_told(alloc, calling.name.as_bytes(), known, refusal, &mut text)?;
     }
     Ok(Outcome::Told(text))
 }

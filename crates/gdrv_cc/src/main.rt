@@ -6,23 +6,26 @@ ghost use Rattle.gdrv_cc.specs.Endings.{status_of};
 ghost use Rattle.std.specs.Prelude.{◌≡◌};
 
 mod asking;
+mod giving;
 mod line;
 mod nearest;
 mod outcome;
 mod running;
+mod speaking;
 mod texts;
 
 use asking::{
     argument_fault, damaged, line_words, own_specs, refuse_variable, without_compiler,
     without_specs,
 };
+use drv_args::Expanded;
 use drv_cc::{Answer, Surroundings};
 use drv_compile::{Calling, Decision, Reading, calling_of, decide};
 use drv_system::{FactTable, HostSystem, Outside, called_as, complain};
 use drv_words::Word;
 use line::refused;
 use outcome::Outcome;
-use running::{ask, run};
+use running::{Asked, ask, run};
 use std::process::ExitCode;
 
 const OUT_OF_MEMORY: &[u8] = b"gdrv-cc: error: out of memory\n";
@@ -45,18 +48,25 @@ fn act(
     specs: &Word,
     around: &Surroundings,
     reading: Reading,
-    from_file: bool,
+    args: &Expanded,
     outside: &mut Outside<'_, HostSystem>,
 ) -> Result<Outcome, Outcome> {
     let Reading { known, answer } = reading;
     match answer {
         Answer::Ask => ask(rt, calling, specs, &around.compiler),
         Answer::Refuse(refusals) => {
-            Ok(refused(rt.alloc(), calling, &known, refusals.as_slice())?)
+            Ok(refused(rt.alloc(), calling, known.as_slice(), refusals.as_slice())?)
         }
         Answer::Run(line) => {
             refuse_variable(rt.alloc(), calling, outside)?;
-            run(rt, calling, specs, line, from_file, outside)
+            let asked = Asked {
+                calling,
+                specs,
+                around,
+                known: known.as_slice(),
+                args,
+            };
+            run(rt, &asked, line, outside)
         }
     }
 }
@@ -66,7 +76,7 @@ fn act_on(
     rt: &HostRuntime,
     calling: &Calling,
     decision: Decision,
-    from_file: bool,
+    args: &Expanded,
     outside: &mut Outside<'_, HostSystem>,
 ) -> Result<Outcome, Outcome> {
     let alloc = rt.alloc();
@@ -85,7 +95,7 @@ fn act_on(
             specs,
             around,
             reading,
-        } => act(rt, calling, &specs, &around, reading, from_file, outside),
+        } => act(rt, calling, &specs, &around, reading, args, outside),
     }
 }
 
@@ -103,7 +113,7 @@ fn call_as(rt: &HostRuntime, calling: &Calling) -> Result<Outcome, Outcome> {
         outside.sys,
         outside.facts,
     )?;
-    act_on(rt, calling, decision, line.from_file, outside)
+    act_on(rt, calling, decision, &line, outside)
 }
 
 /// This process's call.

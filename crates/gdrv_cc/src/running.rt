@@ -3,10 +3,12 @@
 ghost use Rattle.std.specs.Prelude.{◌≡◌, ◌∷◌, ◌++◌, [], IfOk, codes};
 
 use crate::asking::{damaged, own_arguments};
+use crate::giving::given;
 use crate::outcome::{Outcome, answered};
+use crate::speaking::speak;
 use crate::texts::{add_absent, hint, overwritten, unwritten};
 use drv_args::Expanded;
-use drv_cc::{Call, Stages, Variable};
+use drv_cc::{Call, Stages, Surroundings, Variable};
 use drv_compile::{Calling, Texts, carry_out, texts_of};
 use drv_run::Ending;
 use drv_system::{
@@ -158,11 +160,26 @@ fn drive_words(
     Ok(ending)
 }
 
+/// The line that is carried out, with what it was read by.
+#[derive(Drop)]
+pub struct Asked<'a> {
+    /// The name of the call.
+    pub calling: &'a Calling,
+    /// The spec file of the call.
+    pub specs: &'a Word,
+    /// The compiler of that, and where it looks.
+    pub around: &'a Surroundings,
+    /// The names of options that were taken to read the line.
+    pub known: &'a [Word],
+    /// The words of the line.
+    pub args: &'a Expanded,
+}
+
 /// The driver's words for a line, with the file that has the texts for it.
 ///
 /// # Errors
 /// The refusal of a file that is damaged.
-fn words_for(
+pub fn words_for(
     alloc: Global,
     calling: &Calling,
     specs: &Word,
@@ -193,28 +210,28 @@ fn words_for(
 /// spec texts may ask for.
 pub fn run(
     rt: &HostRuntime,
-    calling: &Calling,
-    specs: &Word,
+    asked: &Asked<'_>,
     line: Call,
-    from_file: bool,
     outside: &mut Outside<'_, HostSystem>,
 ) -> Result<Outcome, Outcome> {
-    refuse_absent(
-        rt.alloc(),
-        calling.name.as_bytes(),
-        line.inputs.as_slice(),
+    let alloc = rt.alloc();
+    let name = asked.calling.name.as_bytes();
+    refuse_absent(alloc, name, line.inputs.as_slice(), outside)?;
+    refuse_overwriting(rt, name, &line)?;
+    let line = given(alloc, asked, line, outside)?;
+    let machine = asked.calling.machine.as_bytes();
+    let hint = hint(alloc, name, asked.specs.as_bytes(), machine)?;
+    let words = Expanded {
+        words: line.words,
+        from_file: asked.args.from_file,
+    };
+    speak(
+        rt,
+        asked,
+        words.words.as_slice(),
+        line.children.as_slice(),
         outside,
     )?;
-    refuse_overwriting(rt, calling.name.as_bytes(), &line)?;
-    let hint = hint(
-        rt.alloc(),
-        calling.name.as_bytes(),
-        specs.as_bytes(),
-        calling.machine.as_bytes(),
-        line.words.as_slice(),
-    )?;
-    let words = words_for(rt.alloc(), calling, specs, line.words, line.stages, outside)?;
-    let words = Expanded { words, from_file };
     let ending = drive_words(rt, &words, line.children.as_slice(), &hint, outside.facts)?;
     Ok(Outcome::Ended(ending))
 }

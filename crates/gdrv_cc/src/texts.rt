@@ -1,13 +1,12 @@
 //! What the user is told.
 
-ghost use Rattle.gdrv_cc.specs.Texts.{absent_text, error_line, file_said, gone_text, hint_text};
-ghost use Rattle.gdrv_cc.specs.Texts.{lacking, meant, names_specs, overwritten_text, quoted};
+ghost use Rattle.gdrv_cc.specs.Texts.{absent_text, error_line, fatal_line, file_said, given_text};
+ghost use Rattle.gdrv_cc.specs.Texts.{gone_text, lacking, meant, overwritten_text, quoted};
 ghost use Rattle.gdrv_cc.specs.Texts.{refusal_text};
 ghost use Rattle.gdrv_cc.specs.Texts.{takes_file, takes_goal, takes_macro, takes_path};
-ghost use Rattle.gdrv_cc.specs.Texts.{unknown_text, unworked_text, unwritten_text, writing};
-ghost use Rattle.std.specs.List.{list_any};
+ghost use Rattle.gdrv_cc.specs.Texts.{unknown_text, unwritten_text, writing};
 ghost use Rattle.std.specs.Option.{option_copied};
-ghost use Rattle.std.specs.Prelude.{◌≡◌, ◌∷◌, ◌++◌, [], IfOk, OnOk, codes, if◌then◌else◌};
+ghost use Rattle.std.specs.Prelude.{◌≡◌, ◌++◌, IfOk, OnOk};
 
 use drv_cc::Refusal;
 use drv_words::Word;
@@ -155,6 +154,27 @@ fn add_line(
     text.push(b'\n')
 }
 
+/// Adds what is said of a file among the options that spec files give.
+fn add_given_text(text: &mut Word, word: &[u8]) -> Result<(), AllocError>
+    ensures { OnOk result (text.new ≡ text.old ++ given_text word.now) }
+{
+    if word == b"-".as_slice() {
+        text.extend_from_slice(b"spec-generated switch is just '-'")
+    } else {
+        add(text, b"switch '", word, b"' does not start with '-'")
+    }
+}
+
+/// Adds the line of a file among the options that spec files give.
+fn add_given(text: &mut Word, name: &[u8], word: &[u8]) -> Result<(), AllocError>
+    ensures { OnOk result (text.new ≡ text.old ++ fatal_line name.now (given_text word.now)) }
+{
+    text.extend_from_slice(name)?;
+    text.extend_from_slice(b": fatal error: ")?;
+    add_given_text(text, word)?;
+    text.extend_from_slice(b"\ncompilation terminated.\n")
+}
+
 /// Adds what is told of a refusal of the front. `near` is the option that an unknown word was meant
 /// to be, if one is near.
 pub fn add_refusal(
@@ -181,6 +201,14 @@ pub fn add_refusal(
                 b"' is not carried out",
             )
         }
+        Refusal::GivenFile(word) => add_given(text, name, word.as_bytes()),
+        Refusal::GivenMore => add_line(
+            text,
+            name,
+            b"the spec files of the line give more than options: 'self_spec' is not one command",
+            b"",
+            b"",
+        ),
         Refusal::NoInput => {
             text.extend_from_slice(name)?;
             text.extend_from_slice(b": fatal error: no input files\ncompilation terminated.\n")
@@ -262,46 +290,11 @@ fn add_gone(text: &mut Word, name: &[u8], specs: &[u8], machine: &[u8]) -> Resul
     text.extend_from_slice(b" anew\n")
 }
 
-/// Whether a word names a spec file.
-fn names_specs(word: &Word) -> bool
-    ensures { result ≡ names_specs word.now }
-{
-    word.as_bytes().starts_with(b"-specs=")
-}
-
-/// Whether a line names a spec file.
-fn have_specs(words: &[Word]) -> bool
-    ensures { result ≡ list_any names_specs words.now }
-{
-    words.iter().any(names_specs)
-}
-
-/// What is told of an option that a spec file of the line may give, where the line names one.
-fn unworked(alloc: Global, name: &[u8], words: &[Word]) -> Result<Word, AllocError>
-    ensures { IfOk result (λ text. text ≡
-        (if list_any names_specs words.now then unworked_text name.now else [])) }
+/// What is told after a run that did not find a program.
+pub fn hint(alloc: Global, name: &[u8], specs: &[u8], machine: &[u8]) -> Result<Word, AllocError>
+    ensures { IfOk result (λ text. text ≡ gone_text name.now specs.now machine.now) }
 {
     let mut text = Word::empty(alloc);
-    if have_specs(words) {
-        text.extend_from_slice(name)?;
-        text.extend_from_slice(
-            b": note: an option that a 'self_spec' of the line's spec files gives is not carried out\n",
-        )?;
-    }
-    Ok(text)
-}
-
-/// What is told after a run of a line with these words that did not find a program.
-pub fn hint(
-    alloc: Global,
-    name: &[u8],
-    specs: &[u8],
-    machine: &[u8],
-    words: &[Word],
-) -> Result<Word, AllocError>
-    ensures { IfOk result (λ text. text ≡ hint_text name.now specs.now machine.now words.now) }
-{
-    let mut text = unworked(alloc, name, words)?;
     add_gone(&mut text, name, specs, machine)?;
     Ok(text)
 }

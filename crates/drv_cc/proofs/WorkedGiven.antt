@@ -1,0 +1,50 @@
+use Rattle.drv_cc.proofs.WorkedLines.{gives, known, nowhere, words_given}
+use Rattle.drv_cc.specs.Levels.{debugged_by}
+use Rattle.drv_cc.specs.SelfSpecs.{front_with}
+use Rattle.drv_cc.specs.Table.{ignored, sections, texts, unpaired}
+use Rattle.drv_cc.specs.declared.answer.Answer.TheVariants.{Refuse}
+use Rattle.drv_cc.specs.declared.answer.Answer.{Answer}
+use Rattle.drv_cc.specs.declared.refusal.Refusal.TheVariants.{GivenFile, NotTaken}
+use Rattle.std.proofs.Common.{◌≡◌, List, [], ◌∷◌, codes, refl, ℕ}
+use Rattle.std.specs.Prelude.{Option}
+
+-- Worked lines whose spec files give them options, by computation: the line, the words of its switches that are left, and those that are
+-- given. What stays of each was compared with COLLECT_GCC_OPTIONS of gcc 12.
+
+abbrev given : List ℕ → List ℕ → List ℕ → Answer
+given args left words = front_with known [] nowhere (texts args) (record { left = texts left; words = texts words })
+
+abbrev given_line : List ℕ → List ℕ → List ℕ → Option (List (List ℕ))
+given_line args left words = words_given (given args left words)
+
+takes_none_away : given_line (codes "-fPIC -pie a.o") (codes "-fPIC -pie") (codes "-fno-PIE -no-pie") ≡ gives (codes "-fPIC -pie a.o -fno-PIE -no-pie")
+unfolding sections ignored unpaired debugged_by
+takes_none_away = refl
+
+hidden_is_gone : given_line (codes "-O1 -o x a.o -s") (codes "-o x -s") (codes "-O2") ≡ gives (codes "-o x a.o -s -O2")
+unfolding sections ignored unpaired debugged_by
+hidden_is_gone = refl
+
+pruned_among_themselves : given_line (codes "-fpic a.o") (codes "-fpic") (codes "-fPIE -s -fno-PIE") ≡ gives (codes "-fpic a.o -s -fno-PIE")
+unfolding sections ignored unpaired debugged_by
+pruned_among_themselves = refl
+
+level_goes_on : given_line (codes "-g3 -gtoggle a.o") (codes "-g3 -gtoggle") (codes "-g") ≡ gives (codes "-g3 -gtoggle a.o -g --gdrv-level=2 --gdrv-dwarf=5")
+unfolding sections ignored unpaired debugged_by
+level_goes_on = refl
+
+threads_are_seen : given_line (codes "-fopenmp a.o") (codes "-fopenmp -pthread") (codes "-s") ≡ gives (codes "-fopenmp a.o -pthread -s")
+unfolding sections ignored unpaired debugged_by
+threads_are_seen = refl
+
+threads_are_hidden : given_line (codes "-fopenmp a.o") (codes "-fopenmp") (codes "-s") ≡ gives (codes "-fopenmp a.o -s")
+unfolding sections ignored unpaired debugged_by
+threads_are_hidden = refl
+
+late_ones_go : given_line (codes "a.o -s") (codes "-s") (codes "-specs=v -x c -lx") ≡ gives (codes "a.o -s -lx")
+unfolding sections ignored unpaired debugged_by
+late_ones_go = refl
+
+file_is_refused : given (codes "a.o -s") (codes "-s") (codes "b.o --version") ≡ Refuse (GivenFile (codes "b.o") ∷ NotTaken (codes "--version") ∷ [])
+unfolding sections ignored unpaired debugged_by
+file_is_refused = refl

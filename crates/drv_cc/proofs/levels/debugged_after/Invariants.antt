@@ -1,0 +1,6 @@
+use Rattle.drv_cc.specs.Levels.{debugged}
+use Rattle.std.proofs.Common.{◌≡◌, drop}
+use Rattle.drv_cc.proofs.levels.debugged_after.Given as goal
+
+abbrev pub invariant-loop-item : goal.invariant-loop-item
+invariant-loop-item l = debugged l.so_far (drop l.item-index l.items) ≡ debugged l.fn.before l.items

@@ -1,0 +1,136 @@
+use Rattle.drv_args.specs.declared.items.Item.{Item as LineItem}
+use Rattle.drv_args.specs.declared.option_table.Effect.TheVariants as effect
+use Rattle.drv_args.specs.declared.option_table.Effect.{Effect}
+use Rattle.drv_args.specs.declared.option_table.Setting.TheVariants as setting
+use Rattle.drv_cc.specs.Front.{assembler_variables, folder_words, pipe_words, quoted_line, switch_words, thread_words, variable}
+use Rattle.drv_cc.specs.Items.{is_among, item, items_of, same, words_of}
+use Rattle.drv_cc.specs.Kept.{has, kept, last_argument, refused_part}
+use Rattle.drv_cc.specs.Levels.{check_words, debug_words_of, debugged, no_debugging, toggled}
+use Rattle.drv_cc.specs.LineItems.{effect_of, line_item}
+use Rattle.drv_cc.specs.SideFiles.{inputs, link_beginning, side_words, stops}
+use Rattle.drv_cc.specs.Table.{texts}
+use Rattle.drv_cc.specs.declared.answer.Answer.TheVariants.{Refuse, Run}
+use Rattle.drv_cc.specs.declared.answer.Answer.{Answer}
+use Rattle.drv_cc.specs.declared.answer.Stages.TheVariants.{All}
+use Rattle.drv_cc.specs.declared.answer.Surroundings.{Surroundings}
+use Rattle.drv_cc.specs.declared.answer.Variable.{Variable}
+use Rattle.drv_cc.specs.declared.giving.Given.{Given}
+use Rattle.drv_cc.specs.declared.item.Item.{Item}
+use Rattle.drv_cc.specs.declared.levels.Debugging.{Debugging}
+use Rattle.drv_cc.specs.declared.refusal.Refusal.TheVariants.{GivenFile, NotTaken}
+use Rattle.drv_cc.specs.declared.refusal.Refusal.{Refusal}
+use Rattle.drv_cc.specs.declared.table.Part.TheVariants as part
+use Rattle.drv_cc.specs.declared.table.Part.{Part}
+use Rattle.drv_cc.specs.declared.table.Spelling.TheVariants.{Alone}
+use Rattle.std.specs.List.{filter, filter_map, flat_map}
+use Rattle.std.specs.Prelude.{◌||◌, Bool, List, [], ◌∷◌, ◌++◌, None, Option, Some, codes, drop, false, if◌then◌else◌, length, map, nat_lt, not, true, ℕ}
+
+-- A line whose spec files give it options: their text `self_spec` is worked once, with the switches of the line and no input, and its words
+-- are options of the line (GCC, "gcc.cc", set_up_specs, do_self_spec, read_cmdline_option; GCC manual, "Spec Files").
+
+-- What the text sees: what stays of the line, and the threads that it needs.
+abbrev pub thread_item : List ℕ → Item
+thread_item word = item word [] Alone part.Switch
+
+abbrev pub seen : List Item → List Item
+seen items = items ++ map thread_item (thread_words items)
+
+abbrev pub seen_items : List (List ℕ) → List (List ℕ) → List LineItem
+seen_items known words = filter_map line_item (seen (kept (items_of known None words)))
+
+-- The words by which a text writes a switch of the line; none for what is no switch.
+abbrev pub written_by : Effect → List ℕ → List ℕ → List (List ℕ)
+written_by (effect.TurnsOn setting.Verbose) option argument = option ∷ []
+written_by (effect.TurnsOn setting.Pipe) option argument = option ∷ []
+written_by effect.Switch option argument = option ∷ []
+written_by effect.SwitchWithArgument option argument = option ∷ argument ∷ []
+written_by effect.Output option argument = option ∷ argument ∷ []
+written_by effect.JoinedSwitch option argument = (option ++ argument) ∷ []
+written_by effect.Specs option argument = (option ++ argument) ∷ []
+written_by effect.Prefix option argument = (option ++ argument) ∷ []
+written_by _ option argument = []
+
+abbrev pub written_if : Option Effect → Item → List (List ℕ)
+written_if None i = []
+written_if (Some effect) i = written_by effect i.name i.argument
+
+abbrev pub written : Item → List (List ℕ)
+written i = written_if (effect_of i.part i.spelling i.name) i
+
+-- Hidden for good: a switch that the text hid. `left` are the words of those that it left, in their order. Switches of one name are hidden
+-- alike, so the first word tells.
+abbrev pub is_left : List (List ℕ) → List (List ℕ) → Bool
+is_left [] left = true
+is_left (word ∷ words) [] = false
+is_left (word ∷ words) (first ∷ others) = same word first
+
+abbrev pub live : List Item → List (List ℕ) → List Item
+live [] left = []
+live (i ∷ items) left = if is_left (written i) left then i ∷ live items (drop (length (written i)) left) else live items left
+
+-- Given: the text's words as items, pruned among themselves. A spec file and a language come too late to count.
+abbrev pub is_late : Item → Bool
+is_late i = is_among (texts (codes "-specs= -x")) i.name
+
+abbrev pub given_items : List (List ℕ) → List (List ℕ) → List Item
+given_items known words = filter (λ i. not (is_late i)) (kept (items_of known None words))
+
+-- Refused of them: a file, a question, and what is refused on a line.
+abbrev pub given_refused : List (List ℕ) → Part → List ℕ → List Refusal
+given_refused named part.Input name = GivenFile name ∷ []
+given_refused named part.Question name = NotTaken name ∷ []
+given_refused named other name = refused_part named other name
+
+abbrev pub given_refusals : List (List ℕ) → List Item → List Refusal
+given_refusals named given = flat_map (λ i. given_refused named i.part i.name) given
+
+-- The level of debugging goes on from that of the line, whose toggle is not turned again.
+abbrev pub settled : Debugging → Debugging
+settled d = record d { level = toggled d; toggled = false }
+
+abbrev pub debugged_with : List Item → List Item → Debugging
+debugged_with items given = debugged (settled (debugged no_debugging items)) given
+
+abbrev pub levels_with : Debugging → List (List ℕ)
+levels_with d = debug_words_of d.level d.version
+
+-- The words: the switches that were left and those that are given, and what is added to the line as it was read.
+abbrev pub words_with : Surroundings → List Item → List Item → List Item → List (List ℕ)
+words_with around items left given =
+    flat_map words_of left ++ flat_map words_of given ++ folder_words around (items ++ given) ++ side_words items
+    ++ levels_with (debugged_with items given) ++ check_words (items ++ given) ++ pipe_words (items ++ given)
+
+-- The variables of a link's children.
+abbrev pub collected_with : List Item → List Item → List (List ℕ)
+collected_with items switches = switch_words switches ++ codes "-dumpdir" ∷ link_beginning items ∷ []
+
+abbrev pub variables_with : Surroundings → List Item → List Item → List Variable
+variables_with around items switches =
+    variable (codes "COLLECT_GCC") around.compiler ∷ variable (codes "COLLECT_GCC_OPTIONS") (quoted_line (collected_with items switches)) ∷ []
+
+abbrev pub children_with : Surroundings → List Item → List Item → List Item → List Variable
+children_with around items left given =
+    if stops items || has (codes "-fno-lto") (left ++ given) then []
+    else variables_with around items (left ++ given) ++ assembler_variables (items ++ given)
+
+-- The answer.
+abbrev pub run_with : Surroundings → List Item → List Item → List Item → Answer
+run_with around items left given =
+    Run (record {
+      words = words_with around items left given;
+      inputs = inputs items;
+      output = last_argument (codes "-o") items;
+      children = children_with around items left given;
+      stages = All;
+    })
+
+abbrev pub refused_or_run_with : Surroundings → List Item → List Item → List Item → List Refusal → Answer
+refused_or_run_with around items left given faults =
+    if nat_lt 0 (length faults) then Refuse faults else run_with around items left given
+
+abbrev pub answer_with : List (List ℕ) → Surroundings → List Item → List (List ℕ) → List Item → Answer
+answer_with named around items left given = refused_or_run_with around items (live (seen items) left) given (given_refusals named given)
+
+abbrev pub front_with : List (List ℕ) → List (List ℕ) → Surroundings → List (List ℕ) → Given → Answer
+front_with known named around words given =
+    answer_with named around (kept (items_of known None words)) given.left (given_items known given.words)

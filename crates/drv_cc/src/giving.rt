@@ -1,0 +1,293 @@
+//! A line whose spec files give it options.
+
+ghost use Rattle.drv_cc.specs.Items.{items_of};
+ghost use Rattle.drv_cc.specs.Kept.{kept};
+ghost use Rattle.drv_cc.specs.SelfSpecs.{answer_with, front_with, given_items, given_refusals};
+ghost use Rattle.drv_cc.specs.SelfSpecs.{given_refused, is_late, refused_or_run_with, run_with};
+ghost use Rattle.drv_cc.specs.SelfSpecs.{seen, seen_items, thread_item, words_with};
+ghost use Rattle.std.specs.List.{filter};
+ghost use Rattle.std.specs.Prelude.{◌≡◌, ◌++◌, IfOk, None, OnOk, map, not};
+
+use crate::adding::{add_folder_words, add_thread_words};
+use crate::checks::add_check_words;
+use crate::classes::is;
+use crate::collecting::children_with;
+use crate::fronting::{add_spelled, output};
+use crate::hiding::live;
+use crate::item::Item;
+use crate::judging::refuse;
+use crate::keeping::kept;
+use crate::levels::add_levels_with;
+use crate::line_items::add_kept;
+use crate::piping::add_pipe_words;
+use crate::reading::items_of;
+use crate::sides::add_side_words;
+use crate::sources::inputs;
+use crate::table::{Part, Spelling};
+use crate::{Answer, Call, Refusal, Stages, Surroundings};
+use drv_words::{Listing, Word};
+use std::alloc::{AllocError, Global};
+
+/// What the text `self_spec` of a line's spec files gave.
+#[derive(Drop)]
+pub struct Given {
+    /// The words of the line's switches that it did not hide, as it writes them.
+    pub left: Listing<Word>,
+    /// The words that it gives.
+    pub words: Listing<Word>,
+}
+
+/// The items of a line that stay.
+fn line_kept(alloc: Global, known: &[Word], words: &[Word]) -> Result<Listing<Item>, AllocError>
+    ensures { IfOk result (λ stay. stay ≡ kept (items_of known.now None words.now)) }
+{
+    let items = items_of(alloc, known, words)?;
+    kept(alloc, items.as_slice())
+}
+
+/// Adds the switches of words.
+fn add_thread_items(
+    alloc: Global,
+    words: &[Word],
+    items: &mut Listing<Item>,
+) -> Result<(), AllocError>
+    ensures { OnOk result (items.new ≡ items.old ++ map thread_item words.now) }
+{
+    for word in words {
+        items.push(Item::new(alloc, word.as_bytes(), b"", Spelling::Alone, Part::Switch)?)?;
+    }
+    Ok(())
+}
+
+/// The items that the text sees, where these stay of the line.
+fn seen(alloc: Global, items: &[Item]) -> Result<Listing<Item>, AllocError>
+    ensures { IfOk result (λ all. all ≡ seen items.now) }
+{
+    let mut threads = Listing::new(alloc);
+    add_thread_words(alloc, items, &mut threads)?;
+    let mut all = Listing::new(alloc);
+    add_items(items, &mut all)?;
+    add_thread_items(alloc, threads.as_slice(), &mut all)?;
+    Ok(all)
+}
+
+/// Adds items.
+fn add_items(items: &[Item], all: &mut Listing<Item>) -> Result<(), AllocError>
+    ensures { OnOk result (all.new ≡ all.old ++ items.now) }
+{
+    for item in items {
+        all.push(item.clone()?)?;
+    }
+    Ok(())
+}
+
+/// Items and others after them.
+pub(crate) fn both(
+    alloc: Global,
+    items: &[Item],
+    others: &[Item],
+) -> Result<Listing<Item>, AllocError>
+    ensures { IfOk result (λ all. all ≡ items.now ++ others.now) }
+{
+    let mut all = Listing::new(alloc);
+    add_items(items, &mut all)?;
+    add_items(others, &mut all)?;
+    Ok(all)
+}
+
+/// The items of a line that the text `self_spec` of its spec files sees, as items of the driver's
+/// line: what stays of the line, and the option for threads, where one needs them (GCC, "gcc.cc",
+/// set_up_specs).
+///
+/// # Errors
+/// An allocation was refused.
+pub fn seen_items(
+    alloc: Global,
+    known: &[Word],
+    args: &[Word],
+) -> Result<Listing<drv_args::Item>, AllocError>
+    ensures { IfOk result (λ items. items ≡ seen_items known.now args.now) }
+{
+    let items = line_kept(alloc, known, args)?;
+    let all = seen(alloc, items.as_slice())?;
+    let mut given = Listing::new(alloc);
+    add_kept(all.as_slice(), &mut given)?;
+    Ok(given)
+}
+
+/// Whether an option comes too late to count.
+fn is_late(item: &Item) -> bool
+    ensures { result ≡ is_late item.now }
+{
+    let name = item.name.as_bytes();
+    is(name, b"-specs=") || is(name, b"-x")
+}
+
+/// The items that count.
+fn counted(alloc: Global, items: &[Item]) -> Result<Listing<Item>, AllocError>
+    ensures { IfOk result (λ some. some ≡ filter (λ i. not (is_late i)) items.now) }
+{
+    let mut some = Listing::new(alloc);
+    for item in items {
+        if !is_late(item) {
+            some.push(item.clone()?)?;
+        }
+    }
+    Ok(some)
+}
+
+/// The options that words give.
+fn given_items(alloc: Global, known: &[Word], words: &[Word]) -> Result<Listing<Item>, AllocError>
+    ensures { IfOk result (λ given. given ≡ given_items known.now words.now) }
+{
+    let items = line_kept(alloc, known, words)?;
+    counted(alloc, items.as_slice())
+}
+
+/// Adds the refusal of an option that is given, if it is refused.
+fn refuse_given(
+    named: &[Word],
+    item: &Item,
+    refusals: &mut Listing<Refusal>,
+) -> Result<(), AllocError>
+    ensures { OnOk result (refusals.new
+        ≡ refusals.old ++ given_refused named.now item.now.part item.now.name) }
+{
+    match item.part {
+        Part::Input => refusals.push(Refusal::GivenFile(item.name.clone()?))?,
+        Part::Question => refusals.push(Refusal::NotTaken(item.name.clone()?))?,
+        _ => refuse(named, item, refusals)?,
+    }
+    Ok(())
+}
+
+/// The refusals of options that are given.
+fn given_refusals(
+    alloc: Global,
+    named: &[Word],
+    given: &[Item],
+) -> Result<Listing<Refusal>, AllocError>
+    ensures { IfOk result (λ refused. refused ≡ given_refusals named.now given.now) }
+{
+    let mut refused = Listing::new(alloc);
+    for item in given {
+        refuse_given(named, item, &mut refused)?;
+    }
+    Ok(refused)
+}
+
+/// The driver's words for a line with these items, of whose switches these are left, and to which
+/// these are given.
+fn words_with(
+    alloc: Global,
+    around: &Surroundings,
+    items: &[Item],
+    left: &[Item],
+    given: &[Item],
+) -> Result<Listing<Word>, AllocError>
+    ensures { IfOk result (λ words. words ≡ words_with around.now items.now left.now given.now) }
+{
+    let all = both(alloc, items, given)?;
+    let mut words = Listing::new(alloc);
+    add_spelled(left, &mut words)?;
+    add_spelled(given, &mut words)?;
+    add_folder_words(alloc, around, all.as_slice(), &mut words)?;
+    add_side_words(alloc, items, &mut words)?;
+    add_levels_with(alloc, items, given, &mut words)?;
+    add_check_words(alloc, all.as_slice(), &mut words)?;
+    add_pipe_words(alloc, all.as_slice(), &mut words)?;
+    Ok(words)
+}
+
+/// The call of a line with such items.
+fn run_with(
+    alloc: Global,
+    around: &Surroundings,
+    items: &[Item],
+    left: &[Item],
+    given: &[Item],
+) -> Result<Answer, AllocError>
+    ensures { IfOk result (λ answer. answer ≡ run_with around.now items.now left.now given.now) }
+{
+    let words = words_with(alloc, around, items, left, given)?;
+    let inputs = inputs(alloc, items)?;
+    let output = output(alloc, items)?;
+    let children = children_with(alloc, around, items, left, given)?;
+    Ok(Answer::Run(Call {
+        words,
+        inputs,
+        output,
+        children,
+        stages: Stages::All,
+    }))
+}
+
+/// What a line with such items comes to.
+fn refused_or_run_with(
+    alloc: Global,
+    named: &[Word],
+    around: &Surroundings,
+    items: &[Item],
+    left: &[Item],
+    given: &[Item],
+) -> Result<Answer, AllocError>
+    ensures { IfOk result (λ answer. answer ≡ refused_or_run_with
+        around.now items.now left.now given.now (given_refusals named.now given.now)) }
+{
+    let refused = given_refusals(alloc, named, given)?;
+    if 0 < refused.len() {
+        Ok(Answer::Refuse(refused))
+    } else {
+        run_with(alloc, around, items, left, given)
+    }
+}
+
+/// What a line comes to whose items these are, where these words of its switches are left.
+fn answer_with(
+    alloc: Global,
+    named: &[Word],
+    around: &Surroundings,
+    items: &[Item],
+    left: &[Word],
+    given: &[Item],
+) -> Result<Answer, AllocError>
+    ensures { IfOk result (λ answer. answer
+        ≡ answer_with named.now around.now items.now left.now given.now) }
+{
+    let all = seen(alloc, items)?;
+    let live = live(alloc, all.as_slice(), left)?;
+    refused_or_run_with(alloc, named, around, items, live.as_slice(), given)
+}
+
+/// What a line of `gcc` comes to whose spec files give it options (GCC, "gcc.cc", do_self_spec):
+/// refusals, or words for the driver. The line itself is one that `front` has words for.
+///
+/// The other arguments are those of `front`. Of the line's switches those stay that the text did
+/// not hide, and after them stands what the text gives, each as on the line; a class is pruned
+/// among these alone. Side files have the names that the line gives them, and the levels of
+/// debugging and the checks go on from those of the line.
+///
+/// # Errors
+/// An allocation was refused.
+pub fn front_with(
+    alloc: Global,
+    known: &[Word],
+    named: &[Word],
+    around: &Surroundings,
+    args: &[Word],
+    given: &Given,
+) -> Result<Answer, AllocError>
+    ensures { IfOk result (λ answer. answer
+        ≡ front_with known.now named.now around.now args.now given.now) }
+{
+    let items = line_kept(alloc, known, args)?;
+    let more = given_items(alloc, known, given.words.as_slice())?;
+    answer_with(
+        alloc,
+        named,
+        around,
+        items.as_slice(),
+        given.left.as_slice(),
+        more.as_slice(),
+    )
+}

@@ -1,0 +1,156 @@
+use Rattle.drv_args.specs.declared.fault.ArgsFault.TheVariants as args_fault
+use Rattle.drv_args.specs.declared.fault.ArgsFault.{ArgsFault}
+use Rattle.drv_args.specs.declared.items.Item.{Item}
+use Rattle.drv_args.specs.declared.line.Expanded.{Expanded}
+use Rattle.drv_args.specs.declared.line.Line.{Line}
+use Rattle.drv_args.specs.declared.line.Settings.{Settings}
+use Rattle.drv_cc.specs.SelfSpecs.{front_with, seen_items}
+use Rattle.drv_cc.specs.declared.answer.Answer.{Answer}
+use Rattle.drv_cc.specs.declared.answer.Surroundings.{Surroundings}
+use Rattle.drv_cc.specs.declared.giving.Given.{Given}
+use Rattle.drv_compile.specs.Beside.{known_names}
+use Rattle.drv_compile.specs.Reading.{words_names}
+use Rattle.drv_compile.specs.SelfSpecs.{Ended, answer_after, answer_by, of_job, of_outcome, self_worked, worked_by, worked_for, worked_of, worked_over}
+use Rattle.drv_compile.specs.declared.self_specs.Worked.TheVariants.{Gives, Nothing}
+use Rattle.drv_compile.specs.declared.self_specs.Worked.{Worked}
+use Rattle.drv_machine.specs.Context.{Context}
+use Rattle.drv_machine.specs.Outcome.{outcome}
+use Rattle.drv_machine.specs.declared.outcome.Outcome.{Outcome}
+use Rattle.drv_plan.specs.Denoted.{context_of, of_text}
+use Rattle.drv_plan.specs.declared.fault.PlanFault.TheVariants as plan_fault
+use Rattle.drv_plan.specs.declared.fault.PlanFault.{PlanFault}
+use Rattle.drv_run.specs.Drives.{specs_of, stopped_by_args, stopped_by_plan, stopped_by_specs}
+use Rattle.drv_run.specs.declared.ending.Ending.TheVariants.{OutOfMemory}
+use Rattle.drv_run.specs.declared.ending.Ending.{Ending}
+use Rattle.drv_search.specs.Search.{prefixes_of}
+use Rattle.drv_search.specs.declared.prefixes.Prefixes.{Prefixes}
+use Rattle.drv_specs.specs.Sets.{Set, text_of}
+use Rattle.drv_specs.specs.declared.fault.SpecsFault.TheVariants as specs_fault
+use Rattle.drv_specs.specs.declared.fault.SpecsFault.{SpecsFault}
+use Rattle.drv_syntax.specs.Parsed.{tree_of}
+use Rattle.drv_system.specs.Facts.{Facts}
+use Rattle.drv_system.specs.Gives.{GivesKnown}
+use Rattle.drv_system.specs.Known.{◌>>=◌, Is, Known}
+use Rattle.std.proofs.Common.{◌≡◌, ◌⊎◌, ◌∙◌, Err, IfOk, IsErrAnd, List, None, Ok, Option, Result, Some, ap, codes, inl, inr, subst, sym, ℕ}
+use Rattle.std.specs.Option.{option_map, unwrap_or}
+
+-- How the text of the self specs is worked, step by step.
+
+-- a step that ends the call
+pub ends_as : {X Y : Type 0} (ending : Ending) (result : Result X Ending) (view : X → Y) (defined : Ended Y)
+    → IsErrAnd result (λ e. e ≡ ending) → (ending ≡ OutOfMemory) ⊎ (defined ≡ Is (Err ending)) → GivesKnown OutOfMemory view result defined
+ends_as ending (Ok x) view defined is given = absurd is
+ends_as ending (Err e) view defined is (inl memory) = inl (is ∙ memory)
+ends_as ending (Err e) view defined is (inr refused) = inr (refused ∙ ap (λ f. Is (Err f)) (sym is))
+
+-- what answers one definition answers another that is the same
+pub alike : {X Y : Type 0} (view : X → Y) (result : Result X Ending) (found defined : Ended Y) → defined ≡ found
+    → GivesKnown OutOfMemory view result found → GivesKnown OutOfMemory view result defined
+alike view result found defined same given = subst (λ d. GivesKnown OutOfMemory view result d) (sym same) given
+
+-- the text, once the prefixes and the context are known
+abbrev with_prefixes : Facts → Set → Line → List ℕ → Prefixes → Ended Worked
+with_prefixes F set line text prefixes = of_outcome (of_text (outcome F (context_of line set prefixes 0) (tree_of text)))
+
+pub text_goes : (F : Facts) (settings : Settings) (set : Set) (text : List ℕ) (line : Line) (dirs : List (List ℕ)) (prefixes : Prefixes) (context : Context)
+    → dirs ≡ settings.prefixes → prefixes_of F dirs ≡ Is prefixes → context ≡ context_of line set prefixes 0
+    → worked_for F settings set text (Ok line) ≡ of_outcome (of_text (outcome F context (tree_of text)))
+text_goes F settings set text line dirs prefixes context same known made =
+    ap (λ d. prefixes_of F d >>= λ p. with_prefixes F set line text p) (sym same)
+    ∙ ap (λ k. k >>= λ p. with_prefixes F set line text p) known
+    ∙ ap (λ c. of_outcome (of_text (outcome F c (tree_of text)))) (sym made)
+
+pub text_worked : (F : Facts) (settings : Settings) (set : Set) (text : List ℕ) (line : Line) (dirs : List (List ℕ)) (prefixes : Prefixes) (context : Context) (done : Outcome) (worked : Worked)
+    → dirs ≡ settings.prefixes → prefixes_of F dirs ≡ Is prefixes → context ≡ context_of line set prefixes 0
+    → of_text (outcome F context (tree_of text)) ≡ Is (Ok done) → worked ≡ of_job done.job → worked_for F settings set text (Ok line) ≡ Is (Ok worked)
+text_worked F settings set text line dirs prefixes context done worked same known made is job =
+    text_goes F settings set text line dirs prefixes context same known made ∙ ap of_outcome is ∙ ap (λ w. Is (Ok w)) (sym job)
+
+by_plan : (fault : PlanFault) (found : Known (Result Outcome PlanFault)) (defined : Ended Worked) → defined ≡ of_outcome found
+    → (fault ≡ plan_fault.Memory) ⊎ (found ≡ Is (Err fault)) → (stopped_by_plan fault ≡ OutOfMemory) ⊎ (defined ≡ Is (Err (stopped_by_plan fault)))
+by_plan fault found defined same (inl memory) = inl (ap stopped_by_plan memory)
+by_plan fault found defined same (inr refused) = inr (same ∙ ap of_outcome refused)
+
+pub text_refused : (F : Facts) (settings : Settings) (set : Set) (text : List ℕ) (line : Line) (dirs : List (List ℕ)) (prefixes : Prefixes) (context : Context) (fault : PlanFault) (result : Result Worked Ending)
+    → dirs ≡ settings.prefixes → prefixes_of F dirs ≡ Is prefixes → context ≡ context_of line set prefixes 0
+    → IsErrAnd result (λ e. e ≡ stopped_by_plan fault) → (fault ≡ plan_fault.Memory) ⊎ (of_text (outcome F context (tree_of text)) ≡ Is (Err fault))
+    → GivesKnown OutOfMemory (λ worked. worked) result (worked_for F settings set text (Ok line))
+text_refused F settings set text line dirs prefixes context fault result same known made is given =
+    ends_as (stopped_by_plan fault) result (λ worked. worked) (worked_for F settings set text (Ok line)) is
+    (by_plan fault (of_text (outcome F context (tree_of text))) (worked_for F settings set text (Ok line)) (text_goes F settings set text line dirs prefixes context same known made) given)
+
+-- the line of the switches
+by_args : (fault : ArgsFault) (read : Result Line ArgsFault) (next : Result Line ArgsFault → Ended Worked) → next (Err fault) ≡ Is (Err (stopped_by_args fault))
+    → (fault ≡ args_fault.Memory) ⊎ (read ≡ Err fault) → (stopped_by_args fault ≡ OutOfMemory) ⊎ (next read ≡ Is (Err (stopped_by_args fault)))
+by_args fault read next stops (inl memory) = inl (ap stopped_by_args memory)
+by_args fault read next stops (inr refused) = inr (ap next refused ∙ stops)
+
+pub line_refused : (fault : ArgsFault) (read : Result Line ArgsFault) (next : Result Line ArgsFault → Ended Worked) (result : Result Worked Ending) → next (Err fault) ≡ Is (Err (stopped_by_args fault))
+    → IsErrAnd result (λ e. e ≡ stopped_by_args fault) → (fault ≡ args_fault.Memory) ⊎ (read ≡ Err fault) → GivesKnown OutOfMemory (λ worked. worked) result (next read)
+line_refused fault read next result stops is given =
+    ends_as (stopped_by_args fault) result (λ worked. worked) (next read) is (by_args fault read next stops given)
+
+-- the specs that are loaded
+by_specs : (fault : SpecsFault) (F : Facts) (own : Line) (judged read : Result Line ArgsFault) → read ≡ Ok own
+    → (fault ≡ specs_fault.Memory) ⊎ (specs_of F own.settings ≡ Is (Err fault)) → (stopped_by_specs fault ≡ OutOfMemory) ⊎ (worked_of F judged read ≡ Is (Err (stopped_by_specs fault)))
+by_specs fault F own judged read reads (inl memory) = inl (ap stopped_by_specs memory)
+by_specs fault F own judged read reads (inr refused) = inr (ap (worked_of F judged) reads ∙ ap (worked_over F own.settings judged) refused)
+
+pub specs_refused : (fault : SpecsFault) (F : Facts) (own : Line) (judged read : Result Line ArgsFault) (result : Result Worked Ending) → read ≡ Ok own
+    → IsErrAnd result (λ e. e ≡ stopped_by_specs fault) → (fault ≡ specs_fault.Memory) ⊎ (specs_of F own.settings ≡ Is (Err fault))
+    → GivesKnown OutOfMemory (λ worked. worked) result (worked_of F judged read)
+specs_refused fault F own judged read result reads is given =
+    ends_as (stopped_by_specs fault) result (λ worked. worked) (worked_of F judged read) is (by_specs fault F own judged read reads given)
+
+pub specs_go : (F : Facts) (own : Line) (set : Set) (judged read : Result Line ArgsFault) → read ≡ Ok own → specs_of F own.settings ≡ Is (Ok set)
+    → worked_of F judged read ≡ worked_by F own.settings set judged (text_of set (codes "gdrv_self"))
+specs_go F own set judged read reads loads = ap (worked_of F judged) reads ∙ ap (worked_over F own.settings judged) loads
+
+-- the text, if there is one
+pub text_there : {T : Type 0} (now : T → List ℕ) (lent : Option T) (text : T) (F : Facts) (settings : Settings) (set : Set) (line : Result Line ArgsFault) (found : Option (List ℕ))
+    → option_map now lent ≡ found → lent ≡ Some text → worked_by F settings set line found ≡ worked_for F settings set (now text) line
+text_there now lent text F settings set line found shows is = ap (worked_by F settings set line) (sym shows ∙ ap (option_map now) is)
+
+pub no_text : {T : Type 0} (now : T → List ℕ) (lent : Option T) (F : Facts) (settings : Settings) (set : Set) (line : Result Line ArgsFault) (found : Option (List ℕ))
+    → option_map now lent ≡ found → lent ≡ None → worked_by F settings set line found ≡ Is (Ok Nothing)
+no_text now lent F settings set line found shows is = ap (worked_by F settings set line) (sym shows ∙ ap (option_map now) is)
+
+-- the answer, once the names are known
+abbrev with_names : Surroundings → List (List ℕ) → List (List ℕ) → Given → Option (List (List ℕ)) → List (List ℕ) → Ended (Option Answer)
+with_names around known args given options named = Is (Ok (Some (front_with (unwrap_or options known) named around args given)))
+
+pub options_given : {E : Type 0} (F : Facts) (specs : List ℕ) (around : Surroundings) (known args : List (List ℕ)) (words : Expanded) (given : Given)
+    (options : Option (List (List ℕ))) (all named names slice : List (List ℕ)) (result : Result Answer E)
+    → known_names F specs ≡ Is options → all ≡ words.words → words_names F all ≡ Is named → names ≡ unwrap_or options known → slice ≡ named
+    → IfOk result (λ answer. answer ≡ front_with names slice around args given) → IfOk result (λ answer. answer_by F specs around known args words (Gives given) ≡ Is (Ok (Some answer)))
+options_given F specs around known args words given options all named names slice (Err e) asked same found names_are slice_is is = tt
+options_given F specs around known args words given options all named names slice (Ok answer) asked same found names_are slice_is is =
+    ap (λ k. k >>= λ o. words_names F words.words >>= λ n. with_names around known args given o n) asked
+    ∙ ap (λ w. words_names F w >>= λ n. with_names around known args given options n) (sym same)
+    ∙ ap (λ k. k >>= λ n. with_names around known args given options n) found
+    ∙ ap (λ o. Is (Ok (Some (front_with o named around args given)))) (sym names_are)
+    ∙ ap (λ n. Is (Ok (Some (front_with names n around args given)))) (sym slice_is)
+    ∙ ap (λ a. Is (Ok (Some a))) (sym is)
+
+-- the answer, once the text was worked
+abbrev after_work : Facts → List ℕ → Surroundings → List (List ℕ) → List (List ℕ) → Expanded → List Item → Ended (Option Answer)
+after_work F specs around known args words items = answer_after F specs around known args words (self_worked F words items)
+
+by_work : (F : Facts) (specs : List ℕ) (around : Surroundings) (known args : List (List ℕ)) (words : Expanded) (items : List Item) (ending : Ending)
+    → items ≡ seen_items known args → (ending ≡ OutOfMemory) ⊎ (self_worked F words items ≡ Is (Err ending))
+    → (ending ≡ OutOfMemory) ⊎ (after_work F specs around known args words (seen_items known args) ≡ Is (Err ending))
+by_work F specs around known args words items ending are (inl memory) = inl memory
+by_work F specs around known args words items ending are (inr ends) =
+    inr (ap (after_work F specs around known args words) (sym are) ∙ ap (answer_after F specs around known args words) ends)
+
+pub work_ends : (F : Facts) (specs : List ℕ) (around : Surroundings) (known args : List (List ℕ)) (words : Expanded) (items : List Item) (ending : Ending) (result : Result (Option Answer) Ending)
+    → items ≡ seen_items known args → IsErrAnd result (λ e. e ≡ ending) → (ending ≡ OutOfMemory) ⊎ (self_worked F words items ≡ Is (Err ending))
+    → GivesKnown OutOfMemory (λ answer. answer) result (after_work F specs around known args words (seen_items known args))
+work_ends F specs around known args words items ending result are is given =
+    ends_as ending result (λ answer. answer) (after_work F specs around known args words (seen_items known args)) is (by_work F specs around known args words items ending are given)
+
+pub work_answers : (F : Facts) (specs : List ℕ) (around : Surroundings) (known args : List (List ℕ)) (words : Expanded) (items : List Item) (worked : Worked) (answer : Option Answer)
+    → items ≡ seen_items known args → self_worked F words items ≡ Is (Ok worked) → answer_by F specs around known args words worked ≡ Is (Ok answer)
+    → after_work F specs around known args words (seen_items known args) ≡ Is (Ok answer)
+work_answers F specs around known args words items worked answer are done is =
+    ap (after_work F specs around known args words) (sym are) ∙ ap (answer_after F specs around known args words) done ∙ is

@@ -1,0 +1,15 @@
+use Rattle.drv_compile.specs.Beside.{written_beside}
+use Rattle.drv_compile.specs.Compilers.{values}
+use Rattle.drv_system.specs.Facts.{Facts}
+use Rattle.drv_system.specs.Known.{◌>>=◌, Is, Known}
+use Rattle.std.specs.Prelude.{List, [], None, Option, Some, codes, ℕ}
+
+-- What the compiler of a spec file says of itself where its commands are shown: its machine, its version and where it looks (GCC manual,
+-- "Overall Options", -v; this project's profile).
+
+abbrev pub lines_said : Option (List ℕ) → List (List ℕ)
+lines_said None = []
+lines_said (Some text) = values (codes "said ") text
+
+abbrev pub said : Facts → List ℕ → Known (List (List ℕ))
+said F specs = written_beside F specs (codes ".gcc") >>= λ text. Is (lines_said text)

@@ -1,0 +1,104 @@
+use Rattle.drv_args.specs.Lines.{line_judged, line_read}
+use Rattle.drv_args.specs.declared.fault.ArgsFault.{ArgsFault}
+use Rattle.drv_args.specs.declared.items.Item.{Item}
+use Rattle.drv_args.specs.declared.line.Expanded.{Expanded}
+use Rattle.drv_args.specs.declared.line.Line.{Line}
+use Rattle.drv_args.specs.declared.line.Settings.{Settings}
+use Rattle.drv_cc.specs.SelfSpecs.{front_with, seen_items}
+use Rattle.drv_cc.specs.declared.answer.Answer.TheVariants.{Refuse}
+use Rattle.drv_cc.specs.declared.answer.Answer.{Answer}
+use Rattle.drv_cc.specs.declared.answer.Surroundings.{Surroundings}
+use Rattle.drv_cc.specs.declared.giving.Given.{Given}
+use Rattle.drv_cc.specs.declared.refusal.Refusal.TheVariants.{GivenMore}
+use Rattle.drv_compile.specs.Beside.{known_names}
+use Rattle.drv_compile.specs.Reading.{specs_given, words_names}
+use Rattle.drv_compile.specs.declared.self_specs.Worked.TheVariants.{Gives, More, Nothing}
+use Rattle.drv_compile.specs.declared.self_specs.Worked.{Worked}
+use Rattle.drv_machine.specs.Outcome.{outcome}
+use Rattle.drv_machine.specs.declared.outcome.Outcome.{Outcome}
+use Rattle.drv_plan.specs.Denoted.{Planned, context_of, of_text}
+use Rattle.drv_run.specs.Drives.{specs_of, stopped_by_args, stopped_by_plan, stopped_by_specs}
+use Rattle.drv_run.specs.declared.ending.Ending.{Ending}
+use Rattle.drv_search.specs.Search.{prefixes_of}
+use Rattle.drv_specs.specs.Sets.{Set, text_of}
+use Rattle.drv_specs.specs.declared.fault.SpecsFault.{SpecsFault}
+use Rattle.drv_syntax.specs.Parsed.{tree_of}
+use Rattle.drv_system.specs.Facts.{Facts}
+use Rattle.drv_system.specs.Known.{◌>>=◌, Is, Known, Unasked}
+use Rattle.drv_words.specs.declared.plan.Command.{Command}
+use Rattle.drv_words.specs.declared.plan.Job.{Job}
+use Rattle.drv_words.specs.declared.plan.Temp.{Temp}
+use Rattle.std.specs.Option.{unwrap_or}
+use Rattle.std.specs.Prelude.{Err, List, [], ◌∷◌, None, Ok, Option, Result, Some, codes, if◌then◌else◌, length, nat_lt, ℕ}
+
+-- What the spec files of a line give it: their text `self_spec` is worked once, after the last of them is loaded, with the switches of the
+-- line and no input (GCC, "gcc.cc", set_up_specs, do_self_spec).
+--
+-- The spec file of the call has a text `gdrv_self` of two commands: the words of the one are what `self_spec` gives, and those of the other
+-- are the switches that it left (this project's profile).
+
+-- what a job of that text gives: no pipe, no further command, no temporary
+abbrev pub of_groups : List (List Command) → Worked
+of_groups ((given ∷ []) ∷ (left ∷ []) ∷ []) = Gives (record { left = left.words; words = given.words })
+of_groups _ = More
+
+abbrev pub of_parts : List Temp → List (List Command) → Worked
+of_parts [] groups = of_groups groups
+of_parts (temp ∷ temps) groups = More
+
+abbrev pub of_job : Job → Worked
+of_job job = of_parts job.temps job.groups
+
+-- a call's value over facts, or how it ends the call
+abbrev pub Ended : Type 0 → Type 0
+Ended X = Known (Result X Ending)
+
+abbrev pub of_outcome : Planned Outcome → Ended Worked
+of_outcome Unasked = Unasked
+of_outcome (Is (Ok done)) = Is (Ok (of_job done.job))
+of_outcome (Is (Err fault)) = Is (Err (stopped_by_plan fault))
+
+-- the text worked with these specs, for a line of these items
+abbrev pub worked_for : Facts → Settings → Set → List ℕ → Result Line ArgsFault → Ended Worked
+worked_for F settings set text (Err fault) = Is (Err (stopped_by_args fault))
+worked_for F settings set text (Ok line) =
+    prefixes_of F settings.prefixes >>= λ prefixes. of_outcome (of_text (outcome F (context_of line set prefixes 0) (tree_of text)))
+
+abbrev pub worked_by : Facts → Settings → Set → Result Line ArgsFault → Option (List ℕ) → Ended Worked
+worked_by F settings set line None = Is (Ok Nothing)
+worked_by F settings set line (Some text) = worked_for F settings set text line
+
+abbrev pub worked_over : Facts → Settings → Result Line ArgsFault → Known (Result Set SpecsFault) → Ended Worked
+worked_over F settings line Unasked = Unasked
+worked_over F settings line (Is (Err fault)) = Is (Err (stopped_by_specs fault))
+worked_over F settings line (Is (Ok set)) = worked_by F settings set line (text_of set (codes "gdrv_self"))
+
+-- the same with the specs that the driver loads for a line of its own
+abbrev pub worked_of : Facts → Result Line ArgsFault → Result Line ArgsFault → Ended Worked
+worked_of F line (Err fault) = Is (Err (stopped_by_args fault))
+worked_of F line (Ok own) = worked_over F own.settings line (specs_of F own.settings)
+
+-- what the spec files of these words of the driver give a line whose switches these items are
+abbrev pub self_worked : Facts → Expanded → List Item → Ended Worked
+self_worked F words items = worked_of F (line_judged words.from_file items) (line_read words)
+
+-- The answer, by what was given: none where the line stands as it is. The compiler's options are known, and the names in the line's spec
+-- files.
+abbrev pub answer_by : Facts → List ℕ → Surroundings → List (List ℕ) → List (List ℕ) → Expanded → Worked → Ended (Option Answer)
+answer_by F specs around known args words Nothing = Is (Ok None)
+answer_by F specs around known args words More = Is (Ok (Some (Refuse (GivenMore ∷ []))))
+answer_by F specs around known args words (Gives given) =
+    known_names F specs >>= λ options. words_names F words.words >>= λ named.
+    Is (Ok (Some (front_with (unwrap_or options known) named around args given)))
+
+abbrev pub answer_after : Facts → List ℕ → Surroundings → List (List ℕ) → List (List ℕ) → Expanded → Ended Worked → Ended (Option Answer)
+answer_after F specs around known args words Unasked = Unasked
+answer_after F specs around known args words (Is (Err ending)) = Is (Err ending)
+answer_after F specs around known args words (Is (Ok worked)) = answer_by F specs around known args words worked
+
+-- a line that names no spec file stands as it is: the one file is that of the call
+abbrev pub answer_given : Facts → List ℕ → Surroundings → List (List ℕ) → List (List ℕ) → Expanded → Ended (Option Answer)
+answer_given F specs around known args words =
+    if nat_lt 1 (length (specs_given words.words))
+    then answer_after F specs around known args words (self_worked F words (seen_items known args))
+    else Is (Ok None)

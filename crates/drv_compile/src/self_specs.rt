@@ -1,0 +1,319 @@
+//! What the spec files of a line give it.
+
+ghost use Rattle.drv_args.specs.Lines.{line_judged};
+ghost use Rattle.drv_cc.specs.SelfSpecs.{seen_items};
+ghost use Rattle.drv_cc.specs.declared.answer.Answer.TheVariants as answer;
+ghost use Rattle.drv_cc.specs.declared.refusal.Refusal.TheVariants as refusal;
+ghost use Rattle.drv_compile.specs.Reading.{specs_given};
+ghost use Rattle.drv_compile.specs.SelfSpecs.{answer_after, answer_by, answer_given, of_groups};
+ghost use Rattle.drv_compile.specs.SelfSpecs.{of_job, self_worked, worked_by, worked_for};
+ghost use Rattle.drv_compile.specs.declared.self_specs.Worked.TheVariants as worked;
+ghost use Rattle.drv_machine.specs.Outcome.{outcome};
+ghost use Rattle.drv_plan.specs.Denoted.{of_text};
+ghost use Rattle.drv_plan.specs.declared.fault.PlanFault.TheVariants as plan_fault;
+ghost use Rattle.drv_run.specs.declared.ending.Ending.TheVariants as ending;
+ghost use Rattle.drv_specs.specs.Sets.{text_of};
+ghost use Rattle.drv_syntax.specs.Parsed.{tree_of};
+ghost use Rattle.drv_system.specs.Asking.{Asks, Extends};
+ghost use Rattle.drv_system.specs.Code.Asked.{Asked};
+ghost use Rattle.drv_system.specs.Facts.{Facts};
+ghost use Rattle.drv_system.specs.Gives.{GivesKnown};
+ghost use Rattle.drv_system.specs.Known.{Is};
+ghost use Rattle.std.specs.Option.{unwrap_or};
+ghost use Rattle.std.specs.Prelude.{◌≡◌, ◌∷◌, [], IfOk, Ok, Some, codes, length};
+
+use crate::finding::known_names;
+use crate::reading::{specs_given, words_names};
+use crate::running::specs_of;
+use drv_args::{Expanded, Item, Line, Settings, line_of, read};
+use drv_cc::{Answer, Given, Refusal, Surroundings, front_with, seen_items};
+use drv_machine::{Context, Outcome, run};
+use drv_plan::PlanFault;
+use drv_run::Ending;
+use drv_search::Prefixes;
+use drv_specs::SpecSet;
+use drv_syntax::SpecTree;
+use drv_system::{FactTable, Outside, System};
+use drv_words::{Command, Group, Job, Listing, Word};
+use std::alloc::{AllocError, Global};
+
+/// What the text of the self specs gives.
+#[derive(Drop)]
+pub(crate) enum Worked {
+    /// The spec file of the call has no text for them.
+    Nothing,
+    /// More than options.
+    More,
+    /// Words, and which switches are left.
+    Gives(Given),
+}
+
+/// A copy of words.
+fn copied(alloc: Global, words: &[Word]) -> Result<Listing<Word>, AllocError>
+    ensures { IfOk result (λ copy. copy ≡ words.now) }
+{
+    let mut copy = Listing::new(alloc);
+    for word in words {
+        copy.push(word.clone()?)?;
+    }
+    Ok(copy)
+}
+
+/// What two groups give, if each is one command.
+fn of_pair(alloc: Global, given: &[Command], left: &[Command]) -> Result<Worked, AllocError>
+    ensures { IfOk result (λ made. made ≡ of_groups (given.now ∷ left.now ∷ [])) }
+{
+    match (given, left) {
+        ([given], [left]) => Ok(Worked::Gives(Given {
+            left: copied(alloc, left.words.as_slice())?,
+            words: copied(alloc, given.words.as_slice())?,
+        })),
+        _ => Ok(Worked::More),
+    }
+}
+
+/// What groups give, if they are two.
+fn of_groups(alloc: Global, groups: &[Group]) -> Result<Worked, AllocError>
+    ensures { IfOk result (λ made. made ≡ of_groups groups.now) }
+{
+    match groups {
+        [given, left] => of_pair(alloc, given.as_slice(), left.as_slice()),
+        _ => Ok(Worked::More),
+    }
+}
+
+/// What the job of the text gives.
+fn of_job(alloc: Global, job: &Job) -> Result<Worked, AllocError>
+    ensures { IfOk result (λ made. made ≡ of_job job.now) }
+{
+    if job.temps.is_empty() {
+        of_groups(alloc, job.groups.as_slice())
+    } else {
+        Ok(Worked::More)
+    }
+}
+
+/// A text worked.
+fn work<S: System>(
+    alloc: Global,
+    text: &SpecTree,
+    context: &Context<'_>,
+    outside: &mut Outside<'_, S>,
+) -> Result<Outcome, PlanFault>
+    ensures asks { Asked S.events outside.old outside.new }
+    ensures works { (F : Facts) → Extends outside.new.facts.now F
+        → GivesKnown plan_fault.Memory (λ done. done) result
+        (of_text (outcome F context.now (tree_of text.now))) }
+{
+    let done = run(alloc, text, context, outside.sys, outside.facts)?;
+    Ok(done)
+}
+
+/// What the text gives a line.
+#[tactic(auto, using(drv_system::proofs::AskedCalls::asked_further))]
+fn worked_line<S: System>(
+    alloc: Global,
+    settings: &Settings,
+    set: &SpecSet,
+    text: &SpecTree,
+    line: &Line,
+    outside: &mut Outside<'_, S>,
+) -> Result<Worked, Ending>
+    ensures asks { Asked S.events outside.old outside.new }
+    ensures works { (F : Facts) → Extends outside.new.facts.now F
+        → GivesKnown ending.OutOfMemory (λ made. made) result
+        (worked_for F settings.now set.now text.now (Ok line.now)) }
+{
+    let folders = settings.prefixes.as_slice();
+    let prefixes = Prefixes::new(alloc, folders, outside.sys, outside.facts)?;
+    let context = Context::new(alloc, line, set, &prefixes, 0)?;
+    let done = work(alloc, text, &context, outside)?;
+    Ok(of_job(alloc, &done.job)?)
+}
+
+/// What the text gives a line of these items.
+fn worked_for<S: System>(
+    alloc: Global,
+    settings: &Settings,
+    set: &SpecSet,
+    text: &SpecTree,
+    from_file: bool,
+    items: &[Item],
+    outside: &mut Outside<'_, S>,
+) -> Result<Worked, Ending>
+    ensures asks { Asked S.events outside.old outside.new }
+    ensures works { (F : Facts) → Extends outside.new.facts.now F
+        → GivesKnown ending.OutOfMemory (λ made. made) result
+        (worked_for F settings.now set.now text.now (line_judged from_file items.now)) }
+{
+    let line = line_of(alloc, from_file, items)?;
+    worked_line(alloc, settings, set, text, &line, outside)
+}
+
+/// What specs give a line of these items.
+fn worked_by<S: System>(
+    alloc: Global,
+    settings: &Settings,
+    set: &SpecSet,
+    from_file: bool,
+    items: &[Item],
+    outside: &mut Outside<'_, S>,
+) -> Result<Worked, Ending>
+    ensures asks { Asked S.events outside.old outside.new }
+    ensures works { (F : Facts) → Extends outside.new.facts.now F
+        → GivesKnown ending.OutOfMemory (λ made. made) result
+        (worked_by F settings.now set.now (line_judged from_file items.now)
+        (text_of set.now (codes "gdrv_self"))) }
+{
+    match set.tree(b"gdrv_self") {
+        Some(text) => worked_for(alloc, settings, set, text, from_file, items, outside),
+        None => Ok(Worked::Nothing),
+    }
+}
+
+/// What the spec files of words of the driver give a line of these items.
+#[tactic(auto, using(drv_system::proofs::AskedCalls::asked_further))]
+fn self_worked<S: System>(
+    alloc: Global,
+    words: &Expanded,
+    items: &[Item],
+    outside: &mut Outside<'_, S>,
+) -> Result<Worked, Ending>
+    ensures asks { Asked S.events outside.old outside.new }
+    ensures works { (F : Facts) → Extends outside.new.facts.now F
+        → GivesKnown ending.OutOfMemory (λ made. made) result
+        (self_worked F words.now items.now) }
+{
+    let own = read(alloc, words)?;
+    let set = specs_of(alloc, &own.settings, outside)?;
+    worked_by(alloc, &own.settings, &set, words.from_file, items, outside)
+}
+
+/// The refusal of a text that gives more than options.
+fn refused_more(alloc: Global) -> Result<Answer, AllocError>
+    ensures { IfOk result (λ made. made ≡ answer.Refuse (refusal.GivenMore ∷ [])) }
+{
+    let mut refusals = Listing::new(alloc);
+    refusals.push(Refusal::GivenMore)?;
+    Ok(Answer::Refuse(refusals))
+}
+
+/// The names of options: those of the compiler, or else the ones that are known.
+fn options_or<'a>(options: &'a Option<Listing<Word>>, known: &'a [Word]) -> &'a [Word]
+    ensures { result.now ≡ unwrap_or options.now known.now }
+{
+    match options {
+        Some(options) => options.as_slice(),
+        None => known,
+    }
+}
+
+/// What a line comes to that is given options.
+#[tactic(auto, using(drv_system::proofs::AskedCalls::asked_further))]
+fn answer_with<S: System>(
+    alloc: Global,
+    specs: &[u8],
+    around: &Surroundings,
+    known: &[Word],
+    args: &[Word],
+    words: &Expanded,
+    given: &Given,
+    outside: &mut Outside<'_, S>,
+) -> Result<Answer, AllocError>
+    ensures asks { Asked S.events outside.old outside.new }
+    ensures answer { (F : Facts) → Extends outside.new.facts.now F → IfOk result (λ made.
+        answer_by F specs.now around.now known.now args.now words.now (worked.Gives given.now)
+        ≡ Is (Ok (Some made))) }
+{
+    let options = known_names(alloc, specs, outside)?;
+    let named = words_names(alloc, words.words.as_slice(), outside)?;
+    let names = options_or(&options, known);
+    front_with(alloc, names, named.as_slice(), around, args, given)
+}
+
+/// What a line comes to by what its spec files gave; none where it stands as it is.
+fn answer_by<S: System>(
+    alloc: Global,
+    specs: &[u8],
+    around: &Surroundings,
+    known: &[Word],
+    args: &[Word],
+    words: &Expanded,
+    worked: Worked,
+    outside: &mut Outside<'_, S>,
+) -> Result<Option<Answer>, AllocError>
+    ensures asks { Asked S.events outside.old outside.new }
+    ensures answer { (F : Facts) → Extends outside.new.facts.now F → IfOk result (λ made.
+        answer_by F specs.now around.now known.now args.now words.now worked ≡ Is (Ok made)) }
+{
+    match worked {
+        Worked::Nothing => Ok(None),
+        Worked::More => Ok(Some(refused_more(alloc)?)),
+        Worked::Gives(given) => {
+            let answer = answer_with(alloc, specs, around, known, args, words, &given, outside)?;
+            Ok(Some(answer))
+        }
+    }
+}
+
+/// What a line comes to that names spec files.
+#[tactic(auto, using(drv_system::proofs::AskedCalls::asked_further))]
+fn answer_of_specs<S: System>(
+    alloc: Global,
+    specs: &[u8],
+    around: &Surroundings,
+    known: &[Word],
+    args: &[Word],
+    words: &Expanded,
+    outside: &mut Outside<'_, S>,
+) -> Result<Option<Answer>, Ending>
+    ensures asks { Asked S.events outside.old outside.new }
+    ensures answer { (F : Facts) → Extends outside.new.facts.now F
+        → GivesKnown ending.OutOfMemory (λ made. made) result
+        (answer_after F specs.now around.now known.now args.now words.now
+        (self_worked F words.now (seen_items known.now args.now))) }
+{
+    let items = seen_items(alloc, known, args)?;
+    let worked = self_worked(alloc, words, items.as_slice(), outside)?;
+    let answer = answer_by(alloc, specs, around, known, args, words, worked, outside)?;
+    Ok(answer)
+}
+
+/// How many spec files words of the driver name.
+fn count_specs(alloc: Global, words: &[Word]) -> Result<usize, AllocError>
+    ensures { IfOk result (λ count. count ≡ length (specs_given words.now)) }
+{
+    Ok(specs_given(alloc, words)?.len())
+}
+
+/// What a line comes to with the options that its spec files give it, and none where it stands as
+/// it is (GCC, "gcc.cc", set_up_specs, do_self_spec). The text `self_spec` is worked once, after
+/// the last spec file is loaded, with the switches of the line and no input.
+///
+/// `words` are the driver's words for the line, after the spec file of the call; `args` are those
+/// of the line, and `known` the names of options that were taken to read it.
+///
+/// # Errors
+/// How the call ends: for want of memory, or as by the first refusal of the words, of a spec file
+/// or of that text.
+pub fn answer_given<S: System>(
+    alloc: Global,
+    specs: &[u8],
+    around: &Surroundings,
+    known: &[Word],
+    args: &[Word],
+    words: &Expanded,
+    sys: &mut S,
+    facts: &mut FactTable,
+) -> Result<Option<Answer>, Ending>
+    ensures asks { Asks (S.events sys.old) (S.events sys.new) facts.old facts.new }
+    ensures answer { (F : Facts) → Extends facts.new F
+        → GivesKnown ending.OutOfMemory (λ made. made) result
+        (answer_given F specs.now around.now known.now args.now words.now) }
+{
+    if count_specs(alloc, words.words.as_slice())? <= 1 {
+        return Ok(None);
+    }
+    let outside = &mut Outside { sys, facts };
+    answer_of_specs(alloc, specs, around, known, args, words, outside)
+}
