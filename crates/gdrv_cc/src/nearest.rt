@@ -58,8 +58,27 @@ fn edits(
     Ok(Some(osa_distance(alloc, part, name)?))
 }
 
+/// Whether a name's length is near enough to that of a part of a word.
+fn is_alike(part: &[u8], name: &[u8]) -> bool {
+    is_near(part.len(), name.len(), part.len().abs_diff(name.len()))
+}
+
+/// The place of the nearest name, if that is near enough to be meant by a word.
+fn if_near(known: &[Word], word: &[u8], found: Option<usize>, least: usize) -> Option<usize>
+    requires { IfSome found (λ place. place < length known.now) }
+    ensures { IfSome result (λ place. place < length known.now) }
+{
+    let place = found?;
+    let name = known[place].as_bytes();
+    if is_near(length_compared(word, name), name.len(), least) {
+        Some(place)
+    } else {
+        None
+    }
+}
+
 /// Of the names that are nearest to a word, the place of the first, if that is near enough to be
-/// meant.
+/// meant (GCC, "spellcheck.h", best_match).
 fn nearest(alloc: Global, known: &[Word], word: &[u8]) -> Result<Option<usize>, AllocError>
     ensures { IfOk result (λ found. IfSome found (λ place. place < length known.now)) }
 {
@@ -68,15 +87,15 @@ fn nearest(alloc: Global, known: &[Word], word: &[u8]) -> Result<Option<usize>, 
     for i in 0..known.len() {
         let name = known[i].as_bytes();
         let part = &word[..length_compared(word, name)];
-        if let Some(count) = edits(alloc, part, name, least)?
+        if is_alike(part, name)
+            && let Some(count) = edits(alloc, part, name, least)?
             && count < least
-            && is_near(part.len(), name.len(), count)
         {
             least = count;
             found = Some(i);
         }
     }
-    Ok(found)
+    Ok(if_near(known, word, found, least))
 }
 
 /// The option that a word was meant to be, if one is near: with the word's own argument, where it
