@@ -1,0 +1,8 @@
+//! Where in a spec file's text the bytes stand that are left of it.
+#![tactic(auto)]
+
+mod lines;
+mod settling;
+
+pub use lines::{line_after, line_before, line_number};
+pub use settling::{Settled, settle};

@@ -1,0 +1,83 @@
+//! The line of a text that a byte stands in.
+
+ghost use Rattle.drv_place.specs.LinePlaces.{line_after, line_before, line_number};
+ghost use Rattle.drv_specs.specs.Lines.{ends_line};
+ghost use Rattle.std.specs.List.{position};
+ghost use Rattle.std.specs.Prelude.{◌≡◌, ◌<◌, ◌≤◌, IfSome, drop, filter, length, take};
+
+use drv_words::parted;
+
+/// Whether a byte ends a line.
+fn ends_line(byte: u8) -> bool
+    ensures { result ≡ ends_line byte }
+{
+    byte == b'\n'
+}
+
+/// The first bytes of a text, so many.
+fn front(text: &[u8], count: usize) -> &[u8]
+    ensures is { result.now ≡ take count text.now }
+    ensures within { length result.now ≤ length text.now }
+{
+    if count <= text.len() {
+        &text[..count]
+    } else {
+        text
+    }
+}
+
+/// A text after so many bytes.
+fn back(text: &[u8], count: usize) -> &[u8]
+    ensures { result.now ≡ drop count text.now }
+{
+    if count <= text.len() {
+        &text[count..]
+    } else {
+        &[]
+    }
+}
+
+/// How many newlines there are.
+fn count_newlines(bytes: &[u8]) -> usize
+    ensures is { result ≡ length (filter ends_line bytes.now) }
+    ensures few { result ≤ length bytes.now }
+{
+    bytes.iter().filter(|byte| ends_line(**byte)).count()
+}
+
+/// Where the first newline stands.
+fn newline_in(bytes: &[u8]) -> Option<usize>
+    ensures is { result ≡ position ends_line bytes.now }
+    ensures within { IfSome result (λ at. at < length bytes.now) }
+{
+    bytes.iter().position(|byte| ends_line(*byte))
+}
+
+/// The number of the line that a byte stands in, from 1; for a place after the end, of the last line.
+pub fn line_number(text: &[u8], at: usize) -> usize
+    ensures { result ≡ line_number text.now at }
+{
+    count_newlines(front(text, at)) + 1
+}
+
+/// What stands before a byte in its line. The byte's column, from 1, is one more than its length.
+pub fn line_before(text: &[u8], at: usize) -> &[u8]
+    ensures { result.now ≡ line_before text.now at }
+{
+    let bytes = front(text, at);
+    match parted(b'\n', bytes) {
+        Some((_, line)) => line,
+        None => bytes,
+    }
+}
+
+/// What stands in a byte's line from the byte on.
+pub fn line_after(text: &[u8], at: usize) -> &[u8]
+    ensures { result.now ≡ line_after text.now at }
+{
+    let bytes = back(text, at);
+    match newline_in(bytes) {
+        Some(end) => &bytes[..end],
+        None => bytes,
+    }
+}
