@@ -3,6 +3,7 @@ mod Cuts
 mod Folders
 mod Groups
 mod Left
+mod Lines
 mod NoChecks
 mod Noted
 mod OtherOptions

@@ -12,8 +12,8 @@ use Rattle.std.specs.Prelude.{None, Option, Some}
 -- Worked lines of gcc, by computation. What stays of each was compared with COLLECT_GCC_OPTIONS of gcc 12 and with the words that it
 -- hands to the compiler.
 
-abbrev pub known : List (List ℕ)
-known = texts (codes "-Wno-unused -fno-inline -msse3 -gstrict-dwarf -fvisibility=")
+abbrev pub known : List ℕ
+known = codes "-Wno-unused\n-fno-inline\n-msse3\n-gstrict-dwarf\n-fvisibility="
 
 -- names that a spec file of the line has
 abbrev named : List (List ℕ)

@@ -1,6 +1,7 @@
 -- How the code goes over its input, step by step: what stands between the code and the definitions. No public contract rests on these.
 pub mod Building
 pub mod Groups
+pub mod Known
 pub mod Looking
 pub mod Rings
 pub mod Staying

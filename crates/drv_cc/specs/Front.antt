@@ -194,5 +194,5 @@ refused_or_run around items faults = if nat_lt 0 (length faults) then Refuse fau
 abbrev pub answer_of : List (List ℕ) → Surroundings → List Item → Answer
 answer_of named around items = if is_asked items then Ask else refused_or_run around items (refusals named items)
 
-abbrev pub front_of : List (List ℕ) → List (List ℕ) → Surroundings → List (List ℕ) → Answer
+abbrev pub front_of : List ℕ → List (List ℕ) → Surroundings → List (List ℕ) → Answer
 front_of known named around words = answer_of named around (items_of known None words)

@@ -6,9 +6,9 @@ use Rattle.drv_cc.specs.declared.table.Part.TheVariants.{Input, Lacking, Switch,
 use Rattle.drv_cc.specs.declared.table.Part.{Part}
 use Rattle.drv_cc.specs.declared.table.Takes.TheVariants.{Attached, Either, Next, Nothing, Rest}
 use Rattle.drv_cc.specs.declared.table.Takes.{Takes}
-use Rattle.drv_words.specs.Bytes.{equals, hyphen}
+use Rattle.drv_words.specs.Bytes.{equals, hyphen, newline}
 use Rattle.std.specs.Cmp.Lexicographic.{pointwise}
-use Rattle.std.specs.List.{list_any, starts_with}
+use Rattle.std.specs.List.{list_any, slice_split, starts_with}
 use Rattle.std.specs.Prelude.{◌==◌, ◌&&◌, ◌||◌, Bool, List, [], ◌∷◌, ◌++◌, None, Option, Some, codes, drop, false, find, if◌then◌else◌, length, nat_eq, nat_lt, not, true, ℕ}
 
 -- A line of gcc as a list of items (GCC manual, "Invoking GCC"; "Option Summary").
@@ -111,12 +111,16 @@ abbrev pub head_of : List ℕ → List ℕ
 head_of [] = []
 head_of (b ∷ rest) = if b == equals then b ∷ [] else b ∷ head_of rest
 
+-- the names that are known beyond the table: the lines of a text
+abbrev pub is_known : List ℕ → List ℕ → Bool
+is_known known name = is_among (slice_split (λ b. b == newline) known) name
+
 -- a word that no row fits: names that are known beyond the table are taken as they are, and so is -Wno-X, of which the compiler
 -- speaks where it speaks at all
-abbrev pub beyond : List (List ℕ) → List ℕ → List ℕ → Item
+abbrev pub beyond : List ℕ → List ℕ → List ℕ → Item
 beyond known word name =
     if is_among (texts ignored) (paired name) then item name [] Nowhere Switch
-    else if begins (codes "-Wno-") name || is_among known name || is_among known (head_of name) then item name [] Alone Switch
+    else if begins (codes "-Wno-") name || (is_known known name || is_known known (head_of name)) then item name [] Alone Switch
     else plain Unknown word
 
 abbrev pub is_file : List ℕ → Bool
@@ -124,15 +128,15 @@ is_file [] = true
 is_file (b ∷ []) = true
 is_file (b ∷ c ∷ rest) = not (b == hyphen)
 
-abbrev pub start_renamed : List (List ℕ) → List ℕ → List ℕ → Option OptionRow → Start
+abbrev pub start_renamed : List ℕ → List ℕ → List ℕ → Option OptionRow → Start
 start_renamed known word name (Some r) = with_rest r.takes r (drop (length r.option) name)
 start_renamed known word name None = Whole (beyond known word name)
 
-abbrev pub start_option : List (List ℕ) → List ℕ → Option OptionRow → Start
+abbrev pub start_option : List ℕ → List ℕ → Option OptionRow → Start
 start_option known word (Some r) = with_rest r.takes r (drop (length r.option) word)
 start_option known word None = start_renamed known word (renamed word) (first_row (renamed word))
 
-abbrev pub start_of : List (List ℕ) → List ℕ → Start
+abbrev pub start_of : List ℕ → List ℕ → Start
 start_of known word = if is_file word then Whole (plain Input word) else start_option known word (first_row word)
 
 -- the items of words, where the option of a row waits for its argument or none does
@@ -140,7 +144,7 @@ abbrev pub with_start : Start → (Option OptionRow → List Item) → List Item
 with_start (Whole i) following = i ∷ following None
 with_start (Wants r) following = following (Some r)
 
-abbrev pub items_of : List (List ℕ) → Option OptionRow → List (List ℕ) → List Item
+abbrev pub items_of : List ℕ → Option OptionRow → List (List ℕ) → List Item
 items_of known None [] = []
 items_of known (Some r) [] = plain Lacking r.option ∷ []
 items_of known None (word ∷ words) = with_start (start_of known word) (λ wanting. items_of known wanting words)

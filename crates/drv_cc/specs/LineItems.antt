@@ -112,5 +112,5 @@ refused_or_read around items faults = if nat_lt 0 (length faults) then reading.R
 abbrev pub reading_of : List (List ℕ) → Surroundings → List Item → Reading
 reading_of named around items = if is_asked items then reading.Ask else refused_or_read around items (refusals named items)
 
-abbrev pub line_read : List (List ℕ) → List (List ℕ) → Surroundings → List (List ℕ) → Reading
+abbrev pub line_read : List ℕ → List (List ℕ) → Surroundings → List (List ℕ) → Reading
 line_read known named around words = reading_of named around (items_of known None words)

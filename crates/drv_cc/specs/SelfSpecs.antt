@@ -35,7 +35,7 @@ thread_item word = item word [] Alone part.Switch
 abbrev pub seen : List Item → List Item
 seen items = items ++ map thread_item (thread_words items)
 
-abbrev pub seen_items : List (List ℕ) → List (List ℕ) → List LineItem
+abbrev pub seen_items : List ℕ → List (List ℕ) → List LineItem
 seen_items known words = filter_map line_item (seen (kept (items_of known None words)))
 
 -- The words by which a text writes a switch of the line; none for what is no switch.
@@ -72,7 +72,7 @@ live (i ∷ items) left = if is_left (written i) left then i ∷ live items (dro
 abbrev pub is_late : Item → Bool
 is_late i = is_among (texts (codes "-specs= -x")) i.name
 
-abbrev pub given_items : List (List ℕ) → List (List ℕ) → List Item
+abbrev pub given_items : List ℕ → List (List ℕ) → List Item
 given_items known words = filter (λ i. not (is_late i)) (kept (items_of known None words))
 
 -- Refused of them: a file, a question, and what is refused on a line.
@@ -131,6 +131,6 @@ refused_or_run_with around items left given faults =
 abbrev pub answer_with : List (List ℕ) → Surroundings → List Item → List (List ℕ) → List Item → Answer
 answer_with named around items left given = refused_or_run_with around items (live (seen items) left) given (given_refusals named given)
 
-abbrev pub front_with : List (List ℕ) → List (List ℕ) → Surroundings → List (List ℕ) → Given → Answer
+abbrev pub front_with : List ℕ → List (List ℕ) → Surroundings → List (List ℕ) → Given → Answer
 front_with known named around words given =
     answer_with named around (kept (items_of known None words)) given.left (given_items known given.words)

@@ -114,9 +114,10 @@ fn answer_of(
 /// What a line of `gcc` comes to (GCC manual, "Invoking GCC"): a question for the compiler,
 /// refusals, or words for the driver.
 ///
-/// `args` are the words of the line without the program's name, response files expanded; `known`
-/// are the names of options beyond this crate's table, as `gcc --completion=-` says them, those
-/// that end with `=` with any argument; `named` are names of switches that spec files of the line
+/// `args` are the words of the line without the program's name, response files expanded; the lines
+/// of `known` are the names of options beyond this crate's table, as `gcc --completion=-` says them,
+/// those that end with `=` with any argument (it is quick where they are sorted by their bytes);
+/// `named` are names of switches that spec files of the line
 /// have, which no option has to be, those that end with `*` with any rest. Of the words each is
 /// spelled as gcc's driver hands it on, of options of one class the last stays, and after them
 /// stands what gcc's driver adds: words that begin with `--gdrv-` are for the spec file.
@@ -125,7 +126,7 @@ fn answer_of(
 /// An allocation was refused.
 pub fn front(
     alloc: Global,
-    known: &[Word],
+    known: &[u8],
     named: &[Word],
     around: &Surroundings,
     args: &[Word],

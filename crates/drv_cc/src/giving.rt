@@ -38,7 +38,7 @@ pub struct Given {
 }
 
 /// The items of a line that stay.
-fn line_kept(alloc: Global, known: &[Word], words: &[Word]) -> Result<Listing<Item>, AllocError>
+fn line_kept(alloc: Global, known: &[u8], words: &[Word]) -> Result<Listing<Item>, AllocError>
     ensures { IfOk result (λ stay. stay ≡ kept (items_of known.now None words.now)) }
 {
     let items = items_of(alloc, known, words)?;
@@ -103,7 +103,7 @@ pub(crate) fn both(
 /// An allocation was refused.
 pub fn seen_items(
     alloc: Global,
-    known: &[Word],
+    known: &[u8],
     args: &[Word],
 ) -> Result<Listing<drv_args::Item>, AllocError>
     ensures { IfOk result (λ items. items ≡ seen_items known.now args.now) }
@@ -137,7 +137,7 @@ fn counted(alloc: Global, items: &[Item]) -> Result<Listing<Item>, AllocError>
 }
 
 /// The options that words give.
-fn given_items(alloc: Global, known: &[Word], words: &[Word]) -> Result<Listing<Item>, AllocError>
+fn given_items(alloc: Global, known: &[u8], words: &[Word]) -> Result<Listing<Item>, AllocError>
     ensures { IfOk result (λ given. given ≡ given_items known.now words.now) }
 {
     let items = line_kept(alloc, known, words)?;
@@ -271,7 +271,7 @@ fn answer_with(
 /// An allocation was refused.
 pub fn front_with(
     alloc: Global,
-    known: &[Word],
+    known: &[u8],
     named: &[Word],
     around: &Surroundings,
     args: &[Word],

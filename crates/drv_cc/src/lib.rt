@@ -13,6 +13,7 @@ mod hiding;
 mod item;
 mod judging;
 mod keeping;
+mod known;
 mod laws;
 mod levels;
 mod line;

@@ -106,7 +106,7 @@ fn reading_of(
 /// An allocation was refused.
 pub fn read_line(
     alloc: Global,
-    known: &[Word],
+    known: &[u8],
     named: &[Word],
     around: &Surroundings,
     args: &[Word],

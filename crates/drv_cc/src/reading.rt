@@ -1,12 +1,13 @@
 //! A line read as a list of items.
 
 ghost use Rattle.drv_cc.specs.Code.Building.{Notes, row_shown, shown, start_shown};
-ghost use Rattle.drv_cc.specs.Items.{beyond, first_row, head_of, is_among, is_file, items_of};
+ghost use Rattle.drv_cc.specs.Items.{beyond, first_row, head_of, is_file, items_of};
 ghost use Rattle.drv_cc.specs.Items.{renamed, start_of, start_renamed, with_rest};
 ghost use Rattle.std.specs.Prelude.{◌≡◌, IfOk, None, drop, length};
 
 use crate::classes::{ignored, is_one_of, paired};
 use crate::item::Item;
+use crate::known::is_either_known;
 use crate::places::first_place;
 use crate::renaming::renamed;
 use crate::table::{Part, Row, Spelling, Takes, first_row};
@@ -46,13 +47,6 @@ fn with_rest(alloc: Global, row: Row, rest: &[u8]) -> Result<Start, AllocError>
     }
 }
 
-/// Whether a name is one of these words.
-fn knows(known: &[Word], name: &[u8]) -> bool
-    ensures { result ≡ is_among known.now name.now }
-{
-    known.iter().any(|other| name == other.as_bytes())
-}
-
 /// A word up to its first `=`, and that too.
 #[tactic(auto, using(crate::proofs::Cuts::head_at, crate::proofs::Cuts::head_whole))]
 fn head_of(word: &[u8]) -> &[u8]
@@ -65,21 +59,21 @@ fn head_of(word: &[u8]) -> &[u8]
 }
 
 /// A word that no row fits, by the name that it stands for.
-fn beyond(alloc: Global, known: &[Word], word: &[u8], name: &[u8]) -> Result<Item, AllocError>
+fn beyond(alloc: Global, known: &[u8], word: &[u8], name: &[u8]) -> Result<Item, AllocError>
     ensures { IfOk result (λ item. item ≡ beyond known.now word.now name.now) }
 {
     let positive = paired(alloc, name)?;
     if is_one_of(ignored(), positive.as_bytes()) {
         return Item::new(alloc, name, b"", Spelling::Nowhere, Part::Switch);
     }
-    if name.starts_with(b"-Wno-") || knows(known, name) || knows(known, head_of(name)) {
+    if name.starts_with(b"-Wno-") || is_either_known(known, name, head_of(name)) {
         return Item::new(alloc, name, b"", Spelling::Alone, Part::Switch);
     }
     Item::plain(alloc, Part::Unknown, word)
 }
 
 /// How a word begins that no row fits.
-fn start_renamed(alloc: Global, known: &[Word], word: &[u8]) -> Result<Start, AllocError>
+fn start_renamed(alloc: Global, known: &[u8], word: &[u8]) -> Result<Start, AllocError>
     ensures { IfOk result (λ start. start_shown start
         ≡ start_renamed known.now word.now (renamed word.now) (first_row (renamed word.now))) }
 {
@@ -98,7 +92,7 @@ fn is_file(word: &[u8]) -> bool
 }
 
 /// How a word begins.
-fn start_of(alloc: Global, known: &[Word], word: &[u8]) -> Result<Start, AllocError>
+fn start_of(alloc: Global, known: &[u8], word: &[u8]) -> Result<Start, AllocError>
     ensures { IfOk result (λ start. start_shown start ≡ start_of known.now word.now) }
 {
     if is_file(word) {
@@ -115,7 +109,7 @@ fn start_of(alloc: Global, known: &[Word], word: &[u8]) -> Result<Start, AllocEr
 #[tactic(auto, using(crate::proofs::Noted::wanted_noted, crate::proofs::Noted::wants_noted, crate::proofs::Noted::whole_noted))]
 fn note_word(
     alloc: Global,
-    known: &[Word],
+    known: &[u8],
     items: &mut Listing<Item>,
     wanting: Option<Row>,
     word: &[u8],
@@ -138,7 +132,7 @@ fn note_word(
 /// The items of a line.
 pub(crate) fn items_of(
     alloc: Global,
-    known: &[Word],
+    known: &[u8],
     words: &[Word],
 ) -> Result<Listing<Item>, AllocError>
     ensures { IfOk result (λ items. items ≡ items_of known.now None words.now) }

@@ -116,11 +116,11 @@ pub no_text : {T : Type 0} (now : T → List ℕ) (lent : Option T) (F : Facts) 
 no_text now lent F settings set line found shows is = ap (worked_by F settings set line) (sym shows ∙ ap (option_map now) is)
 
 -- the answer, once the names are known
-abbrev with_names : Surroundings → List (List ℕ) → List (List ℕ) → Given → Option (List (List ℕ)) → List (List ℕ) → Ended (Option Answer)
+abbrev with_names : Surroundings → List ℕ → List (List ℕ) → Given → Option (List ℕ) → List (List ℕ) → Ended (Option Answer)
 with_names around known args given options named = Is (Ok (Some (front_with (unwrap_or options known) named around args given)))
 
-pub options_given : {E : Type 0} (F : Facts) (specs : List ℕ) (around : Surroundings) (known args : List (List ℕ)) (words : Expanded) (given : Given)
-    (options : Option (List (List ℕ))) (all named names slice : List (List ℕ)) (result : Result Answer E)
+pub options_given : {E : Type 0} (F : Facts) (specs : List ℕ) (around : Surroundings) (known : List ℕ) (args : List (List ℕ)) (words : Expanded) (given : Given)
+    (options : Option (List ℕ)) (all named : List (List ℕ)) (names : List ℕ) (slice : List (List ℕ)) (result : Result Answer E)
     → known_names F specs ≡ Is options → all ≡ words.words → words_names F all ≡ Is named → names ≡ unwrap_or options known → slice ≡ named
     → IfOk result (λ answer. answer ≡ front_with names slice around args given) → IfOk result (λ answer. answer_by F specs around known args words (Gives given) ≡ Is (Ok (Some answer)))
 options_given F specs around known args words given options all named names slice (Err e) asked same found names_are slice_is is = tt
@@ -133,23 +133,23 @@ options_given F specs around known args words given options all named names slic
     ∙ ap (λ a. Is (Ok (Some a))) (sym is)
 
 -- the answer, once the text was worked
-abbrev after_work : Facts → List ℕ → Surroundings → List (List ℕ) → List (List ℕ) → Expanded → List Item → Ended (Option Answer)
+abbrev after_work : Facts → List ℕ → Surroundings → List ℕ → List (List ℕ) → Expanded → List Item → Ended (Option Answer)
 after_work F specs around known args words items = answer_after F specs around known args words (self_worked F words items)
 
-by_work : (F : Facts) (specs : List ℕ) (around : Surroundings) (known args : List (List ℕ)) (words : Expanded) (items : List Item) (ending : Ending)
+by_work : (F : Facts) (specs : List ℕ) (around : Surroundings) (known : List ℕ) (args : List (List ℕ)) (words : Expanded) (items : List Item) (ending : Ending)
     → items ≡ seen_items known args → (ending ≡ OutOfMemory) ⊎ (self_worked F words items ≡ Is (Err ending))
     → (ending ≡ OutOfMemory) ⊎ (after_work F specs around known args words (seen_items known args) ≡ Is (Err ending))
 by_work F specs around known args words items ending are (inl memory) = inl memory
 by_work F specs around known args words items ending are (inr ends) =
     inr (ap (after_work F specs around known args words) (sym are) ∙ ap (answer_after F specs around known args words) ends)
 
-pub work_ends : (F : Facts) (specs : List ℕ) (around : Surroundings) (known args : List (List ℕ)) (words : Expanded) (items : List Item) (ending : Ending) (result : Result (Option Answer) Ending)
+pub work_ends : (F : Facts) (specs : List ℕ) (around : Surroundings) (known : List ℕ) (args : List (List ℕ)) (words : Expanded) (items : List Item) (ending : Ending) (result : Result (Option Answer) Ending)
     → items ≡ seen_items known args → IsErrAnd result (λ e. e ≡ ending) → (ending ≡ OutOfMemory) ⊎ (self_worked F words items ≡ Is (Err ending))
     → GivesKnown OutOfMemory (λ answer. answer) result (after_work F specs around known args words (seen_items known args))
 work_ends F specs around known args words items ending result are is given =
     ends_as ending result (λ answer. answer) (after_work F specs around known args words (seen_items known args)) is (by_work F specs around known args words items ending are given)
 
-pub work_answers : (F : Facts) (specs : List ℕ) (around : Surroundings) (known args : List (List ℕ)) (words : Expanded) (items : List Item) (worked : Worked) (answer : Option Answer)
+pub work_answers : (F : Facts) (specs : List ℕ) (around : Surroundings) (known : List ℕ) (args : List (List ℕ)) (words : Expanded) (items : List Item) (worked : Worked) (answer : Option Answer)
     → items ≡ seen_items known args → self_worked F words items ≡ Is (Ok worked) → answer_by F specs around known args words worked ≡ Is (Ok answer)
     → after_work F specs around known args words (seen_items known args) ≡ Is (Ok answer)
 work_answers F specs around known args words items worked answer are done is =

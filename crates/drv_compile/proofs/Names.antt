@@ -57,7 +57,7 @@ words_read F words dirs files prefixes (Err e) dirs_are files_are made is = tt
 words_read F words dirs files prefixes (Ok names) dirs_are files_are made is = rw (sym dirs_are, sym files_are, made) is
 
 -- what a line comes to that is refused without its spec files
-pub refused_read : {E : Type 0} (F : Facts) (known : List (List ℕ)) (around : Surroundings) (words : List (List ℕ)) (refusals : List Refusal)
+pub refused_read : {E : Type 0} (F : Facts) (known : List ℕ) (around : Surroundings) (words : List (List ℕ)) (refusals : List Refusal)
     (switches : List (List ℕ)) (taken : Answer) (named slice : List (List ℕ)) (result : Result Answer E)
     → switches ≡ unknown_switches refusals → taken ≡ front_of known switches around words → answer_names F taken ≡ Is named → slice ≡ named
     → IfOk result (λ answer. answer ≡ front_of known slice around words) → IfOk result (λ answer. refused_answer F known around words refusals ≡ Is answer)
@@ -69,12 +69,12 @@ refused_read F known around words refusals switches taken named slice (Ok answer
     ∙ ap Is (sym is)
 
 -- with names of options that are known
-pub read_known : (F : Facts) (known : List (List ℕ)) (given : Option (List (List ℕ))) (slice : List (List ℕ)) (around : Surroundings) (words : List (List ℕ)) (answer : Answer)
+pub read_known : (F : Facts) (known : List ℕ) (given : Option (List ℕ)) (slice : List ℕ) (around : Surroundings) (words : List (List ℕ)) (answer : Answer)
     → given ≡ Some known → slice ≡ known → known_answer F slice around words ≡ Is answer → read_by F around words given ≡ Is (Some (record { known = known; answer = answer }))
 read_known F known given slice around words answer some same is = rw some (ap (λ k. known_answer F k around words >>= λ a. Is (Some (record { known = known; answer = a }))) (sym same) ∙ ap (λ k. k >>= λ a. Is (Some (record { known = known; answer = a }))) is)
 
 -- a line with an unknown word
-pub line_unknown : {E : Type 0} (F : Facts) (specs : List ℕ) (around : Surroundings) (words : List (List ℕ)) (answer : Answer) (known : Option (List (List ℕ))) (result : Result (Option Reading) E)
+pub line_unknown : {E : Type 0} (F : Facts) (specs : List ℕ) (around : Surroundings) (words : List (List ℕ)) (answer : Answer) (known : Option (List ℕ)) (result : Result (Option Reading) E)
     → answer ≡ front_of [] [] around words → has_unknown answer ≡ true → known_names F specs ≡ Is known
     → IfOk result (λ reading. read_by F around words known ≡ Is reading) → IfOk result (λ reading. line_read F specs around words ≡ Is reading)
 line_unknown F specs around words answer known (Err e) is unknown names reading_is = tt

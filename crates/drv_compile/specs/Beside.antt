@@ -1,4 +1,3 @@
-use Rattle.drv_compile.specs.Compilers.{values}
 use Rattle.drv_compile.specs.Places.{companion, given}
 use Rattle.drv_compile.specs.Written.{whole_lines}
 use Rattle.drv_search.specs.Search.{is_plain}
@@ -7,7 +6,7 @@ use Rattle.drv_system.specs.Known.{◌>>=◌, Is, Known, asked}
 use Rattle.drv_system.specs.declared.event.PathKind.{PathKind}
 use Rattle.drv_system.specs.declared.event.ReadAnswer.TheVariants.{Failed, Missing, Read, TooLarge}
 use Rattle.drv_system.specs.declared.event.ReadAnswer.{ReadAnswer}
-use Rattle.std.specs.Option.{option_and_then, option_map}
+use Rattle.std.specs.Option.{option_and_then}
 use Rattle.std.specs.Prelude.{List, [], ◌∷◌, None, Option, Some, codes, if◌then◌else◌, ℕ}
 
 -- The spec file of a call and the files beside it, over facts (this project's profile).
@@ -29,9 +28,9 @@ written F path = plain_text F path >>= λ text. Is (option_and_then whole_lines 
 abbrev pub written_beside : Facts → List ℕ → List ℕ → Known (Option (List ℕ))
 written_beside F specs ending = written F (companion specs ending)
 
--- the names of the compiler's options
-abbrev pub known_names : Facts → List ℕ → Known (Option (List (List ℕ)))
-known_names F specs = written_beside F specs (codes ".options") >>= λ lines. Is (option_map (values []) lines)
+-- the names of the compiler's options, a line each
+abbrev pub known_names : Facts → List ℕ → Known (Option (List ℕ))
+known_names F specs = written_beside F specs (codes ".options")
 
 -- The spec file: the one beside the program, where that place is known and a plain file stands there, or else the one that the variable
 -- GDRV_CC_SPECS names, if it is a plain file.

@@ -86,20 +86,20 @@ answer_names F (Refuse refusals) = Is []
 answer_names F (Run call) = words_names F call.words
 
 -- what a line comes to that is refused for these reasons by the names of options alone: its spec files are read
-abbrev pub refused_answer : Facts → List (List ℕ) → Surroundings → List (List ℕ) → List Refusal → Known Answer
+abbrev pub refused_answer : Facts → List ℕ → Surroundings → List (List ℕ) → List Refusal → Known Answer
 refused_answer F known around words refusals =
     answer_names F (front_of known (unknown_switches refusals) around words) >>= λ named. Is (front_of known named around words)
 
-abbrev pub or_by_files : Facts → List (List ℕ) → Surroundings → List (List ℕ) → Answer → Known Answer
+abbrev pub or_by_files : Facts → List ℕ → Surroundings → List (List ℕ) → Answer → Known Answer
 or_by_files F known around words Ask = Is Ask
 or_by_files F known around words (Refuse refusals) = refused_answer F known around words refusals
 or_by_files F known around words (Run call) = Is (Run call)
 
-abbrev pub known_answer : Facts → List (List ℕ) → Surroundings → List (List ℕ) → Known Answer
+abbrev pub known_answer : Facts → List ℕ → Surroundings → List (List ℕ) → Known Answer
 known_answer F known around words = or_by_files F known around words (front_of known [] around words)
 
 -- what a line comes to, with the names of options that this took; none where the file that has them is not whole
-abbrev pub read_by : Facts → Surroundings → List (List ℕ) → Option (List (List ℕ)) → Known (Option Reading)
+abbrev pub read_by : Facts → Surroundings → List (List ℕ) → Option (List ℕ) → Known (Option Reading)
 read_by F around words None = Is None
 read_by F around words (Some known) = known_answer F known around words >>= λ answer. Is (Some (record { known = known; answer = answer }))
 

@@ -84,20 +84,20 @@ self_worked F words items = worked_of F (line_judged words.from_file items) (lin
 
 -- The answer, by what was given: none where the line stands as it is. The compiler's options are known, and the names in the line's spec
 -- files.
-abbrev pub answer_by : Facts → List ℕ → Surroundings → List (List ℕ) → List (List ℕ) → Expanded → Worked → Ended (Option Answer)
+abbrev pub answer_by : Facts → List ℕ → Surroundings → List ℕ → List (List ℕ) → Expanded → Worked → Ended (Option Answer)
 answer_by F specs around known args words Nothing = Is (Ok None)
 answer_by F specs around known args words More = Is (Ok (Some (Refuse (GivenMore ∷ []))))
 answer_by F specs around known args words (Gives given) =
     known_names F specs >>= λ options. words_names F words.words >>= λ named.
     Is (Ok (Some (front_with (unwrap_or options known) named around args given)))
 
-abbrev pub answer_after : Facts → List ℕ → Surroundings → List (List ℕ) → List (List ℕ) → Expanded → Ended Worked → Ended (Option Answer)
+abbrev pub answer_after : Facts → List ℕ → Surroundings → List ℕ → List (List ℕ) → Expanded → Ended Worked → Ended (Option Answer)
 answer_after F specs around known args words Unasked = Unasked
 answer_after F specs around known args words (Is (Err ending)) = Is (Err ending)
 answer_after F specs around known args words (Is (Ok worked)) = answer_by F specs around known args words worked
 
 -- a line that names no spec file stands as it is: the one file is that of the call
-abbrev pub answer_given : Facts → List ℕ → Surroundings → List (List ℕ) → List (List ℕ) → Expanded → Ended (Option Answer)
+abbrev pub answer_given : Facts → List ℕ → Surroundings → List ℕ → List (List ℕ) → Expanded → Ended (Option Answer)
 answer_given F specs around known args words =
     if nat_lt 1 (length (specs_given words.words))
     then answer_after F specs around known args words (self_worked F words (seen_items known args))

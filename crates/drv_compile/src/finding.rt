@@ -9,11 +9,10 @@ ghost use Rattle.drv_system.specs.Code.Asked.{Asked};
 ghost use Rattle.std.specs.Option.{option_and_then, option_copied};
 ghost use Rattle.std.specs.Prelude.{◌≡◌, IfOk};
 
-use crate::compilers::values;
 use crate::places::{companion, given};
 use crate::written::whole_lines;
 use drv_system::{Outside, PathKind, ReadAnswer, System};
-use drv_words::{Listing, Word};
+use drv_words::Word;
 use std::alloc::{AllocError, Global};
 
 /// Whether a path is that of a plain file.
@@ -67,19 +66,16 @@ pub(crate) fn written_beside<S: System>(
     written(alloc, &path, outside)
 }
 
-/// The names of the compiler's options, where the file that has them is whole.
+/// The names of the compiler's options, a line each, where the file that has them is whole.
 pub(crate) fn known_names<S: System>(
     alloc: Global,
     specs: &[u8],
     outside: &mut Outside<'_, S>,
-) -> Result<Option<Listing<Word>>, AllocError>
+) -> Result<Option<Word>, AllocError>
     ensures asks { Asked S.events outside.old outside.new }
     ensures names { Tells outside.new result (λ F. known_names F specs.now) }
 {
-    match written_beside(alloc, specs, b".options", outside)? {
-        Some(lines) => Ok(Some(values(alloc, b"", lines.as_bytes())?)),
-        None => Ok(None),
-    }
+    written_beside(alloc, specs, b".options", outside)
 }
 
 /// The path, if it is that of a plain file.

@@ -22,9 +22,9 @@ use std::alloc::{AllocError, Global};
 /// What a line comes to, with the names of options that this took.
 #[derive(Drop)]
 pub struct Reading {
-    /// The names of the compiler's options, where some word of the line is none that is known
-    /// without them; else none.
-    pub known: Listing<Word>,
+    /// The names of the compiler's options, a line each, where some word of the line is none that is
+    /// known without them; else none.
+    pub known: Word,
     /// What the line comes to.
     pub answer: Answer,
 }
@@ -200,7 +200,7 @@ fn answer_names<S: System>(
 /// What a line comes to that is refused where its spec files name nothing.
 fn refused_answer<S: System>(
     alloc: Global,
-    known: &[Word],
+    known: &[u8],
     around: &Surroundings,
     words: &[Word],
     refusals: &[Refusal],
@@ -220,7 +220,7 @@ fn refused_answer<S: System>(
 /// read only where it is refused without them.
 fn known_answer<S: System>(
     alloc: Global,
-    known: &[Word],
+    known: &[u8],
     around: &Surroundings,
     words: &[Word],
     outside: &mut Outside<'_, S>,
@@ -238,7 +238,7 @@ fn known_answer<S: System>(
 /// What a line comes to, where these are the names of the compiler's options, if they are known.
 fn read_by<S: System>(
     alloc: Global,
-    known: Option<Listing<Word>>,
+    known: Option<Word>,
     around: &Surroundings,
     words: &[Word],
     outside: &mut Outside<'_, S>,
@@ -249,7 +249,7 @@ fn read_by<S: System>(
     let Some(known) = known else {
         return Ok(None);
     };
-    let answer = known_answer(alloc, known.as_slice(), around, words, outside)?;
+    let answer = known_answer(alloc, known.as_bytes(), around, words, outside)?;
     Ok(Some(Reading { known, answer }))
 }
 
@@ -266,11 +266,11 @@ pub(crate) fn read_line<S: System>(
     ensures asks { Asked S.events outside.old outside.new }
     ensures reading { Tells outside.new result (λ F. line_read F specs.now around.now words.now) }
 {
-    let answer = front(alloc, &[], &[], around, words)?;
+    let answer = front(alloc, b"", &[], around, words)?;
     if has_unknown(&answer) {
         let known = known_names(alloc, specs, outside)?;
         return read_by(alloc, known, around, words, outside);
     }
-    let known = Listing::new(alloc);
+    let known = Word::empty(alloc);
     Ok(Some(Reading { known, answer }))
 }

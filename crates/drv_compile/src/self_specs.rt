@@ -199,11 +199,11 @@ fn refused_more(alloc: Global) -> Result<Answer, AllocError>
 }
 
 /// The names of options: those of the compiler, or else the ones that are known.
-fn options_or<'a>(options: &'a Option<Listing<Word>>, known: &'a [Word]) -> &'a [Word]
+fn options_or<'a>(options: &'a Option<Word>, known: &'a [u8]) -> &'a [u8]
     ensures { result.now ≡ unwrap_or options.now known.now }
 {
     match options {
-        Some(options) => options.as_slice(),
+        Some(options) => options.as_bytes(),
         None => known,
     }
 }
@@ -214,7 +214,7 @@ fn answer_with<S: System>(
     alloc: Global,
     specs: &[u8],
     around: &Surroundings,
-    known: &[Word],
+    known: &[u8],
     args: &[Word],
     words: &Expanded,
     given: &Given,
@@ -236,7 +236,7 @@ fn answer_by<S: System>(
     alloc: Global,
     specs: &[u8],
     around: &Surroundings,
-    known: &[Word],
+    known: &[u8],
     args: &[Word],
     words: &Expanded,
     worked: Worked,
@@ -262,7 +262,7 @@ fn answer_of_specs<S: System>(
     alloc: Global,
     specs: &[u8],
     around: &Surroundings,
-    known: &[Word],
+    known: &[u8],
     args: &[Word],
     words: &Expanded,
     outside: &mut Outside<'_, S>,
@@ -300,7 +300,7 @@ pub fn answer_given<S: System>(
     alloc: Global,
     specs: &[u8],
     around: &Surroundings,
-    known: &[Word],
+    known: &[u8],
     args: &[Word],
     words: &Expanded,
     sys: &mut S,

@@ -12,7 +12,7 @@ use std::alloc::{AllocError, Global};
 fn add_told(
     alloc: Global,
     name: &[u8],
-    known: &[Word],
+    known: &[u8],
     refusal: &Refusal,
     text: &mut Word,
 ) -> Result<(), AllocError> {
@@ -30,7 +30,7 @@ fn add_told(
 pub fn refused(
     alloc: Global,
     calling: &Calling,
-    known: &[Word],
+    known: &[u8],
     refusals: &[Refusal],
 ) -> Result<Outcome, AllocError> {
     let mut text = Word::empty(alloc);

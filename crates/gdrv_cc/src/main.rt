@@ -55,7 +55,7 @@ fn act(
     match answer {
         Answer::Ask => ask(rt, calling, specs, &around.compiler),
         Answer::Refuse(refusals) => {
-            Ok(refused(rt.alloc(), calling, known.as_slice(), refusals.as_slice())?)
+            Ok(refused(rt.alloc(), calling, known.as_bytes(), refusals.as_slice())?)
         }
         Answer::Run(line) => {
             refuse_variable(rt.alloc(), calling, outside)?;
@@ -63,7 +63,7 @@ fn act(
                 calling,
                 specs,
                 around,
-                known: known.as_slice(),
+                known: known.as_bytes(),
                 args,
             };
             run(rt, &asked, line, outside)

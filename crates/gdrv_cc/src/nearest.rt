@@ -1,12 +1,75 @@
 //! Which option an unknown word was meant to be, as gcc reckons it. No contract says that it is the
 //! nearest one.
 
-ghost use Rattle.std.specs.Prelude.{◌<◌, ◌≤◌, IfOk, IfSome, length};
+ghost use Rattle.std.specs.Prelude.{◌≤◌, length};
 
 use drv_words::Word;
 use std::alloc::{AllocError, Global};
 use std::str::from_utf8;
 use strsim::osa_distance;
+
+/// A name, how many edits lead to it, and how many bytes of the word it was compared with.
+#[derive(Clone, Copy)]
+struct Near<'n> {
+    name: &'n [u8],
+    edits: usize,
+    compared: usize,
+}
+
+/// A word to which names are compared, with how often it has each byte.
+#[derive(Drop)]
+struct Wanted<'w> {
+    word: &'w [u8],
+    counts: [u8; 256],
+}
+
+impl<'w> Wanted<'w> {
+    /// A word to compare.
+    fn new(word: &'w [u8]) -> Wanted<'w> {
+        let mut counts = [0_u8; 256];
+        for byte in word {
+            if let Some(count) = counts.get_mut(usize::from(*byte)) {
+                *count = count.saturating_add(1);
+            }
+        }
+        Wanted { word, counts }
+    }
+
+    /// How many bytes of a name have one of the word for themselves.
+    fn shared(&self, name: &[u8]) -> usize {
+        let mut left = self.counts;
+        let mut shared = 0_usize;
+        for byte in name {
+            if let Some(count) = left.get_mut(usize::from(*byte))
+                && 0 < *count
+            {
+                *count = count.saturating_sub(1);
+                shared = shared.saturating_add(1);
+            }
+        }
+        shared
+    }
+
+    /// How many edits there are at least, since each makes at most one byte another one.
+    fn least_edits(&self, name: &[u8]) -> usize {
+        self.word
+            .len()
+            .max(name.len())
+            .saturating_sub(self.shared(name))
+    }
+
+    /// How many edits lead to a name; none where there are more than are wanted.
+    fn edits(&self, alloc: Global, name: &[u8], most: usize) -> Result<Option<usize>, AllocError> {
+        if self.word.len().abs_diff(name.len()) > most || self.least_edits(name) > most {
+            return Ok(None);
+        }
+        let (Ok(word), Ok(name)) = (from_utf8(self.word), from_utf8(name)) else {
+            return Ok(None);
+        };
+        let edits = osa_distance(alloc, word, name)?;
+        Ok(if edits <= most { Some(edits) } else { None })
+    }
+}
 
 /// Twice the most edits that may lie between words of these lengths.
 fn most_apart(longer: usize, shorter: usize) -> usize {
@@ -19,95 +82,100 @@ fn most_apart(longer: usize, shorter: usize) -> usize {
     longer.saturating_add(2).saturating_mul(2) / 3
 }
 
-/// Whether a word of this length may be meant by one of another, which so many edits lead to.
-/// Hyphens in front don't count.
-fn is_near(word: usize, name: usize, edits: usize) -> bool {
+/// The most edits by which a word of this length may be meant by a name of another. Hyphens in
+/// front don't count.
+fn most_edits(word: usize, name: usize) -> usize {
     let (word, name) = (word.saturating_sub(1), name.saturating_sub(1));
-    edits.saturating_mul(2) <= most_apart(word.max(name), word.min(name))
+    most_apart(word.max(name), word.min(name)) / 2
 }
 
-/// How many bytes of a word stand for a name: of one that takes an argument after `=`, those up to
-/// and with that sign.
-fn length_compared(word: &[u8], name: &[u8]) -> usize
+/// How many bytes of a word are those up to and with its first `=`, where it has one; else all.
+fn head_length(word: &[u8]) -> usize
     ensures { result ≤ length word.now }
 {
-    if name.ends_with(b"=".as_slice()) {
-        for i in 0..word.len() {
-            if word[i] == b'=' {
-                return i + 1;
-            }
+    for i in 0..word.len() {
+        if word[i] == b'=' {
+            return i + 1;
         }
     }
     word.len()
 }
 
-/// How many edits lead from a part of a word to a name; none where that can't be as few as is
-/// wanted.
-fn edits(
+/// Whether a name takes an argument after `=`.
+fn takes_argument(name: &[u8]) -> bool {
+    name.ends_with(b"=".as_slice())
+}
+
+/// A name without the `no-` after its first letter, in two parts.
+fn positive(name: &[u8]) -> (&[u8], &[u8]) {
+    match name {
+        [_, _, b'n', b'o', b'-', rest @ ..] => (name.get(..2).unwrap_or(&[]), rest),
+        _ => (name.get(..2).unwrap_or(&[]), name.get(2..).unwrap_or(&[])),
+    }
+}
+
+/// Whether gcc lists a name before another one: it lists an option and then what takes it back.
+fn is_listed_before(name: &[u8], other: &[u8]) -> bool {
+    let (first, second) = (positive(name), positive(other));
+    first < second || (first == second && name.len() < other.len())
+}
+
+/// Whether a name is nearer than another one, so many edits away.
+fn is_nearer(name: &[u8], edits: usize, other: &Near<'_>) -> bool {
+    edits < other.edits || (edits == other.edits && is_listed_before(name, other.name))
+}
+
+/// Whether a word of this length may be meant by a name of another, which so many edits lead to.
+fn is_near(word: usize, name: usize, edits: usize) -> bool {
+    edits <= most_edits(word, name)
+}
+
+/// Of the names that are nearest to a word, a line each, the one that gcc lists first, if that is
+/// near enough to be meant (GCC, "spellcheck.h", best_match).
+fn nearest<'n>(
     alloc: Global,
-    part: &[u8],
-    name: &[u8],
-    least: usize,
-) -> Result<Option<usize>, AllocError> {
-    if part.len().abs_diff(name.len()) >= least {
-        return Ok(None);
-    }
-    let (Ok(part), Ok(name)) = (from_utf8(part), from_utf8(name)) else {
-        return Ok(None);
-    };
-    Ok(Some(osa_distance(alloc, part, name)?))
-}
-
-/// Whether a name's length is near enough to that of a part of a word.
-fn is_alike(part: &[u8], name: &[u8]) -> bool {
-    is_near(part.len(), name.len(), part.len().abs_diff(name.len()))
-}
-
-/// The place of the nearest name, if that is near enough to be meant by a word.
-fn if_near(known: &[Word], word: &[u8], found: Option<usize>, least: usize) -> Option<usize>
-    requires { IfSome found (λ place. place < length known.now) }
-    ensures { IfSome result (λ place. place < length known.now) }
-{
-    let place = found?;
-    let name = known[place].as_bytes();
-    if is_near(length_compared(word, name), name.len(), least) {
-        Some(place)
-    } else {
-        None
-    }
-}
-
-/// Of the names that are nearest to a word, the place of the first, if that is near enough to be
-/// meant (GCC, "spellcheck.h", best_match).
-fn nearest(alloc: Global, known: &[Word], word: &[u8]) -> Result<Option<usize>, AllocError>
-    ensures { IfOk result (λ found. IfSome found (λ place. place < length known.now)) }
-{
-    let mut least = usize::MAX;
-    let mut found = None;
-    for i in 0..known.len() {
-        let name = known[i].as_bytes();
-        let part = &word[..length_compared(word, name)];
-        if is_alike(part, name)
-            && let Some(count) = edits(alloc, part, name, least)?
-            && count < least
-        {
-            least = count;
-            found = Some(i);
+    known: &'n [u8],
+    word: &[u8],
+) -> Result<Option<&'n [u8]>, AllocError> {
+    let whole = Wanted::new(word);
+    let head = Wanted::new(&word[..head_length(word)]);
+    let mut found: Option<Near<'n>> = None;
+    for name in known.split(|byte| *byte == b'\n') {
+        let wanted = if takes_argument(name) { &head } else { &whole };
+        let compared = wanted.word.len();
+        if !is_near(compared, name.len(), compared.abs_diff(name.len())) {
+            continue;
+        }
+        let most = match &found {
+            Some(other) => other.edits,
+            None => usize::MAX,
+        };
+        if let Some(edits) = wanted.edits(alloc, name, most)? {
+            found = match found {
+                Some(other) if !is_nearer(name, edits, &other) => Some(other),
+                _ => Some(Near {
+                    name,
+                    edits,
+                    compared,
+                }),
+            };
         }
     }
-    Ok(if_near(known, word, found, least))
+    Ok(match found {
+        Some(near) if is_near(near.compared, near.name.len(), near.edits) => Some(near.name),
+        _ => None,
+    })
 }
 
-/// The option that a word was meant to be, if one is near: with the word's own argument, where it
-/// takes one after `=`.
-pub fn meant(alloc: Global, known: &[Word], word: &[u8]) -> Result<Option<Word>, AllocError> {
-    let Some(place) = nearest(alloc, known, word)? else {
+/// The option that a word was meant to be, if one of these names, a line each, is near: with the
+/// word's own argument, where it takes one after `=`.
+pub fn meant(alloc: Global, known: &[u8], word: &[u8]) -> Result<Option<Word>, AllocError> {
+    let Some(name) = nearest(alloc, known, word)? else {
         return Ok(None);
     };
-    let name = known[place].as_bytes();
     let mut option = Word::from_bytes(alloc, name)?;
-    if name.ends_with(b"=".as_slice()) {
-        option.extend_from_slice(&word[length_compared(word, name)..])?;
+    if takes_argument(name) {
+        option.extend_from_slice(&word[head_length(word)..])?;
     }
     Ok(Some(option))
 }

@@ -170,7 +170,7 @@ pub struct Asked<'a> {
     /// The compiler of that, and where it looks.
     pub around: &'a Surroundings,
     /// The names of options that were taken to read the line.
-    pub known: &'a [Word],
+    pub known: &'a [u8],
     /// The words of the line.
     pub args: &'a Expanded,
 }

@@ -1,0 +1,124 @@
+//! The names of options beyond the table are the lines of a text. They are looked for in its bytes,
+//! first as in a sorted text.
+
+ghost use Rattle.drv_cc.specs.Code.Known.{is_ended};
+ghost use Rattle.drv_cc.specs.Items.{is_known};
+ghost use Rattle.std.specs.Prelude.{◌≡◌, ◌<◌, ◌≤◌, ◌||◌, IsFalse, drop, length, true};
+
+use crate::reading::rest_after;
+
+/// Whether a line ends at a place of a text.
+fn is_end(text: &[u8], at: usize) -> bool
+    ensures { IsFalse result → at < length text.now }
+{
+    match text.get(at) {
+        Some(byte) => *byte == b'\n',
+        None => true,
+    }
+}
+
+/// Where the line begins in which a place is.
+fn line_start(text: &[u8], at: usize) -> usize
+    ensures { result ≤ at }
+{
+    let mut start = at;
+    while 0 < start && !is_end(text, start - 1) {
+        start -= 1;
+    }
+    start
+}
+
+/// Where the line ends in which a place is.
+fn line_end(text: &[u8], at: usize) -> usize
+    ensures from { at ≤ result }
+    ensures to { at < length text.now → result ≤ length text.now }
+{
+    let mut end = at;
+    while !is_end(text, end) {
+        end += 1;
+    }
+    end
+}
+
+/// Where a line begins, if it is one of a text whose lines are sorted by their bytes. What is there
+/// is for the caller to see.
+fn place_of(text: &[u8], line: &[u8]) -> usize {
+    let mut low = 0;
+    let mut high = text.len();
+    while low < high {
+        let middle = low + (high - low) / 2;
+        let start = line_start(text, middle);
+        let end = line_end(text, middle);
+        if &text[start..end] < line {
+            low = end + 1;
+        } else {
+            high = start;
+        }
+    }
+    low
+}
+
+/// Whether a line ends where this text begins.
+fn is_ended(rest: &[u8]) -> bool
+    ensures { result ≡ is_ended rest.now }
+{
+    match rest {
+        [byte, ..] => *byte == b'\n',
+        _ => true,
+    }
+}
+
+/// Whether a text begins with this line.
+#[tactic(auto, using(crate::proofs::Lines::begun))]
+fn begins_with(text: &[u8], line: &[u8]) -> bool
+    ensures { result ≡ true → is_known text.now line.now ≡ true }
+{
+    let rest = rest_after(text, line);
+    (text.starts_with(line) & is_ended(rest)) & !line.contains(&b'\n')
+}
+
+/// What stands in a text from a place on.
+fn rest_from(text: &[u8], at: usize) -> &[u8]
+    ensures { result.now ≡ drop at text.now }
+{
+    text.get(at..).unwrap_or(&[])
+}
+
+/// Whether this line begins at a place of a text.
+fn stands_at(text: &[u8], at: usize, line: &[u8]) -> bool
+    ensures { result ≡ true → is_known text.now line.now ≡ true }
+{
+    if at == 0 {
+        return begins_with(text, line);
+    }
+    match rest_from(text, at - 1) {
+        [byte, rest @ ..] => (*byte == b'\n') & begins_with(rest, line),
+        _ => false,
+    }
+}
+
+/// Whether a name is found as in a sorted text.
+fn is_found(known: &[u8], name: &[u8]) -> bool
+    ensures { result ≡ true → is_known known.now name.now ≡ true }
+{
+    stands_at(known, place_of(known, name), name)
+}
+
+/// Whether a name is known, by all lines.
+fn is_known(known: &[u8], name: &[u8]) -> bool
+    ensures { result ≡ is_known known.now name.now }
+{
+    known
+        .split(|byte| *byte == b'\n')
+        .any(|other| name == other)
+}
+
+/// Whether one of two names is known. Lines one by one are gone over only where neither is found.
+pub(crate) fn is_either_known(known: &[u8], name: &[u8], head: &[u8]) -> bool
+    ensures { result ≡ (is_known known.now name.now || is_known known.now head.now) }
+{
+    if is_found(known, name) || is_found(known, head) {
+        return true;
+    }
+    is_known(known, name) || is_known(known, head)
+}
