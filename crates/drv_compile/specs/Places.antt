@@ -27,8 +27,9 @@ without_ending path (Some stem) = stem
 abbrev pub companion : List ℕ → List ℕ → List ℕ
 companion path ending = without_ending path (before_ending (codes ".specs") path) ++ ending
 
--- Beside it stand its texts for a line without a link, and those for a line that has nothing but a link. Both are without what these
--- words and each -gz=.. ask for, and without what a spec file of the line may change; those of the link are without --sysroot=.. too.
+-- Beside it stand its texts for a line without a link, those for a line that has nothing but a link, and those for a line that may have
+-- both. All are without what these words and each -gz=.. ask for, and without what a spec file of the line may change; those with a link
+-- are without --sysroot=.. too.
 abbrev pub whole_words : List (List ℕ)
 whole_words =
     texts (codes "-march=native -mtune=native -save-temps -save-temps=cwd -save-temps=obj -gsplit-dwarf -traditional -traditional-cpp "
@@ -40,19 +41,19 @@ wants_whole word = starts_with nat_eq word (codes "-specs=") || starts_with nat_
 abbrev pub is_rooted : List ℕ → Bool
 is_rooted word = starts_with nat_eq word (codes "--sysroot=")
 
-abbrev pub is_link : Stages → Bool
-is_link Link = true
-is_link Sources = false
-is_link All = false
+abbrev pub may_link : Stages → Bool
+may_link Link = true
+may_link Sources = false
+may_link All = true
 
 abbrev pub texts_by : List ℕ → Stages → List ℕ
 texts_by specs Sources = companion specs (codes ".compile")
 texts_by specs Link = companion specs (codes ".link")
-texts_by specs All = specs
+texts_by specs All = companion specs (codes ".all")
 
 abbrev pub texts_for : List ℕ → List (List ℕ) → Stages → List ℕ
 texts_for specs words stages =
-    if list_any wants_whole words || (is_link stages && list_any is_rooted words) then specs else texts_by specs stages
+    if list_any wants_whole words || (may_link stages && list_any is_rooted words) then specs else texts_by specs stages
 
 -- where they are not there the whole file has them
 abbrev pub texts_or : List ℕ → List ℕ → PathKind → List ℕ

@@ -1,7 +1,7 @@
 //! Where the spec file stands, and the files beside it.
 
-ghost use Rattle.drv_compile.specs.Places.{beside, companion, given, is_link, is_rooted, texts_by};
-ghost use Rattle.drv_compile.specs.Places.{texts_for, texts_or, wants_whole, whole_words};
+ghost use Rattle.drv_compile.specs.Places.{beside, companion, given, is_rooted, may_link};
+ghost use Rattle.drv_compile.specs.Places.{texts_by, texts_for, texts_or, wants_whole, whole_words};
 ghost use Rattle.drv_cc.specs.Items.{is_among};
 ghost use Rattle.std.specs.List.{list_any};
 ghost use Rattle.std.specs.Prelude.{◌≡◌, ◌++◌, IfOk, OnOk};
@@ -99,11 +99,11 @@ fn are_rooted(words: &[Word]) -> bool
     words.iter().any(is_rooted)
 }
 
-/// Whether a line has nothing but a link.
-fn is_link(stages: Stages) -> bool
-    ensures { result ≡ is_link stages }
+/// Whether a line may have a link.
+fn may_link(stages: Stages) -> bool
+    ensures { result ≡ may_link stages }
 {
-    matches!(stages, Stages::Link)
+    matches!(stages, Stages::Link | Stages::All)
 }
 
 /// The file that has the texts for these stages.
@@ -113,7 +113,7 @@ fn texts_by(alloc: Global, specs: &[u8], stages: Stages) -> Result<Word, AllocEr
     match stages {
         Stages::Sources => companion(alloc, specs, b".compile"),
         Stages::Link => companion(alloc, specs, b".link"),
-        Stages::All => Word::from_bytes(alloc, specs),
+        Stages::All => companion(alloc, specs, b".all"),
     }
 }
 
@@ -127,7 +127,7 @@ pub(crate) fn texts_for(
 ) -> Result<Word, AllocError>
     ensures { IfOk result (λ path. path ≡ texts_for specs.now words.now stages) }
 {
-    if want_whole(words) || (is_link(stages) && are_rooted(words)) {
+    if want_whole(words) || (may_link(stages) && are_rooted(words)) {
         return Word::from_bytes(alloc, specs);
     }
     texts_by(alloc, specs, stages)
