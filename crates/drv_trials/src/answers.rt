@@ -1,14 +1,14 @@
-//! How the answers to the steps of a run are written: claimed, taken, unclaimed; started, refused;
-//! signal, lost; removed, missing, kept, unremoved. A script says an exit status by its number
-//! alone, and each number of a child is the next one.
+//! How answers to the steps of a run are written: claimed, taken, unclaimed; started, refused;
+//! signal, lost; removed, missing, kept, unremoved. A script writes an exit status as its number,
+//! and each started child gets the next number.
 
-use crate::names::named;
+use crate::names::look_up;
 use crate::transcript::Transcript;
 use drv_words::{Answer, ClaimAnswer, NotStarted, RemoveAnswer, StartAnswer, WaitAnswer};
 use std::alloc::AllocError;
 use std::str::from_utf8;
 
-/// The words for answers but an exit status.
+/// The words for answers other than an exit status.
 const ANSWERS: [(&[u8], Answer); 11] = [
     (b"claimed", Answer::Claim(ClaimAnswer::Claimed)),
     (b"taken", Answer::Claim(ClaimAnswer::Taken)),
@@ -26,14 +26,14 @@ const ANSWERS: [(&[u8], Answer); 11] = [
     (b"unremoved", Answer::Remove(RemoveAnswer::Failed)),
 ];
 
-/// The exit status that a word writes in decimal.
+/// The exit status of a decimal word.
 fn status_of(word: &[u8]) -> Option<u8> {
     from_utf8(word).ok()?.parse().ok()
 }
 
-/// The answer that a word stands for.
+/// The answer of a word.
 pub fn answer_of(word: &[u8]) -> Option<Answer> {
-    match named(&ANSWERS, word) {
+    match look_up(&ANSWERS, word) {
         Some(answer) => Some(answer),
         None => Some(Answer::Wait(WaitAnswer::Exit(status_of(word)?))),
     }

@@ -1,17 +1,17 @@
-//! Single calls of the library. After what a call gives stands how many questions it asked.
+//! Single calls of the library. Prints the result, and then how many questions the call asked.
 //!
 //! ```text
-//! read | kind PATH..                     what the system answers: a file's bytes, what a path leads to
+//! read | kind PATH..                     the system's answer: the length of a file, the kind of a path
 //! variable NAME..                        the same: the value of a variable
-//! read-twice | kind-twice PATH..         the same through a table of answers, where each question is put twice
+//! read-twice | kind-twice PATH..         the same through a table of answers; each question is asked twice
 //! variable-twice NAME..                  the same
-//! expand WORD..                          the words that these respond to, and each file that was asked for
+//! expand WORD..                          the expansion of these words, and each file that was read
 //! c99 WORD..                             the driver's words for a line of c99
-//! specs STEP..                           what steps give from the empty set of specs on; a step is NAME or NAME=ARGUMENT
+//! specs STEP..                           the results of steps that begin with the empty set; a step is NAME or NAME=ARGUMENT
 //! program | library | script NAME DIR..  a search, with these arguments of -B
 //! folders DIR..                          the options for the folders of libraries
-//! function SWITCHES NAME ARG..           a function of spec texts, where these switches are given
-//! in-link SWITCHES OUTPUTS NAME ARG..    the same in the link's text, where these are its outputs
+//! function SWITCHES NAME ARG..           a function of spec texts, with these switches
+//! in-link SWITCHES OUTPUTS NAME ARG..    the same in the link's text, with these outputs
 //! versions ONE OTHER                     how two versions compare
 //! lines TEXT                             how many lines the text of a plan shows
 //! ```
@@ -24,7 +24,7 @@ mod reading_back;
 mod searching;
 mod specs;
 
-use crate::names::named;
+use crate::names::look_up;
 use crate::script::read_system;
 use crate::transcript::Transcript;
 use c99::try_front;
@@ -76,10 +76,10 @@ const CALLS: [(&[u8], Call); 17] = [
     (b"lines", Call::ReadBack),
 ];
 
-/// What is printed where words are no call.
+/// The message for words that are not a call.
 const NO_CALL: &[u8] = b"no such call";
 
-/// Makes a call, on this machine if it says so, or else over the script of standard input.
+/// Makes a call, on this machine if the words say so, otherwise over the script of standard input.
 pub fn try_call(rt: &HostRuntime, call: &[Word], out: &mut Transcript) -> io::Result<()> {
     match call {
         [host, call @ ..] if host.as_bytes() == b"host".as_slice() => on_host(rt, call, out),
@@ -97,7 +97,7 @@ fn over_script(rt: &HostRuntime, call: &[Word], out: &mut Transcript) -> io::Res
     Ok(answer(rt.alloc(), &mut sys, call, out)?)
 }
 
-/// What a call gives, and how many questions it asked.
+/// Adds the result of a call, and how many questions it asked.
 fn answer<S: System>(
     alloc: Global,
     sys: &mut S,
@@ -120,7 +120,7 @@ fn try_named<S: System>(
     let [name, rest @ ..] = words else {
         return out.add(NO_CALL);
     };
-    match named(&CALLS, name.as_bytes()) {
+    match look_up(&CALLS, name.as_bytes()) {
         Some(call) => make(alloc, sys, call, rest, out),
         None => out.add(NO_CALL),
     }

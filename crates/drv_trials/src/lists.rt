@@ -1,4 +1,4 @@
-//! Lists that are made.
+//! Makes lists.
 
 ghost use Rattle.std.specs.Prelude.{◌≡◌, ◌∷◌, [], IfOk};
 
@@ -6,7 +6,7 @@ use drv_words::{Listing, Word};
 use std::alloc::{AllocError, Global};
 
 /// The list of these words.
-pub fn copied(alloc: Global, words: &[Word]) -> Result<Listing<Word>, AllocError> {
+pub fn copies_of(alloc: Global, words: &[Word]) -> Result<Listing<Word>, AllocError> {
     let mut copies = Listing::new(alloc);
     for word in words {
         copies.push(word.clone()?)?;

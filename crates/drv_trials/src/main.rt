@@ -1,16 +1,16 @@
-//! Trials of parts of the driver, for tables of worked ones. The first word says what is tried, and
-//! what came of it is printed:
+//! Tries parts of the driver, for the tables of tests. The first word says which part; the result is
+//! printed:
 //!
 //! ```text
-//! call CALL ARG..         a single call of the library, as `calls` says, over a script
+//! call CALL ARG..         a single call of the library, see `calls`, over a script
 //! call host CALL ARG..    the same on this machine
-//! steps FILE              the steps of a run that a file names, as `steps` says, on this machine
-//! plan WINDOW [pass]      a plan that standard input says, as `runs` does, over a script; with `pass` exit codes are passed on
-//! choose WINDOW [pass]    the run of such a plan, where it is said which source goes on
+//! steps FILE              the steps of a run in a file, see `steps`, on this machine
+//! plan WINDOW [pass]      the plan of standard input, see `runs`, over a script; with `pass` exit codes are passed on
+//! choose WINDOW [pass]    the run of such a plan with chosen sources
 //! drive WORD..            a whole call of the driver with these arguments and the seed 42, over a script
 //! ```
 //!
-//! Standard input says what the script has, as `script` says.
+//! Standard input holds the script, see `script`.
 #![tactic(auto)]
 
 mod answers;
@@ -26,7 +26,7 @@ use calls::try_call;
 use drv_core::FailureStatus;
 use drv_system::arguments;
 use drv_words::Word;
-use names::named;
+use names::look_up;
 use runs::{Manner, try_drive, try_plan};
 use std::io::{self, Write};
 use steps::try_file;
@@ -35,7 +35,7 @@ use transcript::Transcript;
 const USAGE: &[u8] =
     b"usage: drv_trials call [host] CALL ARG.. | steps FILE | plan WINDOW [pass] | choose WINDOW [pass] | drive WORD..\n";
 
-/// What is tried.
+/// A part that can be tried.
 #[derive(Clone, Copy)]
 enum Part {
     Call,
@@ -67,12 +67,12 @@ fn try_part(rt: &HostRuntime, part: Part, words: &[Word], out: &mut Transcript) 
     }
 }
 
-/// Tries what words say.
+/// Tries the part that these words name.
 fn try_words(rt: &HostRuntime, words: &[Word], out: &mut Transcript) -> io::Result<()> {
     let [name, rest @ ..] = words else {
         return Ok(out.add(USAGE)?);
     };
-    match named(&PARTS, name.as_bytes()) {
+    match look_up(&PARTS, name.as_bytes()) {
         Some(part) => try_part(rt, part, rest, out),
         None => Ok(out.add(USAGE)?),
     }

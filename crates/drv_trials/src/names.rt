@@ -1,7 +1,7 @@
 //! Tables of names.
 
-/// What stands beside a name in a table.
-pub fn named<T: Copy>(table: &[(&[u8], T)], name: &[u8]) -> Option<T> {
+/// The value beside a name in a table.
+pub fn look_up<T: Copy>(table: &[(&[u8], T)], name: &[u8]) -> Option<T> {
     for (text, item) in table {
         if *text == name {
             return Some(*item);

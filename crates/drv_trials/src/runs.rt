@@ -1,6 +1,6 @@
-//! Runs over the script of standard input: of a plan, and of whole calls of the driver. What is
-//! printed are the steps with their answers, and the status; of a plan also how many events it
-//! needs at most; of a call also what was said, and how it ended.
+//! Runs over the script of standard input: of a plan, and of whole calls of the driver. Prints the
+//! steps with their answers, and the status; for a plan also the most events that it needs; for a
+//! call also the messages and the ending.
 
 ghost use Rattle.std.specs.Prelude.{◌≡◌, ◌≤◌, [], IfSome};
 
@@ -8,7 +8,7 @@ mod choosing;
 mod planning;
 mod showing;
 
-use crate::lists::copied;
+use crate::lists::copies_of;
 use crate::script::{read_lines, system};
 use crate::transcript::Transcript;
 use choosing::choose_blocks;
@@ -25,7 +25,7 @@ use std::str::from_utf8;
 /// The seed of the names of temporaries: they begin with `cc0000002a_`.
 const SEED: u32 = 42;
 
-/// How many sources may be under way at once, as a word says.
+/// How many sources may be under way at once, as a word.
 fn window_of(word: &Word) -> Option<usize>
     ensures some { IfSome result (λ window. 1 ≤ window) }
     ensures most { IfSome result (λ window. window ≤ 64) }
@@ -37,7 +37,7 @@ fn window_of(word: &Word) -> Option<usize>
     None
 }
 
-/// What was said, and the steps with their answers. Parts of a plan that isn't known are named by
+/// Adds the messages, and the steps with their answers. Without the plan, its parts are named by
 /// their numbers.
 fn add_events(
     events: &[Event],
@@ -50,7 +50,7 @@ fn add_events(
     Ok(())
 }
 
-/// Carries out a plan on a system that was asked nothing yet.
+/// Carries out a plan on a fresh system.
 fn carry_out_on(
     alloc: Global,
     sys: &mut ScriptSystem,
@@ -69,7 +69,7 @@ fn carry_out_on(
     add_line(b"needed ", events_needed(plan).unwrap_or(0), out)
 }
 
-/// Carries out a plan over what lines say.
+/// Carries out a plan over the script of these lines.
 fn carry_out(
     alloc: Global,
     plan: &Plan,
@@ -85,16 +85,16 @@ fn carry_out(
     carry_out_on(alloc, &mut sys, plan, window, pass_codes, out)
 }
 
-/// How the run of a plan is made.
+/// How to run a plan.
 #[derive(Clone, Copy)]
 pub enum Manner {
     /// Carried out over the script.
     CarriedOut,
-    /// Block by block, as it is chosen.
+    /// Block by block, as the lines choose.
     Chosen,
 }
 
-/// Makes the run of the plan that lines say.
+/// Runs the plan of these lines.
 fn run_lines(
     alloc: Global,
     lines: &[Listing<Word>],
@@ -113,8 +113,7 @@ fn run_lines(
     }
 }
 
-/// Makes the run of the plan that standard input says, with at most so many sources under way at
-/// once.
+/// Runs the plan from standard input, with at most this many sources under way at once.
 pub fn try_plan(
     rt: &HostRuntime,
     manner: Manner,
@@ -141,7 +140,7 @@ fn add_refusal(alloc: Global, refusal: &Refusal, out: &mut Transcript) -> Result
     out.add(line.as_bytes())
 }
 
-/// How a call ended.
+/// Adds how a call ended.
 fn add_ending(alloc: Global, ending: &Ending, out: &mut Transcript) -> Result<(), AllocError> {
     match ending {
         Ending::Done(status) => add_line(b"status ", usize::from(*status), out),
@@ -155,11 +154,11 @@ fn is_step(event: &Event) -> bool {
     matches!(event, Event::Run(_))
 }
 
-/// What a call did and how it ended.
+/// Adds what a call did, and how it ended.
 ///
 /// # Errors
-/// Want of memory, also where the call ended so, unless it made a step before: that is printed, and
-/// is wrong.
+/// A lack of memory, even if the call ended so; but if the call made a step before, that is wrong,
+/// and is printed.
 fn add_call(
     alloc: Global,
     events: &[Event],
@@ -176,7 +175,7 @@ fn add_call(
     add_ending(alloc, ending, out)
 }
 
-/// Makes a call of the driver over what lines say.
+/// Calls the driver over the script of these lines.
 fn drive_over(
     alloc: Global,
     lines: &[Listing<Word>],
@@ -188,9 +187,9 @@ fn drive_over(
     add_call(alloc, sys.journal(), &ending, out)
 }
 
-/// Makes a call of the driver with these arguments.
+/// Calls the driver with these arguments.
 pub fn try_drive(rt: &HostRuntime, args: &[Word], out: &mut Transcript) -> io::Result<()> {
     let lines = read_lines(rt)?;
-    let args = copied(rt.alloc(), args)?;
+    let args = copies_of(rt.alloc(), args)?;
     Ok(drive_over(rt.alloc(), lines.as_slice(), args, out)?)
 }

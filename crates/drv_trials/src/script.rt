@@ -1,24 +1,24 @@
-//! The script that answers in a machine's place. Standard input says what it has, a line each,
-//! words written as in a response file:
+//! The script that answers instead of a machine. Standard input holds its lines, whose words are
+//! written as in a response file:
 //!
 //! ```text
-//! file PATH TEXT         a file of these bytes; without a text it cannot be read
+//! file PATH TEXT         a file of these bytes; without a text it can't be read
 //! folder PATH            a folder
 //! variable NAME VALUE    a variable of the environment
-//! mute                   nothing can be told
-//! answers WORDS          what steps are answered, as `answers` says
+//! mute                   messages fail
+//! answers WORDS          the answers to steps, see `answers`
 //! ```
 
 ghost use Rattle.std.specs.Prelude.{◌≡◌, [], IfOk};
 
 use crate::answers::answer_of;
-use crate::names::named;
+use crate::names::look_up;
 use drv_system::ScriptSystem;
 use drv_words::{Answer, Listing, Word, split};
 use std::alloc::{AllocError, Global};
 use std::io;
 
-/// The lines of standard input, as words.
+/// The lines of standard input, split into words.
 pub fn read_lines(rt: &HostRuntime) -> io::Result<Vec<Listing<Word>>> {
     let mut lines = Vec::new(rt.alloc());
     for line in rt.lines(rt.alloc()) {
@@ -37,7 +37,7 @@ enum Entry {
     Answers,
 }
 
-/// The words that lines begin with.
+/// The first words of lines.
 const ENTRIES: [(&[u8], Entry); 5] = [
     (b"file", Entry::File),
     (b"folder", Entry::Folder),
@@ -46,7 +46,7 @@ const ENTRIES: [(&[u8], Entry); 5] = [
     (b"answers", Entry::Answers),
 ];
 
-/// What a script has.
+/// The contents of a script.
 #[derive(Drop)]
 struct Script {
     files: Listing<(Word, Option<Word>)>,
@@ -57,7 +57,7 @@ struct Script {
 }
 
 impl Script {
-    /// The script that has nothing.
+    /// The empty script.
     fn new(alloc: Global) -> Script {
         Script {
             files: Listing::new(alloc),
@@ -68,12 +68,12 @@ impl Script {
         }
     }
 
-    /// Adds what a line says; a line of a plan says nothing here.
+    /// Adds a line. A line of a plan adds nothing.
     fn add(&mut self, line: &[Word]) -> Result<(), AllocError> {
         let [what, words @ ..] = line else {
             return Ok(());
         };
-        match named(&ENTRIES, what.as_bytes()) {
+        match look_up(&ENTRIES, what.as_bytes()) {
             Some(Entry::File) => self.add_file(words),
             Some(Entry::Folder) => self.add_folder(words),
             Some(Entry::Variable) => self.add_variable(words),
@@ -118,7 +118,7 @@ impl Script {
     }
 }
 
-/// The script that lines say.
+/// The script of these lines.
 fn script_of(alloc: Global, lines: &[Listing<Word>]) -> Result<Script, AllocError> {
     let mut script = Script::new(alloc);
     for line in lines {
@@ -127,7 +127,7 @@ fn script_of(alloc: Global, lines: &[Listing<Word>]) -> Result<Script, AllocErro
     Ok(script)
 }
 
-/// A system that answers as lines say.
+/// A system that answers as the lines say.
 pub fn system(alloc: Global, lines: &[Listing<Word>]) -> Result<ScriptSystem, AllocError>
     ensures { IfOk result (λ sys. sys.journal ≡ []) }
 {

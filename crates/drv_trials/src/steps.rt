@@ -1,17 +1,17 @@
-//! The steps of a run, made on this machine. Each line of a file is a step, its words written as in
-//! a response file:
+//! Makes the steps of a run on this machine. Each line of a file is a step, whose words are written
+//! as in a response file:
 //!
 //! ```text
 //! claim PATH CONTENTS      make a new file
-//! start PROGRAM WORDS      start a command; it reads the pipe that is pending
-//! pipe PROGRAM WORDS       the same, and it writes a new pipe
-//! close                    close the pipe that is pending
+//! start PROGRAM WORDS      start a command, which reads the pending pipe
+//! pipe PROGRAM WORDS       the same, and the command writes a new pipe
+//! close                    close the pending pipe
 //! wait N                   wait for the child of this number
 //! remove PATH              remove a file
-//! report NAME STEP         tell the user that a step failed: claim, start, signal, wait or remove
+//! report NAME STEP         report that a step failed: claim, start, signal, wait or remove
 //! ```
 //!
-//! At the end what each was answered is printed, a line each, and how many events there are then.
+//! Prints the answer to each step on a line, and at the end the number of events.
 
 mod journal;
 mod making;
@@ -25,7 +25,7 @@ use making::{Made, make};
 use std::alloc::{AllocError, Global};
 use std::io;
 
-/// What came of a step.
+/// Adds the result of a step.
 fn add_made(made: Made, out: &mut Transcript) -> Result<(), AllocError> {
     match made {
         Made::Answered(answer) => add_answer(answer, out)?,

@@ -1,4 +1,4 @@
-//! What is printed at the end.
+//! The text that a trial prints at its end.
 
 use drv_words::{Word, quote};
 use std::alloc::{AllocError, Global};
@@ -31,18 +31,18 @@ impl Transcript {
         self.add(itoa::Buffer::new().format(number).as_bytes())
     }
 
-    /// Adds how many there are.
+    /// Adds a count.
     pub fn add_count(&mut self, count: usize) -> Result<(), AllocError> {
         self.add(itoa::Buffer::new().format(count).as_bytes())
     }
 
-    /// Adds a word as `-###` quotes it.
+    /// Adds a word, quoted as in `-###`.
     pub fn add_quoted(&mut self, word: &Word) -> Result<(), AllocError> {
         let quoted = quote(self.alloc, word)?;
         self.add(quoted.as_bytes())
     }
 
-    /// Adds words as `-###` quotes them, with a bar after each.
+    /// Adds words, quoted as in `-###` and each followed by a bar.
     pub fn add_list(&mut self, words: &[Word]) -> Result<(), AllocError> {
         for word in words {
             self.add_quoted(word)?;

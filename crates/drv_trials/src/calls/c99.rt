@@ -5,7 +5,7 @@ use drv_c99::{C99Fault, front};
 use drv_words::Word;
 use std::alloc::{AllocError, Global};
 
-/// A refusal's name, and after it the word at fault.
+/// Adds the name of a refusal, followed by the word at fault.
 fn add_named(name: &[u8], word: &Word, out: &mut Transcript) -> Result<(), AllocError> {
     out.add(name)?;
     out.add(b" ")?;
@@ -22,7 +22,7 @@ fn add_refusal(fault: &C99Fault, out: &mut Transcript) -> Result<(), AllocError>
     }
 }
 
-/// The driver's words for a line of c99, or the refusal.
+/// Adds the driver's words for a line of c99, or the refusal.
 pub fn try_front(alloc: Global, line: &[Word], out: &mut Transcript) -> Result<(), AllocError> {
     match front(alloc, line) {
         Ok(words) => out.add_list(words.as_slice()),

@@ -7,7 +7,7 @@ use drv_words::{Listing, Word};
 use std::alloc::{AllocError, Global};
 
 /// A copy of words.
-fn copied(alloc: Global, words: &[Word]) -> Result<Listing<Word>, AllocError> {
+fn copies_of(alloc: Global, words: &[Word]) -> Result<Listing<Word>, AllocError> {
     let mut copies = Listing::new(alloc);
     for word in words {
         copies.push(word.clone()?)?;
@@ -15,7 +15,7 @@ fn copied(alloc: Global, words: &[Word]) -> Result<Listing<Word>, AllocError> {
     Ok(copies)
 }
 
-/// The words, or that they are refused.
+/// Adds the words, or that they are refused.
 fn add_expanded(
     expanded: &Result<Expanded, ArgsFault>,
     out: &mut Transcript,
@@ -27,7 +27,7 @@ fn add_expanded(
     }
 }
 
-/// A line for each file that was asked for.
+/// Adds a line for each file that was read.
 fn add_reads(journal: &[Event], out: &mut Transcript) -> Result<(), AllocError> {
     for event in journal {
         if let Event::Read(path, _) = event {
@@ -38,7 +38,7 @@ fn add_reads(journal: &[Event], out: &mut Transcript) -> Result<(), AllocError> 
     Ok(())
 }
 
-/// The words that these respond to; then a line for each file that was asked for.
+/// Adds the expansion of these words, then a line for each file that was read.
 pub fn try_expand<S: System>(
     alloc: Global,
     sys: &mut S,
@@ -46,7 +46,7 @@ pub fn try_expand<S: System>(
     out: &mut Transcript,
 ) -> Result<(), AllocError> {
     let mut facts = FactTable::new(alloc);
-    let words = copied(alloc, words)?;
+    let words = copies_of(alloc, words)?;
     add_expanded(&expand(alloc, words, sys, &mut facts), out)?;
     add_reads(sys.journal(), out)
 }

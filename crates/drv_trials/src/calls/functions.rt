@@ -1,4 +1,4 @@
-//! Functions of spec texts: what one gives, and the outputs of the link after it.
+//! Functions of spec texts: the result of each, and the outputs of the link after it.
 
 use super::NO_CALL;
 use crate::transcript::Transcript;
@@ -14,16 +14,16 @@ use std::cmp::Ordering;
 #[derive(Clone, Copy)]
 pub struct Called<'a> {
     site: Site,
-    /// The names of the switches that are given.
+    /// The names of the given switches.
     switches: &'a Word,
-    /// The outputs of the link, where the function stands in its text.
+    /// The outputs of the link, if the text is the link's.
     outputs: Option<&'a Word>,
     name: &'a Word,
     args: &'a [Word],
 }
 
 /// Switches of these names, without arguments.
-fn named(alloc: Global, names: &[Word]) -> Result<Vec<Switch>, AllocError> {
+fn switches_named(alloc: Global, names: &[Word]) -> Result<Vec<Switch>, AllocError> {
     let mut switches = Vec::new(alloc);
     for name in names {
         let name = name.clone()?;
@@ -35,7 +35,7 @@ fn named(alloc: Global, names: &[Word]) -> Result<Vec<Switch>, AllocError> {
 /// The switches that a text names.
 fn switches_of(alloc: Global, names: &Word) -> Result<Vec<Switch>, AllocError> {
     let names = split(alloc, names.as_bytes())?;
-    named(alloc, names.as_slice())
+    switches_named(alloc, names.as_slice())
 }
 
 /// The outputs that a text names, if there is one.
@@ -46,7 +46,7 @@ fn outputs_of(alloc: Global, outputs: Option<&Word>) -> Result<Listing<Word>, Al
     }
 }
 
-/// A refusal's name, and after it its value in parentheses.
+/// Adds the name of a refusal, followed by its value in parentheses.
 fn add_named(name: &[u8], value: &[u8], out: &mut Transcript) -> Result<(), AllocError> {
     out.add(name)?;
     out.add(b"(")?;
@@ -65,7 +65,7 @@ fn add_refusal(fault: &FuncsFault, out: &mut Transcript) -> Result<(), AllocErro
     }
 }
 
-/// The word that is given; a dash for nothing; or the refusal.
+/// Adds the resulting word, a dash if there is none, or the refusal.
 fn add_given(
     given: &Result<Option<Word>, FuncsFault>,
     out: &mut Transcript,
@@ -77,7 +77,7 @@ fn add_given(
     }
 }
 
-/// Outputs of the link, with a bar in front of each.
+/// Adds the outputs of the link, with a bar in front of each.
 fn add_outputs(outputs: &[Word], out: &mut Transcript) -> Result<(), AllocError> {
     for output in outputs {
         out.add(b" | ")?;
@@ -86,7 +86,8 @@ fn add_outputs(outputs: &[Word], out: &mut Transcript) -> Result<(), AllocError>
     Ok(())
 }
 
-/// The call that words say: the names of switches, the function's, and its arguments.
+/// The call that these words describe: the names of switches, the function's name, and its
+/// arguments.
 fn outside_link(words: &[Word]) -> Option<Called<'_>> {
     match words {
         [switches, name, args @ ..] => Some(Called {
@@ -100,8 +101,7 @@ fn outside_link(words: &[Word]) -> Option<Called<'_>> {
     }
 }
 
-/// The call in the link's text that words say: the same, with the outputs of the link after the
-/// switches.
+/// The same for a call in the link's text: the outputs of the link come after the switches.
 fn in_link(words: &[Word]) -> Option<Called<'_>> {
     match words {
         [switches, outputs, name, args @ ..] => Some(Called {
@@ -116,8 +116,8 @@ fn in_link(words: &[Word]) -> Option<Called<'_>> {
 }
 
 impl Called<'_> {
-    /// What the function gives with these switches. It may change the outputs.
-    fn given<S: System>(
+    /// The result of the function with these switches. It may change the outputs.
+    fn call<S: System>(
         &self,
         alloc: Global,
         sys: &mut S,
@@ -132,7 +132,7 @@ impl Called<'_> {
         )
     }
 
-    /// What the function gives with these switches, and after it the outputs.
+    /// Adds the result of the function with these switches, followed by the outputs.
     fn try_with<S: System>(
         &self,
         alloc: Global,
@@ -143,13 +143,13 @@ impl Called<'_> {
     ) -> Result<(), AllocError> {
         let mut outputs = outputs_of(alloc, self.outputs)?;
         add_given(
-            &self.given(alloc, sys, function, switches, &mut outputs),
+            &self.call(alloc, sys, function, switches, &mut outputs),
             out,
         )?;
         add_outputs(outputs.as_slice(), out)
     }
 
-    /// What the function gives, and after it the outputs.
+    /// Adds the result of the function, followed by the outputs.
     fn try_function<S: System>(
         &self,
         alloc: Global,
@@ -165,7 +165,7 @@ impl Called<'_> {
     }
 }
 
-/// What a function gives that words call.
+/// Calls the function that these words describe.
 pub fn try_called<S: System>(
     alloc: Global,
     sys: &mut S,
@@ -183,7 +183,7 @@ pub fn try_called<S: System>(
     }
 }
 
-/// How two versions compare.
+/// Adds how two versions compare.
 pub fn try_versions(words: &[Word], out: &mut Transcript) -> Result<(), AllocError> {
     let [one, other] = words else {
         return out.add(NO_CALL);

@@ -1,22 +1,22 @@
-//! Questions to the outside: what a machine or a script answers.
+//! Questions to the outside, which a machine or a script answers.
 
 use crate::transcript::Transcript;
 use drv_system::{FactTable, PathKind, ReadAnswer, System};
 use drv_words::Word;
 use std::alloc::{AllocError, Global};
 
-/// What is asked.
+/// A question.
 #[derive(Clone, Copy)]
 pub enum Question {
-    /// How many bytes the file of a path has.
+    /// The number of bytes in a file.
     Read,
-    /// What a path leads to.
+    /// The kind of a path.
     Kind,
     /// The value of a variable.
     Variable,
 }
 
-/// The number of bytes that were read, or why none were.
+/// Adds the number of bytes that were read, or why the read failed.
 fn add_read(answer: &ReadAnswer, out: &mut Transcript) -> Result<(), AllocError> {
     match answer {
         ReadAnswer::Read(bytes) => {
@@ -38,7 +38,7 @@ fn kind_text(kind: PathKind) -> &'static [u8] {
     }
 }
 
-/// A value, quoted as `-###` does; a dash for none.
+/// Adds a value, quoted as in `-###`, or a dash if there is none.
 fn add_value(value: Option<&Word>, out: &mut Transcript) -> Result<(), AllocError> {
     match value {
         Some(value) => out.add_quoted(value),
@@ -59,7 +59,7 @@ fn ask<S: System>(
     }
 }
 
-/// The answers for these paths or names, a line each.
+/// Adds the answers for these paths or names, one on each line.
 pub fn try_questions<S: System>(
     sys: &mut S,
     question: Question,
@@ -75,7 +75,7 @@ pub fn try_questions<S: System>(
     Ok(())
 }
 
-/// Puts a question through a table of answers.
+/// Asks a question through a table of answers.
 fn ask_table<S: System>(
     sys: &mut S,
     facts: &mut FactTable,
@@ -96,7 +96,8 @@ fn ask_table<S: System>(
     }
 }
 
-/// The answers for these paths or names through one table, a line each: each question is put twice.
+/// Adds the answers for these paths or names through one table, one on each line. Each question is
+/// asked twice.
 pub fn try_questions_twice<S: System>(
     alloc: Global,
     sys: &mut S,

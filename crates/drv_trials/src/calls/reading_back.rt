@@ -1,11 +1,11 @@
-//! The text of a plan, read back.
+//! Reads the text of a plan back.
 
 use super::NO_CALL;
 use crate::transcript::Transcript;
 use drv_words::{Word, read_back};
 use std::alloc::{AllocError, Global};
 
-/// How many lines a text shows; a dash where it isn't the text of any.
+/// Adds the number of lines that a text shows, or a dash if it shows none.
 pub fn try_read_back(
     alloc: Global,
     words: &[Word],

@@ -7,7 +7,7 @@ use drv_system::{FactTable, System};
 use drv_words::{Listing, Word};
 use std::alloc::{AllocError, Global};
 
-/// What is looked for.
+/// What is searched for.
 #[derive(Clone, Copy)]
 pub enum Wanted {
     Program,
@@ -15,8 +15,8 @@ pub enum Wanted {
     Script,
 }
 
-/// What a search of a name finds, with these arguments of `-B`.
-fn found<S: System>(
+/// The result of a search, with these arguments of `-B`.
+fn find<S: System>(
     alloc: Global,
     sys: &mut S,
     facts: &mut FactTable,
@@ -32,7 +32,7 @@ fn found<S: System>(
     }
 }
 
-/// The path, or the refusal with its value.
+/// Adds the path, or the refusal with its value.
 fn add_found(found: &Result<Word, SearchFault>, out: &mut Transcript) -> Result<(), AllocError> {
     match found {
         Ok(path) => out.add_quoted(path),
@@ -44,7 +44,7 @@ fn add_found(found: &Result<Word, SearchFault>, out: &mut Transcript) -> Result<
     }
 }
 
-/// What a search finds: its words are a name, and after it the arguments of `-B`.
+/// Searches for the first of these words. The others are the arguments of `-B`.
 pub fn try_search<S: System>(
     alloc: Global,
     sys: &mut S,
@@ -56,7 +56,7 @@ pub fn try_search<S: System>(
         return out.add(NO_CALL);
     };
     let mut facts = FactTable::new(alloc);
-    add_found(&found(alloc, sys, &mut facts, wanted, name, dirs), out)
+    add_found(&find(alloc, sys, &mut facts, wanted, name, dirs), out)
 }
 
 /// The options for the folders of libraries, with these arguments of `-B`.

@@ -1,8 +1,8 @@
-//! Sets of specs: files loaded into one, one after another, and what it lends.
+//! Sets of specs: loads files into a set, one after another, and prints parts of it.
 
 ghost use Rattle.std.specs.Prelude.{◌<◌, IfSome, length};
 
-use crate::names::named;
+use crate::names::look_up;
 use crate::transcript::Transcript;
 use drv_search::Prefixes;
 use drv_specs::{SpecSet, SpecsFault, builtin};
@@ -12,25 +12,25 @@ use drv_words::{Listing, Word};
 use std::alloc::{AllocError, Global};
 use std::str::from_utf8;
 
-/// What is done with a set.
+/// A step with a set.
 #[derive(Clone, Copy)]
 enum Step {
-    /// Another set takes its place.
+    /// Another set replaces it.
     Begin(Other),
     /// Something is loaded into it.
     Load(Source),
-    /// Each front of its dump is loaded into the empty set.
+    /// Each beginning of its dump is loaded into the empty set.
     Fronts,
-    /// It lends.
+    /// A part of it is printed.
     Lend(Lent),
 }
 
-/// A set that takes the place of one.
+/// A set that replaces another.
 #[derive(Clone, Copy)]
 enum Other {
     Builtin,
     Empty,
-    /// The one that the set's dump gives to the empty one.
+    /// The empty set after loading the set's dump.
     Again,
 }
 
@@ -45,14 +45,14 @@ enum Source {
     Dump,
 }
 
-/// What a set lends.
+/// A part of a set.
 #[derive(Clone, Copy)]
 enum Lent {
     /// The text of a name.
     Text,
-    /// How many items the tree of a name has.
+    /// The number of items in the tree of a name.
     Tree,
-    /// How many items the tree of the pair at a place has.
+    /// The number of items in the tree of the pair at an index.
     Pair,
     Pairs,
     Dump,
@@ -74,7 +74,7 @@ const STEPS: [(&[u8], Step); 12] = [
     (b"dump", Step::Lend(Lent::Dump)),
 ];
 
-/// No folder is searched.
+/// No folder to search.
 fn nowhere(alloc: Global) -> Prefixes {
     Prefixes {
         programs: Listing::new(alloc),
@@ -97,7 +97,7 @@ fn word_at_fault(fault: &SpecsFault) -> Option<&Word> {
     }
 }
 
-/// The place in a text that a refusal carries.
+/// The position in a text that a refusal carries.
 fn place_at_fault(fault: &SpecsFault) -> Option<usize> {
     let SpecsFault::Syntax { fault, .. } = fault else {
         return None;
@@ -114,7 +114,7 @@ fn place_at_fault(fault: &SpecsFault) -> Option<usize> {
     }
 }
 
-/// A refusal with the word and the place that it carries.
+/// Adds a refusal with the word and the position that it carries.
 fn add_refusal(fault: &SpecsFault, text: &str, out: &mut Transcript) -> Result<(), AllocError> {
     out.add(text.as_bytes())?;
     if let Some(word) = word_at_fault(fault) {
@@ -128,7 +128,7 @@ fn add_refusal(fault: &SpecsFault, text: &str, out: &mut Transcript) -> Result<(
     Ok(())
 }
 
-/// What came of a load; want of memory ends the trial.
+/// Adds the result of a load. A lack of memory ends the trial.
 fn add_loaded(
     alloc: Global,
     loaded: &Result<(), SpecsFault>,
@@ -141,7 +141,7 @@ fn add_loaded(
     }
 }
 
-/// The pairs: a key, a blank, its text, and a bar after each.
+/// Adds the pairs: of each its key, a blank, its text, and a bar.
 fn add_pairs(set: &SpecSet, out: &mut Transcript) -> Result<(), AllocError> {
     for (key, value) in set.pairs() {
         out.add(key.as_bytes())?;
@@ -152,7 +152,7 @@ fn add_pairs(set: &SpecSet, out: &mut Transcript) -> Result<(), AllocError> {
     Ok(())
 }
 
-/// How many items a tree has; a dash for none.
+/// Adds the number of items in a tree, or a dash without one.
 fn add_tree(tree: Option<&SpecTree>, out: &mut Transcript) -> Result<(), AllocError> {
     match tree {
         Some(tree) => out.add_count(tree.tokens().len()),
@@ -160,7 +160,7 @@ fn add_tree(tree: Option<&SpecTree>, out: &mut Transcript) -> Result<(), AllocEr
     }
 }
 
-/// The number that digits say, or else 0.
+/// The number of these digits, or else 0.
 fn number(digits: &[u8]) -> usize {
     match from_utf8(digits) {
         Ok(digits) => digits.parse::<usize>().unwrap_or(0),
@@ -168,7 +168,7 @@ fn number(digits: &[u8]) -> usize {
     }
 }
 
-/// What a set lends of this name or at this place; a dash for no text.
+/// Adds the part of a set with this name or index, or a dash if there is none.
 fn add_lent(
     set: &SpecSet,
     lent: Lent,
@@ -207,7 +207,7 @@ fn load_file<S: System>(
     set.load_file(&name, &nowhere(alloc), sys, facts)
 }
 
-/// How many fronts of a text were taken, and how many left something in the empty set though they
+/// How many beginnings of a text were accepted, and how many changed the empty set although they
 /// were refused.
 #[derive(Clone, Copy)]
 struct Fronts {
@@ -216,7 +216,7 @@ struct Fronts {
 }
 
 impl Fronts {
-    /// Loads one front into the empty set.
+    /// Loads one beginning into the empty set.
     fn try_front<S: System>(
         &mut self,
         alloc: Global,
@@ -234,7 +234,7 @@ impl Fronts {
     }
 }
 
-/// What comes of the fronts of a text, from none of its bytes to all.
+/// Adds the results for the beginnings of a text, from the empty one to the whole.
 fn add_fronts<S: System>(
     alloc: Global,
     sys: &mut S,
@@ -252,7 +252,7 @@ fn add_fronts<S: System>(
     out.add(b" left something")
 }
 
-/// What comes of the fronts of a set's dump.
+/// Adds the results for the beginnings of a set's dump.
 fn try_fronts<S: System>(
     alloc: Global,
     sys: &mut S,
@@ -264,8 +264,8 @@ fn try_fronts<S: System>(
     add_fronts(alloc, sys, facts, dump.as_bytes(), out)
 }
 
-/// The set that takes the place of this one.
-fn begun<S: System>(
+/// The set that replaces this one.
+fn replacement<S: System>(
     alloc: Global,
     sys: &mut S,
     facts: &mut FactTable,
@@ -279,7 +279,7 @@ fn begun<S: System>(
     }
 }
 
-/// The empty set with what it takes of a text.
+/// The empty set after loading a text.
 fn again<S: System>(
     alloc: Global,
     sys: &mut S,
@@ -293,7 +293,7 @@ fn again<S: System>(
     }
 }
 
-/// Another set takes the place of this one.
+/// Replaces this set by another.
 fn begin<S: System>(
     alloc: Global,
     sys: &mut S,
@@ -302,7 +302,7 @@ fn begin<S: System>(
     other: Other,
     out: &mut Transcript,
 ) -> Result<(), AllocError> {
-    *set = begun(alloc, sys, facts, set, other)?;
+    *set = replacement(alloc, sys, facts, set, other)?;
     out.add(b"begun")
 }
 
@@ -317,7 +317,7 @@ fn load_dump<S: System>(
     load(alloc, sys, facts, set, dump.as_bytes())
 }
 
-/// What comes of a load.
+/// Adds the result of a load.
 fn try_load<S: System>(
     alloc: Global,
     sys: &mut S,
@@ -335,7 +335,7 @@ fn try_load<S: System>(
     add_loaded(alloc, &loaded, out)
 }
 
-/// What a step gives.
+/// Adds the result of a step.
 fn try_step<S: System>(
     alloc: Global,
     sys: &mut S,
@@ -353,14 +353,14 @@ fn try_step<S: System>(
     }
 }
 
-/// Where the first `=` of a step stands.
+/// The index of the first `=` of a step.
 fn sign_in(step: &[u8]) -> Option<usize>
     ensures { IfSome result (λ at. at < length step.now) }
 {
     step.iter().position(|byte| *byte == b'=')
 }
 
-/// What stands before the first `=` of a step, and what stands after it.
+/// The parts of a step before and after its first `=`.
 fn parts(step: &[u8]) -> (&[u8], &[u8]) {
     match sign_in(step) {
         Some(at) => (&step[..at], &step[at + 1..]),
@@ -368,7 +368,7 @@ fn parts(step: &[u8]) -> (&[u8], &[u8]) {
     }
 }
 
-/// What the step of a word gives.
+/// Adds the result of the step of a word.
 fn try_word<S: System>(
     alloc: Global,
     sys: &mut S,
@@ -378,13 +378,13 @@ fn try_word<S: System>(
     out: &mut Transcript,
 ) -> Result<(), AllocError> {
     let (name, argument) = parts(word.as_bytes());
-    match named(&STEPS, name) {
+    match look_up(&STEPS, name) {
         Some(step) => try_step(alloc, sys, facts, set, step, argument, out),
         None => out.add(b"no such step"),
     }
 }
 
-/// What the steps of words give in turn, a line each.
+/// Adds the results of these steps in turn, one on each line.
 fn try_words<S: System>(
     alloc: Global,
     sys: &mut S,
@@ -402,7 +402,7 @@ fn try_words<S: System>(
     Ok(())
 }
 
-/// What steps give from the empty set on, a line each.
+/// Adds the results of these steps, beginning with the empty set, one on each line.
 pub fn try_steps<S: System>(
     alloc: Global,
     sys: &mut S,

@@ -1,12 +1,12 @@
-//! A run made block by block, where the source that goes on is chosen. After the plan standard
-//! input says the blocks, a line each:
+//! Runs a plan block by block, with chosen sources. Standard input holds the plan, followed by the
+//! blocks, one on each line:
 //!
 //! ```text
-//! go CHOICE ANSWER    the source of this number among those that may go on makes its step, which is answered so
+//! go CHOICE ANSWER    the source of this number among those that may go on makes a step with this answer
 //! ```
 //!
-//! What is printed are the steps with their answers, before each how many sources could go on, and
-//! at the end the status.
+//! Prints the steps with their answers, before each the number of sources that may go on, and at the
+//! end the status.
 
 ghost use Rattle.drv_words.specs.Stepping.{fits, fits_start, is_child, is_new};
 ghost use Rattle.std.specs.Prelude.{◌≡◌, ◌≤◌};
@@ -19,7 +19,7 @@ use drv_words::{Answer, Listing, Plan, RunEvent, StartAnswer, Step, Word};
 use std::alloc::{AllocError, Global};
 use std::str::from_utf8;
 
-/// Whether an answer is that the child of this number was started.
+/// Whether an answer says that the child of this number was started.
 fn is_child(id: u64, answer: Answer) -> bool
     ensures { result ≡ is_child id answer }
 {
@@ -66,7 +66,7 @@ fn is_fitting(events: &[RunEvent], step: Step, answer: Answer) -> bool
     }
 }
 
-/// Answers the next step, if there is one that the answer fits, and tells whether there was.
+/// Answers the next step, if the answer fits it. Returns whether it did.
 fn answer(run: &mut Run, answer: Answer) -> bool {
     if let Action::Make(step) = run.next() {
         if is_fitting(run.events(), step, answer) {
@@ -77,15 +77,15 @@ fn answer(run: &mut Run, answer: Answer) -> bool {
     false
 }
 
-/// The source of this number goes on next, if so many may.
+/// Goes on with the source of this number, if so many may go on.
 fn choose(run: &mut Run, choice: usize) {
     if choice < run.choices() {
         run.choose(choice);
     }
 }
 
-/// The answer, with the number of events in place of a child's number, so that this is new.
-fn numbered(answer: Answer, events: usize) -> Answer {
+/// The answer, with the number of events as the number of a child, which is thus new.
+fn with_new_number(answer: Answer, events: usize) -> Answer {
     match answer {
         Answer::Start(StartAnswer::Started(_)) => {
             Answer::Start(StartAnswer::Started(u64::try_from(events).unwrap_or(0)))
@@ -94,7 +94,7 @@ fn numbered(answer: Answer, events: usize) -> Answer {
     }
 }
 
-/// The choice and the answer of a line, if it says them.
+/// The choice and the answer of a line, if it has both.
 fn block_of(line: &[Word]) -> Option<(usize, Answer)> {
     match line {
         [go, choice, answer] if go.as_bytes() == b"go".as_slice() => {
@@ -113,14 +113,14 @@ fn add_newest(run: &Run, plan: &Plan, out: &mut Transcript) -> Result<(), AllocE
     }
 }
 
-/// Makes the block that a line says.
+/// Runs the block of a line.
 fn go(run: &mut Run, plan: &Plan, line: &[Word], out: &mut Transcript) -> Result<(), AllocError> {
     let Some((choice, given)) = block_of(line) else {
         return Ok(());
     };
     out.add_count(run.choices())?;
     choose(run, choice);
-    let given = numbered(given, run.events().len());
+    let given = with_new_number(given, run.events().len());
     if !answer(run, given) {
         return out.add(b": no such answer\n");
     }
@@ -136,7 +136,7 @@ fn add_status(run: &Run, out: &mut Transcript) -> Result<(), AllocError> {
     }
 }
 
-/// Makes a run of a plan as lines say.
+/// Runs a plan as these lines say.
 pub fn choose_blocks(
     alloc: Global,
     plan: &Plan,

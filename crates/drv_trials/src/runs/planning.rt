@@ -1,11 +1,11 @@
-//! A plan, as lines say it, words written as in a response file:
+//! A plan in lines, whose words are written as in a response file:
 //!
 //! ```text
 //! job                 the job of the next source begins
 //! link                the link's job begins
 //! temp PATH           a temporary file of this job
 //! marked PATH         a file that is removed at the end
-//! on_failure PATH     a file that is removed where the job fails
+//! on_failure PATH     a file that is removed if the job fails
 //! run PROGRAM         a command
 //! pipe PROGRAM        a command that reads what the one before it writes
 //! ```
@@ -43,7 +43,7 @@ fn names(alloc: Global, lines: &[Listing<Word>], what: &[u8]) -> Result<Listing<
     Ok(names)
 }
 
-/// The temporary files, which hold nothing at first.
+/// The temporary files, which are empty at first.
 fn temps(alloc: Global, lines: &[Listing<Word>]) -> Result<Listing<Temp>, AllocError> {
     let mut temps = Listing::new(alloc);
     for path in names(alloc, lines, b"temp")?.into_vec() {
@@ -83,7 +83,7 @@ fn groups(alloc: Global, lines: &[Listing<Word>]) -> Result<Listing<Group>, Allo
     Ok(groups)
 }
 
-/// The job that the lines up to the next one say.
+/// The job of the lines up to the next job.
 fn job(alloc: Global, lines: &[Listing<Word>]) -> Result<Job, AllocError> {
     let lines = of_job(lines);
     Ok(Job {
@@ -107,7 +107,7 @@ fn jobs(alloc: Global, lines: &[Listing<Word>], what: &[u8]) -> Result<Listing<J
     Ok(jobs)
 }
 
-/// The plan that lines say.
+/// The plan of these lines.
 pub fn plan(alloc: Global, lines: &[Listing<Word>]) -> Result<Plan, AllocError> {
     Ok(Plan {
         notices: Listing::new(alloc),

@@ -1,4 +1,4 @@
-//! How what is said, and the steps of a run with their answers, are printed.
+//! Prints messages, and the steps of a run with their answers.
 
 use crate::answers::add_answer;
 use crate::transcript::Transcript;
@@ -28,7 +28,7 @@ fn name_of(plan: &Plan, place: Place) -> Option<&[u8]> {
     Some(name.as_bytes())
 }
 
-/// A kind of place, and the numbers of the job and of the place in it.
+/// Adds a kind of place, with the number of its job and its own.
 fn add_numbers(
     kind: &[u8],
     job: usize,
@@ -41,7 +41,7 @@ fn add_numbers(
     out.add_count(index)
 }
 
-/// A place of a plan by its numbers.
+/// Adds a place of a plan by its numbers.
 fn add_place_numbers(place: Place, out: &mut Transcript) -> Result<(), AllocError> {
     match place {
         Place::Command { job, group, index } => {
@@ -55,7 +55,7 @@ fn add_place_numbers(place: Place, out: &mut Transcript) -> Result<(), AllocErro
     }
 }
 
-/// What is at a place of a plan, or where the plan isn't known its numbers.
+/// Adds what is at a place of a plan, or the place's numbers if the plan isn't known.
 fn add_place(place: Place, plan: Option<&Plan>, out: &mut Transcript) -> Result<(), AllocError> {
     match plan {
         Some(plan) => out.add(name_of(plan, place).unwrap_or(b"?")),
@@ -63,14 +63,14 @@ fn add_place(place: Place, plan: Option<&Plan>, out: &mut Transcript) -> Result<
     }
 }
 
-/// A text, a number and a newline.
+/// Adds a text, a number and a newline.
 pub fn add_line(before: &[u8], number: usize, out: &mut Transcript) -> Result<(), AllocError> {
     out.add(before)?;
     out.add_count(number)?;
     out.add(b"\n")
 }
 
-/// What a step does, and for a start a bar where it reads a pipe.
+/// The name of a step, with a bar for a start that reads a pipe.
 fn step_text(step: Step) -> &'static [u8] {
     match step {
         Step::Claim(_) => b"claim ",
@@ -90,8 +90,8 @@ fn step_text(step: Step) -> &'static [u8] {
     }
 }
 
-/// The place that a note tells of.
-fn noted(note: Note) -> Place {
+/// The place of a note.
+fn place_of_note(note: Note) -> Place {
     match note {
         Note::NotClaimed(place)
         | Note::NotStarted(place)
@@ -106,12 +106,12 @@ fn place_of(step: Step) -> Option<Place> {
     match step {
         Step::Claim(place) | Step::Remove(place) => Some(place),
         Step::Start { place, .. } | Step::Wait { place, .. } => Some(place),
-        Step::Report(note) => Some(noted(note)),
+        Step::Report(note) => Some(place_of_note(note)),
         Step::ClosePipe => None,
     }
 }
 
-/// A step, with a bar where it writes a pipe.
+/// Adds a step, with a bar if it writes a pipe.
 fn add_step(step: Step, plan: Option<&Plan>, out: &mut Transcript) -> Result<(), AllocError> {
     out.add(step_text(step))?;
     if let Some(place) = place_of(step) {
@@ -123,7 +123,7 @@ fn add_step(step: Step, plan: Option<&Plan>, out: &mut Transcript) -> Result<(),
     Ok(())
 }
 
-/// Whether a text could be told.
+/// Whether a message was written.
 fn told_text(answer: TellAnswer) -> &'static [u8] {
     match answer {
         TellAnswer::Told => b": told\n",
@@ -131,7 +131,7 @@ fn told_text(answer: TellAnswer) -> &'static [u8] {
     }
 }
 
-/// What became of a text, and after it the text.
+/// Adds whether a message was written, followed by the message.
 fn add_told(
     what: &[u8],
     told: &Word,
@@ -143,7 +143,7 @@ fn add_told(
     out.add(told.as_bytes())
 }
 
-/// A step and its answer, on a line.
+/// Adds a step and its answer, on a line.
 pub fn add_made(
     made: RunEvent,
     plan: Option<&Plan>,
@@ -155,7 +155,7 @@ pub fn add_made(
     out.add(b"\n")
 }
 
-/// A step and its answer, on a line; a text that was said or put. Questions aren't printed.
+/// Adds a step and its answer on a line, or a message. Questions are left out.
 pub fn add_event(
     event: &Event,
     plan: Option<&Plan>,

@@ -1,4 +1,4 @@
-//! What the journal says of the conditions of a step.
+//! The conditions of a step, computed from the journal.
 
 ghost use Rattle.drv_system.specs.Running.{is_child_open, open_with, run_of};
 ghost use Rattle.drv_words.specs.Stepping.{is_child, is_start_at, is_wait_for, pending_with};
@@ -33,7 +33,7 @@ pub fn is_pipe_pending(journal: &[Event]) -> bool
     pending
 }
 
-/// Whether a place is that of the command.
+/// Whether a place is that of the tried command.
 fn is_command(place: Place) -> bool
     ensures { result ≡ same_command (the.Command 0 0 0) place }
 {
@@ -63,7 +63,7 @@ fn is_wait(id: u64, step: Step) -> bool
     }
 }
 
-/// Whether an answer is that the child of this number was started.
+/// Whether an answer says that the child of this number was started.
 fn is_child(id: u64, answer: Answer) -> bool
     ensures { result ≡ is_child id answer }
 {
@@ -86,7 +86,7 @@ fn open_with(id: u64, was: bool, event: RunEvent) -> bool
     }
 }
 
-/// Whether the child of this number was started as the command, and not waited for since.
+/// Whether the child of this number was started as the command and has not been waited for.
 pub fn is_open(id: u64, journal: &[Event]) -> bool
     ensures { result ≡ is_child_open (the.Command 0 0 0) id journal.now }
 {

@@ -1,4 +1,4 @@
-//! Makes a step where its conditions hold.
+//! Makes a step if its conditions hold.
 
 ghost use Rattle.drv_trials.specs.Sites.{HasSites};
 ghost use Rattle.drv_words.specs.Places.{is_note};
@@ -7,21 +7,21 @@ ghost use Rattle.std.specs.Prelude.{◌≡◌, IfSome, true};
 
 use super::journal::{is_open, is_pipe_pending};
 use super::plans::{COMMAND, MARKED, TEMP, plan_of};
-use crate::names::named;
+use crate::names::look_up;
 use drv_system::{HostSystem, System, TellAnswer};
 use drv_words::{Answer, Note, Plan, Word};
 use std::alloc::{AllocError, Global};
 use std::str::from_utf8;
 
-/// What came of a step.
+/// The result of a step.
 #[derive(Clone, Copy)]
 pub enum Made {
     Answered(Answer),
-    /// The words name no step.
+    /// The words don't name a step.
     NoStep,
     /// No pipe is pending.
     NoPipe,
-    /// No child of this number was started and not waited for since.
+    /// There is no open child of this number.
     NoChild,
 }
 
@@ -50,7 +50,7 @@ fn close(sys: &mut HostSystem) -> Result<Made, AllocError> {
     Ok(Made::Answered(Answer::Closed))
 }
 
-/// The number that a word writes in decimal.
+/// The number of a decimal word.
 fn number_of(word: &Word) -> Option<u64> {
     from_utf8(word.as_bytes()).ok()?.parse().ok()
 }
@@ -106,7 +106,7 @@ fn report(sys: &mut HostSystem, plan: &Plan, words: &[Word]) -> Result<Made, All
     Ok(Made::Answered(Answer::Reported(is_told)))
 }
 
-/// A step that a plan's places are made for.
+/// A kind of step that is made with the places of a plan.
 #[derive(Clone, Copy)]
 enum Verb {
     Claim,
@@ -117,7 +117,7 @@ enum Verb {
     Report,
 }
 
-/// The names of these steps.
+/// The names of these kinds.
 const VERBS: [(&[u8], Verb); 6] = [
     (b"claim", Verb::Claim),
     (b"start", Verb::Start),
@@ -155,14 +155,14 @@ fn make_named(
     name: &Word,
     rest: &[Word],
 ) -> Result<Made, AllocError> {
-    let Some(verb) = named(&VERBS, verb) else {
+    let Some(verb) = look_up(&VERBS, verb) else {
         return Ok(Made::NoStep);
     };
     let plan = plan_of(alloc, name, rest)?;
     make_in(sys, &plan, verb, name, rest)
 }
 
-/// Makes the step that words name.
+/// Makes the step of these words.
 pub fn make(alloc: Global, sys: &mut HostSystem, words: &[Word]) -> Result<Made, AllocError> {
     match words {
         [verb, name, rest @ ..] => make_named(alloc, sys, verb.as_bytes(), name, rest),

@@ -3,7 +3,7 @@
 ghost use Rattle.drv_trials.specs.Sites.{HasSites};
 ghost use Rattle.std.specs.Prelude.{◌≡◌, ◌∷◌, [], IfOk, None};
 
-use crate::lists::{copied, only};
+use crate::lists::{copies_of, only};
 use drv_words::{Command, Group, Job, Listing, Place, Plan, Temp, Word};
 use std::alloc::{AllocError, Global};
 
@@ -36,11 +36,11 @@ fn group_of(alloc: Global, command: Command) -> Result<Listing<Group>, AllocErro
 fn command_of(alloc: Global, program: &Word, words: &[Word]) -> Result<Command, AllocError> {
     Ok(Command {
         program: program.clone()?,
-        words: copied(alloc, words)?,
+        words: copies_of(alloc, words)?,
     })
 }
 
-/// The temporary file of this name, which holds the first of the words.
+/// The temporary file of this name. The first of the words is its contents.
 fn temp_of(alloc: Global, name: &Word, words: &[Word]) -> Result<Temp, AllocError> {
     let contents = match words.first() {
         Some(word) => word.clone()?,
@@ -67,8 +67,8 @@ fn job_of(alloc: Global, name: &Word, words: &[Word]) -> Result<Job, AllocError>
     })
 }
 
-/// The plan whose command has this program and these words, and whose files have the program's
-/// name; the temporary file holds the first of the words.
+/// The plan whose command has this program and these words. Its files have the program's name, and
+/// the first of the words is the contents of the temporary file.
 pub fn plan_of(alloc: Global, name: &Word, words: &[Word]) -> Result<Plan, AllocError>
     ensures { IfOk result HasSites }
 {
