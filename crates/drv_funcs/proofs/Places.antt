@@ -3,7 +3,7 @@ use Rattle.std.proofs.Common.{◌≡◌, ◌∙◌, ◌++◌, ◌<◌, ◌≤◌
 use Rattle.std.specs.Cmp.Lexicographic.{pointwise}
 use Rattle.std.specs.Prelude.{slice_set}
 
--- Outputs that are changed where they stand.
+-- For the functions on outputs: outputs that change in place.
 
 -- what becomes of an output where each that is the old word becomes the new one
 abbrev pub becomes : List ℕ → List ℕ → List ℕ → List ℕ

@@ -1,6 +1,6 @@
 use Rattle.std.specs.Prelude.{List, [], ◌∷◌, slice_set, ℕ}
 
--- How outputs are changed where they stand. Private clauses alone cite it.
+-- How outputs change in place. Only private clauses use it.
 
 -- words put in their places, one after another
 abbrev pub put_in_places : List (ℕ × List ℕ) → List (List ℕ) → List (List ℕ)
