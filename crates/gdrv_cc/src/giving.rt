@@ -23,7 +23,7 @@ pub struct Driven {
 ///
 /// # Errors
 /// The refusal of a file that is damaged.
-fn driven(
+fn driver_call(
     alloc: Global,
     asked: &Asked<'_>,
     line: Call,
@@ -71,13 +71,13 @@ pub fn given(
     line: Call,
     outside: &mut Outside<'_, HostSystem>,
 ) -> Result<Driven, Outcome> {
-    let Driven { words, children } = driven(alloc, asked, line, outside)?;
+    let Driven { words, children } = driver_call(alloc, asked, line, outside)?;
     let words = Expanded {
         words,
         from_file: asked.args.from_file,
     };
     match answer(alloc, asked, &words, outside)? {
-        Some(Answer::Run(line)) => driven(alloc, asked, line, outside),
+        Some(Answer::Run(line)) => driver_call(alloc, asked, line, outside),
         Some(Answer::Refuse(refusals)) => Err(refused(
             alloc,
             asked.calling,
