@@ -22,8 +22,8 @@ use Rattle.drv_cc.specs.declared.refusal.Refusal.{Refusal}
 use Rattle.drv_cc.specs.declared.table.Part.TheVariants as part
 use Rattle.drv_cc.specs.declared.table.Part.{Part}
 use Rattle.drv_cc.specs.declared.table.Spelling.TheVariants.{Alone}
-use Rattle.std.specs.List.{filter, filter_map, flat_map}
-use Rattle.std.specs.Prelude.{◌||◌, Bool, List, [], ◌∷◌, ◌++◌, None, Option, Some, codes, drop, false, if◌then◌else◌, length, map, nat_lt, not, true, ℕ}
+use Rattle.std.specs.List.{filter, filter_map, flat_map, starts_with}
+use Rattle.std.specs.Prelude.{◌||◌, Bool, List, [], ◌∷◌, ◌++◌, None, Option, Some, codes, drop, false, if◌then◌else◌, length, map, nat_eq, nat_lt, not, true, ℕ}
 
 -- A line whose spec files give it options: their text `self_spec` is worked once, with the switches of the line and no input, and its words
 -- are options of the line (GCC, "gcc.cc", set_up_specs, do_self_spec, read_cmdline_option; GCC manual, "Spec Files").
@@ -75,10 +75,14 @@ is_late i = is_among (texts (codes "-specs= -x")) i.name
 abbrev pub given_items : List ℕ → List (List ℕ) → List Item
 given_items known words = filter (λ i. not (is_late i)) (kept (items_of known None words))
 
--- Refused of them: a file, a question, and what is refused on a line.
+-- Refused of them: a file, a question, a choice of a machine, since gcc has added its defaults before, and what is refused on a line.
+abbrev pub is_machine : List ℕ → Bool
+is_machine name = starts_with nat_eq name (codes "-m")
+
 abbrev pub given_refused : List (List ℕ) → Part → List ℕ → List Refusal
 given_refused named part.Input name = GivenFile name ∷ []
 given_refused named part.Question name = NotTaken name ∷ []
+given_refused named part.Switch name = if is_machine name then NotTaken name ∷ [] else []
 given_refused named other name = refused_part named other name
 
 abbrev pub given_refusals : List (List ℕ) → List Item → List Refusal

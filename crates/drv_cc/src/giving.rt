@@ -156,6 +156,9 @@ fn refuse_given(
     match item.part {
         Part::Input => refusals.push(Refusal::GivenFile(item.name.clone()?))?,
         Part::Question => refusals.push(Refusal::NotTaken(item.name.clone()?))?,
+        Part::Switch if item.name.as_bytes().starts_with(b"-m") => {
+            refusals.push(Refusal::NotTaken(item.name.clone()?))?;
+        }
         _ => refuse(named, item, refusals)?,
     }
     Ok(())
