@@ -95,7 +95,7 @@ said_text lines children = flat_map line_of lines ++ flat_map switches_line chil
 
 -- the command that writes the spec file of a machine
 abbrev pub writing : List ℕ → List ℕ → List ℕ
-writing specs machine = codes "'write_specs -o " ++ specs ++ codes " " ++ machine ++ codes "' writes it"
+writing specs machine = codes "'gdrv-write-specs -o " ++ specs ++ codes " " ++ machine ++ codes "' writes it"
 
 -- a file that this command writes, and that is not there or is not what it writes
 abbrev pub unwritten_text : List ℕ → List ℕ → List ℕ → List ℕ → List ℕ → List ℕ

@@ -254,12 +254,12 @@ pub fn overwritten(alloc: Global, name: &[u8], output: &[u8]) -> Result<Word, Al
 fn add_writing(text: &mut Word, specs: &[u8], machine: &[u8]) -> Result<(), AllocError>
     ensures { OnOk result (text.new ≡ text.old ++ writing specs.now machine.now) }
 {
-    add(text, b"'write_specs -o ", specs, b" ")?;
+    add(text, b"'gdrv-write-specs -o ", specs, b" ")?;
     text.extend_from_slice(machine)?;
     text.extend_from_slice(b"' writes it")
 }
 
-/// What is told of a file that `write_specs` writes, and that is not there or is not what it
+/// What is told of a file that `gdrv-write-specs` writes, and that is not there or is not what it
 /// writes.
 pub fn unwritten(
     alloc: Global,

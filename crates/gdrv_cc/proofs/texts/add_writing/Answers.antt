@@ -10,5 +10,5 @@ returns c =
     (λ is.
     is ∙ ap (λ text. text ++ codes "' writes it") c.in_ok-extend_from_slice.ensures.ok
     ∙ ap (λ text. (text ++ c.args.machine.now) ++ codes "' writes it") c.in_ok-add.ensures
-    ∙ joined c.args.text.now (quoted (codes "'write_specs -o ") c.args.specs.now (codes " ")) c.args.machine.now (codes "' writes it"))
+    ∙ joined c.args.text.now (quoted (codes "'gdrv-write-specs -o ") c.args.specs.now (codes " ")) c.args.machine.now (codes "' writes it"))
     c.extend_from_slice-2.ensures.ok
