@@ -59,7 +59,7 @@ pub enum OursFault {
     #[error("spec text that can't be read")]
     Unreadable(Misfit, usize),
     /// Nothing stands for this directive, or for this function that is a test.
-    #[error("nothing stands for a directive or a test")]
+    #[error("a directive or a condition has no form here")]
     Lacking(Word),
 }
 
