@@ -1,8 +1,11 @@
 use Rattle.drv_machine.specs.Atoms.{temp_step}
 use Rattle.drv_machine.specs.Context.{Context}
+use Rattle.drv_machine.specs.Code.Held.{Lasts, NotesPath, paths_of}
 use Rattle.drv_machine.specs.Code.Running.{Machine, run}
-use Rattle.drv_machine.specs.Temps.{folder, hex, is_drawn, last_drawn, temp_name}
+use Rattle.drv_machine.specs.Temps.{folder, hex, is_drawn, is_same, last_drawn, temp_name}
 use Rattle.drv_machine.specs.Working.{bytes}
+use Rattle.drv_machine.specs.declared.machine.drawn_names.LastPaths.{LastPaths}
+use Rattle.drv_machine.specs.declared.machine.naming.Drawing.TheVariants.{Anew, Once}
 use Rattle.drv_machine.specs.declared.machine.naming.Drawing.{Drawing}
 use Rattle.drv_machine.specs.declared.machine.naming.Drawn.{Drawn}
 use Rattle.drv_syntax.specs.declared.token.TempKind.TheVariants.{PipedOut}
@@ -10,9 +13,13 @@ use Rattle.drv_syntax.specs.declared.token.TempKind.{TempKind}
 use Rattle.drv_system.specs.Facts.{Facts, variable_of}
 use Rattle.drv_system.specs.Known.{◌>>=◌, Is, asked}
 use Rattle.drv_words.specs.Bytes.{hyphen}
-use Rattle.std.proofs.Common.{◌≡◌, ◌∙◌, ◌++◌, ◌<◌, ◌+◌, List, [], ◌∷◌, None, Option, Some, ap, append_assoc, codes, drop, get_or, length, refl, sym, take, true, ℕ}
+use Rattle.std.proofs.Common.{◌≡◌, ◌∙◌, ◌++◌, ◌<◌, ◌+◌, Bool, List, [], ◌∷◌, None, Option, Some, ap, append_assoc, codes, drop, false, get_or, length, refl, sym, take, true, ℕ}
 use Rattle.std.proofs.lemmas.List.{drop_more, take-append-drop}
+use Rattle.std.specs.BTreeMap.{BTreeMap, get, is_at}
+use Rattle.std.specs.Cmp.Lexicographic.{pointwise, slice_cmp, texts_ties}
 use Rattle.std.specs.Fmt.{decimal}
+use Rattle.std.specs.Ordering.{nat_cmp}
+use Rattle.std.specs.Prelude.{cond, if◌then◌else◌, nat_eq}
 
 -- Names of temporaries.
 
@@ -44,6 +51,55 @@ module _ (drawing : Drawing) (suffix : List ℕ) where
       let later = ap (λ k. last_drawn drawing suffix (drop k drawn)) (sym follows) ∙ none in
       let here = ap (last_drawn drawing suffix) (drop_more drawn i name within ∙ ap (λ n. n ∷ drop (i + 1) drawn) (sym at)) ∙ drawn_here name (drop (i + 1) drawn) later is in
       ap Some same ∙ sym (drawn_after (take i drawn) (drop i drawn) name.path here) ∙ ap (last_drawn drawing suffix) (take-append-drop i drawn)
+
+  -- one name more was drawn
+  last_more : (name : Drawn) (names : List Drawn) → last_drawn drawing suffix (names ++ name ∷ []) ≡ (if is_drawn drawing suffix name then Some name.path else last_drawn drawing suffix names)
+  last_more name [] = refl
+  last_more name (first ∷ names) = by (is_drawn drawing suffix name) refl (last_more name names)
+    where
+      by : (b : Bool) → is_drawn drawing suffix name ≡ b → last_drawn drawing suffix (names ++ name ∷ []) ≡ (if is_drawn drawing suffix name then Some name.path else last_drawn drawing suffix names)
+          → last_drawn drawing suffix (first ∷ (names ++ name ∷ [])) ≡ (if is_drawn drawing suffix name then Some name.path else last_drawn drawing suffix (first ∷ names))
+      by true is more = rw (more, is) refl
+      by false is more = rw (more, is) refl
+
+-- the path of a name was kept as the last one of its suffix
+by_path : (drawing : Drawing) (paths after : BTreeMap (List ℕ) (List ℕ)) (name : Drawn) (names : List Drawn) → is_same name.drawing drawing ≡ true → NotesPath paths after name
+    → ((suffix : List ℕ) → get (slice_cmp nat_cmp) paths suffix ≡ last_drawn drawing suffix names)
+    → (suffix : List ℕ) → get (slice_cmp nat_cmp) after suffix ≡ last_drawn drawing suffix (names ++ name ∷ [])
+by_path drawing paths after name names alike notes lasts suffix =
+    notes suffix ∙ ap (λ p. if pointwise nat_eq name.suffix suffix then Some name.path else p) (lasts suffix)
+    ∙ sym (last_more drawing suffix name names ∙ rw alike refl)
+
+-- and nothing of those that are drawn otherwise
+by_other : (drawing : Drawing) (paths : BTreeMap (List ℕ) (List ℕ)) (name : Drawn) (names : List Drawn) → is_same name.drawing drawing ≡ false
+    → ((suffix : List ℕ) → get (slice_cmp nat_cmp) paths suffix ≡ last_drawn drawing suffix names)
+    → (suffix : List ℕ) → get (slice_cmp nat_cmp) paths suffix ≡ last_drawn drawing suffix (names ++ name ∷ [])
+by_other drawing paths name names apart lasts suffix = lasts suffix ∙ sym (last_more drawing suffix name names ∙ rw apart refl)
+
+pub once_noted : (lasts : LastPaths) (after : BTreeMap (List ℕ) (List ℕ)) (name : Drawn) (names : List Drawn) → name.drawing ≡ Once → NotesPath lasts.once after name → Lasts lasts names
+    → Lasts (record { once = after; anew = lasts.anew }) (names ++ name ∷ [])
+once_noted lasts after name names is notes kept Once = by_path Once lasts.once after name names (ap (λ d. is_same d Once) is) notes (kept Once)
+once_noted lasts after name names is notes kept Anew = by_other Anew lasts.anew name names (ap (λ d. is_same d Anew) is) (kept Anew)
+
+pub anew_noted : (lasts : LastPaths) (after : BTreeMap (List ℕ) (List ℕ)) (name : Drawn) (names : List Drawn) → name.drawing ≡ Anew → NotesPath lasts.anew after name → Lasts lasts names
+    → Lasts (record { once = lasts.once; anew = after }) (names ++ name ∷ [])
+anew_noted lasts after name names is notes kept Anew = by_path Anew lasts.anew after name names (ap (λ d. is_same d Anew) is) notes (kept Anew)
+anew_noted lasts after name names is notes kept Once = by_other Once lasts.once name names (ap (λ d. is_same d Once) is) (kept Once)
+
+-- the path went into the map
+pub path_noted : (paths after : BTreeMap (List ℕ) (List ℕ)) (name : Drawn) (suffix path : List ℕ) → suffix ≡ name.suffix → path ≡ name.path
+    → ((other : List ℕ) → get (slice_cmp nat_cmp) after other ≡ cond (is_at (slice_cmp nat_cmp suffix) other) (Some path) (get (slice_cmp nat_cmp) paths other))
+    → NotesPath paths after name
+path_noted paths after name suffix path suffix_is path_is grows other =
+    grows other
+    ∙ ap (λ s. cond (is_at (slice_cmp nat_cmp s) other) (Some path) (get (slice_cmp nat_cmp) paths other)) suffix_is
+    ∙ ap (λ p. cond (is_at (slice_cmp nat_cmp name.suffix) other) (Some p) (get (slice_cmp nat_cmp) paths other)) path_is
+    ∙ ap (λ b. cond b (Some name.path) (get (slice_cmp nat_cmp) paths other)) (sym (texts_ties name.suffix other))
+    ∙ turned (pointwise nat_eq name.suffix other)
+  where
+    turned : (b : Bool) → cond b (Some name.path) (get (slice_cmp nat_cmp) paths other) ≡ (if b then Some name.path else get (slice_cmp nat_cmp) paths other)
+    turned true = refl
+    turned false = refl
 
 -- where commands are piped, %| is a hyphen
 pub piped_out : (F : Facts) (C : Context) (s : Machine) (kind : TempKind) (suffix : List ℕ) → kind ≡ PipedOut → C.is_piping ≡ true → run F C s (bytes (hyphen ∷ [])) ≡ run F C s (temp_step F C kind suffix)

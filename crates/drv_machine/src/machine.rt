@@ -16,6 +16,7 @@ ghost use Rattle.drv_system.specs.Known.{Is};
 ghost use Rattle.std.specs.Prelude.{◌≡◌, ◌∷◌, ◌++◌, ◌+◌, ◌<◌, [], IfOk, Ok, OnOk, length, map};
 
 mod cutter;
+mod drawn_names;
 mod filing;
 mod finishing;
 mod functions;
@@ -28,6 +29,7 @@ mod whole_words;
 
 use crate::{Context, MachineFault};
 pub(crate) use cutter::Cutter;
+use drawn_names::DrawnNames;
 use drv_match::{Hidden, Pattern, Switches};
 use drv_system::{Outside, System};
 use drv_words::{Listing, Word};
@@ -129,7 +131,7 @@ pub(crate) struct Machine {
     /// What `%x` has added so far.
     options: IndexedWords,
     /// The names of the job's temporaries.
-    drawn: Listing<Drawn>,
+    drawn: DrawnNames,
     /// The number of the next name that is drawn.
     number: usize,
     /// The outputs of the jobs so far.
@@ -192,7 +194,7 @@ impl Machine {
             inside: Inside::new(alloc),
             hidden: Hidden::new(alloc, context.switches())?,
             options: IndexedWords::new(alloc, copied_words(alloc, context.options())?),
-            drawn: Listing::new(alloc),
+            drawn: DrawnNames::new(alloc),
             number: context.number(),
             outputs: copied_words(alloc, context.outputs())?,
             notices: Listing::new(alloc),

@@ -14,7 +14,7 @@ ghost use Rattle.std.specs.List.{list_any};
 ghost use Rattle.std.specs.Prelude.{◌≡◌, ◌&&◌, ◌||◌, ◌∷◌, ◌++◌, [], IfOk, List, Ok, OnOk, length};
 ghost use Rattle.std.specs.Prelude.{map, nat_lt};
 
-use super::{Drawn, IndexedWords, Machine, NamedLine};
+use super::{Drawn, DrawnNames, IndexedWords, Machine, NamedLine};
 use crate::{Context, MachineFault, Outcome};
 use drv_search::find_program;
 use drv_system::{Outside, System};
@@ -117,8 +117,8 @@ fn job_around(machine: &mut Machine, groups: Listing<Group>) -> Result<Job, Allo
     let marked = lasting(alloc, machine.drawn.as_slice(), removed)?;
     let failing = mem::replace(&mut machine.on_failure, Listing::new(alloc));
     let on_failure = lasting(alloc, machine.drawn.as_slice(), failing)?;
-    let drawn = mem::replace(&mut machine.drawn, Listing::new(alloc));
-    let temps = temps_of(alloc, drawn)?;
+    let drawn = mem::replace(&mut machine.drawn, DrawnNames::new(alloc));
+    let temps = temps_of(alloc, drawn.into_listing())?;
     Ok(Job {
         source: None,
         groups,

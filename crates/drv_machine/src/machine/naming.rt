@@ -127,7 +127,11 @@ fn is_drawn(name: &Drawn, drawing: Drawing, suffix: &[u8]) -> bool
 }
 
 /// The last of these names that was drawn so with this suffix.
-fn last_drawn<'a>(drawn: &'a [Drawn], drawing: Drawing, suffix: &[u8]) -> Option<&'a [u8]>
+pub(super) fn last_drawn<'a>(
+    drawn: &'a [Drawn],
+    drawing: Drawing,
+    suffix: &[u8],
+) -> Option<&'a [u8]>
     ensures { option_map (λ path. path.now) result ≡ last_drawn drawing suffix.now drawn.now }
 {
     let mut i = drawn.len();
@@ -206,8 +210,8 @@ impl Machine {
         ensures sized { length self.new.world.hidden ≡ length self.old.world.hidden }
         ensures uncounted { OnOk result (self.new.world.items ≡ self.old.world.items) }
     {
-        if let Some(path) = last_drawn(self.drawn.as_slice(), drawing, suffix) {
-            return Ok(Word::from_bytes(self.alloc, path)?);
+        if let Some(path) = self.drawn.last(drawing, suffix)? {
+            return Ok(path);
         }
         self.draw(drawing, suffix, context, outside)
     }

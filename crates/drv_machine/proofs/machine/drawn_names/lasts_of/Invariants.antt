@@ -1,0 +1,6 @@
+use Rattle.drv_machine.proofs.machine.drawn_names.lasts_of.Given as goal
+use Rattle.drv_machine.specs.Code.Held.{Lasts}
+use Rattle.std.proofs.Common.{take}
+
+abbrev pub invariant-loop-name : goal.invariant-loop-name
+invariant-loop-name l = Lasts l.lasts (take l.name-index l.names)
