@@ -82,7 +82,7 @@ pub(crate) fn first_true(
         if truth(text, context, at, machine) != text.negated(at) {
             return Judged::True(at);
         }
-        at = token_at(text, at).next as usize;
+        at = token_at(text, at).next;
     }
     Judged::Neither
 }

@@ -108,7 +108,7 @@ pub(crate) fn answer(
         Judged::Asks(test) => {
             let later = Asking {
                 test,
-                from: token_at(text, test).next as usize,
+                from: token_at(text, test).next,
                 ..asking
             };
             open_test(later, walk, machine)
@@ -145,7 +145,7 @@ pub(crate) fn choose(
 {
     let mut at = start;
     while at < end {
-        let next = token_at(text, at).next as usize;
+        let next = token_at(text, at).next;
         let items = tests_end(text, at + 1, next);
         if items == at + 1 {
             walk.at = items;
@@ -164,7 +164,7 @@ pub(crate) fn choose(
             Judged::Asks(test) => {
                 let asking = Asking {
                     test,
-                    from: token_at(text, test).next as usize,
+                    from: token_at(text, test).next,
                     start: items,
                     next,
                     own,

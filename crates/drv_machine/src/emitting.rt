@@ -38,7 +38,7 @@ fn patterns_in<'a>(
     let mut at = start;
     while at < end {
         patterns.push(pattern_at(text, at))?;
-        at = token_at(text, at).next as usize;
+        at = token_at(text, at).next;
     }
     Ok(patterns)
 }

@@ -145,7 +145,7 @@ pub(crate) fn work_item<S: System>(
     ensures sized { length machine.new.world.hidden ≡ length machine.old.world.hidden }
     ensures uncounted { OnOk result (machine.new.world.items ≡ machine.old.world.items) }
 {
-    let next = token.next as usize;
+    let next = token.next;
     match token.kind {
         TokenKind::Plain | TokenKind::Escape => machine.put(text.word(at)),
         TokenKind::Blank => machine.end_word(context, outside),

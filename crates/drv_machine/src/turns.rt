@@ -190,7 +190,7 @@ fn turn<'w, S: System>(
     let at = walk.at;
     let token = token_at(text, at);
     machine.count()?;
-    let next = token.next as usize;
+    let next = token.next;
     match token.kind {
         TokenKind::Choose => choose(text, context, at + 1, next, walk, machine),
         TokenKind::NamedText => {

@@ -140,7 +140,7 @@ impl<'a> Walk<'a> {
         while self.at < self.end {
             let token = token_at(text, self.at);
             match token.kind {
-                TokenKind::Alternative => self.at = token.next as usize,
+                TokenKind::Alternative => self.at = token.next,
                 _ => return,
             }
         }

@@ -122,5 +122,5 @@ pub struct Token {
     /// Where it ends: the place of the first byte after it.
     pub end: u32,
     /// The place in the list of the first token that isn't inside this one.
-    pub next: u32,
+    pub next: usize,
 }

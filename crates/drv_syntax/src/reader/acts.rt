@@ -198,7 +198,7 @@ fn trim(w: &mut ReaderState)
         return;
     }
     w.tokens.drop_last(w.trailing);
-    let left = w.labels.len().saturating_sub(w.trailing as usize);
+    let left = w.labels.len().saturating_sub(w.trailing);
     w.labels.truncate(left);
 }
 
@@ -208,7 +208,7 @@ fn close_alternative(part: Open, around: bool, w: &mut ReaderState)
 {
     trim(w);
     w.tokens.close(TokenKind::Alternative, part, w.kept);
-    w.labels.hold(part.token as usize, w.holds_star);
+    w.labels.hold(part.token, w.holds_star);
     w.holds_star = around;
 }
 

@@ -116,7 +116,7 @@ fn count_white(w: &mut ReaderState) -> Result<(), SyntaxFault>
     ensures { Gives SyntaxFault.Memory (λ _. state w.new) result
         (Ok (steps.count_white (state w.old))) }
 {
-    if w.trailing == u32::MAX {
+    if w.trailing == usize::MAX {
         return Err(SyntaxFault::Memory);
     }
     w.trailing += 1;

@@ -121,7 +121,7 @@ pub enum ListStage {
 #[derive(Clone, Copy)]
 pub struct Open {
     /// Its place in the list of tokens.
-    pub token: u32,
+    pub token: usize,
     /// Where it begins.
     pub start: u32,
 }

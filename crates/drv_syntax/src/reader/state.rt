@@ -22,7 +22,7 @@ pub struct ReaderState {
     /// Where the innermost list ends without its trailing white space.
     pub kept: u32,
     /// How many bytes of white space it ends in.
-    pub trailing: u32,
+    pub trailing: usize,
     /// The innermost X has a `%*` of its own so far.
     pub holds_star: bool,
 }

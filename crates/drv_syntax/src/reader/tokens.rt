@@ -11,9 +11,6 @@ use crate::token::{Token, TokenKind};
 use std::alloc::Global;
 use std::marker::Model;
 
-/// The most tokens of a text: their places are `u32`.
-const TOKEN_LIMIT: usize = 4_294_967_295;
-
 /// The tokens read so far, with those that are still open.
 #[derive(Drop)]
 pub struct Tokens {
@@ -22,18 +19,15 @@ pub struct Tokens {
 
 impl Model for Tokens {
     ghost use Rattle.drv_syntax.specs.declared.token.Token.{Token};
-    ghost use Rattle.std.specs.Prelude.{◌<◌, ◌^◌, List, length};
+    ghost use Rattle.std.specs.Prelude.{List};
 
     ghost Value = { List Token };
 
     ghost view = { λ t. t.list.items };
-
-    ghost invariant = { λ t. length t.list.items < 2 ^ 32 };
 }
 
 /// The tokens of bytes that stand for themselves, the first of them at this place.
 fn push_plains(n: u32, run: &[u8], list: &mut Vec<Token>)
-    requires room { length list.old.items + length run.now < 2 ^ 32 }
     requires place { n + length run.now < 2 ^ 31 }
     requires reserved { vec_len list.old + length run.now ≤ vec_capacity list.old }
     ensures does { list.new.items ≡ list.old.items
@@ -41,7 +35,7 @@ fn push_plains(n: u32, run: &[u8], list: &mut Vec<Token>)
     ensures size { length list.new.items ≡ length list.old.items + length run.now }
 {
     let mut place = n;
-    let mut next = list.len() as u32;
+    let mut next = list.len();
     for _byte in run {
         next += 1;
         list.push_reserved(Token {
@@ -86,10 +80,10 @@ impl Tokens {
     }
 
     /// How many there are, which is the place of the next one.
-    pub fn len(&self) -> u32
+    pub fn len(&self) -> usize
         ensures { result ≡ length self.now }
     {
-        self.list.len() as u32
+        self.list.len()
     }
 
     /// The list.
@@ -105,9 +99,6 @@ impl Tokens {
         ensures { Gives SyntaxFault.Memory (λ _. self.new) result
             (Ok (self.old ++ open_token kind start ∷ [])) }
     {
-        if self.list.len() == TOKEN_LIMIT {
-            return Err(SyntaxFault::Memory);
-        }
         self.list.push(opened(kind, start))?;
         Ok(())
     }
@@ -118,10 +109,7 @@ impl Tokens {
         ensures { Gives SyntaxFault.Memory (λ _. self.new) result
             (Ok (self.old ++ whole_token kind start end (length self.old + 1) ∷ [])) }
     {
-        if self.list.len() == TOKEN_LIMIT {
-            return Err(SyntaxFault::Memory);
-        }
-        let next = self.list.len() as u32 + 1;
+        let next = self.list.len() + 1;
         self.list.push(Token {
             kind,
             start,
@@ -138,9 +126,6 @@ impl Tokens {
         ensures { Gives SyntaxFault.Memory (λ _. self.new) result
             (Ok (self.old ++ plain_tokens n (length self.old + 1) run.now)) }
     {
-        if run.len() > TOKEN_LIMIT - self.list.len() {
-            return Err(SyntaxFault::Memory);
-        }
         self.list.reserve(run.len())?;
         push_plains(n, run, &mut self.list);
         Ok(())
@@ -161,10 +146,7 @@ impl Tokens {
             (Ok ((self.old ++ whole_token outer at end (length self.old + 2) ∷ [])
             ++ whole_token inner start stop (length self.old + 2) ∷ [])) }
     {
-        if self.list.len() >= TOKEN_LIMIT - 1 {
-            return Err(SyntaxFault::Memory);
-        }
-        let next = self.list.len() as u32 + 2;
+        let next = self.list.len() + 2;
         self.list.reserve(2)?;
         self.list.push_reserved(Token {
             kind: outer,
@@ -186,10 +168,9 @@ impl Tokens {
         ensures { self.new ≡ slice_set self.old part.token
             (whole_token kind part.start end (length self.old)) }
     {
-        let next = self.list.len() as u32;
-        let place = part.token as usize;
-        if place < self.list.len() {
-            self.list[place] = Token {
+        let next = self.list.len();
+        if part.token < next {
+            self.list[part.token] = Token {
                 kind,
                 start: part.start,
                 end,
@@ -199,10 +180,10 @@ impl Tokens {
     }
 
     /// Without the last ones, so many.
-    pub fn drop_last(&mut self, count: u32)
+    pub fn drop_last(&mut self, count: usize)
         ensures { self.new ≡ take (length self.old - count) self.old }
     {
-        let left = self.list.len().saturating_sub(count as usize);
+        let left = self.list.len().saturating_sub(count);
         self.list.truncate(left);
     }
 }
