@@ -7,8 +7,7 @@ use Rattle.drv_words.specs.declared.steps.Place.TheVariants as place
 use Rattle.std.specs.Option.{option_map}
 use Rattle.std.specs.Prelude.{List, None, Option, slice_get, ℕ}
 
--- What stands at the places of a plan (this project's profile). There is none where the plan has no such place, or the place is of
--- another kind.
+-- What the places of a plan have (this project's profile). There is none where the plan has no such place, or the place is of another kind.
 
 abbrev pub command_at : Plan → Place → Option Command
 command_at plan (place.Command k g i) = slice_get (group_at (job_at plan k) g) i

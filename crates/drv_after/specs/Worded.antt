@@ -110,7 +110,7 @@ answer_named (place.Temp k i) word = temp_answer word
 answer_named (place.Marked k i) word = file_answer word
 answer_named (place.OnFailure k i) word = file_answer word
 
--- Which of several faults is told: the first.
+-- Which of several faults is reported: the first.
 
 abbrev pub given_at : Place → Option Answer → Result Given GivenFault
 given_at p None = Err NoAnswer

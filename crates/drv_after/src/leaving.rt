@@ -72,7 +72,7 @@ fn add_claimed(left: &mut Vec<Word>, path: Option<&Word>) -> Result<(), AllocErr
     }
 }
 
-/// Where a path stands among these.
+/// The place of a path among these.
 fn place_of(left: &[Word], path: &Word) -> Option<usize>
     ensures is { result ≡ position (is_path path.now) left.now }
     ensures within { IfSome result (λ at. at < length left.now) }
@@ -124,7 +124,7 @@ fn follow(left: &mut Vec<Word>, plan: &Plan, event: RunEvent) -> Result<(), Allo
 }
 
 /// The files of a plan that a run of these events leaves: temporaries that it made, and what its
-/// commands may have written, without those that it removed. Each path stands there once.
+/// commands may have written, without those that it removed. Each path is there once.
 pub fn left(alloc: Global, plan: &Plan, events: &[RunEvent]) -> Result<Listing<Word>, AllocError>
     ensures { IfOk result (λ left. left ≡ left_from plan.now [] events.now) }
 {

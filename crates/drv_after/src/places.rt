@@ -1,4 +1,4 @@
-//! What stands at the places of a plan.
+//! What the places of a plan have.
 
 ghost use Rattle.drv_after.specs.Named.{command_at, name_at};
 ghost use Rattle.drv_words.specs.Places.{job_at, no_job};

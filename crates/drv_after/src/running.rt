@@ -15,7 +15,7 @@ use std::alloc::{AllocError, Global};
 /// started and which files are removed, in their order.
 ///
 /// # Errors
-/// Want of memory.
+/// Lack of memory.
 pub fn after<'a>(
     alloc: Global,
     plan: &'a Plan,

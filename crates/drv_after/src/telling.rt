@@ -166,7 +166,7 @@ fn push_start(
     push_pipe(text, to_pipe)
 }
 
-/// Adds a word and the name of what stands at a place.
+/// Adds a word and the name of what is at a place.
 fn push_named(
     alloc: Global,
     text: &mut Word,
@@ -262,9 +262,9 @@ fn push_left(alloc: Global, text: &mut Word, paths: &[Word]) -> Result<(), Alloc
     Ok(())
 }
 
-/// A run of these events and this status as text: a line for each step that makes, starts or removes
-/// something, and for each command that ended otherwise than well, with what went wrong after a
-/// colon; then the status, and the files that are left.
+/// A run of these events and this status as text. There is a line for each step that makes, starts
+/// or removes something, and for each command that ended otherwise than well, with what went wrong
+/// after a colon. Then come the status, and the files that are left.
 pub fn story(
     alloc: Global,
     plan: &Plan,

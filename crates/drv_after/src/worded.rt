@@ -22,7 +22,7 @@ pub enum GivenFault {
     NoAnswer,
 }
 
-/// The greatest number that one more digit may stand after.
+/// The greatest number that one more digit may follow.
 const MOST_BEFORE: usize = 99_999_999;
 
 /// The value of a digit.

@@ -10,7 +10,7 @@ use Rattle.std.specs.List.{position, position_or_len}
 abbrev is_mark : ℕ → ℕ → Bool
 is_mark mark b = b == mark
 
--- how many bytes stand before it
+-- how many bytes precede it
 abbrev before : ℕ → List ℕ → ℕ
 before mark text = position_or_len (is_mark mark) text
 

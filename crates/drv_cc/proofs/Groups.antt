@@ -73,7 +73,7 @@ begun_alike Attached option word e b = begins_alike option word e
 begun_alike Rest option word e b = begins_alike option word e
 begun_alike Either option word e b = begins_alike option word e
 
--- options that take a rest stand after those that take none
+-- options that take a rest follow those that take none
 in_two : filter is_whole table ++ filter is_begun table ≡ table
 unfolding sections
 in_two = refl

@@ -62,7 +62,7 @@ program_words around items = if has (codes "-B") items || is_vendors items || is
 abbrev pub folder_words : Surroundings → List Item → List (List ℕ)
 folder_words around items = program_words around items ++ flat_map library_words (folders around.library_path)
 
--- Added: pipes, where a source is worked and nothing speaks against them ("Overall Options", -pipe).
+-- Added: pipes, where a source is compiled or assembled and nothing speaks against them ("Overall Options", -pipe).
 abbrev pub unpiped : List (List ℕ)
 unpiped = texts (codes "-pipe -save-temps -save-temps=cwd -save-temps=obj -S -E -M -MM -fsyntax-only -no-integrated-cpp")
 
@@ -102,7 +102,7 @@ added around items =
     thread_words items ++ folder_words around items ++ side_words items ++ debug_words items ++ check_words items ++ pipe_words items
 
 -- For the children of a link: the linker's plugin calls the compiler again, with the switches of the line (GCC Internals, "LTO",
--- "lto-wrapper"). Each word stands between single quotes.
+-- "lto-wrapper"). Each word is between single quotes.
 abbrev pub quoted_byte : ℕ → List ℕ
 quoted_byte b = if b == single_quote then codes "'\\''" else b ∷ []
 

@@ -65,7 +65,7 @@ plain part word = record { name = word; argument = []; spelling = Alone; part = 
 abbrev pub by_row : OptionRow → List ℕ → Item
 by_row r argument = item r.name argument r.spelling r.part
 
--- how a word begins: an item, or an option that wants the next word
+-- how a word begins: an item, or an option that takes the next word
 pub data Start : Type 0 where
   Whole : Item → Start
   Wants : OptionRow → Start
@@ -95,7 +95,7 @@ fits word r = option_fits r.takes word r.option
 abbrev pub first_row : List ℕ → Option OptionRow
 first_row word = find (fits word) table
 
--- what a word stands for that no row fits
+-- what a word that no row fits is read as
 abbrev pub is_longer : List ℕ → List ℕ × List ℕ → Bool
 is_longer word rename = begins rename.0 word && nat_lt (length rename.0) (length word)
 

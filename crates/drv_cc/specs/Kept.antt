@@ -47,7 +47,7 @@ is_file_part _ = false
 abbrev pub has_input : List Item → Bool
 has_input items = list_any (λ i. is_input i.part) items
 
--- Asked: a question stands on the line, or what says more of a run stands there with nothing to run.
+-- Asked: the line has a question, or has an option that says more of a run and has nothing to run.
 abbrev pub is_asked : List Item → Bool
 is_asked items = list_any (λ i. is_question i.part) items || (list_any (λ i. tells i.part) items && not (has_input items))
 
@@ -55,7 +55,7 @@ is_asked items = list_any (λ i. is_question i.part) items || (list_any (λ i. t
 abbrev pub is_vendors : List Item → Bool
 is_vendors items = has (codes "-specs=") items
 
--- Named: a spec file of the line may name a switch that is no option. A name that ends with * stands for all that begin so.
+-- Named: a spec file of the line may name a switch that is no option. A name that ends with * covers all that begin so.
 abbrev pub before_star : List ℕ → Option (List ℕ)
 before_star name = if pointwise nat_eq (drop (length name - 1) name) (codes "*") then Some (take (length name - 1) name) else None
 

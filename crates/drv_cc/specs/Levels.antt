@@ -68,7 +68,7 @@ debug_words items = debug_words_of (toggled (debugged no_debugging items)) (debu
 
 -- Checks.
 
--- the checks that undefined stands for, and all that need the library of undefined behaviour
+-- the checks of undefined, and all that need the library of undefined behaviour
 abbrev pub undefined_checks : List ℕ
 undefined_checks =
     codes "shift-base shift-exponent integer-divide-by-zero unreachable vla-bound return null signed-integer-overflow bool enum bounds alignment "
@@ -77,7 +77,7 @@ undefined_checks =
 abbrev pub ubsan_checks : List ℕ
 ubsan_checks = codes "float-divide-by-zero float-cast-overflow bounds-strict " ++ undefined_checks
 
--- whether a name between commas stands for a check
+-- whether a name between commas is one of a check
 abbrev pub stands_for : List ℕ → List ℕ → Bool
 stands_for check name =
     same name check || same name (codes "all") || (same name (codes "undefined") && is_among (texts undefined_checks) check)

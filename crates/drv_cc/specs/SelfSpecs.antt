@@ -25,7 +25,7 @@ use Rattle.drv_cc.specs.declared.table.Spelling.TheVariants.{Alone}
 use Rattle.std.specs.List.{filter, filter_map, flat_map, starts_with}
 use Rattle.std.specs.Prelude.{◌||◌, Bool, List, [], ◌∷◌, ◌++◌, None, Option, Some, codes, drop, false, if◌then◌else◌, length, map, nat_eq, nat_lt, not, true, ℕ}
 
--- A line whose spec files give it options: their text `self_spec` is worked once, with the switches of the line and no input, and its words
+-- A line whose spec files give it options: their text `self_spec` is run once, with the switches of the line and no input, and its words
 -- are options of the line (GCC, "gcc.cc", set_up_specs, do_self_spec, read_cmdline_option; GCC manual, "Spec Files").
 
 -- What the text sees: what stays of the line, and the threads that it needs.

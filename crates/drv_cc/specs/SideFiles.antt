@@ -64,7 +64,7 @@ sources_from kinds language (i ∷ items) = source_by kinds language i ++ source
 abbrev pub sources : List ℕ × List ℕ → List Item → List (List ℕ)
 sources kinds items = sources_from kinds [] items
 
--- Where side files stand.
+-- Where side files go.
 
 abbrev pub stops : List Item → Bool
 stops items = has (codes "-c") items || has (codes "-S") items || has (codes "-E") items
@@ -95,7 +95,7 @@ here_from here (i ∷ items) = here_from (here_after here i.name) items
 abbrev pub own_folder : List Item → List ℕ
 own_folder items = if here_from false items then [] else folder_of (output items)
 
--- the folder of -dumpdir, or one's own where such an option stands after it
+-- the folder of -dumpdir, or one's own where such an option follows it
 abbrev pub placed : List ℕ → Option (List ℕ) → Option (List ℕ)
 placed own None = None
 placed own (Some given) = Some own
@@ -159,7 +159,7 @@ dependencies output = by (parted period (base output))
     by None = output ++ codes ".d"
     by (Some parts) = folder output ++ parts.0 ++ codes ".d"
 
--- the sources of which the compiler is told a name: assembler, where it is only preprocessed
+-- the sources whose name the compiler gets: assembler, where it is only preprocessed
 abbrev pub named : List Item → List ℕ × List ℕ
 named items = if has (codes "-E") items || has (codes "-M") items || has (codes "-MM") items then preprocessed else compiled
 

@@ -8,8 +8,8 @@ use Rattle.drv_words.specs.Bytes.{greater_than, space}
 use Rattle.std.specs.List.{flat_map, slice_split}
 use Rattle.std.specs.Prelude.{◌==◌, List, [], ◌∷◌, ◌++◌, codes, if◌then◌else◌, map, ℕ}
 
--- The option table (GCC manual, the section that each part names; "GCC Internals", "Option Files": which forms an option has and
--- for which other it stands). The first row that fits a word decides.
+-- The option table (GCC manual, the section that each part names; "GCC Internals", "Option Files": which forms an option has and which
+-- other it is an alias of). The first row that fits a word decides.
 
 -- an option, how it takes its argument, the name that it is called by, how that is spelled, and what it is on the line
 pub record OptionRow : Type 0 where
@@ -29,7 +29,7 @@ pub record Section : Type 0 where
 abbrev pub section : Takes → Spelling → Part → List ℕ → Section
 section takes spelling part entries = record { takes = takes; spelling = spelling; part = part; entries = entries }
 
--- in a text of names each blank stands between two
+-- in a text of names each blank is between two
 abbrev pub texts : List ℕ → List (List ℕ)
 texts text = slice_split (λ b. b == space) text
 
@@ -51,7 +51,7 @@ row_of s entry = record { option = option_of entry; takes = s.takes; name = or_i
 abbrev pub section_rows : Section → List OptionRow
 section_rows s = map (row_of s) (texts s.entries)
 
--- an option that takes the rest of a word stands after those that begin with it
+-- an option that takes the rest of a word follows those that begin with it
 unfoldable pub sections : List Section
 sections =
     section Nothing Alone Switch
@@ -222,7 +222,7 @@ sections =
 abbrev pub table : List OptionRow
 table = flat_map section_rows sections
 
--- what other long names stand for: their beginnings, and those of the options (GCC, "opts-common.cc", the map of options)
+-- the options that other long names mean: their beginnings, and those of the options (GCC, "opts-common.cc", the map of options)
 abbrev pub renames : List (List ℕ × List ℕ)
 renames =
     (codes "--debug=", codes "-g") ∷ (codes "--machine-", codes "-m") ∷ (codes "--machine=", codes "-m") ∷ (codes "--optimize=", codes "-O")

@@ -1,4 +1,4 @@
-//! What a line of `gcc` comes to.
+//! The answer to a line of `gcc`.
 
 use crate::Refusal;
 use drv_args::Item;
@@ -29,7 +29,7 @@ pub struct Variable {
 /// Which stages a line has (GCC manual, "Overall Options").
 #[derive(Clone, Copy)]
 pub enum Stages {
-    /// Sources are worked, and nothing is linked.
+    /// Sources are compiled or assembled, and nothing is linked.
     Sources,
     /// Files are linked, of which none is a source.
     Link,
@@ -52,7 +52,7 @@ pub struct Call {
     pub stages: Stages,
 }
 
-/// What a line of `gcc` comes to.
+/// The answer to a line of `gcc`.
 #[derive(Drop)]
 pub enum Answer {
     /// The line is a question: the compiler is asked with the same words.

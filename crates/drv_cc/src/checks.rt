@@ -14,8 +14,7 @@ use crate::words::add_joined;
 use drv_words::{Listing, Word};
 use std::alloc::{AllocError, Global};
 
-/// The checks that `undefined` stands for (GCC manual, "Instrumentation Options",
-/// -fsanitize=undefined).
+/// The checks of `undefined` (GCC manual, "Instrumentation Options", -fsanitize=undefined).
 const UNDEFINED: &[u8] =
     b"shift-base shift-exponent integer-divide-by-zero unreachable vla-bound return null \
       signed-integer-overflow bool enum bounds alignment nonnull-attribute \
@@ -28,7 +27,7 @@ const UBSAN: &[u8] =
       bounds alignment nonnull-attribute returns-nonnull-attribute object-size vptr \
       pointer-overflow builtin";
 
-/// Whether a name stands for a check.
+/// Whether a name is one of a check.
 fn stands_for(check: &[u8], name: &[u8]) -> bool
     ensures { result ≡ stands_for check.now name.now }
 {
@@ -39,7 +38,7 @@ fn stands_for(check: &[u8], name: &[u8]) -> bool
         | (is(name, b"bounds-strict") & is(check, b"bounds"))
 }
 
-/// Whether one of the names between commas stands for a check.
+/// Whether one of the names between commas is one of a check.
 fn speaks_of(check: &[u8], names: &[u8]) -> bool
     ensures { result ≡ speaks_of check.now names.now }
 {

@@ -34,7 +34,7 @@ const LINKED_AS: &[u8] = b"-pie -no-pie -static-pie -shared";
 const POSITIONS: &[u8] = b"-fpic -fPIC -fpie -fPIE -fno-pic -fno-PIC -fno-pie -fno-PIE";
 /// The machine's mode.
 const MODES: &[u8] = b"-m32 -m64 -mx32 -m16";
-/// The folder that stands for the root of the target.
+/// The folder that is the root of the target.
 const SYSROOT: &[u8] = b"--sysroot=";
 /// The machine.
 const MARCH: &[u8] = b"-march=";
@@ -257,7 +257,7 @@ pub(crate) fn is_one_of(names: &[&[u8]], name: &[u8]) -> bool
     false
 }
 
-/// Whether a name stands in a text between blanks.
+/// Whether a text has a name between blanks.
 pub(crate) fn stands_in(text: &[u8], name: &[u8]) -> bool
     ensures { result ≡ is_among (texts text.now) name.now }
 {
@@ -271,7 +271,7 @@ pub(crate) fn is(name: &[u8], other: &[u8]) -> bool
     name == other
 }
 
-/// The ring in which a name stands.
+/// The ring that has a name.
 #[tactic(auto, using(crate::proofs::Rings::ring_found))]
 fn ring_of(name: &[u8]) -> Option<&'static [u8]>
     ensures { option_map (λ ring. ring.now) result
@@ -316,7 +316,7 @@ fn class_alone(alloc: Global, name: &[u8]) -> Result<Word, AllocError>
     paired(alloc, name)
 }
 
-/// The class of an option that stands in no ring.
+/// The class of an option that is in no ring.
 fn class_by(alloc: Global, spelling: Spelling, name: &[u8]) -> Result<Word, AllocError>
     ensures { IfOk result (λ word. word ≡ class_by spelling name.now) }
 {

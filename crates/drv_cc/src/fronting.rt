@@ -77,7 +77,7 @@ fn run(alloc: Global, around: &Surroundings, items: &[Item]) -> Result<Answer, A
     call_of(alloc, around, kept.as_slice())
 }
 
-/// What a line comes to that is no question.
+/// The answer to a line that is no question.
 fn refused_or_run(
     alloc: Global,
     named: &[Word],
@@ -95,7 +95,7 @@ fn refused_or_run(
     }
 }
 
-/// What a line with these items comes to.
+/// The answer to a line with these items.
 fn answer_of(
     alloc: Global,
     named: &[Word],
@@ -111,16 +111,16 @@ fn answer_of(
     }
 }
 
-/// What a line of `gcc` comes to (GCC manual, "Invoking GCC"): a question for the compiler,
+/// The answer to a line of `gcc` (GCC manual, "Invoking GCC"): a question for the compiler,
 /// refusals, or words for the driver.
 ///
-/// `args` are the words of the line without the program's name, response files expanded; the lines
-/// of `known` are the names of options beyond this crate's table, as `gcc --completion=-` says them,
-/// those that end with `=` with any argument (it is quick where they are sorted by their bytes);
-/// `named` are names of switches that spec files of the line
-/// have, which no option has to be, those that end with `*` with any rest. Of the words each is
-/// spelled as gcc's driver hands it on, of options of one class the last stays, and after them
-/// stands what gcc's driver adds: words that begin with `--gdrv-` are for the spec file.
+/// `args` are the words of the line without the program's name, response files expanded. The lines
+/// of `known` are the names of options beyond this crate's table, as `gcc --completion=-` says
+/// them, those that end with `=` with any argument; the search is quick where they are sorted by
+/// their bytes. `named` are names of switches that spec files of the line have, which no option has
+/// to be, those that end with `*` with any rest. Each word of the answer is spelled as gcc's driver
+/// hands it on. Of options of one class the last stays. After them follows what gcc's driver adds:
+/// words that begin with `--gdrv-` are for the spec file.
 ///
 /// # Errors
 /// An allocation was refused.

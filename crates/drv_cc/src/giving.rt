@@ -225,7 +225,7 @@ fn run_with(
     }))
 }
 
-/// What a line with such items comes to.
+/// The answer to a line with such items.
 fn refused_or_run_with(
     alloc: Global,
     named: &[Word],
@@ -245,7 +245,7 @@ fn refused_or_run_with(
     }
 }
 
-/// What a line comes to whose items these are, where these words of its switches are left.
+/// The answer to a line with these items, where these words of its switches are left.
 fn answer_with(
     alloc: Global,
     named: &[Word],
@@ -262,13 +262,13 @@ fn answer_with(
     refused_or_run_with(alloc, named, around, items, live.as_slice(), given)
 }
 
-/// What a line of `gcc` comes to whose spec files give it options (GCC, "gcc.cc", do_self_spec):
+/// The answer to a line of `gcc` whose spec files give it options (GCC, "gcc.cc", do_self_spec):
 /// refusals, or words for the driver. The line itself is one that `front` has words for.
 ///
-/// The other arguments are those of `front`. Of the line's switches those stay that the text did
-/// not hide, and after them stands what the text gives, each as on the line; a class is pruned
-/// among these alone. Side files have the names that the line gives them, and the levels of
-/// debugging and the checks go on from those of the line.
+/// The other arguments are those of `front`. Those switches of the line stay that the text did not
+/// hide. What the text gives follows them, each word as on the line; a class is pruned among these
+/// alone. Side files have the names that the line gives them, and the levels of debugging and the
+/// checks go on from those of the line.
 ///
 /// # Errors
 /// An allocation was refused.

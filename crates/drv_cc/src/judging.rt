@@ -28,7 +28,7 @@ fn before_star(name: &[u8]) -> Option<&[u8]>
     name.strip_suffix(b"*".as_slice())
 }
 
-/// Whether a name that a spec file has stands for a switch.
+/// Whether a name that a spec file has covers a switch.
 fn names(switch: &[u8], name: &[u8]) -> bool
     ensures { result ≡ names switch.now name.now }
 {
@@ -38,7 +38,7 @@ fn names(switch: &[u8], name: &[u8]) -> bool
     }
 }
 
-/// Whether one of the names that spec files of the line have stands for a switch.
+/// Whether one of the names that spec files of the line have covers a switch.
 fn has_name(named: &[Word], switch: &[u8]) -> bool
     ensures { result ≡ list_any (names switch.now) named.now }
 {

@@ -1,4 +1,4 @@
-//! What stands on a line, and which of its items stay.
+//! What a line has, and which of its items stay.
 
 ghost use Rattle.drv_cc.specs.Code.Staying.{Notes, is_seen, stays_before};
 ghost use Rattle.drv_cc.specs.Kept.{has, has_input, is_asked, is_input, is_question, kept};
@@ -13,7 +13,7 @@ use drv_words::{Listing, Word};
 use std::alloc::{AllocError, Global};
 use std::collections::HashSet;
 
-/// Whether an option of this name stands among items.
+/// Whether an option of this name is among items.
 pub(crate) fn has(items: &[Item], name: &[u8]) -> bool
     ensures { result ≡ has name.now items.now }
 {
@@ -61,14 +61,14 @@ fn tells(item: &Item) -> bool
     matches!(item.part, Part::Tells)
 }
 
-/// Whether a question stands there.
+/// Whether a question is among them.
 fn has_question(items: &[Item]) -> bool
     ensures { result ≡ list_any (λ i. is_question i.part) items.now }
 {
     items.iter().any(is_question)
 }
 
-/// Whether a question stands there that is one where there is no input.
+/// Whether a question is among them that is one where there is no input.
 fn has_telling(items: &[Item]) -> bool
     ensures { result ≡ list_any (λ i. tells i.part) items.now }
 {

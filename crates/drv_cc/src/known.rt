@@ -77,7 +77,7 @@ fn begins_with(text: &[u8], line: &[u8]) -> bool
     (text.starts_with(line) & is_ended(rest)) & !line.contains(&b'\n')
 }
 
-/// What stands in a text from a place on.
+/// The rest of a text from a place on.
 fn rest_from(text: &[u8], at: usize) -> &[u8]
     ensures { result.now ≡ drop at text.now }
 {

@@ -7,7 +7,7 @@ ghost use Rattle.drv_cc.specs.declared.item.Item.{Item};
 ghost use Rattle.std.specs.Prelude.{◌≡◌, ◌∷◌, ◌++◌, Bool, List, Some, false, ℕ};
 
 /// A law: the level of a line is that of the last option that names one, raised to 2 by a later one
-/// that asks for records; the version is that of the last option that names one; and so is the
+/// that asks for records. The version is that of the last option that names one; and so is the
 /// toggle. Where none names one, they are level 0, version 5 and no toggle (GCC manual, "Debugging
 /// Options").
 pub fn last_level_counts()

@@ -108,7 +108,7 @@ fn add_program_items(
     }
 }
 
-/// The words that are switches and stand after the folders of programs.
+/// The words that are switches and follow the folders of programs.
 fn switch_words(
     alloc: Global,
     around: &Surroundings,

@@ -28,7 +28,7 @@ fn alone_effect(name: &[u8]) -> Effect
     }
 }
 
-/// What an option does whose argument stands in its word.
+/// What an option does whose argument is in its word.
 fn joined_effect(name: &[u8]) -> Effect
     ensures { result ≡ joined_effect name.now }
 {

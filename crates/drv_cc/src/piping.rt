@@ -27,14 +27,14 @@ const UNPIPED: [&[u8]; 10] = [
     b"-no-integrated-cpp",
 ];
 
-/// Whether a file's name stands for standard output.
+/// Whether a file's name means standard output.
 fn is_output(name: &[u8]) -> bool
     ensures { result ≡ is_output name.now }
 {
     is(name, b"-") || is(name, b"/dev/stdout")
 }
 
-/// Whether one of the pieces between commas stands for standard output.
+/// Whether one of the pieces between commas means standard output.
 fn has_output(argument: &[u8]) -> bool
     ensures { result ≡ list_any is_output (pieces argument.now) }
 {
@@ -105,7 +105,8 @@ fn is_piped(items: &[Item]) -> bool
     has_source(items) && !has_unpiped(items)
 }
 
-/// Adds the option for pipes, where a source is worked and nothing speaks against them.
+/// Adds the option for pipes, where a source is compiled or assembled and nothing speaks against
+/// them.
 pub(crate) fn add_pipe_words(
     alloc: Global,
     items: &[Item],

@@ -18,7 +18,7 @@ use crate::{Surroundings, Variable};
 use drv_words::{Listing, Word};
 use std::alloc::{AllocError, Global};
 
-/// Adds a byte of a word that stands between single quotes.
+/// Adds a byte of a word between single quotes.
 fn quote_byte(byte: u8, text: &mut Word) -> Result<(), AllocError>
     ensures { OnOk result (text.new ≡ text.old ++ quoted_byte byte) }
 {
@@ -97,7 +97,7 @@ fn variable(alloc: Global, name: &[u8], value: Word) -> Result<Variable, AllocEr
     })
 }
 
-/// Adds a byte of pieces that stand between single quotes.
+/// Adds a byte of pieces between single quotes.
 fn quote_piece_byte(byte: u8, text: &mut Word) -> Result<(), AllocError>
     ensures { OnOk result (text.new ≡ text.old ++ piece_byte byte) }
 {

@@ -19,7 +19,7 @@ use std::alloc::{AllocError, Global};
 enum Start {
     /// It is an item.
     Whole(Item),
-    /// It is an option that wants the next word.
+    /// It is an option that takes the next word.
     Wants(Row),
 }
 
@@ -30,7 +30,7 @@ pub(crate) fn rest_after<'a>(word: &'a [u8], option: &[u8]) -> &'a [u8]
     word.get(option.len()..).unwrap_or(&[])
 }
 
-/// An option with what stands after it in its word.
+/// An option with what follows it in its word.
 fn with_rest(alloc: Global, row: Row, rest: &[u8]) -> Result<Start, AllocError>
     ensures { IfOk result (λ start. start_shown start ≡ with_rest row.takes (shown row) rest.now) }
 {
@@ -58,7 +58,7 @@ fn head_of(word: &[u8]) -> &[u8]
     }
 }
 
-/// A word that no row fits, by the name that it stands for.
+/// A word that no row fits, by the name that it has.
 fn beyond(alloc: Global, known: &[u8], word: &[u8], name: &[u8]) -> Result<Item, AllocError>
     ensures { IfOk result (λ item. item ≡ beyond known.now word.now name.now) }
 {
@@ -104,8 +104,8 @@ fn start_of(alloc: Global, known: &[u8], word: &[u8]) -> Result<Start, AllocErro
     }
 }
 
-/// Notes a word, where the option of a row wants its argument or none does; what it gives is the
-/// row that wants the next word.
+/// Notes a word, where the option of a row has its argument or takes none; it gives the row that
+/// takes the next word.
 #[tactic(auto, using(crate::proofs::Noted::wanted_noted, crate::proofs::Noted::wants_noted, crate::proofs::Noted::whole_noted))]
 fn note_word(
     alloc: Global,

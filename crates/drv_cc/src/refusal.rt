@@ -3,7 +3,7 @@
 use drv_words::Word;
 use thiserror::Error;
 
-/// Why a line is refused, with the word as it stands on the line.
+/// Why a line is refused, with the word as the line has it.
 #[derive(Debug, Drop, Error)]
 pub enum Refusal {
     /// This word is no option.

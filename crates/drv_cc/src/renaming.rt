@@ -1,4 +1,4 @@
-//! What other long names stand for.
+//! The options that other long names mean.
 
 ghost use Rattle.drv_cc.specs.Code.Building.{pair_shown};
 ghost use Rattle.drv_cc.specs.Items.{is_longer, renamed};
@@ -10,7 +10,7 @@ use crate::reading::rest_after;
 use drv_words::Word;
 use std::alloc::{AllocError, Global};
 
-/// The beginning of long names, and that of the options that they stand for.
+/// The beginning of long names, and that of the options that they mean.
 #[derive(Clone, Copy)]
 pub(crate) struct Rename {
     /// The beginning of the long name.
@@ -63,7 +63,7 @@ fn rename_of(word: &[u8]) -> Option<Rename>
     None
 }
 
-/// The option that a long name stands for.
+/// The option that a long name means.
 pub(crate) fn renamed(alloc: Global, word: &[u8]) -> Result<Word, AllocError>
     ensures { IfOk result (λ name. name ≡ renamed word.now) }
 {

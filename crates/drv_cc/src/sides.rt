@@ -154,7 +154,7 @@ fn add_base_of(
     add_value(alloc, words, b"--gdrv-ext=", suffix(name))
 }
 
-/// The kinds of sources of which the compiler is told a name.
+/// The kinds of sources whose name the compiler gets.
 fn named(items: &[Item]) -> Kinds
     ensures { kinds_shown result ≡ named items.now }
 {
@@ -165,7 +165,7 @@ fn named(items: &[Item]) -> Kinds
     }
 }
 
-/// Adds the name and the suffix of the only source of which the compiler is told a name.
+/// Adds the name and the suffix of the only source whose name the compiler gets.
 fn add_base(alloc: Global, items: &[Item], words: &mut Listing<Word>) -> Result<(), AllocError>
     ensures { OnOk result (words.new
         ≡ words.old ++ base_words items.now (only (sides.sources (named items.now) items.now))) }

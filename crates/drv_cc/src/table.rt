@@ -76,7 +76,7 @@ pub(crate) struct Row {
 }
 
 impl Takes {
-    /// Whether an argument may stand after the option in its word.
+    /// Whether an argument may follow the option in its word.
     fn takes_rest(self) -> bool
         ensures { result ≡ takes_rest self }
     {

@@ -34,7 +34,7 @@ use Rattle.drv_system.specs.Known.{◌>>=◌, Is, Known}
 use Rattle.std.proofs.Common.{◌≡◌, ◌⊎◌, ◌∙◌, Err, IfOk, IsErrAnd, List, None, Ok, Option, Result, Some, ap, codes, inl, inr, subst, sym, ℕ}
 use Rattle.std.specs.Option.{option_map, unwrap_or}
 
--- How the text of the self specs is worked, step by step.
+-- How the text of the self specs is run, step by step.
 
 -- a step that ends the call
 pub ends_as : {X Y : Type 0} (ending : Ending) (result : Result X Ending) (view : X → Y) (defined : Ended Y)
@@ -132,7 +132,7 @@ options_given F specs around known args words given options all named names slic
     ∙ ap (λ n. Is (Ok (Some (front_with names n around args given)))) (sym slice_is)
     ∙ ap (λ a. Is (Ok (Some a))) (sym is)
 
--- the answer, once the text was worked
+-- the answer, once the text was run
 abbrev after_work : Facts → List ℕ → Surroundings → List ℕ → List (List ℕ) → Expanded → List Item → Ended (Option Answer)
 after_work F specs around known args words items = answer_after F specs around known args words (self_worked F words items)
 

@@ -15,7 +15,7 @@ use Rattle.std.proofs.Common.{◌≡◌, ◌<◌, ◌+◌, ◌∙◌, ◌∷◌,
 use Rattle.std.proofs.lemmas.List.{drop_more}
 use Rattle.std.specs.Prelude.{get_or}
 
--- The names of a line, file by file, and what it comes to by them.
+-- The names of a line, file by file, and the answer to it by them.
 
 -- the names so far, and then others
 abbrev pub after_names : List (List ℕ) → Known (List (List ℕ)) → Known (List (List ℕ))
@@ -56,7 +56,7 @@ pub words_read : {E : Type 0} (F : Facts) (words dirs files : List (List ℕ)) (
 words_read F words dirs files prefixes (Err e) dirs_are files_are made is = tt
 words_read F words dirs files prefixes (Ok names) dirs_are files_are made is = rw (sym dirs_are, sym files_are, made) is
 
--- what a line comes to that is refused without its spec files
+-- the answer to a line that is refused without its spec files
 pub refused_read : {E : Type 0} (F : Facts) (known : List ℕ) (around : Surroundings) (words : List (List ℕ)) (refusals : List Refusal)
     (switches : List (List ℕ)) (taken : Answer) (named slice : List (List ℕ)) (result : Result Answer E)
     → switches ≡ unknown_switches refusals → taken ≡ front_of known switches around words → answer_names F taken ≡ Is named → slice ≡ named

@@ -32,7 +32,7 @@ written_beside F specs ending = written F (companion specs ending)
 abbrev pub known_names : Facts → List ℕ → Known (Option (List ℕ))
 known_names F specs = written_beside F specs (codes ".options")
 
--- The spec file: the one beside the program, where that place is known and a plain file stands there, or else the one that the variable
+-- The spec file: the one beside the program, where that place is known and has a plain file, or else the one that the variable
 -- GDRV_CC_SPECS names, if it is a plain file.
 abbrev pub if_plain : List ℕ → PathKind → Option (List ℕ)
 if_plain path kind = if is_plain kind then Some path else None

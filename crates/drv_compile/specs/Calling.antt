@@ -6,7 +6,7 @@ use Rattle.std.specs.Prelude.{◌==◌, ◌-◌, ◌||◌, Bool, List, [], ◌�
 
 -- By which name the program was called, and what that means (this project's profile).
 
--- what stands after the last slash of a path, and the path before it, with that slash
+-- what follows the last slash of a path, and the path before it, with that slash
 abbrev pub last_from : List ℕ → List ℕ → List ℕ
 last_from part [] = part
 last_from part (b ∷ bs) = last_from (if b == slash then bs else part) bs

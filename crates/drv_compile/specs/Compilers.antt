@@ -3,20 +3,20 @@ use Rattle.std.specs.Char.{is_ascii_alphanumeric}
 use Rattle.std.specs.List.{flat_map, list_any, slice_split, starts_with}
 use Rattle.std.specs.Prelude.{◌==◌, ◌||◌, Bool, List, [], ◌∷◌, codes, drop, if◌then◌else◌, length, nat_eq, not, ℕ}
 
--- What stands beside a spec file: for which compiler it was written, and the names of that compiler's options (this project's
+-- What the files beside a spec file say: for which compiler it was written, and the names of that compiler's options (this project's
 -- profile).
 
 abbrev pub lines : List ℕ → List (List ℕ)
 lines = slice_split (λ b. b == newline)
 
--- the values of a key: what stands after it in each line that begins with it
+-- the values of a key: what follows it in each line that begins with it
 abbrev pub value_in : List ℕ → List ℕ → List (List ℕ)
 value_in key line = if starts_with nat_eq line key then drop (length key) line ∷ [] else []
 
 abbrev pub values : List ℕ → List ℕ → List (List ℕ)
 values key text = flat_map (value_in key) (lines text)
 
--- the names that stand in a spec file's text, between bytes that are in no name of a switch (GCC, "gcc.cc", validate_switches)
+-- the names in a spec file's text, between bytes that are in no name of a switch (GCC, "gcc.cc", validate_switches)
 abbrev pub is_between : ℕ → Bool
 is_between b = not (is_ascii_alphanumeric b || list_any (nat_eq b) (codes "_-+=,.@*"))
 

@@ -10,10 +10,10 @@ use Rattle.drv_system.specs.Facts.{Facts, variable_of}
 use Rattle.drv_system.specs.Known.{◌>>=◌, Is, Known, asked}
 use Rattle.std.specs.Prelude.{List, [], ◌∷◌, None, Option, Some, codes, ℕ}
 
--- What the words of a line come to over the spec file of the call and the files beside it (this project's profile). One set of facts
+-- What the words of a line ask for, over the spec file of the call and the files beside it (this project's profile). One set of facts
 -- answers all questions; which are asked follows from what was answered before.
 
--- the place where a spec file was to stand
+-- the place where a spec file should be
 abbrev pub or_own : Option (List ℕ) → Option (List ℕ) → Option (List ℕ)
 or_own own None = own
 or_own own (Some path) = Some path
@@ -45,7 +45,7 @@ abbrev pub decided_over : Facts → List ℕ → List (List ℕ) → Option (Lis
 decided_over F specs words None = Is (Damaged specs (companion specs (codes ".gcc")))
 decided_over F specs words (Some text) = decided_by F specs words text (first_of (values (codes "compiler ") text))
 
--- the spec file, or where it was to stand
+-- the spec file, or where it should be
 abbrev pub decided_with : Facts → Option (List ℕ) → List (List ℕ) → Option (List ℕ) → Known Decision
 decided_with F own words None = named_file F >>= λ named. Is (NoSpecs (or_own own named))
 decided_with F own words (Some specs) = written_beside F specs (codes ".gcc") >>= λ text. decided_over F specs words text

@@ -9,7 +9,7 @@ use Rattle.drv_compile.specs.Calling.{before_ending, folder}
 use Rattle.std.specs.List.{list_any, starts_with}
 use Rattle.std.specs.Prelude.{◌==◌, ◌&&◌, ◌||◌, Bool, List, ◌++◌, None, Option, Some, codes, false, if◌then◌else◌, nat_eq, true, ℕ}
 
--- Where the spec file stands, and the files beside it (this project's profile).
+-- The place of the spec file, and of the files beside it (this project's profile).
 
 -- of the program that lies at a path
 abbrev pub beside : List ℕ → List ℕ → List ℕ

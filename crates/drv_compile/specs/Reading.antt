@@ -17,7 +17,7 @@ use Rattle.std.specs.Cmp.Lexicographic.{pointwise}
 use Rattle.std.specs.List.{flat_map, list_any}
 use Rattle.std.specs.Prelude.{Bool, List, [], ◌∷◌, ◌++◌, None, Option, Some, codes, false, if◌then◌else◌, nat_eq, true, ℕ}
 
--- What a line comes to, over facts: by the names of the compiler's options, and by those that the spec files of the line have (GCC,
+-- The answer to a line, over facts: by the names of the compiler's options, and by those that the spec files of the line have (GCC,
 -- "gcc.cc", validate_switches). Neither is asked for where no word of the line is unknown.
 
 -- a line that is refused for a word that is no option
@@ -62,7 +62,7 @@ folders_from false (word ∷ words) = folders_from (pointwise nat_eq word (codes
 abbrev pub folders_given : List (List ℕ) → List (List ℕ)
 folders_given = folders_from false
 
--- the names that stand in these files, each found along the prefixes of -B; none in one that can't be read
+-- the names in these files, each found along the prefixes of -B; none in one that can't be read
 abbrev pub names_read : ReadAnswer → List (List ℕ)
 names_read (Read text) = names_in text
 names_read Missing = []
@@ -85,7 +85,7 @@ answer_names F Ask = Is []
 answer_names F (Refuse refusals) = Is []
 answer_names F (Run call) = words_names F call.words
 
--- what a line comes to that is refused for these reasons by the names of options alone: its spec files are read
+-- the answer to a line that is refused for these reasons by the names of options alone: its spec files are read
 abbrev pub refused_answer : Facts → List ℕ → Surroundings → List (List ℕ) → List Refusal → Known Answer
 refused_answer F known around words refusals =
     answer_names F (front_of known (unknown_switches refusals) around words) >>= λ named. Is (front_of known named around words)
@@ -98,7 +98,7 @@ or_by_files F known around words (Run call) = Is (Run call)
 abbrev pub known_answer : Facts → List ℕ → Surroundings → List (List ℕ) → Known Answer
 known_answer F known around words = or_by_files F known around words (front_of known [] around words)
 
--- what a line comes to, with the names of options that this took; none where the file that has them is not whole
+-- the answer to a line, with the names of options that this took; none where the file that has them is not whole
 abbrev pub read_by : Facts → Surroundings → List (List ℕ) → Option (List ℕ) → Known (Option Reading)
 read_by F around words None = Is None
 read_by F around words (Some known) = known_answer F known around words >>= λ answer. Is (Some (record { known = known; answer = answer }))

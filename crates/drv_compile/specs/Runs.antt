@@ -16,8 +16,8 @@ use Rattle.drv_system.specs.Known.{Is}
 use Rattle.drv_system.specs.declared.event.Event.{Event}
 use Rattle.std.specs.Prelude.{◌≡◌, Err, List, [], ◌++◌, Ok, codes, ℕ}
 
--- What words of the driver come to, and what a call does by them: the definitions of `drive`, over facts that an earlier part of the call has
--- asked for (GCC manual, "Overall Options").
+-- What words of the driver ask for, and what a call does by them: the definitions of `drive`, over facts that an earlier part of the call
+-- has asked for (GCC manual, "Overall Options").
 
 -- the work that words denote
 pub record Works (F : Facts) (words : Expanded) (seed : ℕ) (work : Work) : Type 0 where
@@ -27,7 +27,7 @@ pub record Works (F : Facts) (words : Expanded) (seed : ℕ) (work : Work) : Typ
   pub loads : specs_of F line.settings ≡ Is (Ok set)
   pub works : work_of F line set seed ≡ Is (Ok work)
 
--- the refusal that they come to: of the line, of a spec file, or of the plan; want of memory may come in its place
+-- the refusal of the words: of the line, of a spec file, or of the plan; lack of memory may take its place
 pub data Stops (F : Facts) (words : Expanded) (seed : ℕ) : Ending → Type 0 where
   lacks_memory : Stops F words seed OutOfMemory
   not_read : {fault : ArgsFault} → line_read words ≡ Err fault → Stops F words seed (stopped_by_args fault)
@@ -35,8 +35,8 @@ pub data Stops (F : Facts) (words : Expanded) (seed : ℕ) : Ending → Type 0 w
   not_planned : {line : Line} {set : Set} {fault : PlanFault} → line_read words ≡ Ok line → specs_of F line.settings ≡ Is (Ok set)
       → work_of F line set seed ≡ Is (Err fault) → Stops F words seed (stopped_by_plan fault)
 
--- what stands in the journal after the questions: the work that was done, or nothing where the words are refused; where memory was wanted
--- for the work, texts alone
+-- what follows the questions in the journal: the work that was done, or nothing where the words are refused; where the work lacked memory,
+-- texts alone
 pub data IsDone (F : Facts) (words : Expanded) (seed : ℕ) : Ending → List Event → Type 0 where
   done : {work : Work} {status : ℕ} {said : List Event} → Works F words seed work → Does (codes "gdrv") work status said → IsDone F words seed (Done status) said
   stopped : {ending : Ending} → Stops F words seed ending → IsDone F words seed ending []

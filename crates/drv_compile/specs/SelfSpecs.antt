@@ -31,7 +31,7 @@ use Rattle.drv_words.specs.declared.plan.Temp.{Temp}
 use Rattle.std.specs.Option.{unwrap_or}
 use Rattle.std.specs.Prelude.{Err, List, [], ◌∷◌, None, Ok, Option, Result, Some, codes, if◌then◌else◌, length, nat_lt, ℕ}
 
--- What the spec files of a line give it: their text `self_spec` is worked once, after the last of them is loaded, with the switches of the
+-- What the spec files of a line give it: their text `self_spec` is run once, after the last of them is loaded, with the switches of the
 -- line and no input (GCC, "gcc.cc", set_up_specs, do_self_spec).
 --
 -- The spec file of the call has a text `gdrv_self` of two commands: the words of the one are what `self_spec` gives, and those of the other
@@ -82,7 +82,7 @@ worked_of F line (Ok own) = worked_over F own.settings line (specs_of F own.sett
 abbrev pub self_worked : Facts → Expanded → List Item → Ended Worked
 self_worked F words items = worked_of F (line_judged words.from_file items) (line_read words)
 
--- The answer, by what was given: none where the line stands as it is. The compiler's options are known, and the names in the line's spec
+-- The answer, by what was given: none where the line stays as it is. The compiler's options are known, and the names in the line's spec
 -- files.
 abbrev pub answer_by : Facts → List ℕ → Surroundings → List ℕ → List (List ℕ) → Expanded → Worked → Ended (Option Answer)
 answer_by F specs around known args words Nothing = Is (Ok None)
@@ -96,7 +96,7 @@ answer_after F specs around known args words Unasked = Unasked
 answer_after F specs around known args words (Is (Err ending)) = Is (Err ending)
 answer_after F specs around known args words (Is (Ok worked)) = answer_by F specs around known args words worked
 
--- a line that names no spec file stands as it is: the one file is that of the call
+-- a line that names no spec file stays as it is: the one file is that of the call
 abbrev pub answer_given : Facts → List ℕ → Surroundings → List ℕ → List (List ℕ) → Expanded → Ended (Option Answer)
 answer_given F specs around known args words =
     if nat_lt 1 (length (specs_given words.words))

@@ -6,7 +6,7 @@ use Rattle.std.specs.Fmt.{decimal}
 use Rattle.std.specs.Option.{option_and_then}
 use Rattle.std.specs.Prelude.{◌+◌, List, [], ◌∷◌, ◌++◌, None, Option, Some, codes, if◌then◌else◌, length, nat_eq, ℕ}
 
--- A file that the command for spec files writes is whole where its last line is its mark, which says how many bytes stand before it (this
+-- A file that the command for spec files writes is whole where its last line is its mark, which says how many bytes precede it (this
 -- project's profile). A file that was cut short, or to which something was added, has another last line.
 
 abbrev pub mark : ℕ → List ℕ

@@ -28,7 +28,7 @@ pub struct Calling {
     pub front: Front,
 }
 
-/// What stands after the last slash of a path.
+/// What follows the last slash of a path.
 pub fn last_part(path: &[u8]) -> &[u8]
     ensures { result.now ≡ last_part path.now }
 {
@@ -50,14 +50,14 @@ pub fn folder(path: &[u8]) -> &[u8]
     &path[..path.len().saturating_sub(last_part(path).len())]
 }
 
-/// What stands before an ending, if a name ends so.
+/// What precedes an ending, if a name ends so.
 pub fn before_ending<'a>(ending: &[u8], name: &'a [u8]) -> Option<&'a [u8]>
     ensures { option_copied result ≡ before_ending ending.now name.now }
 {
     name.strip_suffix(ending)
 }
 
-/// What stands before the endings of this program's names, if a name ends so.
+/// What precedes the endings of this program's names, if a name ends so.
 fn before_program(name: &[u8]) -> Option<&[u8]>
     ensures { option_copied result ≡ or_before (codes "-gdrv-gcc") name.now
         (before_ending (codes "-gdrv-cc") name.now) }

@@ -1,5 +1,5 @@
-//! What stands beside a spec file: for which compiler it was written, and the names of that
-//! compiler's options. And the names that stand in a spec file of the line.
+//! What the files beside a spec file say: for which compiler it was written, and the names of that
+//! compiler's options. And the names in a spec file of the line.
 
 ghost use Rattle.drv_compile.specs.Compilers.{is_between, names_in, value_in, values};
 ghost use Rattle.std.specs.Prelude.{◌≡◌, ◌++◌, IfOk, OnOk};
@@ -22,8 +22,8 @@ pub(crate) fn add_value(
     Ok(())
 }
 
-/// The values of a key in a text, in its order: what stands after the key in each line that begins
-/// with it.
+/// The values of a key in a text, in its order: what follows the key in each line that begins with
+/// it.
 pub fn values(alloc: Global, key: &[u8], text: &[u8]) -> Result<Listing<Word>, AllocError>
     ensures { IfOk result (λ found. found ≡ values key.now text.now) }
 {
@@ -49,8 +49,8 @@ fn is_between(byte: u8) -> bool
         || byte == b'*')
 }
 
-/// The names that stand in a spec file's text (GCC, "gcc.cc", validate_switches), and what else
-/// stands there like one.
+/// The names in a spec file's text (GCC, "gcc.cc", validate_switches), and what else there looks
+/// like one.
 pub fn names_in(alloc: Global, text: &[u8]) -> Result<Listing<Word>, AllocError>
     ensures { IfOk result (λ names. names ≡ names_in text.now) }
 {

@@ -1,4 +1,4 @@
-//! What the words of a line come to, over the spec file and the files beside it.
+//! What the words of a line ask for, over the spec file and the files beside it.
 
 ghost use Rattle.drv_compile.specs.Compilers.{values};
 ghost use Rattle.drv_compile.specs.Decides.{decided, decided_around, decided_by, decided_over};
@@ -19,10 +19,10 @@ use drv_system::{FactTable, Outside, System};
 use drv_words::{Listing, Word};
 use std::alloc::{AllocError, Global};
 
-/// What the words of a line come to.
+/// What the words of a line ask for.
 #[derive(Drop)]
 pub enum Decision {
-    /// There is no spec file: the path where it was to stand, if there is one.
+    /// There is no spec file: the path where it should be, if there is one.
     NoSpecs(Option<Word>),
     /// A file beside the spec file is missing or not whole.
     Damaged {
@@ -39,7 +39,7 @@ pub enum Decision {
         specs: Word,
         /// The compiler of the spec file, and where it looks.
         around: Surroundings,
-        /// What the line comes to.
+        /// The answer to the line.
         reading: Reading,
     },
 }
@@ -214,11 +214,11 @@ fn decided<S: System>(
     decided_with(alloc, place, words, found, outside)
 }
 
-/// What the words of a line come to, response files expanded and those of c99 turned into gcc's,
-/// where the spec file of this program lies at `own`, if that is known: a refusal for want of a
-/// file, or what the front reads (GCC manual, "Invoking GCC"). It asks the system only where the
-/// table has no answer: for the spec file, the files beside it, two variables, and what the line's
-/// unknown words want.
+/// What the words of a line ask for, response files expanded and those of c99 turned into gcc's,
+/// where the spec file of this program lies at `own`, if that is known. This is a refusal for lack
+/// of a file, or what the front reads (GCC manual, "Invoking GCC"). It asks the system only where
+/// the table has no answer: for the spec file, the files beside it, two variables, and what the
+/// line's unknown words need.
 ///
 /// # Errors
 /// An allocation was refused.

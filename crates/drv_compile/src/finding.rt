@@ -85,7 +85,7 @@ fn if_plain(path: Word, kind: PathKind) -> Option<Word>
     if is_plain(kind) { Some(path) } else { None }
 }
 
-/// The path, if a plain file stands there.
+/// The path, if it is a plain file.
 fn plain_at<S: System>(
     path: Option<Word>,
     outside: &mut Outside<'_, S>,
@@ -140,8 +140,8 @@ fn or_named<S: System>(
     plain_at(named, outside)
 }
 
-/// The path of the spec file: that of its own place, if a plain file stands there, or else of the
-/// one that a variable names.
+/// The path of the spec file: that of its own place, if it is a plain file, or else of the one that
+/// a variable names.
 #[tactic(auto, using(drv_system::proofs::AskedCalls::asked_further))]
 pub(crate) fn spec_file<S: System>(
     alloc: Global,

@@ -1,4 +1,4 @@
-//! What a call of `gdrv-cc` comes to: its name, its spec file and the files beside it, and what the
+//! What a call of `gdrv-cc` does: its name, its spec file and the files beside it, and what the
 //! words of its line ask for.
 #![tactic(auto)]
 

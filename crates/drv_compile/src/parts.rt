@@ -66,7 +66,7 @@ fn texts_asked<S: System>(
 }
 
 /// The file that has the texts for a line with these words and stages: the spec file, or a part of
-/// it that stands beside it. It asks the system only where the table has no answer.
+/// it beside it. It asks the system only where the table has no answer.
 ///
 /// # Errors
 /// An allocation was refused.

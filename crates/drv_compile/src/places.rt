@@ -1,4 +1,4 @@
-//! Where the spec file stands, and the files beside it.
+//! The place of the spec file, and of the files beside it.
 
 ghost use Rattle.drv_compile.specs.Places.{beside, companion, given, is_rooted, may_link};
 ghost use Rattle.drv_compile.specs.Places.{texts_by, texts_for, texts_or, wants_whole, whole_words};
@@ -21,7 +21,7 @@ fn joined(alloc: Global, first: &[u8], second: &[u8]) -> Result<Word, AllocError
     Ok(word)
 }
 
-/// The spec file of a machine, as it stands beside the program that lies at this path.
+/// The spec file of a machine, by its place beside the program that lies at this path.
 pub fn beside(alloc: Global, program: &[u8], machine: &[u8]) -> Result<Word, AllocError>
     ensures { IfOk result (λ path. path ≡ beside program.now machine.now) }
 {
@@ -118,7 +118,7 @@ fn texts_by(alloc: Global, specs: &[u8], stages: Stages) -> Result<Word, AllocEr
 }
 
 /// The file that has the texts for a line with these words and stages: the spec file, or a part of
-/// it that stands beside it.
+/// it beside it.
 pub(crate) fn texts_for(
     alloc: Global,
     specs: &[u8],

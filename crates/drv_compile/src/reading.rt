@@ -1,4 +1,4 @@
-//! What a line comes to.
+//! The answer to a line.
 
 ghost use Rattle.drv_cc.specs.Front.{front_of};
 ghost use Rattle.drv_compile.specs.Compilers.{value_in};
@@ -19,13 +19,13 @@ use drv_system::{Outside, ReadAnswer, System};
 use drv_words::{Listing, Word};
 use std::alloc::{AllocError, Global};
 
-/// What a line comes to, with the names of options that this took.
+/// The answer to a line, with the names of options that this took.
 #[derive(Drop)]
 pub struct Reading {
     /// The names of the compiler's options, a line each, where some word of the line is none that is
     /// known without them; else none.
     pub known: Word,
-    /// What the line comes to.
+    /// The answer to the line.
     pub answer: Answer,
 }
 
@@ -118,7 +118,7 @@ fn add_all(named: &mut Listing<Word>, names: &[Word]) -> Result<(), AllocError>
     Ok(())
 }
 
-/// Adds the names that stand in a file that was read.
+/// Adds the names in a file that was read.
 fn add_names(
     alloc: Global,
     answer: &ReadAnswer,
@@ -132,7 +132,7 @@ fn add_names(
     }
 }
 
-/// Adds the names that stand in the spec file of this name, where it can be read.
+/// Adds the names in the spec file of this name, where it can be read.
 fn add_file_names<S: System>(
     alloc: Global,
     file: &Word,
@@ -149,7 +149,7 @@ fn add_file_names<S: System>(
     add_names(alloc, outside.facts.read_answer(&path), named)
 }
 
-/// The names that stand in spec files.
+/// The names in spec files.
 #[tactic(auto, using(drv_system::proofs::AskedCalls::asked_further))]
 fn files_names<S: System>(
     alloc: Global,
@@ -167,7 +167,7 @@ fn files_names<S: System>(
     Ok(named)
 }
 
-/// The names that stand in the spec files of words of the driver.
+/// The names in the spec files of words of the driver.
 pub(crate) fn words_names<S: System>(
     alloc: Global,
     words: &[Word],
@@ -182,7 +182,7 @@ pub(crate) fn words_names<S: System>(
     files_names(alloc, files.as_slice(), &prefixes, outside)
 }
 
-/// The names that the spec files of a line have, which comes to this.
+/// The names that the spec files of a line have, which has this answer.
 fn answer_names<S: System>(
     alloc: Global,
     answer: &Answer,
@@ -197,7 +197,7 @@ fn answer_names<S: System>(
     }
 }
 
-/// What a line comes to that is refused where its spec files name nothing.
+/// The answer to a line that is refused where its spec files name nothing.
 fn refused_answer<S: System>(
     alloc: Global,
     known: &[u8],
@@ -216,7 +216,7 @@ fn refused_answer<S: System>(
     front(alloc, known, named.as_slice(), around, words)
 }
 
-/// What a line comes to by these names of the compiler's options. The spec files of the line are
+/// The answer to a line by these names of the compiler's options. The spec files of the line are
 /// read only where it is refused without them.
 fn known_answer<S: System>(
     alloc: Global,
@@ -235,7 +235,7 @@ fn known_answer<S: System>(
     refused_answer(alloc, known, around, words, refusals.as_slice(), outside)
 }
 
-/// What a line comes to, where these are the names of the compiler's options, if they are known.
+/// The answer to a line, where these are the names of the compiler's options, if they are known.
 fn read_by<S: System>(
     alloc: Global,
     known: Option<Word>,
@@ -253,8 +253,8 @@ fn read_by<S: System>(
     Ok(Some(Reading { known, answer }))
 }
 
-/// What a line comes to, over the files beside a spec file; none where that of the compiler's
-/// options is not whole. It is read only where a word of the line wants it.
+/// The answer to a line, over the files beside a spec file; none where that of the compiler's
+/// options is not whole. It is read only where a word of the line needs it.
 #[tactic(auto, using(drv_system::proofs::AskedCalls::asked_further))]
 pub(crate) fn read_line<S: System>(
     alloc: Global,

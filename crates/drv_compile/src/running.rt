@@ -33,7 +33,7 @@ pub(crate) fn specs_of<S: System>(
     load_specs(alloc, set, settings, outside.sys, outside.facts)
 }
 
-/// What words of the driver come to: the line read, its spec files loaded, and its plan with what
+/// What words of the driver ask for: the line read, its spec files loaded, and its plan with what
 /// is done with it. It asks the system only where the table has no answer.
 ///
 /// # Errors

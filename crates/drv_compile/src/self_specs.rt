@@ -208,7 +208,7 @@ fn options_or<'a>(options: &'a Option<Word>, known: &'a [u8]) -> &'a [u8]
     }
 }
 
-/// What a line comes to that is given options.
+/// The answer to a line that is given options.
 #[tactic(auto, using(drv_system::proofs::AskedCalls::asked_further))]
 fn answer_with<S: System>(
     alloc: Global,
@@ -231,7 +231,7 @@ fn answer_with<S: System>(
     front_with(alloc, names, named.as_slice(), around, args, given)
 }
 
-/// What a line comes to by what its spec files gave; none where it stands as it is.
+/// The answer to a line by what its spec files gave; none where it stays as it is.
 fn answer_by<S: System>(
     alloc: Global,
     specs: &[u8],
@@ -256,7 +256,7 @@ fn answer_by<S: System>(
     }
 }
 
-/// What a line comes to that names spec files.
+/// The answer to a line that names spec files.
 #[tactic(auto, using(drv_system::proofs::AskedCalls::asked_further))]
 fn answer_of_specs<S: System>(
     alloc: Global,
@@ -286,15 +286,15 @@ fn count_specs(alloc: Global, words: &[Word]) -> Result<usize, AllocError>
     Ok(specs_given(alloc, words)?.len())
 }
 
-/// What a line comes to with the options that its spec files give it, and none where it stands as
-/// it is (GCC, "gcc.cc", set_up_specs, do_self_spec). The text `self_spec` is worked once, after
-/// the last spec file is loaded, with the switches of the line and no input.
+/// The answer to a line with the options that its spec files give it, and none where it stays as it
+/// is (GCC, "gcc.cc", set_up_specs, do_self_spec). The text `self_spec` is run once, after the last
+/// spec file is loaded, with the switches of the line and no input.
 ///
 /// `words` are the driver's words for the line, after the spec file of the call; `args` are those
 /// of the line, and `known` the names of options that were taken to read it.
 ///
 /// # Errors
-/// How the call ends: for want of memory, or as by the first refusal of the words, of a spec file
+/// How the call ends: for lack of memory, or as by the first refusal of the words, of a spec file
 /// or of that text.
 pub fn answer_given<S: System>(
     alloc: Global,

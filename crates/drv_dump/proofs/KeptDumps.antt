@@ -157,7 +157,7 @@ kept_entries (b ∷ dump) r at entries none is = by (entry_at r at b) refl (λ n
         rest next both.1 is ∙ ap (λ l. l ++ dump) both.0 ∙ append_assoc (read_so_far r.line r) (b ∷ []) dump
     by (Err fault) goes rest is = absurd cc
 
--- a text that was read is written as it stood
+-- a text that was read is written as it was
 kept_entry : (entry : Entry) (text : DumpedText) → text_of_entry entry ≡ Ok text → written_entry text.name (written text.pieces) ≡ written_entry entry.name entry.text
 kept_entry entry text is = by (pieces_of entry.text) refl is
   where

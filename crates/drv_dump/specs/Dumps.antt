@@ -28,7 +28,7 @@ after_newline r b =
     if b == byte.newline then ended r
     else record { done = r.done; name = r.name; text = (r.text ++ byte.newline ∷ []) ++ b ∷ []; line = Text }
 
--- what is read with a byte, by where it stands; at is its place in the dump
+-- what is read with a byte, by its state; at is its place in the dump
 abbrev pub entry_step : Line → DumpReader → ℕ → ℕ → Result DumpReader DumpFault
 entry_step Between r at b = if b == byte.asterisk then Ok (record r { line = Name }) else Err (Misplaced at)
 entry_step Name r at b =

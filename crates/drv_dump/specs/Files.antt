@@ -12,8 +12,8 @@ use Rattle.std.specs.Cmp.Lexicographic.{pointwise}
 use Rattle.std.specs.List.{list_any}
 use Rattle.std.specs.Prelude.{◌&&◌, ◌||◌, Bool, List, [], ◌∷◌, ◌++◌, codes, false, if◌then◌else◌, length, nat_eq, nat_lt, not, suc, true, zero, ℕ}
 
--- The files that a text of gcc looks for by their names: NAME%s and NAME%O%s (GCC manual, "Spec Files", %s). Where gcc finds one depends
--- on how gcc was built and on the machine of the line, so a named text stands for each.
+-- The files that a text of gcc looks for by their names: NAME%s and NAME%O%s (GCC manual, "Spec Files", %s). Where gcc finds one depends on
+-- how gcc was built and on the machine of the line, so each becomes a named text.
 
 abbrev pub is_name_byte : ℕ → Bool
 is_name_byte b = is_ascii_alphanumeric b || is_of (codes "_.+-") b
@@ -23,7 +23,7 @@ abbrev pub split_from : List ℕ → List ℕ → List ℕ → LastWord
 split_from front word [] = record { front = front; word = word }
 split_from front word (b ∷ text) = if is_white b then split_from ((front ++ word) ++ b ∷ []) [] text else split_from front (word ++ b ∷ []) text
 
--- what stands after a text
+-- what follows a text
 abbrev pub second_ending : List Piece → Ending
 second_ending [] = Other
 second_ending (second ∷ rest) = if pointwise nat_eq second.bytes (codes "%s") then FoundObject else Other
@@ -67,7 +67,7 @@ is_text kind.Then = false
 is_text kind.Otherwise = false
 is_text kind.Closing = false
 
--- what stands after a piece, if its last word is the name of a file
+-- what follows a piece, if its last word is the name of a file
 abbrev pub ending_in : Joint → Piece → List Piece → Ending
 ending_in joint piece rest = if is_text piece.kind && names_file joint (split_from [] [] piece.bytes) then ending_of rest else Other
 
@@ -87,7 +87,7 @@ skip_after Other = 0
 skip_after Found = 1
 skip_after FoundObject = 2
 
--- the first word of what an alternative stands for is whole
+-- the first word of what an alternative gives is whole
 abbrev pub joint_after : Piece → Joint
 joint_after piece = if pointwise nat_eq piece.bytes (codes ":") then Open else Glued
 

@@ -85,7 +85,7 @@ tests =
     ∷ (codes "%:dwarf-version-gt(4)", codes "-gdrv-dwarf=5")
     ∷ (codes "%:gt(%{ftree-parallelize-loops=*:%*} 1)", codes "%:version-compare(>= 2 ftree-parallelize-loops= y)") ∷ checks
 
--- those for which several tests stand, of which one must hold: no negation has them
+-- those that become several tests, of which one must hold: no negation has them
 abbrev pub either_tests : List (List ℕ × List ℕ)
 either_tests =
     (codes "%:dwarf-version-gt(3)", codes "-gdrv-dwarf=4|-gdrv-dwarf=5")

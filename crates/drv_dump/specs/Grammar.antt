@@ -37,11 +37,11 @@ is_test_byte b = is_ascii_alphanumeric b || is_of (codes "_-+=,.@") b
 abbrev pub is_white : ℕ → Bool
 is_white b = is_of (byte.space ∷ byte.tab ∷ byte.newline ∷ []) b
 
--- ends a part of braces, or what stands in it, even after a backslash
+-- ends a part of braces, or what is in it, even after a backslash
 abbrev pub is_mark : ℕ → Bool
 is_mark b = is_of (codes "{};") b
 
--- the most braces that stand in one another, and the most parentheses of a function
+-- the most braces within one another, and the most parentheses of a function
 abbrev pub most_levels : ℕ
 most_levels = 64
 
@@ -81,7 +81,7 @@ percent_turn depth b =
     else if is_whole_directive b then reads Later kind.Directive place.Ready depth
     else Refused UnknownDirective
 
--- a message goes to the end of its line, or of the alternative that it stands in
+-- a message goes to the end of its line, or of the alternative that it is in
 abbrev pub message_turn : ℕ → ℕ → Turn
 message_turn depth b =
     if b == byte.newline || nat_lt 0 depth && is_mark b then text_turn First depth b else reads Later kind.Message place.Message depth
@@ -123,7 +123,7 @@ argument_turn side inside depth b =
     then reads Later (call_kind side) (if inside == 0 then after_call side else place.Arguments side (inside - 1)) depth
     else reads Later (call_kind side) (place.Arguments side inside) depth
 
--- after a test: another one, what the alternative stands for, or the end of the braces
+-- after a test: another one, what the alternative gives, or the end of the braces
 abbrev pub after_test_turn : ℕ → ℕ → Turn
 after_test_turn depth b =
     if is_white b then reads First kind.Blank place.AfterTest depth

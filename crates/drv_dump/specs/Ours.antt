@@ -33,7 +33,7 @@ abbrev pub name_from : List ℕ → List ℕ
 name_from [] = []
 name_from (b ∷ call) = if b == byte.opening_parenthesis then [] else b ∷ name_from call
 
--- what stands after the parenthesis that opens
+-- what follows the parenthesis that opens
 abbrev pub arguments_from : List ℕ → List ℕ
 arguments_from [] = []
 arguments_from (b ∷ call) = if b == byte.opening_parenthesis then call else arguments_from call
@@ -53,7 +53,7 @@ abbrev pub call_words : Option (List ℕ) → List ℕ → List ℕ
 call_words (Some words) call = words
 call_words None call = other_call_words call
 
--- what stands for a piece, if anything does
+-- what a piece becomes, if it becomes anything
 abbrev pub directive_words : Option (List ℕ) → List ℕ → Option (List ℕ)
 directive_words (Some words) directive = Some words
 directive_words None directive = if list_any (pointwise nat_eq directive) lacking_directives then None else Some directive
@@ -85,7 +85,7 @@ words_of kind.Then bytes = Some bytes
 words_of kind.Otherwise bytes = Some bytes
 words_of kind.Closing bytes = Some bytes
 
--- the words of all pieces, or the first piece for which nothing stands
+-- the words of all pieces, or the first piece that becomes nothing
 abbrev pub with_words : Option (List ℕ) → List ℕ → Result (List ℕ) OursFault → Result (List ℕ) OursFault
 with_words None bytes more = Err (ours_fault.Lacking bytes)
 with_words (Some words) bytes (Ok more) = Ok (words ++ more)
@@ -100,7 +100,7 @@ with_pieces (Ok pieces) = all_words (files_from zero Open pieces)
 with_pieces (Err text_fault.Memory) = Err ours_fault.Memory
 with_pieces (Err (text_fault.Unreadable misfit at)) = Err (ours_fault.Unreadable misfit at)
 
--- words with what stands for one more piece; words before those of other pieces
+-- words with what one more piece becomes; words before those of other pieces
 abbrev pub put_words : List ℕ → Option (List ℕ) → List ℕ → Result (List ℕ) OursFault
 put_words before None bytes = Err (ours_fault.Lacking bytes)
 put_words before (Some words) bytes = Ok (before ++ words)

@@ -27,7 +27,7 @@ pub(crate) struct Entry {
     pub(crate) text: Word,
 }
 
-/// Where a byte of a dump stands.
+/// The state before a byte of a dump.
 #[derive(Clone, Copy)]
 pub(crate) enum Line {
     /// Before the asterisk of a text.

@@ -13,11 +13,11 @@ pub enum Misfit {
     EscapedMark,
     /// There is no such directive.
     UnknownDirective,
-    /// No such byte may stand in the tests of braces.
+    /// The tests of braces have no such byte.
     BadTest,
-    /// No such byte may stand in the name of a function.
+    /// The name of a function has no such byte.
     BadFunction,
-    /// More than 64 braces, or parentheses of a function, stand in one another.
+    /// More than 64 braces, or parentheses of a function, are within one another.
     TooNested,
     /// The text ends in a directive, in braces or after a backslash.
     Unclosed,
@@ -58,7 +58,7 @@ pub enum OursFault {
     /// This is wrong at this byte, counted from the start of the text whose forms are replaced.
     #[error("spec text that can't be read")]
     Unreadable(Misfit, usize),
-    /// Nothing stands for this directive, or for this function that is a test.
+    /// This directive, or this function that is a test, has no form in this driver's language.
     #[error("a directive or a condition has no form here")]
     Lacking(Word),
 }

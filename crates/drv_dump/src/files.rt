@@ -12,7 +12,7 @@ use crate::{Kind, Piece};
 use drv_words::{Listing, Word};
 use std::alloc::{AllocError, Global};
 
-/// What stands after a text.
+/// What follows a text.
 #[derive(Clone, Copy, Debug)]
 pub(crate) enum Ending {
     /// Neither of the others.
@@ -23,7 +23,7 @@ pub(crate) enum Ending {
     FoundObject,
 }
 
-/// What stands before a piece.
+/// What precedes a piece.
 #[derive(Clone, Copy, Debug)]
 pub(crate) enum Joint {
     /// Nothing that belongs to its first word.
@@ -39,7 +39,7 @@ pub(crate) struct LastWord {
     pub(crate) word: Word,
 }
 
-/// In the name of a file that a named text stands for.
+/// In the name of a file that becomes a named text.
 fn is_name_byte(byte: u8) -> bool
     ensures { result ≡ is_name_byte byte }
 {
@@ -67,7 +67,7 @@ fn split_last(alloc: Global, text: &[u8]) -> Result<LastWord, AllocError>
     Ok(LastWord { front, word })
 }
 
-/// What stands after a text.
+/// What follows a text.
 fn ending_of(rest: &[Piece]) -> Ending
     ensures { result ≡ ending_of rest.now }
 {
@@ -94,7 +94,7 @@ fn has_other_byte(word: &[u8]) -> bool
     word.iter().any(is_other_byte)
 }
 
-/// The name of a file that a named text can stand for.
+/// The name of a file that can become a named text.
 fn is_name(word: &[u8]) -> bool
     ensures { result ≡ is_name word.now }
 {
@@ -111,14 +111,14 @@ fn is_whole_word(joint: Joint, front: &[u8]) -> bool
     }
 }
 
-/// The last word is whole, and the name of a file that a named text can stand for.
+/// The last word is whole, and the name of a file that can become a named text.
 fn names_file(joint: Joint, last: &LastWord) -> bool
     ensures { result ≡ names_file joint last.now }
 {
     is_name(last.word.as_bytes()) && is_whole_word(joint, last.front.as_bytes())
 }
 
-/// What stands after a piece, if its last word is the name of a file.
+/// What follows a piece, if its last word is the name of a file.
 fn ending_in(
     alloc: Global,
     joint: Joint,
@@ -163,7 +163,7 @@ fn push_file(
     Ok(())
 }
 
-/// Adds a piece after which this stands.
+/// Adds a piece that this follows.
 fn push_piece(
     alloc: Global,
     piece: &Piece,

@@ -7,7 +7,7 @@ ghost use Rattle.std.specs.Map.{lookup};
 ghost use Rattle.std.specs.Option.{option_map};
 ghost use Rattle.std.specs.Prelude.{◌≡◌, nat_eq};
 
-/// A form of several pieces that a text of gcc has as it stands here.
+/// A form of several pieces that a text of gcc has exactly so.
 #[derive(Clone, Copy, Debug)]
 pub(crate) enum WholeForm {
     /// The object of the assembler.
@@ -129,7 +129,7 @@ pub(crate) fn form_at(text: &[u8]) -> Option<WholeForm>
     }
 }
 
-/// What stands for a directive that this driver has in other words.
+/// What a directive becomes that this driver has in other words.
 pub(crate) fn directive_of(directive: &[u8]) -> Option<&'static [u8]>
     ensures { option_map (λ words. words.now) result ≡ lookup (pointwise nat_eq directive.now) forms.directives }
 {
@@ -155,7 +155,7 @@ pub(crate) fn is_lacking(directive: &[u8]) -> bool
     matches!(directive, b"%c" | b"%p" | b"%P" | b"%v" | b"%." | b"%\"")
 }
 
-/// What stands for a function in a text.
+/// What a function in a text becomes.
 pub(crate) fn call_of(call: &[u8]) -> Option<&'static [u8]>
     ensures { option_map (λ words. words.now) result ≡ lookup (pointwise nat_eq call.now) forms.calls }
 {
@@ -176,7 +176,7 @@ pub(crate) fn call_of(call: &[u8]) -> Option<&'static [u8]>
     }
 }
 
-/// What stands for a function that is a test.
+/// What a function that is a test becomes.
 pub(crate) fn test_of(call: &[u8]) -> Option<&'static [u8]>
     ensures { option_map (λ words. words.now) result ≡ lookup (pointwise nat_eq call.now) forms.tests }
 {
@@ -206,7 +206,7 @@ pub(crate) fn either_test_of(call: &[u8]) -> Option<&'static [u8]>
     }
 }
 
-/// What stands for the test of a check.
+/// What the test of a check becomes.
 fn check_of(call: &[u8]) -> Option<&'static [u8]>
     ensures { option_map (λ words. words.now) result ≡ lookup (pointwise nat_eq call.now) forms.checks }
 {
@@ -221,7 +221,7 @@ fn check_of(call: &[u8]) -> Option<&'static [u8]>
     }
 }
 
-/// What stands for the test of one of the other checks.
+/// What the test of one of the other checks becomes.
 fn other_check_of(call: &[u8]) -> Option<&'static [u8]>
     ensures { option_map (λ words. words.now) result
         ≡ lookup (pointwise nat_eq call.now) forms.other_checks }

@@ -99,8 +99,8 @@ impl OurDump {
 }
 
 /// The texts of a dump, as `-dumpspecs` prints it, in this driver's language: the same names with
-/// the words that `translate_text` gives. A text that it refuses is one that refuses each line that
-/// comes to it, by the text's name.
+/// the words that `translate_text` gives. A text that it refuses becomes one that refuses, by the
+/// text's name, each line that reaches it.
 ///
 /// # Errors
 /// `Misplaced` as for `read_dump`.

@@ -58,7 +58,7 @@ fn push_name(call: &[u8], word: &mut Word) -> Result<(), AllocError>
     Ok(())
 }
 
-/// Adds what stands after the parenthesis that opens to a word.
+/// Adds to a word what follows the parenthesis that opens.
 #[tactic(auto, using(crate::proofs::Replacing::arguments_next, crate::proofs::Replacing::arguments_here))]
 fn push_arguments(call: &[u8], word: &mut Word) -> Result<(), AllocError>
     ensures { OnOk result (word.new ≡ word.old ++ arguments_from call.now) }
@@ -82,7 +82,7 @@ fn push_refusal(call: &[u8], word: &mut Word) -> Result<(), AllocError>
     word.extend_from_slice(b" is not in this spec file}")
 }
 
-/// Adds what stands for a function in a text that has no other words to a word.
+/// Adds to a word what a function becomes in a text that has no other words.
 fn push_other_call(call: &[u8], word: &mut Word) -> Result<(), AllocError>
     ensures { OnOk result (word.new ≡ word.old ++ other_call_words call.now) }
 {
@@ -97,7 +97,7 @@ fn push_other_call(call: &[u8], word: &mut Word) -> Result<(), AllocError>
     }
 }
 
-/// Adds what stands for a function in a text to a word.
+/// Adds to a word what a function in a text becomes.
 fn push_call(call: &[u8], word: &mut Word) -> Result<(), AllocError>
     ensures { OnOk result (word.new
         ≡ word.old ++ call_words (lookup (pointwise nat_eq call.now) calls) call.now) }
@@ -108,7 +108,7 @@ fn push_call(call: &[u8], word: &mut Word) -> Result<(), AllocError>
     }
 }
 
-/// What stands for a directive, if anything does.
+/// What a directive becomes, if it becomes anything.
 fn directive_words<'a>(directive: &'a [u8]) -> Option<&'a [u8]>
     ensures { option_map (λ words. words.now) result
         ≡ directive_words (lookup (pointwise nat_eq directive.now) directives) directive.now }
@@ -120,7 +120,7 @@ fn directive_words<'a>(directive: &'a [u8]) -> Option<&'a [u8]>
     }
 }
 
-/// What stands for a function that is a test after `!`, if anything does: one test.
+/// What a function that is a test after `!` becomes, if it becomes anything: one test.
 fn negated_words<'a>(call: &'a [u8]) -> Option<&'a [u8]>
     ensures { option_map (λ words. words.now) result
         ≡ negated_words (lookup (pointwise nat_eq call.now) tests) call.now }
@@ -132,7 +132,7 @@ fn negated_words<'a>(call: &'a [u8]) -> Option<&'a [u8]>
     }
 }
 
-/// What stands for a function that is a test, if anything does.
+/// What a function that is a test becomes, if it becomes anything.
 fn test_words<'a>(call: &'a [u8]) -> Option<&'a [u8]>
     ensures { option_map (λ words. words.now) result
         ≡ test_words (lookup (pointwise nat_eq call.now) either_tests) call.now }
@@ -143,7 +143,7 @@ fn test_words<'a>(call: &'a [u8]) -> Option<&'a [u8]>
     }
 }
 
-/// Adds what stands for a piece to a word.
+/// Adds to a word what a piece becomes.
 fn push_piece(alloc: Global, piece: &Piece, word: &mut Word) -> Result<(), OursFault>
     ensures { Gives Memory (λ u. word.new) result (put word.old piece.now) }
 {
@@ -161,12 +161,13 @@ fn push_piece(alloc: Global, piece: &Piece, word: &mut Word) -> Result<(), OursF
     }
 }
 
-/// A text of gcc in this driver's spec language: its forms that the language lacks stand in other
-/// words. A function in the text that has no other words is refused where it would be called.
+/// A text of gcc in this driver's spec language, which has other words for the forms that the
+/// language lacks. A function in the text that has no other words is refused where it would be
+/// called.
 ///
 /// # Errors
-/// `Unreadable` as for reading; `Lacking` with the first directive, or function that is a test, for
-/// which nothing stands.
+/// `Unreadable` as for reading; `Lacking` with the first directive, or function that is a test,
+/// without such words.
 pub fn translate_text(alloc: Global, text: &[u8]) -> Result<Word, OursFault>
     ensures { Gives Memory (λ word. word) result (ours_of text.now) }
 {

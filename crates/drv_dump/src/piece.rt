@@ -5,11 +5,11 @@ use drv_words::Word;
 /// What a piece of a spec text is.
 #[derive(Clone, Copy, Debug)]
 pub enum Kind {
-    /// Bytes that stand for themselves, blanks and escapes among them.
+    /// Plain bytes, blanks and escapes among them.
     Text,
     /// `%` and a byte: a directive that is whole with it.
     Directive,
-    /// `%e` or `%n` and a message, up to the end of the line or of what it stands in.
+    /// `%e` or `%n` and a message, up to the end of the line or of what it is in.
     Message,
     /// `%(NAME)`.
     NamedText,
@@ -33,7 +33,7 @@ pub enum Kind {
     Either,
     /// The `&` between switches.
     Both,
-    /// The `:` before what an alternative stands for.
+    /// The `:` before what an alternative gives.
     Then,
     /// The `;` before the next alternative.
     Otherwise,

@@ -12,8 +12,8 @@ use drv_words::{Listing, Word};
 use std::alloc::{AllocError, Global};
 use std::mem;
 
-/// A text that is read byte by byte: the pieces before the last one, the last one, and where the
-/// next byte stands, inside how many braces.
+/// A text that is read byte by byte: the pieces before the last one, the last one, and the place of
+/// the next byte, inside how many braces.
 #[derive(Drop)]
 pub(crate) struct Reader {
     pub(crate) done: Listing<Piece>,

@@ -1,4 +1,4 @@
-//! What the next byte of a spec text is, by the place where it stands.
+//! What the next byte of a spec text is, by its place.
 
 ghost use Rattle.drv_dump.specs.Grammar as grammar;
 ghost use Rattle.std.specs.Prelude.{◌≡◌};
@@ -8,10 +8,10 @@ use crate::turns_of_tests::{
 };
 use crate::{Kind, Misfit};
 
-/// The most braces that stand in one another, and the most parentheses of a function.
+/// The most braces within one another, and the most parentheses of a function.
 const MOST_LEVELS: usize = 64;
 
-/// Where a function stands.
+/// The place of a function.
 #[derive(Clone, Copy, Debug)]
 pub(crate) enum Side {
     /// In a text.
@@ -22,7 +22,7 @@ pub(crate) enum Side {
     Negated,
 }
 
-/// Where a byte stands.
+/// The place of a byte.
 #[derive(Clone, Copy, Debug)]
 pub(crate) enum Place {
     /// Before any text, or after a piece that is whole.
@@ -73,7 +73,7 @@ pub(crate) enum Part {
 /// What a byte is.
 #[derive(Clone, Copy, Debug)]
 pub(crate) enum Turn {
-    /// A byte of a piece of this kind; where the next one stands, and in how many braces.
+    /// A byte of a piece of this kind; the place of the next one, and in how many braces that is.
     Reads {
         part: Part,
         kind: Kind,
@@ -244,7 +244,7 @@ fn closed_turn(kind: Kind, place: Place, end: u8, depth: usize, byte: u8) -> Tur
     }
 }
 
-/// A byte where the brace of `%W{` or `%@{` stands.
+/// A byte at the brace of `%W{` or `%@{`.
 fn brace_turn(depth: usize, byte: u8) -> Turn
     ensures { result ≡ grammar.brace_turn depth byte }
 {
@@ -255,7 +255,7 @@ fn brace_turn(depth: usize, byte: u8) -> Turn
     }
 }
 
-/// A byte where the brace of `%x{` stands.
+/// A byte at the brace of `%x{`.
 fn option_turn(depth: usize, byte: u8) -> Turn
     ensures { result ≡ grammar.option_turn depth byte }
 {
@@ -295,7 +295,7 @@ fn function_turn(side: Side, depth: usize, byte: u8) -> Turn
     }
 }
 
-/// Where the byte after a function stands.
+/// The place of the byte after a function.
 fn after_call(side: Side) -> Place
     ensures { result ≡ grammar.after_call side }
 {

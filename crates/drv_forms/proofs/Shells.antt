@@ -15,7 +15,7 @@ split_true : (a b : Bool) → (a && b) ≡ true → (a ≡ true) × (b ≡ true)
 split_true true b both = (refl, both)
 split_true false b both = absurd cc
 
--- plain bytes stand for themselves
+-- plain bytes mean themselves
 plain_byte : (b : ℕ) (text : List ℕ) → is_plain b ≡ true → read Outside (b ∷ text) ≡ option_map (after_bytes (b ∷ [])) (read Outside text)
 plain_byte b text plain = rw plain refl
 
@@ -27,7 +27,7 @@ plain_read b (c ∷ word) rest plain =
     ∙ ap (option_map (after_bytes (b ∷ []))) (plain_read c word rest both.1)
     ∙ together (b ∷ []) (c ∷ word) (read Outside rest)
 
--- what stands between single quotes
+-- what is between single quotes
 inside_read : (word rest : List ℕ) → read Quoted (inside word ++ 39 ∷ rest) ≡ option_map (after_bytes word) (read Outside rest)
 inside_read [] rest = refl
 inside_read (b ∷ word) rest = by (b == 39) refl (inside_read word rest)

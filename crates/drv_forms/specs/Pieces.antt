@@ -5,7 +5,8 @@ use Rattle.std.specs.Prelude.{◌++◌, List, codes, ℕ}
 -- The fixed texts of a script of the shell (POSIX XCU 2 "Shell Command Language", and there 2.14 "set", "trap"; XCU 4 "command").
 
 unfoldable pub text : Piece → List ℕ
--- what stands first: the functions of the script, and what is removed at its end. The positional parameters are those files; 4 is standard output, which a pipe's last command gets back
+-- the head of the script: its functions, and what is removed at its end. The positional parameters are those files; 4 is standard output,
+-- which a pipe's last command gets back
 text Opening =
     codes "#!/bin/sh\n"
     ++ codes "exec 4>&1\n"

@@ -9,10 +9,10 @@ use Rattle.drv_words.specs.declared.plan.Temp.{Temp}
 use Rattle.std.specs.List.{flat_map}
 use Rattle.std.specs.Prelude.{List, [], ◌∷◌, ◌++◌, None, Option, Some, ℕ}
 
--- A plan as a script of the shell (POSIX XCU 2 "Shell Command Language"). It does what a run of the plan does, one source after
--- another: a temporary is claimed where nothing has its name; a job stops at its first fault and removes its failure files, if a
--- command of it was started; the other sources go on; the link runs where all succeeded; and at the end temporaries that were
--- claimed and marked files are removed, plain files alone. The status is 0, or 1 where something failed.
+-- A plan as a script of the shell (POSIX XCU 2 "Shell Command Language"). It does what a run of the plan does, one source after another. A
+-- temporary is claimed where nothing has its name. A job stops at its first fault and removes its failure files, if a command of it was
+-- started; the other sources go on, and the link runs where all succeeded. At the end temporaries that were claimed and marked files are
+-- removed, plain files alone. The status is 0, or 1 where something failed.
 
 -- the words of a command
 abbrev pub command_text : Command → List ℕ

@@ -3,8 +3,8 @@ use Rattle.drv_words.specs.Printed.{is_bare, is_plain}
 use Rattle.std.specs.List.{flat_map}
 use Rattle.std.specs.Prelude.{◌==◌, List, [], ◌∷◌, ◌++◌, None, Option, Some, if◌then◌else◌, option_map, ℕ}
 
--- Words of the shell's language that stand for themselves: no parameter, substitution, pattern or tilde in them (POSIX XCU 2.2
--- "Quoting", 2.3 "Token Recognition").
+-- Words of the shell's language that mean themselves: no parameter, substitution, pattern or tilde in them (POSIX XCU 2.2 "Quoting", 2.3
+-- "Token Recognition").
 
 -- Reading them.
 
@@ -56,14 +56,14 @@ shell_words text = option_map (λ rest. words_of rest.going_on rest.words) (read
 
 -- Writing them.
 
--- what stands between single quotes; one of these is put after a backslash, outside of them
+-- what is between single quotes; one of these is put after a backslash, outside of them
 abbrev pub inside : List ℕ → List ℕ
 inside [] = []
 inside (b ∷ word) =
     if b == byte.single_quote then byte.single_quote ∷ byte.backslash ∷ byte.single_quote ∷ byte.single_quote ∷ inside word
     else b ∷ inside word
 
--- a word of letters, digits and ./-_ stands as it is
+-- a word of letters, digits and ./-_ stays as it is
 abbrev pub shell_word : List ℕ → List ℕ
 shell_word word = if is_bare word then word else byte.single_quote ∷ inside word ++ byte.single_quote ∷ []
 

@@ -8,9 +8,8 @@ use std::alloc::AllocError;
 /// A fixed text of a script.
 #[derive(Clone, Copy, Debug)]
 pub enum Piece {
-    /// What stands first: the functions of the script, and what is removed at its end. The
-    /// positional parameters are those files; 4 is standard output, which a pipe's last command
-    /// gets back.
+    /// The head of the script: its functions, and what is removed at its end. The positional
+    /// parameters are those files; 4 is standard output, which a pipe's last command gets back.
     Opening,
     /// A notice is said.
     Say,

@@ -9,7 +9,7 @@ ghost use Rattle.std.specs.Prelude.{◌≡◌, ◌∷◌, ◌++◌, [], IfOk, On
 use drv_words::Word;
 use std::alloc::{AllocError, Global};
 
-/// Whether a byte stands for itself in the shell's language: a letter, a digit or one of `./-_`.
+/// Whether a byte means itself in the shell's language: a letter, a digit or one of `./-_`.
 fn is_plain_byte(byte: u8) -> bool
     ensures { result ≡ is_plain byte }
 {
@@ -30,7 +30,7 @@ fn is_bare_word(word: &[u8]) -> bool
     !word.is_empty() && are_plain_bytes(word)
 }
 
-/// Adds what stands between single quotes.
+/// Adds what is between single quotes.
 fn push_inside(text: &mut Vec<u8>, word: &[u8]) -> Result<(), AllocError>
     ensures { OnOk result (text.new.items ≡ text.old.items ++ inside word.now) }
 {
@@ -75,8 +75,8 @@ pub(crate) fn push_shell_words(text: &mut Vec<u8>, words: &[Word]) -> Result<(),
     Ok(())
 }
 
-/// The text of one word in the shell's language, which the shell reads as that word, byte by byte: a
-/// word of letters, digits and `./-_` stands as it is, any other in single quotes.
+/// The text of one word in the shell's language, which the shell reads as that word, byte by byte:
+/// a word of letters, digits and `./-_` stays as it is, any other is in single quotes.
 pub fn shell_word(alloc: Global, word: &Word) -> Result<Word, AllocError>
     ensures text { IfOk result (λ text. text ≡ word_text word.now) }
     ensures read { IfOk result (λ text. shell_words text ≡ Some (word.now ∷ [])) }

@@ -48,7 +48,7 @@ module _ (F : Facts) (C : Context) where
   arguments_run : (s : Machine) (step : Step (Unit {0})) → run F C s (arguments F C step) ≡ (run F C (aside s) (step >> puts (Break ∷ [])) >>- back_at F C s.cut)
   arguments_run s step = arguments_done s (step s.world)
 
-  -- and what is done with the words stands after
+  -- and what the words are used for follows
   pub arguments_then : {X Y : Type 0} (s : Machine) (inner : Step (Unit {0})) (go : List (List ℕ) → Step X) (k : X × Machine → Answer Y)
       → (run F C s (arguments F C inner >>= go) >>- k) ≡ (run F C (aside s) inner >>- λ r. after_arguments F C s.cut go r.1 >>- k)
   arguments_then s inner go k =

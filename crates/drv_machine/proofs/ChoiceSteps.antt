@@ -48,7 +48,7 @@ pub no_choices_left : (text : List ℕ) (at : ℕ) (choices : Choices) (end : �
 no_choices_left text at tree.no_choice end h s = refl
 no_choices_left text at (tree.choice span tests items others) end h (next, part, within, following) = absurd (omega (arith, h, part.later, stand_grows _ _ next (choice_nodes others) end following))
 
--- after the tests of an alternative stand its items
+-- the items of an alternative follow its tests
 pub tests_after : (tests : Tests) (items : Items) → after_tests (both (test_nodes tests) (nodes_of items)) ≡ nodes_of items
 tests_after tree.no_test tree.none = refl
 tests_after tree.no_test (tree.more span item items) = rw (item_no_test item) refl
@@ -205,7 +205,7 @@ module _ (F : Facts) (C : Context) (p : Pattern) (items : Items) where
       by : (n m : ℕ) → n ≡ suc m → each levels (range_with_len i n) ≡ each levels (i ∷ range_with_len (i + 1) m)
       by n m e = ap (λ k. each levels (range_with_len i k)) e
 
-  -- what a switch comes to
+  -- what a switch gives
   abbrev one : Levels → ℕ → Bool → Step (Unit {0})
   one levels i hit = if hit then hit_step F C p items levels i else nothing
 

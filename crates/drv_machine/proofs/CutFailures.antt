@@ -97,7 +97,7 @@ part_file : (before : List Atom) → (if has_begun zero before then list_of (las
 part_file before = file_of_first (open_parts before) (has_begun zero before) (last_in zero before) (parts_are zero before)
 
 module _ (F : Facts) (C : Context) where
-  -- these words are found, and stand after those before
+  -- these words are found, and follow those before
   abbrev After : List (List Atom) → List (List ℕ) → List (List ℕ) → Type 0
   After found before after = (names : List (List ℕ)) × (each (path_of F C) found ≡ Is (Ok names)) × (after ≡ before ++ names)
 

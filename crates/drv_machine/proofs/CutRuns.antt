@@ -57,7 +57,7 @@ moved_output c To bar = ap (unless bar) (inside_output c c.inside)
 moved_output c FileFrom bar = refl
 moved_output c FileTo bar = ap (λ (x : Cut). unless bar x.output) (file_kept c)
 
--- a %V after the beginning of a word stands in it or after it
+-- a %V after the beginning of a word is in it or after it
 barred_or_after : (run atoms : List Atom) → list_any opens_word run ≡ true → is_barred (run ++ atoms) ≡ (is_barred run || list_any is_bar atoms)
 barred_or_after [] atoms e = absurd cc
 barred_or_after (x ∷ run) atoms e = by (opens_word x) refl e (barred_or_after run atoms)
@@ -68,7 +68,7 @@ barred_or_after (x ∷ run) atoms e = by (opens_word x) refl e (barred_or_after 
     by false is some next = next some
 
 module _ (F : Facts) (C : Context) where
-  -- these words are found, and stand after those before
+  -- these words are found, and follow those before
   abbrev After : List Run → List (List ℕ) → List (List ℕ) → Type 0
   After found before after = (names : List (List ℕ)) × (each (path F C) found ≡ Is (Ok names)) × (after ≡ before ++ names)
 

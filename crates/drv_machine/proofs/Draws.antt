@@ -44,7 +44,7 @@ module _ (drawing : Drawing) (suffix : List ℕ) where
   drawn_after [] later path is = is
   drawn_after (name ∷ front) later path is = rw (drawn_after front later path is) refl
 
-  -- the last one stands at this place
+  -- the last one is at this place
   pub drawn_at : (drawn : List Drawn) (i next : ℕ) (name : Drawn) (path : List ℕ) → i < length drawn → next ≡ i + 1 → name ≡ get_or drawn i name → last_drawn drawing suffix (drop next drawn) ≡ None → is_drawn drawing suffix name ≡ true → path ≡ name.path
       → Some path ≡ last_drawn drawing suffix drawn
   drawn_at drawn i next name path within follows at none is same =

@@ -28,7 +28,7 @@ use Rattle.std.proofs.Common.{◌≡◌, ◌<◌, ◌≤◌, ◌+◌, ◌-◌, �
 use Rattle.std.specs.List.{filter, flat_map}
 use Rattle.std.specs.Prelude.{replicate}
 
--- %W: the words that end in it, and what stands in it.
+-- %W: the words that end in it, and what is in it.
 
 -- one more is open
 pub one_more : (last : List ℕ) (count fresh : ℕ) → ended_in last (count + 1) (fresh + 1) ≡ None ∷ ended_in last count fresh
@@ -90,7 +90,7 @@ module _ (F : Facts) (C : Context) (s : Machine) (after : List (Option (List ℕ
   closed_some word n files is =
       ap cut_as (some_done s.cut.inside after last word s.cut e n) ∙ ap (λ (ws : List (List ℕ)). cut_as (record s.cut { inside = after; on_failure = ws })) (sym is)
 
--- what stands in braces
+-- what is in braces
 none_put : (is : List ℕ) (atoms : ℕ → List Atom) → flat_map atoms (filter (λ i. false) is) ≡ []
 none_put [] atoms = refl
 none_put (i ∷ is) atoms = none_put is atoms

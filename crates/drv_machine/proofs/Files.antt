@@ -68,7 +68,7 @@ module _ (F : Facts) (C : Context) (s : Machine) (words : List (List ℕ)) where
     pub not_drawn : (fault : MachineFault) → (fault ≡ Memory) ⊎ (run F C s (draw_with F C contents Anew (codes ".args")) ≡ Is (Err fault)) → (fault ≡ Memory) ⊎ (run F C s (named_file F C words) ≡ Is (Err fault))
     not_drawn fault e = fails_as (run F C s (draw_with F C contents Anew (codes ".args") >>= named_path)) (run F C s (named_file F C words)) (then_fails F C s (draw_with F C contents Anew (codes ".args")) named_path fault e) (λ stopped. drawn_then ∙ stopped)
 
--- what stands between them
+-- what is between them
 module _ (F : Facts) (C : Context) where
   abbrev outside : World → World
   outside v = record v { is_in_file = false }
@@ -118,7 +118,7 @@ module _ (F : Facts) (C : Context) where
       ∙ then_same (broken F C c) (λ d. all_taken F C (file_begun d) atoms >>- λ e. Unasked) (λ d. done F C (file_begun d) (Waits atoms) >>- λ q. file_end F C q.1)
       (λ d. sym (then_then (all_taken F C (file_begun d) atoms) (λ e. Unasked) (λ q. file_end F C q.1)))
 
-  -- the whole part, as it is worked
+  -- the whole part, as it is run
   pub filed_runs : (s : Machine) (step : Step (Unit {0})) → run F C s (file_step F C step) ≡ ((file_from F C s >>- λ r. run F C r.1 step) >>- λ q. file_end F C q.1)
   filed_runs s step = filed_done s.cut (step (record s.world { is_in_file = true })) ∙ by (broken F C s.cut)
     where

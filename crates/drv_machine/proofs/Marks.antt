@@ -14,8 +14,8 @@ use Rattle.drv_system.specs.Known.{Is, Unasked}
 use Rattle.std.proofs.Common.{◌≡◌, List, [], ◌∷◌, ◌++◌, codes, false, refl, true, ℕ}
 use Rattle.std.specs.Prelude.{Bool, Err, None, Ok, Option, Result, Some}
 
--- What no text shows yet, by computation: marks on words, the limits, named texts and arguments. The expected values
--- were worked out by hand from the profile.
+-- What no text shows yet, by computation: marks on words, the limits, named texts and arguments. The expected values were derived by hand
+-- from the profile.
 
 -- the tree of a text
 abbrev tree : List ℕ → Items
@@ -85,7 +85,7 @@ module _ (F : Facts) where
   failure_file_none : left_behind (Put letter_a ∷ Break ∷ From ∷ Break ∷ To ∷ []) ≡ Is (Ok (None, []))
   failure_file_none = refl
 
-  -- a mark stands after a pipe, and a %V doesn't
+  -- a mark is after a pipe, and a %V isn't
   abbrev is_stray : List Atom → Answer Bool
   is_stray atoms = all_taken F one_switch nothing_cut atoms >>- λ c. Is (Ok c.stray)
 

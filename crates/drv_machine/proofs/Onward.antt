@@ -186,7 +186,7 @@ module _ (F : Facts) (C : Context) where
     part_ended left h = ap (λ xs. onward F C w.star xs left.arounds s) (sym (nothing_left text w.at left.rest w.end h left.lies)) ∙ left.same
 
     module _ (at : ℕ) (step : Levels → List ℕ → Step (Unit {0})) (b : Following F C text w at step s given) where
-      -- a step that was worked, or refused
+      -- a step that was run, or refused
       pub leaf : (result : Result (Unit {0}) MachineFault) (t : Machine) → GivesKnown Memory (λ u. (tt, t)) result (run F C s (step (levels_in F C b.arounds) (star_of C w.star)))
           → Went F C text (record w { at = at }) t given result
       leaf (Ok u) t e = record {
@@ -277,7 +277,7 @@ module _ (F : Facts) (C : Context) where
         deeper : levels_in F C (around ∷ b.arounds) ≡ levels_left F C (most_open - (length b.arounds + 1))
         deeper = let one : length (around ∷ b.arounds) ≡ length b.arounds + 1 = omega arith in ap (λ n. levels_left F C (most_open - n)) one
 
-        -- items that stand in it
+        -- items that are in it
         pub items_opened : (rest : Items) (start next : ℕ) → Stands inside start (nodes_of rest) next → v.at ≡ start → v.end ≡ next
             → (run F C t (items_step F C rest (levels_left F C (most_open - (length b.arounds + 1))) (star_of C star)) >>- λ r. ends F C (around ∷ b.arounds) r.1) ≡ given → Left F C inside v t given
         items_opened rest start next stands at_is end_is gives = record {

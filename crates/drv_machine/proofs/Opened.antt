@@ -15,8 +15,7 @@ use Rattle.std.proofs.Common.{◌≡◌, ◌++◌, List, [], ◌∷◌, arith, c
 use Rattle.std.proofs.lemmas.Fmt.{decimal_digit}
 use Rattle.std.specs.Prelude.{Err, None, Ok, Some}
 
--- Worked texts, by computation: rows that open a part. The expected values were worked out by hand from the manual and the
--- profile.
+-- Example texts, by computation: rows that open a part. The expected values were derived by hand from the manual and the profile.
 
 -- with these named texts
 abbrev named : List (List ℕ × List ℕ) → Context → Context
@@ -29,7 +28,7 @@ job_of F C text = worked F C text >>- λ o. Is (Ok o.job)
 abbrev outputs_of : Facts → List (List ℕ) → List ℕ → Answer (List (List ℕ))
 outputs_of F outputs text = worked F (record (linking []) { outputs = outputs }) text >>- λ o. Is (Ok o.outs)
 
--- each name stands for the next one, up to the last
+-- each name names the next one, up to the last
 abbrev chained : List (List ℕ × List ℕ)
 chained =
     (codes "d1", codes "%(d2)") ∷ (codes "d2", codes "%(d3)") ∷ (codes "d3", codes "%(d4)") ∷ (codes "d4", codes "%(d5)")
@@ -56,14 +55,14 @@ module _ (F : Facts) where
   abbrev cost_of : Context → List ℕ → Answer ℕ
   cost_of C text = texts.cost_of F C text
 
-  -- a named text is worked where its name stands; a missing one gives nothing
+  -- a named text is run in the place of its name; a missing one gives nothing
   named_text : words_of (named ((codes "n", codes "b c") ∷ []) (linking [])) (codes "a%(n)d %(m)") ≡ Is (Ok ((codes "ab" ∷ codes "cd" ∷ []) ∷ []))
   named_text = refl
 
   builtin_text : words_of (named ((codes "cc1", codes "x") ∷ (codes "asm", codes "y") ∷ []) (linking [])) (codes "%1 %a %2") ≡ Is (Ok ((codes "x" ∷ codes "y" ∷ []) ∷ []))
   builtin_text = refl
 
-  -- outside the braces of a text its %* stands for nothing, whatever it stands for around the name
+  -- outside the braces of a text its %* is empty, whatever it is around the name
   star_of_text : words_of (named ((codes "n", codes "%{k*:%*}") ∷ []) (linking (alone (codes "ma") ∷ alone (codes "kb") ∷ []))) (codes "%{m*:%(n)%*}") ≡ Is (Ok ((codes "b" ∷ codes "a" ∷ []) ∷ []))
   star_of_text = refl
 
@@ -71,7 +70,7 @@ module _ (F : Facts) where
   refused_inside : words_of (named ((codes "n", codes "%eno") ∷ []) (linking [])) (codes "a %(n) %i") ≡ Is (Err (UserError (codes "no")))
   refused_inside = refl
 
-  -- each name stands twice for the one before it: 8 bytes at a cost of 23
+  -- each name has the one before it twice: 8 bytes at a cost of 23
   abbrev doubled : List (List ℕ × List ℕ)
   doubled = (codes "a0", codes "x") ∷ (codes "a1", codes "%(a0)%(a0)") ∷ (codes "a2", codes "%(a1)%(a1)") ∷ (codes "a3", codes "%(a2)%(a2)") ∷ []
 
@@ -168,7 +167,7 @@ module _ (F : Facts) where
   wrong_count : words_of (linking []) (codes "%:version-compare(>= 1 mv=)") ≡ Is (Err (Funcs (WrongCount VersionCompare)))
   wrong_count = refl
 
-  -- arguments are worked before the function is called, their items count, and what stops first counts
+  -- arguments are run before the function is called, their items count, and what stops first counts
   arguments_worked : words_of (linking (alone (codes "mv=2") ∷ alone (codes "q") ∷ [])) (codes "%:version-compare(>= 1 %{q:mv=} x)") ≡ Is (Ok ((codes "x" ∷ []) ∷ []))
   arguments_worked = refl
 

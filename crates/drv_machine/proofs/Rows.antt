@@ -9,8 +9,8 @@ use Rattle.drv_system.specs.Known.{Is}
 use Rattle.std.proofs.Common.{◌≡◌, List, [], ◌∷◌, codes, refl, ℕ}
 use Rattle.std.specs.Prelude.{Err, None, Ok}
 
--- Worked texts, by computation: each text is parsed, worked and cut. The expected words were worked out by hand from
--- the manual and the profile, and hold whatever the facts say.
+-- Example texts, by computation: each text is parsed, run and cut. The expected words were derived by hand from the manual and the profile,
+-- and hold whatever the facts say.
 
 module _ (F : Facts) where
   abbrev words_of : Context → List ℕ → Answer (List (List (List ℕ)))
@@ -43,7 +43,7 @@ module _ (F : Facts) where
       ≡ Is (Ok ((codes "B" ∷ codes "-O1" ∷ codes "-O2" ∷ codes "-fno-x" ∷ codes "-fx" ∷ []) ∷ []))
   cancelled = refl
 
-  -- %* is worked for each hit
+  -- %* is run for each hit
   abbrev script : List ℕ
   script = codes "%{mcu=*:--script=%*/memory.ld}"
 
@@ -151,7 +151,7 @@ module _ (F : Facts) where
   choices : words_of (on (alone (codes "b") ∷ []) []) (codes "%{a:A;b:B;b:C;:D}%{a:A;:D}") ≡ Is (Ok ((codes "BD" ∷ []) ∷ []))
   choices = refl
 
-  -- the item of a brace counts, and those of the X as often as they are worked; white space at an end of an X isn't there
+  -- the item of a brace counts, and those of the X each time they are run; white space at an end of an X isn't there
   cost : cost_of (on (alone (codes "ma") ∷ alone (codes "mb") ∷ []) []) (codes "%{m*:x%* } %{q:yyy}") ≡ Is (Ok 7)
   cost = refl
 

@@ -11,9 +11,9 @@ use Rattle.std.proofs.Common.{◌≡◌, ◌<◌, ◌≤◌, ◌+◌, ◌-◌, �
 use Rattle.std.proofs.lemmas.Option.{slice_get_within}
 use Rattle.std.proofs.Math.Seq.{get_or-append_seam}
 
--- Where the parts of a tree stand in its flat list.
+-- Where the parts of a tree are in its flat list.
 
--- parts in a list of tokens, between what stands before them and what stands after
+-- parts in a list of tokens, between what precedes and what follows them
 slice_seam : {A : Type 0} (xs : List A) (y : A) (ys : List A) → slice_get (xs ++ y ∷ ys) (length xs) ≡ Some y
 slice_seam [] y ys = refl
 slice_seam (x ∷ xs) y ys = slice_seam xs y ys
@@ -106,7 +106,7 @@ pub record PartsLeft {X : Type 0} (nodes : X → Nodes) (text : List ℕ) (at en
   pub stands : Stands text at (nodes rest) end
   pub same : Same rest
 
--- a part that stands first, and what stands after it
+-- a first part, and what follows it
 pub record First (text : List ℕ) (at : ℕ) (kind : TokenKind) (label : Label) (inner others : Nodes) (end : ℕ) : Type 0 where
   pub next : ℕ
   pub part : Part (tokens_of (tree_of text)) (labels_of (tree_of text)) at kind label next
@@ -145,7 +145,7 @@ pub front : (text : List ℕ) (at : ℕ) (nodes : Nodes) (end : ℕ) → at < en
 front text at no_node end h e = absurd (omega (arith, h, e))
 front text at (node kind label span inner others) end h s = record { kind = kind; label = label; span = span; inner = inner; others = others; is = refl; first = first_of s }
 
--- what stands at a place before the end of parts, by the token there
+-- what is at a place before the end of parts, by the token there
 pub record Here (text : List ℕ) (at : ℕ) (token : Token) (end : ℕ) : Type 0 where
   pub in_list : at < length (tokens_of (tree_of text))
   pub later : at < token.next

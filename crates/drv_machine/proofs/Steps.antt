@@ -19,7 +19,7 @@ module _ {X Y : Type 0} (F : Facts) (C : Context) (s : Machine) (a : Step X) (f 
   pub then_err : (fault : MachineFault) → run F C s a ≡ Is (Err fault) → run F C s (a >>= f) ≡ Is (Err fault)
   then_err fault e = run_then F C s a f ∙ ap (λ (g : Answer (X × Machine)). g >>- λ r. run F C r.1 (f r.0)) e
 
-  -- a refusal of the first, or want of memory
+  -- a refusal of the first, or lack of memory
   pub then_fails : (fault : MachineFault) → (fault ≡ Memory) ⊎ (run F C s a ≡ Is (Err fault)) → (fault ≡ Memory) ⊎ (run F C s (a >>= f) ≡ Is (Err fault))
   then_fails fault (inl memory) = inl memory
   then_fails fault (inr e) = inr (then_err fault e)

@@ -100,7 +100,7 @@ module _ (F : Facts) (C : Context) (text : List ℕ) (s v : Machine) (at end : �
   plain_at : (f : FrontTest text at left.rest end) (b : Bool) → is_call (label_at (tree_of text) at) ≡ b → is_call (test_label f.negated f.asked) ≡ b
   plain_at f b e = ap is_call (sym f.first.part.label_is) ∙ e
 
-  -- a test by a function stands here
+  -- here is a test by a function
   pub found_asks : is_call (label_at (tree_of text) at) ≡ true → AskedTest F C text end s v at tests levels star
   found_asks e =
       let f = front_test text at left.rest end h left.stands in

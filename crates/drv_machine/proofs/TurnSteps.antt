@@ -28,7 +28,7 @@ use Rattle.std.proofs.Common.{◌≡◌, ◌⊎◌, ◌<◌, ◌≤◌, ◌+◌,
 use Rattle.std.proofs.lemmas.Bool.{false≢true}
 use Rattle.std.specs.Prelude.{◌↔◌, IsSome}
 
--- A turn, and what stands around it.
+-- A turn, and what is around it.
 
 -- the walk has gone on in the innermost part
 pub left_at : (F : Facts) (C : Context) (text : List ℕ) (w : Walk) (at : ℕ) (s : Machine) (given : Answer (Unit {0} × Machine)) → ((rest : Items) → Lies text w.at rest w.end → Lies text at rest w.end) → Left F C text w s given
@@ -111,7 +111,7 @@ module _ (text : List ℕ) (w : Walk) (item : AtItem text w) (token : Token) (th
       turn_builtin k name is =
           text_after name is (builtin_there F C text w.at front.next (levels_in F C counted_item.arounds) (star_of C w.star) front.item front.part front.within token there k)
 
-      -- what stands inside the item
+      -- what is inside the item
       inside_there : Stands text (w.at + 1) (inner_nodes front.item) token.next
       inside_there =
           subst (λ (k : ℕ). Stands text (w.at + 1) (inner_nodes front.item) k) (sym (next_at text w.at token (kind_of front.item) (label_of front.item) front.next there front.part)) front.within

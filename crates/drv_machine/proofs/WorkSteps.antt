@@ -19,9 +19,9 @@ use Rattle.drv_system.specs.Facts.{Facts}
 use Rattle.drv_system.specs.Known.{Is}
 use Rattle.std.proofs.Common.{◌≡◌, ◌⊎◌, ◌∙◌, Err, List, ap, refl, sym, ℕ}
 
--- Items by their kinds, where they stand.
+-- Items by their kinds, each at its place.
 
--- what the braces of an item mean stands there
+-- what the braces of an item mean is there
 pub item_means : (F : Facts) (C : Context) (text : List ℕ) (at end : ℕ) (levels : Levels) (star : List ℕ) (item : Item) → Stands text at (inner_nodes item) end
     → Means F C text (kind_of item) at end levels star (inner_step F C item levels star)
 item_means F C text at end levels star (tree.Plain b) s = tt

@@ -13,7 +13,7 @@ use Rattle.drv_words.specs.declared.plan.Command.{Command}
 use Rattle.std.proofs.Common.{List, [], ◌∷◌, ◌++◌, map, ℕ}
 use Rattle.std.specs.Prelude.{Err, None, Ok, Result, Some, false}
 
--- What the worked texts are worked for, and what is looked at of what they give.
+-- What the example texts are run for, and what is compared of their results.
 
 -- a switch of its own, and one with an argument
 abbrev pub alone : List ℕ → Switch

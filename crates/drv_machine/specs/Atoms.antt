@@ -46,7 +46,7 @@ turned negated holds = if negated then not holds else holds
 abbrev pub added : List ℕ → List (List ℕ) → List (List ℕ)
 added option options = if is_among options option then options else options ++ option ∷ []
 
--- what the user is told of a text (this project's profile)
+-- what the user reads of a text (this project's profile)
 abbrev pub noted : List ℕ → List ℕ
 noted text = codes "note: " ++ text
 
@@ -114,7 +114,7 @@ module _ (F : Facts) (C : Context) where
   abbrev pub places : List ℕ
   places = range_with_len 0 (length C.switches)
 
-  -- a switch as it stands on the line, and its argument
+  -- a switch as the line has it, and its argument
   abbrev pub switch_atoms : ℕ → List Atom
   switch_atoms i = map Put (hyphen ∷ name_at (names C) i) ++ Break ∷ word_of (argument C i)
 
@@ -131,7 +131,8 @@ module _ (F : Facts) (C : Context) where
   abbrev pub arguments : Step (Unit {0}) → Step (List (List ℕ))
   arguments step w = words_of w (step w)
 
-  -- what a function gives for these words, which were worked before it is called, and the outputs after it; no text has a function of another name
+  -- what a function gives for these words, which were run before it is called, and the outputs after it; no text has a function of another
+  -- name
   abbrev pub called_step : List (List ℕ) → Option Func → World → Step (Option (List ℕ))
   called_step args None w = give None
   called_step args (Some function) w =
@@ -153,13 +154,13 @@ module _ (F : Facts) (C : Context) where
   abbrev pub tree_named : List ℕ → Option Items
   tree_named name = option_map tree_of (text_named C name)
 
-  -- the name of a file with these words stands for them; for none stands nothing
+  -- the name of a file with these words takes their place; for none there is nothing
   abbrev pub named_file : List (List ℕ) → Step (Unit {0})
   named_file [] = nothing
   named_file (word ∷ words) =
       draw_with (response_text (word ∷ words)) Anew (codes ".args") >>= λ path. puts (map Put (at_sign ∷ path) ++ Break ∷ [])
 
-  -- what stands in a %@ that makes a file: its words are those of the file, and then the file is named
+  -- what is in a %@ that makes a file: its words are those of the file, and then the file is named
   abbrev pub filed : Worked (Unit {0}) → Worked (Unit {0})
   filed (Goes atoms u v) =
       following (Break ∷ FileFrom ∷ atoms ++ Break ∷ FileTo ∷ []) ((needs (file_words F C atoms) >>= named_file) (record v { is_in_file = false }))
@@ -169,11 +170,11 @@ module _ (F : Facts) (C : Context) where
   abbrev pub file_step : Step (Unit {0}) → Step (Unit {0})
   file_step step w = filed (step (record w { is_in_file = true }))
 
-  -- a %@ makes a file where words of the line come from one, unless it stands in another
+  -- a %@ makes a file where words of the line are from one, unless it is in another
   abbrev pub starts_file : World → Bool
   starts_file w = C.from_file && not w.is_in_file
 
-  -- a named text is worked in one more open part; a missing one gives nothing
+  -- a named text is run in one more open part; a missing one gives nothing
   abbrev pub named : Option Items → Levels → Step (Unit {0})
   named None levels = nothing
   named (Some items) levels = opened levels (λ deeper inside. deeper items)
@@ -211,7 +212,7 @@ module _ (F : Facts) (C : Context) where
   leaf_step PreprocessorOptions = puts (words C.preprocessor)  -- %Z
   leaf_step Directories = folders_step  -- %D
 
-  -- the rows. `star` is what %* stands for; `levels` has a place for each part that may still be opened
+  -- the rows. `star` is the value of %*; `levels` has a place for each part that may still be opened
   abbrev mutual
     pub item_step : Item → Levels → List ℕ → Step (Unit {0})
     item_step (Plain b) levels star = puts (Put b ∷ [])
@@ -236,7 +237,7 @@ module _ (F : Facts) (C : Context) where
     item_step (ArgumentsFile brace) levels star =
         opened levels (λ deeper inside. look starts_file >>= λ starts. if starts then file_step (brace_step brace inside star) else brace_step brace inside star)  -- %@{..}
 
-    -- items one after another, each counted before it is worked
+    -- items one after another, each counted before it is run
     pub items_step : Items → Levels → List ℕ → Step (Unit {0})
     items_step none levels star = nothing
     items_step (more span item items) levels star = counted >> item_step item levels star >> items_step items levels star

@@ -1,4 +1,4 @@
--- How the code goes over its input, step by step: what stands between the code and the definitions. No public contract rests on these.
+-- How the code goes over its input, step by step: what links the code with the definitions. No public contract rests on these.
 pub mod ByKind
 pub mod Grouping
 pub mod Held

@@ -6,7 +6,7 @@ use Rattle.std.specs.Cmp.Lexicographic.{pointwise}
 use Rattle.std.specs.Map.{lookup}
 use Rattle.std.specs.Prelude.{Bool, List, Option, None, Some, get_or, map, nat_eq, ℕ}
 
--- What a text is worked for (this project's profile).
+-- What a text is run for (this project's profile).
 
 -- an input: its name, and the name of its language if it has one
 pub record Source : Type 0 where

@@ -7,7 +7,7 @@ use Rattle.drv_system.specs.Known.{Is}
 use Rattle.std.specs.List.{filter, filter_map, flat_map, list_any}
 use Rattle.std.specs.Prelude.{◌≡◌, ◌&&◌, ◌||◌, Bool, List, [], ◌∷◌, ◌++◌, Option, None, Some, Ok, false, if◌then◌else◌, is_some, not, option_and_then, suc, true, zero, ℕ}
 
--- What a list of atoms is cut into, said of the list as it stands (this project's profile). `Cutting` says it atom by atom.
+-- What a list of atoms is cut into, by definitions over the whole list (this project's profile). `Cutting` says it atom by atom.
 
 -- a word ends here
 abbrev pub ends_word : Atom → Bool
@@ -48,12 +48,12 @@ abbrev pub is_bar : Atom → Bool
 is_bar Without = true
 is_bar atom = false
 
--- atoms between two places where a word ends, and what stands after them
+-- atoms between two places where a word ends, and what follows them
 pub record Run : Type 0 where
   pub atoms : List Atom
   pub following : List Atom
 
--- the runs that end; these atoms stand before, since a word ended
+-- the runs that end; these atoms precede, since a word ended
 abbrev pub runs : List Atom → List Atom → List Run
 runs before [] = []
 runs before (atom ∷ atoms) = if ends_word atom then record { atoms = before; following = atoms } ∷ runs [] atoms else runs (before ++ atom ∷ []) atoms
@@ -68,7 +68,7 @@ words_after before atoms = filter is_word (runs before atoms)
 abbrev pub words : List Atom → List Run
 words atoms = words_after [] atoms
 
--- a %V stands after the beginning of the word
+-- a %V follows the beginning of the word
 abbrev pub is_barred : List Atom → Bool
 is_barred [] = false
 is_barred (atom ∷ atoms) = if opens_word atom then list_any is_bar atoms else is_barred atoms
@@ -205,7 +205,7 @@ part_of atom = if is_part atom then Part ∷ [] else []
 abbrev pub word_of : Run → List Piece
 word_of run = if is_word run then Word run ∷ [] else []
 
--- the commands that end; this run and these pieces stand before
+-- the commands that end; this run and these pieces precede
 abbrev pub commands : List Atom → List Piece → List Atom → List (List Piece)
 commands run pieces [] = []
 commands run pieces (Break ∷ atoms) = commands [] (pieces ++ word_of (record { atoms = run; following = atoms })) atoms
@@ -229,14 +229,14 @@ abbrev pub is_pipe : Piece → Bool
 is_pipe Pipe = true
 is_pipe piece = false
 
--- a pipe is stray where no word stands before it in its command
+-- a pipe is stray where no word precedes it in its command
 abbrev pub lacks_word : List Piece → Bool
 lacks_word [] = false
 lacks_word (Word word ∷ pieces) = false
 lacks_word (Part ∷ pieces) = lacks_word pieces
 lacks_word (Pipe ∷ pieces) = true
 
--- and where part of a word or a pipe stands after it
+-- and where part of a word or a pipe follows it
 abbrev pub has_more : List Piece → Bool
 has_more [] = false
 has_more (Word word ∷ pieces) = has_more pieces
@@ -275,7 +275,7 @@ abbrev pub without_file : Stretch → List Atom
 without_file (Bare atom) = atom ∷ []
 without_file (Filed atoms) = Break ∷ []
 
--- a file begins or ends that is not one of the list's, or stands in one
+-- a file begins or ends that is not one of the list's, or is in one
 abbrev pub is_broken : Stretch → Bool
 is_broken (Bare atom) = bounds_file atom
 is_broken (Filed atoms) = list_any bounds_file atoms
@@ -314,7 +314,7 @@ Balanced (Refuses atoms fault) = (enclosed : Enclosed) → is_some (open_followi
 Balanced (Waits atoms) = (enclosed : Enclosed) → is_some (open_following atoms enclosed 0) ≡ true
 
 module _ (F : Facts) (C : Context) where
-  -- the words of a command, and whether a pipe stands in it
+  -- the words of a command, and whether it has a pipe
   abbrev pub line_of : List Piece → Answer CutLine
   line_of [] = Is (Ok no_line)
   line_of (Word word ∷ pieces) = texts F C word >>- λ words. line_of pieces >>- λ line. Is (Ok (record { words = words ++ line.words; piped = line.piped }))

@@ -63,7 +63,7 @@ marked AsOutput marks = record marks { output = true }
 marked AsFile marks = record marks { file = true }
 marked AsScript marks = record marks { script = true }
 
--- something stands here: after a pipe nothing of its command may
+-- something is here: nothing of its command may follow a pipe
 abbrev pub touched : Cut → Cut
 touched c = record c { stray = c.stray || c.line.piped }
 
@@ -84,7 +84,7 @@ word_done c words last = record c {
   inside = map (λ before. Some last) c.inside;
 }
 
--- the command of a line, if a word stands in it
+-- the command of a line, if it has a word
 abbrev pub named_line : CutLine → Option NamedLine
 named_line line = by line.words
   where
@@ -96,7 +96,7 @@ named_line line = by line.words
 abbrev pub line_done : Cut → Cut
 line_done c = record c { line = no_line; lines = c.lines ++ option_to_list (named_line c.line) }
 
--- a pipe stands after the words so far: there has to be one, and no pipe yet
+-- a pipe follows the words so far: there has to be one, and no pipe yet
 abbrev pub pipe_done : Cut → Cut
 pipe_done c = by c.line.words
   where
@@ -104,7 +104,7 @@ pipe_done c = by c.line.words
     by [] = record c { stray = true; line = record { words = []; piped = true } }
     by words = record (touched c) { line = record { words = words; piped = true } }
 
--- the innermost %W has ended. Where none is open, none ends: the atoms of no text come to that (`text_law`).
+-- the innermost %W has ended. Where none is open, none ends: the atoms of no text do that (`text_law`).
 abbrev pub inside_done : List (Option (List ℕ)) → Cut → Cut
 inside_done [] c = c
 inside_done (None ∷ outer) c = record c { inside = outer }
@@ -130,7 +130,7 @@ pipe_ended c = by c.outer
 abbrev pub file_begun : Cut → Cut
 file_begun c = record c { outer = Some c.line; line = no_line }
 
--- and ends. Where none is open, none ends: the atoms of no text come to that either.
+-- and ends. Where none is open, none ends: the atoms of no text do that either.
 abbrev pub file_done : Cut → Cut
 file_done c = by c.outer
   where

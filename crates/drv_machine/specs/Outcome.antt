@@ -44,7 +44,7 @@ ends_piped [] = false
 ends_piped (line ∷ []) = line.piped
 ends_piped (line ∷ other ∷ lines) = ends_piped (other ∷ lines)
 
--- each once, where it stands first
+-- each once, at its first place
 abbrev pub once : List (List ℕ) → List (List ℕ)
 once [] = []
 once (file ∷ files) = file ∷ filter (λ other. not (pointwise nat_eq file other)) (once files)
@@ -64,7 +64,7 @@ job w c commands = record {
   output = c.output;
 }
 
--- after the whole text: first that pipes stand right, then that none is too long
+-- after the whole text: first that pipes are right, then that none is too long
 abbrev pub finished : Facts → Context → World → Cut → Answer Outcome
 finished F C w c =
     if c.stray || ends_piped c.lines then Is (Err StrayPipe)
@@ -78,6 +78,6 @@ cut F C (Goes atoms u w) = all_taken F C nothing_cut atoms >>- λ c. finished F 
 cut F C (Refuses atoms fault) = all_taken F C nothing_cut atoms >>- λ c. Is (Err fault)
 cut F C (Waits atoms) = all_taken F C nothing_cut atoms >>- λ c. Unasked
 
--- what working a text comes to
+-- what running a text gives
 abbrev pub outcome : Facts → Context → Items → Answer Outcome
 outcome F C items = cut F C (atoms F C items)

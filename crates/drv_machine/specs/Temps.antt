@@ -13,7 +13,7 @@ use Rattle.std.specs.Prelude.{◌&&◌, ◌+◌, ◌-◌, ◌++◌, ◌/◌, ◌
 -- The names of temporaries (GCC manual, "Environment Variables", TMPDIR; how a name goes on from there is this project's
 -- profile).
 
--- the folder that they stand in, with a slash at its end
+-- the folder that they are in, with a slash at its end
 abbrev pub folder : Option (List ℕ) → List ℕ
 folder None = codes "/tmp/"
 folder (Some []) = codes "/tmp/"

@@ -10,7 +10,7 @@ use Rattle.drv_system.specs.Known.{Is}
 use Rattle.std.specs.List.{flat_map}
 use Rattle.std.specs.Prelude.{◌≡◌, List, Ok, false, map, ℕ}
 
--- The job of a text, told by its list of atoms as it stands (this project's profile).
+-- The job of a text, by definitions over its whole list of atoms (this project's profile).
 
 -- files that are no temporaries of the job
 abbrev pub lasting_of : World → Answer (List (List ℕ)) → Answer (List (List ℕ))

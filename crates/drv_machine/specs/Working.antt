@@ -73,7 +73,7 @@ called Unasked = Unasked
 called (Is (Ok x)) = Is (Ok x)
 called (Is (Err fault)) = Is (Err (funcs_lifted fault))
 
--- atoms, and then a value and the world after them; or a refusal; or the want of an answer of the facts
+-- atoms, and then a value and the world after them; or a refusal; or the lack of an answer of the facts
 pub data Worked (X : Type 0) : Type 0 where
   Goes : List Atom → X → World → Worked X
   Refuses : List Atom → MachineFault → Worked X

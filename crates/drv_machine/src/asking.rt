@@ -52,14 +52,14 @@ fn is_call(text: &SpecTree, at: usize) -> bool
 pub(crate) enum Judged {
     /// The test at this place is true, and none before it.
     True(usize),
-    /// The test at this place is by a function, whose arguments are worked first, and none before
-    /// it is true.
+    /// The test at this place is by a function, whose arguments are run first, and none before it
+    /// is true.
     Asks(usize),
     /// None is true.
     Neither,
 }
 
-/// What is found first among the tests that stand from one place up to another.
+/// What is found first among the tests from one place up to another.
 pub(crate) fn first_true(
     text: &SpecTree,
     context: &Context<'_>,

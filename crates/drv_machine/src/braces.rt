@@ -24,8 +24,8 @@ use crate::walk::{Asking, Each, Walk};
 use crate::{Context, MachineFault};
 use drv_syntax::{SpecTree, TestKind};
 
-/// Whether an X is worked for each hit: the test at a place asks for a switch, and X has a `%*` of
-/// its own.
+/// Whether an X is run for each hit: the test at a place asks for a switch, and X has a `%*` of its
+/// own.
 fn is_for_each(text: &SpecTree, test: usize, own: bool) -> bool
     requires { test < length (tokens_of (tree_of text.now)) }
     ensures { result ≡ (asks_switch (label_at (tree_of text.now) test) && own) }
@@ -117,8 +117,8 @@ pub(crate) fn answer(
     }
 }
 
-/// The first of the alternatives with a true test that stand from one place up to another is
-/// reached or opened, or the default, or the place after them.
+/// The first alternative with a true test, among those from one place up to another, is reached or
+/// opened; or the default is; or the place after them is reached.
 #[inline(never)]
 pub(crate) fn choose(
     text: &SpecTree,

@@ -1,4 +1,4 @@
-//! Functions in a text, whose arguments are worked as an open part with a cut of its own.
+//! Functions in a text, whose arguments are run as an open part with a cut of its own.
 
 ghost use Rattle.drv_machine.specs.Atoms.{item_step};
 ghost use Rattle.drv_machine.specs.Context as specs;

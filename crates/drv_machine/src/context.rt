@@ -1,4 +1,4 @@
-//! What a text is worked for: a line, and an input of it or the link.
+//! What a text is run for: a line, and an input of it or the link.
 
 ghost use Rattle.drv_machine.specs.Context.{argument, names, site_of, text_named};
 ghost use Rattle.std.specs.Option.{option_map};
@@ -14,7 +14,7 @@ use drv_words::{Listing, Word};
 use std::alloc::{AllocError, Global};
 use std::marker::Model;
 
-/// An input that a text is worked for. It is lent its names.
+/// An input that a text is run for. It borrows its names.
 #[derive(Debug, Drop)]
 pub struct Source<'a> {
     pub name: &'a [u8],
@@ -31,8 +31,8 @@ impl<'a> Model for Source<'a> {
     ghost view = { λ s. record { name = s.name.now; language = option_map (λ name. name.now) s.language } };
 }
 
-/// What a text is worked for: a line, the named texts and the prefixes of its searches, which are
-/// lent, what goes on from one text to the next, and an input or the link.
+/// What a text is run for: a line, the named texts and the prefixes of its searches, which are
+/// borrowed, what goes on from one text to the next, and an input or the link.
 #[derive(Drop)]
 pub struct Context<'a> {
     line: &'a Line,
@@ -80,8 +80,8 @@ fn argument_at(switches: &[Switch], i: usize) -> &Option<Word>
 }
 
 impl<'a> Context<'a> {
-    /// What the first text of a line is worked for, as it would be for a link without outputs: no
-    /// option was added, and the names of temporaries are numbered from 1. Want of memory is the
+    /// What the first text of a line is run for, as it would be for a link without outputs: no
+    /// option was added, and the names of temporaries are numbered from 1. Lack of memory is the
     /// only error.
     pub fn new(
         alloc: Global,
@@ -119,7 +119,7 @@ impl<'a> Context<'a> {
         })
     }
 
-    /// The same, for this input, or none for the link. It takes no memory.
+    /// The same, for this input, or none for the link. The call allocates nothing.
     pub fn set_input(&mut self, input: Option<Source<'a>>)
         ensures { self.new ≡ record self.old { input = input.entry } }
     {
@@ -127,7 +127,7 @@ impl<'a> Context<'a> {
     }
 
     /// The same, with what goes on from a text: the options that were added so far, and the number
-    /// of the next name that is drawn. It takes no memory.
+    /// of the next name that is drawn. The call allocates nothing.
     pub fn go_on(&mut self, options: Listing<Word>, number: usize)
         ensures { self.new ≡ record self.old { options = options; number = number } }
     {
@@ -135,7 +135,7 @@ impl<'a> Context<'a> {
         self.number = number;
     }
 
-    /// The same, with these outputs of the jobs so far. It takes no memory.
+    /// The same, with these outputs of the jobs so far. The call allocates nothing.
     pub fn set_outputs(&mut self, outputs: Listing<Word>)
         ensures { self.new ≡ record self.old { outputs = outputs } }
     {
@@ -157,7 +157,7 @@ impl<'a> Context<'a> {
         argument_at(self.line.switches.as_slice(), i)
     }
 
-    /// Whether `-pipe` stands on the line.
+    /// Whether the line has `-pipe`.
     pub(crate) fn is_piping(&self) -> bool
         ensures { result ≡ self.now.is_piping }
     {

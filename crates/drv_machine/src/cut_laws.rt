@@ -20,12 +20,12 @@ ghost use Rattle.std.specs.List.{flat_map, list_any};
 ghost use Rattle.std.specs.Prelude.{◌≡◌, ◌∷◌, ◌++◌, [], List, Ok, Some, false, length};
 ghost use Rattle.std.specs.Prelude.{option_to_list, ℕ};
 
-/// The law that a list of atoms is cut as the list as it stands says: the output is the last word
-/// that is marked as one and begins after the last `%V`, the removed files are the words that are
-/// marked so, the failure files are the words that are marked as outputs and of each `%W` the last
-/// word that ends in it, and the cut stops exactly where, of the words in their order, the first is
-/// not found. Where none ends that is not open, it has as many `%W` and files open as the list. It
-/// takes and gives nothing.
+/// The law that a list of atoms is cut as the definitions over the whole list say. The output is
+/// the last word that is marked as one and begins after the last `%V`. The removed files are the
+/// words that are marked so. The failure files are the words that are marked as outputs, and of
+/// each `%W` the last word that ends in it. The cut stops exactly where, of the words in their
+/// order, the first is not found. Where none ends that is not open, it has as many `%W` and files
+/// open as the list. It takes and gives nothing.
 pub fn cut_law()
     ensures output { (F : Facts) (C : specs.Context) (atoms : List Atom) (c : Cut)
         → all_taken F C nothing_cut atoms ≡ Is (Ok c)
@@ -46,11 +46,11 @@ pub fn cut_law()
         → length (option_to_list c.outer) ≡ n }
 {}
 
-/// The law that a list of atoms in which no file begins is cut into the commands that the list as
-/// it stands says: the words of a command are those that end in it, a command without a word is
-/// dropped, and a pipe is stray exactly where no word stands before it in its command, or part of a
-/// word or a pipe stands after it. The words of arguments are those of their last command. It takes
-/// and gives nothing.
+/// The law that a list of atoms in which no file begins is cut into the commands that the
+/// definitions over the whole list say. The words of a command are those that end in it, and a
+/// command without a word is dropped. A pipe is stray exactly where no word precedes it in its
+/// command, or part of a word or a pipe follows it. The words of arguments are those of their last
+/// command. It takes and gives nothing.
 pub fn command_law()
     ensures lines { (F : Facts) (C : specs.Context) (atoms : List Atom) (c : Cut)
         → list_any begins_file atoms ≡ false
@@ -64,9 +64,9 @@ pub fn command_law()
         ≡ Is (Ok found) }
 {}
 
-/// The law of a list of atoms in which `%@` makes files: their words are those that end in them,
-/// and the commands, stray pipes and arguments are those of the list from which the files are taken
-/// out, each of them a break. It takes and gives nothing.
+/// The law of a list of atoms in which `%@` makes files: their words are those that end in them.
+/// The commands, stray pipes and arguments are those of the list without the files, where each file
+/// is a break. It takes and gives nothing.
 pub fn file_law()
     ensures words { (F : Facts) (C : specs.Context) (atoms : List Atom) (found : List (List ℕ))
         → list_any bounds_file atoms ≡ false → file_words F C atoms ≡ Is (Ok found)
@@ -87,11 +87,11 @@ pub fn file_law()
         >>- λ line. Is (Ok line.words)) ≡ Is (Ok found) }
 {}
 
-/// The law that the atoms of every text are a list of which `file_law` speaks: no file stands in
-/// another, and none is left open. So the job of a text is told by its list of atoms as it stands:
-/// its groups, output, marked files and failure files. No `%W` and no file ends that is not open, in
-/// a text that is worked to its end or not, and in any items of one, as the arguments of a function.
-/// It takes and gives nothing.
+/// The law that the atoms of every text are a list of which `file_law` speaks: no file is in
+/// another, and none is left open. So definitions over its whole list of atoms say the job of a
+/// text: its groups, output, marked files and failure files. No `%W` and no file ends that is not
+/// open, in a text that is run to its end or not, and in any items of one, as the arguments of a
+/// function. It takes and gives nothing.
 pub fn text_law()
     ensures stretched { (F : Facts) (C : specs.Context) (items : Items) (list : List Atom)
         (w : World) → atoms F C items ≡ Goes list tt w → Stretched list }

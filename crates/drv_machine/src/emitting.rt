@@ -1,4 +1,4 @@
-//! Switches put as they stand on the line.
+//! Switches put as the line has them.
 
 ghost use Rattle.drv_system.specs.Code.Asked.{Asked};
 ghost use Rattle.drv_machine.specs.Atoms.{emitted, matching};
@@ -22,7 +22,7 @@ use drv_system::{Outside, System};
 use drv_words::Listing;
 use std::alloc::{AllocError, Global};
 
-/// The patterns that stand from one place up to another.
+/// The patterns from one place up to another.
 fn patterns_in<'a>(
     alloc: Global,
     text: &'a SpecTree,
@@ -97,7 +97,7 @@ fn put_all<S: System>(
     put_switches(context, places, machine, outside)
 }
 
-/// Puts each switch that one of the patterns hits which stand from one place up to another.
+/// Puts each switch that one of the patterns from one place up to another hits.
 #[tactic(auto, using(drv_system::proofs::AskedCalls::asked_none))]
 pub(crate) fn emit<S: System>(
     text: &SpecTree,

@@ -22,7 +22,7 @@ use crate::{Context, MachineFault};
 use drv_syntax::{SpecTree, TokenKind};
 use drv_system::{Outside, System};
 
-/// Whether patterns stand from one place up to another, and no alternatives.
+/// Whether there are patterns from one place up to another, and no alternatives.
 fn has_patterns(text: &SpecTree, start: usize, end: usize) -> bool
     requires { Spans text.now start end }
     ensures patterns { IsTrue result → (brace : tree.Brace)
@@ -39,7 +39,7 @@ fn has_patterns(text: &SpecTree, start: usize, end: usize) -> bool
     }
 }
 
-/// What stands in braces from one place up to another is worked, or reached.
+/// The part in braces from one place up to another is run, or reached.
 #[tactic(auto, using(drv_system::proofs::AskedCalls::asked_none))]
 pub(crate) fn work_brace<S: System>(
     text: &SpecTree,
@@ -93,7 +93,7 @@ fn open_failure(end: usize, walk: &mut Walk<'_>, machine: &mut Machine) -> Resul
     machine.begin_failure()
 }
 
-/// A `%W` is opened, and what stands in it from one place up to another is worked, or reached.
+/// A `%W` is opened, and its part from one place up to another is run, or reached.
 #[inline(never)]
 #[tactic(auto, using(drv_system::proofs::AskedCalls::asked_none))]
 pub(crate) fn work_failure<S: System>(

@@ -6,7 +6,7 @@ use drv_words::Word;
 use std::alloc::{AllocError, AllocFailed};
 use thiserror::Error;
 
-/// Why a spec text that is worked has no job.
+/// Why a spec text that is run has no job.
 #[derive(Debug, Drop, Error)]
 pub enum MachineFault {
     /// An allocation was refused.
@@ -22,10 +22,10 @@ pub enum MachineFault {
     /// More than 1,000,000 items are reached.
     #[error("too many spec steps")]
     TooManySteps,
-    /// `%i`, `%b` or `%B` stands in the link's text.
+    /// The link's text has `%i`, `%b` or `%B`.
     #[error("no input file in this spec")]
     NoInput,
-    /// `%o` stands in a text other than the link's.
+    /// A text other than the link's has `%o`.
     #[error("%o is for the link alone")]
     NotInLink,
     /// A `|` is not at the end of a command with a word, or no further command follows it.

@@ -85,7 +85,7 @@ fn open_filed<S: System>(
     machine.begin_file(context, outside)
 }
 
-/// A `%@` is opened, and what stands in it from one place up to another is worked, or reached.
+/// A `%@` is opened, and its part from one place up to another is run, or reached.
 #[inline(never)]
 pub(crate) fn work_filed<S: System>(
     text: &SpecTree,

@@ -1,4 +1,4 @@
-//! An X that is worked for each hit.
+//! An X that is run for each hit.
 
 ghost use Rattle.drv_system.specs.Code.Asked.{Asked};
 ghost use Rattle.drv_machine.specs.Atoms.{matching};

@@ -112,8 +112,8 @@ fn work_leaf<S: System>(
     }
 }
 
-/// Works the item at a place, which is this token, and opens no part and has no alternatives;
-/// `star` is what `%*` stands for.
+/// Runs the item at a place, which is this token, and opens no part and has no alternatives; `star`
+/// is the value of `%*`.
 #[inline(never)]
 #[tactic(auto, using(drv_system::proofs::AskedCalls::asked_none))]
 pub(crate) fn work_item<S: System>(

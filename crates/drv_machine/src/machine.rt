@@ -108,11 +108,11 @@ pub(crate) struct Machine {
     word: SmallVec<u8, 256>,
     /// The words of the open command.
     line: Listing<Word>,
-    /// Whether a pipe stands after them.
+    /// Whether a pipe follows them.
     is_piped: bool,
     /// The commands that have ended.
     lines: Listing<NamedLine>,
-    /// Whether a pipe stood where none may.
+    /// Whether a pipe was where none may be.
     is_stray: bool,
     /// The command, where words go to the file of a `%@`.
     outer: Option<CutLine>,
@@ -173,7 +173,7 @@ impl Model for Machine {
 
 impl Machine {
     /// Nothing is cut, hidden or counted; options, numbers and outputs go on from the texts before.
-    /// Want of memory is the only error.
+    /// Lack of memory is the only error.
     pub(crate) fn new(alloc: Global, context: &Context<'_>) -> Result<Machine, AllocError>
         ensures { IfOk result (λ made. (F : Facts) → made ≡ begun F context.now) }
     {
@@ -203,7 +203,7 @@ impl Machine {
         })
     }
 
-    /// Bytes go into the open word, or open one; no bytes change nothing. Want of memory is the
+    /// Bytes go into the open word, or open one; no bytes change nothing. Lack of memory is the
     /// only error.
     fn put_bytes(&mut self, bytes: &[u8]) -> Result<(), AllocError>
         ensures does { (F : Facts) (C : specs.Context) → OnOk result
@@ -232,7 +232,7 @@ impl Machine {
         Ok(())
     }
 
-    /// A byte goes into the open word, or opens one. Want of memory is the only error.
+    /// A byte goes into the open word, or opens one. Lack of memory is the only error.
     fn put_byte(&mut self, byte: u8) -> Result<(), AllocError>
         ensures does { (F : Facts) (C : specs.Context) → OnOk result
             (run F C self.old (step.bytes (byte ∷ [])) ≡ Is (Ok (tt, self.new))) }
@@ -246,7 +246,7 @@ impl Machine {
     }
 
     /// The bytes of an item go into the open word, or open one: mostly one byte, which has a
-    /// shorter path. Want of memory is the only error.
+    /// shorter path. Lack of memory is the only error.
     pub(crate) fn put_item(&mut self, bytes: &[u8]) -> Result<(), AllocError>
         ensures does { (F : Facts) (C : specs.Context) → OnOk result
             (run F C self.old (step.bytes bytes.now) ≡ Is (Ok (tt, self.new))) }
@@ -287,8 +287,8 @@ impl Machine {
         Ok(())
     }
 
-    /// A pipe stands after the words of the open command: there has to be one, and no pipe yet. In
-    /// a file it is none.
+    /// A pipe follows the words of the open command: there has to be one, and no pipe yet. In a
+    /// file it is none.
     fn close_with_pipe(&mut self)
         ensures { self.new ≡ record self.old { cut = pipe_ended self.old.cut } }
     {
@@ -317,8 +317,8 @@ impl Machine {
         self.close_line()
     }
 
-    /// The open word ends, and its command with a pipe. Whether pipes stand right is judged after
-    /// the whole text.
+    /// The open word ends, and its command with a pipe. Whether pipes are right is judged after the
+    /// whole text.
     #[tactic(auto, using(drv_system::proofs::AskedCalls::asked_further))]
     pub(crate) fn pipe<S: System>(
         &mut self,
@@ -362,8 +362,8 @@ impl Machine {
         self.end_word(context, outside)
     }
 
-    /// The switch at a place as it stands on the line, its first `-` and its argument included; it
-    /// ends the word that it stands in.
+    /// The switch at a place as the line has it, its first `-` and its argument included; it ends
+    /// the word that it is in.
     #[tactic(auto, using(drv_system::proofs::AskedCalls::asked_further))]
     pub(crate) fn put_switch<S: System>(
         &mut self,
@@ -407,7 +407,7 @@ impl Machine {
         Ok(())
     }
 
-    /// Hides every switch that a pattern names. It takes no memory.
+    /// Hides every switch that a pattern names. The call allocates nothing.
     pub(crate) fn hide(&mut self, switches: &Switches<'_>, pattern: &Pattern<'_>)
         requires { length self.old.world.hidden ≡ length switches.now }
         ensures does { self.new ≡ record self.old {

@@ -1,4 +1,4 @@
-//! Named texts, each of which is worked as an open part.
+//! Named texts, each of which is run as an open part.
 
 ghost use Rattle.drv_machine.specs.Atoms.{named, tree_named};
 ghost use Rattle.drv_machine.specs.Code.Running as running;

@@ -7,7 +7,7 @@ use drv_words::{Job, Listing, Word};
 pub struct Outcome {
     /// The plan says of which source it is.
     pub job: Job,
-    /// What the user is told: each text of a `%n` after `note: `.
+    /// What the user reads: each text of a `%n` after `note: `.
     pub notices: Listing<Word>,
     /// The outputs of the jobs before, as functions left them.
     pub outs: Listing<Word>,

@@ -29,7 +29,7 @@ pub fn pattern_at(tree: &SpecTree, at: usize) -> Pattern<'_>
     }
 }
 
-/// Where the tests end that stand first among parts.
+/// The end of the tests that are first among parts.
 pub fn tests_end(tree: &SpecTree, start: usize, end: usize) -> usize
     requires { Spans tree.now start end }
     ensures tests { (nodes : Nodes) → Stands tree.now start nodes end

@@ -16,14 +16,14 @@ use crate::stack::Stack;
 use drv_syntax::{SpecTree, TokenKind};
 use std::alloc::Global;
 
-/// What `%*` stands for: the name of a switch, but for its first bytes.
+/// The value of `%*`: the name of a switch, but for its first bytes.
 #[derive(Clone, Copy, Debug, Default)]
 pub(crate) struct Rest {
     pub(crate) switch: usize,
     pub(crate) size: usize,
 }
 
-/// An X that is worked for each hit: the place of the test that asks for the switch, and where X
+/// An X that is run for each hit: the place of the test that asks for the switch, and where X
 /// begins and ends.
 #[derive(Clone, Copy, Debug, Default)]
 pub(crate) struct Each {
@@ -99,8 +99,8 @@ pub(crate) struct Frame<'a> {
     pub(crate) star: Option<Rest>,
 }
 
-/// A walk: the text that is worked, the place of it that is reached, where the innermost open part
-/// ends, what `%*` stands for in it, and the open parts.
+/// A walk: the text that is run, the place that it reached, where the innermost open part ends, the
+/// value of `%*` in it, and the open parts.
 #[derive(Drop)]
 pub(crate) struct Walk<'a> {
     pub(crate) text: &'a SpecTree,
@@ -128,7 +128,7 @@ impl<'a> Walk<'a> {
         }
     }
 
-    /// Passes over other alternatives than the one that was worked.
+    /// Passes over other alternatives than the one that was run.
     pub(crate) fn skip(&mut self, text: &SpecTree)
         requires { Lain text.now self.old }
         ensures does { (F : Facts) (C : specs.Context) (s : running.Machine)
@@ -147,7 +147,7 @@ impl<'a> Walk<'a> {
     }
 }
 
-/// What `%*` stands for.
+/// The value of `%*`.
 pub(crate) fn star_of<'a>(context: &'a Context<'_>, star: Option<Rest>) -> &'a [u8]
     ensures { result.now ≡ star_of context.now star }
 {

@@ -28,7 +28,7 @@ bytes_from : (m : Marked) (n : ℕ) (text : List ℕ) → (marked_from m n text)
 bytes_from m n [] = refl
 bytes_from m n (b ∷ text) = bytes_from (marked_onto m n b) (n + 1) text ∙ step_bytes m n b text
 
--- each stands at its place
+-- each is at its place
 
 abbrev Stand : List ℕ → Marked → Type 0
 Stand text m = map (slice_get text) m.places ≡ map Some m.bytes

@@ -4,13 +4,13 @@ use Rattle.drv_words.specs.FileNames.{parted}
 use Rattle.std.specs.List.{position}
 use Rattle.std.specs.Prelude.{◌+◌, List, None, Option, Some, drop, filter, length, take, ℕ}
 
--- The line of a text that a byte stands in (GNU coding standards, "Formatting Error Messages").
+-- The line of a text that has a byte (GNU coding standards, "Formatting Error Messages").
 
 -- its number, from 1
 abbrev pub line_number : List ℕ → ℕ → ℕ
 line_number text at = length (filter ends_line (take at text)) + 1
 
--- what stands in it before the byte: the column, from 1, is one more than its length
+-- what precedes the byte in it: the column, from 1, is one more than its length
 
 abbrev pub after_newline : List ℕ → Option (List ℕ × List ℕ) → List ℕ
 after_newline front None = front
@@ -19,7 +19,7 @@ after_newline front (Some parts) = parts.1
 abbrev pub line_before : List ℕ → ℕ → List ℕ
 line_before text at = after_newline (take at text) (parted newline (take at text))
 
--- what stands in it from the byte on
+-- its rest from the byte on
 
 abbrev pub up_to : Option ℕ → List ℕ → List ℕ
 up_to None back = back

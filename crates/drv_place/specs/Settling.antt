@@ -2,7 +2,7 @@ use Rattle.drv_words.specs.Bytes.{backslash, carriage_return, newline}
 use Rattle.std.specs.List.{ends_with}
 use Rattle.std.specs.Prelude.{◌+◌, ◌-◌, ◌&&◌, ◌==◌, List, [], ◌∷◌, ◌++◌, if◌then◌else◌, length, nat_eq, take, ℕ}
 
--- Where in a spec file's text the bytes stand that are left of it (GCC manual, "Spec Files"; what is removed is this project's profile).
+-- Where in a spec file's text the bytes are that are left of it (GCC manual, "Spec Files"; what is removed is this project's profile).
 
 -- what is left of a text's first bytes, and the place of each of these
 pub record Marked : Type 0 where
@@ -23,7 +23,7 @@ marked_onto m n b =
     else if b == newline && ends_with nat_eq m.bytes (backslash ∷ []) then shorter m
     else record { bytes = m.bytes ++ b ∷ []; places = m.places ++ n ∷ [] }
 
--- more bytes, the first of which stands at this place
+-- more bytes, the first of which is at this place
 abbrev pub marked_from : Marked → ℕ → List ℕ → Marked
 marked_from m n [] = m
 marked_from m n (b ∷ text) = marked_from (marked_onto m n b) (n + 1) text

@@ -1,4 +1,4 @@
-//! Where in a spec file's text the bytes stand that are left of it.
+//! Where in a spec file's text the bytes are that are left of it.
 #![tactic(auto)]
 
 mod lines;

@@ -1,4 +1,4 @@
-//! The line of a text that a byte stands in.
+//! The line of a text that has a byte.
 
 ghost use Rattle.drv_place.specs.LinePlaces.{line_after, line_before, line_number};
 ghost use Rattle.drv_specs.specs.Lines.{ends_line};
@@ -45,7 +45,7 @@ fn count_newlines(bytes: &[u8]) -> usize
     bytes.iter().filter(|byte| ends_line(**byte)).count()
 }
 
-/// Where the first newline stands.
+/// The place of the first newline.
 fn newline_in(bytes: &[u8]) -> Option<usize>
     ensures is { result ≡ position ends_line bytes.now }
     ensures within { IfSome result (λ at. at < length bytes.now) }
@@ -53,14 +53,14 @@ fn newline_in(bytes: &[u8]) -> Option<usize>
     bytes.iter().position(|byte| ends_line(*byte))
 }
 
-/// The number of the line that a byte stands in, from 1; for a place after the end, of the last line.
+/// The number of the line that has a byte, from 1; for a place after the end, of the last line.
 pub fn line_number(text: &[u8], at: usize) -> usize
     ensures { result ≡ line_number text.now at }
 {
     count_newlines(front(text, at)) + 1
 }
 
-/// What stands before a byte in its line. The byte's column, from 1, is one more than its length.
+/// What precedes a byte in its line. The byte's column, from 1, is one more than its length.
 pub fn line_before(text: &[u8], at: usize) -> &[u8]
     ensures { result.now ≡ line_before text.now at }
 {
@@ -71,7 +71,7 @@ pub fn line_before(text: &[u8], at: usize) -> &[u8]
     }
 }
 
-/// What stands in a byte's line from the byte on.
+/// The rest of a byte's line from the byte on.
 pub fn line_after(text: &[u8], at: usize) -> &[u8]
     ensures { result.now ≡ line_after text.now at }
 {

@@ -1,4 +1,4 @@
-//! What is left of a spec file's text, and where its bytes stand in the file.
+//! What is left of a spec file's text, and where its bytes are in the file.
 
 ghost use Rattle.drv_place.specs.Settling.{marked_from, marked_onto, nothing, places_of};
 ghost use Rattle.drv_specs.specs.Lines.{settled};
@@ -16,7 +16,7 @@ pub struct Settled {
     pub places: Listing<usize>,
 }
 
-/// Takes one more byte, which stands at this place of the file.
+/// Takes one more byte, which is at this place of the file.
 fn settle_onto(
     bytes: &mut Vec<u8>,
     places: &mut Vec<usize>,
@@ -55,8 +55,8 @@ fn settle_all(alloc: Global, text: &[u8]) -> Result<(Vec<u8>, Vec<usize>), Alloc
     Ok((bytes, places))
 }
 
-/// What is left of a spec file's text, without carriage returns and without each pair of a backslash
-/// and a newline (GCC manual, "Spec Files"), and where each of its bytes stands in the file.
+/// What is left of a spec file's text, without carriage returns and without each pair of a
+/// backslash and a newline (GCC manual, "Spec Files"), and where each of its bytes is in the file.
 #[tactic(auto, using(crate::proofs::Marking::text_left))]
 pub fn settle(alloc: Global, text: &[u8]) -> Result<Settled, AllocError>
     ensures text { IfOk result (λ left. left.text ≡ settled text.now) }

@@ -105,7 +105,7 @@ refused_specs F args seed (specs_fault.Syntax name (syntax_fault.UnknownFunction
 refused_specs F args seed (specs_fault.Syntax name (syntax_fault.EmptyTest n)) refused = refused
 refused_specs F args seed (specs_fault.Syntax name syntax_fault.TextTooLong) refused = refused
 
--- a fault that is want of memory, or that refusal
+-- a fault that is lack of memory, or that refusal
 by_args : (F : Facts) (args : List (List ℕ)) (seed : ℕ) (fault : ArgsFault) → (fault ≡ args_fault.Memory) ⊎ Refuses F args seed (Args fault) → Comes F args seed (Err (stopped_by_args fault))
 by_args F args seed fault (inl memory) = subst (λ f. Comes F args seed (Err (stopped_by_args f))) (sym memory) tt
 by_args F args seed fault (inr refused) = refused_args F args seed fault refused
@@ -137,7 +137,7 @@ line_comes F args seed words line set (Err (Refused (NoFront fault))) gives read
 line_comes F args seed words line set (Err (Refused (NoSpecs fault))) gives reads loads works = absurd works
 line_comes F args seed words line set (Err (Refused (NoPlan fault))) gives reads loads works = not_planned gives reads loads works
 
--- a fault of the plan that is want of memory, or what is given
+-- a fault of the plan that is lack of memory, or what is given
 pub planning_ends : (given : Known (Result Work PlanFault)) (fault : PlanFault) (result : Result Work Ending)
     → IsErrAnd result (λ e. e ≡ stopped_by_plan fault) → (fault ≡ plan_fault.Memory) ⊎ (given ≡ Is (Err fault)) → ComesOfSpecs given result
 planning_ends given fault (Ok work) is refused = absurd is

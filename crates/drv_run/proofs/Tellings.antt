@@ -39,7 +39,7 @@ announces_only name Commands plan said (status, shows) =
     (said_only (lines_text (lines_of plan)) status shows.commands shows.commands_are))
 announces_only name Notices plan said (status, says) = said_only (notices_text name plan.notices) status said says
 
--- what is told, and then the run
+-- what is said, and then the run
 
 pub plan_carried_out : (name : List ℕ) (journal journal' journal'' : List Event) (plan : Plan) (manner : Manner) (status : ℕ)
     → AnnouncesPlan name journal journal' manner.telling plan → Executed plan manner.pass_codes manner.window journal' journal'' status → DoesWork name journal journal'' (CarryOut plan manner) status
@@ -55,7 +55,7 @@ plan_carried_out name journal journal' journal'' plan manner status announces ex
   },
 )
 
--- no step of a run stands among questions and texts, so no pipe is pending after them that was not before
+-- no step of a run is among questions and texts, so no pipe is pending after them that was not before
 
 pub none_ran : (said : List Event) → AreSaid said → run_of said ≡ []
 none_ran [] is = refl

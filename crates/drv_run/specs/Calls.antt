@@ -21,15 +21,15 @@ use Rattle.drv_words.specs.declared.plan.Plan.{Plan}
 use Rattle.std.specs.List.{flat_map}
 use Rattle.std.specs.Prelude.{◌≡◌, ◌≤◌, Bool, List, [], ◌∷◌, ◌++◌, codes, false, true, ℕ, ⊤}
 
--- What a call of the driver does (GCC manual, "Overall Options", -v, -###, -dumpspecs, -pass-exit-codes): what stands in the
--- journal after its questions, and its ending.
+-- What a call of the driver does (GCC manual, "Overall Options", -v, -###, -dumpspecs, -pass-exit-codes): what follows its questions in the
+-- journal, and its ending.
 
 -- the exit status after a text was said or put
 abbrev pub status_of : TellAnswer → ℕ
 status_of Told = 0
 status_of Failed = 1
 
--- what the user is told, each on a line of its own after the program's name
+-- what the user reads, each on a line of its own after the program's name
 abbrev pub notice_line : List ℕ → List ℕ → List ℕ
 notice_line name notice = name ++ codes ": " ++ notice ++ newline ∷ []
 
@@ -92,8 +92,8 @@ HasWindow (Dump text) = ⊤
 HasWindow (Show plan) = ⊤
 HasWindow (CarryOut plan manner) = IsWindow manner.window
 
--- what stands after the questions of a call, by how it ended: its work after `Done`; nothing after a refusal; and where memory was
--- wanted nothing was made or started
+-- what follows the questions of a call, by how it ended: its work after `Done`; nothing after a refusal; and nothing was made or started
+-- where memory lacked
 abbrev pub Ends : Facts → List (List ℕ) → ℕ → Ending → List Event → Type 0
 Ends F args seed (Done status) said = (work : Work) × Drives F args seed work × Does (codes "gdrv") work status said
 Ends F args seed (Refused refusal) said = Refuses F args seed refusal × (said ≡ [])

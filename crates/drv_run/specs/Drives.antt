@@ -40,7 +40,7 @@ use Rattle.drv_words.specs.declared.plan.Plan.{Plan}
 use Rattle.std.specs.Cmp.Lexicographic.{pointwise}
 use Rattle.std.specs.Prelude.{◌≡◌, Bool, Err, List, [], ◌∷◌, Ok, Result, codes, drop, false, if◌then◌else◌, nat_eq, true, ℕ, ⊤}
 
--- What arguments come to, over facts (GCC manual, "Overall Options" and "Spec Files"; POSIX, c99).
+-- What arguments ask for, over facts (GCC manual, "Overall Options" and "Spec Files"; POSIX, c99).
 
 -- a first argument --c99, as it was handed in, selects the front of c99, and is no word of the line
 abbrev pub is_c99 : List (List ℕ) → Bool
@@ -82,8 +82,8 @@ specs_of F settings = specs_over F builtin_specs settings
 abbrev pub planned : Facts → Line → Set → ℕ → Known (Result Plan PlanFault)
 planned F line set seed = denoted F line set seed
 
--- a line with other settings of the call itself: whether its plan is shown, whether it is said, whose codes count, and how many
--- sources are worked at once. The plan sees none of them: the law `same_plan`.
+-- a line with other settings of the call itself: whether its plan is shown, whether it is said, whose codes count, and how many sources are
+-- under way at once. The plan sees none of them: the law `same_plan`.
 abbrev pub called_as : Bool → Bool → Bool → ℕ → Line → Line
 called_as dry verbose pass_codes jobs line = record line { settings = record line.settings { dry = dry; verbose = verbose; pass_codes = pass_codes; jobs = jobs } }
 
@@ -95,7 +95,7 @@ telling_of settings = if settings.verbose then Commands else Notices
 abbrev pub failure_of : Settings → FailureStatus
 failure_of settings = if settings.pass_codes then GreatestCode else One
 
--- how a plan is carried out: what is said first, the status of a failure, and how many sources are worked at once
+-- how a plan is carried out: what is said first, the status of a failure, and how many sources are under way at once
 abbrev pub manner_of : Settings → Manner
 manner_of settings = record { telling = telling_of settings; pass_codes = failure_of settings; window = settings.jobs }
 
@@ -112,9 +112,8 @@ worked settings (Is (Ok plan)) = Is (Ok (work_with settings plan))
 abbrev pub work_of : Facts → Line → Set → ℕ → Known (Result Work PlanFault)
 work_of F line set seed = if line.settings.dump then Is (Ok (Dump (dumped set))) else worked line.settings (planned F line set seed)
 
--- What arguments come to. What words expand to is a relation, of which the law `one_expansion` says that it has one value or
--- one refusal, and never both; what follows are functions. So arguments come to one work, or to one refusal, and never to both:
--- the law `one_ending`.
+-- What arguments ask for. What words expand to is a relation, of which the law `one_expansion` says that it has one value or one refusal,
+-- and never both; what follows are functions. So arguments ask for one work, or have one refusal, and never both: the law `one_ending`.
 pub record Drives (F : Facts) (args : List (List ℕ)) (seed : ℕ) (work : Work) : Type 0 where
   pub words : Expanded
   pub line : Line
@@ -124,8 +123,8 @@ pub record Drives (F : Facts) (args : List (List ℕ)) (seed : ℕ) (work : Work
   pub loads : specs_of F line.settings ≡ Is (Ok set)
   pub works : work_of F line set seed ≡ Is (Ok work)
 
--- The refusal that arguments come to: of their response files, of c99, of the line, of a spec file, or of the plan. None of
--- these definitions knows want of memory.
+-- The refusal of arguments: of their response files, of c99, of the line, of a spec file, or of the plan. None of these definitions knows
+-- lack of memory.
 pub data Refuses (F : Facts) (args : List (List ℕ)) (seed : ℕ) : Refusal → Type 0 where
   not_expanded : {fault : ArgsFault} → RefusesExpansion F 2000 (after_c99 args) fault → Refuses F args seed (Args fault)
   not_fronted : {expanded : Expanded} {fault : C99Fault} → Expands F 2000 (after_c99 args) (Ok expanded) → fronted (is_c99 args) expanded ≡ Err fault → Refuses F args seed (NoFront fault)
@@ -154,14 +153,14 @@ stopped_by_plan (plan_fault.Machine (machine_fault.Search search_fault.Memory)) 
 stopped_by_plan (plan_fault.Machine (machine_fault.Funcs funcs_fault.Memory)) = OutOfMemory
 stopped_by_plan fault = Refused (NoPlan fault)
 
--- what arguments come to: work, or an ending in its place; want of memory may come in place of either
+-- what arguments give: work, or an ending in its place; lack of memory may take the place of either
 abbrev pub Comes : Facts → List (List ℕ) → ℕ → Result Work Ending → Type 0
 Comes F args seed (Ok work) = Drives F args seed work
 Comes F args seed (Err (Refused refusal)) = Refuses F args seed refusal
 Comes F args seed (Err OutOfMemory) = ⊤
 Comes F args seed (Err (Done status)) = ⊥
 
--- whether a refusal holds want of memory, as a fault of any layer could
+-- whether a refusal is lack of memory inside, as a fault of any layer could be
 abbrev pub holds_memory : Refusal → Bool
 holds_memory (Args args_fault.Memory) = true
 holds_memory (NoFront c99_fault.Memory) = true
@@ -173,7 +172,7 @@ holds_memory (NoPlan (plan_fault.Machine (machine_fault.Search search_fault.Memo
 holds_memory (NoPlan (plan_fault.Machine (machine_fault.Funcs funcs_fault.Memory))) = true
 holds_memory refusal = false
 
--- want of memory is no refusal: an ending says it by its own name
+-- lack of memory is no refusal: an ending says it by its own name
 abbrev pub IsApart : Ending → Type 0
 IsApart (Refused refusal) = holds_memory refusal ≡ false
 IsApart ending = ⊤

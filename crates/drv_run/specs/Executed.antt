@@ -10,8 +10,8 @@ use Rattle.std.specs.Prelude.{◌≡◌, ◌≤◌, List, ◌++◌, length, map,
 
 -- What it is that a plan was carried out (POSIX c99, "Exit Status"; GCC manual, "Overall Options", -pass-exit-codes).
 
--- After the journal stand the events of a whole run, with at most N sources under way, and the status is that of their answers.
--- There are never more of them than the plan needs at most.
+-- The events of a whole run follow the journal, with at most N sources under way, and the status is that of their answers. There are never
+-- more of them than the plan needs at most.
 pub record Executed (plan : Plan) (pass_codes : FailureStatus) (N : ℕ) (journal journal' : List Event) (status : ℕ) : Type 0 where
   pub events : List RunEvent
   pub answers : Answers

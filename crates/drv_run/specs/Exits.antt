@@ -10,7 +10,7 @@ abbrev pub exit_status_of : Ending → ℕ
 exit_status_of (Done status) = status
 exit_status_of ending = 1
 
--- what standard error is told after what the call said itself
+-- what standard error gets after what the call said itself
 abbrev pub told_of : Ending → List ℕ
 told_of (Done status) = []
 told_of (Refused refusal) = refusal_line refusal

@@ -19,7 +19,7 @@ use Rattle.drv_syntax.specs.declared.fault.SyntaxFault.TheVariants as syntax_fau
 use Rattle.drv_syntax.specs.declared.fault.SyntaxFault.{SyntaxFault}
 use Rattle.std.specs.Prelude.{◌++◌, List, codes, decimal, ℕ}
 
--- What a refusal is told as (the wording is this project's profile).
+-- The text of a refusal (the wording is this project's profile).
 
 -- a word between the bytes before and after it
 abbrev pub around : List ℕ → List ℕ → List ℕ → List ℕ

@@ -1,4 +1,4 @@
-//! What arguments come to.
+//! What arguments ask for.
 
 ghost use Rattle.drv_machine.specs.declared.fault.MachineFault.TheVariants as machine_fault;
 ghost use Rattle.drv_plan.specs.declared.fault.PlanFault.TheVariants as plan_fault;
@@ -84,9 +84,9 @@ fn specs_of<S: System>(
     load_specs(alloc, set, settings, outside.sys, outside.facts)
 }
 
-/// What a line with these specs comes to: their dump, or its plan with what is done with it (GCC
-/// manual, "Overall Options", `-dumpspecs` and `-###`). The seed is for the names of temporaries. It
-/// asks the system only where the table has no answer.
+/// What a line with these specs asks for: their dump, or its plan with what is done with it (GCC
+/// manual, "Overall Options", `-dumpspecs` and `-###`). The seed is for the names of temporaries.
+/// It asks the system only where the table has no answer.
 ///
 /// # Errors
 /// The refusal of the plan.
@@ -113,7 +113,7 @@ pub fn work_of<S: System>(
     Ok(work_with(&line.settings, plan))
 }
 
-/// What a line comes to: its spec files are loaded first. It asks the system only where the table
+/// What a line asks for: its spec files are loaded first. It asks the system only where the table
 /// has no answer.
 ///
 /// # Errors
@@ -136,7 +136,7 @@ fn work_of_line<S: System>(
     Ok(work)
 }
 
-/// What arguments come to: the words of the line read, spec files loaded, and then the dump of the
+/// What arguments ask for: the words of the line read, spec files loaded, and then the dump of the
 /// specs, or the plan of the line with what is done with it. It asks the system only where the
 /// table has no answer.
 ///
@@ -159,7 +159,7 @@ pub(crate) fn work_of_args<S: System>(
     work_of_line(alloc, &line, seed, outside)
 }
 
-/// What a call with these arguments comes to, before anything is done: `drive` does it. It asks the
+/// What a call with these arguments asks for, before anything is done: `drive` does it. It asks the
 /// system only where the table has no answer.
 ///
 /// # Errors

@@ -23,7 +23,7 @@ fn put_dump<S: System>(sys: &mut S, text: &Word) -> Result<u8, AllocError>
     Ok(status_of(sys.put(text)?))
 }
 
-/// Carries a plan out after what is told of it, and answers the exit status.
+/// Carries a plan out after it said what there is to say of it, and answers the exit status.
 fn run_plan<S: System>(
     alloc: Global,
     sys: &mut S,
@@ -45,12 +45,12 @@ fn run_plan<S: System>(
     Ok(status)
 }
 
-/// Does a work, by a program of this name, and answers the exit status: of a dump and of a plan that is shown 0, or 1 where the
-/// text could not be written; of a plan that is carried out that of its run. No pipe is pending
-/// afterwards.
+/// Does a work, by a program of this name, and answers the exit status. Of a dump and of a plan
+/// that is shown this is 0, or 1 where the text could not be written. Of a plan that is carried out
+/// it is that of its run. No pipe is pending afterwards.
 ///
 /// # Errors
-/// Want of memory, of which nothing was made or started.
+/// Lack of memory, before anything is made or started.
 pub fn do_work<S: System>(
     alloc: Global,
     sys: &mut S,

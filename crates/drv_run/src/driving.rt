@@ -31,9 +31,9 @@ fn ending_of<S: System>(alloc: Global, sys: &mut S, work: &Work) -> Ending
 /// A call of the driver with these arguments (GCC manual, "Overall Options"; after a first
 /// argument `--c99`, POSIX c99).
 ///
-/// With `-dumpspecs` it writes the specs. Otherwise it plans the commands of the line, says the
-/// plan's notices, and with `-v` or `-###` its commands too; with `-###` it starts nothing, and
-/// otherwise it carries the plan out, with as many sources under way as `--jobs` says. The seed is
+/// With `-dumpspecs` it writes the specs. Otherwise it plans the commands of the line and says the
+/// plan's notices, and with `-v` or `-###` its commands too. With `-###` it starts nothing.
+/// Otherwise it carries the plan out, with as many sources under way as `--jobs` says. The seed is
 /// for the names of temporaries. A refused call, and one that lacks memory, makes and starts
 /// nothing. No pipe is pending after a call, so the next one can be made.
 #[tactic(auto, using(crate::proofs::Endings::no_pipe_after_questions))]

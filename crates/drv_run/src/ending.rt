@@ -14,7 +14,7 @@ use drv_syntax::SyntaxFault;
 use std::alloc::AllocError;
 use thiserror::Error;
 
-/// Why a call is refused. It is never for want of memory.
+/// Why a call is refused. It is never for lack of memory.
 #[derive(Debug, Drop, Error)]
 pub enum Refusal {
     /// The arguments are refused.

@@ -17,8 +17,7 @@ use std::alloc::{AllocError, Global};
 /// several sources that may go on, one does that need not wait. No pipe is pending afterwards.
 ///
 /// # Errors
-/// Want of memory, of which nothing was made or started; after the first step it is no error any
-/// more.
+/// Lack of memory, before anything is made or started; after the first step it is no error any more.
 pub fn execute<S: System>(
     alloc: Global,
     sys: &mut S,

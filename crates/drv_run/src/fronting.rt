@@ -36,7 +36,7 @@ fn is_c99(args: &[Word]) -> bool
     }
 }
 
-/// The front that is selected, and the arguments after what selects it. It takes no memory.
+/// The front that is selected, and the arguments after what selects it. The call allocates nothing.
 fn cut_front(args: Listing<Word>) -> (Front, Listing<Word>)
     ensures front { is_of_c99 result.0 ≡ is_c99 args }
     ensures following { result.1 ≡ after_c99 args }
@@ -64,7 +64,7 @@ fn fronted(alloc: Global, selected: Front, expanded: Expanded) -> Result<Expande
     }
 }
 
-/// The words that arguments come to. It asks the system only where the table has no answer.
+/// The words that arguments give. It asks the system only where the table has no answer.
 ///
 /// # Errors
 /// The refusal of the response files, or of `c99`.

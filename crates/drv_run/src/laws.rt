@@ -14,7 +14,7 @@ ghost use Rattle.drv_system.specs.declared.event.Event.{Event};
 ghost use Rattle.drv_words.specs.declared.plan.Plan.{Plan};
 ghost use Rattle.std.specs.Prelude.{◌≡◌, [], Bool, List, ℕ};
 
-/// A law: arguments come to one work, or they are refused for one reason, and never both.
+/// A law: arguments ask for one work, or they are refused for one reason, and never both.
 pub fn one_ending()
     ensures driven { (F : Facts) (args : List (List ℕ)) (seed : ℕ) (a b : Work)
         → Drives F args seed a → Drives F args seed b → a ≡ b }
@@ -26,7 +26,7 @@ pub fn one_ending()
 {}
 
 /// A law: the plan of a line is the same whether it is shown, said or carried out, whose codes
-/// count, and how many sources are worked at once.
+/// count, and how many sources are under way at once.
 pub fn same_plan()
     ensures { (F : Facts) (line : Line) (set : Set) (seed : ℕ)
         (dry verbose pass_codes : Bool) (jobs : ℕ)

@@ -1,4 +1,4 @@
-//! What the user is told of a plan.
+//! What the user reads of a plan.
 
 ghost use Rattle.drv_run.specs.Calls.{OnlySays, notice_line, notices_text, status_of};
 ghost use Rattle.drv_run.specs.Code.Telling.{AnnouncesPlan, SaysText, ShowsPlan};
@@ -34,7 +34,7 @@ fn say_text<S: System>(sys: &mut S, text: &Word) -> Result<u8, AllocError>
     Ok(status_of(sys.say(text)?))
 }
 
-/// Adds a notice as it is told: after the program's name, on a line of its own.
+/// Adds a notice as the user reads it: after the program's name, on a line of its own.
 fn push_notice(text: &mut Word, name: &[u8], notice: &Word) -> Result<(), AllocError>
     ensures { OnOk result (text.new ≡ text.old ++ notice_line name.now notice.now) }
 {
@@ -44,7 +44,7 @@ fn push_notice(text: &mut Word, name: &[u8], notice: &Word) -> Result<(), AllocE
     text.push(b'\n')
 }
 
-/// The notices of a plan as they are told.
+/// The notices of a plan as the user reads them.
 fn notices_text(alloc: Global, name: &[u8], notices: &[Word]) -> Result<Word, AllocError>
     ensures { IfOk result (λ text. text ≡ notices_text name.now notices.now) }
 {
@@ -99,7 +99,7 @@ pub(crate) fn say_plan<S: System>(
     Ok(status)
 }
 
-/// Says what is told before a plan is carried out: its notices, and its commands too where that is
+/// Says what comes before a plan is carried out: its notices, and its commands too where that is
 /// asked for.
 pub(crate) fn announce<S: System>(
     alloc: Global,

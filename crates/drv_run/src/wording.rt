@@ -1,4 +1,4 @@
-//! What a refusal is told as.
+//! The text of a refusal.
 
 ghost use Rattle.drv_run.specs.Exits.{told_of};
 ghost use Rattle.drv_run.specs.Texts.{args_text, around, at_byte, c99_text, funcs_text};
@@ -136,7 +136,7 @@ fn push_funcs_text(line: &mut Word, fault: &FuncsFault) -> Result<(), AllocError
     }
 }
 
-/// Adds the text of a fault of a spec text that is worked.
+/// Adds the text of a fault of a spec text that is run.
 fn push_machine_text(line: &mut Word, fault: &MachineFault) -> Result<(), AllocError>
     ensures { OnOk result (line.new ≡ line.old ++ machine_text fault.now) }
 {
@@ -246,7 +246,7 @@ pub fn fault_line(alloc: Global, refusal: &Refusal) -> Result<Word, AllocError>
     Ok(line)
 }
 
-/// What standard error is told of an ending: no byte where the work was done.
+/// What standard error gets of an ending: no byte where the work was done.
 pub fn ending_text(alloc: Global, ending: &Ending) -> Result<Word, AllocError>
     ensures { IfOk result (λ text. text ≡ told_of ending.now) }
 {

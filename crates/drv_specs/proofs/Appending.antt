@@ -27,7 +27,7 @@ named_twice set name text other = ap (λ (named : List (List ℕ × List ℕ)). 
     named_as : List (List ℕ × List ℕ) → Set
     named_as named = record set { named = named }
 
--- what an append comes to, by what was taken, and by what is put back
+-- what an append gives, by what was taken, and by what is put back
 pub appended_puts : (set mid new : Set) (name addition text : List ℕ) (old : Option (List ℕ)) → false ≡ list_all is_white addition → old ≡ text_of set name → mid ≡ with_named set name []
     → ((s : Set) → by_tree name s (parsed (appended_text old addition)) ≡ Ok s) → text ≡ appended_text old addition → new ≡ with_named mid name text → append set name addition ≡ Ok new
 appended_puts set mid new name addition text old white there taken tree is back =

@@ -121,7 +121,7 @@ reads_no_file (lent.Bad n) not = tt
 pub taken : (old new : List Directive) (result : Option code.Directive) (directive : code.Directive) (is : Directive) → old ≡ found result ++ new → result ≡ Some directive → shown directive ≡ is → old ≡ is ∷ new
 taken old new result directive is whole some same = whole ∙ ap (λ r. found r ++ new) some ∙ ap (λ d. d ∷ new) same
 
--- the next directive, where what is left comes to the whole
+-- the next directive, where what is left gives the whole
 module _ (F : Facts) (prefixes : Prefixes) (set : Set) (files levels : ℕ) (left rest : List Directive) (directive : Directive) (whole : Known (Result Carried SpecsFault))
     (taken : left ≡ directive ∷ rest) (so_far : all_carried (including F prefixes levels) (state set files) left ≡ whole) where
   at_next : whole ≡ all_carried (including F prefixes levels) (state set files) (directive ∷ rest)

@@ -30,7 +30,7 @@ line_head text is = all_also is_head_byte is_line_byte text (λ b head. and_firs
 name_head : (name : List ℕ) → is_name name ≡ true → list_all is_head_byte name ≡ true
 name_head name is = all_also is_name_byte is_head_byte name (head_byte is_name_byte refl refl refl) (and_second (is_sized name) _ is)
 
--- where the colon stands
+-- where the colon is
 colon_last : (head : List ℕ) → list_all is_head_byte head ≡ true → position_or_len is_colon (head ++ colon ∷ []) ≡ length head
 colon_last [] is = refl
 colon_last (b ∷ head) is =

@@ -46,7 +46,7 @@ bytes_after zero text is = is
 bytes_after (suc n) [] is = refl
 bytes_after (suc n) (b ∷ text) is = bytes_after n text (and_second (is_line_byte b) _ is)
 
--- what stands after the blanks of a line
+-- what follows the blanks of a line
 record Fronted (text : List ℕ) : Type 0 where
   ends : ends_with_backslash text ≡ false → ends_with_backslash (without_front is_blank text) ≡ false
   bytes : list_all is_line_byte text ≡ true → list_all is_line_byte (without_front is_blank text) ≡ true

@@ -59,7 +59,7 @@ module _ (F : Facts) (prefixes : Prefixes) where
   set_by (Is (Err fault)) set' is kept = absurd cc
   set_by (Is (Ok c)) set' is kept = let same : c.set ≡ set' = cc in subst Kept same (kept c refl)
 
-  -- a text that was worked
+  -- a text that was run
   pub worked_keeps : (set set' : Set) (files : ℕ) (text : List ℕ) → Kept set → worked F prefixes set files (directives_of text) ≡ Is (Ok set') → Kept set'
   worked_keeps set set' files text kept is =
       set_by (all_carried (including F prefixes 15) (record { set = set; files = files }) (directives_of text)) set' is

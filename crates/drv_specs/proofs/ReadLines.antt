@@ -11,7 +11,7 @@ use Rattle.std.specs.List.{join_with_byte, list_all, position}
 
 -- The directives of lines: by cases, and line by line.
 
--- the lines of a body, and what stands after it
+-- the lines of a body, and what follows it
 body_is : (body lines : List (List ℕ)) → list_all is_full_line body ≡ true → EndsBody lines → body_lines (body ++ lines) ≡ body_lines body
 body_is [] [] full ends = refl
 body_is [] (line ∷ lines) full (at_empty is) = rw is refl

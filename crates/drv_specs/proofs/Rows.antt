@@ -411,7 +411,7 @@ itself : file_loaded (with_file (codes "self") (read.Read (codes "%include <self
 unfolding file_loaded including
 itself = refl
 
--- files within files: their directives stand where they are included
+-- files within files: their directives take the place where they are included
 nested : shown (loaded (record { reads = (codes "e", read.Read (codes "*b:\ny\n")) ∷ (codes "f", read.Read (codes "%include <e>\n*c:\nz\n")) ∷ []; kinds = []; variables = [] }) here no_specs (codes "*a:\nx\n\n  %include   <f>  \n*d:\nw\n")) ≡ Some (codes "*a:\nx\n\n*b:\ny\n\n*c:\nz\n\n*d:\nw\n\n")
 unfolding loaded including
 nested = refl

@@ -20,7 +20,7 @@ use Rattle.std.specs.Prelude.{None, Option, Some, get_or, slice_index}
 
 -- Directives read from slices of a settled text.
 
--- a line, and what stands after it
+-- a line, and what follows it
 pub lines_cut : (line : List ℕ) (following : Option (List ℕ)) → list_all (λ b. not (ends_line b)) line ≡ true → lines_of (line ++ bytes_from following) ≡ line ∷ lines_from following
 lines_cut line None is = ap lines_of (append-nil line) ∙ one_piece line [] is
 lines_cut line (Some text) is = pieces_then line [] text ∙ ap (λ ls. ls ++ lines_of text) (one_piece line [] is)
@@ -106,7 +106,7 @@ pub tail_lines : (tail line rest : List ℕ) (following : Option (List ℕ)) →
     → lines_of tail ≡ rest ∷ lines_from following
 tail_lines tail line rest following is clean h = lines_are tail rest following is (clean_end line rest clean h)
 
--- what stands after the blanks at the front of a text is no empty line
+-- what follows the blanks at the front of a text is no empty line
 full_front : (text : List ℕ) → has_byte (without_front is_blank text) ≡ true → is_empty_line (without_front is_blank text) ≡ false
 full_front [] is = absurd cc
 full_front (b ∷ text) is = by (is_blank b) refl (full_front text) is
@@ -171,7 +171,7 @@ module _ (n : ℕ) (text line start : List ℕ) (following : Option (List ℕ)) 
       by_start (WithBody (by_colon n start (lines_from following) (position is_colon start))) (start_other n start (lines_from following) passed key)
       ∙ ap (λ l. by_colon n start (lines_from following) (position is_colon start) ∷ l) rest ∙ ap (λ ds. ds ++ left) (sym same)
 
--- where the colon stands
+-- where the colon is
 same_not : (n : ℕ) → nat_lt n n ≡ false
 same_not n = grind (arith, nat_tests)
 

@@ -23,7 +23,7 @@ pub data Start : Type 0 where
   Alone : Directive → Start
   WithBody : Directive → Start
 
--- %include: the file stands between a < and the last >, and is all that stands there
+-- %include: the file is between a < and the last >, and nothing else is there
 abbrev pub included : ℕ → IfMissing → List ℕ → Directive
 included n missing [] = Bad n
 included n missing (b ∷ text) = if b == less_than && ends_with nat_eq text (greater_than ∷ []) then Include missing (take (length text - 1) text) else Bad n
@@ -44,7 +44,7 @@ by_keyword n line (word ∷ words) =
     else if pointwise nat_eq word (codes "%include_noerr") then included n PassOver (trimmed (drop (length word) line))
     else Bad n
 
--- a body: what stands after the colon, if anything does, and the lines up to the next one that is empty
+-- a body: what follows the colon, if anything does, and the lines up to the next one that is empty
 abbrev pub first_line : List ℕ → List (List ℕ)
 first_line rest = filter has_byte (without_front is_blank rest ∷ [])
 
@@ -55,7 +55,7 @@ body_lines (line ∷ lines) = if is_empty_line line then [] else line ∷ body_l
 abbrev pub body_of : List ℕ → List (List ℕ) → List ℕ
 body_of rest lines = join_with_byte newline (first_line rest ++ body_lines lines)
 
--- a line with a colon, by what stands before it
+-- a line with a colon, by what precedes it
 abbrev pub by_key : List ℕ → List ℕ → Directive
 by_key [] body = Pair [] body
 by_key (b ∷ key) body = if b == asterisk then Text key body else Pair (b ∷ key) body
@@ -67,7 +67,7 @@ abbrev pub by_colon : ℕ → List ℕ → List (List ℕ) → Option ℕ → Di
 by_colon n line lines None = Bad n
 by_colon n line lines (Some at) = by_key (take at line) (body_of (drop (at + 1) line) lines)
 
--- what a line does that is not empty and stands in no body, without the blanks at its front; after it come these lines
+-- what a line does that is not empty and in no body, without the blanks at its front; these lines follow it
 abbrev pub start_of : ℕ → List ℕ → List (List ℕ) → Start
 start_of n [] lines = Passed
 start_of n (b ∷ line) lines =
@@ -75,7 +75,7 @@ start_of n (b ∷ line) lines =
     else if b == percent then Alone (by_keyword n (b ∷ line) (words_of (b ∷ line)))
     else WithBody (by_colon n (b ∷ line) lines (position is_colon (b ∷ line)))
 
--- where a line stands: it is empty, in a body, or begins something
+-- the place of a line: it is empty, in a body, or begins something
 abbrev pub start_at : Bool → Bool → ℕ → List ℕ → List (List ℕ) → Start
 start_at true inside n line lines = Passed
 start_at false true n line lines = Passed
@@ -91,13 +91,13 @@ opens_body Passed = false
 opens_body (Alone directive) = false
 opens_body (WithBody directive) = true
 
--- whether the next line stands in a body
+-- whether the next line is in a body
 abbrev pub is_inside : Bool → Bool → Start → Bool
 is_inside true inside start = false
 is_inside false true start = true
 is_inside false false start = opens_body start
 
--- the directives of lines, the first of which has this number and stands in a body or not
+-- the directives of lines, the first of which has this number and is in a body or not
 abbrev pub read_lines : Bool → ℕ → List (List ℕ) → List Directive
 read_lines inside n [] = []
 read_lines inside n (line ∷ lines) =

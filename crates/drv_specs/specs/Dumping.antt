@@ -4,7 +4,7 @@ use Rattle.drv_specs.specs.Sets.{Set}
 use Rattle.std.specs.List.{list_all}
 use Rattle.std.specs.Prelude.{◌≡◌, ◌==◌, ◌&&◌, Bool, List, [], ◌∷◌, ◌++◌, false, flat_map, not, true, ℕ}
 
--- The text of a set (GCC manual, "-dumpspecs"; that the pairs stand in it is this project's profile).
+-- The text of a set (GCC manual, "-dumpspecs"; that the pairs are in it is this project's profile).
 
 abbrev pub entry_text : List ℕ × List ℕ → List ℕ
 entry_text entry = entry.0 ++ (colon ∷ newline ∷ []) ++ entry.1 ++ (newline ∷ newline ∷ [])

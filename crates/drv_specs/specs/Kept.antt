@@ -41,8 +41,8 @@ abbrev pub begins_line : List ℕ → Bool
 begins_line [] = false
 begins_line (b ∷ key) = not (b == number_sign) && (not (b == percent) && not (b == asterisk))
 
--- a pair: its text is empty or like a named one, has no more white space to lose, and is no alias of an alias; it has a tree,
--- unless it is an alias or says that a language isn't installed
+-- A pair: its text is empty or like a named one, has no more white space to lose, and is no alias of an alias. It has a tree, unless it is
+-- an alias or says that a language isn't installed.
 pub record IsPair (pair : List ℕ × List ℕ) : Type 0 where
   pub key : is_key pair.0 ≡ true
   pub begins : begins_line pair.0 ≡ true

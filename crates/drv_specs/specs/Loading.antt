@@ -74,7 +74,7 @@ file_carried F prefixes including set zero missing name = Is (Err TooManyInclude
 file_carried F prefixes including set (suc left) missing name =
     then_by (file_text F prefixes missing name) (λ text. all_carried including (record { set = set; files = left }) (directives_of text))
 
--- a file that is included where so many more may stand in one another
+-- a file that is included where so many more may be within one another
 unfoldable pub including : Facts → Prefixes → ℕ → Including
 including F prefixes zero c missing name = Is (Err IncludeTooDeep)
 including F prefixes (suc levels) c missing name = file_carried F prefixes (including F prefixes levels) c.set c.files missing name
@@ -82,7 +82,7 @@ including F prefixes (suc levels) c missing name = file_carried F prefixes (incl
 abbrev pub set_in : Carried → Known (Result Set SpecsFault)
 set_in c = Is (Ok c.set)
 
--- the most files in one call, and how deep they stand in one another
+-- the most files in one call, and how deep they may be within one another
 abbrev pub most_files : ℕ
 most_files = 2000
 

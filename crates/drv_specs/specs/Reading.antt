@@ -8,11 +8,11 @@ use Rattle.std.specs.Prelude.{◌≡◌, ◌+◌, ◌==◌, Bool, List, [], ◌�
 -- How a spec file's text is read, by cases (GCC manual, "Spec Files"; this project's profile). It gives the directives that
 -- `directives_of` works out byte by byte and line by line.
 
--- no newline of a text stands after a backslash
+-- no newline of a text follows a backslash
 abbrev pub IsJoined : List ℕ → Type 0
 IsJoined text = (front back : List ℕ) → text ≡ front ++ backslash ∷ newline ∷ back → ⊥
 
--- what is left of a text of which each backslash goes that a newline stands after, and that newline with it
+-- what is left of a text without each backslash that a newline follows, and without that newline
 pub data Joins : List ℕ → List ℕ → Type 0 where
   is_joined : {text : List ℕ} → IsJoined text → Joins text text
   pair_goes : (front back : List ℕ) {left : List ℕ} → Joins (front ++ back) left → Joins (front ++ backslash ∷ newline ∷ back) left
@@ -25,8 +25,8 @@ pub data EndsBody : List (List ℕ) → Type 0 where
   at_end : EndsBody []
   at_empty : {line : List ℕ} {lines : List (List ℕ)} → is_empty_line line ≡ true → EndsBody (line ∷ lines)
 
--- lines, of which the first has this number, and their directives: an empty line and a comment are none, a line that
--- begins with a percent sign is one, and any other begins one whose body are the full lines after it
+-- Lines, of which the first has this number, and their directives. An empty line and a comment are none, and a line that begins with a
+-- percent sign is one. Any other begins one whose body is the full lines after it.
 pub data Reads : ℕ → List (List ℕ) → List Directive → Type 0 where
   no_lines : {n : ℕ} → Reads n [] []
   empty : {n : ℕ} {line : List ℕ} {lines : List (List ℕ)} {directives : List Directive}

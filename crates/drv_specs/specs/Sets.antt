@@ -53,7 +53,7 @@ is_key key = nat_le (length key) 255 && is_key_text key
 abbrev pub ends_with_backslash : List ℕ → Bool
 ends_with_backslash text = ends_with nat_eq text (backslash ∷ [])
 
--- what a text comes to that is worked: a set, if it has a tree
+-- what a text that is run gives: a set, if it has a tree
 abbrev pub by_tree : {X : Type 0} → List ℕ → X → Result Items SyntaxFault → Result X SpecsFault
 by_tree name x (Ok tree) = Ok x
 by_tree name x (Err fault) = Err (Syntax name fault)
@@ -96,7 +96,7 @@ abbrev pub is_alias : List ℕ → Bool
 is_alias [] = false
 is_alias (b ∷ text) = b == at_sign && is_name text
 
--- whether a pair's text is none that is worked
+-- whether the text of a pair is not run
 abbrev pub is_no_text : List ℕ → Bool
 is_no_text text = is_not_installed text || is_alias text
 
@@ -127,10 +127,10 @@ with_name set old new =
     else if is_some (text_of set new) then Err (RenameTaken new)
     else Ok (record set { named = set_key (pointwise nat_eq old) set.named new })
 
--- a text that is worked has a tree
+-- a text that is run has a tree
 abbrev pub has_tree : List ℕ → Bool
 has_tree text = is_ok (parsed text)
 
--- the text of a pair, where it is one that is worked
+-- the text of a pair, where it is run
 abbrev pub worked_text : List ℕ × List ℕ → Option (List ℕ)
 worked_text pair = if is_no_text pair.1 then None else Some pair.1

@@ -28,7 +28,7 @@ pub(crate) struct Named {
 pub(crate) enum PairText {
     /// An alias, or that a language isn't installed.
     Alone(&'static [u8]),
-    /// A text that is worked, with its tree.
+    /// A text that is run, with its tree.
     Worked(WrittenTree),
 }
 
@@ -127,7 +127,7 @@ fn builtin_entries(alloc: Global) -> Result<Entries, AllocError>
     Ok(entries)
 }
 
-/// The built-in specs (GCC manual, "Spec Files"), with their trees. Want of memory is the only
+/// The built-in specs (GCC manual, "Spec Files"), with their trees. Lack of memory is the only
 /// error.
 pub fn builtin(alloc: Global) -> Result<SpecSet, AllocError>
     ensures { IfOk result (λ set. set ≡ builtin_specs) }

@@ -16,8 +16,8 @@ macro_rules! tokens {
     };
 }
 
-/// The marks of a tree: each where its word begins and ends, whether a star stands after it, and a
-/// `!` before it.
+/// The marks of a tree: where each word begins and ends, whether a star follows it, and whether a
+/// `!` precedes it.
 macro_rules! marks {
     ($($start:literal $end:literal $starred:literal $negated:literal),*) => {
         &[$(LabelMark {
@@ -41,7 +41,7 @@ macro_rules! alone {
     ($key:literal, $text:literal) => { Pair { key: $key, text: PairText::Alone($text) } };
 }
 
-/// A pair whose text is worked.
+/// A pair whose text is run.
 macro_rules! worked {
     ($key:literal, $tree:ident) => { Pair { key: $key, text: PairText::Worked($tree) } };
 }

@@ -1,4 +1,4 @@
-//! Bytes of spec files, and what stands around a text.
+//! Bytes of spec files, and what is around a text.
 
 ghost use Rattle.drv_specs.specs.Blanks.{has_byte, is_blank, is_white};
 ghost use Rattle.drv_specs.specs.Lines.{is_empty_line, trimmed, without_end, without_front};
@@ -43,14 +43,14 @@ pub(crate) fn without_last(text: &[u8]) -> &[u8]
     }
 }
 
-/// Where the first byte of a text stands that is no blank.
+/// The place of the first byte of a text that is no blank.
 fn first_solid(text: &[u8]) -> Option<usize>
     ensures { result ≡ position (λ b. not (is_blank b)) text.now }
 {
     text.iter().position(|byte| !is_blank(*byte))
 }
 
-/// Where the first byte of a text stands that is no white space.
+/// The place of the first byte of a text that is no white space.
 fn first_black(text: &[u8]) -> Option<usize>
     ensures { result ≡ position (λ b. not (is_white b)) text.now }
 {

@@ -24,7 +24,7 @@ use drv_syntax::{SyntaxFault, parse};
 use drv_words::Word;
 use std::alloc::Global;
 
-/// Whether a byte may stand in a name.
+/// Whether a name may have a byte.
 fn is_name_byte(byte: u8) -> bool
     ensures { result ≡ is_name_byte byte }
 {
@@ -38,7 +38,7 @@ fn is_sized(name: &[u8]) -> bool
     has_byte(name) && name.len() <= 255
 }
 
-/// Whether all bytes may stand in a name.
+/// Whether a name may have all these bytes.
 fn has_name_bytes(name: &[u8]) -> bool
     ensures { result ≡ list_all is_name_byte name.now }
 {
@@ -52,7 +52,7 @@ fn is_name(name: &[u8]) -> bool
     is_sized(name) && has_name_bytes(name)
 }
 
-/// Whether a byte may stand in a key.
+/// Whether a key may have a byte.
 fn is_key_byte(byte: u8) -> bool
     ensures { result ≡ is_key_byte byte }
 {
@@ -66,7 +66,7 @@ fn begins_with_at(text: &[u8]) -> bool
     matches!(text, [b'@', ..])
 }
 
-/// Whether all bytes may stand in a key.
+/// Whether a key may have all these bytes.
 fn has_key_bytes(key: &[u8]) -> bool
     ensures { result ≡ list_all is_key_byte key.now }
 {
@@ -107,7 +107,7 @@ fn is_alias(text: &[u8]) -> bool
     }
 }
 
-/// Whether a pair's text is none that is worked.
+/// Whether the text of a pair is not run.
 fn is_no_text(text: &[u8]) -> bool
     ensures { result ≡ is_no_text text.now }
 {
@@ -163,7 +163,7 @@ fn extended_text(alloc: Global, name: &[u8], text: Text, more: &[u8]) -> Result<
     }
 }
 
-/// What comes of adding to the text of a name, if it has one.
+/// The result of adding to the text of a name, if it has one.
 fn appended_text(
     alloc: Global,
     name: &[u8],

@@ -69,7 +69,7 @@ fn dump_of(entries: &Entries) -> Result<Word, AllocError>
 impl SpecSet {
     /// The text of the set: its named texts and then its pairs, each with its name and a colon on a
     /// line before it and an empty line after it (GCC manual, "-dumpspecs"). Loaded into the empty
-    /// set it gives this set again, unless a named text begins with `+` and a blank. Want of memory
+    /// set it gives this set again, unless a named text begins with `+` and a blank. Lack of memory
     /// is the only error.
     pub fn dump(&self) -> Result<Word, AllocError>
         ensures text { IfOk result (λ text. text ≡ dumped self.now) }

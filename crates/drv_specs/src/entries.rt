@@ -16,7 +16,7 @@ use indexmap::IndexMap;
 use std::alloc::{AllocError, Global};
 use std::marker::Model;
 
-/// Named texts in order, and suffix pairs in order with the tree of each text that is worked.
+/// Named texts in order, and suffix pairs in order with the tree of each text that is run.
 /// Contracts see the two lists.
 #[derive(Drop)]
 pub(crate) struct Entries {
@@ -71,7 +71,7 @@ fn copied_texts(alloc: Global, texts: &[Option<Text>]) -> Result<Vec<Option<Text
 }
 
 impl Entries {
-    /// None, which takes no memory.
+    /// None, without an allocation.
     pub(crate) fn empty(alloc: Global) -> Entries
         ensures { result ≡ no_specs }
     {
@@ -139,7 +139,7 @@ impl Entries {
         self.named.contains_key(name)
     }
 
-    /// The text of the pair at a place, where it is one that is worked.
+    /// The text of the pair at a place, where it is run.
     pub(crate) fn worked_text(&self, place: usize) -> Option<&Text>
         ensures { option_map (λ text. text.now) result
             ≡ option_and_then worked_text (slice_get self.now.pairs place) }
@@ -150,7 +150,7 @@ impl Entries {
         }
     }
 
-    /// Takes the text of a name, if there is one. Under the name an empty one stands then.
+    /// Takes the text of a name, if there is one. The name has an empty one then.
     pub(crate) fn take(&mut self, name: &[u8]) -> Result<Option<Text>, AllocError>
         ensures taken { IfOk result (λ taken. taken ≡ text_of self.old name.now) }
         ensures left { OnOk result (self.new ≡ with_named self.old name.now []) }
@@ -177,7 +177,7 @@ impl Entries {
         self.named.shift_remove(name);
     }
 
-    /// Adds a pair at the end, with its text where that is one that is worked.
+    /// Adds a pair at the end, with its text where that is run.
     pub(crate) fn push_pair(
         &mut self,
         key: &[u8],

@@ -22,8 +22,8 @@ pub fn directives_are_read()
 {}
 
 /// The law that a set's dump, loaded into the empty set, gives the set again, and over the set
-/// itself its pairs twice, unless a named text begins with `+` and a blank: then that text would be
-/// taken as an addition. It takes and gives nothing.
+/// itself its pairs twice. That isn't so where a named text begins with `+` and a blank: then that
+/// text would be taken as an addition. It takes and gives nothing.
 #[tactic(auto, using(crate::proofs::Reloads::dump_loaded, crate::proofs::Reloads::dump_doubles))]
 pub fn dump_reloads()
     ensures gives_back { (F : Facts) (prefixes : Prefixes) (set : Set) → Kept set → Plain set

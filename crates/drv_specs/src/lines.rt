@@ -27,7 +27,7 @@ pub(crate) struct Body<'a> {
     pub(crate) left: Lines<'a>,
 }
 
-/// A text's first line, and what stands after its newline, if it has one.
+/// A text's first line, and what follows its newline, if it has one.
 #[tactic(auto, using(crate::proofs::Found::line_found, crate::proofs::Found::line_clean, crate::proofs::Found::line_alone))]
 pub(crate) fn cut_line(text: &[u8]) -> (&[u8], Option<&[u8]>)
     ensures whole { text.now
@@ -104,7 +104,7 @@ pub(crate) fn cut_body<'a>(lines: Lines<'a>) -> Body<'a>
     }
 }
 
-/// A text's first word, cut at blanks, and what stands after it.
+/// A text's first word, cut at blanks, and what follows it.
 pub(crate) fn next_word(text: &[u8]) -> Option<(&[u8], &[u8])>
     ensures none { IfNone result (words_of text.now ≡ []) }
     ensures some { IfSome result (λ found. words_of text.now ≡ found.0.now ∷ words_of found.1.now) }

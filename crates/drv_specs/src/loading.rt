@@ -25,7 +25,7 @@ use std::alloc::Global;
 /// How many files may be read in one call.
 const MOST_FILES: usize = 2000;
 
-/// How deep files may stand in one another.
+/// How deep files may be within one another.
 const MOST_LEVELS: usize = 16;
 
 /// What is left of the text that an answer gives.
@@ -68,7 +68,7 @@ fn file_text<S: System>(
     text_read(alloc, if_missing, path, answer)
 }
 
-/// Carries out the directives of a settled text, in which so many more files may stand in one
+/// Carries out the directives of a settled text, in which so many more files may be within one
 /// another.
 #[tactic(auto, using(drv_system::proofs::AskedCalls::asked_further))]
 fn carry_out<S: System>(
@@ -224,8 +224,8 @@ impl SpecSet {
     /// the set is as it was.
     ///
     /// # Errors
-    /// Those of `load`. The file counts as one that is read, and is the first of those that stand
-    /// in one another.
+    /// Those of `load`. The file counts as one that is read, and is the outermost of those within one
+    /// another.
     pub fn load_file<S: System>(
         &mut self,
         name: &Word,

@@ -22,7 +22,7 @@ struct Begun<'a> {
     left: Lines<'a>,
 }
 
-/// A directive with a body, by what stands before the colon.
+/// A directive with a body, by what precedes the colon.
 fn by_key<'a>(key: &'a [u8], body: &'a [u8]) -> Directive<'a>
     ensures { shown result ≡ by_key key.now body.now }
 {
@@ -32,7 +32,7 @@ fn by_key<'a>(key: &'a [u8], body: &'a [u8]) -> Directive<'a>
     }
 }
 
-/// The directive of a line `%rename`, by what stands after that.
+/// The directive of a line `%rename`, by what follows that.
 fn renamed<'a>(number: usize, text: &'a [u8]) -> Directive<'a>
     ensures { shown result ≡ renamed number (words_of text.now) }
 {
@@ -48,7 +48,7 @@ fn renamed<'a>(number: usize, text: &'a [u8]) -> Directive<'a>
     }
 }
 
-/// The directive of a line `%include`, by what stands after that.
+/// The directive of a line `%include`, by what follows that.
 fn included<'a>(number: usize, if_missing: IfMissing, text: &'a [u8]) -> Directive<'a>
     ensures { shown result ≡ included number if_missing text.now }
 {
@@ -81,8 +81,8 @@ fn by_keyword<'a>(number: usize, line: &'a [u8]) -> Directive<'a>
     Directive::Bad(number)
 }
 
-/// Where a body begins: after the colon of its line, or where nothing stands there but blanks,
-/// with the next line.
+/// Where a body begins: after the colon of its line, or, where only blanks follow that, with the
+/// next line.
 fn body_start<'a>(text: &'a [u8], line: &[u8], value: &[u8], lines: Lines<'a>) -> Lines<'a>
     requires whole { text.now ≡ line.now ++ bytes_from (text_left lines) }
     requires line { list_all (λ b. not (ends_line b)) line.now ≡ true }
@@ -150,7 +150,7 @@ fn is_keyword(start: &[u8]) -> bool
     matches!(start, [b'%', ..])
 }
 
-/// What the first line of a text begins, which has this number and stands in no body.
+/// What the first line of a text begins, which has this number and is in no body.
 fn begin<'a>(number: usize, text: &'a [u8]) -> Begun<'a>
     requires { number + 1 + length text.now < 2 ^ 64 }
     ensures directives { read_lines false number (lines_of text.now)

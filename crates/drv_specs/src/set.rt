@@ -12,8 +12,8 @@ use std::alloc::Global;
 use std::marker::Model;
 use std::mem;
 
-/// Named texts in order and suffix pairs in order, each text that is worked with its tree.
-/// Contracts see the two lists.
+/// Named texts in order and suffix pairs in order, each text that is run with its tree. Contracts
+/// see the two lists.
 pub struct SpecSet {
     pub(crate) entries: Entries,
 }
@@ -36,7 +36,7 @@ impl Model for SpecSet {
 }
 
 impl SpecSet {
-    /// The set without texts and pairs, which takes no memory.
+    /// The set without texts and pairs, without an allocation.
     #[tactic(auto, using(crate::proofs::BuiltinKept::kept_empty))]
     pub fn empty(alloc: Global) -> SpecSet
         ensures { result ≡ no_specs }
@@ -46,7 +46,7 @@ impl SpecSet {
         }
     }
 
-    /// The entries, which takes no memory.
+    /// The entries, without an allocation.
     #[tactic(auto, using(crate::proofs::BuiltinKept::kept_empty))]
     pub(crate) fn into_entries(self) -> Entries
         ensures same { result ≡ self }
@@ -57,7 +57,7 @@ impl SpecSet {
         mem::replace(&mut set.entries, none)
     }
 
-    /// The text of a name. It takes no memory.
+    /// The text of a name. The call allocates nothing.
     pub fn text(&self, name: &[u8]) -> Option<&[u8]>
         ensures { option_map (λ text. text.now) result ≡ text_of self.now name.now }
     {
@@ -67,7 +67,7 @@ impl SpecSet {
         }
     }
 
-    /// The text of a name, with its tree. It takes no memory.
+    /// The text of a name, with its tree. The call allocates nothing.
     pub fn tree(&self, name: &[u8]) -> Option<&SpecTree>
         ensures { option_map (λ tree. tree.now) result ≡ text_of self.now name.now }
     {
@@ -77,7 +77,7 @@ impl SpecSet {
         }
     }
 
-    /// The suffix pairs: a suffix, or `@` and a language, and a text. It takes no memory.
+    /// The suffix pairs: a suffix, or `@` and a language, and a text. The call allocates nothing.
     pub fn pairs(&self) -> &[(Word, Word)]
         ensures { result.now ≡ self.now.pairs }
     {
@@ -85,7 +85,7 @@ impl SpecSet {
     }
 
     /// The text of the pair at a place, with its tree, unless it is an alias or says that a
-    /// language isn't installed. It takes no memory.
+    /// language isn't installed. The call allocates nothing.
     pub fn pair_tree(&self, place: usize) -> Option<&SpecTree>
         ensures { option_map (λ tree. tree.now) result
             ≡ option_and_then worked_text (slice_get self.now.pairs place) }

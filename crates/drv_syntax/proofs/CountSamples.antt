@@ -6,8 +6,7 @@ use Rattle.drv_syntax.specs.declared.fault.SyntaxFault.{SyntaxFault}
 use Rattle.std.proofs.Common.{◌≡◌, ◌++◌, List, [], ◌∷◌, length, refl, suc, zero, ℕ}
 use Rattle.std.specs.Prelude.{codes, Result, Err, Ok}
 
--- Texts with the number of their tokens, or their fault. The expected values were worked out by hand from the rules of
--- the grammar.
+-- Texts with the number of their tokens, or their fault. The expected values were derived by hand from the rules of the grammar.
 
 abbrev counted : Result Items SyntaxFault → Result ℕ SyntaxFault
 counted (Ok items) = Ok (length (tokens_of items))

@@ -55,7 +55,7 @@ sign_read h asked (s.plain_sign g) k p asks bang n a = k p n n (asks n) a
 sign_read {ws = ws} h asked (s.not_sign sp) k p asks bang n a =
     goes (bang n) (and_then (spaces_read ws (o.TestNegated h n) (negated_space h n) (n + 1) sp) (λ m f. k (o.TestNegated h n) m n (negated_asks h n m) (omega (arith, a, f))))
 
--- after a . or , and its word no star stands
+-- no star follows a . or , and its word
 abbrev pub Unstarred : Asked → List ℕ → Type 0
 Unstarred (HasSwitch p) w = Unit {0}
 Unstarred (HasSuffix word) w = Stops (λ b. b == 42) w

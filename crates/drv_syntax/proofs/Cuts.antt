@@ -11,7 +11,7 @@ use Rattle.drv_syntax.specs.Tree.{Asked, HasResult, HasSwitch, Items, Pattern, S
 use Rattle.std.proofs.Common.{◌≡◌, ◌≤◌, ◌++◌, ◌⊎◌, Bool, false, true, List, [], ◌∷◌, length, ℕ}
 use Rattle.std.specs.Prelude.{◌==◌, None, Option, Some}
 
--- What is left of a text that ends inside the directive that a place stands in.
+-- What is left of a text that ends inside the directive that a place is in.
 
 -- after a backslash in such bytes
 abbrev pub Escaped : (ℕ → Bool) → List ℕ → Type 0
@@ -169,7 +169,7 @@ InsideCut size w c text =
     ⊎ ((items : Items) × (b : ℕ) × (rest : List ℕ) × (q : Place) × (k : ℕ) × AreItems size c text items (b ∷ rest) × (is_end c.kind b ≡ true) × At size k (b ∷ rest) × (resume w items k b ≡ On q)
     × Cut size q rest)
 
--- what is left after a byte that does this, where the text ends in the directive that the byte stands in
+-- what is left after a byte that does this, where the text ends in the directive that the byte is in
 abbrev pub CutAfter : ℕ → Outside → ℕ → List ℕ → Turn → Type 0
 CutAfter size K b text (o.Goes q) = Cut size q text
 CutAfter size K b text (o.Opens q w) = Wanted size (Beyond size K w) q text ⊎ Cut size q text

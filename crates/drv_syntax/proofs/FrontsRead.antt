@@ -85,7 +85,7 @@ sign_out h (s.plain_sign g) k p asks bang n a = k p n n (asks n) a
 sign_out {ws = ws} h (s.not_sign sp) k p asks bang n a =
     on (bang n) (onto (spaces_read ws (o.TestNegated h n) (negated_space h n) (n + 1) sp) (λ m f. k (o.TestNegated h n) m n (negated_asks h n m) (omega (arith, a, f))))
 
--- no star stands before white space at the end
+-- no star precedes white space at the end
 no_star_end : {text end : List ℕ} → AreSpaces text end → end ≡ [] → Stops (λ b. b == 42) text
 no_star_end s.no_space f = rw f s.at_end
 no_star_end (s.space {b} g q) f = s.at_byte (other is_white b 42 g refl)

@@ -38,7 +38,7 @@ labels_4 : labels_from (codes "%x{a\\}b}%<f*%(cc1)")
     ≡ (label_with (codes "a}b") false false asking.Switch) ∷ (label_with (codes "f") true false asking.Switch) ∷ (label_with (codes "cc1") false false asking.Switch) ∷ []
 labels_4 = refl
 
--- an X with a %* of its own, one whose %* belongs to an inner X, and one whose %* stands in a test of inner braces
+-- an X with a %* of its own, one whose %* belongs to an inner X, and one whose %* is in a test of inner braces
 labels_5 : labels_from (codes "%{a*:%*}%{a*:%{b*:%*}}")
     ≡ no_label ∷ (star_label true) ∷ (label_with (codes "a") true false asking.Switch) ∷ no_label
     ∷ no_label ∷ (star_label false) ∷ (label_with (codes "a") true false asking.Switch) ∷ no_label ∷ (star_label true) ∷ (label_with (codes "b") true false asking.Switch) ∷ no_label ∷ []

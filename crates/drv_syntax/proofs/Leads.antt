@@ -8,7 +8,7 @@ use Rattle.std.specs.Prelude.{◌==◌}
 
 -- Steps of a run, and facts on classes of bytes. Nothing here knows the table.
 
--- a text leads from a place to another, where the rest stands; that one may hold the place of the rest
+-- a text leads from a place to another, where the rest begins; that one may hold the place of the rest
 pub record Leads (ws : List Waiting) (p : Place) (n : ℕ) (text : List ℕ) (vs : List Waiting) (q : ℕ → Place) (rest : List ℕ) : Type 0 where
   pub at : ℕ
   pub fits : n + length text ≡ at + length rest

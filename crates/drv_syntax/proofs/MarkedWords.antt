@@ -8,7 +8,7 @@ use Rattle.std.proofs.Common.{◌≡◌, ℕ, ◌+◌, ◌-◌, ◌<◌, ◌≤�
 use Rattle.std.proofs.Math.Seq.{drop-append_seam, take-length}
 use Rattle.std.proofs.lemmas.List.{drop-append-le, drop_more, length-drop, length-map, map-append, map-set, take-append-le, take-map}
 
--- Labels whose words stand one after another.
+-- Labels whose words follow one another.
 
 pub within_more : (n m : ℕ) (marks : List LabelMark) → n ≤ m → Within n marks → Within m marks
 within_more n m [] h w = tt
@@ -33,7 +33,7 @@ within_get n [] place d w h = absurd (omega arith)
 within_get n (x ∷ marks) zero d w h = w.0
 within_get n (x ∷ marks) (suc place) d w h = within_get n marks place d w.1 (omega arith)
 
--- where the word of the label at this place stands
+-- where the word of the label at this place is
 pub within_at : (words : List ℕ) (marks : List LabelMark) (now : List Label) (place : ℕ) (d : LabelMark) → marked_labels words marks ≡ now → Within (length words) marks → place < length now
     → ((get_or marks place d).start ≤ (get_or marks place d).end) × ((get_or marks place d).end ≤ length words)
 within_at words marks now place d e w h =

@@ -120,7 +120,7 @@ marked_read {start = start} {x} {h} {negated} {word = word} {rest} ws mark e a q
     (o.AfterTest h (emitted h start m negated (pattern (mark ∷ x ∷ word) false)) (tested h start m negated (o.marked mark (x ∷ word))) false) m rest refl
     (λ c r k. rw (at_front c r (stops_at q) k, at_front c r (stops q) k, at_front c r f k) refl)))
 
--- no star stands before white space and a byte that is none
+-- no star precedes white space and a byte that is none
 pub no_star : {text end rest : List ℕ} (c : ℕ) → (c == 42) ≡ false → AreSpaces text end → end ≡ c ∷ rest → Stops (λ b. b == 42) text
 no_star c e s.no_space f = rw f (s.at_byte e)
 no_star c e (s.space {b} g q) f = s.at_byte (other is_white b 42 g refl)

@@ -35,7 +35,7 @@ not_mark b e = by (is_mark b) refl
     by true f = differs (sym (each (λ (x : ℕ). is_word x ≡ true) (46 ∷ 44 ∷ []) b f (refl, (refl, tt))) ∙ e)
     by false f = f
 
--- how braces with these alternatives and tests stand at a test
+-- what is left of braces with these alternatives and tests at a test
 abbrev pub Stands : Order → Choices → Tests → Type 0
 Stands AtFront cs ts = cs ≡ no_choice
 Stands AtNext cs ts = HasChoice cs

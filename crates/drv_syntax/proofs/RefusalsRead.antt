@@ -26,11 +26,11 @@ use Rattle.std.specs.Prelude.{◌==◌, None, Option, Some}
 
 -- Where something is due, the table is in a place that refuses what is refused there.
 
--- what is read from a place on comes to where a byte is due
+-- reading from a place on ends where a byte is due
 abbrev pub ReachedByte : ℕ → List Waiting → Place → ℕ → List ℕ → Due → List ℕ → Type 0
 ReachedByte size ws p n text due rest = (vs : List Waiting) × (q : Place) × (m : ℕ) × At size m rest × Answers size due q m rest × (run ws p n text ≡ run vs q m rest)
 
--- what is read from a place on comes to where this is due
+-- reading from a place on ends where this is due
 abbrev pub Reached : ℕ → List Waiting → Place → ℕ → List ℕ → Due → List ℕ → Type 0
 Reached size ws p n text (AnItem c) rest = (vs : List Waiting) × (past : Items) × (m : ℕ) × At size m rest × (run ws p n text ≡ run vs (at_item c past) m rest)
 Reached size ws p n text (ATest c at order negated) rest =

@@ -120,7 +120,7 @@ module _ (v u : ReaderState) (n : ℕ) where
   resumes_in [] more e goes = resumes_at v.stage more refl e goes
   resumes_in (f ∷ fs) more e goes = absurd cc
 
--- bytes after a text whose end came to this state
+-- bytes after a text whose end gave this state
 pub followed : (v m u : ReaderState) (n : ℕ) (text : List ℕ) → pass v n text ≡ Ok m → finish (n + length text) m ≡ Ok u → Follows (ending_at m.stage) v n text u
 followed v m u n text h e more goes =
     pass_more text more v n

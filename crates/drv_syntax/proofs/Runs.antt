@@ -107,7 +107,7 @@ said_takes v u start saying k n text h e d =
     word_take v (at.List (stages.SayingText start saying)) h (said v.context.kind) (length v.word + k) (λ p i b l g. said_step v.context.kind saying start v p i b refl g) k n text (omega (arith, e)) (omega arith)
     ∙ ap (λ (r : Result ReaderState SyntaxFault). then_walk r (λ x. pass x (n + k) (drop k text))) d
 
--- a byte that stands for itself
+-- a plain byte
 run_step : (kind : ListKind) (n b : ℕ) (v : ReaderState) → v.stage ≡ at.List stages.Start → v.context.kind ≡ kind → runs kind b ≡ true
     → step v n b ≡ Ok (with_part (part (singles.Plain b) takes.Nothing n (n + 1)) v)
 run_step lists.Top n b v h k g =
@@ -211,7 +211,7 @@ abbrev stage_in : Result ReaderState SyntaxFault → Stage
 stage_in (Ok w) = w.stage
 stage_in (Err fault) = at.List stages.Start
 
--- where a word grows, the byte after it stands at the same place
+-- where a word grows, the byte after it is at the same place
 pub same_stage : (v m : ReaderState) (word : List ℕ) (stage : Stage) → v.stage ≡ stage → walked (with_word word v) ≡ walked m → m.stage ≡ stage
 same_stage v m word stage h e = sym (ap (λ (r : Result ReaderState SyntaxFault). stage_in r) e) ∙ h
 
@@ -260,7 +260,7 @@ named_takes v u start k n text name h w e some short inside end is d =
 pub turn_takes : (v x u : ReaderState) (n b taken : ℕ) (text : List ℕ) → step v n b ≡ Ok x → pass x (n + 1) text ≡ pass u (n + 1 + taken) (drop taken text) → pass v n (b ∷ text) ≡ pass u (n + 1 + taken) (drop taken text)
 turn_takes v x u n b taken text h g = ap (λ (r : Result ReaderState SyntaxFault). then_walk r (λ y. pass y (n + 1) text)) h ∙ g
 
--- a byte that stands for itself, and those after it that do
+-- a plain byte, and the plain ones after it
 pub run_takes : (v u : ReaderState) (n b : ℕ) (text following run : List ℕ) (k : ℕ) → text ≡ b ∷ following → v.stage ≡ at.List stages.Start → k ≡ prefix_len (runs v.context.kind) text → 0 < k → run ≡ take k text → k ≤ length text
     → walked (with_plains n run v) ≡ walked u → (k - 1 ≤ length following) × (pass v n (b ∷ following) ≡ pass u (n + 1 + (k - 1)) (drop (k - 1) following))
 run_takes v u n b text following run k f h e positive g w d =
@@ -298,7 +298,7 @@ percent_takes v u n taken (b ∷ inside) h some e = (
     skip : suc taken ≡ taken + 1
     skip = omega arith
 
--- bytes that stand for themselves, or none
+-- plain bytes, or none
 pub plains_read : (v u : ReaderState) (k n : ℕ) (text run : List ℕ) → v.stage ≡ at.List stages.Start → k ≡ prefix_len (runs v.context.kind) text → 0 < k → run ≡ take k text → k ≤ length text
     → walked (with_plains n run v) ≡ walked u → (k ≤ length text) × (pass v n text ≡ pass u (n + k) (drop k text))
 plains_read v u k n text run h e positive f w d = (w, plains_take v u k n text run h e positive f w d)

@@ -11,7 +11,7 @@ use Rattle.drv_syntax.specs.declared.token.TokenKind.TheVariants as kinds
 use Rattle.std.specs.Prelude.{codes}
 use Rattle.std.proofs.Common.{◌≡◌, false, true, List, [], ◌∷◌, refl, ℕ}
 
--- Texts with what they give. The expected values were worked out by hand from the rules of the grammar.
+-- Texts with what they give. The expected values were derived by hand from the rules of the grammar.
 
 row_0 : read (codes "%*") ≡ Bad 1 (StarOutside 0)
 row_0 = refl

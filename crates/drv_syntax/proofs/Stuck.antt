@@ -14,13 +14,13 @@ use Rattle.drv_syntax.specs.Tree.{Asked, Choices, HasResult, HasSwitch, Items, P
 use Rattle.std.proofs.Common.{◌≡◌, ◌≤◌, ◌++◌, ◌⊎◌, Bool, false, true, List, [], ◌∷◌, length, ℕ}
 use Rattle.std.specs.Prelude.{◌==◌, None, Option, Some}
 
--- What is left of a text that ends in the byte that no longer fits, inside the directive that a place stands in.
+-- What is left of a text that ends in the byte that no longer fits, inside the directive that a place is in.
 
 abbrev pub Absent : {X : Type 0} → Option X → Type 0
 Absent (Some x) = ⊥
 Absent None = Unit {0}
 
--- where a test of these braces stands
+-- where a test of these braces is
 abbrev pub order_by : Tests → Choices → Order
 order_by (test s negated asked tests) cs = AtBar
 order_by no_test no_choice = AtFront
@@ -29,7 +29,7 @@ order_by no_test (choice s tests items cs) = AtNext
 abbrev pub order_of : Head → Order
 order_of h = order_by h.tests h.choices
 
--- what may stand after a test, by what the braces can still hold
+-- what may follow a test, by what the braces can still hold
 abbrev pub ends_of : Option (List (Span × Pattern)) → Option Tests → List ℕ
 ends_of (Some ps) (Some ts) = ends_either
 ends_of (Some ps) None = ends_pattern
@@ -208,7 +208,7 @@ module _ (size : ℕ) (F : SyntaxFault) where
       ⊎ ((items : Items) × (b : ℕ) × (rest : List ℕ) × (k : ℕ) × AreItems size c text items (b ∷ rest) × (is_end c.kind b ≡ true) × At size k (b ∷ rest)
       × (((q : Place) × (resume w items k b ≡ On q) × Stuck q rest) ⊎ ((resume w items k b ≡ Not F) × (rest ≡ []))))
 
-  -- what is left after a byte that does this, where the text ends in the directive that the byte stands in
+  -- what is left after a byte that does this, where the text ends in the directive that the byte is in
   abbrev pub StuckAfter : Outside → ℕ → List ℕ → Turn → Type 0
   StuckAfter K b text (o.Goes q) = Stuck q text
   StuckAfter K b text (o.Opens q w) = Wanted size (Beyond K w) q text ⊎ Stuck q text

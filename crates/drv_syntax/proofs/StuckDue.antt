@@ -29,7 +29,7 @@ use Rattle.std.specs.Prelude.{◌==◌}
 is_word_mark : (b : ℕ) → is_mark b ≡ true → is_word b ≡ true
 is_word_mark b e = each (λ (x : ℕ). is_word x ≡ true) (46 ∷ 44 ∷ []) b e (refl, (refl, tt))
 
--- how a test stands in braces
+-- the place of a test in braces
 
 absent_may : (cs : Choices) (ts : Tests) (negated : Bool) (ps : List (Span × Pattern)) (p : Span × Pattern) → Absent (emitted_by cs ts negated ps p) → may_emit (order_by ts cs) negated ≡ false
 absent_may no_choice no_test false ps p x = absurd x

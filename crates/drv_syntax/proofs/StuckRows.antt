@@ -26,8 +26,8 @@ use Rattle.std.proofs.Common.{◌≡◌, ◌≤◌, ◌∙◌, ◌+◌, ◌++◌
 use Rattle.std.proofs.lemmas.Bool.Decides.{nat_tests}
 use Rattle.std.specs.Prelude.{◌==◌, nat_le}
 
--- The rows of items and functions, backwards, for a text that ends in the byte that no longer fits: where it does so inside
--- a directive after a byte, it does so before it, or the directive has ended before the byte.
+-- The rows of items and functions, backwards, for a text that ends in the byte that no longer fits. Where it does so inside a directive
+-- after a byte, it does so before it, or the directive has ended before the byte.
 
 le_true : {m n : ℕ} → nat_le m n ≡ true → m ≤ n
 le_true h = grind (arith, nat_tests)

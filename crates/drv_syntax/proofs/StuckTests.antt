@@ -24,7 +24,7 @@ use Rattle.std.specs.Prelude.{◌==◌, None, Option, Some, if◌then◌else◌}
 
 -- The rows of tests, backwards, for a text that ends in the byte that no longer fits.
 
--- how tests stand in braces
+-- the places of tests in braces
 
 next_order : (cs : Choices) (x : Span) (tests : Tests) (items : Items) → order_by no_test (join_choices cs (choice x tests items no_choice)) ≡ AtNext
 next_order no_choice x tests items = refl

@@ -337,7 +337,7 @@ trail_white (tree.more s item items) k = k
 abbrev trail : Item → Items → ℕ → ℕ
 trail item items k = if white item then trail_white items k else k
 
--- how many items of white space stand at the end
+-- how many items of white space are at the end
 abbrev pub trailing : Items → ℕ
 trailing tree.none = 0
 trailing (tree.more s item items) = trail item (trimmed items) (trailing items)

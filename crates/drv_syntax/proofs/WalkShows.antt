@@ -29,7 +29,7 @@ use Rattle.drv_syntax.proofs.WalkMeaning.{Fits, head_place, headed, here, list_p
 use Rattle.std.proofs.Common.{◌≡◌, ℕ, ◌+◌, Bool, true, false, List, [], ◌∷◌, length}
 use Rattle.std.specs.Prelude.{◌||◌, None, Result, Ok, Err}
 
--- Each state of the code stands for a place of the table and for directives that wait, and each byte leads to the next.
+-- Each state of the code represents a place of the table and directives that wait, and each byte leads to the next.
 
 -- the tokens and labels of what waits
 abbrev pub opened_kind : BraceKind → TokenKind
@@ -162,7 +162,7 @@ pub data Shows : ReaderState → List o.Waiting → Place → Type 0 where
       (head_parts ws (hd ws k before kind at choices (tree.test r negated asked others) patterns)) word kept trail) ws
       (o.AfterTest (hd ws k before kind at choices tests patterns) None (o.tested_by patterns (tree.test r negated asked others)) false)
 
--- what a step of the code comes to, against what the byte leads to
+-- what a step of the code gives, against what the byte leads to
 abbrev pub Leads : Result ReaderState SyntaxFault → ((List o.Waiting → Place → Out) → Out) → Type 0
 Leads (Ok v) f = (ws : List o.Waiting) × ((p : Place) × (Shows v ws p × ((again : List o.Waiting → Place → Out) → f again ≡ again ws p)))
 Leads (Err fault) f = (again : List o.Waiting → Place → Out) → judged (f again) ≡ Err fault

@@ -13,9 +13,9 @@ use Rattle.drv_syntax.specs.declared.token.TempKind.{TempKind}
 use Rattle.std.proofs.Common.{◌≡◌, ◌≤◌, ◌++◌, ◌⊎◌, Bool, false, true, List, [], ◌∷◌, length, ℕ}
 use Rattle.std.specs.Prelude.{◌==◌, None, Option, Some}
 
--- What each place wants of the rest of a text, for a text that is read to have a tree.
+-- What each place requires of the rest of a text, for a text that is read to have a tree.
 
--- what a list with these items so far, and with so much of the text left, means to what stands around it
+-- what a list with these items so far, and with so much of the text left, means to what is around it
 abbrev pub Outside : Type 1
 Outside = ListContext → Items → List ℕ → Type 0
 

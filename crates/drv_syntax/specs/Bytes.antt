@@ -38,7 +38,7 @@ is_mark b = is_of (codes ".,") b
 abbrev pub is_option : ℕ → Bool
 is_option b = if b == ascii.closing_brace then false else true
 
--- a byte that stands for itself: any but a backslash, %, |, a space, a tab and a newline
+-- a plain byte: any but a backslash, %, |, a space, a tab and a newline
 abbrev pub is_plain : ℕ → Bool
 is_plain b = if is_of (ascii.backslash ∷ ascii.percent ∷ ascii.bar ∷ ascii.space ∷ ascii.tab ∷ ascii.newline ∷ []) b then false else true
 

@@ -3,7 +3,7 @@ use Rattle.drv_syntax.specs.Bytes.{is_of}
 use Rattle.drv_syntax.specs.Tree.{Blank, Item, HasLanguage, Newline, Pipe, Plain, HasResult, HasSuffix, HasSwitch, Tests, no_test, pattern, test}
 use Rattle.std.specs.Prelude.{◌-◌, ◌==◌, Bool, false, true, if◌then◌else◌, [], ◌∷◌, codes, ℕ}
 
--- Where a list of items stands, and what that means for its bytes and directives (this project's profile).
+-- Where a list of items is, and what that means for its bytes and directives (this project's profile).
 
 pub data Kind : Type 0 where
   Top : Kind  -- a whole text
@@ -29,7 +29,7 @@ top = record { kind = Top; in_arguments = false; owner = Nobody; levels = 64 }
 abbrev pub in_braces : ListContext → ListContext
 in_braces c = record { kind = c.kind; in_arguments = c.in_arguments; owner = c.owner; levels = c.levels - 1 }
 
--- in the arguments of a function that stands in such a place
+-- in the arguments of a function that is in such a place
 abbrev pub in_arguments : ListContext → ListContext
 in_arguments c = record { kind = InArguments; in_arguments = true; owner = c.owner; levels = c.levels - 1 }
 

@@ -78,7 +78,7 @@ abbrev pub is_allowed : Bool → ℕ → Bool
 is_allowed false b = true
 is_allowed true b = is_of (codes "%ibBOs*{:") b
 
--- the name of the text that a letter stands for
+-- the name of the text that a letter denotes
 abbrev pub text_of : BuiltinName → List ℕ
 text_of Assembler = codes "asm"
 text_of AssemblerFinal = codes "asm_final"

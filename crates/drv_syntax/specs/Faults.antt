@@ -14,8 +14,7 @@ use Rattle.std.specs.Prelude.{◌≡◌, ◌⊎◌, ◌<◌, ◌≤◌, ◌+◌,
 
 -- Why a text has no tree, by the grammar (GCC manual, "Spec Files"; this project's profile).
 
--- the byte at this place is the first that doesn't fit: it stands after the longest prefix that is
--- a front
+-- the byte at this place is the first that doesn't fit: it follows the longest prefix that is a front
 pub record IsMisfit (text : List ℕ) (place : ℕ) : Type 0 where
   pub inside : place < length text
   pub front : Front (take place text)
@@ -27,9 +26,8 @@ is_closed_by_end (WithSaying kind) = true
 is_closed_by_end (WithSuffix kind) = true
 is_closed_by_end directive = false
 
--- the place of what a text of this size leaves open at its end, after whole items: a % or a
--- backslash that is all that is left; a directive; or the last byte of one that the end closes, a
--- backslash or the % after a suffix that isn't there
+-- The place of what a text of this size leaves open at its end, after whole items. That is a % or a backslash alone, a directive, or the
+-- last byte of one that the end closes: a backslash, or the % after a suffix that isn't there.
 pub data IsOpenAt (size : ℕ) : List ℕ → ℕ → Type 0 where
   open_byte : {b n : ℕ} → CutsItem size top (b ∷ []) → At size n (b ∷ [])
       → IsOpenAt size (b ∷ []) n
@@ -42,8 +40,8 @@ pub data IsOpenAt (size : ℕ) : List ℕ → ℕ → Type 0 where
   after_item : {text rest : List ℕ} {item : Item} {n : ℕ} → IsItem size top text item rest
       → IsOpenAt size rest n → IsOpenAt size text n
 
--- a text without a tree is cut short, and at this place stands what it leaves open: its outermost
--- directive that isn't closed, or, where there is none, the backslash that is its last byte
+-- a text without a tree is cut short, and at this place is what it leaves open: its outermost directive that isn't closed, or, where there
+-- is none, the backslash that is its last byte
 pub record IsCutAt (text : List ℕ) (place : ℕ) : Type 0 where
   pub is_open : IsOpenAt (length text) text place
   pub no_tree : (items : Items) → Spells text items → ⊥

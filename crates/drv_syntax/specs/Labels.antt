@@ -59,7 +59,7 @@ label_of (tree.Hide p) = pattern_label p
 label_of (tree.Function name arguments) = word_label name
 label_of _ = no_label
 
--- a tree as its parts alone: each with what it is, its label, where it stands, the parts inside it and those after it
+-- a tree as its parts alone: each with what it is, its label, its place, the parts inside it and those after it
 pub data Nodes : Type 0 where
   no_node : Nodes
   node : TokenKind → Label → Span → Nodes → Nodes → Nodes

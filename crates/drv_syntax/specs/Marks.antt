@@ -2,7 +2,7 @@ use Rattle.drv_syntax.specs.Labels.{Label}
 use Rattle.drv_syntax.specs.declared.labels.LabelMark.{LabelMark}
 use Rattle.std.specs.Prelude.{◌-◌, ◌≤◌, List, [], ◌∷◌, drop, map, take, ℕ}
 
--- Labels whose words stand one after another (this project's profile).
+-- Labels whose words follow one another (this project's profile).
 
 abbrev pub marked_label : List ℕ → LabelMark → Label
 marked_label words m = record { word = take (m.end - m.start) (drop m.start words); starred = m.starred; negated = m.negated; asks = m.asks; holds_star = m.holds_star }

@@ -72,7 +72,7 @@ emitted_item h end patterns = placed h.here h.at end (braced h.kind (Emit patter
 abbrev pub chosen_item : Head → ℕ → Choices → Here
 chosen_item h end choices = placed h.here h.at end (braced h.kind (Choose choices))
 
--- where the next byte stands. `at` is the place of a %, `back` of a backslash, `start` of a test or a pattern
+-- the place of the next byte. `at` is the place of a %, `back` of a backslash, `start` of a test or a pattern
 pub data Place : Type 0 where
   AtItem : Here → Place  -- where an item begins
   AfterBackslash : Here → ℕ → Place  -- back
@@ -218,7 +218,7 @@ turn_function at name b opened further =
 abbrev pub list_in : ListContext → Place
 list_in c = AtItem (record { context = c; done = none })
 
--- after a test, where white space may stand: at the colon, | , } and &
+-- after a test, where white space may be: at the colon, | , } and &
 abbrev pub turn_colon : Head → Option Tests → Bool → ℕ → Turn
 turn_colon h (Some tests) bare n = Opens (list_in (in_x (in_braces h.here.context) tests)) (WaitsX (with_tests h tests) n)
 turn_colon h None bare n = Refused (if bare then EmptyTest h.at else BadDirective h.at)

@@ -11,10 +11,10 @@ use Rattle.drv_syntax.specs.Spelling.{AreItems, AreSpaces, AreTests, At, IsAsked
 use Rattle.drv_syntax.specs.Tree.{Asked, HasResult, Item, Items, Pattern, Tests, no_test, pattern}
 use Rattle.std.specs.Prelude.{◌≡◌, ◌≤◌, ◌==◌, Bool, false, true, List, [], ◌∷◌, ◌++◌, codes, length, ℕ}
 
--- Which fault a text is refused for, by where its last byte stands in the grammar. All is over the shortest prefix that is
--- no front: it ends in the byte that no longer fits (GCC manual, "Spec Files"; this project's profile).
+-- Which fault a text is refused for, by the place of its last byte in the grammar. All is over the shortest prefix that is no front: it
+-- ends in the byte that no longer fits (GCC manual, "Spec Files"; this project's profile).
 
--- where a test stands in braces
+-- the place of a test in braces
 pub data Order : Type 0 where
   AtFront : Order  -- at their front: they may be patterns
   AtNext : Order  -- at the front of a later alternative, which may be the default
@@ -45,7 +45,7 @@ pub data Due : Type 0 where
   PastMark : ℕ → Due  -- after such a mark and white space
   NoMore : ℕ → Due  -- the end of the braces, after the X of a default
 
--- what may stand after a test, after a pattern, and after what may be either
+-- what may follow a test, a pattern, and what may be either
 abbrev pub ends_test : List ℕ
 ends_test = codes ":|"
 
@@ -90,7 +90,7 @@ mutual
     in_emits : {c : ListContext} {n : ℕ} {text rest : List ℕ} {due : Due} → ReachesEmits n text due rest → ReachesBrace size c n text due rest
     in_choices : {c : ListContext} {n : ℕ} {text rest : List ℕ} {due : Due} → ReachesChoices size c n AtFront text due rest → ReachesBrace size c n text due rest
 
-  -- in alternatives, of which the first stands there
+  -- in alternatives, at the first
   pub data ReachesChoices (size : ℕ) : ListContext → ℕ → Order → List ℕ → Due → List ℕ → Type 0 where
     to_tests : {c : ListContext} {n : ℕ} {order : Order} {text rest : List ℕ} {due : Due} → ReachesTests size c n order text due rest → ReachesChoices size c n order text due rest
     to_x : {c : ListContext} {n : ℕ} {order : Order} {text mid rest : List ℕ} {tests : Tests} {due : Due} → AreTests size c text tests (ascii.colon ∷ mid) → Reaches size (in_x c tests) mid due rest
@@ -105,7 +105,7 @@ mutual
     after_default : {c : ListContext} {n : ℕ} {text mid rest : List ℕ} {items : Items} → AreSpaces text (ascii.colon ∷ mid) → AreItems size (in_x c no_test) mid items (ascii.semicolon ∷ rest)
         → ReachesLater size c n text (NoMore n) (ascii.semicolon ∷ rest)
 
-  -- in tests, of which the first stands there
+  -- in tests, at the first
   pub data ReachesTests (size : ℕ) : ListContext → ℕ → Order → List ℕ → Due → List ℕ → Type 0 where
     in_test : {c : ListContext} {n : ℕ} {order : Order} {t u v rest : List ℕ} {negated : Bool} {due : Due} → AreSpaces t u → IsSign u negated v → ReachesAsked size c n order negated v due rest
         → ReachesTests size c n order t due rest
@@ -160,7 +160,7 @@ pub data Refuses (size : ℕ) : Due → List ℕ → SyntaxFault → Type 0 wher
       → Refuses size (AnItem c) (ascii.percent ∷ b ∷ []) (StarOutside n)
   mixed_star : {c : ListContext} {n b : ℕ} → At size n (ascii.percent ∷ b ∷ []) → is_allowed c.in_arguments b ≡ true → directive_of b ≡ OfStar → c.owner ≡ Mixed
       → Refuses size (AnItem c) (ascii.percent ∷ b ∷ []) (MixedStar n)
-  -- braces or arguments within 64 others: the {, W, @ or : after a %, where that may stand, or the % of a test
+  -- braces or arguments within 64 others: the {, W, @ or : after a %, where that is allowed, or the % of a test
   item_within_all : {c : ListContext} {n b : ℕ} → At size n (ascii.percent ∷ b ∷ []) → is_allowed c.in_arguments b ≡ true → nests (directive_of b) ≡ true → (c.levels == 0) ≡ true
       → Refuses size (AnItem c) (ascii.percent ∷ b ∷ []) (TooNested n)
   test_within_all : {c : ListContext} {at n : ℕ} {order : Order} {negated : Bool} → At size n (ascii.percent ∷ []) → (c.levels == 0) ≡ true
@@ -181,7 +181,7 @@ pub data Refuses (size : ℕ) : Due → List ℕ → SyntaxFault → Type 0 wher
   mark_is_no_test : {at b : ℕ} → is_of ends_test b ≡ true → Refuses size (PastMark at) (b ∷ []) (EmptyTest at)
   -- a default that is not last
   default_goes_on : {at : ℕ} → Refuses size (NoMore at) (ascii.semicolon ∷ []) (EmptyTest at)
-  -- no such directive, or not allowed where it stands; inside one; after the % of a test no colon; after a test or a pattern
+  -- no such directive, or not allowed at its place; inside one; after the % of a test no colon; after a test or a pattern
   not_allowed : {c : ListContext} {n b : ℕ} → At size n (ascii.percent ∷ b ∷ []) → is_allowed c.in_arguments b ≡ false → Refuses size (AnItem c) (ascii.percent ∷ b ∷ []) (BadDirective n)
   no_directive : {c : ListContext} {n b : ℕ} → At size n (ascii.percent ∷ b ∷ []) → is_allowed c.in_arguments b ≡ true → directive_of b ≡ Nowhere
       → Refuses size (AnItem c) (ascii.percent ∷ b ∷ []) (BadDirective n)

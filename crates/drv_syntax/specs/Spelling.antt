@@ -13,8 +13,8 @@ use Rattle.drv_syntax.specs.declared.token.Leaf as leaf
 use Rattle.drv_syntax.specs.declared.token.TempKind.{TempKind}
 use Rattle.std.specs.Prelude.{◌≡◌, ◌≤◌, ◌+◌, ◌==◌, Bool, false, true, List, [], ◌∷◌, ◌++◌, length, codes, ℕ}
 
--- The grammar of spec texts (GCC manual, "Spec Files"; what that leaves open is this project's profile). A family
--- says of a text what stands at its front, and what is left after it.
+-- The grammar of spec texts (GCC manual, "Spec Files"; what that leaves open is this project's profile). A family says of a text what its
+-- front is, and what is left after it.
 
 -- the text doesn't begin with such a byte
 pub data Stops (f : ℕ → Bool) : List ℕ → Type 0 where
@@ -95,7 +95,7 @@ mutual
     directive : {c : ListContext} {b : ℕ} {text rest : List ℕ} {item : Item} → is_allowed c.in_arguments b ≡ true → IsDirective size c (directive_of b) text item rest
         → IsItem size c (ascii.percent ∷ b ∷ text) item rest
 
-  -- what stands after the byte of a directive
+  -- what follows the byte of a directive
   pub data IsDirective (size : ℕ) : ListContext → Directive → List ℕ → Item → List ℕ → Type 0 where
     whole : {c : ListContext} {rest : List ℕ} {leaf : leaf.Leaf} → IsDirective size c (Whole leaf) rest (Leaf leaf) rest
     named : {c : ListContext} {rest : List ℕ} {name : BuiltinName} → IsDirective size c (Named name) rest (BuiltinText (text_of name)) rest

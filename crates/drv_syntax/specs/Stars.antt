@@ -3,7 +3,7 @@ use Rattle.std.specs.Prelude.{◌||◌, Bool, false, true}
 
 -- Which %* belong to an X (GCC manual, "Spec Files"; this project's profile).
 
--- a %* that belongs to the X that these items are: it stands in it outside the Xs of inner braces
+-- a %* that belongs to the X that these items are: it is in it, outside the Xs of inner braces
 abbrev mutual
   pub has_star : Items → Bool
   has_star none = false

@@ -2,15 +2,15 @@ use Rattle.drv_syntax.specs.declared.token.Leaf as leaf
 use Rattle.drv_syntax.specs.declared.token.TempKind.{TempKind}
 use Rattle.std.specs.Prelude.{ℕ, ◌+◌, Bool, List}
 
--- The tree of a spec text: what stands in it, and where (GCC manual, "Spec Files"; places and the cut of trailing
--- white space are this project's profile).
+-- The tree of a spec text: what is in it, and where (GCC manual, "Spec Files"; places and the cut of trailing white space are this
+-- project's profile).
 
 -- the bytes of a text from one place up to another
 pub record Span : Type 0 where
   pub start : ℕ
   pub end : ℕ
 
--- a word, and whether a star stands after it
+-- a word, and whether a star follows it
 pub data Pattern : Type 0 where
   pattern : List ℕ → Bool → Pattern
 

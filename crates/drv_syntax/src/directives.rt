@@ -5,7 +5,7 @@ ghost use Rattle.std.specs.Prelude.{◌≡◌};
 
 use crate::token::{Leaf, TempKind};
 
-/// The named texts that one letter stands for.
+/// The named texts that one letter denotes.
 #[derive(Clone, Copy)]
 pub enum BuiltinName {
     /// `%a`.
@@ -129,7 +129,7 @@ pub fn directive_of(b: u8) -> Directive
     }
 }
 
-/// The directive of this byte may stand here.
+/// The directive of this byte is allowed here.
 pub fn allows(in_arguments: bool, b: u8) -> bool
     ensures { result ≡ directives.is_allowed in_arguments b }
 {

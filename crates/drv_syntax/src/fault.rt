@@ -12,20 +12,20 @@ pub enum SyntaxFault {
     /// An allocation was refused.
     #[error("out of memory")]
     Memory,
-    /// No such directive or form, or not allowed where it stands.
+    /// No such directive or form, or not allowed at its place.
     #[error("no such directive here")]
     BadDirective(usize),
     /// The text ends in this directive, or in the escape of this backslash.
     #[error("directive that does not end")]
     Unclosed(usize),
-    /// A `%*` that stands in no braces, or in braces that stand in no X, as in the arguments of a
-    /// function that is a test.
+    /// A `%*` in no braces, or in braces that are in no X, as in the arguments of a function that
+    /// is a test.
     #[error("%* outside of braces")]
     StarOutside(usize),
     /// A `%*` whose alternative has a test that is no starred pattern, or no test.
     #[error("%* after a condition that is no starred pattern")]
     MixedStar(usize),
-    /// More than 64 braces and arguments stand in one another.
+    /// More than 64 braces and arguments are within one another.
     #[error("more than 64 braces and arguments in one another")]
     TooNested(usize),
     /// A `%:` without the name of a function and a `(`.

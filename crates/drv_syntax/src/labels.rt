@@ -12,16 +12,16 @@ use crate::token::TestKind;
 use std::alloc::Global;
 use std::marker::Model;
 
-/// Where a word stands among the words, and what is said of it.
+/// The place of a word among the words, and what is said of it.
 #[derive(Clone, Copy)]
 pub struct LabelMark {
     /// Where it begins.
     pub start: usize,
     /// Where it ends.
     pub end: usize,
-    /// A star stands after it.
+    /// A star follows it.
     pub starred: bool,
-    /// A `!` stands before it.
+    /// A `!` precedes it.
     pub negated: bool,
     /// What the test asks.
     pub asks: TestKind,
@@ -48,7 +48,7 @@ impl Model for Labels {
     ghost invariant = { λ l. Within (length l.words.items) l.marks.items };
 }
 
-/// The marks of bytes that stand one after another from this place on.
+/// The marks of bytes that follow one another from this place on.
 fn push_marks(start: usize, run: &[u8], marks: &mut Vec<LabelMark>)
     requires place { start + length run.now < 2 ^ 64 }
     requires reserved { vec_len marks.old + length run.now ≤ vec_capacity marks.old }
@@ -79,7 +79,7 @@ const UNNAMED: LabelMark = LabelMark {
 };
 
 impl Labels {
-    /// None yet, which takes no memory.
+    /// None yet, without an allocation.
     pub fn new(alloc: Global) -> Labels
         ensures { result ≡ [] }
     {

@@ -10,7 +10,7 @@ ghost use Rattle.drv_syntax.specs.declared.fault.SyntaxFault.{SyntaxFault};
 ghost use Rattle.drv_syntax.specs.declared.fault.SyntaxFault.TheVariants.{TextTooLong, Unclosed};
 ghost use Rattle.std.specs.Prelude.{◌≡◌, ◌<◌, ◌≤◌, ◌+◌, ◌-◌, ◌++◌, Err, List, Ok, length, take, ℕ};
 
-/// A refused text is refused at the end of its shortest prefix that is no front: each prefix before
+/// A refused text is refused at the end of its shortest prefix that is no front. Each prefix before
 /// it is a front, with that byte it is refused there whatever follows, and no text that begins so
 /// is a front.
 pub fn shortest_prefix()

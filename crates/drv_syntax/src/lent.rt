@@ -9,7 +9,7 @@ use crate::token::TestKind;
 use std::marker::Model;
 
 /// The labels of the parts of a text, in the order of their tokens, by the words that they name and
-/// where each stands.
+/// the place of each.
 #[derive(Drop)]
 pub struct LentLabels<'a> {
     words: &'a [u8],
@@ -29,7 +29,7 @@ impl<'a> Model for LentLabels<'a> {
 }
 
 impl<'a> LentLabels<'a> {
-    /// The labels of these marks, whose words stand among these.
+    /// The labels of these marks, whose words are among these.
     pub fn new(words: &'a [u8], marks: &'a [LabelMark]) -> LentLabels<'a>
         requires { Within (length words.now) marks.now }
         ensures { result ≡ marked_labels words.now marks.now }
@@ -47,7 +47,7 @@ impl<'a> LentLabels<'a> {
         &words[mark.start..mark.end]
     }
 
-    /// Whether a star stands after its word.
+    /// Whether a star follows its word.
     pub fn starred(&self, place: usize) -> bool
         requires { place < length self.now }
         ensures { result ≡ (get_or self.now place no_label).starred }
@@ -56,7 +56,7 @@ impl<'a> LentLabels<'a> {
         marks[place].starred
     }
 
-    /// Whether a `!` stands before its word.
+    /// Whether a `!` precedes its word.
     pub fn negated(&self, place: usize) -> bool
         requires { place < length self.now }
         ensures { result ≡ (get_or self.now place no_label).negated }

@@ -1,5 +1,5 @@
-//! A text read byte by byte: where each byte stands, what it does there, and what that makes of the
-//! tokens.
+//! A text read byte by byte: the place of each byte in the grammar, what it does there, and what
+//! that makes of the tokens.
 
 mod actions;
 mod acts;

@@ -28,7 +28,7 @@ pub enum TestKind {
     Result,
 }
 
-/// A directive that is whole with its byte: nothing stands inside it.
+/// A directive that is whole with its byte: nothing is inside it.
 #[derive(Clone, Copy, Debug)]
 pub enum Leaf {
     /// `%%`.
@@ -66,7 +66,7 @@ pub enum Leaf {
 /// What a part of a spec text is.
 #[derive(Clone, Copy, Debug)]
 pub enum TokenKind {
-    /// A byte that stands for itself.
+    /// A plain byte.
     Plain,
     /// A backslash and the byte that it makes plain.
     Escape,

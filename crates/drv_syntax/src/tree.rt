@@ -25,7 +25,7 @@ const TEXT_LIMIT: usize = 1_048_576;
 /// What is kept of a tree.
 #[derive(Drop)]
 enum Parts {
-    /// What the text came to, as it was read.
+    /// What the text gave, as it was read.
     Read(Ended),
     /// Constants of the code.
     Written(WrittenTree),
@@ -51,7 +51,7 @@ impl Model for SpecTree {
 }
 
 impl SpecTree {
-    /// The tree of a text that stands in the code with it.
+    /// The tree of a text that is in the code with it.
     pub fn written(alloc: Global, tree: WrittenTree) -> Result<SpecTree, AllocError>
         requires { IsTree tree }
         ensures { IfOk result (λ t. t ≡ tree.text.now) }
@@ -62,7 +62,7 @@ impl SpecTree {
         })
     }
 
-    /// The tree of a text without bytes. It takes no memory.
+    /// The tree of a text without bytes. The call allocates nothing.
     #[tactic(auto, using(crate::proofs::Resuming::ended_nothing))]
     pub fn empty(alloc: Global) -> SpecTree
         ensures { result ≡ [] }
@@ -111,7 +111,7 @@ impl SpecTree {
         self.labels().word(place)
     }
 
-    /// Whether a star stands after the word of the part at this place.
+    /// Whether a star follows the word of the part at this place.
     pub fn starred(&self, place: usize) -> bool
         requires { place < length (tokens_of (tree_of self.now)) }
         ensures { result ≡ (label_at (tree_of self.now) place).starred }
@@ -119,7 +119,7 @@ impl SpecTree {
         self.labels().starred(place)
     }
 
-    /// Whether a `!` stands before the test at this place.
+    /// Whether a `!` precedes the test at this place.
     pub fn negated(&self, place: usize) -> bool
         requires { place < length (tokens_of (tree_of self.now)) }
         ensures { result ≡ (label_at (tree_of self.now) place).negated }
@@ -135,8 +135,8 @@ impl SpecTree {
         self.labels().asks(place)
     }
 
-    /// Whether the X of the alternative at this place has a `%*` of its own, one that stands
-    /// outside the Xs of inner braces.
+    /// Whether the X of the alternative at this place has a `%*` of its own, one outside the Xs of
+    /// inner braces.
     pub fn holds_star(&self, place: usize) -> bool
         requires { place < length (tokens_of (tree_of self.now)) }
         ensures { result ≡ (label_at (tree_of self.now) place).holds_star }

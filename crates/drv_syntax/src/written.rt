@@ -1,4 +1,4 @@
-//! Trees that stand in the code.
+//! Trees in the code.
 
 use crate::labels::LabelMark;
 use crate::token::Token;
@@ -12,6 +12,6 @@ pub struct WrittenTree {
     pub tokens: &'static [Token],
     /// The words that the parts name.
     pub words: &'static [u8],
-    /// Where the word of each part stands among these, and what is said of it.
+    /// The place of the word of each part among these, and what is said of it.
     pub marks: &'static [LabelMark],
 }

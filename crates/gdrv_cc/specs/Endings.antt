@@ -7,8 +7,7 @@ use Rattle.gdrv_cc.specs.declared.outcome.Outcome.TheVariants.{Ended, Told}
 use Rattle.gdrv_cc.specs.declared.outcome.Outcome.{Outcome}
 use Rattle.std.specs.Prelude.{List, [], codes, ℕ}
 
--- How a call of the program ends: its exit status, and what standard error is told (GCC manual, "Invoking GCC"; this project's
--- profile).
+-- How a call of the program ends: its exit status, and the text on standard error (GCC manual, "Invoking GCC"; this project's profile).
 
 abbrev pub status_of : Outcome → ℕ
 status_of (Told text) = 1

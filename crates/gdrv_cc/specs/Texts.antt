@@ -6,7 +6,7 @@ use Rattle.std.specs.Cmp.Lexicographic.{pointwise}
 use Rattle.std.specs.List.{flat_map}
 use Rattle.std.specs.Prelude.{◌==◌, ◌||◌, Bool, List, [], ◌∷◌, ◌++◌, None, Option, Some, codes, if◌then◌else◌, nat_eq, ℕ}
 
--- What the user is told, in the words of gcc's driver where it has them.
+-- What the user reads, in the words of gcc's driver where it has them.
 
 -- a line on standard error: the program's name, what follows, and a newline
 abbrev pub error_line : List ℕ → List ℕ → List ℕ

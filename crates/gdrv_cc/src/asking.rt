@@ -116,7 +116,7 @@ pub fn damaged(
     )
 }
 
-/// The refusal of a call for which no spec file is found, where one was to stand at this path.
+/// The refusal of a call for which no spec file is found, where one should be at this path.
 pub fn without_specs(
     alloc: Global,
     calling: &Calling,

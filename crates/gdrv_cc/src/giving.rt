@@ -39,7 +39,7 @@ fn driver_call(
     Ok(Driven { words, children })
 }
 
-/// What a line comes to by the options that its spec files give it, where they give some.
+/// The answer to a line with the options that its spec files give it, where they give some.
 fn answer(
     alloc: Global,
     asked: &Asked<'_>,

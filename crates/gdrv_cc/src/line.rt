@@ -1,4 +1,4 @@
-//! What is told of a line that is refused.
+//! The text of a refused line.
 
 use crate::nearest::meant;
 use crate::outcome::Outcome;
@@ -8,7 +8,7 @@ use drv_compile::Calling;
 use drv_words::Word;
 use std::alloc::{AllocError, Global};
 
-/// Adds what is told of a refusal, with the option that was meant, if one is near.
+/// Adds the text of a refusal, with the option that was meant, if one is near.
 fn add_told(
     alloc: Global,
     name: &[u8],

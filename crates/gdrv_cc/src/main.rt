@@ -1,5 +1,5 @@
 //! The compiler driver under the name that people call: a line of gcc in, or one of c99, its
-//! commands carried out by the driver with the spec file that stands beside the program.
+//! commands carried out by the driver with the spec file beside the program.
 #![tactic(auto)]
 
 ghost use Rattle.gdrv_cc.specs.Endings.{status_of};
@@ -41,7 +41,7 @@ fn finish(rt: &HostRuntime, outcome: &Outcome) -> ExitCode
     ExitCode::from(outcome.status())
 }
 
-/// Does what a line comes to.
+/// Does what a line asks for.
 fn act(
     rt: &HostRuntime,
     calling: &Calling,

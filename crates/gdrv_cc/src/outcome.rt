@@ -14,7 +14,7 @@ use std::alloc::{AllocError, AllocFailed, Global};
 /// How a call of the program ends.
 #[derive(Drop)]
 pub enum Outcome {
-    /// It is refused, and this is what the user is told.
+    /// It is refused, and the user reads this.
     Told(Word),
     /// As a call of the driver ends.
     Ended(Ending),
@@ -79,7 +79,7 @@ impl Outcome {
         }
     }
 
-    /// What standard error is told: no byte where the call itself said all.
+    /// The text on standard error: no byte where the call itself said all.
     pub fn text(&self, alloc: Global) -> Result<Word, AllocError>
         ensures { IfOk result (λ text. text ≡ text_of self.now) }
     {

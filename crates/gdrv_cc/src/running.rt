@@ -102,8 +102,8 @@ fn refuse_overwriting(rt: &HostRuntime, name: &[u8], line: &Call) -> Result<(), 
     }
 }
 
-/// The words of the driver's call: the spec file, that a front stands before it, and the words of
-/// the line.
+/// The words of the driver's call: the spec file, that a front precedes it, and the words of the
+/// line.
 fn driver_words(
     alloc: Global,
     specs: &[u8],
@@ -144,7 +144,7 @@ fn is_absent(event: &Event) -> bool {
 }
 
 /// Has the driver carry out words, with variables for its children, over what the call asked for
-/// before. Where the run does not find a program, the hint is told.
+/// before. Where the run does not find a program, it says the hint.
 fn drive_words(
     rt: &HostRuntime,
     words: &Expanded,

@@ -1,4 +1,4 @@
-//! What the user is told.
+//! What the user reads.
 
 ghost use Rattle.gdrv_cc.specs.Texts.{absent_text, error_line, fatal_line, file_said, given_text};
 ghost use Rattle.gdrv_cc.specs.Texts.{gone_text, lacking, meant, overwritten_text, quoted};
@@ -175,8 +175,8 @@ fn add_given(text: &mut Word, name: &[u8], word: &[u8]) -> Result<(), AllocError
     text.extend_from_slice(b"\ncompilation terminated.\n")
 }
 
-/// Adds what is told of a refusal of the front. `near` is the option that an unknown word was meant
-/// to be, if one is near.
+/// Adds the text of a refusal of the front. `near` is the option that an unknown word was meant to
+/// be, if one is near.
 pub fn add_refusal(
     text: &mut Word,
     name: &[u8],
@@ -226,7 +226,7 @@ fn file_said(path: &[u8]) -> &[u8]
     }
 }
 
-/// Adds what is told of an input that is not there.
+/// Adds the text about an input that is not there.
 pub fn add_absent(text: &mut Word, name: &[u8], path: &[u8]) -> Result<(), AllocError>
     ensures { OnOk result (text.new ≡ text.old ++ absent_text name.now path.now) }
 {
@@ -239,7 +239,7 @@ pub fn add_absent(text: &mut Word, name: &[u8], path: &[u8]) -> Result<(), Alloc
     )
 }
 
-/// What is told of an output that is an input.
+/// The text about an output that is an input.
 pub fn overwritten(alloc: Global, name: &[u8], output: &[u8]) -> Result<Word, AllocError>
     ensures { IfOk result (λ text. text ≡ overwritten_text name.now output.now) }
 {
@@ -259,7 +259,7 @@ fn add_writing(text: &mut Word, specs: &[u8], machine: &[u8]) -> Result<(), Allo
     text.extend_from_slice(b"' writes it")
 }
 
-/// What is told of a file that `gdrv-write-specs` writes, and that is not there or is not what it
+/// The text about a file that `gdrv-write-specs` writes, and that is not there or is not what it
 /// writes.
 pub fn unwritten(
     alloc: Global,
@@ -280,7 +280,7 @@ pub fn unwritten(
     Ok(line)
 }
 
-/// Adds what is told where the compiler of the spec file may be gone.
+/// Adds the text for a spec file whose compiler may be gone.
 fn add_gone(text: &mut Word, name: &[u8], specs: &[u8], machine: &[u8]) -> Result<(), AllocError>
     ensures { OnOk result (text.new ≡ text.old ++ gone_text name.now specs.now machine.now) }
 {
@@ -290,7 +290,7 @@ fn add_gone(text: &mut Word, name: &[u8], specs: &[u8], machine: &[u8]) -> Resul
     text.extend_from_slice(b" anew\n")
 }
 
-/// What is told after a run that did not find a program.
+/// The text after a run that did not find a program.
 pub fn hint(alloc: Global, name: &[u8], specs: &[u8], machine: &[u8]) -> Result<Word, AllocError>
     ensures { IfOk result (λ text. text ≡ gone_text name.now specs.now machine.now) }
 {

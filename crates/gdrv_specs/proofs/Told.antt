@@ -24,7 +24,7 @@ stops F line seed (Done status) comes = absurd comes
 stops F line seed (Refused refusal) comes = (comes, refl)
 stops F line seed OutOfMemory comes = refl
 
--- before its work is told
+-- before its work is printed
 pub tells_before : {journal journal' : List Event} {F F' : Facts} (T : Telling) (line : List (List ℕ)) (seed : ℕ) (ending : Ending)
     → F ≡ no_facts
     → Asks journal journal' F F' → ((G : Facts) → Extends F' G → Comes G line seed (Err ending))

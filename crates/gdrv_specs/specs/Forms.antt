@@ -10,7 +10,7 @@ use Rattle.json.specs.Layout.{pretty}
 use Rattle.json.specs.Tree.{json_tokens}
 use Rattle.std.specs.Prelude.{List, [], ◌∷◌, ◌++◌, ℕ}
 
--- A plan in each form that it is told in: as -### prints it, as JSON with a newline at its end, or as a script of the shell.
+-- A plan in each of its forms: as -### prints it, as JSON with a newline at its end, or as a script of the shell.
 abbrev pub form_text : Form → Plan → List ℕ
 form_text Lines plan = lines_text (lines_of plan)
 form_text Json plan = pretty (json_tokens (plan_json plan)) ++ newline ∷ []

@@ -9,7 +9,7 @@ use Rattle.gdrv_specs.specs.declared.outcome.Outcome.TheVariants.{Ended, Misused
 use Rattle.gdrv_specs.specs.declared.outcome.Outcome.{Outcome}
 use Rattle.std.specs.Prelude.{List, [], ◌++◌, codes, ℕ}
 
--- How a call of the program ends: its exit status, and what standard error is told (this project's profile).
+-- How a call of the program ends: its exit status, and the text on standard error (this project's profile).
 
 abbrev pub status_of : Outcome → ℕ
 status_of (Ended ending) = exit_status_of ending
@@ -18,7 +18,7 @@ status_of NoRun = 1
 status_of (Unanswered word fault) = 1
 status_of (Misused fault) = 1
 
--- a line that tells of these words
+-- a line that names these words
 abbrev pub told_line : List ℕ → List ℕ
 told_line words = codes "gdrv-specs: " ++ words ++ codes "\n"
 
@@ -34,7 +34,7 @@ misuse_text TooManyAnswers = told_line (codes "more than 1000 answers")
 misuse_text NoCommand = told_line (codes "no command; 'gdrv-specs --help' lists them")
 misuse_text (UnknownCommand word) = told_line (around (codes "unknown command '") word (codes "'; 'gdrv-specs --help' lists them"))
 
--- a refusal is told in the driver's words
+-- a refusal has the driver's words
 abbrev pub text_of : Outcome → List ℕ
 text_of (Ended (Done status)) = []
 text_of (Ended (Refused refusal)) = told_line (refusal_text refusal)

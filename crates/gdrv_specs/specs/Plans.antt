@@ -18,7 +18,7 @@ plan_in (Dump text) = None
 plan_in (Show plan) = Some plan
 plan_in (CarryOut plan manner) = Some plan
 
--- what is told of a work, by how that ended: its plan, once; where memory was wanted nothing was done
+-- what is printed of a work, by how that ended: its plan, once; where memory lacked nothing was done
 abbrev pub TellsOf : Form → Work → Outcome → List Event → Type 0
 TellsOf form work (Ended (Done status)) told = (plan : Plan) × (plan_in work ≡ Some plan) × Puts (form_text form plan) status told
 TellsOf form work (Ended OutOfMemory) told = told ≡ []

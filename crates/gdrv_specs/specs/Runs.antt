@@ -52,7 +52,7 @@ abbrev pub PutsRun : List Event → List Event → Plan → Manner → List Give
 PutsRun journal journal' plan manner given status =
     (text : List ℕ) × IsStory plan manner given text × PutsText journal journal' text status
 
--- A run is told, over the answers that words give.
+-- A run is printed, over the answers that words give.
 pub record TellsRun (plan : Plan) (manner : Manner) (words : List (List ℕ)) (status : ℕ) (told : List Event) : Type 0 where
   pub given : List Given
   pub text : List ℕ
@@ -60,7 +60,7 @@ pub record TellsRun (plan : Plan) (manner : Manner) (words : List (List ℕ)) (s
   pub is_story : IsStory plan manner given text
   pub puts : Puts text status told
 
--- what is told of a work, by how that ended: its run, once, if it has one; where memory was wanted nothing was done
+-- what is printed of a work, by how that ended: its run, once, if it has one; where memory lacked nothing was done
 abbrev pub AfterOf : List (List ℕ) → Work → Outcome → List Event → Type 0
 AfterOf words (CarryOut plan manner) (Ended (Done status)) told = TellsRun plan manner words status told
 AfterOf words (CarryOut plan manner) (Unanswered word fault) told = (answers_of plan words ≡ Err (BadAnswer word fault)) × (told ≡ [])

@@ -20,7 +20,7 @@ Puts text status told = (answer : TellAnswer) × (told ≡ Put text answer ∷ [
 abbrev pub PutsText : List Event → List Event → List ℕ → ℕ → Type 0
 PutsText journal journal' text status = (told : List Event) × (journal' ≡ journal ++ told) × Puts text status told
 
--- what is told of a work, by how that ended
+-- what is printed of a work, by how that ended
 abbrev pub Telling : Type 1
 Telling = Work → Outcome → List Event → Type 0
 
@@ -33,7 +33,7 @@ Stops F line seed (Ended (Refused refusal)) told = Refuses F line seed refusal �
 Stops F line seed (Ended OutOfMemory) told = told ≡ []
 Stops F line seed outcome told = ⊥
 
--- what stands after the questions of a call, by how it ended: the work of the line is told so, or it has none
+-- what follows the questions of a call, by how it ended: the work of the line is printed so, or it has none
 abbrev pub Ends : Telling → Facts → List (List ℕ) → ℕ → Outcome → List Event → Type 0
 Ends T F line seed outcome told = Stops F line seed outcome told ⊎ ((work : Work) × Drives F line seed work × T work outcome told)
 

@@ -53,7 +53,7 @@ fn answer_of(plan: &Plan, word: &Word) -> Result<Given, AnswerFault>
 /// The answers that these words give, one each.
 ///
 /// # Errors
-/// Want of memory, or the first word that gives none, and why.
+/// Lack of memory, or the first word that gives none, and why.
 #[tactic(auto, using(crate::proofs::Runs::answers_more))]
 pub fn answers_of(alloc: Global, plan: &Plan, words: &[Word]) -> Result<Vec<Given>, AnswerFault>
     ensures { Gives Memory (λ answers. answers.items) result (answers_of plan.now words.now) }

@@ -108,7 +108,8 @@ fn form_asked(words: &[Word]) -> Option<Form>
     }
 }
 
-/// The form of a plan that words ask for, and the words of the line after it. It takes no memory.
+/// The form of a plan that words ask for, and the words of the line after it. The call allocates
+/// nothing.
 #[tactic(auto, using(crate::proofs::Calls::has_word))]
 fn cut_form(mut words: Vec<Word>) -> (Form, Listing<Word>)
     ensures form { result.0 ≡ form_of words.items }
@@ -151,7 +152,7 @@ fn run_of_words(alloc: Global, words: &[Word]) -> Result<Call, CallFault>
 /// What a call with these arguments asks for.
 ///
 /// # Errors
-/// Want of memory; it has no arguments, the first one is no command, or the words of `--fail` are too
+/// Lack of memory; it has no arguments, the first one is no command, or the words of `--fail` are too
 /// few or too many.
 pub fn call_of(alloc: Global, args: Listing<Word>) -> Result<Call, CallFault>
     ensures { Gives Memory (λ call. call) result (call_of args) }

@@ -1,4 +1,4 @@
-//! The forms that a plan is told in.
+//! The forms in which a plan is printed.
 
 ghost use Rattle.gdrv_specs.specs.Forms.{form_text};
 ghost use Rattle.gdrv_specs.specs.declared.forms.Form.TheVariants.{Json};
@@ -8,7 +8,7 @@ use drv_forms::{plan_json, script};
 use drv_words::{Plan, Word, render_plan};
 use std::alloc::{AllocError, Global};
 
-/// A form that a plan is told in.
+/// A form in which a plan is printed.
 #[derive(Clone, Copy, Debug)]
 pub enum Form {
     /// Its commands as `-###` prints them.

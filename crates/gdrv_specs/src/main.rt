@@ -41,7 +41,7 @@ fn finish(rt: &HostRuntime, outcome: &Outcome) -> ExitCode
     ExitCode::from(outcome.status())
 }
 
-/// Ends with status 1 for want of arguments, and says why.
+/// Ends with status 1 for lack of arguments, and says why.
 fn without_arguments(rt: &HostRuntime, error: &io::Error) -> ExitCode
     ensures { result.status ≡ 1 }
 {
@@ -76,7 +76,7 @@ fn tell_run(rt: &HostRuntime, given: &[Word], line: Listing<Word>) -> Result<Out
     Ok(tell_after(rt.alloc(), &mut sys, given, line, seed))
 }
 
-/// What a telling comes to, for which memory may have been wanted first.
+/// The outcome of a text, for which memory may have lacked first.
 fn ended(outcome: Result<Outcome, AllocError>) -> Outcome {
     match outcome {
         Ok(outcome) => outcome,
@@ -93,7 +93,7 @@ fn act(rt: &HostRuntime, call: Call) -> Outcome {
     }
 }
 
-/// What the arguments of this process come to.
+/// What the arguments of this process ask for.
 fn whole(rt: &HostRuntime, args: Listing<Word>) -> Outcome {
     match call_of(rt.alloc(), args) {
         Ok(call) => act(rt, call),

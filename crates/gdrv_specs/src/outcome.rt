@@ -29,7 +29,7 @@ pub enum Outcome {
 /// The name of the program, as it says it before what it tells.
 const NAME: &[u8] = b"gdrv-specs: ";
 
-/// A line that tells of these words.
+/// A line that names these words.
 fn line_of(alloc: Global, words: &[u8]) -> Result<Word, AllocError>
     ensures { IfOk result (λ line. line ≡ told_line words.now) }
 {
@@ -39,7 +39,7 @@ fn line_of(alloc: Global, words: &[u8]) -> Result<Word, AllocError>
     Ok(line)
 }
 
-/// What is told of a refused line: the words of the driver after the name of the program.
+/// The text of a refused line: the words of the driver after the name of the program.
 fn refusal_line(alloc: Global, refusal: &Refusal) -> Result<Word, AllocError>
     ensures { IfOk result (λ line. line ≡ told_line (refusal_text refusal.now)) }
 {
@@ -47,7 +47,7 @@ fn refusal_line(alloc: Global, refusal: &Refusal) -> Result<Word, AllocError>
     line_of(alloc, words.as_bytes())
 }
 
-/// A line that tells of a word between two texts.
+/// A line with a word between two texts.
 fn line_around(alloc: Global, before: &[u8], word: &Word, after: &[u8]) -> Result<Word, AllocError>
     ensures { IfOk result (λ line. line ≡ told_line (around before.now word.now after.now)) }
 {
@@ -57,7 +57,7 @@ fn line_around(alloc: Global, before: &[u8], word: &Word, after: &[u8]) -> Resul
     line_of(alloc, words.as_bytes())
 }
 
-/// What is told of a word that gives no answer.
+/// The text about a word that gives no answer.
 fn unanswered_line(alloc: Global, word: &Word, fault: GivenFault) -> Result<Word, AllocError>
     ensures { IfOk result (λ line. line ≡ unanswered_text word.now fault) }
 {
@@ -70,7 +70,7 @@ fn unanswered_line(alloc: Global, word: &Word, fault: GivenFault) -> Result<Word
     }
 }
 
-/// What is told of a call that asks for nothing.
+/// The text about a call that asks for nothing.
 fn misuse_line(alloc: Global, fault: &CallFault) -> Result<Word, AllocError>
     ensures { IfOk result (λ line. line ≡ misuse_text fault.now) }
 {
@@ -98,7 +98,7 @@ impl Outcome {
         }
     }
 
-    /// What standard error is told: no byte where the call itself said all.
+    /// The text on standard error: no byte where the call itself said all.
     pub fn text(&self, alloc: Global) -> Result<Word, AllocError>
         ensures { IfOk result (λ text. text ≡ text_of self.now) }
     {

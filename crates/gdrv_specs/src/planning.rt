@@ -1,4 +1,4 @@
-//! The plan of a line is told.
+//! Prints the plan of a line.
 
 ghost use Rattle.gdrv_specs.specs.Plans.{TellsOf, TellsPlan, plan_in};
 ghost use Rattle.gdrv_specs.specs.Told.{PutsText, TellsWork};

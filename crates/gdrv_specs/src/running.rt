@@ -1,4 +1,4 @@
-//! A run of a line is told, over answers that are given ahead.
+//! Prints a run of a line, over answers that are given ahead.
 
 ghost use Rattle.drv_run.specs.Calls.{HasWindow, IsWindow};
 ghost use Rattle.drv_run.specs.declared.work.Work.TheVariants.{CarryOut};

@@ -14,7 +14,7 @@ use Rattle.drv_cc.specs.declared.table.Row.{Row}
 use Rattle.std.specs.Option.{option_map}
 use Rattle.std.specs.Prelude.{◌≡◌, Bool, List, [], ◌∷◌, ◌++◌, None, Option, Some, false, true, ℕ}
 
--- The code's values without their references, and how the code goes over a line. Private clauses alone cite them.
+-- The code's values without their references, and how the code goes over a line. Only private clauses cite them.
 
 abbrev pub shown : Row → OptionRow
 shown r = record { option = r.option.now; takes = r.takes; name = r.name.now; spelling = r.spelling; part = r.part }

@@ -4,7 +4,7 @@ use Rattle.std.specs.List.{filter}
 use Rattle.std.specs.Prelude.{◌==◌, ◌&&◌, ◌||◌, ◌+◌, ◌*◌, ◌%◌, Bool, List, get_or, length, nat_lt, not, ℕ}
 
 -- How the code looks up a row of the option table: rows whose option is the word by their second byte and their length, and rows whose
--- option the word begins with by their second byte. Private clauses alone cite it.
+-- option the word begins with by their second byte. Only private clauses cite it.
 
 abbrev pub second : List ℕ → ℕ
 second word = get_or word 1 0

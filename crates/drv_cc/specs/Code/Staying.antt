@@ -4,7 +4,7 @@ use Rattle.drv_cc.specs.declared.item.Item.{Item}
 use Rattle.std.specs.List.{list_any}
 use Rattle.std.specs.Prelude.{◌≡◌, ◌<◌, ◌&&◌, ◌||◌, Bool, List, ◌++◌, length, nat_lt, not, reverse, ℕ}
 
--- How the code goes over items from the last one on, with the classes of those that it has seen. Private clauses alone cite it.
+-- How the code goes over items from the last one on, with the classes of those that it has seen. Only private clauses cite it.
 
 -- whether a class is that of a key
 abbrev pub is_seen : {K : Type 0} → List K → (K → List ℕ) → List ℕ → Bool

@@ -56,7 +56,7 @@ asked_step C label = by label.asks
     by asks.Language = give (is_word label.word (language_of C.input))
     by asks.Result = give false  -- a function is answered after its arguments
 
--- what the braces of this kind mean, whose parts stand from one place up to another
+-- what the braces of this kind mean, whose parts go from one place up to another
 abbrev pub Means : Facts → Context → List ℕ → TokenKind → ℕ → ℕ → Levels → List ℕ → Step (Unit {0}) → Type 0
 Means F C text kinds.Emit at end levels star inner =
     (patterns : List (Span × Pattern)) × Stands text at (pattern_nodes patterns) end × (inner ≡ (look (λ w. emitted F C patterns w.hidden) >>= puts))
@@ -104,7 +104,7 @@ Within start end count found.Neither = ⊤
 Within start end count (found.True at) = (start ≤ at) × (at < end) × (at < count)
 Within start end count (found.Asks at) = (start ≤ at) × (at < end) × (at < count)
 
--- `star` is what %* stands for, and `inner` what the braces mean, or the text of a name
+-- `star` is the value of %*, and `inner` what the braces mean, or the text of a name
 abbrev pub kind_step : Facts → Context → TokenKind → Label → List ℕ → Step (Unit {0}) → Step (Unit {0})
 kind_step F C kinds.Plain label star inner = bytes label.word
 kind_step F C kinds.Escape label star inner = bytes label.word

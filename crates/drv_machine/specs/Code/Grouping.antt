@@ -4,7 +4,7 @@ use Rattle.drv_system.specs.Known.{Is}
 use Rattle.drv_words.specs.declared.plan.Command.{Command}
 use Rattle.std.specs.Prelude.{◌++◌, List, [], ◌∷◌, Ok, true}
 
--- Commands that go into groups, line by line. Private clauses alone cite it.
+-- Commands that go into groups, line by line. Only private clauses cite it.
 
 -- commands of a group that is begun, and the groups after them
 abbrev pub ahead : List Command → List (List Command) → List (List Command)

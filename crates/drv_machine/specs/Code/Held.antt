@@ -14,7 +14,7 @@ use Rattle.std.specs.Cmp.Lexicographic.{pointwise, slice_cmp}
 use Rattle.std.specs.Ordering.{nat_cmp}
 use Rattle.std.specs.Prelude.{◌≡◌, ◌-◌, ◌++◌, Bool, List, [], ◌∷◌, None, Ok, Option, Some, false, if◌then◌else◌, nat_eq, replicate, true, ⊤, ℕ}
 
--- How the code holds what is cut. Private clauses alone cite it.
+-- How the code holds what is cut. Only private clauses cite it.
 
 -- the word that is open, if one is, of a flag and the bytes
 abbrev pub open_word : Bool → List ℕ → Option (List ℕ)

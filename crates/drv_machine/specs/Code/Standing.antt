@@ -6,9 +6,9 @@ use Rattle.drv_syntax.specs.declared.token.TokenKind.TheVariants as kinds
 use Rattle.drv_syntax.specs.declared.token.TokenKind.{TokenKind}
 use Rattle.std.specs.Prelude.{◌≡◌, ◌<◌, ◌+◌, Bool, List, Some, false, get_or, if◌then◌else◌, slice_get, true, ℕ}
 
--- Where the parts of a tree stand in its flat list (this project's profile). For the clauses of the code alone.
+-- Where the parts of a tree are in its flat list (this project's profile). Only clauses of the code cite it.
 
--- at this place stands a part of this kind with this label, and the next part that isn't inside it stands at `next`
+-- at this place is a part of this kind with this label, and the next part that isn't inside it is at `next`
 pub record Part (tokens : List Token) (labels : List Label) (at : ℕ) (kind : TokenKind) (label : Label) (next : ℕ) : Type 0 where
   pub token : Token
   pub there : slice_get tokens at ≡ Some token
@@ -17,7 +17,7 @@ pub record Part (tokens : List Token) (labels : List Label) (at : ℕ) (kind : T
   pub label_is : get_or labels at no_label ≡ label
   pub later : at < next
 
--- these parts stand from one place up to another
+-- these parts go from one place up to another
 abbrev pub Stand : List Token → List Label → ℕ → Nodes → ℕ → Type 0
 Stand tokens labels at no_node end = at ≡ end
 Stand tokens labels at (node kind label span inner others) end =
@@ -27,7 +27,7 @@ Stand tokens labels at (node kind label span inner others) end =
 abbrev pub Stands : List ℕ → ℕ → Nodes → ℕ → Type 0
 Stands text at nodes end = Stand (tokens_of (tree_of text)) (labels_of (tree_of text)) at nodes end
 
--- whole parts stand from one place up to another
+-- whole parts go from one place up to another
 pub record Spans (text : List ℕ) (at end : ℕ) : Type 0 where
   pub nodes : Nodes
   pub stands : Stands text at nodes end
@@ -36,7 +36,7 @@ abbrev pub is_test : TokenKind → Bool
 is_test kinds.Test = true
 is_test _ = false
 
--- the tests that stand first, and what stands after them
+-- the first tests, and what follows them
 abbrev pub tests_in : Nodes → Nodes
 tests_in no_node = no_node
 tests_in (node kind label span inner others) = if is_test kind then node kind label span inner (tests_in others) else no_node

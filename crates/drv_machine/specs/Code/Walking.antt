@@ -40,7 +40,7 @@ Lies text at (more span item items) end =
     (start : ℕ) × (next : ℕ) × Skips text at start × Part (tokens_of (tree_of text)) (labels_of (tree_of text)) start (kind_of item) (label_of item) next
     × Stands text (start + 1) (inner_nodes item) next × Lies text next items end
 
--- what %* stands for
+-- the value of %*
 abbrev pub star_of : Context → Option Rest → List ℕ
 star_of C None = []
 star_of C (Some rest) = drop rest.size (name_at (names C) rest.switch)
@@ -67,19 +67,19 @@ pub record Around : Type 0 where
 abbrev pub nothing_kept : Kept
 nothing_kept = record { name = []; negated = false; asked = HasSuffix []; tests = no_test; choices = no_choice }
 
--- an X that is worked for each hit, and a place of the line
+-- an X that is run for each hit, and a place of the line
 pub record HitFits (text : List ℕ) (C : Context) (each : Each) (switch : ℕ) (p : Pattern) (items : Items) : Type 0 where
   pub in_list : each.test < length (tokens_of (tree_of text))
   pub label_is : labelled (label_at (tree_of text) each.test) ≡ matching p
   pub stands : Stands text each.start (nodes_of items) each.end
   pub in_line : switch < length C.switches
 
--- a function that stands at a place
+-- a function at a place
 pub record CallFits (text : List ℕ) (at : ℕ) (kept : Kept) : Type 0 where
   pub in_list : at < length (tokens_of (tree_of text))
   pub name_is : (label_at (tree_of text) at).word ≡ kept.name
 
--- a test by a function, and what stands after it
+-- a test by a function, and what follows it
 pub record AskFits (text : List ℕ) (asking : Asking) (items : Items) (kept : Kept) : Type 0 where
   pub in_list : asking.test < length (tokens_of (tree_of text))
   pub name_is : (label_at (tree_of text) asking.test).word ≡ kept.name
@@ -90,7 +90,7 @@ pub record AskFits (text : List ℕ) (asking : Asking) (items : Items) (kept : K
   pub items_stand : Stands text asking.start (nodes_of items) asking.next
   pub choices_stand : Stands text asking.next (choice_nodes kept.choices) asking.end
 
--- what a part was opened for stands in the text
+-- what a part was opened for is in the text
 abbrev pub OpenedFits : List ℕ → Context → Opened → Pattern → Items → Kept → Type 0
 OpenedFits text C (Hit each switch) p items kept = HitFits text C each switch p items
 OpenedFits text C (Text around back) p items kept = ⊤
@@ -190,7 +190,7 @@ module _ (F : Facts) (C : Context) where
   abbrev pub arguments_of : Items → List ℕ → Levels → List ℕ → Step Bool
   arguments_of items name levels star = opened levels (λ deeper inside. arguments F C (items_step F C items inside star) >>= has_value F C name)
 
-  -- what a test decides that was answered so: its X, or what stands after it
+  -- what a test decides that was answered so: its X, or what follows it
   abbrev pub decided_on : Items → Kept → Levels → List ℕ → Bool → Step (Unit {0})
   decided_on items kept levels star holds = judged F C kept.negated kept.asked kept.tests levels star holds >>= found_step F C items kept.choices levels star
 
@@ -261,7 +261,7 @@ module _ (F : Facts) (C : Context) where
   Went text w s given (Ok u) = Left text w s given
   Went text w s given (Err fault) = (fault ≡ Memory) ⊎ (given ≡ Is (Err fault))
 
-  -- a part was opened, and a step stands in it before a place; or the refusal is given
+  -- a part was opened, and a step is in it before a place; or the refusal is given
   abbrev pub Reaches : List ℕ → Walk → ℕ → (Levels → List ℕ → Step (Unit {0})) → Machine → Answer (Unit {0} × Machine) → Result (Unit {0}) MachineFault → Type 0
   Reaches text w at step s given (Ok u) = Following text w at step s given
   Reaches text w at step s given (Err fault) = (fault ≡ Memory) ⊎ (given ≡ Is (Err fault))
@@ -286,11 +286,11 @@ pub record HasFrames (C : Context) (text : List ℕ) (w : Walk) : Type 0 where
   pub arounds : List Around
   pub framed : Framed text C w.frames arounds
 
--- a brace that puts switches as they stand on the line
+-- a brace that puts switches as the line has them
 abbrev pub Emits : Brace → Type 0
 Emits brace = (patterns : List (Span × Pattern)) × (brace ≡ Emit patterns)
 
--- a brace that means what these alternatives mean, which stand in a text
+-- a brace that means what these alternatives of a text mean
 pub record Chooses (text : List ℕ) (start end : ℕ) (brace : Brace) : Type 0 where
   pub choices : Choices
   pub stands : Stands text start (choice_nodes choices) end

@@ -33,7 +33,7 @@ fn note_path(paths: &mut BTreeMap<Word, Word>, name: &Drawn) -> Result<(), Alloc
 }
 
 impl LastPaths {
-    /// None, which takes no memory.
+    /// No path yet, without an allocation.
     fn new(alloc: Global) -> LastPaths
         ensures { Lasts result [] }
     {
@@ -101,7 +101,7 @@ impl Model for DrawnNames {
 }
 
 impl DrawnNames {
-    /// None, which takes no memory.
+    /// No name yet, without an allocation.
     pub(crate) fn new(alloc: Global) -> DrawnNames
         ensures { result ≡ [] }
     {
@@ -119,7 +119,7 @@ impl DrawnNames {
         self.names.as_slice()
     }
 
-    /// The names, which takes no memory.
+    /// The names, without an allocation.
     pub(crate) fn into_listing(self) -> Listing<Drawn>
         ensures { result ≡ self }
     {

@@ -1,4 +1,4 @@
-//! `%@{..}`: its words are those of a file, whose name stands for them.
+//! `%@{..}`: its words are those of a file, whose name takes their place.
 
 ghost use Rattle.drv_system.specs.Code.Asked.{Asked};
 ghost use Rattle.drv_machine.specs.Atoms.{named_file};

@@ -1,4 +1,4 @@
-//! What stands after the whole text: pipes judged, and the commands as a job.
+//! What follows the whole text: pipes judged, and the commands as a job.
 
 ghost use Rattle.drv_system.specs.Code.Asked.{Asked};
 ghost use Rattle.drv_machine.specs.Cutting as cutting;
@@ -25,8 +25,7 @@ use std::mem;
 /// The most commands of a group.
 const MOST_PIPED: usize = 16;
 
-/// The job of a text that was worked to its end, and what goes on to the next text. Words are
-/// moved.
+/// The job of a text that was run to its end, and what goes on to the next text. Words are moved.
 ///
 /// # Errors
 /// `StrayPipe` where a pipe is not at the end of a command with a word, or no further command
@@ -129,7 +128,7 @@ fn job_around(machine: &mut Machine, groups: Listing<Group>) -> Result<Job, Allo
     })
 }
 
-/// Whether a pipe stands where none may.
+/// Whether a pipe is where none may be.
 fn has_stray_pipe(machine: &Machine) -> bool
     ensures { result ≡ (machine.now.cut.stray || ends_piped machine.now.cut.lines) }
 {
@@ -159,7 +158,7 @@ fn has_long_pipe(groups: &[Group]) -> bool
 }
 
 /// The groups of commands: with `-pipe` piped commands form one, otherwise each command is one.
-/// Want of memory is the only error.
+/// Lack of memory is the only error.
 #[tactic(auto, using(drv_system::proofs::AskedCalls::asked_none, drv_system::proofs::AskedCalls::asked_further))]
 fn groups_of<S: System>(
     alloc: Global,
@@ -180,8 +179,8 @@ fn groups_of<S: System>(
     Ok(groups)
 }
 
-/// The command of one line more goes after those of the group that is begun, which then goes after
-/// those that have ended, unless the next one is joined to it. Want of memory is the only error.
+/// The command of one line more joins those of the group that is begun. That group then joins those
+/// that have ended, unless the next command is joined to it. Lack of memory is the only error.
 #[tactic(auto, using(drv_system::proofs::AskedCalls::asked_none))]
 fn add_line<S: System>(
     alloc: Global,
@@ -223,7 +222,7 @@ fn push_group(groups: &mut Listing<Group>, commands: Vec<Command>) -> Result<(),
     Ok(())
 }
 
-/// The command of a line, whose program is looked for. Want of memory is the only error.
+/// The command of a line, whose program is searched. Lack of memory is the only error.
 #[tactic(auto, using(drv_system::proofs::AskedCalls::asked_none))]
 fn command_of<S: System>(
     alloc: Global,

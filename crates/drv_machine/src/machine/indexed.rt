@@ -47,7 +47,7 @@ fn index_of(alloc: Global, words: &[Word]) -> Result<BTreeSet<Word>, AllocError>
 }
 
 impl IndexedWords {
-    /// The words of a list, which takes no memory.
+    /// The words of a list, without an allocation.
     pub(crate) fn new(alloc: Global, words: Listing<Word>) -> IndexedWords
         ensures { result ≡ words }
     {
@@ -65,7 +65,7 @@ impl IndexedWords {
         self.words.as_slice()
     }
 
-    /// The words, which takes no memory.
+    /// The words, without an allocation.
     pub(crate) fn into_listing(self) -> Listing<Word>
         ensures { result ≡ self }
     {

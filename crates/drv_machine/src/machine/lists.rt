@@ -235,7 +235,7 @@ impl Machine {
         Ok(())
     }
 
-    /// The user is told a text, as a note.
+    /// The user reads a text, as a note.
     pub(crate) fn add_notice(&mut self, text: &[u8]) -> Result<(), MachineFault>
         ensures does { (F : Facts) (C : specs.Context)
             → GivesKnown MachineFault.Memory (λ u. (tt, self.new)) result

@@ -254,7 +254,7 @@ impl Machine {
     }
 
     /// The name of a temporary with this suffix is put; where commands are piped, `-` or nothing
-    /// may stand for it.
+    /// may take its place.
     #[tactic(auto, using(drv_system::proofs::AskedCalls::asked_none))]
     pub(crate) fn put_temp<S: System>(
         &mut self,

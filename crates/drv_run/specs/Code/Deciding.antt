@@ -11,9 +11,9 @@ use Rattle.drv_system.specs.Facts.{Facts}
 use Rattle.drv_system.specs.Known.{Is, Known}
 use Rattle.std.specs.Prelude.{◌≡◌, Err, List, Ok, Result, ℕ, ⊤}
 
--- What a line comes to, as arguments do (`Comes`). Private clauses alone cite it.
+-- What a line asks for, as arguments do (`Comes`). Only private clauses cite it.
 
--- with its specs: the work that is given for it, or the refusal of its plan; want of memory may come in place of either
+-- with its specs: the work that is given for it, or the refusal of its plan; lack of memory may take the place of either
 abbrev pub ComesOfSpecs : Known (Result Work PlanFault) → Result Work Ending → Type 0
 ComesOfSpecs given (Ok work) = given ≡ Is (Ok work)
 ComesOfSpecs given (Err (Refused (NoPlan fault))) = given ≡ Is (Err fault)

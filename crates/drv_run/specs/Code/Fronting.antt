@@ -2,7 +2,7 @@ use Rattle.drv_run.specs.declared.fronting.Front.TheVariants as front
 use Rattle.drv_run.specs.declared.fronting.Front.{Front}
 use Rattle.std.specs.Prelude.{Bool, false, true}
 
--- The front of a line, as the code has it. Private clauses alone cite it.
+-- The front of a line, as the code has it. Only private clauses cite it.
 
 abbrev pub is_of_c99 : Front → Bool
 is_of_c99 front.Driver = false

@@ -7,7 +7,7 @@ use Rattle.drv_words.specs.declared.steps.Step.{Step}
 use Rattle.drv_words.specs.declared.steps.Step.TheVariants as step
 use Rattle.std.specs.Prelude.{◌≡◌, List, true}
 
--- The conditions of a step after a journal, as the system has them. Private clauses alone cite it.
+-- The conditions of a step after a journal, as the system has them. Only private clauses cite it.
 abbrev pub CanMake : Plan → List Event → Step → Type 0
 CanMake plan journal (step.Claim p) = is_temp plan p ≡ true
 CanMake plan journal (step.Start p from_pipe to_pipe) = (is_command plan p ≡ true) × (from_pipe ≡ pipe_pending (run_of journal))

@@ -7,7 +7,7 @@ use Rattle.drv_system.specs.declared.event.Event.{Event}
 use Rattle.drv_words.specs.declared.plan.Plan.{Plan}
 use Rattle.std.specs.Prelude.{◌≡◌, List, ◌++◌, codes, ℕ}
 
--- The same of two journals, the one after the other. Private clauses alone cite it.
+-- The same of two journals, the one after the other. Only private clauses cite it.
 
 -- a text was said
 abbrev pub SaysText : List Event → List Event → List ℕ → ℕ → Type 0

@@ -7,7 +7,7 @@ use Rattle.drv_run.specs.declared.ending.Refusal.TheVariants.{Args, C99 as NoFro
 use Rattle.drv_system.specs.Facts.{Facts}
 use Rattle.std.specs.Prelude.{◌≡◌, Err, List, Ok, Result, ℕ, ⊤}
 
--- What the words of a line come to. Private clauses alone cite it: a call's refusals are said by `Refuses`.
+-- What the words of a line ask for. Only private clauses cite it: `Refuses` says what a call's refusals are.
 
 abbrev pub GivesWords : Facts → List (List ℕ) → Result Expanded Ending → Type 0
 GivesWords F args (Ok words) = Words F args words

@@ -16,7 +16,7 @@ use Rattle.std.specs.Prelude.{◌≡◌, ◌==◌, Bool, Err, List, [], ◌∷�
 
 -- How the code reads directives: they are slices of a settled text, of which it keeps what is left. For the code alone.
 
--- what stands after a line, where its newline is there: the lines, and the bytes
+-- what follows a line, where its newline is there: the lines, and the bytes
 abbrev pub lines_from : Option (List ℕ) → List (List ℕ)
 lines_from None = []
 lines_from (Some text) = lines_of text
@@ -29,7 +29,7 @@ bytes_from (Some text) = newline ∷ text
 abbrev pub settled_onto : List ℕ → ℕ → List ℕ
 settled_onto text b = if is_kept b then joined_onto text b else text
 
--- a text that stands at the end of another
+-- a text at the end of another
 abbrev pub Ends : List ℕ → List ℕ → Type 0
 Ends text back = (front : List ℕ) × (text ≡ front ++ back)
 

@@ -35,7 +35,7 @@ pub record IsWritten (tree : WrittenTree) : Type 0 where
 abbrev pub IsNamedRow : Named → Type 0
 IsNamedRow row = IsWritten row.tree
 
--- a pair has a tree beside its text where that is one that is worked
+-- a pair has a tree beside its text where its text is run
 abbrev pub IsPairText : PairText → Type 0
 IsPairText (Alone text) = is_no_text text.now ≡ true
 IsPairText (Worked tree) = (is_no_text tree.text.now ≡ false) × IsWritten tree

@@ -3,7 +3,7 @@ use Rattle.drv_syntax.specs.declared.labels.LabelMark.{LabelMark}
 use Rattle.drv_syntax.specs.declared.token.TestKind.TheVariants as asking
 use Rattle.std.specs.Prelude.{◌+◌, List, [], ◌∷◌, false, ℕ}
 
--- The labels of bytes that name themselves, and their marks, where the bytes stand from one place on. For the clauses of the code alone.
+-- The labels of bytes that name themselves, and their marks, for bytes from one place on. Only clauses of the code cite it.
 
 abbrev pub byte_labels : List ℕ → List Label
 byte_labels [] = []

@@ -29,7 +29,7 @@ abbrev pub begins_blank : List ℕ → Bool
 begins_blank [] = false
 begins_blank (b ∷ text) = is_blank b
 
--- whether what was read can be kept where this stands after it
+-- whether what was read can be kept where this follows it
 abbrev pub goes_on : Ending → List ℕ → Bool
 goes_on endings.Item more = begins more
 goes_on endings.Word more = begins_blank more
@@ -39,7 +39,7 @@ goes_on endings.Message more = false
 abbrev pub Follows : Ending → ReaderState → ℕ → List ℕ → ReaderState → Type 0
 Follows ending v n text w = (more : List ℕ) → goes_on ending more ≡ true → pass v n (text ++ more) ≡ pass w (n + length text) more
 
--- what a text has come to
+-- the state that a text has reached
 abbrev pub IsEnded : List ℕ → Ended → Type 0
 IsEnded text e =
     (listed (parsed text) ≡ Ok (e.walk.tokens, e.walk.labels))

@@ -16,12 +16,12 @@ abbrev pub parts_in : Result ReaderState SyntaxFault → Result (List Token × L
 parts_in (Ok w) = Ok (w.tokens, w.labels)
 parts_in (Err fault) = Err fault
 
--- a turn takes the byte b at the place n and so many of those after it: what is left comes to the same, or to this fault
+-- a turn takes the byte b at the place n and so many of those after it: reading what is left gives the same, or this fault
 abbrev pub Turns : ℕ → ℕ → List ℕ → ReaderState → ReaderState → Result ℕ SyntaxFault → Type 0
 Turns n b following old new (Ok taken) = (taken ≤ length following) × (pass old n (b ∷ following) ≡ pass new (n + 1 + taken) (drop taken following))
 Turns n b following old new (Err fault) = (fault ≡ Memory) ⊎ (pass old n (b ∷ following) ≡ Err fault)
 
--- a text is read on from the place n: so many of its first bytes are taken, and what is left comes to the same, or to this fault
+-- a text is read on from the place n: so many of its first bytes are taken, and reading what is left gives the same, or this fault
 abbrev pub Reads : ℕ → List ℕ → ReaderState → ReaderState → Result ℕ SyntaxFault → Type 0
 Reads n text old new (Ok taken) = (taken ≤ length text) × (pass old n text ≡ pass new (n + taken) (drop taken text))
 Reads n text old new (Err fault) = (fault ≡ Memory) ⊎ (pass old n text ≡ Err fault)

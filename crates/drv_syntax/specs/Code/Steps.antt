@@ -99,7 +99,7 @@ with_part p w =
       holds_star = is_star p.single || w.holds_star;
     }
 
--- the bytes that do more in such a list than stand for themselves
+-- the bytes that are not plain in such a list
 abbrev pub stops : ListKind → List ℕ
 stops lists.Top = ascii.backslash ∷ ascii.percent ∷ ascii.bar ∷ ascii.space ∷ ascii.tab ∷ ascii.newline ∷ []
 stops lists.InX = ascii.backslash ∷ ascii.percent ∷ ascii.bar ∷ ascii.space ∷ ascii.tab ∷ ascii.newline ∷ ascii.semicolon ∷ ascii.closing_brace ∷ []
@@ -108,7 +108,7 @@ stops lists.InArguments = ascii.backslash ∷ ascii.percent ∷ ascii.bar ∷ as
 abbrev pub runs : ListKind → ℕ → Bool
 runs kind b = not (is_of (stops kind) b)
 
--- the bytes that do more in a text for the user than stand for themselves
+-- the bytes that are not plain in a text for the user
 abbrev pub said_stops : ListKind → List ℕ
 said_stops lists.Top = ascii.backslash ∷ ascii.newline ∷ []
 said_stops lists.InX = ascii.backslash ∷ ascii.newline ∷ ascii.semicolon ∷ ascii.closing_brace ∷ []
@@ -207,7 +207,7 @@ enter_test head part chosen start negated w =
 abbrev pub open_test : Head → HeadForm → ℕ → Bool → ReaderState → ReaderState
 open_test head form start negated w = enter_test head (alternative_of form start w) (chooses form) start negated (with_alternative form start w)
 
--- what stands after a test
+-- what follows a test
 abbrev pub first_of : Operand → ℕ
 first_of (operands.Switch start end negated starred) = start
 first_of (operands.Marked start end negated mark) = start
@@ -457,7 +457,7 @@ abbrev pub pass : ReaderState → ℕ → List ℕ → Result ReaderState Syntax
 pass w n [] = Ok w
 pass w n (b ∷ text) = then_walk (step w n b) (λ v. pass v (n + 1) text)
 
--- what the rest of a text comes to, of which the next byte has the place n
+-- what the rest of a text gives, of which the next byte has the place n
 abbrev pub walk : ReaderState → ℕ → List ℕ → Result ReaderState SyntaxFault
 walk w n [] = finish n w
 walk w n (b ∷ text) = then_walk (step w n b) (λ v. walk v (n + 1) text)

@@ -13,7 +13,7 @@ open_token kind start = record { kind = kind; start = start; end = start; next =
 abbrev pub whole_token : TokenKind → ℕ → ℕ → ℕ → Token
 whole_token kind start end next = record { kind = kind; start = start; end = end; next = next }
 
--- bytes that stand for themselves, the first of them at the place n, with the place in the list after it
+-- plain bytes, the first of them at the place n, with the place in the list after it
 abbrev pub plain_tokens : ℕ → ℕ → List ℕ → List Token
 plain_tokens n next [] = []
 plain_tokens n next (b ∷ run) = whole_token kinds.Plain n (n + 1) next ∷ plain_tokens (n + 1) (next + 1) run

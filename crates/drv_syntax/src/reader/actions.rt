@@ -6,7 +6,7 @@ use crate::token::{Leaf, TempKind};
 /// An item without parts inside it.
 #[derive(Clone, Copy)]
 pub enum Single {
-    /// This byte, which stands for itself.
+    /// This plain byte.
     Plain(u8),
     /// A backslash and this byte.
     Escape(u8),

@@ -62,7 +62,7 @@ fn with_asked(
     ask(head, alternative, true, false, end, w)
 }
 
-/// After `%{`, where a `!` stands: the word of a test and a colon, or what the braces begin with.
+/// After `%{`, at a `!`: the word of a test and a colon, or what the braces begin with.
 #[inline(always)]
 fn negation_turn(at: u32, n: u32, inside: &[u8], w: &mut ReaderState) -> Result<usize, SyntaxFault>
     requires mark { get_or inside.now 0 0 ≡ ascii.exclamation_mark }

@@ -39,7 +39,7 @@ pub fn single_kind(single: Single) -> TokenKind
     }
 }
 
-/// The next byte stands here, and the word stays.
+/// The next byte is at this stage, and the word stays.
 #[inline]
 pub fn keep(stage: Stage, w: &mut ReaderState) -> Result<(), SyntaxFault>
     ensures { Gives SyntaxFault.Memory (λ _. state w.new) result
@@ -49,7 +49,7 @@ pub fn keep(stage: Stage, w: &mut ReaderState) -> Result<(), SyntaxFault>
     Ok(())
 }
 
-/// The next byte stands here, and a word begins without a byte.
+/// The next byte is at this stage, and a word begins without a byte.
 #[inline]
 pub fn clear(stage: Stage, w: &mut ReaderState) -> Result<(), SyntaxFault>
     ensures { Gives SyntaxFault.Memory (λ _. state w.new) result
@@ -60,7 +60,7 @@ pub fn clear(stage: Stage, w: &mut ReaderState) -> Result<(), SyntaxFault>
     Ok(())
 }
 
-/// The next byte stands here, and a word begins with this one.
+/// The next byte is at this stage, and a word begins with this one.
 #[inline]
 pub fn begin(stage: Stage, b: u8, w: &mut ReaderState) -> Result<(), SyntaxFault>
     ensures { Gives SyntaxFault.Memory (λ _. state w.new) result
@@ -72,7 +72,7 @@ pub fn begin(stage: Stage, b: u8, w: &mut ReaderState) -> Result<(), SyntaxFault
     Ok(())
 }
 
-/// The next byte stands here, and this one goes to the word's end.
+/// The next byte is at this stage, and this one goes to the word's end.
 #[inline]
 pub fn add(stage: Stage, b: u8, w: &mut ReaderState) -> Result<(), SyntaxFault>
     ensures { Gives SyntaxFault.Memory (λ _. state w.new) result
@@ -143,7 +143,7 @@ pub fn with_part(p: Part, w: &mut ReaderState) -> Result<(), SyntaxFault>
     Ok(())
 }
 
-/// A byte that stands for itself.
+/// A plain byte.
 #[inline]
 pub fn with_plain(n: u32, b: u8, w: &mut ReaderState) -> Result<(), SyntaxFault>
     requires { n < 2 ^ 31 }
@@ -159,7 +159,7 @@ pub fn with_plain(n: u32, b: u8, w: &mut ReaderState) -> Result<(), SyntaxFault>
     Ok(())
 }
 
-/// Bytes that stand for themselves, the first of them at this place.
+/// Plain bytes, the first of them at this place.
 #[inline(always)]
 pub fn with_plains(n: u32, run: &[u8], w: &mut ReaderState) -> Result<(), SyntaxFault>
     requires here { w.old.stage ≡ Stage.List ListStage.Start }

@@ -18,7 +18,7 @@ pub enum Ending {
     Message,
 }
 
-/// What a text came to.
+/// The state that a text reached.
 #[derive(Drop)]
 pub struct Ended {
     /// Its state after its last item.
@@ -43,7 +43,7 @@ impl Ending {
         }
     }
 
-    /// Whether what was read of a text that ends so can be kept where this stands after it.
+    /// Whether what was read of a text that ends so can be kept where this follows it.
     pub fn goes_on(self, more: &[u8]) -> bool
         ensures { result ≡ resuming.goes_on self more.now }
     {

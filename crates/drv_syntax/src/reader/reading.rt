@@ -1,4 +1,4 @@
-//! What a whole text comes to, or its fault.
+//! What a whole text gives, or its fault.
 
 ghost use Rattle.drv_syntax.specs.Code.Steps as steps;
 ghost use Rattle.drv_syntax.specs.Code.Resuming.{Follows};
@@ -92,7 +92,7 @@ fn place_of(frame: Suspended) -> u32
     }
 }
 
-/// What the state comes to where the text ends, of this size.
+/// What the state gives where the text ends, of this size.
 #[tactic(auto, using(crate::proofs::WalkNames::outer_first))]
 fn finish(n: u32, w: &mut ReaderState) -> Result<(), SyntaxFault>
     ensures { Gives SyntaxFault.Memory (λ _. state w.new) result
@@ -175,8 +175,7 @@ fn read_to_end(start: u32, text: &[u8], w: &mut ReaderState) -> Result<Ending, S
     Ok(ending)
 }
 
-/// What a text comes to, the first bytes of which have come to this state, so many: by the rest of
-/// it.
+/// What a text gives by the rest of it, where its first bytes, so many, have reached this state.
 pub fn read_after(start: u32, more: &[u8], walk: ReaderState) -> Result<Ended, SyntaxFault>
     requires { start + length more.now ≤ 1048576 }
     ensures does { Gives SyntaxFault.Memory (λ e. state e.walk) result
@@ -189,7 +188,7 @@ pub fn read_after(start: u32, more: &[u8], walk: ReaderState) -> Result<Ended, S
     Ok(Ended { walk, ending })
 }
 
-/// What a text comes to.
+/// What a text gives.
 #[inline(always)]
 pub fn read_text(alloc: Global, text: &[u8]) -> Result<Ended, SyntaxFault>
     requires { length text.now ≤ 1048576 }
@@ -206,7 +205,7 @@ pub fn read_text(alloc: Global, text: &[u8]) -> Result<Ended, SyntaxFault>
     Ok(Ended { walk, ending })
 }
 
-/// What a text without bytes comes to. It takes no memory.
+/// What a text without bytes gives. The call allocates nothing.
 pub fn read_nothing(alloc: Global) -> Ended
     ensures begun { state result.walk ≡ steps.started }
     ensures ending { result.ending ≡ Ending.Item }

@@ -15,7 +15,7 @@ use crate::reader::stages::ListKind;
 use crate::reader::state::ReaderState;
 use bstr::ByteSlice;
 
-/// The byte stands for itself in such a list.
+/// The byte is plain in such a list.
 #[inline(always)]
 fn stands(kind: ListKind, b: u8) -> bool
     ensures { result ≡ steps.runs kind b }
@@ -30,8 +30,8 @@ fn stands(kind: ListKind, b: u8) -> bool
         }
 }
 
-/// How many bytes a text begins with that stand for themselves in such a list. Most runs have few
-/// bytes, so each is tested.
+/// How many plain bytes a text in such a list begins with. Most runs have few bytes, so each is
+/// tested.
 #[inline(always)]
 pub fn run_length(kind: ListKind, text: &[u8]) -> usize
     ensures run { result ≡ prefix_len (steps.runs kind) text.now }
@@ -44,8 +44,7 @@ pub fn run_length(kind: ListKind, text: &[u8]) -> usize
     length
 }
 
-/// Where the first byte is that does more in a text for the user than stand for itself, in such a
-/// list.
+/// The place of the first byte that is not plain in a text for the user, in such a list.
 fn said_stop(kind: ListKind, text: &[u8]) -> Option<usize>
     ensures { IsFirstByte (is_in (steps.said_stops kind)) text.now result }
 {

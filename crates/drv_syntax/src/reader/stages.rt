@@ -1,4 +1,4 @@
-//! Where the next byte of a text stands, without the trees read so far.
+//! The place of the next byte of a text, without the trees read so far.
 
 use crate::directives::{BraceKind, SayKind};
 use crate::token::TempKind;
@@ -25,7 +25,7 @@ pub enum StarOwner {
     Starred,
 }
 
-/// Where a list of items stands.
+/// The place of a list of items.
 #[derive(Clone, Copy)]
 pub struct ListContext {
     /// What it is.
@@ -34,7 +34,7 @@ pub struct ListContext {
     pub in_arguments: bool,
     /// What `%*` finds.
     pub owner: StarOwner,
-    /// So many more braces and arguments may stand in one another.
+    /// So many more braces and arguments may be within one another.
     pub levels: u8,
 }
 
@@ -236,12 +236,12 @@ pub enum HeadStage {
     AfterTest(Operand),
 }
 
-/// Where the next byte stands.
+/// The place of the next byte.
 #[derive(Clone, Copy)]
 pub enum Stage {
     /// In a list of items.
     List(ListStage),
-    /// Where an alternative begins: whether others stand before it.
+    /// Where an alternative begins: whether others precede it.
     Choice {
         head: Head,
         later: bool,
@@ -261,8 +261,7 @@ pub enum Stage {
     },
 }
 
-/// A directive that waits for the end of a list in it, and the context of the list that it stands
-/// in.
+/// A directive that waits for the end of a list in it, and the context of the list that it is in.
 #[derive(Clone, Copy)]
 pub enum Suspended {
     /// An X: the braces, the place of the colon, the alternative, whether it has tests, and whether

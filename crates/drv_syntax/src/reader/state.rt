@@ -7,7 +7,7 @@ use crate::reader::tokens::Tokens;
 /// What has been read of a text.
 #[derive(Drop)]
 pub struct ReaderState {
-    /// Where the next byte stands.
+    /// The place of the next byte.
     pub stage: Stage,
     /// The context of the innermost list.
     pub context: ListContext,

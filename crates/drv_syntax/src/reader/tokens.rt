@@ -26,7 +26,7 @@ impl Model for Tokens {
     ghost view = { λ t. t.list.items };
 }
 
-/// The tokens of bytes that stand for themselves, the first of them at this place.
+/// The tokens of plain bytes, the first of them at this place.
 fn push_plains(n: u32, run: &[u8], list: &mut Vec<Token>)
     requires place { n + length run.now < 2 ^ 31 }
     requires reserved { vec_len list.old + length run.now ≤ vec_capacity list.old }
@@ -61,7 +61,7 @@ fn opened(kind: TokenKind, start: u32) -> Token
 }
 
 impl Tokens {
-    /// None yet, which takes no memory.
+    /// None yet, without an allocation.
     pub fn new(alloc: Global) -> Tokens
         ensures { result ≡ [] }
     {
@@ -119,7 +119,7 @@ impl Tokens {
         Ok(())
     }
 
-    /// Bytes that stand for themselves, the first of them at this place.
+    /// Plain bytes, the first of them at this place.
     #[inline(always)]
     pub fn push_run(&mut self, n: u32, run: &[u8]) -> Result<(), SyntaxFault>
         requires { n + length run.now < 2 ^ 31 }

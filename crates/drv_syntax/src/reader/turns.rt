@@ -119,13 +119,13 @@ fn saying_turn(
     Ok(size + 1)
 }
 
-/// Whether a `%` stands first.
+/// Whether a `%` is first.
 #[inline(always)]
 fn begins_directive(text: &[u8]) -> bool {
     matches!(text, [b'%', ..])
 }
 
-/// Where an item begins: the bytes that stand for themselves.
+/// Where an item begins: the plain bytes.
 #[inline(always)]
 fn plain_turn(n: u32, text: &[u8], w: &mut ReaderState) -> Result<usize, SyntaxFault>
     requires here { w.old.stage ≡ Stage.List ListStage.Start }
@@ -222,8 +222,8 @@ fn directive_turn(n: u32, following: &[u8], w: &mut ReaderState) -> Result<usize
     }
 }
 
-/// Where an item begins, at a byte that does not stand for itself: what it and those that go on
-/// after it make of the state: how many of those after it.
+/// Where an item begins, at a byte that isn't plain: what it and those that go on after it make of
+/// the state, and how many of those after it.
 #[inline(always)]
 fn first_turn(n: u32, b: u8, following: &[u8], w: &mut ReaderState) -> Result<usize, SyntaxFault>
     requires here { w.old.stage ≡ Stage.List ListStage.Start }

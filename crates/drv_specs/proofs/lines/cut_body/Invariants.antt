@@ -4,7 +4,7 @@ use Rattle.drv_specs.specs.Code.Slices.{bytes_from, lines_left, size_left, text_
 use Rattle.drv_words.specs.Bytes.{newline}
 use Rattle.std.proofs.Common.{◌≡◌, ◌≤◌, ◌+◌, ◌∷◌, ◌++◌, drop, flat_map, length, take, true}
 
--- the lines that were passed stand in front, and those that are left come after them
+-- the lines that were passed are first, and those that are left follow them
 abbrev pub invariant-loop-line : goal.invariant-loop-line
 invariant-loop-line l = record {
   body : take l.size (bytes_from (text_left l.lines)) ++ flat_map (λ line. newline ∷ line) (body_lines (lines_left l.left)) ≡ flat_map (λ line. newline ∷ line) (body_lines (lines_left l.lines));
