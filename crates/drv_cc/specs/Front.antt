@@ -5,7 +5,7 @@ use Rattle.drv_cc.specs.SideFiles.{inputs, is_some, link_beginning, side_words, 
 use Rattle.drv_cc.specs.Table.{texts}
 use Rattle.drv_cc.specs.declared.answer.Answer.TheVariants.{Ask, Refuse, Run}
 use Rattle.drv_cc.specs.declared.answer.Answer.{Answer}
-use Rattle.drv_cc.specs.declared.answer.Stages.TheVariants.{All, Link, Sources}
+use Rattle.drv_cc.specs.declared.answer.Stages.TheVariants.{All, AllOfC, Link, Sources, SourcesOfC}
 use Rattle.drv_cc.specs.declared.answer.Stages.{Stages}
 use Rattle.drv_cc.specs.declared.answer.Surroundings.{Surroundings}
 use Rattle.drv_cc.specs.declared.answer.Variable.{Variable}
@@ -169,10 +169,19 @@ ends_as_source name = list_any (ends_with nat_eq name) (texts (codes ".c .i .h .
 abbrev pub is_source_file : Item → Bool
 is_source_file i = is_file_part i.part && ends_as_source i.name
 
+-- Each source is of C where -x is on no file, none is standard input, and the only suffix of a source is .c.
+abbrev pub is_other_file : Item → Bool
+is_other_file i =
+    is_file_part i.part && ((ends_as_source i.name && not (ends_with nat_eq i.name (codes ".c"))) || same i.name (codes "-"))
+
+abbrev pub is_c_alone : List Item → Bool
+is_c_alone items = not (has (codes "-x") items) && not (list_any is_other_file items)
+
 abbrev pub stages : List Item → Stages
 stages items =
-    if list_any is_unlinked items then Sources
-    else if has (codes "-x") items || list_any is_source_file items then All else Link
+    if list_any is_unlinked items then (if is_c_alone items then SourcesOfC else Sources)
+    else if has (codes "-x") items || list_any is_source_file items then (if is_c_alone items then AllOfC else All)
+    else Link
 
 -- The answer.
 abbrev pub run_words : Surroundings → List Item → List (List ℕ)

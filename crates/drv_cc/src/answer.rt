@@ -26,13 +26,18 @@ pub struct Variable {
     pub value: Word,
 }
 
-/// Which stages a line has (GCC manual, "Overall Options").
+/// Which stages a line has (GCC manual, "Overall Options"), and whether all its sources are files
+/// of C by their suffix.
 #[derive(Clone, Copy)]
 pub enum Stages {
+    /// Sources of C are compiled, and nothing is linked.
+    SourcesOfC,
     /// Sources are compiled or assembled, and nothing is linked.
     Sources,
     /// Files are linked, of which none is a source.
     Link,
+    /// There may be both, and each source is of C.
+    AllOfC,
     /// There may be both.
     All,
 }

@@ -1,6 +1,7 @@
 //! Which stages a line has.
 
-ghost use Rattle.drv_cc.specs.Front.{ends_as_source, is_source_file, is_unlinked, stages};
+ghost use Rattle.drv_cc.specs.Front.{ends_as_source, is_c_alone, is_other_file};
+ghost use Rattle.drv_cc.specs.Front.{is_source_file, is_unlinked, stages};
 ghost use Rattle.std.specs.List.{list_any};
 ghost use Rattle.std.specs.Prelude.{◌≡◌};
 
@@ -53,14 +54,44 @@ fn has_source_file(items: &[Item]) -> bool
     items.iter().any(is_source_file)
 }
 
+/// Whether an item is a source of another language than C, or standard input.
+fn is_other_file(item: &Item) -> bool
+    ensures { result ≡ is_other_file item.now }
+{
+    let name = item.name.as_bytes();
+    is_file(item) && ((ends_as_source(name) && !name.ends_with(b".c")) || name == b"-".as_slice())
+}
+
+/// Whether some item is a source of another language than C, or standard input.
+fn has_other_file(items: &[Item]) -> bool
+    ensures { result ≡ list_any is_other_file items.now }
+{
+    items.iter().any(is_other_file)
+}
+
+/// Whether each source is of C.
+fn is_c_alone(items: &[Item]) -> bool
+    ensures { result ≡ is_c_alone items.now }
+{
+    !has(items, b"-x") && !has_other_file(items)
+}
+
 /// The stages of a line.
 pub(crate) fn stages(items: &[Item]) -> Stages
     ensures { result ≡ stages items.now }
 {
     if has_unlinked(items) {
-        Stages::Sources
+        if is_c_alone(items) {
+            Stages::SourcesOfC
+        } else {
+            Stages::Sources
+        }
     } else if has(items, b"-x") || has_source_file(items) {
-        Stages::All
+        if is_c_alone(items) {
+            Stages::AllOfC
+        } else {
+            Stages::All
+        }
     } else {
         Stages::Link
     }

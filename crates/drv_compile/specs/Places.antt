@@ -1,6 +1,6 @@
 use Rattle.drv_cc.specs.Items.{is_among}
 use Rattle.drv_cc.specs.Table.{texts}
-use Rattle.drv_cc.specs.declared.answer.Stages.TheVariants.{All, Link, Sources}
+use Rattle.drv_cc.specs.declared.answer.Stages.TheVariants.{All, AllOfC, Link, Sources, SourcesOfC}
 use Rattle.drv_cc.specs.declared.answer.Stages.{Stages}
 use Rattle.drv_system.specs.declared.event.PathKind.TheVariants.{Dir, Missing, Other, Plain}
 use Rattle.drv_system.specs.declared.event.PathKind.{PathKind}
@@ -27,9 +27,9 @@ without_ending path (Some stem) = stem
 abbrev pub companion : List ℕ → List ℕ → List ℕ
 companion path ending = without_ending path (before_ending (codes ".specs") path) ++ ending
 
--- Beside it stand its texts for a line without a link, those for a line that has nothing but a link, and those for a line that may have
--- both. All are without what these words and each -gz=.. ask for, and without what a spec file of the line may change; those with a link
--- are without --sysroot=.. too.
+-- The files beside it hold parts of its texts: for a line without a link, for a line that only links, and for a line that may do both. The
+-- first and the last have a shorter one for a line whose sources are all of C. None has the texts that these words and each -gz=.. need, or
+-- that a spec file of the line may change. Those for a link lack what --sysroot=.. needs too.
 abbrev pub whole_words : List (List ℕ)
 whole_words =
     texts (codes "-march=native -mtune=native -save-temps -save-temps=cwd -save-temps=obj -gsplit-dwarf -traditional -traditional-cpp "
@@ -42,13 +42,17 @@ abbrev pub is_rooted : List ℕ → Bool
 is_rooted word = starts_with nat_eq word (codes "--sysroot=")
 
 abbrev pub may_link : Stages → Bool
-may_link Link = true
+may_link SourcesOfC = false
 may_link Sources = false
+may_link Link = true
+may_link AllOfC = true
 may_link All = true
 
 abbrev pub texts_by : List ℕ → Stages → List ℕ
+texts_by specs SourcesOfC = companion specs (codes ".c.compile")
 texts_by specs Sources = companion specs (codes ".compile")
 texts_by specs Link = companion specs (codes ".link")
+texts_by specs AllOfC = companion specs (codes ".c.all")
 texts_by specs All = companion specs (codes ".all")
 
 abbrev pub texts_for : List ℕ → List (List ℕ) → Stages → List ℕ

@@ -103,7 +103,7 @@ fn are_rooted(words: &[Word]) -> bool
 fn may_link(stages: Stages) -> bool
     ensures { result ≡ may_link stages }
 {
-    matches!(stages, Stages::Link | Stages::All)
+    matches!(stages, Stages::Link | Stages::AllOfC | Stages::All)
 }
 
 /// The file that has the texts for these stages.
@@ -111,8 +111,10 @@ fn texts_by(alloc: Global, specs: &[u8], stages: Stages) -> Result<Word, AllocEr
     ensures { IfOk result (λ path. path ≡ texts_by specs.now stages) }
 {
     match stages {
+        Stages::SourcesOfC => companion(alloc, specs, b".c.compile"),
         Stages::Sources => companion(alloc, specs, b".compile"),
         Stages::Link => companion(alloc, specs, b".link"),
+        Stages::AllOfC => companion(alloc, specs, b".c.all"),
         Stages::All => companion(alloc, specs, b".all"),
     }
 }
