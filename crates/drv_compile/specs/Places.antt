@@ -7,13 +7,22 @@ use Rattle.drv_system.specs.declared.event.PathKind.{PathKind}
 use Rattle.drv_words.specs.Bytes.{slash}
 use Rattle.drv_compile.specs.Calling.{before_ending, folder}
 use Rattle.std.specs.List.{list_any, starts_with}
-use Rattle.std.specs.Prelude.{◌==◌, ◌&&◌, ◌||◌, Bool, List, ◌++◌, None, Option, Some, codes, false, if◌then◌else◌, nat_eq, true, ℕ}
+use Rattle.std.specs.Prelude.{◌==◌, ◌&&◌, ◌||◌, ◌-◌, ◌∷◌, [], Bool, List, ◌++◌, None, Option, Some, codes, false, if◌then◌else◌, length, nat_eq}
+use Rattle.std.specs.Prelude.{take, true, ℕ}
 
 -- The place of the spec file, and of the files beside it (this project's profile).
 
--- of the program that lies at a path
+-- the folder that a folder is in, each with a slash at its end; the root is in itself
+abbrev pub above_by : List ℕ → List ℕ → List ℕ
+above_by path [] = path
+above_by path (b ∷ unslashed) = folder (b ∷ unslashed)
+
+abbrev pub above : List ℕ → List ℕ
+above path = above_by path (take (length path - 1) path)
+
+-- of the program at an absolute path: in share/gdrv beside the program's folder
 abbrev pub beside : List ℕ → List ℕ → List ℕ
-beside program machine = folder program ++ codes "../share/gdrv/" ++ machine ++ codes ".specs"
+beside program machine = above (folder program) ++ codes "share/gdrv/" ++ machine ++ codes ".specs"
 
 -- a path that the caller gives: one without a folder lies in the folder of the call
 abbrev pub given : List ℕ → List ℕ

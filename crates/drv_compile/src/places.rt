@@ -1,6 +1,6 @@
 //! The place of the spec file, and of the files beside it.
 
-ghost use Rattle.drv_compile.specs.Places.{beside, companion, given, is_rooted, may_link};
+ghost use Rattle.drv_compile.specs.Places.{above, beside, companion, given, is_rooted, may_link};
 ghost use Rattle.drv_compile.specs.Places.{texts_by, texts_for, texts_or, wants_whole, whole_words};
 ghost use Rattle.drv_cc.specs.Items.{is_among};
 ghost use Rattle.std.specs.List.{list_any};
@@ -21,11 +21,22 @@ fn joined(alloc: Global, first: &[u8], second: &[u8]) -> Result<Word, AllocError
     Ok(word)
 }
 
-/// The spec file of a machine, by its place beside the program that lies at this path.
+/// The folder that a folder is in, each with a slash at its end. The root is in itself.
+fn above(path: &[u8]) -> &[u8]
+    ensures { result.now ≡ above path.now }
+{
+    match &path[..path.len().saturating_sub(1)] {
+        [] => path,
+        unslashed => folder(unslashed),
+    }
+}
+
+/// The spec file of a machine, in `share/gdrv` beside the folder of the program at this path, which
+/// is absolute.
 pub fn beside(alloc: Global, program: &[u8], machine: &[u8]) -> Result<Word, AllocError>
     ensures { IfOk result (λ path. path ≡ beside program.now machine.now) }
 {
-    let mut path = joined(alloc, folder(program), b"../share/gdrv/")?;
+    let mut path = joined(alloc, above(folder(program)), b"share/gdrv/")?;
     path.extend_from_slice(machine)?;
     path.extend_from_slice(b".specs")?;
     Ok(path)
