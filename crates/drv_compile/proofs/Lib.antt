@@ -1,5 +1,13 @@
+pub mod Absent
 pub mod Decided
+pub mod Done
+pub mod DriverCalls
 pub mod Files
 pub mod Given
+pub mod Joined
+pub mod Leading
 pub mod Names
+pub mod Prepared
 pub mod Ran
+pub mod Told
+pub mod Worded

@@ -4,26 +4,20 @@ use Rattle.drv_args.specs.declared.fault.ArgsFault.{ArgsFault}
 use Rattle.drv_args.specs.declared.line.Expanded.{Expanded}
 use Rattle.drv_args.specs.declared.line.Line.{Line}
 use Rattle.drv_args.specs.declared.line.Settings.{Settings}
-use Rattle.drv_compile.specs.Runs.{IsDone, Ran, Stops, Works, cut_short, done, lacks_memory, not_loaded, not_planned, not_read, stopped}
+use Rattle.drv_compile.specs.Runs.{Stops, Works, lacks_memory, not_loaded, not_planned, not_read}
 use Rattle.drv_plan.specs.declared.fault.PlanFault.TheVariants as plan_fault
 use Rattle.drv_plan.specs.declared.fault.PlanFault.{PlanFault}
-use Rattle.drv_run.specs.Code.Telling.{EndsWork}
 use Rattle.drv_run.specs.Drives.{specs_of, specs_over, stopped_by_args, stopped_by_plan, stopped_by_specs, work_of}
-use Rattle.drv_run.specs.declared.ending.Ending.TheVariants.{Done, OutOfMemory, Refused}
 use Rattle.drv_run.specs.declared.ending.Ending.{Ending}
 use Rattle.drv_run.specs.declared.work.Work.{Work}
 use Rattle.drv_specs.specs.Builtin.{builtin_specs}
 use Rattle.drv_specs.specs.Sets.{Set}
 use Rattle.drv_specs.specs.declared.fault.SpecsFault.TheVariants as specs_fault
 use Rattle.drv_specs.specs.declared.fault.SpecsFault.{SpecsFault}
-use Rattle.drv_system.proofs.Asking.{extends_refl}
-use Rattle.drv_system.specs.Asking.{Asks, Extends}
 use Rattle.drv_system.specs.Facts.{Facts}
 use Rattle.drv_system.specs.Gives.{GivesKnown}
 use Rattle.drv_system.specs.Known.{Is}
-use Rattle.drv_system.specs.declared.event.Event.{Event}
-use Rattle.std.proofs.Common.{◌≡◌, ◌⊎◌, ◌∙◌, Err, IsErrAnd, List, [], ◌++◌, Ok, Result, ap, inl, inr, subst, sym, ℕ}
-use Rattle.std.proofs.lemmas.List.{append-nil}
+use Rattle.std.proofs.Common.{◌≡◌, ◌⊎◌, Err, IsErrAnd, Ok, Result, inl, inr, subst, sym, ℕ}
 use Rattle.std.specs.Prelude.{MatchResult}
 
 -- How words end a call.
@@ -61,36 +55,6 @@ plan_stop F words seed line set fault reads loads (inr is) = not_planned reads l
 pub planning_ends : (F : Facts) (words : Expanded) (seed : ℕ) (line : Line) (set : Set) (fault : PlanFault) (result : Result Work Ending) → IsErrAnd result (λ e. e ≡ stopped_by_plan fault)
     → line_read words ≡ Ok line → specs_of F line.settings ≡ Is (Ok set) → (fault ≡ plan_fault.Memory) ⊎ (work_of F line set seed ≡ Is (Err fault)) → Comes F words seed result
 planning_ends F words seed line set fault result is reads loads given = ended_as F words seed (stopped_by_plan fault) result is (plan_stop F words seed line set fault reads loads given)
-
--- without its work
-pub ran_before : {journal journal' : List Event} {F F' : Facts} (words : Expanded) (seed : ℕ) (ending : Ending) → Asks journal journal' F F'
-    → ((G : Facts) → Extends F' G → Stops G words seed ending) → Ran journal journal' F words seed ending
-ran_before {journal} {F' = F'} words seed ending asks stops = record {
-  asked = asks.asked;
-  said = [];
-  questions = asks.questions;
-  journal_grows = asks.journal_grows ∙ sym (append-nil (journal ++ asks.asked));
-  ends = subst (λ G. IsDone G words seed ending []) asks.facts_grow (stopped (stops F' (extends_refl F')));
-}
-
--- however its work ends it
-pub ran_with_work : {journal journal' journal'' : List Event} {F F' : Facts} (words : Expanded) (seed : ℕ) (work : Work) (ending : Ending) → Asks journal journal' F F'
-    → ((G : Facts) → Extends F' G → Works G words seed work) → EndsWork journal' journal'' work ending → Ran journal journal'' F words seed ending
-ran_with_work {F' = F'} words seed work (Done status) asks works does = record {
-  asked = asks.asked;
-  said = does.0;
-  questions = asks.questions;
-  journal_grows = does.1 ∙ ap (λ events. events ++ does.0) asks.journal_grows;
-  ends = subst (λ G. IsDone G words seed (Done status) does.0) asks.facts_grow (done (works F' (extends_refl F')) does.2);
-}
-ran_with_work words seed work (Refused refusal) asks works does = absurd does
-ran_with_work words seed work OutOfMemory asks works only = record {
-  asked = asks.asked;
-  said = only.0;
-  questions = asks.questions;
-  journal_grows = only.1 ∙ ap (λ events. events ++ only.0) asks.journal_grows;
-  ends = subst (λ G. IsDone G words seed OutOfMemory only.0) asks.facts_grow (cut_short only.2);
-}
 
 -- the built-in specs, and files over them
 pub builtin_given : (F : Facts) (settings : Settings) (set : Set) (result : Result Set SpecsFault) → set ≡ builtin_specs

@@ -3,21 +3,18 @@ use Rattle.drv_args.specs.declared.fault.ArgsFault.{ArgsFault}
 use Rattle.drv_args.specs.declared.line.Expanded.{Expanded}
 use Rattle.drv_args.specs.declared.line.Line.{Line}
 use Rattle.drv_plan.specs.declared.fault.PlanFault.{PlanFault}
-use Rattle.drv_run.specs.Calls.{AreSaid, Does}
 use Rattle.drv_run.specs.Drives.{specs_of, stopped_by_args, stopped_by_plan, stopped_by_specs, work_of}
-use Rattle.drv_run.specs.declared.ending.Ending.TheVariants.{Done, OutOfMemory}
+use Rattle.drv_run.specs.declared.ending.Ending.TheVariants.{OutOfMemory}
 use Rattle.drv_run.specs.declared.ending.Ending.{Ending}
 use Rattle.drv_run.specs.declared.work.Work.{Work}
 use Rattle.drv_specs.specs.Sets.{Set}
 use Rattle.drv_specs.specs.declared.fault.SpecsFault.{SpecsFault}
-use Rattle.drv_system.specs.Asking.{AreNew}
-use Rattle.drv_system.specs.Facts.{Facts, learn}
+use Rattle.drv_system.specs.Facts.{Facts}
 use Rattle.drv_system.specs.Known.{Is}
-use Rattle.drv_system.specs.declared.event.Event.{Event}
-use Rattle.std.specs.Prelude.{◌≡◌, Err, List, [], ◌++◌, Ok, codes, ℕ}
+use Rattle.std.specs.Prelude.{◌≡◌, Err, Ok, ℕ}
 
--- What words of the driver ask for, and what a call does by them: the definitions of `drive`, over facts that an earlier part of the call
--- has asked for (GCC manual, "Overall Options").
+-- What words of the driver ask for: the definitions of `drive`, over facts that an earlier part of the call has asked for (GCC manual,
+-- "Overall Options").
 
 -- the work that words denote
 pub record Works (F : Facts) (words : Expanded) (seed : ℕ) (work : Work) : Type 0 where
@@ -34,18 +31,3 @@ pub data Stops (F : Facts) (words : Expanded) (seed : ℕ) : Ending → Type 0 w
   not_loaded : {line : Line} {fault : SpecsFault} → line_read words ≡ Ok line → specs_of F line.settings ≡ Is (Err fault) → Stops F words seed (stopped_by_specs fault)
   not_planned : {line : Line} {set : Set} {fault : PlanFault} → line_read words ≡ Ok line → specs_of F line.settings ≡ Is (Ok set)
       → work_of F line set seed ≡ Is (Err fault) → Stops F words seed (stopped_by_plan fault)
-
--- what follows the questions in the journal: the work that was done, or nothing where the words are refused; where the work lacked memory,
--- texts alone
-pub data IsDone (F : Facts) (words : Expanded) (seed : ℕ) : Ending → List Event → Type 0 where
-  done : {work : Work} {status : ℕ} {said : List Event} → Works F words seed work → Does (codes "gdrv") work status said → IsDone F words seed (Done status) said
-  stopped : {ending : Ending} → Stops F words seed ending → IsDone F words seed ending []
-  cut_short : {said : List Event} → AreSaid said → IsDone F words seed OutOfMemory said
-
--- A call by words: it asked what no fact told, and its ending is that of these facts and the answers alone.
-pub record Ran (journal journal' : List Event) (F : Facts) (words : Expanded) (seed : ℕ) (ending : Ending) : Type 0 where
-  pub asked : List Event
-  pub said : List Event
-  pub questions : AreNew F asked
-  pub journal_grows : journal' ≡ journal ++ asked ++ said
-  pub ends : IsDone (learn F asked) words seed ending said

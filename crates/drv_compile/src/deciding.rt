@@ -4,10 +4,9 @@ ghost use Rattle.drv_compile.specs.Compilers.{values};
 ghost use Rattle.drv_compile.specs.Decides.{decided, decided_around, decided_by, decided_over};
 ghost use Rattle.drv_compile.specs.Decides.{decided_with, first_of, of_reading, or_own};
 ghost use Rattle.drv_search.specs.Code.Telling.{Tells};
-ghost use Rattle.drv_system.specs.Asking.{Asks, Extends};
 ghost use Rattle.drv_system.specs.Code.Asked.{Asked};
-ghost use Rattle.drv_system.specs.Facts.{Facts, variable_of};
-ghost use Rattle.drv_system.specs.Known.{Is, asked};
+ghost use Rattle.drv_system.specs.Facts.{variable_of};
+ghost use Rattle.drv_system.specs.Known.{asked};
 ghost use Rattle.std.specs.Prelude.{◌≡◌, IfOk};
 
 use crate::compilers::values;
@@ -15,13 +14,13 @@ use crate::finding::{named_file, spec_file, written_beside};
 use crate::places::companion;
 use crate::reading::{Reading, read_line};
 use drv_cc::Surroundings;
-use drv_system::{FactTable, Outside, System};
+use drv_system::{Outside, System};
 use drv_words::{Listing, Word};
 use std::alloc::{AllocError, Global};
 
 /// What the words of a line ask for.
 #[derive(Drop)]
-pub enum Decision {
+pub(crate) enum Decision {
     /// There is no spec file: the path where it should be, if there is one.
     NoSpecs(Option<Word>),
     /// A file beside the spec file is missing or not whole.
@@ -45,7 +44,7 @@ pub enum Decision {
 }
 
 /// The value of a variable, if it is set.
-fn variable<S: System>(
+pub(crate) fn variable<S: System>(
     alloc: Global,
     name: &[u8],
     outside: &mut Outside<'_, S>,
@@ -197,9 +196,13 @@ fn copied(path: &Option<Word>) -> Result<Option<Word>, AllocError>
     }
 }
 
-/// The decision, asked of the outside.
+/// What the words of a line ask for, response files expanded and those of c99 turned into gcc's,
+/// where the spec file of this program lies at `own`, if that is known. This is a refusal for lack
+/// of a file, or what the front reads (GCC manual, "Invoking GCC"). It asks the system only where
+/// the table has no answer: for the spec file, the files beside it, two variables, and what the
+/// line's unknown words need.
 #[tactic(auto, using(drv_system::proofs::AskedCalls::asked_further))]
-fn decided<S: System>(
+pub(crate) fn decided<S: System>(
     alloc: Global,
     own: &Option<Word>,
     words: &[Word],
@@ -212,26 +215,4 @@ fn decided<S: System>(
     let found = spec_file(alloc, place, outside)?;
     let place = copied(own)?;
     decided_with(alloc, place, words, found, outside)
-}
-
-/// What the words of a line ask for, response files expanded and those of c99 turned into gcc's,
-/// where the spec file of this program lies at `own`, if that is known. This is a refusal for lack
-/// of a file, or what the front reads (GCC manual, "Invoking GCC"). It asks the system only where
-/// the table has no answer: for the spec file, the files beside it, two variables, and what the
-/// line's unknown words need.
-///
-/// # Errors
-/// An allocation was refused.
-pub fn decide<S: System>(
-    alloc: Global,
-    own: &Option<Word>,
-    words: &[Word],
-    sys: &mut S,
-    facts: &mut FactTable,
-) -> Result<Decision, AllocError>
-    ensures asks { Asks (S.events sys.old) (S.events sys.new) facts.old facts.new }
-    ensures decision { (F : Facts) → Extends facts.new F
-        → IfOk result (λ decision. decided F own.now words.now ≡ Is decision) }
-{
-    decided(alloc, own, words, &mut Outside { sys, facts })
 }

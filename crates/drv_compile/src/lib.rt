@@ -1,24 +1,32 @@
-//! What a call of `gdrv-cc` does: its name, its spec file and the files beside it, and what the
-//! words of its line ask for.
+//! A call of `gdrv-cc`: its name, its spec file and the files beside it, what the words of its line
+//! ask for, and that done.
 #![tactic(auto)]
 
 mod calling;
 mod compilers;
+mod compiling;
 mod deciding;
+mod driving;
+mod expanding;
 mod finding;
+mod host;
+mod inputs;
+mod nearest;
 mod parts;
 mod places;
+mod preparing;
 mod reading;
 mod running;
 mod saying;
 mod self_specs;
+mod speaking;
+mod stop;
+mod tasks;
+mod telling;
+mod wording;
 mod written;
 
 pub use calling::{Calling, Front, calling_of};
-pub use deciding::{Decision, decide};
-pub use parts::{Texts, texts_of};
-pub use places::{beside, companion};
-pub use reading::Reading;
-pub use running::carry_out;
-pub use saying::said;
-pub use self_specs::answer_given;
+pub use compiling::{Outcome, compile};
+pub use host::{Host, HostEvent};
+pub use places::beside;

@@ -2,22 +2,19 @@
 
 ghost use Rattle.drv_compile.specs.Parts.{texts_at, texts_by_lines, texts_of};
 ghost use Rattle.drv_search.specs.Code.Telling.{Tells};
-ghost use Rattle.drv_system.specs.Asking.{Asks, Extends};
 ghost use Rattle.drv_system.specs.Code.Asked.{Asked};
-ghost use Rattle.drv_system.specs.Facts.{Facts};
-ghost use Rattle.drv_system.specs.Known.{Is};
 ghost use Rattle.std.specs.Prelude.{◌≡◌, IfOk};
 
 use crate::finding::written;
 use crate::places::{texts_for, texts_or};
 use drv_cc::Stages;
-use drv_system::{FactTable, Outside, System};
+use drv_system::{Outside, System};
 use drv_words::Word;
 use std::alloc::{AllocError, Global};
 
 /// The file that has the texts for a line.
 #[derive(Drop)]
-pub enum Texts {
+pub(crate) enum Texts {
     /// It is whole.
     Whole(Word),
     /// It is missing or not whole.
@@ -47,9 +44,10 @@ fn texts_at<S: System>(
     Ok(texts_by_lines(path, &lines))
 }
 
-/// The file that has the texts for a line with these words and stages, asked of the outside.
+/// The file that has the texts for a line with these words and stages: the spec file, or a part of
+/// it beside it. It asks the system only where the table has no answer.
 #[tactic(auto, using(drv_system::proofs::AskedCalls::asked_further))]
-fn texts_asked<S: System>(
+pub(crate) fn texts_asked<S: System>(
     alloc: Global,
     specs: &[u8],
     words: &[Word],
@@ -63,24 +61,4 @@ fn texts_asked<S: System>(
     let kind = outside.facts.kind(outside.sys, &part)?;
     let path = Word::from_bytes(alloc, texts_or(specs, part.as_bytes(), kind))?;
     texts_at(alloc, path, outside)
-}
-
-/// The file that has the texts for a line with these words and stages: the spec file, or a part of
-/// it beside it. It asks the system only where the table has no answer.
-///
-/// # Errors
-/// An allocation was refused.
-pub fn texts_of<S: System>(
-    alloc: Global,
-    specs: &[u8],
-    words: &[Word],
-    stages: Stages,
-    sys: &mut S,
-    facts: &mut FactTable,
-) -> Result<Texts, AllocError>
-    ensures asks { Asks (S.events sys.old) (S.events sys.new) facts.old facts.new }
-    ensures texts { (F : Facts) → Extends facts.new F
-        → IfOk result (λ texts. texts_of F specs.now words.now stages ≡ Is texts) }
-{
-    texts_asked(alloc, specs, words, stages, &mut Outside { sys, facts })
 }

@@ -21,12 +21,12 @@ use std::alloc::{AllocError, Global};
 
 /// The answer to a line, with the names of options that this took.
 #[derive(Drop)]
-pub struct Reading {
+pub(crate) struct Reading {
     /// The names of the compiler's options, a line each, where some word of the line is none that is
     /// known without them; else none.
-    pub known: Word,
+    pub(crate) known: Word,
     /// The answer to the line.
-    pub answer: Answer,
+    pub(crate) answer: Answer,
 }
 
 /// Whether a refusal is of a word that is no option.

@@ -2,15 +2,12 @@
 
 ghost use Rattle.drv_compile.specs.Said.{lines_said, said};
 ghost use Rattle.drv_search.specs.Code.Telling.{Tells};
-ghost use Rattle.drv_system.specs.Asking.{Asks, Extends};
 ghost use Rattle.drv_system.specs.Code.Asked.{Asked};
-ghost use Rattle.drv_system.specs.Facts.{Facts};
-ghost use Rattle.drv_system.specs.Known.{Is};
 ghost use Rattle.std.specs.Prelude.{◌≡◌, IfOk};
 
 use crate::compilers::values;
 use crate::finding::written_beside;
-use drv_system::{FactTable, Outside, System};
+use drv_system::{Outside, System};
 use drv_words::{Listing, Word};
 use std::alloc::{AllocError, Global};
 
@@ -24,8 +21,11 @@ fn lines_said(alloc: Global, text: &Option<Word>) -> Result<Listing<Word>, Alloc
     }
 }
 
-/// The lines beside a spec file.
-fn said_beside<S: System>(
+/// The lines that the compiler of a spec file says of itself where its commands are shown (GCC
+/// manual, "Overall Options", `-v`): its machine, its version and where it looks. There are none
+/// where the file that has them is not whole. It asks the system only where the table has no
+/// answer.
+pub(crate) fn said<S: System>(
     alloc: Global,
     specs: &[u8],
     outside: &mut Outside<'_, S>,
@@ -35,24 +35,4 @@ fn said_beside<S: System>(
 {
     let text = written_beside(alloc, specs, b".gcc", outside)?;
     lines_said(alloc, &text)
-}
-
-/// The lines that the compiler of a spec file says of itself where its commands are shown (GCC
-/// manual, "Overall Options", `-v`): its machine, its version and where it looks. There are none
-/// where the file that has them is not whole. It asks the system only where the table has no
-/// answer.
-///
-/// # Errors
-/// An allocation was refused.
-pub fn said<S: System>(
-    alloc: Global,
-    specs: &[u8],
-    sys: &mut S,
-    facts: &mut FactTable,
-) -> Result<Listing<Word>, AllocError>
-    ensures asks { Asks (S.events sys.old) (S.events sys.new) facts.old facts.new }
-    ensures lines { (F : Facts) → Extends facts.new F
-        → IfOk result (λ lines. said F specs.now ≡ Is lines) }
-{
-    said_beside(alloc, specs, &mut Outside { sys, facts })
 }

@@ -14,7 +14,7 @@ ghost use Rattle.drv_plan.specs.declared.fault.PlanFault.TheVariants as plan_fau
 ghost use Rattle.drv_run.specs.declared.ending.Ending.TheVariants as ending;
 ghost use Rattle.drv_specs.specs.Sets.{text_of};
 ghost use Rattle.drv_syntax.specs.Parsed.{tree_of};
-ghost use Rattle.drv_system.specs.Asking.{Asks, Extends};
+ghost use Rattle.drv_system.specs.Asking.{Extends};
 ghost use Rattle.drv_system.specs.Code.Asked.{Asked};
 ghost use Rattle.drv_system.specs.Facts.{Facts};
 ghost use Rattle.drv_system.specs.Gives.{GivesKnown};
@@ -33,7 +33,7 @@ use drv_run::Ending;
 use drv_search::Prefixes;
 use drv_specs::SpecSet;
 use drv_syntax::SpecTree;
-use drv_system::{FactTable, Outside, System};
+use drv_system::{Outside, System};
 use drv_words::{Command, Group, Job, Listing, Word};
 use std::alloc::{AllocError, Global};
 
@@ -291,29 +291,29 @@ fn count_specs(alloc: Global, words: &[Word]) -> Result<usize, AllocError>
 /// spec file is loaded, with the switches of the line and no input.
 ///
 /// `words` are the driver's words for the line, after the spec file of the call; `args` are those
-/// of the line, and `known` the names of options that were taken to read it.
+/// of the line, and `known` the names of options that were taken to read it. It asks the system
+/// only where the table has no answer.
 ///
 /// # Errors
 /// How the call ends: for lack of memory, or as by the first refusal of the words, of a spec file
 /// or of that text.
-pub fn answer_given<S: System>(
+#[tactic(auto, using(drv_system::proofs::AskedCalls::asked_none))]
+pub(crate) fn answer_given<S: System>(
     alloc: Global,
     specs: &[u8],
     around: &Surroundings,
     known: &[u8],
     args: &[Word],
     words: &Expanded,
-    sys: &mut S,
-    facts: &mut FactTable,
+    outside: &mut Outside<'_, S>,
 ) -> Result<Option<Answer>, Ending>
-    ensures asks { Asks (S.events sys.old) (S.events sys.new) facts.old facts.new }
-    ensures answer { (F : Facts) → Extends facts.new F
+    ensures asks { Asked S.events outside.old outside.new }
+    ensures answer { (F : Facts) → Extends outside.new.facts.now F
         → GivesKnown ending.OutOfMemory (λ made. made) result
         (answer_given F specs.now around.now known.now args.now words.now) }
 {
     if count_specs(alloc, words.words.as_slice())? <= 1 {
         return Ok(None);
     }
-    let outside = &mut Outside { sys, facts };
     answer_of_specs(alloc, specs, around, known, args, words, outside)
 }

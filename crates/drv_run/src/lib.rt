@@ -24,4 +24,4 @@ pub use laws::{one_ending, refused_does_nothing, same_plan, shown_starts_nothing
 pub use telling::status_of;
 pub use version::VERSION;
 pub use wording::{ending_text, fault_line, refusal_text};
-pub use work::{Manner, Work};
+pub use work::{Manner, Telling, Work};

@@ -1,0 +1,272 @@
+use Rattle.drv_cc.specs.declared.answer.Variable.{Variable}
+use Rattle.drv_compile.proofs.Joined.{joined}
+use Rattle.drv_compile.specs.Code.Compiling.{Carried, DoesHinted, Hinted, IsOpened, OpensWork, Spoken, TellsStop, Worked}
+use Rattle.drv_compile.specs.Compiles.{Comes, Compiled, Ends, Hints, Opens, Refuses, cut_short, hinted, lacks_program, no_hint, refused, settings, silent, spoken, unnoted, worked}
+use Rattle.drv_compile.specs.Inputs.{Noted}
+use Rattle.drv_compile.specs.Tasks.{IfTold}
+use Rattle.drv_compile.specs.declared.calling.Calling.{Calling}
+use Rattle.drv_compile.specs.declared.compiling.Outcome.TheVariants.{Done, OutOfMemory, Unnoted}
+use Rattle.drv_compile.specs.declared.compiling.Outcome.{Outcome}
+use Rattle.drv_compile.specs.declared.host.HostEvent.TheVariants.{Set}
+use Rattle.drv_compile.specs.declared.host.HostEvent.{HostEvent}
+use Rattle.drv_compile.specs.declared.preparing.Prepared.{Prepared}
+use Rattle.drv_compile.specs.declared.stop.Stop.TheVariants.{Memory, Told}
+use Rattle.drv_compile.specs.declared.stop.Stop.{Stop}
+use Rattle.drv_run.proofs.Tellings.{no_pipe_after_texts}
+use Rattle.drv_run.specs.Calls.{AreSaid, DoesWork, OnlySays}
+use Rattle.drv_system.proofs.Asking.{extends_refl}
+use Rattle.drv_system.specs.Asking.{AreNew, Asks, Extends}
+use Rattle.drv_system.specs.Facts.{Facts, learn, no_facts}
+use Rattle.drv_system.specs.Running.{run_of}
+use Rattle.drv_system.specs.declared.event.Event.TheVariants.{Say}
+use Rattle.drv_system.specs.declared.event.Event.{Event}
+use Rattle.drv_system.specs.declared.event.TellAnswer.{TellAnswer}
+use Rattle.drv_words.specs.Stepping.{pipe_pending}
+use Rattle.std.proofs.Common.{◌≡◌, ◌<◌, ◌≤◌, ◌+◌, ◌-◌, ◌∙◌, ◌∷◌, ◌++◌, [], Bool, Err, IsErrAnd, List, Ok, OnOk, Option, Result, ap, append_assoc, arith, drop, false, length, refl, subst, sym, take, true, ℕ}
+use Rattle.std.proofs.Math.Bool.{false≢true}
+use Rattle.std.proofs.Math.Logic.{◌↔◌}
+use Rattle.std.proofs.Math.Seq.{drop-append_seam, take-length}
+use Rattle.std.proofs.lemmas.List.{append-nil, drop_all, drop_more, length-append, length-drop}
+use Rattle.std.specs.Bool.{IsTrue}
+use Rattle.std.specs.Prelude.{get_or, ⊤}
+
+-- What a call does after its questions.
+
+-- the variables of a line, one after another
+
+pub record Setting (at : ℕ) (children : List Variable) (i : ℕ) (before so : List HostEvent) : Type 0 where
+  pub events : List HostEvent
+  pub grown : so ≡ before ++ events
+  pub rest : events ++ settings at (drop i children) ≡ settings at children
+
+pub set_more : (at : ℕ) (children : List Variable) (i : ℕ) (variable : Variable) (at' : ℕ) (before so after : List HostEvent) → i < length children
+    → variable ≡ get_or children i variable → at' ≡ at → after ≡ so ++ Set at' variable ∷ [] → Setting at children i before so → Setting at children (i + 1) before after
+set_more at children i variable at' before so after below here same grown setting = record {
+  events = setting.events ++ Set at variable ∷ [];
+  grown =
+      grown ∙ ap (λ n. so ++ Set n variable ∷ []) same ∙ ap (λ e. e ++ Set at variable ∷ []) setting.grown
+      ∙ append_assoc before setting.events (Set at variable ∷ []);
+  rest =
+      append_assoc setting.events (Set at variable ∷ []) (settings at (drop (i + 1) children))
+      ∙ ap (λ xs. setting.events ++ settings at xs) (sym (drop_more children i variable below ∙ ap (λ v. v ∷ drop (i + 1) children) (sym here))) ∙ setting.rest;
+}
+
+pub none_set : (at : ℕ) (children : List Variable) (before : List HostEvent) → Setting at children 0 before before
+none_set at children before = record { events = []; grown = sym (append-nil before); rest = refl }
+
+pub all_set : (at : ℕ) (children : List Variable) (i : ℕ) (before so : List HostEvent) → length children ≤ i → Setting at children i before so
+    → Noted before so (λ events. events ≡ settings at children)
+all_set at children i before so past setting = (
+  setting.events,
+  setting.grown,
+  sym (append-nil setting.events) ∙ ap (λ xs. setting.events ++ settings at xs) (sym (drop_all i children past)) ∙ setting.rest,
+)
+
+pub some_set : {X E : Type 0} (at : ℕ) (children : List Variable) (i : ℕ) (before so after : List HostEvent) (result : Result X E) (what : E → Type 0)
+    → Setting at children i before so → after ≡ so → IsErrAnd result what → Noted before after (λ events. OnOk result (events ≡ settings at children))
+some_set at children i before so after (Ok x) what setting same is = absurd is
+some_set at children i before so after (Err e) what setting same is = (setting.events, same ∙ setting.grown, tt)
+
+-- the hint
+
+pub no_hint_told : (journal : List Event) (before : ℕ) (hint : List ℕ) (status : ℕ) → lacks_program (drop before journal) ≡ false
+    → Hinted journal journal before hint status (Done status)
+no_hint_told journal before hint status finds = ([], sym (append-nil journal), subst (λ b. Hints hint status b (Done status) []) (sym finds) no_hint)
+
+pub hint_told : (journal journal' : List Event) (before : ℕ) (hint : List ℕ) (status : ℕ) (told : TellAnswer) → lacks_program (drop before journal) ≡ true
+    → journal' ≡ journal ++ Say hint told ∷ [] → Hinted journal journal' before hint status (Done status)
+hint_told journal journal' before hint status told lacks says =
+    (Say hint told ∷ [], says, subst (λ b. Hints hint status b (Done status) (Say hint told ∷ [])) (sym lacks) hinted)
+
+pub hint_untold : (journal journal' : List Event) (before : ℕ) (hint : List ℕ) (status : ℕ) → lacks_program (drop before journal) ≡ true
+    → journal' ≡ journal → Hinted journal journal' before hint status (Unnoted status)
+hint_untold journal journal' before hint status lacks same =
+    ([], same ∙ sym (append-nil journal), subst (λ b. Hints hint status b (Unnoted status) []) (sym lacks) unnoted)
+
+-- the events after so many are all that are left
+pub after_all : (shown journal : List Event) (before : ℕ) → shown ≡ journal → lacks_program (drop before journal) ≡ lacks_program (take (length shown - before) (drop before shown))
+after_all shown journal before same =
+    ap (λ j. lacks_program (drop before j)) (sym same)
+    ∙ ap lacks_program (sym (ap (λ n. take n (drop before shown)) (sym (length-drop before shown)) ∙ take-length (drop before shown)))
+
+-- no pipe is pending after a text
+
+pub no_pipe_after_text : (journal journal' : List Event) (text : List ℕ) (told : TellAnswer) → journal' ≡ journal ++ Say text told ∷ []
+    → pipe_pending (run_of journal) ≡ false → pipe_pending (run_of journal') ≡ false
+no_pipe_after_text journal journal' text told says before = no_pipe_after_texts journal journal' (Say text told ∷ [], says, tt) before
+
+pub no_pipe_in_same : (journal journal' : List Event) → journal' ≡ journal → pipe_pending (run_of journal) ≡ false → pipe_pending (run_of journal') ≡ false
+no_pipe_in_same journal journal' same before = ap (λ j. pipe_pending (run_of j)) same ∙ before
+
+-- a work, and the hint after it
+
+pub longer_than : (shown journal journal' : List Event) (name : List ℕ) (prepared : Prepared) (status : ℕ) → shown ≡ journal
+    → DoesWork name journal journal' prepared.work status → length shown ≤ length journal'
+longer_than shown journal journal' name prepared status same does =
+    let first = ap length same in let grown = ap length does.1 ∙ length-append journal does.0 in omega (arith, first, grown)
+
+by_hint : (name : List ℕ) (journal journal' journal'' : List Event) (prepared : Prepared) (status : ℕ) (outcome : Outcome) → DoesWork name journal journal' prepared.work status
+    → Hinted journal' journal'' (length journal) prepared.hint status outcome → DoesHinted name journal journal'' prepared outcome
+by_hint name journal journal' journal'' prepared status outcome does hints = record {
+  did = does.0;
+  hints = hints.0;
+  status = status;
+  journal_grows = hints.1 ∙ ap (λ j. j ++ hints.0) does.1;
+  does = does.2;
+  told = subst (λ events. Hints prepared.hint status (lacks_program events) outcome hints.0) (ap (drop (length journal)) does.1 ∙ drop-append_seam journal does.0) hints.2;
+}
+
+abbrev pub IsEnd : Outcome → Type 0
+IsEnd OutOfMemory = ⊥
+IsEnd (Done status) = ⊤
+IsEnd (Unnoted status) = ⊤
+
+is_end : {hint : List ℕ} {status : ℕ} {lacks : Bool} {outcome : Outcome} {hints : List Event} → Hints hint status lacks outcome hints → IsEnd outcome
+is_end no_hint = tt
+is_end hinted = tt
+is_end unnoted = tt
+
+pub work_hinted : (name : List ℕ) (journal journal' journal'' : List Event) (prepared : Prepared) (status before : ℕ) (outcome : Outcome) → before ≡ length journal
+    → DoesWork name journal journal' prepared.work status → Hinted journal' journal'' before prepared.hint status outcome → Worked name journal journal'' prepared outcome
+work_hinted name journal journal' journal'' prepared status before OutOfMemory same does hints = absurd (is_end hints.2)
+work_hinted name journal journal' journal'' prepared status before (Done code) same does hints =
+    by_hint name journal journal' journal'' prepared status (Done code) does (subst (λ n. Hinted journal' journal'' n prepared.hint status (Done code)) same hints)
+work_hinted name journal journal' journal'' prepared status before (Unnoted code) same does hints =
+    by_hint name journal journal' journal'' prepared status (Unnoted code) does (subst (λ n. Hinted journal' journal'' n prepared.hint status (Unnoted code)) same hints)
+
+-- after a text
+
+pub no_bytes : (text : List ℕ) (empty : Bool) → (IsTrue empty ↔ (text ≡ [])) → empty ≡ true → length text ≤ 0
+no_bytes text empty means is = let none = ap length (means.0 is) in omega (arith, none)
+
+pub some_bytes : (text : List ℕ) (empty : Bool) → (IsTrue empty ↔ (text ≡ [])) → empty ≡ false → 0 < length text
+some_bytes [] empty means is = absurd (false≢true (sym is ∙ means.1 refl))
+some_bytes (b ∷ text) empty means is = omega (arith)
+
+pub nothing_opened : (journal : List Event) (said : List ℕ) → length said ≤ 0 → IsOpened journal journal said
+nothing_opened journal [] none = ([], silent, sym (append-nil journal))
+nothing_opened journal (b ∷ said) none = absurd (omega (arith, none))
+
+pub text_opened : (journal journal' : List Event) (said : List ℕ) (answer : TellAnswer) → 0 < length said → journal' ≡ journal ++ Say said answer ∷ []
+    → IsOpened journal journal' said
+text_opened journal journal' [] answer some says = absurd (omega (arith, some))
+text_opened journal journal' (b ∷ said) answer some says = (Say (b ∷ said) answer ∷ [], spoken, says)
+
+only_says_more : {said : List ℕ} {opened : List Event} → Opens said opened → (journal journal' : List Event) → OnlySays (journal ++ opened) journal' → OnlySays journal journal'
+only_says_more silent journal journal' only = subst (λ j. OnlySays j journal') (append-nil journal) only
+only_says_more (spoken {b} {text} {told}) journal journal' (said, grown, are) = (Say (b ∷ text) told ∷ said, grown ∙ append_assoc journal (Say (b ∷ text) told ∷ []) said, are)
+
+pub work_spoken : (name : List ℕ) (journal journal' journal'' : List Event) (prepared : Prepared) (said : List ℕ) (outcome : Outcome) → said ≡ prepared.said
+    → IsOpened journal journal' said → Worked name journal' journal'' prepared outcome → Spoken name journal journal'' prepared outcome
+work_spoken name journal journal' journal'' prepared said OutOfMemory same (opened, opens, grown) only = only_says_more opens journal journal'' (subst (λ j. OnlySays j journal'') grown only)
+work_spoken name journal journal' journal'' prepared said (Done status) same (opened, opens, grown) does =
+    (opened, subst (λ t. Opens t opened) same opens, subst (λ j. DoesHinted name j journal'' prepared (Done status)) grown does)
+work_spoken name journal journal' journal'' prepared said (Unnoted status) same (opened, opens, grown) does =
+    (opened, subst (λ t. Opens t opened) same opens, subst (λ j. DoesHinted name j journal'' prepared (Unnoted status)) grown does)
+
+-- after its variables were set
+
+pub carried : (name : List ℕ) (journal journal' journal'' : List Event) (prepared : Prepared) (children : List Variable) (before after : List HostEvent) (outcome : Outcome)
+    → children ≡ prepared.children → Noted before after (λ events. events ≡ settings (length journal) children) → journal' ≡ journal → Spoken name journal' journal'' prepared outcome
+    → Noted before after (λ events. Carried name journal journal'' prepared events outcome)
+carried name journal journal' journal'' prepared children before after OutOfMemory are (events, grown, set) same only =
+    (events, grown, subst (λ j. OnlySays j journal'') same only)
+carried name journal journal' journal'' prepared children before after (Done status) are (events, grown, set) same does =
+    (events, grown, (set ∙ ap (settings (length journal)) are, subst (λ j. OpensWork name j journal'' prepared (Done status)) same does))
+carried name journal journal' journal'' prepared children before after (Unnoted status) are (events, grown, set) same does =
+    (events, grown, (set ∙ ap (settings (length journal)) are, subst (λ j. OpensWork name j journal'' prepared (Unnoted status)) same does))
+
+pub nothing_carried : (name : List ℕ) (journal journal' : List Event) (prepared : Prepared) (before after : List HostEvent)
+    → Noted before after (λ events. ⊤) → journal' ≡ journal → Noted before after (λ events. Carried name journal journal' prepared events OutOfMemory)
+nothing_carried name journal journal' prepared before after (events, grown, set) same = (events, grown, ([], same ∙ sym (append-nil journal), tt))
+
+-- the whole call
+
+known : {journal journal' : List Event} {F F' : Facts} → F ≡ no_facts → (asks : Asks journal journal' F F') → F' ≡ learn no_facts asks.asked
+known empty asks = asks.facts_grow ∙ ap (λ G. learn G asks.asked) empty
+
+questions_of : {journal journal' : List Event} {F F' : Facts} → F ≡ no_facts → (asks : Asks journal journal' F F') → AreNew no_facts asks.asked
+questions_of empty asks = subst (λ G. AreNew G asks.asked) empty asks.questions
+
+abbrev pub Prepares : Facts → Calling → Option (List ℕ) → List (List ℕ) → ℕ → Prepared → List HostEvent → Type 0
+Prepares F' calling own args seed prepared events = (G : Facts) → Extends F' G → Comes G calling own args seed events prepared
+
+with_hints : {journal mid journal'' : List Event} {F F' : Facts} {notes notes' notes'' : List HostEvent} (calling : Calling) (own : Option (List ℕ)) (args : List (List ℕ)) (seed : ℕ)
+    (prepared : Prepared) (outcome : Outcome) → F ≡ no_facts → Asks journal mid F F' → Noted notes notes' (Prepares F' calling own args seed prepared)
+    → Noted notes' notes'' (λ events. (events ≡ settings (length mid) prepared.children) × OpensWork calling.name mid journal'' prepared outcome)
+    → Compiled journal journal'' notes notes'' calling own args seed outcome
+with_hints {journal} {F' = F'} calling own args seed prepared outcome empty asks (resolved, grown, comes) (set, set_after, (set_is, (opened, opens, does))) = record {
+  asked = asks.asked;
+  said = opened ++ does.did ++ does.hints;
+  resolved = resolved;
+  set = set;
+  questions = questions_of empty asks;
+  journal_grows =
+      does.journal_grows ∙ ap (λ j. j ++ opened ++ does.did ++ does.hints) asks.journal_grows ∙ joined (journal ++ asks.asked) opened does.did does.hints;
+  notes_grow = set_after ∙ ap (λ n. n ++ set) grown;
+  ends =
+      subst (λ events. Ends (learn no_facts asks.asked) (length (journal ++ asks.asked)) calling own args seed outcome resolved events (opened ++ does.did ++ does.hints))
+      (sym (set_is ∙ ap (λ j. settings (length j) prepared.children) asks.journal_grows))
+      (worked opened does.did (subst (λ G. Comes G calling own args seed resolved prepared) (known empty asks) (comes F' (extends_refl F'))) opens does.does does.told);
+}
+
+compiled_by : {journal mid journal'' : List Event} {F F' : Facts} {notes notes' notes'' : List HostEvent} (calling : Calling) (own : Option (List ℕ)) (args : List (List ℕ)) (seed : ℕ)
+    (prepared : Prepared) (outcome : Outcome) → F ≡ no_facts → Asks journal mid F F' → Noted notes notes' (Prepares F' calling own args seed prepared)
+    → Noted notes' notes'' (λ events. Carried calling.name mid journal'' prepared events outcome)
+    → Compiled journal journal'' notes notes'' calling own args seed outcome
+compiled_by calling own args seed prepared (Done status) empty asks prepares carries = with_hints calling own args seed prepared (Done status) empty asks prepares carries
+compiled_by calling own args seed prepared (Unnoted status) empty asks prepares carries = with_hints calling own args seed prepared (Unnoted status) empty asks prepares carries
+compiled_by calling own args seed prepared OutOfMemory empty asks (resolved, grown, comes) (set, set_after, only) = record {
+  asked = asks.asked;
+  said = only.0;
+  resolved = resolved;
+  set = set;
+  questions = questions_of empty asks;
+  journal_grows = only.1 ∙ ap (λ j. j ++ only.0) asks.journal_grows;
+  notes_grow = set_after ∙ ap (λ n. n ++ set) grown;
+  ends = cut_short only.2;
+}
+
+pub compiled_done : {journal mid journal'' : List Event} {F F' : Facts} {notes notes' notes'' : List HostEvent} (calling : Calling) (own : Option (List ℕ)) (args : List (List ℕ)) (seed : ℕ)
+    (prepared : Prepared) (name : List ℕ) (outcome : Outcome) → name ≡ calling.name → F ≡ no_facts → Asks journal mid F F'
+    → Noted notes notes' (Prepares F' calling own args seed prepared) → Noted notes' notes'' (λ events. Carried name mid journal'' prepared events outcome)
+    → Compiled journal journal'' notes notes'' calling own args seed outcome
+compiled_done {mid = mid} {journal'' = journal''} {notes' = notes'} {notes'' = notes''} calling own args seed prepared name outcome named empty asks prepares carries =
+    compiled_by calling own args seed prepared outcome empty asks prepares
+    (subst (λ n. Noted notes' notes'' (λ events. Carried n mid journal'' prepared events outcome)) named carries)
+
+abbrev pub Declined : Facts → Calling → Option (List ℕ) → List (List ℕ) → ℕ → Stop → List HostEvent → Type 0
+Declined F' calling own args seed stop events = (G : Facts) → Extends F' G → IfTold stop (Refuses G calling own args seed events)
+
+refusal_said : {journal mid journal'' : List Event} {F F' : Facts} {notes notes' : List HostEvent} (calling : Calling) (own : Option (List ℕ)) (args : List (List ℕ)) (seed : ℕ)
+    (text : List ℕ) (status : ℕ) → F ≡ no_facts → Asks journal mid F F' → Noted notes notes' (Declined F' calling own args seed (Told text))
+    → TellsStop mid journal'' (Told text) (Done status) → Compiled journal journal'' notes notes' calling own args seed (Done status)
+refusal_said {journal} {F' = F'} {notes = notes} calling own args seed text status empty asks (resolved, grown, refuses) (told, one, says) = record {
+  asked = asks.asked;
+  said = Say text told ∷ [];
+  resolved = resolved;
+  set = [];
+  questions = questions_of empty asks;
+  journal_grows = says ∙ ap (λ j. j ++ Say text told ∷ []) asks.journal_grows;
+  notes_grow = grown ∙ sym (append-nil (notes ++ resolved));
+  ends =
+      subst (λ s. Ends (learn no_facts asks.asked) (length (journal ++ asks.asked)) calling own args seed (Done s) resolved [] (Say text told ∷ [])) (sym one)
+      (refused (subst (λ G. Refuses G calling own args seed resolved text) (known empty asks) (refuses F' (extends_refl F'))));
+}
+
+pub compiled_stopped : {journal mid journal'' : List Event} {F F' : Facts} {notes notes' : List HostEvent} (calling : Calling) (own : Option (List ℕ)) (args : List (List ℕ)) (seed : ℕ)
+    (stop : Stop) (outcome : Outcome) → F ≡ no_facts → Asks journal mid F F' → Noted notes notes' (Declined F' calling own args seed stop)
+    → TellsStop mid journal'' stop outcome → Compiled journal journal'' notes notes' calling own args seed outcome
+compiled_stopped calling own args seed (Told text) (Done status) empty asks declined tells = refusal_said calling own args seed text status empty asks declined tells
+compiled_stopped calling own args seed Memory (Done status) empty asks declined tells = absurd tells
+compiled_stopped calling own args seed stop (Unnoted status) empty asks declined tells = absurd tells
+compiled_stopped {journal} {notes = notes} calling own args seed stop OutOfMemory empty asks (resolved, grown, refuses) same = record {
+  asked = asks.asked;
+  said = [];
+  resolved = resolved;
+  set = [];
+  questions = questions_of empty asks;
+  journal_grows = same ∙ asks.journal_grows ∙ sym (append-nil (journal ++ asks.asked));
+  notes_grow = grown ∙ sym (append-nil (notes ++ resolved));
+  ends = cut_short tt;
+}

@@ -1,0 +1,13 @@
+use Rattle.drv_compile.proofs.Absent.{new_written, none_written, old_written}
+use Rattle.drv_compile.proofs.inputs.overwrites.Goals as goal
+
+pub returns-in_default : goal.returns-in_default
+returns-in_default g c = none_written c.args.inputs.now c.args.output.now _ c.in_default.is
+
+pub returns-in_default-found : goal.returns-in_default-found
+returns-in_default-found g c =
+    new_written c.args.inputs.now c.args.output.now _ c.in_ok-found.found _ _ c.in-Some.is c.in_default-found.is c.in_ok-found.ensures.event
+
+pub returns : goal.returns
+returns g c =
+    old_written c.args.inputs.now c.args.output.now _ _ c.in_ok-found.found _ _ _ c.reaches.result c.in-Some.is c.in-Some-found.is c.in_ok-found.ensures.event c.reaches.ensures

@@ -1,0 +1,56 @@
+use Rattle.drv_compile.specs.Compiles.{Hints, Opens, lacks_program, settings}
+use Rattle.drv_compile.specs.declared.compiling.Outcome.TheVariants.{Done, OutOfMemory, Unnoted}
+use Rattle.drv_compile.specs.declared.compiling.Outcome.{Outcome}
+use Rattle.drv_compile.specs.declared.host.HostEvent.{HostEvent}
+use Rattle.drv_compile.specs.declared.preparing.Prepared.{Prepared}
+use Rattle.drv_compile.specs.declared.stop.Stop.TheVariants.{Memory, Told}
+use Rattle.drv_compile.specs.declared.stop.Stop.{Stop}
+use Rattle.drv_run.specs.Calls.{Does, OnlySays}
+use Rattle.drv_system.specs.declared.event.Event.TheVariants.{Say}
+use Rattle.drv_system.specs.declared.event.Event.{Event}
+use Rattle.drv_system.specs.declared.event.TellAnswer.{TellAnswer}
+use Rattle.std.specs.Prelude.{◌≡◌, List, [], ◌∷◌, ◌++◌, drop, length, ℕ}
+
+-- What a call does after its questions, of two journals. Only private clauses cite it.
+
+-- the hint is said by what was done after so many events
+abbrev pub Hinted : List Event → List Event → ℕ → List ℕ → ℕ → Outcome → Type 0
+Hinted journal journal' before hint status outcome =
+    (hints : List Event) × (journal' ≡ journal ++ hints) × Hints hint status (lacks_program (drop before journal)) outcome hints
+
+-- a work was done, and the hint said by it
+pub record DoesHinted (name : List ℕ) (journal journal' : List Event) (prepared : Prepared) (outcome : Outcome) : Type 0 where
+  pub did : List Event
+  pub hints : List Event
+  pub status : ℕ
+  pub journal_grows : journal' ≡ journal ++ did ++ hints
+  pub does : Does name prepared.work status did
+  pub told : Hints prepared.hint status (lacks_program did) outcome hints
+
+abbrev pub Worked : List ℕ → List Event → List Event → Prepared → Outcome → Type 0
+Worked name journal journal' prepared OutOfMemory = OnlySays journal journal'
+Worked name journal journal' prepared outcome = DoesHinted name journal journal' prepared outcome
+
+-- a text was said first
+abbrev pub IsOpened : List Event → List Event → List ℕ → Type 0
+IsOpened journal journal' said = (opened : List Event) × Opens said opened × (journal' ≡ journal ++ opened)
+
+abbrev pub OpensWork : List ℕ → List Event → List Event → Prepared → Outcome → Type 0
+OpensWork name journal journal' prepared outcome =
+    (opened : List Event) × Opens prepared.said opened × DoesHinted name (journal ++ opened) journal' prepared outcome
+
+abbrev pub Spoken : List ℕ → List Event → List Event → Prepared → Outcome → Type 0
+Spoken name journal journal' prepared OutOfMemory = OnlySays journal journal'
+Spoken name journal journal' prepared outcome = OpensWork name journal journal' prepared outcome
+
+abbrev pub Carried : List ℕ → List Event → List Event → Prepared → List HostEvent → Outcome → Type 0
+Carried name journal journal' prepared events OutOfMemory = OnlySays journal journal'
+Carried name journal journal' prepared events outcome =
+    (events ≡ settings (length journal) prepared.children) × OpensWork name journal journal' prepared outcome
+
+-- why a call ends is said
+abbrev pub TellsStop : List Event → List Event → Stop → Outcome → Type 0
+TellsStop journal journal' stop OutOfMemory = journal' ≡ journal
+TellsStop journal journal' stop (Unnoted status) = ⊥
+TellsStop journal journal' Memory (Done status) = ⊥
+TellsStop journal journal' (Told text) (Done status) = (told : TellAnswer) × (status ≡ 1) × (journal' ≡ journal ++ Say text told ∷ [])

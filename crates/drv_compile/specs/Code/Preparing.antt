@@ -1,0 +1,61 @@
+use Rattle.drv_args.specs.declared.line.Expanded.{Expanded}
+use Rattle.drv_cc.specs.declared.answer.Call.{Call}
+use Rattle.drv_compile.specs.Compiles.{Fails, Performs, question}
+use Rattle.drv_compile.specs.Driven.{Drives, Undriven}
+use Rattle.drv_compile.specs.Inputs.{Overwrites}
+use Rattle.drv_compile.specs.Opening.{opening}
+use Rattle.drv_compile.specs.Runs.{Stops, Works}
+use Rattle.drv_compile.specs.Texts.{gone_text, overwritten_text}
+use Rattle.drv_compile.specs.Words.{told_refusal}
+use Rattle.drv_compile.specs.declared.calling.Calling.{Calling}
+use Rattle.drv_compile.specs.declared.driving.Driven.{Driven}
+use Rattle.drv_compile.specs.declared.host.HostEvent.{HostEvent}
+use Rattle.drv_compile.specs.declared.preparing.Prepared.{Prepared}
+use Rattle.drv_compile.specs.declared.tasks.Task.TheVariants.{Compilation, Question}
+use Rattle.drv_compile.specs.declared.tasks.Task.{Task}
+use Rattle.drv_compile.specs.declared.tasks.Toolchain.{Toolchain}
+use Rattle.drv_run.specs.declared.ending.Ending.TheVariants.{Refused}
+use Rattle.drv_run.specs.declared.ending.Refusal.{Refusal}
+use Rattle.drv_system.specs.Facts.{Facts}
+use Rattle.drv_system.specs.Known.{Is}
+use Rattle.std.specs.Prelude.{◌≡◌, ◌⊎◌, List, [], Some, true, ℕ}
+
+-- The steps of a line that is carried out. Only private clauses cite them.
+
+-- words of the driver are refused
+abbrev pub IsFailure : Facts → List ℕ → Expanded → ℕ → List ℕ → Type 0
+IsFailure F name words seed text = (refusal : Refusal) × Stops F words seed (Refused refusal) × (text ≡ told_refusal name refusal)
+
+-- its output is an input
+abbrev pub IsOverwriting : List ℕ → Call → List HostEvent → List ℕ → Type 0
+IsOverwriting name call events text =
+    (output : List ℕ) × (call.output ≡ Some output) × Overwrites call.inputs call.output events true × (text ≡ overwritten_text name output)
+
+-- what the driver is called with, and its work
+pub record IsPlanned (F : Facts) (calling : Calling) (chain : Toolchain) (call : Call) (given : Expanded) (seed : ℕ) (prepared : Prepared) : Type 0 where
+  pub driven : Driven
+  pub drives : Drives F chain call given driven
+  pub opens : opening F chain.specs driven.line.words driven.children ≡ Is prepared.said
+  pub works : Works F driven.line seed prepared.work
+  pub children : prepared.children ≡ driven.children
+  pub hint : prepared.hint ≡ gone_text calling.name chain.specs calling.machine
+
+abbrev pub IsUnplanned : Facts → Calling → Toolchain → Call → Expanded → ℕ → List ℕ → Type 0
+IsUnplanned F calling chain call given seed text =
+    Undriven F calling chain call given text
+    ⊎ ((driven : Driven) × Drives F chain call given driven × IsFailure F calling.name driven.line seed text)
+
+-- what is done for a question
+abbrev pub IsQuestion : Calling → List ℕ → List ℕ → List (List ℕ) → Prepared → Type 0
+IsQuestion calling specs compiler args prepared =
+    prepared ≡ record { work = question compiler args; children = []; said = []; hint = gone_text calling.name specs calling.machine }
+
+-- what is done for a task
+abbrev pub IsTaskDone : Facts → Calling → List (List ℕ) → Expanded → ℕ → Task → List HostEvent → Prepared → Type 0
+IsTaskDone F calling args given seed (Question specs compiler) events prepared =
+    (events ≡ []) × IsQuestion calling specs compiler args prepared
+IsTaskDone F calling args given seed (Compilation chain call) events prepared = Performs F calling chain call given seed events prepared
+
+abbrev pub IsTaskRefused : Facts → Calling → Expanded → ℕ → Task → List HostEvent → List ℕ → Type 0
+IsTaskRefused F calling given seed (Question specs compiler) events text = ⊥
+IsTaskRefused F calling given seed (Compilation chain call) events text = Fails F calling chain call given seed events text

@@ -1,0 +1,144 @@
+use Rattle.drv_args.specs.declared.line.Expanded.{Expanded}
+use Rattle.drv_cc.specs.declared.answer.Call.{Call}
+use Rattle.drv_cc.specs.declared.answer.Variable.{Variable}
+use Rattle.drv_compile.specs.Decides.{decided}
+use Rattle.drv_compile.specs.Driven.{Drives, Undriven}
+use Rattle.drv_compile.specs.Inputs.{Overwrites, objection}
+use Rattle.drv_compile.specs.Opening.{opening}
+use Rattle.drv_compile.specs.Runs.{Stops, Works}
+use Rattle.drv_compile.specs.Tasks.{Declines, Leads}
+use Rattle.drv_compile.specs.Texts.{gone_text, overwritten_text}
+use Rattle.drv_compile.specs.Words.{RefusesWords, Words, told_refusal}
+use Rattle.drv_compile.specs.declared.calling.Calling.{Calling}
+use Rattle.drv_compile.specs.declared.compiling.Outcome.TheVariants.{Done, OutOfMemory, Unnoted}
+use Rattle.drv_compile.specs.declared.compiling.Outcome.{Outcome}
+use Rattle.drv_compile.specs.declared.deciding.Decision.{Decision}
+use Rattle.drv_compile.specs.declared.driving.Driven.{Driven}
+use Rattle.drv_compile.specs.declared.host.HostEvent.TheVariants.{Set}
+use Rattle.drv_compile.specs.declared.host.HostEvent.{HostEvent}
+use Rattle.drv_compile.specs.declared.preparing.Prepared.{Prepared}
+use Rattle.drv_compile.specs.declared.tasks.Task.TheVariants.{Compilation, Question}
+use Rattle.drv_compile.specs.declared.tasks.Toolchain.{Toolchain}
+use Rattle.drv_core.specs.declared.failure_status.FailureStatus.TheVariants.{GreatestCode}
+use Rattle.drv_run.specs.Calls.{AreSaid, Does}
+use Rattle.drv_run.specs.declared.ending.Ending.TheVariants.{Refused}
+use Rattle.drv_run.specs.declared.ending.Refusal.{Refusal}
+use Rattle.drv_run.specs.declared.work.Telling.TheVariants.{Notices}
+use Rattle.drv_run.specs.declared.work.Work.TheVariants.{CarryOut}
+use Rattle.drv_run.specs.declared.work.Work.{Work}
+use Rattle.drv_system.specs.Asking.{AreNew}
+use Rattle.drv_system.specs.Facts.{Facts, learn, no_facts}
+use Rattle.drv_system.specs.Known.{Is}
+use Rattle.drv_system.specs.declared.event.Event.TheVariants.{Run, Say}
+use Rattle.drv_system.specs.declared.event.Event.{Event}
+use Rattle.drv_system.specs.declared.event.TellAnswer.{TellAnswer}
+use Rattle.drv_words.specs.declared.answers.Answer.TheVariants as answer
+use Rattle.drv_words.specs.declared.answers.Answer.{Answer}
+use Rattle.drv_words.specs.declared.answers.NotStarted.TheVariants.{NotFound}
+use Rattle.drv_words.specs.declared.answers.NotStarted.{NotStarted}
+use Rattle.drv_words.specs.declared.answers.StartAnswer.TheVariants as start
+use Rattle.drv_words.specs.declared.plan.Command.{Command}
+use Rattle.drv_words.specs.declared.plan.Plan.{Plan}
+use Rattle.std.specs.List.{list_any}
+use Rattle.std.specs.Prelude.{◌≡◌, Bool, List, [], ◌∷◌, ◌++◌, None, Option, Some, codes, false, length, map, true, ℕ}
+
+-- A call of gdrv-cc (GCC manual, "Invoking GCC"): what its words ask for, and what the journal has after it.
+
+-- A question to the compiler is the run of a plan that has one command, and its status is the answer.
+abbrev pub one_command : Command → Plan
+one_command command = record {
+  notices = [];
+  jobs = [];
+  link = Some (record { source = None; groups = (command ∷ []) ∷ []; temps = []; marked = []; on_failure = []; output = None });
+}
+
+abbrev pub question : List ℕ → List (List ℕ) → Work
+question compiler args = CarryOut (one_command (record { program = compiler; words = args })) (record { telling = Notices; pass_codes = GreatestCode; window = 1 })
+
+-- A line that is carried out: nothing speaks against it, its output is no input, and the words that the driver is called with denote work.
+pub record Performs (F : Facts) (calling : Calling) (chain : Toolchain) (call : Call) (given : Expanded) (seed : ℕ) (events : List HostEvent) (prepared : Prepared) : Type 0 where
+  pub driven : Driven
+  pub free : objection F calling.name call.inputs ≡ Is []
+  pub apart : Overwrites call.inputs call.output events false
+  pub drives : Drives F chain call given driven
+  pub opens : opening F chain.specs driven.line.words driven.children ≡ Is prepared.said
+  pub works : Works F driven.line seed prepared.work
+  pub children : prepared.children ≡ driven.children
+  pub hint : prepared.hint ≡ gone_text calling.name chain.specs calling.machine
+
+-- or the text of its refusal
+pub data Fails (F : Facts) (calling : Calling) (chain : Toolchain) (call : Call) (given : Expanded) (seed : ℕ) : List HostEvent → List ℕ → Type 0 where
+  objected : {b : ℕ} {text : List ℕ} → objection F calling.name call.inputs ≡ Is (b ∷ text) → Fails F calling chain call given seed [] (b ∷ text)
+  overwriting : {events : List HostEvent} {output : List ℕ} → objection F calling.name call.inputs ≡ Is [] → call.output ≡ Some output
+      → Overwrites call.inputs call.output events true → Fails F calling chain call given seed events (overwritten_text calling.name output)
+  undriven : {events : List HostEvent} {text : List ℕ} → objection F calling.name call.inputs ≡ Is [] → Overwrites call.inputs call.output events false
+      → Undriven F calling chain call given text → Fails F calling chain call given seed events text
+  stopped : {events : List HostEvent} {driven : Driven} {refusal : Refusal} → objection F calling.name call.inputs ≡ Is [] → Overwrites call.inputs call.output events false
+      → Drives F chain call given driven → Stops F driven.line seed (Refused refusal) → Fails F calling chain call given seed events (told_refusal calling.name refusal)
+
+-- What arguments ask for, with what the host was asked: a question to the compiler, a line that is carried out, or a refusal. `own` is where
+-- the spec file of this program lies, if that is known.
+pub data Comes (F : Facts) (calling : Calling) (own : Option (List ℕ)) (args : List (List ℕ)) (seed : ℕ) : List HostEvent → Prepared → Type 0 where
+  asks : {words : Expanded} {decision : Decision} {specs compiler : List ℕ} → Words F calling args words → decided F own words.words ≡ Is decision
+      → Leads decision (Question specs compiler)
+      → Comes F calling own args seed [] (record { work = question compiler args; children = []; said = []; hint = gone_text calling.name specs calling.machine })
+  performs : {words : Expanded} {decision : Decision} {chain : Toolchain} {call : Call} {events : List HostEvent} {prepared : Prepared} → Words F calling args words
+      → decided F own words.words ≡ Is decision → Leads decision (Compilation chain call)
+      → Performs F calling chain call words seed events prepared → Comes F calling own args seed events prepared
+
+pub data Refuses (F : Facts) (calling : Calling) (own : Option (List ℕ)) (args : List (List ℕ)) (seed : ℕ) : List HostEvent → List ℕ → Type 0 where
+  no_words : {text : List ℕ} → RefusesWords F calling args text → Refuses F calling own args seed [] text
+  declines : {words : Expanded} {decision : Decision} {text : List ℕ} → Words F calling args words → decided F own words.words ≡ Is decision
+      → Declines calling decision text → Refuses F calling own args seed [] text
+  fails : {words : Expanded} {decision : Decision} {chain : Toolchain} {text : List ℕ} {call : Call} {events : List HostEvent} → Words F calling args words
+      → decided F own words.words ≡ Is decision → Leads decision (Compilation chain call)
+      → Fails F calling chain call words seed events text → Refuses F calling own args seed events text
+
+-- After a run that did not find a program the call says the hint; where memory lacked for it, the outcome says so.
+abbrev pub is_missing : Answer → Bool
+is_missing (answer.Start (start.NotStarted NotFound)) = true
+is_missing _ = false
+
+abbrev pub is_absent : Event → Bool
+is_absent (Run e) = is_missing e.answer
+is_absent _ = false
+
+abbrev pub lacks_program : List Event → Bool
+lacks_program = list_any is_absent
+
+pub data Hints (hint : List ℕ) (status : ℕ) : Bool → Outcome → List Event → Type 0 where
+  no_hint : Hints hint status false (Done status) []
+  hinted : {told : TellAnswer} → Hints hint status true (Done status) (Say hint told ∷ [])
+  unnoted : Hints hint status true (Unnoted status) []
+
+-- the variables of a line, set after so many events
+abbrev pub settings : ℕ → List Variable → List HostEvent
+settings at = map (Set at)
+
+-- what is said before a work, if there is anything
+pub data Opens : List ℕ → List Event → Type 0 where
+  silent : Opens [] []
+  spoken : {b : ℕ} {text : List ℕ} {told : TellAnswer} → Opens (b ∷ text) (Say (b ∷ text) told ∷ [])
+
+-- What a call did after its questions, with so many events before that. It said the text of its refusal, with the status 1. Or it set the
+-- variables for its children, said what is said first, did its work as `drive` does it, and said the hint. Or it lacked memory, and made and
+-- started nothing.
+pub data Ends (F : Facts) (at : ℕ) (calling : Calling) (own : Option (List ℕ)) (args : List (List ℕ)) (seed : ℕ)
+    : Outcome → List HostEvent → List HostEvent → List Event → Type 0 where
+  refused : {asked : List HostEvent} {text : List ℕ} {told : TellAnswer} → Refuses F calling own args seed asked text
+      → Ends F at calling own args seed (Done 1) asked [] (Say text told ∷ [])
+  worked : {asked : List HostEvent} {prepared : Prepared} (opened did : List Event) {hints : List Event} {status : ℕ} {outcome : Outcome}
+      → Comes F calling own args seed asked prepared → Opens prepared.said opened → Does calling.name prepared.work status did → Hints prepared.hint status (lacks_program did) outcome hints
+      → Ends F at calling own args seed outcome asked (settings at prepared.children) (opened ++ did ++ hints)
+  cut_short : {asked set : List HostEvent} {said : List Event} → AreSaid said → Ends F at calling own args seed OutOfMemory asked set said
+
+-- A call: it asked what it did not know, each thing once, and ends as the answers say.
+pub record Compiled (journal journal' : List Event) (notes notes' : List HostEvent) (calling : Calling) (own : Option (List ℕ)) (args : List (List ℕ)) (seed : ℕ) (outcome : Outcome) : Type 0 where
+  pub asked : List Event
+  pub said : List Event
+  pub resolved : List HostEvent
+  pub set : List HostEvent
+  pub questions : AreNew no_facts asked
+  pub journal_grows : journal' ≡ journal ++ asked ++ said
+  pub notes_grow : notes' ≡ notes ++ resolved ++ set
+  pub ends : Ends (learn no_facts asked) (length (journal ++ asked)) calling own args seed outcome resolved set said

@@ -1,0 +1,39 @@
+use Rattle.drv_cc.specs.declared.refusal.Refusal.TheVariants.{GivenFile, GivenMore, NoArgument, NoInput, NotTaken, UnknownOption}
+use Rattle.drv_cc.specs.declared.refusal.Refusal.{Refusal}
+use Rattle.drv_compile.specs.Texts.{refusal_text}
+use Rattle.drv_words.specs.Bytes.{equals}
+use Rattle.std.specs.List.{ends_with}
+use Rattle.std.specs.Prelude.{◌≡◌, ◌<◌, ◌==◌, List, [], ◌∷◌, ◌++◌, None, Option, Some, codes, get_or, if◌then◌else◌, length, nat_eq, ℕ, ⊤}
+
+-- The text of the refusals of a line, each with the option that an unknown word was meant to be (GCC, "opts-common.cc",
+-- candidates_list_and_hint). That option is among the known ones; which of them is near no definition says.
+
+-- what follows the first = of a word
+abbrev pub after_equals : List ℕ → List ℕ
+after_equals [] = []
+after_equals (b ∷ word) = if b == equals then word else after_equals word
+
+-- an option by its name, with the argument that the word has where it takes one after =
+abbrev pub meant_by : List ℕ → List ℕ → List ℕ
+meant_by word name = if ends_with nat_eq name (codes "=") then name ++ after_equals word else name
+
+abbrev pub MayMean : List (List ℕ) → List ℕ → Option (List ℕ) → Type 0
+MayMean known word None = ⊤
+MayMean known word (Some near) = (place : ℕ) × (place < length known) × (near ≡ meant_by word (get_or known place []))
+
+abbrev pub IsMeant : List (List ℕ) → Refusal → Option (List ℕ) → Type 0
+IsMeant known (UnknownOption word) near = MayMean known word near
+IsMeant known (NoArgument option) near = near ≡ None
+IsMeant known (NotTaken option) near = near ≡ None
+IsMeant known (GivenFile word) near = near ≡ None
+IsMeant known GivenMore near = near ≡ None
+IsMeant known NoInput near = near ≡ None
+
+abbrev pub IsTold : List ℕ → List (List ℕ) → Refusal → List ℕ → Type 0
+IsTold name known refusal line = (near : Option (List ℕ)) × IsMeant known refusal near × (line ≡ refusal_text name refusal near)
+
+-- a line for each refusal
+abbrev pub AreTold : List ℕ → List (List ℕ) → List Refusal → List ℕ → Type 0
+AreTold name known [] text = text ≡ []
+AreTold name known (refusal ∷ refusals) text =
+    (line lines : List ℕ) × IsTold name known refusal line × AreTold name known refusals lines × (text ≡ line ++ lines)

@@ -1,0 +1,134 @@
+use Rattle.drv_cc.specs.declared.answer.Variable.{Variable}
+use Rattle.drv_cc.specs.declared.refusal.Refusal.TheVariants.{GivenFile, GivenMore, NoArgument, NoInput, NotTaken, UnknownOption}
+use Rattle.drv_cc.specs.declared.refusal.Refusal.{Refusal}
+use Rattle.drv_compile.specs.Places.{companion}
+use Rattle.drv_words.specs.Bytes.{at_sign}
+use Rattle.std.specs.Cmp.Lexicographic.{pointwise}
+use Rattle.std.specs.List.{flat_map}
+use Rattle.std.specs.Prelude.{◌==◌, ◌||◌, Bool, List, [], ◌∷◌, ◌++◌, None, Option, Some, codes, if◌then◌else◌, nat_eq, ℕ}
+
+-- What the user reads, in the words of gcc's driver where it has them.
+
+-- a line on standard error: the program's name, what follows, and a newline
+abbrev pub error_line : List ℕ → List ℕ → List ℕ
+error_line name text = name ++ codes ": error: " ++ text ++ codes "\n"
+
+abbrev pub quoted : List ℕ → List ℕ → List ℕ → List ℕ
+quoted before word after = before ++ word ++ after
+
+-- an option without its argument
+abbrev pub is : List ℕ → List ℕ → Bool
+is = pointwise nat_eq
+
+abbrev pub takes_file : List ℕ → Bool
+takes_file option =
+    is option (codes "-o") || is option (codes "-include") || is option (codes "-imacros") || is option (codes "-MF")
+    || is option (codes "--output") || is option (codes "--include") || is option (codes "--imacros")
+
+abbrev pub takes_macro : List ℕ → Bool
+takes_macro option =
+    is option (codes "-D") || is option (codes "-U") || is option (codes "--define-macro") || is option (codes "--undefine-macro")
+
+abbrev pub takes_path : List ℕ → Bool
+takes_path option =
+    is option (codes "-I") || is option (codes "-isystem") || is option (codes "-iquote") || is option (codes "-idirafter")
+    || is option (codes "-isysroot") || is option (codes "--include-directory") || is option (codes "--include-directory-after")
+
+abbrev pub takes_goal : List ℕ → Bool
+takes_goal option = is option (codes "-MT") || is option (codes "-MQ")
+
+abbrev pub lacking : List ℕ → List ℕ
+lacking option =
+    if takes_file option then codes "missing filename after '"
+    else if takes_macro option then codes "macro name missing after '"
+    else if takes_path option then codes "missing path after '"
+    else if takes_goal option then codes "missing makefile target after '"
+    else if is option (codes "-A") || is option (codes "--assert") then codes "assertion missing after '"
+    else codes "missing argument to '"
+
+-- a word that is no option, with the option that was meant, if one is near
+abbrev pub meant : Option (List ℕ) → List ℕ
+meant None = codes "'"
+meant (Some option) = quoted (codes "'; did you mean '") option (codes "'?")
+
+abbrev pub unknown_text : List ℕ → Option (List ℕ) → List ℕ
+unknown_text word near = codes "unrecognized command-line option '" ++ word ++ meant near
+
+-- what the specs of a line give and is no option (GCC, "gcc.cc", do_self_spec)
+abbrev pub given_text : List ℕ → List ℕ
+given_text word =
+    if is word (codes "-") then codes "spec-generated switch is just '-'" else quoted (codes "switch '") word (codes "' does not start with '-'")
+
+abbrev pub fatal_line : List ℕ → List ℕ → List ℕ
+fatal_line name text = name ++ codes ": fatal error: " ++ text ++ codes "\ncompilation terminated.\n"
+
+-- a refusal of the front
+abbrev pub refusal_text : List ℕ → Refusal → Option (List ℕ) → List ℕ
+refusal_text name (UnknownOption word) near = error_line name (unknown_text word near)
+refusal_text name (NoArgument option) near = error_line name (lacking option ++ option ++ codes "'")
+refusal_text name (NotTaken option) near = error_line name (quoted (codes "option '") option (codes "' is not carried out"))
+refusal_text name (GivenFile word) near = fatal_line name (given_text word)
+refusal_text name GivenMore near = error_line name (quoted (codes "the spec files of the line give more than options: 'self_spec' is not one command") [] [])
+refusal_text name NoInput near = name ++ codes ": fatal error: no input files\ncompilation terminated.\n"
+
+-- a file that is not there; of a response file the name is said
+abbrev pub file_said : List ℕ → List ℕ
+file_said [] = []
+file_said (b ∷ path) = if b == at_sign then path else b ∷ path
+
+abbrev pub absent_text : List ℕ → List ℕ → List ℕ
+absent_text name path = error_line name (file_said path ++ codes ": No such file or directory")
+
+-- an output that is an input (GCC, "gcc.cc", process_command)
+abbrev pub overwritten_text : List ℕ → List ℕ → List ℕ
+overwritten_text name output =
+    name ++ codes ": fatal error: input file '" ++ output ++ codes "' is the same as output file\ncompilation terminated.\n"
+
+-- before a run whose commands are shown: what the compiler says of itself, and the switches of a link (GCC manual, "Overall Options", -v)
+abbrev pub line_of : List ℕ → List ℕ
+line_of line = line ++ codes "\n"
+
+abbrev pub switches_line : Variable → List ℕ
+switches_line v = if is v.name (codes "COLLECT_GCC_OPTIONS") then codes "COLLECT_GCC_OPTIONS=" ++ v.value ++ codes "\n" else []
+
+abbrev pub said_text : List (List ℕ) → List Variable → List ℕ
+said_text lines children = flat_map line_of lines ++ flat_map switches_line children
+
+-- the command that writes the spec file of a machine
+abbrev pub writing : List ℕ → List ℕ → List ℕ
+writing specs machine = codes "'gdrv-write-specs -o " ++ specs ++ codes " " ++ machine ++ codes "' writes it"
+
+-- a file that this command writes, and that is not there or is not what it writes
+abbrev pub unwritten_text : List ℕ → List ℕ → List ℕ → List ℕ → List ℕ → List ℕ
+unwritten_text name before path specs machine = error_line name (quoted before path (codes "'; ") ++ writing specs machine)
+
+-- after a run that did not find a program
+abbrev pub gone_text : List ℕ → List ℕ → List ℕ → List ℕ
+gone_text name specs machine = name ++ codes ": note: where the compiler of the spec file is gone, " ++ writing specs machine ++ codes " anew\n"
+
+-- The rest of what is refused.
+
+-- a response file that is there
+abbrev pub unread_text : List ℕ → List ℕ → List ℕ
+unread_text name path = error_line name (quoted (codes "response file '") path (codes "' cannot be read"))
+
+-- a variable that gcc's driver takes (GCC manual, "Environment Variables")
+abbrev pub variable_text : List ℕ → List ℕ
+variable_text name = error_line name (codes "variable 'GCC_EXEC_PREFIX' is not carried out")
+
+-- no spec file, where the place of the program isn't known
+abbrev pub no_place_text : List ℕ → List ℕ
+no_place_text name =
+    error_line name (codes "where this program lies is not known (is /proc there?), and GDRV_CC_SPECS names no spec file")
+
+-- a spec file that isn't where it should be
+abbrev pub no_specs_text : List ℕ → List ℕ → List ℕ → List ℕ
+no_specs_text name path machine = unwritten_text name (codes "there is no spec file '") path path machine
+
+-- a file beside it that names no compiler
+abbrev pub no_compiler_text : List ℕ → List ℕ → List ℕ → List ℕ
+no_compiler_text name specs machine = unwritten_text name (codes "no compiler is named by '") (companion specs (codes ".gcc")) specs machine
+
+-- a file that is missing or not whole
+abbrev pub damaged_text : List ℕ → List ℕ → List ℕ → List ℕ → List ℕ
+damaged_text name path specs machine = unwritten_text name (codes "missing or damaged file '") path specs machine

@@ -1,0 +1,88 @@
+use Rattle.drv_args.specs.Expansion.{Expands, Refuses as RefusesExpansion, file_named}
+use Rattle.drv_args.specs.declared.fault.ArgsFault.{ArgsFault}
+use Rattle.drv_args.specs.declared.line.Expanded.{Expanded}
+use Rattle.drv_c99.specs.Front.{front_of}
+use Rattle.drv_c99.specs.declared.fault.C99Fault.{C99Fault}
+use Rattle.drv_compile.specs.Texts.{error_line, unread_text}
+use Rattle.drv_compile.specs.declared.calling.Calling.{Calling}
+use Rattle.drv_compile.specs.declared.calling.Front.TheVariants.{C99, Gcc}
+use Rattle.drv_compile.specs.declared.calling.Front.{Front}
+use Rattle.drv_compile.specs.declared.stop.Stop.TheVariants.{Memory, Told}
+use Rattle.drv_compile.specs.declared.stop.Stop.{Stop}
+use Rattle.drv_run.specs.Texts.{refusal_text}
+use Rattle.drv_run.specs.declared.ending.Ending.TheVariants.{Done, OutOfMemory, Refused}
+use Rattle.drv_run.specs.declared.ending.Ending.{Ending}
+use Rattle.drv_run.specs.declared.ending.Refusal.TheVariants as refusal
+use Rattle.drv_run.specs.declared.ending.Refusal.{Refusal}
+use Rattle.drv_system.specs.Facts.{Facts, read_of}
+use Rattle.drv_system.specs.Known.{◌>>=◌, Is, Known, asked}
+use Rattle.drv_system.specs.declared.event.ReadAnswer.TheVariants.{Failed, Missing, Read, TooLarge}
+use Rattle.drv_system.specs.declared.event.ReadAnswer.{ReadAnswer}
+use Rattle.std.specs.Prelude.{◌≡◌, Bool, Err, List, [], ◌∷◌, ◌++◌, None, Ok, Option, Result, Some, codes, ℕ}
+
+-- The words of a call, over facts: response files expanded, of which none may be there and not be readable, and the words of c99 turned into
+-- gcc's (GCC manual, "Overall Options", @file; POSIX, c99).
+
+-- the path of a response file that a word still names, since it can't be read
+abbrev pub if_unread : List ℕ → ReadAnswer → Option (List ℕ)
+if_unread path (Read text) = None
+if_unread path Missing = None
+if_unread path Failed = Some path
+if_unread path TooLarge = None
+
+abbrev pub unread_at : Facts → Option (List ℕ) → Known (Option (List ℕ))
+unread_at F None = Is None
+unread_at F (Some path) = asked (read_of F path) >>= λ answer. Is (if_unread path answer)
+
+abbrev pub or_later : Option (List ℕ) → Known (Option (List ℕ)) → Known (Option (List ℕ))
+or_later None later = later
+or_later (Some path) later = Is (Some path)
+
+abbrev pub first_unread : Facts → List (List ℕ) → Known (Option (List ℕ))
+first_unread F [] = Is None
+first_unread F (word ∷ words) = unread_at F (file_named word) >>= λ path. or_later path (first_unread F words)
+
+-- the words of a front
+abbrev pub with_words : Bool → Result (List (List ℕ)) C99Fault → Result Expanded C99Fault
+with_words from_file (Ok words) = Ok (record { words = words; from_file = from_file })
+with_words from_file (Err fault) = Err fault
+
+abbrev pub fronted : Front → Expanded → Result Expanded C99Fault
+fronted Gcc expanded = Ok expanded
+fronted C99 expanded = with_words expanded.from_file (front_of expanded.words)
+
+pub record Words (F : Facts) (calling : Calling) (args : List (List ℕ)) (words : Expanded) : Type 0 where
+  pub expanded : Expanded
+  pub expands : Expands F 2000 args (Ok expanded)
+  pub readable : first_unread F expanded.words ≡ Is None
+  pub fronts : fronted calling.front expanded ≡ Ok words
+
+-- what is told of a refusal of the driver: that of c99 has its name in its text
+abbrev pub told_refusal : List ℕ → Refusal → List ℕ
+told_refusal name (refusal.C99 fault) = refusal_text (refusal.C99 fault) ++ codes "\n"
+told_refusal name (refusal.Args fault) = error_line name (refusal_text (refusal.Args fault))
+told_refusal name (refusal.Specs fault) = error_line name (refusal_text (refusal.Specs fault))
+told_refusal name (refusal.Plan fault) = error_line name (refusal_text (refusal.Plan fault))
+
+-- how a call ends before its work that the driver would end so
+abbrev pub stop_of : List ℕ → Ending → Stop
+stop_of name (Refused refusal) = Told (told_refusal name refusal)
+stop_of name (Done status) = Memory
+stop_of name OutOfMemory = Memory
+
+-- The text of the refusal in their place: that response files aren't expanded, that one can't be read, or that c99 refuses the words.
+abbrev pub IsUnexpanded : Facts → List ℕ → List (List ℕ) → List ℕ → Type 0
+IsUnexpanded F name args text = (fault : ArgsFault) × RefusesExpansion F 2000 args fault × (text ≡ told_refusal name (refusal.Args fault))
+
+abbrev pub IsUnread : Facts → List ℕ → List (List ℕ) → List ℕ → Type 0
+IsUnread F name words text = (path : List ℕ) × (first_unread F words ≡ Is (Some path)) × (text ≡ unread_text name path)
+
+abbrev pub IsUnfronted : Calling → Expanded → List ℕ → Type 0
+IsUnfronted calling expanded text =
+    (fault : C99Fault) × (fronted calling.front expanded ≡ Err fault) × (text ≡ told_refusal calling.name (refusal.C99 fault))
+
+pub data RefusesWords (F : Facts) (calling : Calling) (args : List (List ℕ)) (text : List ℕ) : Type 0 where
+  not_expanded : IsUnexpanded F calling.name args text → RefusesWords F calling args text
+  not_readable : {expanded : Expanded} → Expands F 2000 args (Ok expanded) → IsUnread F calling.name expanded.words text → RefusesWords F calling args text
+  not_fronted : {expanded : Expanded} → Expands F 2000 args (Ok expanded) → first_unread F expanded.words ≡ Is None → IsUnfronted calling expanded text
+      → RefusesWords F calling args text

@@ -1,0 +1,179 @@
+//! What the driver is called with for a line.
+
+ghost use Rattle.drv_compile.specs.Driven.{Drives, IsAnswered, IsCalled, IsDamaged, IsDenied};
+ghost use Rattle.drv_compile.specs.Driven.{IsUnanswered, Undriven, answer_of, driver_words};
+ghost use Rattle.drv_compile.specs.Tasks.{IfTold};
+ghost use Rattle.drv_system.specs.Asking.{Extends};
+ghost use Rattle.drv_system.specs.Code.Asked.{Asked};
+ghost use Rattle.drv_system.specs.Facts.{Facts};
+ghost use Rattle.drv_system.specs.Known.{Is};
+ghost use Rattle.std.specs.Prelude.{◌≡◌, IfOk, MatchResult, Ok};
+
+use crate::calling::Calling;
+use crate::expanding::stop_of;
+use crate::parts::{Texts, texts_asked};
+use crate::self_specs::answer_given;
+use crate::stop::Stop;
+use crate::tasks::Toolchain;
+use crate::telling::refusals_text;
+use crate::wording::damaged_text;
+use drv_args::Expanded;
+use drv_cc::{Answer, Call, Variable};
+use drv_system::{Outside, System};
+use drv_words::{Listing, Word};
+use std::alloc::{AllocError, Global};
+
+/// What the driver is called with.
+#[derive(Drop)]
+pub(crate) struct Driven {
+    /// The driver's words.
+    pub(crate) line: Expanded,
+    /// The variables that are set for its children.
+    pub(crate) children: Listing<Variable>,
+}
+
+/// The driver's words for a line: the spec file, that a front precedes it, and those of the front.
+fn driver_words(
+    alloc: Global,
+    path: &[u8],
+    words: Listing<Word>,
+) -> Result<Listing<Word>, AllocError>
+    ensures { IfOk result (λ all. all ≡ driver_words path.now words) }
+{
+    let mut option = Word::from_bytes(alloc, b"-specs=")?;
+    option.extend_from_slice(path)?;
+    let mut all = Vec::new(alloc);
+    all.push(option)?;
+    all.push(Word::from_bytes(alloc, b"--gdrv-front")?)?;
+    all.append(&mut words.into_vec())?;
+    Ok(Listing::from_vec(all))
+}
+
+/// What the driver is called with for a line by itself, with the file that has its texts.
+///
+/// # Errors
+/// The text about a file that is missing or not whole.
+fn called<S: System>(
+    alloc: Global,
+    calling: &Calling,
+    specs: &[u8],
+    call: Call,
+    given: &Expanded,
+    outside: &mut Outside<'_, S>,
+) -> Result<Driven, Stop>
+    ensures asks { Asked S.events outside.old outside.new }
+    ensures calls { (F : Facts) → Extends outside.new.facts.now F
+        → MatchResult result (λ driven. IsCalled F specs.now call given.now driven)
+        (λ stop. IfTold stop (IsDamaged F calling.now specs.now call)) }
+{
+    let texts = texts_asked(alloc, specs, call.words.as_slice(), call.stages, outside)?;
+    match texts {
+        Texts::Whole(path) => {
+            let from_file = given.from_file;
+            let words = driver_words(alloc, path.as_bytes(), call.words)?;
+            Ok(Driven {
+                line: Expanded { words, from_file },
+                children: call.children,
+            })
+        }
+        Texts::Damaged(path) => {
+            let name = calling.name.as_bytes();
+            let machine = calling.machine.as_bytes();
+            let text = damaged_text(alloc, name, path.as_bytes(), specs, machine)?;
+            Err(Stop::Told(text))
+        }
+    }
+}
+
+/// What the spec files of a line give it.
+///
+/// # Errors
+/// The text of the refusal of one of them.
+fn answer<S: System>(
+    alloc: Global,
+    name: &[u8],
+    chain: &Toolchain,
+    given: &Expanded,
+    first: &Driven,
+    outside: &mut Outside<'_, S>,
+) -> Result<Option<Answer>, Stop>
+    ensures asks { Asked S.events outside.old outside.new }
+    ensures answers { (F : Facts) → Extends outside.new.facts.now F
+        → MatchResult result
+        (λ answer. answer_of F chain.now given.now first.now ≡ Is (Ok answer))
+        (λ stop. IfTold stop (IsUnanswered F name.now chain.now given.now first.now)) }
+{
+    match answer_given(
+        alloc,
+        chain.specs.as_bytes(),
+        &chain.around,
+        chain.known.as_bytes(),
+        given.words.as_slice(),
+        &first.line,
+        outside,
+    ) {
+        Ok(answer) => Ok(answer),
+        Err(ending) => {
+            let stop = stop_of(alloc, name, &ending)?;
+            Err(stop)
+        }
+    }
+}
+
+/// What the driver is called with by what the spec files of a line gave it.
+///
+/// # Errors
+/// The text of the refusal of what they gave.
+fn answered<S: System>(
+    alloc: Global,
+    calling: &Calling,
+    chain: &Toolchain,
+    answer: Option<Answer>,
+    given: &Expanded,
+    first: Driven,
+    outside: &mut Outside<'_, S>,
+) -> Result<Driven, Stop>
+    ensures asks { Asked S.events outside.old outside.new }
+    ensures drives { (F : Facts) → Extends outside.new.facts.now F
+        → MatchResult result
+        (λ driven. IsAnswered F chain.now.specs given.now first answer driven)
+        (λ stop. IfTold stop (IsDenied F calling.now chain.now answer)) }
+{
+    match answer {
+        Some(Answer::Run(call)) => {
+            called(alloc, calling, chain.specs.as_bytes(), call, given, outside)
+        }
+        Some(Answer::Refuse(refusals)) => {
+            let name = calling.name.as_bytes();
+            let known = chain.known.as_bytes();
+            let text = refusals_text(alloc, name, known, refusals.as_slice())?;
+            Err(Stop::Told(text))
+        }
+        Some(Answer::Ask) => Ok(first),
+        None => Ok(first),
+    }
+}
+
+/// What the driver is called with for a line, with the options that its spec files give it. It asks
+/// the system only where the table has no answer.
+///
+/// # Errors
+/// The text of a refusal.
+#[tactic(auto, using(drv_system::proofs::AskedCalls::asked_further))]
+pub(crate) fn driver_call<S: System>(
+    alloc: Global,
+    calling: &Calling,
+    chain: &Toolchain,
+    call: Call,
+    given: &Expanded,
+    outside: &mut Outside<'_, S>,
+) -> Result<Driven, Stop>
+    ensures asks { Asked S.events outside.old outside.new }
+    ensures drives { (F : Facts) → Extends outside.new.facts.now F
+        → MatchResult result (λ driven. Drives F chain.now call given.now driven)
+        (λ stop. IfTold stop (Undriven F calling.now chain.now call given.now)) }
+{
+    let first = called(alloc, calling, chain.specs.as_bytes(), call, given, outside)?;
+    let answer = answer(alloc, calling.name.as_bytes(), chain, given, &first, outside)?;
+    answered(alloc, calling, chain, answer, given, first, outside)
+}

@@ -1,0 +1,194 @@
+//! The words of a call.
+
+ghost use Rattle.drv_args.specs.Expansion.{Expands, file_named};
+ghost use Rattle.drv_c99.specs.declared.fault.C99Fault.TheVariants as c99_fault;
+ghost use Rattle.drv_compile.specs.Tasks.{IfTold};
+ghost use Rattle.drv_compile.specs.Words.{IsUnexpanded, IsUnfronted, IsUnread, RefusesWords};
+ghost use Rattle.drv_compile.specs.Words.{Words, first_unread, fronted, if_unread, stop_of};
+ghost use Rattle.drv_compile.specs.Words.{unread_at};
+ghost use Rattle.drv_search.specs.Code.Telling.{Tells};
+ghost use Rattle.drv_system.specs.Asking.{Extends};
+ghost use Rattle.drv_system.specs.Code.Asked.{Asked};
+ghost use Rattle.drv_system.specs.Facts.{Facts};
+ghost use Rattle.drv_words.specs.Gives.{Gives};
+ghost use Rattle.drv_system.specs.Known.{Is};
+ghost use Rattle.std.specs.Option.{option_copied};
+ghost use Rattle.std.specs.Prelude.{◌≡◌, IfOk, MatchResult, None, Ok};
+
+use crate::calling::{Calling, Front};
+use crate::stop::Stop;
+use crate::wording::{told_refusal, unread_text};
+use drv_args::{Expanded, expand};
+use drv_c99::C99Fault;
+use drv_run::Ending;
+use drv_system::{Outside, ReadAnswer, System};
+use drv_words::{Listing, Word};
+use std::alloc::{AllocError, Global};
+
+/// The path of the response file that a word names.
+fn file_named(word: &[u8]) -> Option<&[u8]>
+    ensures { option_copied result ≡ file_named word.now }
+{
+    match word {
+        [b'@', path @ ..] if !path.is_empty() => Some(path),
+        _ => None,
+    }
+}
+
+/// The path of a file that can't be read.
+fn if_unread(path: Word, answer: &ReadAnswer) -> Option<Word>
+    ensures { result ≡ if_unread path answer.now }
+{
+    match answer {
+        ReadAnswer::Failed => Some(path),
+        ReadAnswer::Read(_) | ReadAnswer::Missing | ReadAnswer::TooLarge => None,
+    }
+}
+
+/// The path of a response file that is there and can't be read, if there is a path.
+fn unread_at<S: System>(
+    alloc: Global,
+    path: Option<&[u8]>,
+    outside: &mut Outside<'_, S>,
+) -> Result<Option<Word>, AllocError>
+    ensures asks { Asked S.events outside.old outside.new }
+    ensures path { Tells outside.new result (λ F. unread_at F (option_copied path.entry)) }
+{
+    let Some(path) = path else {
+        return Ok(None);
+    };
+    let path = Word::from_bytes(alloc, path)?;
+    outside.facts.read(outside.sys, &path)?;
+    let answer = outside.facts.read_answer(&path);
+    Ok(if_unread(path, answer))
+}
+
+/// The path of the first response file that words name and that can't be read.
+#[tactic(auto, using(drv_system::proofs::AskedCalls::asked_further))]
+fn first_unread<S: System>(
+    alloc: Global,
+    words: &[Word],
+    outside: &mut Outside<'_, S>,
+) -> Result<Option<Word>, AllocError>
+    ensures asks { Asked S.events outside.old outside.new }
+    ensures path { Tells outside.new result (λ F. first_unread F words.now) }
+{
+    for word in words {
+        let unread = unread_at(alloc, file_named(word.as_bytes()), outside)?;
+        if unread.is_some() {
+            return Ok(unread);
+        }
+    }
+    Ok(None)
+}
+
+/// The words of gcc for those of a front.
+fn fronted(alloc: Global, front: Front, expanded: Expanded) -> Result<Expanded, C99Fault>
+    ensures { Gives c99_fault.Memory (λ words. words) result (fronted front expanded) }
+{
+    match front {
+        Front::Gcc => Ok(expanded),
+        Front::C99 => {
+            let from_file = expanded.from_file;
+            let words = drv_c99::front(alloc, expanded.words.as_slice())?;
+            Ok(Expanded { words, from_file })
+        }
+    }
+}
+
+/// Why a call ends that the driver would end so.
+pub(crate) fn stop_of(alloc: Global, name: &[u8], ending: &Ending) -> Result<Stop, AllocError>
+    ensures { IfOk result (λ stop. stop ≡ stop_of name.now ending.now) }
+{
+    match ending {
+        Ending::Refused(refusal) => Ok(Stop::Told(told_refusal(alloc, name, refusal)?)),
+        Ending::Done(_) | Ending::OutOfMemory => Ok(Stop::Memory),
+    }
+}
+
+/// Arguments with their response files expanded.
+///
+/// # Errors
+/// What is told of their refusal.
+fn expansion<S: System>(
+    alloc: Global,
+    name: &[u8],
+    args: &Listing<Word>,
+    outside: &mut Outside<'_, S>,
+) -> Result<Expanded, Stop>
+    ensures asks { Asked S.events outside.old outside.new }
+    ensures gives { (F : Facts) → Extends outside.new.facts.now F
+        → MatchResult result (λ expanded. Expands F 2000 args.now (Ok expanded))
+        (λ stop. IfTold stop (IsUnexpanded F name.now args.now)) }
+{
+    let args = args.clone()?;
+    match expand(alloc, args, outside.sys, outside.facts) {
+        Ok(expanded) => Ok(expanded),
+        Err(fault) => {
+            let stop = stop_of(alloc, name, &Ending::from(fault))?;
+            Err(stop)
+        }
+    }
+}
+
+/// Refuses words of which one names a response file that can't be read.
+///
+/// # Errors
+/// What is told of the first such file.
+fn refuse_unread<S: System>(
+    alloc: Global,
+    name: &[u8],
+    words: &[Word],
+    outside: &mut Outside<'_, S>,
+) -> Result<(), Stop>
+    ensures asks { Asked S.events outside.old outside.new }
+    ensures gives { (F : Facts) → Extends outside.new.facts.now F
+        → MatchResult result (λ _. first_unread F words.now ≡ Is None)
+        (λ stop. IfTold stop (IsUnread F name.now words.now)) }
+{
+    let unread = first_unread(alloc, words, outside)?;
+    let Some(path) = unread else {
+        return Ok(());
+    };
+    let text = unread_text(alloc, name, path.as_bytes())?;
+    Err(Stop::Told(text))
+}
+
+/// The words of gcc for those of the call's front.
+///
+/// # Errors
+/// What is told of their refusal.
+fn gcc_words(alloc: Global, calling: &Calling, expanded: Expanded) -> Result<Expanded, Stop>
+    ensures { MatchResult result (λ words. fronted calling.now.front expanded ≡ Ok words)
+        (λ stop. IfTold stop (IsUnfronted calling.now expanded)) }
+{
+    match fronted(alloc, calling.front, expanded) {
+        Ok(words) => Ok(words),
+        Err(fault) => {
+            let stop = stop_of(alloc, calling.name.as_bytes(), &Ending::from(fault))?;
+            Err(stop)
+        }
+    }
+}
+
+/// The words of a call: response files expanded, and those of c99 turned into gcc's.
+///
+/// # Errors
+/// What is told of their refusal.
+#[tactic(auto, using(drv_system::proofs::AskedCalls::asked_further))]
+pub(crate) fn line_words<S: System>(
+    alloc: Global,
+    calling: &Calling,
+    args: &Listing<Word>,
+    outside: &mut Outside<'_, S>,
+) -> Result<Expanded, Stop>
+    ensures asks { Asked S.events outside.old outside.new }
+    ensures gives { (F : Facts) → Extends outside.new.facts.now F
+        → MatchResult result (λ words. Words F calling.now args.now words)
+        (λ stop. IfTold stop (RefusesWords F calling.now args.now)) }
+{
+    let name = calling.name.as_bytes();
+    let expanded = expansion(alloc, name, args, outside)?;
+    refuse_unread(alloc, name, expanded.words.as_slice(), outside)?;
+    gcc_words(alloc, calling, expanded)
+}

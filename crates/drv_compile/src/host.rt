@@ -1,0 +1,43 @@
+//! What a call asks of its machine beside what a driver asks.
+
+ghost use Rattle.drv_compile.specs.declared.host.HostEvent.TheVariants.{Resolved, Set};
+ghost use Rattle.std.specs.Prelude.{◌≡◌, ◌∷◌, ◌++◌, [], IfOk, List, OnErr, OnOk, length};
+
+use drv_cc::Variable;
+use drv_system::System;
+use drv_words::Word;
+use std::alloc::AllocError;
+
+/// One call of a host: its argument, then its answer.
+#[derive(Drop)]
+pub enum HostEvent {
+    /// The path of the file that a name leads to was asked for, if there is one.
+    Resolved(Word, Option<Word>),
+    /// After so many events of the system this variable was set for the children that are started
+    /// from then on.
+    Set(usize, Variable),
+}
+
+/// What a call of `gdrv-cc` asks of its machine beside what a driver asks of a system.
+///
+/// Each call adds one event. A call that answers `AllocError` adds none, and has set nothing.
+pub trait Host<S: System> {
+    ghost use Rattle.drv_compile.specs.declared.host.HostEvent.{HostEvent};
+
+    // the events so far, the first one first
+    ghost notes: { Self → List HostEvent };
+
+    /// Asks for the path of the file that a name leads to, links followed: two names of one file
+    /// have one path.
+    fn resolved(&mut self, name: &Word) -> Result<Option<Word>, AllocError>
+        ensures event { IfOk result (λ path. notes self.new
+            ≡ notes self.old ++ Resolved name.now path ∷ []) }
+        ensures memory { OnErr result (notes self.new ≡ notes self.old) };
+
+    /// Sets a variable for the children that the system starts from now on.
+    fn set_for_children(&mut self, sys: &mut S, variable: &Variable) -> Result<(), AllocError>
+        ensures event { OnOk result (notes self.new
+            ≡ notes self.old ++ Set (length (S.events sys.old)) variable.now ∷ []) }
+        ensures memory { OnErr result (notes self.new ≡ notes self.old) }
+        ensures unchanged { S.events sys.new ≡ S.events sys.old };
+}

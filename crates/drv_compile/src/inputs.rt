@@ -1,0 +1,115 @@
+//! What is asked of a line that is carried out, before anything is started.
+
+ghost use Rattle.drv_compile.specs.Inputs.{Noted, Overwrites, Reaches, absent_by, absent_of};
+ghost use Rattle.drv_compile.specs.Inputs.{is_at, objection};
+ghost use Rattle.drv_search.specs.Code.Telling.{Tells};
+ghost use Rattle.drv_system.specs.Code.Asked.{Asked};
+ghost use Rattle.std.specs.Prelude.{◌≡◌, ◌++◌, IfOk, OnOk};
+
+use crate::deciding::variable;
+use crate::host::Host;
+use crate::wording::{add_absent, variable_text};
+use drv_system::{Outside, PathKind, System};
+use drv_words::Word;
+use std::alloc::{AllocError, Global};
+
+/// Adds what is told of an input, if it isn't there.
+fn add_if_absent(
+    text: &mut Word,
+    name: &[u8],
+    path: &[u8],
+    kind: PathKind,
+) -> Result<(), AllocError>
+    ensures { OnOk result (text.new ≡ text.old ++ absent_by name.now path.now kind) }
+{
+    match kind {
+        PathKind::Missing => add_absent(text, name, path),
+        PathKind::Plain | PathKind::Dir | PathKind::Other => Ok(()),
+    }
+}
+
+/// What is told of the inputs that are not there.
+#[tactic(auto, using(drv_system::proofs::AskedCalls::asked_none))]
+fn absent<S: System>(
+    alloc: Global,
+    name: &[u8],
+    inputs: &[Word],
+    outside: &mut Outside<'_, S>,
+) -> Result<Word, AllocError>
+    ensures asks { Asked S.events outside.old outside.new }
+    ensures text { Tells outside.new result (λ F. absent_of F name.now inputs.now) }
+{
+    let mut text = Word::empty(alloc);
+    for input in inputs {
+        let kind = outside.facts.kind(outside.sys, input)?;
+        add_if_absent(&mut text, name, input.as_bytes(), kind)?;
+    }
+    Ok(text)
+}
+
+/// What speaks against a line: a variable that gcc's driver takes, then inputs that are not there.
+/// There is no text where nothing does.
+#[tactic(auto, using(drv_system::proofs::AskedCalls::asked_further))]
+pub(crate) fn objection<S: System>(
+    alloc: Global,
+    name: &[u8],
+    inputs: &[Word],
+    outside: &mut Outside<'_, S>,
+) -> Result<Word, AllocError>
+    ensures asks { Asked S.events outside.old outside.new }
+    ensures text { Tells outside.new result (λ F. objection F name.now inputs.now) }
+{
+    let value = variable(alloc, b"GCC_EXEC_PREFIX", outside)?;
+    if value.is_some() {
+        return variable_text(alloc, name);
+    }
+    absent(alloc, name, inputs, outside)
+}
+
+/// Whether what a name leads to is the file at a path.
+fn is_at(path: &Word, found: &Option<Word>) -> bool
+    ensures { result ≡ is_at path.now found.now }
+{
+    match found {
+        Some(found) => found.as_bytes() == path.as_bytes(),
+        None => false,
+    }
+}
+
+/// Whether an input leads to the file at a path. The host is asked for each input up to the first
+/// that does.
+fn reaches<S: System, H: Host<S>>(
+    path: &Word,
+    inputs: &[Word],
+    host: &mut H,
+) -> Result<bool, AllocError>
+    ensures { Noted (H.notes host.old) (H.notes host.new)
+        (λ events. IfOk result (λ found. Reaches path.now inputs.now events found)) }
+{
+    for input in inputs {
+        let found = host.resolved(input)?;
+        if is_at(path, &found) {
+            return Ok(true);
+        }
+    }
+    Ok(false)
+}
+
+/// Whether an output is an input, by whatever path (GCC, "gcc.cc", process_command).
+pub(crate) fn overwrites<S: System, H: Host<S>>(
+    inputs: &[Word],
+    output: &Option<Word>,
+    host: &mut H,
+) -> Result<bool, AllocError>
+    ensures { Noted (H.notes host.old) (H.notes host.new)
+        (λ events. IfOk result (λ found. Overwrites inputs.now output.now events found)) }
+{
+    let Some(output) = output else {
+        return Ok(false);
+    };
+    let found = host.resolved(output)?;
+    let Some(path) = found else {
+        return Ok(false);
+    };
+    reaches(&path, inputs, host)
+}

@@ -1,0 +1,294 @@
+//! What a call does, before it is done.
+
+ghost use Rattle.drv_compile.specs.Compiles.{Comes, Fails, Performs, Refuses};
+ghost use Rattle.drv_compile.specs.Compiles.{one_command, question};
+ghost use Rattle.drv_compile.specs.Inputs.{Noted, Overwrites};
+ghost use Rattle.drv_compile.specs.Code.Preparing.{IsFailure, IsOverwriting, IsPlanned};
+ghost use Rattle.drv_compile.specs.Code.Preparing.{IsQuestion, IsTaskDone, IsTaskRefused};
+ghost use Rattle.drv_compile.specs.Code.Preparing.{IsUnplanned};
+ghost use Rattle.drv_compile.specs.Runs.{Works};
+ghost use Rattle.drv_compile.specs.Tasks.{IfTold};
+ghost use Rattle.drv_run.specs.Calls.{HasWindow};
+ghost use Rattle.drv_system.specs.Asking.{Extends};
+ghost use Rattle.drv_system.specs.Code.Asked.{Asked};
+ghost use Rattle.drv_system.specs.Facts.{Facts};
+ghost use Rattle.std.specs.Prelude.{◌≡◌, IfOk, MatchResult, false};
+
+use crate::calling::Calling;
+use crate::deciding::decided;
+use crate::driving::driver_call;
+use crate::expanding::{line_words, stop_of};
+use crate::host::Host;
+use crate::inputs::{objection, overwrites};
+use crate::running::work_of_words;
+use crate::speaking::opening;
+use crate::stop::Stop;
+use crate::tasks::{Task, Toolchain, task_of};
+use crate::wording::{gone, overwritten};
+use drv_args::Expanded;
+use drv_cc::{Call, Variable};
+use drv_core::FailureStatus;
+use drv_run::{Manner, Telling, Work};
+use drv_system::{Outside, System};
+use drv_words::{Command, Group, Job, Listing, Plan, Word};
+use std::alloc::{AllocError, Global};
+
+/// What a call does.
+#[derive(Drop)]
+pub(crate) struct Prepared {
+    /// Its work.
+    pub(crate) work: Work,
+    /// The variables that are set for its children.
+    pub(crate) children: Listing<Variable>,
+    /// What is said before it.
+    pub(crate) said: Word,
+    /// What is said after a run that did not find a program.
+    pub(crate) hint: Word,
+}
+
+/// The plan that has one command.
+fn one_command(alloc: Global, command: Command) -> Result<Plan, AllocError>
+    ensures { IfOk result (λ plan. plan ≡ one_command command) }
+{
+    let mut commands = Vec::new(alloc);
+    commands.push(command)?;
+    let mut groups = Listing::new(alloc);
+    if let Some(group) = Group::from_vec(commands) {
+        groups.push(group)?;
+    }
+    let link = Job {
+        source: None,
+        groups,
+        temps: Listing::new(alloc),
+        marked: Listing::new(alloc),
+        on_failure: Listing::new(alloc),
+        output: None,
+    };
+    Ok(Plan {
+        notices: Listing::new(alloc),
+        jobs: Listing::new(alloc),
+        link: Some(link),
+    })
+}
+
+/// The question to a compiler: it is started with these words, and its status is the answer.
+fn question(alloc: Global, compiler: Word, args: &Listing<Word>) -> Result<Work, AllocError>
+    ensures question { IfOk result (λ work. work ≡ question compiler args.now) }
+    ensures window { IfOk result (λ work. HasWindow work) }
+{
+    let command = Command {
+        program: compiler,
+        words: args.clone()?,
+    };
+    let plan = one_command(alloc, command)?;
+    let manner = Manner {
+        telling: Telling::Notices,
+        pass_codes: FailureStatus::GreatestCode,
+        window: 1,
+    };
+    Ok(Work::CarryOut { plan, manner })
+}
+
+/// The work of words of the driver.
+///
+/// # Errors
+/// The text of their refusal.
+fn work_of<S: System>(
+    alloc: Global,
+    name: &[u8],
+    words: &Expanded,
+    seed: u32,
+    outside: &mut Outside<'_, S>,
+) -> Result<Work, Stop>
+    ensures asks { Asked S.events outside.old outside.new }
+    ensures works { (F : Facts) → Extends outside.new.facts.now F
+        → MatchResult result (λ work. Works F words.now seed work)
+        (λ stop. IfTold stop (IsFailure F name.now words.now seed)) }
+    ensures window { IfOk result (λ work. HasWindow work) }
+{
+    match work_of_words(alloc, words, seed, outside) {
+        Ok(work) => Ok(work),
+        Err(ending) => {
+            let stop = stop_of(alloc, name, &ending)?;
+            Err(stop)
+        }
+    }
+}
+
+/// Refuses a line whose output is an input.
+///
+/// # Errors
+/// The text about it.
+fn refuse_overwriting<S: System, H: Host<S>>(
+    alloc: Global,
+    name: &[u8],
+    call: &Call,
+    host: &mut H,
+) -> Result<(), Stop>
+    ensures { Noted (H.notes host.old) (H.notes host.new)
+        (λ events. MatchResult result
+        (λ _. Overwrites call.now.inputs call.now.output events false)
+        (λ stop. IfTold stop (IsOverwriting name.now call.now events))) }
+{
+    let found = overwrites(call.inputs.as_slice(), &call.output, host)?;
+    let Some(output) = &call.output else {
+        return Ok(());
+    };
+    if !found {
+        return Ok(());
+    }
+    let text = overwritten(alloc, name, output.as_bytes())?;
+    Err(Stop::Told(text))
+}
+
+/// A line that nothing speaks against, with what the driver is called with and its work.
+///
+/// # Errors
+/// The text of its refusal.
+#[tactic(auto, using(drv_system::proofs::AskedCalls::asked_further))]
+fn planned<S: System>(
+    alloc: Global,
+    calling: &Calling,
+    chain: &Toolchain,
+    call: Call,
+    given: &Expanded,
+    seed: u32,
+    outside: &mut Outside<'_, S>,
+) -> Result<Prepared, Stop>
+    ensures asks { Asked S.events outside.old outside.new }
+    ensures plans { (F : Facts) → Extends outside.new.facts.now F
+        → MatchResult result
+        (λ prepared. IsPlanned F calling.now chain.now call given.now seed prepared)
+        (λ stop. IfTold stop (IsUnplanned F calling.now chain.now call given.now seed)) }
+    ensures window { IfOk result (λ prepared. HasWindow prepared.work) }
+{
+    let name = calling.name.as_bytes();
+    let specs = chain.specs.as_bytes();
+    let hint = gone(alloc, name, specs, calling.machine.as_bytes())?;
+    let driven = driver_call(alloc, calling, chain, call, given, outside)?;
+    let words = driven.line.words.as_slice();
+    let said = opening(alloc, specs, words, driven.children.as_slice(), outside)?;
+    let work = work_of(alloc, name, &driven.line, seed, outside)?;
+    Ok(Prepared {
+        work,
+        children: driven.children,
+        said,
+        hint,
+    })
+}
+
+/// A line that is carried out.
+///
+/// # Errors
+/// The text of its refusal.
+#[tactic(auto, using(drv_system::proofs::AskedCalls::asked_further))]
+fn compilation<S: System, H: Host<S>>(
+    alloc: Global,
+    calling: &Calling,
+    chain: &Toolchain,
+    call: Call,
+    given: &Expanded,
+    seed: u32,
+    outside: &mut Outside<'_, S>,
+    host: &mut H,
+) -> Result<Prepared, Stop>
+    ensures asks { Asked S.events outside.old outside.new }
+    ensures performs { Noted (H.notes host.old) (H.notes host.new)
+        (λ events. (F : Facts) → Extends outside.new.facts.now F
+        → MatchResult result
+        (λ prepared. Performs F calling.now chain.now call given.now seed events prepared)
+        (λ stop. IfTold stop (Fails F calling.now chain.now call given.now seed events))) }
+    ensures window { IfOk result (λ prepared. HasWindow prepared.work) }
+{
+    let name = calling.name.as_bytes();
+    let text = objection(alloc, name, call.inputs.as_slice(), outside)?;
+    if !text.is_empty() {
+        return Err(Stop::Told(text));
+    }
+    refuse_overwriting(alloc, name, &call, host)?;
+    planned(alloc, calling, chain, call, given, seed, outside)
+}
+
+/// What a call does whose line is a question to a compiler.
+fn asked(
+    alloc: Global,
+    calling: &Calling,
+    specs: &[u8],
+    compiler: Word,
+    args: &Listing<Word>,
+) -> Result<Prepared, AllocError>
+    ensures asks { IfOk result (λ prepared. IsQuestion calling.now specs.now compiler args.now
+        prepared) }
+    ensures window { IfOk result (λ prepared. HasWindow prepared.work) }
+{
+    let name = calling.name.as_bytes();
+    let hint = gone(alloc, name, specs, calling.machine.as_bytes())?;
+    let work = question(alloc, compiler, args)?;
+    Ok(Prepared {
+        work,
+        children: Listing::new(alloc),
+        said: Word::empty(alloc),
+        hint,
+    })
+}
+
+/// What a call does for a task.
+///
+/// # Errors
+/// The text of its refusal.
+fn task_prepared<S: System, H: Host<S>>(
+    alloc: Global,
+    calling: &Calling,
+    task: Task,
+    args: &Listing<Word>,
+    given: &Expanded,
+    seed: u32,
+    outside: &mut Outside<'_, S>,
+    host: &mut H,
+) -> Result<Prepared, Stop>
+    ensures asks { Asked S.events outside.old outside.new }
+    ensures comes { Noted (H.notes host.old) (H.notes host.new)
+        (λ events. (F : Facts) → Extends outside.new.facts.now F
+        → MatchResult result
+        (λ prepared. IsTaskDone F calling.now args.now given.now seed task events prepared)
+        (λ stop. IfTold stop (IsTaskRefused F calling.now given.now seed task events))) }
+    ensures window { IfOk result (λ prepared. HasWindow prepared.work) }
+{
+    match task {
+        Task::Question(specs, compiler) => {
+            let prepared = asked(alloc, calling, specs.as_bytes(), compiler, args)?;
+            Ok(prepared)
+        }
+        Task::Compilation(chain, call) => {
+            compilation(alloc, calling, &chain, call, given, seed, outside, host)
+        }
+    }
+}
+
+/// What a call with these arguments does. It asks the system only where the table has no answer.
+///
+/// # Errors
+/// The text of its refusal.
+#[tactic(auto, using(drv_system::proofs::AskedCalls::asked_further))]
+pub(crate) fn prepare<S: System, H: Host<S>>(
+    alloc: Global,
+    calling: &Calling,
+    own: &Option<Word>,
+    args: &Listing<Word>,
+    seed: u32,
+    outside: &mut Outside<'_, S>,
+    host: &mut H,
+) -> Result<Prepared, Stop>
+    ensures asks { Asked S.events outside.old outside.new }
+    ensures comes { Noted (H.notes host.old) (H.notes host.new)
+        (λ events. (F : Facts) → Extends outside.new.facts.now F
+        → MatchResult result
+        (λ prepared. Comes F calling.now own.now args.now seed events prepared)
+        (λ stop. IfTold stop (Refuses F calling.now own.now args.now seed events))) }
+    ensures window { IfOk result (λ prepared. HasWindow prepared.work) }
+{
+    let words = line_words(alloc, calling, args, outside)?;
+    let decision = decided(alloc, own, words.words.as_slice(), outside)?;
+    let task = task_of(alloc, calling, decision)?;
+    task_prepared(alloc, calling, task, args, &words, seed, outside, host)
+}

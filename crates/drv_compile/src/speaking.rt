@@ -1,0 +1,121 @@
+//! What is said before a run whose commands are shown.
+
+ghost use Rattle.drv_compile.specs.Opening.{lines_shown, opening, shows, text_shown};
+ghost use Rattle.drv_compile.specs.Texts.{line_of, said_text, switches_line};
+ghost use Rattle.drv_search.specs.Code.Telling.{Tells};
+ghost use Rattle.drv_system.specs.Code.Asked.{Asked};
+ghost use Rattle.std.specs.List.{flat_map, list_any};
+ghost use Rattle.std.specs.Prelude.{◌≡◌, ◌++◌, IfOk, OnOk};
+
+use crate::saying::said;
+use drv_cc::Variable;
+use drv_system::{Outside, System};
+use drv_words::{Listing, Word};
+use std::alloc::{AllocError, Global};
+
+/// Adds lines.
+fn add_lines(lines: &[Word], text: &mut Word) -> Result<(), AllocError>
+    ensures { OnOk result (text.new ≡ text.old ++ flat_map line_of lines.now) }
+{
+    for line in lines {
+        add_line(line.as_bytes(), text)?;
+    }
+    Ok(())
+}
+
+/// Adds a line.
+fn add_line(line: &[u8], text: &mut Word) -> Result<(), AllocError>
+    ensures { OnOk result (text.new ≡ text.old ++ line_of line.now) }
+{
+    text.extend_from_slice(line)?;
+    text.push(b'\n')
+}
+
+/// Adds the line of a variable, if that has the switches of a link.
+fn add_switches_line(variable: &Variable, text: &mut Word) -> Result<(), AllocError>
+    ensures { OnOk result (text.new ≡ text.old ++ switches_line variable.now) }
+{
+    if variable.name.as_bytes() == b"COLLECT_GCC_OPTIONS".as_slice() {
+        text.extend_from_slice(b"COLLECT_GCC_OPTIONS=")?;
+        text.extend_from_slice(variable.value.as_bytes())?;
+        text.push(b'\n')?;
+    }
+    Ok(())
+}
+
+/// Adds the lines of variables.
+fn add_switches_lines(children: &[Variable], text: &mut Word) -> Result<(), AllocError>
+    ensures { OnOk result (text.new ≡ text.old ++ flat_map switches_line children.now) }
+{
+    for variable in children {
+        add_switches_line(variable, text)?;
+    }
+    Ok(())
+}
+
+/// What is said by these lines, with these variables of the children.
+fn said_text(alloc: Global, lines: &[Word], children: &[Variable]) -> Result<Word, AllocError>
+    ensures { IfOk result (λ text. text ≡ said_text lines.now children.now) }
+{
+    let mut text = Word::empty(alloc);
+    add_lines(lines, &mut text)?;
+    add_switches_lines(children, &mut text)?;
+    Ok(text)
+}
+
+/// Whether a word asks that commands are shown.
+fn shows(word: &Word) -> bool
+    ensures { result ≡ shows word.now }
+{
+    word.as_bytes() == b"-v".as_slice() || word.as_bytes() == b"-###".as_slice()
+}
+
+/// Whether the commands of a line with these words are shown.
+fn is_shown(words: &[Word]) -> bool
+    ensures { result ≡ list_any shows words.now }
+{
+    words.iter().any(shows)
+}
+
+/// The lines that the compiler says of itself, where the commands are shown.
+#[tactic(auto, using(drv_system::proofs::AskedCalls::asked_none))]
+fn lines_shown<S: System>(
+    alloc: Global,
+    specs: &[u8],
+    words: &[Word],
+    outside: &mut Outside<'_, S>,
+) -> Result<Listing<Word>, AllocError>
+    ensures asks { Asked S.events outside.old outside.new }
+    ensures lines { Tells outside.new result (λ F. lines_shown F specs.now words.now) }
+{
+    if !is_shown(words) {
+        return Ok(Listing::new(alloc));
+    }
+    said(alloc, specs, outside)
+}
+
+/// The text of these lines, if there are any.
+fn text_shown(alloc: Global, lines: &[Word], children: &[Variable]) -> Result<Word, AllocError>
+    ensures { IfOk result (λ text. text ≡ text_shown children.now lines.now) }
+{
+    match lines {
+        [] => Ok(Word::empty(alloc)),
+        _ => said_text(alloc, lines, children),
+    }
+}
+
+/// What is said before the work of a line with these words, where its commands are shown. It asks
+/// the system only where the table has no answer.
+pub(crate) fn opening<S: System>(
+    alloc: Global,
+    specs: &[u8],
+    words: &[Word],
+    children: &[Variable],
+    outside: &mut Outside<'_, S>,
+) -> Result<Word, AllocError>
+    ensures asks { Asked S.events outside.old outside.new }
+    ensures text { Tells outside.new result (λ F. opening F specs.now words.now children.now) }
+{
+    let lines = lines_shown(alloc, specs, words, outside)?;
+    text_shown(alloc, lines.as_slice(), children)
+}

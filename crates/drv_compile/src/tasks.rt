@@ -1,0 +1,107 @@
+//! What a call does by what its words ask for.
+
+ghost use Rattle.drv_compile.specs.Tasks.{Declines, IfTold, Leads};
+ghost use Rattle.drv_compile.specs.declared.deciding.Decision.TheVariants.{NoSpecs, Read};
+ghost use Rattle.std.specs.Prelude.{IfOk, MatchResult};
+
+use crate::calling::Calling;
+use crate::deciding::Decision;
+use crate::reading::Reading;
+use crate::stop::Stop;
+use crate::telling::refusals_text;
+use crate::wording::{damaged_text, no_compiler_text, no_place_text, no_specs_text};
+use drv_cc::{Answer, Call, Surroundings};
+use drv_words::Word;
+use std::alloc::{AllocError, Global};
+
+/// What a line is read by: the spec file of the call, and what is known of its compiler.
+#[derive(Drop)]
+pub(crate) struct Toolchain {
+    /// The spec file.
+    pub(crate) specs: Word,
+    /// The compiler that it was written for, and where that looks.
+    pub(crate) around: Surroundings,
+    /// The names of options that were taken to read the line, a line each.
+    pub(crate) known: Word,
+}
+
+/// What a call does.
+#[derive(Drop)]
+pub(crate) enum Task {
+    /// The compiler of a spec file is asked the line.
+    Question(Word, Word),
+    /// The line is carried out.
+    Compilation(Toolchain, Call),
+}
+
+/// The text where there is no spec file.
+fn without_specs(alloc: Global, calling: &Calling, path: &Option<Word>) -> Result<Word, AllocError>
+    ensures { IfOk result (λ text. Declines calling.now (NoSpecs path.now) text) }
+{
+    let name = calling.name.as_bytes();
+    match path {
+        Some(path) => no_specs_text(alloc, name, path.as_bytes(), calling.machine.as_bytes()),
+        None => no_place_text(alloc, name),
+    }
+}
+
+/// What a call does by what its line was read as.
+fn task_by(
+    alloc: Global,
+    calling: &Calling,
+    specs: Word,
+    around: Surroundings,
+    reading: Reading,
+) -> Result<Task, Stop>
+    ensures { MatchResult result (λ task. Leads (Read specs around reading) task)
+        (λ stop. IfTold stop (Declines calling.now (Read specs around reading))) }
+{
+    let Reading { known, answer } = reading;
+    match answer {
+        Answer::Ask => Ok(Task::Question(specs, around.compiler)),
+        Answer::Run(call) => {
+            let chain = Toolchain {
+                specs,
+                around,
+                known,
+            };
+            Ok(Task::Compilation(chain, call))
+        }
+        Answer::Refuse(refusals) => {
+            let name = calling.name.as_bytes();
+            let text = refusals_text(alloc, name, known.as_bytes(), refusals.as_slice())?;
+            Err(Stop::Told(text))
+        }
+    }
+}
+
+/// What a call does by what its words ask for.
+///
+/// # Errors
+/// The text of its refusal.
+pub(crate) fn task_of(alloc: Global, calling: &Calling, decision: Decision) -> Result<Task, Stop>
+    ensures { MatchResult result (λ task. Leads decision task)
+        (λ stop. IfTold stop (Declines calling.now decision)) }
+{
+    let name = calling.name.as_bytes();
+    let machine = calling.machine.as_bytes();
+    match decision {
+        Decision::NoSpecs(path) => {
+            let text = without_specs(alloc, calling, &path)?;
+            Err(Stop::Told(text))
+        }
+        Decision::NoCompiler(specs) => {
+            let text = no_compiler_text(alloc, name, specs.as_bytes(), machine)?;
+            Err(Stop::Told(text))
+        }
+        Decision::Damaged { specs, path } => {
+            let text = damaged_text(alloc, name, path.as_bytes(), specs.as_bytes(), machine)?;
+            Err(Stop::Told(text))
+        }
+        Decision::Read {
+            specs,
+            around,
+            reading,
+        } => task_by(alloc, calling, specs, around, reading),
+    }
+}

@@ -1,5 +1,0 @@
-use Rattle.std.proofs.Common.{◌≡◌, ◌∙◌, List, ◌++◌, ap, append_assoc, sym, ℕ}
-
--- Texts that are added one after another are added together.
-pub joined : (text a b c : List ℕ) → ((text ++ a) ++ b) ++ c ≡ text ++ ((a ++ b) ++ c)
-joined text a b c = append_assoc (text ++ a) b c ∙ append_assoc text a (b ++ c) ∙ ap (λ rest. text ++ rest) (sym (append_assoc a b c))
