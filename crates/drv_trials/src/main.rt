@@ -8,6 +8,7 @@
 //! plan WINDOW [pass]      the plan of standard input, see `runs`, over a script; with `pass` exit codes are passed on
 //! choose WINDOW [pass]    the run of such a plan with chosen sources
 //! drive WORD..            a whole call of the driver with these arguments and the seed 42, over a script
+//! compile NAME WORD..     a whole call of gdrv-cc by that name, as `compiling` says
 //! ```
 //!
 //! Standard input holds the script, see `script`.
@@ -27,13 +28,13 @@ use drv_core::FailureStatus;
 use drv_system::arguments;
 use drv_words::Word;
 use names::look_up;
-use runs::{Manner, try_drive, try_plan};
+use runs::{Manner, try_compile, try_drive, try_plan};
 use std::io::{self, Write};
 use steps::try_file;
 use transcript::Transcript;
 
 const USAGE: &[u8] =
-    b"usage: drv_trials call [host] CALL ARG.. | steps FILE | plan WINDOW [pass] | choose WINDOW [pass] | drive WORD..\n";
+    b"usage: drv_trials call [host] CALL ARG.. | steps FILE | plan WINDOW [pass] | choose WINDOW [pass] | drive WORD.. | compile NAME WORD..\n";
 
 /// A part that can be tried.
 #[derive(Clone, Copy)]
@@ -42,15 +43,17 @@ enum Part {
     Steps,
     Plan(Manner),
     Drive,
+    Compile,
 }
 
 /// The names of parts.
-const PARTS: [(&[u8], Part); 5] = [
+const PARTS: [(&[u8], Part); 6] = [
     (b"call", Part::Call),
     (b"steps", Part::Steps),
     (b"plan", Part::Plan(Manner::CarriedOut)),
     (b"choose", Part::Plan(Manner::Chosen)),
     (b"drive", Part::Drive),
+    (b"compile", Part::Compile),
 ];
 
 /// Tries a part.
@@ -63,6 +66,7 @@ fn try_part(rt: &HostRuntime, part: Part, words: &[Word], out: &mut Transcript) 
             try_plan(rt, manner, window, FailureStatus::GreatestCode, out)
         }
         (Part::Drive, args) => try_drive(rt, args, out),
+        (Part::Compile, [name, args @ ..]) => try_compile(rt, name, args, out),
         _ => Ok(out.add(USAGE)?),
     }
 }

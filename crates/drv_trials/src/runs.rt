@@ -5,6 +5,7 @@
 ghost use Rattle.std.specs.Prelude.{◌≡◌, ◌≤◌, [], IfSome};
 
 mod choosing;
+mod compiling;
 mod planning;
 mod showing;
 
@@ -12,6 +13,7 @@ use crate::lists::copies_of;
 use crate::script::{read_lines, system};
 use crate::transcript::Transcript;
 use choosing::choose_blocks;
+pub use compiling::try_compile;
 use drv_core::{FailureStatus, events_needed};
 use drv_run::{Ending, Refusal, drive, execute, fault_line};
 use drv_system::{Event, ScriptSystem, System};

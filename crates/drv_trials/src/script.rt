@@ -3,6 +3,7 @@
 //!
 //! ```text
 //! file PATH TEXT         a file of these bytes; without a text it can't be read
+//! lines PATH LINE..      a file of these lines
 //! folder PATH            a folder
 //! variable NAME VALUE    a variable of the environment
 //! mute                   messages fail
@@ -27,10 +28,21 @@ pub fn read_lines(rt: &HostRuntime) -> io::Result<Vec<Listing<Word>>> {
     Ok(lines)
 }
 
+/// The text of lines.
+fn text_of(alloc: Global, lines: &[Word]) -> Result<Word, AllocError> {
+    let mut text = Word::empty(alloc);
+    for line in lines {
+        text.extend_from_slice(line.as_bytes())?;
+        text.push(b'\n')?;
+    }
+    Ok(text)
+}
+
 /// What a line adds to a script.
 #[derive(Clone, Copy)]
 enum Entry {
     File,
+    Lines,
     Folder,
     Variable,
     Mute,
@@ -38,8 +50,9 @@ enum Entry {
 }
 
 /// The first words of lines.
-const ENTRIES: [(&[u8], Entry); 5] = [
+const ENTRIES: [(&[u8], Entry); 6] = [
     (b"file", Entry::File),
+    (b"lines", Entry::Lines),
     (b"folder", Entry::Folder),
     (b"variable", Entry::Variable),
     (b"mute", Entry::Mute),
@@ -69,12 +82,13 @@ impl Script {
     }
 
     /// Adds a line. A line of a plan adds nothing.
-    fn add(&mut self, line: &[Word]) -> Result<(), AllocError> {
+    fn add(&mut self, alloc: Global, line: &[Word]) -> Result<(), AllocError> {
         let [what, words @ ..] = line else {
             return Ok(());
         };
         match look_up(&ENTRIES, what.as_bytes()) {
             Some(Entry::File) => self.add_file(words),
+            Some(Entry::Lines) => self.add_lines(alloc, words),
             Some(Entry::Folder) => self.add_folder(words),
             Some(Entry::Variable) => self.add_variable(words),
             Some(Entry::Mute) => {
@@ -92,6 +106,14 @@ impl Script {
             [path, text] => Ok(self.files.push((path.clone()?, Some(text.clone()?)))?),
             _ => Ok(()),
         }
+    }
+
+    fn add_lines(&mut self, alloc: Global, words: &[Word]) -> Result<(), AllocError> {
+        let [path, lines @ ..] = words else {
+            return Ok(());
+        };
+        let text = text_of(alloc, lines)?;
+        Ok(self.files.push((path.clone()?, Some(text)))?)
     }
 
     fn add_folder(&mut self, words: &[Word]) -> Result<(), AllocError> {
@@ -122,7 +144,7 @@ impl Script {
 fn script_of(alloc: Global, lines: &[Listing<Word>]) -> Result<Script, AllocError> {
     let mut script = Script::new(alloc);
     for line in lines {
-        script.add(line.as_slice())?;
+        script.add(alloc, line.as_slice())?;
     }
     Ok(script)
 }

@@ -1,0 +1,183 @@
+//! Whole calls of `gdrv-cc`. Beside the script, lines `leads NAME PATH` say which path the file has
+//! that a name leads to; any other name leads to none. The program lies at `/bin/` and its name.
+//! Printed is also what the host was asked, and which variable was set after how many events.
+
+ghost use Rattle.std.specs.Prelude.{◌≡◌, [], IfOk, IfSome};
+
+use super::{SEED, add_events};
+use crate::lists::copies_of;
+use crate::runs::showing::add_line;
+use crate::script::{read_lines, system};
+use crate::transcript::Transcript;
+use drv_cc::Variable;
+use drv_compile::{Host, HostEvent, Outcome, beside, calling_of, compile};
+use drv_system::{Event, ScriptSystem, System};
+use drv_words::{Listing, Word};
+use std::alloc::{AllocError, Global};
+use std::io;
+use std::marker::Model;
+
+/// A host that answers from a list.
+#[derive(Drop)]
+struct ScriptHost {
+    paths: Listing<(Word, Word)>,
+    notes: Vec<HostEvent>,
+}
+
+impl Model for ScriptHost {
+    ghost use Rattle.drv_compile.specs.declared.host.HostEvent.{HostEvent};
+    ghost use Rattle.std.specs.Prelude.{List};
+
+    ghost Value = { List HostEvent };
+
+    ghost view = { λ host. host.notes.items };
+}
+
+/// The path that a name has in a list, if it has one.
+fn path_of(paths: &[(Word, Word)], name: &Word) -> Result<Option<Word>, AllocError> {
+    for entry in paths {
+        if entry.0 == *name {
+            return Ok(Some(entry.1.clone()?));
+        }
+    }
+    Ok(None)
+}
+
+/// A copy of a path, if there is one.
+fn path_copied(path: &Option<Word>) -> Result<Option<Word>, AllocError>
+    ensures { IfOk result (λ copy. copy ≡ path.now) }
+{
+    match path {
+        Some(path) => Ok(Some(path.clone()?)),
+        None => Ok(None),
+    }
+}
+
+impl Host<ScriptSystem> for ScriptHost {
+    ghost notes = { λ host. host };
+
+    fn resolved(&mut self, name: &Word) -> Result<Option<Word>, AllocError> {
+        let asked = name.clone()?;
+        let path = path_of(self.paths.as_slice(), name)?;
+        let noted = path_copied(&path)?;
+        self.notes.push(HostEvent::Resolved(asked, noted))?;
+        Ok(path)
+    }
+
+    /// The system itself keeps no variables of children.
+    fn set_for_children(
+        &mut self,
+        sys: &mut ScriptSystem,
+        variable: &Variable,
+    ) -> Result<(), AllocError> {
+        let set = Variable {
+            name: variable.name.clone()?,
+            value: variable.value.clone()?,
+        };
+        self.notes.push(HostEvent::Set(sys.journal().len(), set))?;
+        Ok(())
+    }
+}
+
+/// The host that lines say.
+fn host(alloc: Global, lines: &[Listing<Word>]) -> Result<ScriptHost, AllocError> {
+    let mut paths = Listing::new(alloc);
+    for line in lines {
+        if let [what, name, path] = line.as_slice()
+            && what.as_bytes() == b"leads".as_slice()
+        {
+            paths.push((name.clone()?, path.clone()?))?;
+        }
+    }
+    Ok(ScriptHost {
+        paths,
+        notes: Vec::new(alloc),
+    })
+}
+
+/// Adds what the host was asked, or what it set.
+fn add_note(note: &HostEvent, out: &mut Transcript) -> Result<(), AllocError> {
+    match note {
+        HostEvent::Resolved(name, path) => {
+            out.add(b"resolved ")?;
+            out.add_quoted(name)?;
+            if let Some(path) = path {
+                out.add(b" as ")?;
+                out.add_quoted(path)?;
+            }
+        }
+        HostEvent::Set(at, variable) => {
+            out.add(b"set after ")?;
+            out.add_count(*at)?;
+            out.add(b": ")?;
+            out.add_quoted(&variable.name)?;
+            out.add(b"=")?;
+            out.add_quoted(&variable.value)?;
+        }
+    }
+    out.add(b"\n")
+}
+
+/// Adds what the host was asked, and what it set.
+fn add_notes(notes: &[HostEvent], out: &mut Transcript) -> Result<(), AllocError> {
+    for note in notes {
+        add_note(note, out)?;
+    }
+    Ok(())
+}
+
+/// Whether an event is a step of a run.
+fn is_step(event: &Event) -> bool {
+    matches!(event, Event::Run(_))
+}
+
+/// What a call did and how it ended.
+///
+/// # Errors
+/// Want of memory, also where the call ended so, unless it made a step before: that is printed, and
+/// is wrong.
+fn add_call(
+    sys: &ScriptSystem,
+    host: &ScriptHost,
+    outcome: &Outcome,
+    out: &mut Transcript,
+) -> Result<(), AllocError> {
+    if matches!(outcome, Outcome::OutOfMemory) && !sys.journal().iter().any(is_step) {
+        return Err(AllocError);
+    }
+    add_notes(host.notes.as_slice(), out)?;
+    add_events(sys.journal(), None, out)?;
+    match outcome {
+        Outcome::Done(status) => add_line(b"status ", usize::from(*status), out),
+        Outcome::Unnoted(status) => add_line(b"unnoted, status ", usize::from(*status), out),
+        Outcome::OutOfMemory => out.add(b"out of memory\n"),
+    }
+}
+
+/// Makes a call of `gdrv-cc` by a name over what lines say.
+fn compile_over(
+    alloc: Global,
+    lines: &[Listing<Word>],
+    name: &Word,
+    args: &Listing<Word>,
+    out: &mut Transcript,
+) -> Result<(), AllocError> {
+    let mut sys = system(alloc, lines)?;
+    let mut host = host(alloc, lines)?;
+    let calling = calling_of(alloc, name.as_bytes())?;
+    let own = Some(beside(alloc, b"/bin/gdrv-cc", calling.machine.as_bytes())?);
+    let outcome = compile(alloc, &calling, &own, args, SEED, &mut sys, &mut host);
+    add_call(&sys, &host, &outcome, out)
+}
+
+/// Makes a call of `gdrv-cc` by a name with these arguments.
+pub fn try_compile(
+    rt: &HostRuntime,
+    name: &Word,
+    args: &[Word],
+    out: &mut Transcript,
+) -> io::Result<()> {
+    let lines = read_lines(rt)?;
+    let args = copies_of(rt.alloc(), args)?;
+    Ok(compile_over(rt.alloc(), lines.as_slice(), name, &args, out)?)
+}
