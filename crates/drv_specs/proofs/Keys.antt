@@ -1,5 +1,3 @@
-use Rattle.drv_specs.specs.Code.Keyed.{entries_of, entry_of}
-use Rattle.drv_specs.specs.Sets.{Set}
 use Rattle.indexmap.proofs.MapLemmas.{absent_from_lookup, insert_entry-absent, swap_remove_entry-found}
 use Rattle.indexmap.specs.IndexMap.{insert_entry, swap_remove_entry}
 use Rattle.std.proofs.Common.{◌≡◌, ◌<◌, ◌+◌, ◌-◌, ◌∙◌, Bool, List, [], ◌∷◌, ◌++◌, None, Some, ap, arith, cond, false, length, length-append, lt-ltb, not, refl, set, slice_index_or, suc, swap_remove, sym, take, true, zero, ℕ}
@@ -19,44 +17,12 @@ is_key_of name key = pointwise nat_eq name key.items
 abbrev pub same_key : Vec ℕ → Vec ℕ → Bool
 same_key key other = pointwise nat_eq key.items other.items
 
-abbrev pub set_of : List (List ℕ × List ℕ) → List (List ℕ × List ℕ) → Set
-set_of named pairs = record { named = named; pairs = pairs }
-
-pub text_under : (name : List ℕ) (es : List (Vec ℕ × List ℕ)) → lookup (is_key_of name) es ≡ lookup (pointwise nat_eq name) (entries_of es)
-text_under name [] = refl
-text_under name (e ∷ es) = ap (cond (pointwise nat_eq name e.0.items) (Some e.1)) (text_under name es)
-
-pub entries_with : (key : Vec ℕ) (text : List ℕ) (es : List (Vec ℕ × List ℕ)) → entries_of (insert_entry same_key es key text) ≡ insert_entry (pointwise nat_eq) (entries_of es) key.items text
-entries_with key text [] = refl
-entries_with key text (e ∷ es) = by (pointwise nat_eq key.items e.0.items) refl (entries_with key text es)
-  where
-    by : (hit : Bool) → pointwise nat_eq key.items e.0.items ≡ hit → entries_of (insert_entry same_key es key text) ≡ insert_entry (pointwise nat_eq) (entries_of es) key.items text
-        → entries_of (insert_entry same_key (e ∷ es) key text) ≡ insert_entry (pointwise nat_eq) (entries_of (e ∷ es)) key.items text
-    by true is later = rw is refl
-    by false is later = rw is (ap (λ rest. entry_of e ∷ rest) later)
-
-pub entries_without : (name : List ℕ) (es : List (Vec ℕ × List ℕ)) → entries_of (remove_entry (is_key_of name) es) ≡ remove_entry (pointwise nat_eq name) (entries_of es)
-entries_without name [] = refl
-entries_without name (e ∷ es) = by (pointwise nat_eq name e.0.items) refl (entries_without name es)
-  where
-    by : (hit : Bool) → pointwise nat_eq name e.0.items ≡ hit → entries_of (remove_entry (is_key_of name) es) ≡ remove_entry (pointwise nat_eq name) (entries_of es)
-        → entries_of (remove_entry (is_key_of name) (e ∷ es)) ≡ remove_entry (pointwise nat_eq name) (entries_of (e ∷ es))
-    by true is later = rw is refl
-    by false is later = rw is (ap (λ rest. entry_of e ∷ rest) later)
-
 -- bytes that were copied
-same_bytes : (bytes copies : List ℕ) → AllZip (λ b copy. copy ≡ b) bytes copies → copies ≡ bytes
+pub same_bytes : (bytes copies : List ℕ) → AllZip (λ b copy. copy ≡ b) bytes copies → copies ≡ bytes
 same_bytes [] [] alike = refl
 same_bytes [] (b ∷ copies) alike = absurd alike
 same_bytes (b ∷ bytes) [] alike = absurd alike
 same_bytes (b ∷ bytes) (copy ∷ copies) alike = λ j. alike.0 j ∷ same_bytes bytes copies alike.1 j
-
-pub entries_copied : (es copies : List (Vec ℕ × List ℕ)) → AllZip (λ e copy. (AllZip (λ b c. c ≡ b) e.0.items copy.0.items × (vec_len copy.0 ≡ vec_len e.0)) × (copy.1 ≡ e.1)) es copies
-    → entries_of copies ≡ entries_of es
-entries_copied [] [] alike = refl
-entries_copied [] (e ∷ copies) alike = absurd alike
-entries_copied (e ∷ es) [] alike = absurd alike
-entries_copied (e ∷ es) (copy ∷ copies) alike = λ j. (same_bytes e.0.items copy.0.items alike.0.0.0 j, alike.0.1 j) ∷ entries_copied es copies alike.1 j
 
 -- An entry that goes last, and from there to the place of another.
 
@@ -68,7 +34,7 @@ front_of : {X : Type 0} (xs : List X) (x : X) → take (length xs) (xs ++ x ∷ 
 front_of [] x = refl
 front_of (y ∷ xs) x = ap (λ rest. y ∷ rest) (front_of xs x)
 
-some_is : {X : Type 0} {x y : X} → Some x ≡ Some y → x ≡ y
+pub some_is : {X : Type 0} {x y : X} → Some x ≡ Some y → x ≡ y
 some_is {X} {x} e = ap (λ o. unwrap_or o x) e
 
 module _ {K X : Type 0} (t : K → Bool) where
@@ -124,34 +90,8 @@ module _ {K X : Type 0} (t : K → Bool) (k : K) (x : X) where
       ∙ put_there es i h is
 
   -- after the entries, and then in the place of the one whose key passes
-  key_renamed : (es : List (K × X)) → lookup t es ≡ Some x → swap_remove_entry t (es ++ (k, x) ∷ []) ≡ set_key t es k
+  pub key_renamed : (es : List (K × X)) → lookup t es ≡ Some x → swap_remove_entry t (es ++ (k, x) ∷ []) ≡ set_key t es k
   key_renamed es is =
       let first = first_of t x es is in
       swap_remove_entry-found t (es ++ (k, x) ∷ []) first.0 (k, x) (first_is t (es ++ (k, x) ∷ []) first.0 (first_front es ((k, x) ∷ []) first.0 first.1))
       ∙ swapped es first.0 first.1 is
-
-entries_renamed_at : (old : List ℕ) (new : Vec ℕ) (es : List (Vec ℕ × List ℕ)) → entries_of (set_key (is_key_of old) es new) ≡ set_key (pointwise nat_eq old) (entries_of es) new.items
-entries_renamed_at old new [] = refl
-entries_renamed_at old new (e ∷ es) = by (pointwise nat_eq old e.0.items) refl (entries_renamed_at old new es)
-  where
-    by : (hit : Bool) → pointwise nat_eq old e.0.items ≡ hit → entries_of (set_key (is_key_of old) es new) ≡ set_key (pointwise nat_eq old) (entries_of es) new.items
-        → entries_of (set_key (is_key_of old) (e ∷ es) new) ≡ set_key (pointwise nat_eq old) (entries_of (e ∷ es)) new.items
-    by true is later = rw is refl
-    by false is later = rw is (ap (λ rest. entry_of e ∷ rest) later)
-
--- a text under a new name
-pub entries_renamed : (old : List ℕ) (new : Vec ℕ) (text : List ℕ) (es with_new after : List (Vec ℕ × List ℕ)) → lookup (is_key_of old) es ≡ Some text → lookup (pointwise nat_eq new.items) (entries_of es) ≡ None
-    → with_new ≡ insert_entry same_key es new text → after ≡ swap_remove_entry (is_key_of old) with_new → entries_of after ≡ set_key (pointwise nat_eq old) (entries_of es) new.items
-entries_renamed old new text es with_new after there none put taken =
-    ap entries_of (taken ∙ ap (swap_remove_entry (is_key_of old)) (put ∙ insert_entry-absent same_key new text es (absent_from_lookup (same_key new) es (text_under new.items es ∙ none)))
-    ∙ key_renamed (is_key_of old) new text es there) ∙ entries_renamed_at old new es
-
--- a name that isn't there stays so
-pub entries_unnamed : (old : List ℕ) (new : List ℕ) (es : List (Vec ℕ × List ℕ)) → lookup (is_key_of old) es ≡ None → entries_of es ≡ set_key (pointwise nat_eq old) (entries_of es) new
-entries_unnamed old new [] none = refl
-entries_unnamed old new (e ∷ es) none = by (pointwise nat_eq old e.0.items) refl none (entries_unnamed old new es)
-  where
-    by : (hit : Bool) → pointwise nat_eq old e.0.items ≡ hit → cond hit (Some e.1) (lookup (is_key_of old) es) ≡ None
-        → (lookup (is_key_of old) es ≡ None → entries_of es ≡ set_key (pointwise nat_eq old) (entries_of es) new) → entries_of (e ∷ es) ≡ set_key (pointwise nat_eq old) (entries_of (e ∷ es)) new
-    by true is none' later = absurd cc
-    by false is none' later = rw is (ap (λ rest. entry_of e ∷ rest) (later none'))

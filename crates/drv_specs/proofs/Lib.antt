@@ -10,6 +10,7 @@ pub mod GoodBodies
 pub mod Joining
 pub mod Keeping
 pub mod Keys
+pub mod Left
 pub mod Lining
 pub mod ReadLines
 pub mod Reloads

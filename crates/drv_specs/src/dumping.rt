@@ -2,7 +2,7 @@
 
 ghost use Rattle.drv_search.specs.declared.prefixes.Prefixes.{Prefixes};
 ghost use Rattle.drv_specs.specs.Dumping.{Plain, dumped, entry_text, named_text};
-ghost use Rattle.drv_specs.specs.Code.Keyed.{entries_of};
+ghost use Rattle.drv_specs.specs.Code.Keyed.{texts_left};
 ghost use Rattle.drv_specs.specs.Loading.{loaded};
 ghost use Rattle.drv_specs.specs.Sets.{no_specs};
 ghost use Rattle.drv_system.specs.Facts.{Facts};
@@ -36,12 +36,14 @@ fn push_named(dump: &mut Word, name: &[u8], text: &[u8]) -> Result<(), AllocErro
 }
 
 /// Adds the named texts.
-fn push_texts(dump: &mut Word, named: &IndexMap<Vec<u8>, Text>) -> Result<(), AllocError>
+fn push_texts(dump: &mut Word, named: &IndexMap<Vec<u8>, Option<Text>>) -> Result<(), AllocError>
     ensures { OnOk result
-        (dump.new ≡ dump.old ++ flat_map named_text (entries_of named.now.entries)) }
+        (dump.new ≡ dump.old ++ flat_map named_text (texts_left named.now.entries)) }
 {
     for (name, text) in named.iter() {
-        push_named(dump, name.as_slice(), text.tree().text())?;
+        if let Some(text) = text {
+            push_named(dump, name.as_slice(), text.tree().text())?;
+        }
     }
     Ok(())
 }

@@ -1,6 +1,6 @@
 //! Named texts and suffix pairs, as the directives of a file change them.
 
-ghost use Rattle.drv_specs.specs.Code.Keyed.{entries_of};
+ghost use Rattle.drv_specs.specs.Code.Keyed.{texts_left};
 ghost use Rattle.drv_specs.specs.Sets.{deleted, no_specs, text_of, with_named, with_pair};
 ghost use Rattle.drv_specs.specs.Sets.{worked_text};
 ghost use Rattle.std.specs.Cmp.Lexicographic.{pointwise};
@@ -9,6 +9,7 @@ ghost use Rattle.std.specs.Option.{option_map};
 ghost use Rattle.std.specs.Prelude.{◌≡◌, [], IfOk, None, OnOk, is_some, nat_eq, option_and_then};
 ghost use Rattle.std.specs.Prelude.{slice_get};
 
+use crate::named_texts::NamedTexts;
 use crate::text::Text;
 use drv_syntax::SpecTree;
 use drv_words::{Listing, Word};
@@ -21,19 +22,18 @@ use std::marker::Model;
 #[derive(Drop)]
 pub(crate) struct Entries {
     alloc: Global,
-    named: IndexMap<Vec<u8>, Text>,
+    named: NamedTexts,
     pairs: Listing<(Word, Word)>,
     trees: Vec<Option<Text>>,
 }
 
 impl Model for Entries {
-    ghost use Rattle.drv_specs.specs.Code.Keyed.{entries_of};
     ghost use Rattle.drv_specs.specs.Sets.{Set, worked_text};
     ghost use Rattle.std.specs.Prelude.{◌≡◌, map};
 
     ghost Value = { Set };
 
-    ghost view = { λ e. record { named = entries_of e.named.entries; pairs = e.pairs } };
+    ghost view = { λ e. record { named = e.named; pairs = e.pairs } };
 
     ghost invariant = { λ e. e.trees.items ≡ map worked_text e.pairs };
 }
@@ -77,7 +77,7 @@ impl Entries {
     {
         Entries {
             alloc,
-            named: IndexMap::new(alloc),
+            named: NamedTexts::new(alloc),
             pairs: Listing::new(alloc),
             trees: Vec::new(alloc),
         }
@@ -93,7 +93,7 @@ impl Entries {
     {
         Ok(Entries {
             alloc,
-            named: IndexMap::with_capacity(alloc, texts)?,
+            named: NamedTexts::with_capacity(alloc, texts)?,
             pairs: Listing::from_vec(Vec::with_capacity(alloc, pairs)?),
             trees: Vec::with_capacity(alloc, pairs)?,
         })
@@ -112,10 +112,10 @@ impl Entries {
     }
 
     /// The named texts.
-    pub(crate) fn named(&self) -> &IndexMap<Vec<u8>, Text>
-        ensures { entries_of result.now.entries ≡ self.now.named }
+    pub(crate) fn named(&self) -> &IndexMap<Vec<u8>, Option<Text>>
+        ensures { texts_left result.now.entries ≡ self.now.named }
     {
-        &self.named
+        self.named.entries()
     }
 
     /// The suffix pairs.
@@ -136,7 +136,7 @@ impl Entries {
     pub(crate) fn has(&self, name: &[u8]) -> bool
         ensures { result ≡ is_some (text_of self.now name.now) }
     {
-        self.named.contains_key(name)
+        self.named.get(name).is_some()
     }
 
     /// The text of the pair at a place, where it is run.
@@ -155,18 +155,15 @@ impl Entries {
         ensures taken { IfOk result (λ taken. taken ≡ text_of self.old name.now) }
         ensures left { OnOk result (self.new ≡ with_named self.old name.now []) }
     {
-        let key = name.to_vec(self.alloc)?;
         let empty = Text::new(self.alloc, SpecTree::empty(self.alloc))?;
-        let taken = self.named.insert(key, empty)?;
-        Ok(taken)
+        self.named.insert(name, empty)
     }
 
     /// Puts a text under a name: a name that is there keeps its place, a new one goes last.
     pub(crate) fn insert(&mut self, name: &[u8], text: Text) -> Result<(), AllocError>
         ensures { OnOk result (self.new ≡ with_named self.old name.now text) }
     {
-        let key = name.to_vec(self.alloc)?;
-        self.named.insert(key, text)?;
+        self.named.insert(name, text)?;
         Ok(())
     }
 
@@ -174,7 +171,7 @@ impl Entries {
     pub(crate) fn remove(&mut self, name: &[u8])
         ensures { self.new ≡ deleted self.old name.now }
     {
-        self.named.shift_remove(name);
+        self.named.remove(name);
     }
 
     /// Adds a pair at the end, with its text where that is run.
@@ -196,13 +193,12 @@ impl Entries {
     }
 
     /// A copy, which shares the trees.
-    #[tactic(auto, using(crate::proofs::Keys::entries_copied))]
     pub(crate) fn copied(&self) -> Result<Entries, AllocError>
         ensures { IfOk result (λ copy. copy ≡ self.now) }
     {
         Ok(Entries {
             alloc: self.alloc,
-            named: self.named.clone()?,
+            named: self.named.copied()?,
             pairs: copied_pairs(self.alloc, self.pairs.as_slice())?,
             trees: copied_texts(self.alloc, self.trees.as_slice())?,
         })
@@ -216,13 +212,6 @@ impl Entries {
           named = set_key (pointwise nat_eq old.now) self.old.named new.now;
         }) }
     {
-        let Some(text) = self.named.get(old) else {
-            return Ok(());
-        };
-        let text = text.clone()?;
-        let key = new.to_vec(self.alloc)?;
-        self.named.insert(key, text)?;
-        self.named.swap_remove(old);
-        Ok(())
+        self.named.rename(old, new)
     }
 }

@@ -12,6 +12,7 @@ mod fault;
 mod laws;
 mod lines;
 mod loading;
+mod named_texts;
 mod reading;
 mod set;
 mod settling;

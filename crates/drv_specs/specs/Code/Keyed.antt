@@ -1,10 +1,14 @@
 use Rattle.std.specs.Global.{Vec}
-use Rattle.std.specs.Prelude.{List, map, ℕ}
+use Rattle.std.specs.Prelude.{List, [], ◌∷◌, None, Option, Some, ℕ}
 
--- How the code keeps the named texts: a map whose keys are the names, for the code alone.
+-- How the code keeps the named texts: a map whose keys are the names, for the code alone. The entry of a deleted name has no text.
 
-abbrev pub entry_of : Vec ℕ × List ℕ → List ℕ × List ℕ
-entry_of entry = (entry.0.items, entry.1)
+-- the texts, with that of one more entry in front, if it has one
+abbrev pub with_left : List ℕ → Option (List ℕ) → List (List ℕ × List ℕ) → List (List ℕ × List ℕ)
+with_left name None texts = texts
+with_left name (Some text) texts = (name, text) ∷ texts
 
-abbrev pub entries_of : List (Vec ℕ × List ℕ) → List (List ℕ × List ℕ)
-entries_of entries = map entry_of entries
+-- the texts of a map
+abbrev pub texts_left : List (Vec ℕ × Option (List ℕ)) → List (List ℕ × List ℕ)
+texts_left [] = []
+texts_left (e ∷ es) = with_left e.0.items e.1 (texts_left es)
