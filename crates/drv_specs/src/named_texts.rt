@@ -72,7 +72,7 @@ fn clear_text(kept: &mut IndexMap<Vec<u8>, Option<Text>>, name: &[u8]) -> bool
 }
 
 impl NamedTexts {
-    /// None, which takes no memory.
+    /// No texts. It allocates nothing.
     pub(crate) fn new(alloc: Global) -> NamedTexts
         ensures { result ≡ [] }
     {
@@ -83,7 +83,7 @@ impl NamedTexts {
         }
     }
 
-    /// None, with room for so many.
+    /// No texts, with room for so many.
     pub(crate) fn with_capacity(alloc: Global, count: usize) -> Result<NamedTexts, AllocError>
         ensures { IfOk result (λ named. named ≡ []) }
     {
