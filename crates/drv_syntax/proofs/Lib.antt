@@ -9,6 +9,13 @@ pub mod CutPlaces
 pub mod CutRows
 pub mod CutTests
 pub mod Cuts
+pub mod DescentAsked
+pub mod DescentLeads
+pub mod DescentLists
+pub mod DescentParts
+pub mod DescentPatterns
+pub mod DescentTests
+pub mod DescentWhole
 pub mod Emits
 pub mod FrontLeads
 pub mod FrontsRead

@@ -28,7 +28,7 @@ pub refusal_kinds : (text rest : List ℕ) (fault : SyntaxFault) → IsRefused t
 refusal_kinds text rest fault x = let y = refusals text fault x in at_end text y.0 fault y.1 y.2 rest
 
 -- what a text of an allowed size gives
-within : (text : List ℕ) (out : Out) → length text ≤ text_limit → read text ≡ out → parsed text ≡ judged out
+pub within : (text : List ℕ) (out : Out) → length text ≤ text_limit → read text ≡ out → parsed text ≡ judged out
 within text out h e =
     let f : nat_le (length text) text_limit ≡ true = grind (arith, nat_tests) in
     rw (f, e) refl

@@ -1,6 +1,7 @@
 pub mod Bytes
 pub mod Code
 pub mod Contexts
+pub mod Descent
 pub mod Directives
 pub mod Faults
 pub mod Fronts

@@ -1,8 +1,9 @@
 //! Laws of the grammar. The functions do nothing: each is its contract.
 
+ghost use Rattle.drv_syntax.specs.Descent.{descent};
 ghost use Rattle.drv_syntax.specs.Faults.{IsCutAt, IsMisfit, Refused};
 ghost use Rattle.drv_syntax.specs.Fronts.{Front};
-ghost use Rattle.drv_syntax.specs.Outcome.{Bad, Cut, Got, Unrefused, parsed, read, text_limit};
+ghost use Rattle.drv_syntax.specs.Outcome.{Bad, Cut, Got, Unrefused, judged, parsed, read, text_limit};
 ghost use Rattle.drv_syntax.specs.Refusals.{IsRefused};
 ghost use Rattle.drv_syntax.specs.Spelling.{Spells};
 ghost use Rattle.drv_syntax.specs.Tree.{Items};
@@ -110,4 +111,13 @@ pub fn parsed_by_grammar()
         → ((items : Items) → Spells text items → ⊥)
         → (place : ℕ) × IsCutAt text place × (parsed text ≡ Err (Unclosed place)) }
     ensures too_long { (text : List ℕ) → text_limit < length text → parsed text ≡ Err TextTooLong }
+{}
+
+/// The grammar as functions, one for each part of a text, makes of each text what is read of it: its
+/// tree, that it is cut short, or the first byte that doesn't fit. So a text that isn't too long is
+/// parsed to what they make of it.
+pub fn descent_is_read()
+    ensures outcome { (text : List ℕ) → descent text ≡ read text }
+    ensures parsed { (text : List ℕ) → length text ≤ text_limit
+        → parsed text ≡ judged (descent text) }
 {}

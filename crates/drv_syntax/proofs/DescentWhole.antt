@@ -1,0 +1,650 @@
+use Rattle.drv_words.specs.Bytes as ascii
+use Rattle.drv_syntax.specs.Descent as d
+use Rattle.drv_syntax.specs.Descent.{Alternative, Ends, Form, Lists, Patterns, Read, Stops, Took, descent, levels, past, then_read, within}
+use Rattle.drv_syntax.specs.Refusals.{AtBar, AtFront, AtNext, Order}
+use Rattle.drv_syntax.proofs.DescentLeads.{ends, moved, out, out_moved, out_past, out_same, out_then, spaces_go}
+use Rattle.drv_syntax.proofs.DescentLeads.{stays, step, stop}
+use Rattle.drv_syntax.proofs.DescentParts.{item_out, name_goes, option_goes, saying_goes, suffix_goes, then_item}
+use Rattle.drv_syntax.proofs.DescentPatterns.{hide_goes}
+use Rattle.drv_syntax.proofs.DescentTests.{Meets, Stands, at_next, at_start, call_goes, left}
+use Rattle.drv_syntax.proofs.DescentAsked.{Due}
+use Rattle.drv_syntax.proofs.DescentLists.{From, begins, form_out, nothing_left, skipped, start_due, tests_go}
+use Rattle.drv_syntax.proofs.Leads.{other, same}
+use Rattle.drv_syntax.proofs.RefusalKinds as kinds
+use Rattle.drv_syntax.proofs.Parts.{join_assoc, join_choices_assoc, join_none}
+use Rattle.drv_syntax.specs.Bytes.{is_blank, is_white}
+use Rattle.drv_syntax.specs.Contexts.{InArguments, InX, Kind, ListContext, Mixed, Nobody, Owner, Starred, bar_in}
+use Rattle.drv_syntax.specs.Contexts.{in_braces, in_x, is_end, newline_in, top}
+use Rattle.drv_syntax.specs.Directives.{braced, directive_of, is_allowed, text_of}
+use Rattle.drv_syntax.specs.Outcome as o
+use Rattle.drv_syntax.specs.Outcome.{Bad, Cut, Goes, Got, Head, Here, Out, Place, Refused, Resumed, Turn, WaitsX, Waiting, after}
+use Rattle.drv_syntax.specs.Outcome.{chosen_item, closed, end_of, finish, fresh, join, join_choices, list_in, placed, read, resume}
+use Rattle.drv_syntax.specs.Outcome.{resume_x, resumed, run, turn, turn_item, with_tests}
+use Rattle.drv_syntax.specs.Spelling.{span}
+use Rattle.drv_syntax.specs.Tree.{Blank, Brace, BuiltinText, Choices, Choose, Emit, Hide, Item, Items, Leaf, Plain, Span}
+use Rattle.drv_syntax.specs.Tree.{Star, Tests, alternative, choice, more, no_choice, no_test, none, test}
+use Rattle.drv_syntax.specs.declared.directives.BraceKind.TheVariants.{InPlace}
+use Rattle.drv_syntax.specs.declared.directives.BraceKind.{BraceKind}
+use Rattle.drv_syntax.specs.declared.directives.Directive.TheVariants.{Named, Nowhere, OfStar, Whole, WithBraces, WithCall}
+use Rattle.drv_syntax.specs.declared.directives.Directive.TheVariants.{WithMarkedBraces, WithName, WithOption, WithPattern, WithSaying}
+use Rattle.drv_syntax.specs.declared.directives.Directive.TheVariants.{WithSuffix}
+use Rattle.drv_syntax.specs.declared.directives.Directive.{Directive}
+use Rattle.drv_syntax.specs.declared.fault.SyntaxFault.TheVariants.{BadDirective, EmptyTest, MixedStar, StarOutside, TooNested}
+use Rattle.std.proofs.Common.{◌≡◌, ◌⊎◌, ◌∙◌, inl, inr, ◌+◌, ◌-◌, Bool, false, true, if◌then◌else◌, List, [], ◌∷◌, ap, arith, drop}
+use Rattle.std.proofs.Common.{◌≤◌, drop-drop, length, refl, subst, suc, sym, zero, ℕ}
+use Rattle.std.specs.List.{prefix_len}
+use Rattle.std.specs.Prelude.{◌==◌}
+
+-- Braces, directives and lists, as their places read them; and a whole text.
+
+-- alternatives
+
+-- braces after the alternatives before
+abbrev pub joined : Choices → Brace → Brace
+joined before (Emit ps) = Emit ps
+joined before (Choose others) = Choose (join_choices before others)
+
+abbrev pub brace_out : List Waiting → Here → ℕ → BraceKind → Choices → Brace → ℕ → List ℕ → Out
+brace_out ws here at kind before brace i rest = run ws (o.AtItem (placed here at i (braced kind (joined before brace)))) i rest
+
+abbrev pub head : Here → ℕ → BraceKind → Choices → Head
+head here at kind before = record { here = here; at = at; kind = kind; choices = before; tests = no_test; patterns = [] }
+
+-- where an alternative begins after those before
+pub data Begins : Order → Choices → Type 0 where
+  at_first : Begins AtFront no_choice
+  at_later : {place : Span} {asks : Tests} {items : Items} {others : Choices} → Begins AtNext (choice place asks items others)
+
+stands_at : {order : Order} {before : Choices} (here : Here) (at : ℕ) (kind : BraceKind) → Begins order before
+    → Stands order (head here at kind before)
+stands_at here at kind at_first = at_start
+stands_at here at kind at_later = at_next
+
+due_at : {order : Order} {before : Choices} (here : Here) (at : ℕ) (kind : BraceKind) → Begins order before
+    → Due (head here at kind before) (o.ChoiceStart (head here at kind before)) order
+due_at here at kind at_first = start_due here at kind
+due_at here at kind at_later =
+    record {
+      white = λ n b e. rw (other is_white b 58 e refl, e) refl;
+      bang = λ n. refl;
+      due = λ n b e g k. rw (k, e, g) refl;
+      cut = λ i. refl;
+      backslash = refl;
+      asterisk = refl;
+    }
+
+later_begins : {order : Order} {before : Choices} → Begins order before → (place : Span) (asks : Tests) (items : Items)
+    → Begins AtNext (join_choices before (choice place asks items no_choice))
+later_begins at_first place asks items = at_later
+later_begins at_later place asks items = at_later
+
+-- after a byte, and what follows it
+after_one : {X : Type 0} (f : ℕ → List ℕ → X) (n k : ℕ) (text : List ℕ)
+    → f (n + k + 1) (drop 1 (drop k text)) ≡ f (n + (k + 1)) (drop (k + 1) text)
+after_one f n k text = ap (λ (i : ℕ). f i (drop 1 (drop k text))) places ∙ ap (λ (t : List ℕ). f (n + (k + 1)) t) (drop-drop 1 k text)
+  where
+    places : n + k + 1 ≡ n + (k + 1)
+    places = omega arith
+
+-- at the end of an X, whose colon stands k bytes into a text, and which has so many bytes
+x_end : {X : Type 0} (f : ℕ → List ℕ → X) (n k size : ℕ) (text : List ℕ)
+    → f (n + k + 1 + size + 1) (drop (size + 1) (drop (k + 1) text)) ≡ f (n + (k + (1 + size + 1))) (drop (k + (1 + size + 1)) text)
+x_end f n k size text =
+    ap (λ (i : ℕ). f i (drop (size + 1) (drop (k + 1) text))) places
+    ∙ ap (λ (t : List ℕ). f (n + (k + (1 + size + 1))) t) (drop-drop (size + 1) (k + 1) text)
+    ∙ ap (λ (i : ℕ). f (n + (k + (1 + size + 1))) (drop i text)) sizes
+  where
+    places : n + k + 1 + size + 1 ≡ n + (k + (1 + size + 1))
+    places = omega arith
+
+    sizes : k + 1 + (size + 1) ≡ k + (1 + size + 1)
+    sizes = omega arith
+
+x_next : {X : Type 0} (f : ℕ → List ℕ → X) (n k size b : ℕ) (text : List ℕ)
+    → f (n + k + 1 + size + 1) (drop (size + 1) (drop (k + 1) (b ∷ text))) ≡ f (n + 1 + (k + 1 + size)) (drop (k + 1 + size) text)
+x_next f n k size b text =
+    ap (λ (i : ℕ). f i (drop (size + 1) (drop (k + 1) (b ∷ text)))) places
+    ∙ ap (λ (t : List ℕ). f (n + 1 + (k + 1 + size)) t) (drop-drop (size + 1) (k + 1) (b ∷ text))
+    ∙ ap (λ (i : ℕ). f (n + 1 + (k + 1 + size)) (drop i (b ∷ text))) sizes
+  where
+    places : n + k + 1 + size + 1 ≡ n + 1 + (k + 1 + size)
+    places = omega arith
+
+    sizes : k + 1 + (size + 1) ≡ suc (k + 1 + size)
+    sizes = omega arith
+
+x_far : {X : Type 0} (f : ℕ → List ℕ → X) (n k size extra b : ℕ) (text : List ℕ)
+    → f (n + 1 + (k + 1 + size) + extra) (drop extra (drop (k + 1 + size) text))
+    ≡ f (n + (k + (1 + size + 1 + extra))) (drop (k + (1 + size + 1 + extra)) (b ∷ text))
+x_far f n k size extra b text =
+    ap (λ (i : ℕ). f i (drop extra (drop (k + 1 + size) text))) places
+    ∙ ap (λ (t : List ℕ). f (n + (k + (1 + size + 1 + extra))) t) (drop-drop extra (k + 1 + size) text)
+    ∙ ap (λ (i : ℕ). f (n + (k + (1 + size + 1 + extra))) (drop i (b ∷ text))) sizes
+  where
+    places : n + 1 + (k + 1 + size) + extra ≡ n + (k + (1 + size + 1 + extra))
+    places = omega arith
+
+    sizes : suc (k + 1 + size + extra) ≡ k + (1 + size + 1 + extra)
+    sizes = omega arith
+
+module _ (lists deep : Lists) (ws : List Waiting) (here : Here) (at : ℕ) (kind : BraceKind) (meets : Meets (here.context.levels - 1) lists)
+    (deeper : (here.context.levels - 1 == 0) ≡ false → Meets (here.context.levels - 1 - 1) deep) where
+  -- an X, from its colon on
+  x_goes : {Y : Type 0} (before : Choices) (asks : Tests) (colon m : ℕ) (rest : List ℕ) (made : Items × ℕ → ℕ → Read Y) (goes : Y → ℕ → Out)
+      → ((x : Items × ℕ) (size : ℕ) → resumed (resume_x (with_tests (head here at kind before) asks) colon asks x.0 (m + size) x.1)
+      (λ p. run ws p (m + size + 1) (drop (size + 1) rest)) (m + size)
+      ≡ out ws (made x size) goes)
+      → run (WaitsX (with_tests (head here at kind before) asks) colon ∷ ws) (list_in (in_x (in_braces here.context) asks)) m rest
+      ≡ out ws (then_read (within at (lists (in_x (in_braces here.context) asks) m rest)) made) goes
+  x_goes before asks colon m rest made goes same_end =
+      meets (in_x (in_braces here.context) asks) refl (inl refl) (WaitsX (with_tests (head here at kind before) asks) colon) ws m rest
+      ∙ left (WaitsX (with_tests (head here at kind before) asks) colon) ws at refl (lists (in_x (in_braces here.context) asks) m rest)
+      (λ list size. resumed (resume_x (with_tests (head here at kind before) asks) colon asks list.0 (m + size) list.1)
+      (λ p. run ws p (m + size + 1) (drop (size + 1) rest)) (m + size))
+      ∙ out_same ws (within at (lists (in_x (in_braces here.context) asks) m rest))
+      (λ list size. resumed (resume_x (with_tests (head here at kind before) asks) colon asks list.0 (m + size) list.1)
+      (λ p. run ws p (m + size + 1) (drop (size + 1) rest)) (m + size))
+      (λ x size. out ws (made x size) goes) same_end
+      ∙ sym (out_then ws (within at (lists (in_x (in_braces here.context) asks) m rest)) made goes)
+
+  default_goes : (order : Order) (before : Choices) → Begins order before → (n : ℕ) (text : List ℕ)
+      → d.is_default_at order (drop (prefix_len is_white text) text) ≡ true
+      → From ws (o.ChoiceStart (head here at kind before)) (brace_out ws here at kind before)
+      (d.default lists here.context at n (prefix_len is_white text) text) n text
+  default_goes order before begun n text k =
+      spaces_go {f = is_white} {p = o.ChoiceStart (head here at kind before)} (Due.white (due_at here at kind begun)) ws n text
+      ∙ opens order before begun (drop (prefix_len is_white text) text) k refl
+      ∙ x_goes before no_test (n + prefix_len is_white text) (n + prefix_len is_white text + 1) (drop (prefix_len is_white text + 1) text)
+      (λ x size. d.default_go at (n + prefix_len is_white text) x size)
+      (λ brace size. brace_out ws here at kind before brace (n + prefix_len is_white text + size)
+      (drop size (drop (prefix_len is_white text) text)))
+      (λ x size. by x size (x.1 == ascii.closing_brace))
+      ∙ out_moved ws (then_read
+      (within at (lists (in_x (in_braces here.context) no_test) (n + prefix_len is_white text + 1)
+      (drop (prefix_len is_white text + 1) text)))
+      (λ x size. d.default_go at (n + prefix_len is_white text) x size)) (brace_out ws here at kind before) n (prefix_len is_white text)
+      (drop (prefix_len is_white text) text) text refl
+    where
+      opens : (order : Order) (before : Choices) → Begins order before → (rest : List ℕ) → d.is_default_at order rest ≡ true
+          → drop (prefix_len is_white text) text ≡ rest
+          → run ws (o.ChoiceStart (head here at kind before)) (n + prefix_len is_white text) rest
+          ≡ run (WaitsX (with_tests (head here at kind before) no_test) (n + prefix_len is_white text) ∷ ws)
+          (list_in (in_x (in_braces here.context) no_test)) (n + prefix_len is_white text + 1)
+          (drop (prefix_len is_white text + 1) text)
+      opens AtFront before begun rest k e = absurd cc
+      opens AtBar before begun rest k e = absurd cc
+      opens AtNext before begun [] k e = absurd cc
+      opens AtNext no_choice begun (b ∷ rest) k e = elim begun [ ]
+      opens AtNext (choice place asks items others) at_later (b ∷ rest) k e =
+          ap (λ (x : ℕ). run ws (o.ChoiceStart (head here at kind (choice place asks items others))) (n + prefix_len is_white text)
+          (x ∷ rest)) (same b 58 k)
+          ∙ ap (λ (t : List ℕ). run
+          (WaitsX (with_tests (head here at kind (choice place asks items others)) no_test) (n + prefix_len is_white text) ∷ ws)
+          (list_in (in_x (in_braces here.context) no_test)) (n + prefix_len is_white text + 1) (drop 1 t)) (sym e)
+          ∙ ap (λ (t : List ℕ). run
+          (WaitsX (with_tests (head here at kind (choice place asks items others)) no_test) (n + prefix_len is_white text) ∷ ws)
+          (list_in (in_x (in_braces here.context) no_test)) (n + prefix_len is_white text + 1) t)
+          (drop-drop 1 (prefix_len is_white text) text)
+
+      by : (x : Items × ℕ) (size : ℕ) (t : Bool)
+          → resumed (if t then o.On
+          (o.AtItem (chosen_item (with_tests (head here at kind before) no_test) (n + prefix_len is_white text + 1 + size + 1)
+          (o.with_choice (with_tests (head here at kind before) no_test) (n + prefix_len is_white text) x.0))) else o.Not
+          (EmptyTest at))
+          (λ p. run ws p (n + prefix_len is_white text + 1 + size + 1) (drop (size + 1) (drop (prefix_len is_white text + 1) text)))
+          (n + prefix_len is_white text + 1 + size)
+          ≡ out ws (if t then Took (Choose (alternative (n + prefix_len is_white text) no_test x.0 no_choice)) (1 + size + 1) else Stops
+          (n + prefix_len is_white text + 1 + size) (EmptyTest at))
+          (λ brace size. brace_out ws here at kind before brace (n + prefix_len is_white text + size)
+          (drop size (drop (prefix_len is_white text) text)))
+      by x size true =
+          x_end (brace_out ws here at kind before (Choose (alternative (n + prefix_len is_white text) no_test x.0 no_choice))) n
+          (prefix_len is_white text) size text
+          ∙ sym (moved (brace_out ws here at kind before (Choose (alternative (n + prefix_len is_white text) no_test x.0 no_choice))) n
+          (prefix_len is_white text) (1 + size + 1)
+          (drop (prefix_len is_white text) text) text refl)
+      by x size false = refl
+
+  at_once : {X : Type 0} (p : Place) (goes : X → ℕ → List ℕ → Out) (r : Read X) (n : ℕ) (rest : List ℕ) → From ws p goes r (n + 0) rest
+      → From ws p goes r n rest
+  at_once p goes r n rest h = subst (λ (i : ℕ). From ws p goes r i rest) places h
+    where
+      places : n + 0 ≡ n
+      places = omega arith
+
+  pub choices_go : (text : List ℕ) (order : Order) (before : Choices) → Begins order before → (n skip : ℕ)
+      → From ws (o.ChoiceStart (head here at kind before)) (brace_out ws here at kind before)
+      (d.choices lists deep here.context at order n skip text) (n + skip) (drop skip text)
+  choices_go [] order before begun n skip = nothing_left ws (o.ChoiceStart (head here at kind before)) (brace_out ws here at kind before) at
+      (n + skip) skip (λ j. refl)
+  choices_go (b ∷ text) order before begun n (suc skip) =
+      skipped ws (o.ChoiceStart (head here at kind before)) (brace_out ws here at kind before)
+      (d.choices lists deep here.context at order (n + 1) skip text) n skip (drop skip text)
+      (choices_go text order before begun (n + 1) skip)
+  choices_go (b ∷ text) order before begun n zero =
+      begins ws (o.ChoiceStart (head here at kind before)) (brace_out ws here at kind before)
+      (d.choices lists deep here.context at order n 0 (b ∷ text)) n (b ∷ text)
+      (by (λ later started skip. choices_go text AtNext later started (n + 1) skip)
+      (d.is_default_at order (drop (prefix_len is_white (b ∷ text)) (b ∷ text))) refl)
+    where
+      same_brace : (asks : Tests) (k : ℕ) (items : Items) (brace : Brace)
+          → joined (join_choices before (alternative (n + k) asks items no_choice)) brace
+          ≡ joined before (d.with_choice (n + k) asks items brace)
+      same_brace asks k items (Emit ps) = refl
+      same_brace asks k items (Choose others) = ap Choose (join_choices_assoc before (alternative (n + k) asks items no_choice) others)
+
+      ends_x : ((later : Choices) → Begins AtNext later → (skip : ℕ)
+          → From ws (o.ChoiceStart (head here at kind later)) (brace_out ws here at kind later)
+          (d.choices lists deep here.context at AtNext (n + 1) skip text) (n + 1 + skip) (drop skip text))
+          → (asks : Tests) (k : ℕ) (x : Items × ℕ) (size : ℕ) (t : Bool)
+          → resumed (o.On (if t then o.AtItem
+          (chosen_item (with_tests (head here at kind before) asks) (n + k + 1 + size + 1)
+          (o.with_choice (with_tests (head here at kind before) asks) (n + k) x.0))
+          else o.ChoiceStart (o.next_head (with_tests (head here at kind before) asks) (n + k) x.0)))
+          (λ p. run ws p (n + k + 1 + size + 1) (drop (size + 1) (drop (k + 1) (b ∷ text)))) (n + k + 1 + size)
+          ≡ out ws (past k (if t then Took (Choose (alternative (n + k) asks x.0 no_choice)) (1 + size + 1)
+          else then_read (d.choices lists deep here.context at AtNext (n + 1) (k + 1 + size) text)
+          (λ brace more. Took (d.with_choice (n + k) asks x.0 brace) (1 + size + 1 + more))))
+          (λ brace size. brace_out ws here at kind before brace (n + size) (drop size (b ∷ text)))
+      ends_x ih asks k x size true = x_end (brace_out ws here at kind before (Choose (alternative (n + k) asks x.0 no_choice))) n k size
+          (b ∷ text)
+      ends_x ih asks k x size false =
+          x_next (λ i t. run ws (o.ChoiceStart (head here at kind (join_choices before (alternative (n + k) asks x.0 no_choice)))) i t) n k
+          size b text
+          ∙ ih (join_choices before (alternative (n + k) asks x.0 no_choice)) (later_begins begun _ _ _) (k + 1 + size)
+          ∙ out_same ws (d.choices lists deep here.context at AtNext (n + 1) (k + 1 + size) text)
+          (λ brace more. brace_out ws here at kind (join_choices before (alternative (n + k) asks x.0 no_choice)) brace
+          (n + 1 + (k + 1 + size) + more) (drop more (drop (k + 1 + size) text)))
+          (λ brace more. brace_out ws here at kind before (d.with_choice (n + k) asks x.0 brace) (n + (k + (1 + size + 1 + more)))
+          (drop (k + (1 + size + 1 + more)) (b ∷ text)))
+          (λ brace more. ap (λ (y : Brace). run ws (o.AtItem (placed here at (n + 1 + (k + 1 + size) + more) (braced kind y)))
+          (n + 1 + (k + 1 + size) + more) (drop more (drop (k + 1 + size) text)))
+          (same_brace asks k x.0 brace)
+          ∙ x_far (brace_out ws here at kind before (d.with_choice (n + k) asks x.0 brace)) n k size more b text)
+          ∙ sym (out_then ws (d.choices lists deep here.context at AtNext (n + 1) (k + 1 + size) text)
+          (λ brace more. Took (d.with_choice (n + k) asks x.0 brace) (1 + size + 1 + more))
+          (λ brace size. brace_out ws here at kind before brace (n + (k + size)) (drop (k + size) (b ∷ text))))
+          ∙ sym (out_past ws k (then_read (d.choices lists deep here.context at AtNext (n + 1) (k + 1 + size) text)
+          (λ brace more. Took (d.with_choice (n + k) asks x.0 brace) (1 + size + 1 + more)))
+          (λ brace size. brace_out ws here at kind before brace (n + size) (drop size (b ∷ text))))
+
+      form_goes : ((later : Choices) → Begins AtNext later → (skip : ℕ)
+          → From ws (o.ChoiceStart (head here at kind later)) (brace_out ws here at kind later)
+          (d.choices lists deep here.context at AtNext (n + 1) skip text) (n + 1 + skip) (drop skip text)) → (form : Form) (k : ℕ)
+          → form_out ws (head here at kind before) form (n + k) (drop k (b ∷ text))
+          ≡ out ws (d.form_go lists here.context at n (b ∷ text) form k
+          (λ skip. d.choices lists deep here.context at AtNext (n + 1) skip text))
+          (λ brace size. brace_out ws here at kind before brace (n + size) (drop size (b ∷ text)))
+      form_goes ih (Patterns ps) k = after_one (brace_out ws here at kind before (Emit ps)) n k (b ∷ text)
+      form_goes ih (Alternative place negated a others) k =
+          ap (λ (t : List ℕ). run (WaitsX (with_tests (head here at kind before) (test place negated a others)) (n + k) ∷ ws)
+          (list_in (in_x (in_braces here.context) (test place negated a others))) (n + k + 1) t)
+          (drop-drop 1 k (b ∷ text))
+          ∙ x_goes before (test place negated a others) (n + k) (n + k + 1) (drop (k + 1) (b ∷ text))
+          (λ x size. past k (d.x_go (n + k) (test place negated a others) x size
+          (d.choices lists deep here.context at AtNext (n + 1) (k + 1 + size) text)))
+          (λ brace size. brace_out ws here at kind before brace (n + size) (drop size (b ∷ text)))
+          (λ x size. ends_x ih (test place negated a others) k x size (x.1 == ascii.closing_brace))
+
+      by : ((later : Choices) → Begins AtNext later → (skip : ℕ)
+          → From ws (o.ChoiceStart (head here at kind later)) (brace_out ws here at kind later)
+          (d.choices lists deep here.context at AtNext (n + 1) skip text) (n + 1 + skip) (drop skip text)) → (t : Bool)
+          → d.is_default_at order (drop (prefix_len is_white (b ∷ text)) (b ∷ text)) ≡ t
+          → From ws (o.ChoiceStart (head here at kind before)) (brace_out ws here at kind before)
+          (if t then d.default lists here.context at n (prefix_len is_white (b ∷ text)) (b ∷ text)
+          else then_read (d.tests deep here.context at order n 0 (b ∷ text))
+          (λ form k. d.form_go lists here.context at n (b ∷ text) form k
+          (λ skip. d.choices lists deep here.context at AtNext (n + 1) skip text)))
+          n (b ∷ text)
+      by ih true e = default_goes order before begun n (b ∷ text) e
+      by ih false e =
+          at_once (o.ChoiceStart (head here at kind before)) (form_out ws (head here at kind before))
+          (d.tests deep here.context at order n 0 (b ∷ text)) n (b ∷ text)
+          (tests_go deep ws (b ∷ text) order (head here at kind before) deeper (stands_at here at kind begun)
+          (o.ChoiceStart (head here at kind before)) (due_at here at kind begun) n 0 e)
+          ∙ out_same ws (d.tests deep here.context at order n 0 (b ∷ text))
+          (λ form k. form_out ws (head here at kind before) form (n + k) (drop k (b ∷ text)))
+          (λ form k. out ws (d.form_go lists here.context at n (b ∷ text) form k
+          (λ skip. d.choices lists deep here.context at AtNext (n + 1) skip text))
+          (λ brace size. brace_out ws here at kind before brace (n + size) (drop size (b ∷ text)))) (form_goes ih)
+          ∙ sym (out_then ws (d.tests deep here.context at order n 0 (b ∷ text))
+          (λ form k. d.form_go lists here.context at n (b ∷ text) form k
+          (λ skip. d.choices lists deep here.context at AtNext (n + 1) skip text))
+          (λ brace size. brace_out ws here at kind before brace (n + size) (drop size (b ∷ text))))
+
+  pub braces_go : (n : ℕ) (text : List ℕ)
+      → From ws (o.ChoiceStart (fresh here at kind))
+      (λ item i rest. item_out ws here at item i rest) (d.braces lists deep here.context at kind n text) n text
+  braces_go n text =
+      at_once (o.ChoiceStart (fresh here at kind)) (brace_out ws here at kind no_choice)
+      (d.choices lists deep here.context at AtFront n 0 text) n text (choices_go text AtFront no_choice at_first n 0)
+      ∙ out_same ws (d.choices lists deep here.context at AtFront n 0 text)
+      (λ brace size. brace_out ws here at kind no_choice brace (n + size) (drop size text))
+      (λ brace size. item_out ws here at (braced kind brace) (n + size) (drop size text)) same_item
+      ∙ sym (out_then ws (d.choices lists deep here.context at AtFront n 0 text) (λ brace size. Took (braced kind brace) size)
+      (λ item size. item_out ws here at item (n + size) (drop size text)))
+    where
+      same_item : (brace : Brace) (size : ℕ) → brace_out ws here at kind no_choice brace (n + size) (drop size text)
+          ≡ item_out ws here at (braced kind brace) (n + size) (drop size text)
+      same_item (Emit ps) size = refl
+      same_item (Choose others) size = refl
+
+-- directives
+
+module _ (lists deep : Lists) (ws : List Waiting) (here : Here) (at : ℕ) (meets : (here.context.levels == 0) ≡ false
+    → Meets (here.context.levels - 1) lists)
+    (deeper : (here.context.levels - 1 == 0) ≡ false → Meets (here.context.levels - 1 - 1) deep) where
+  marked_goes : (here.context.levels == 0) ≡ false → (kind : BraceKind) (n : ℕ) (text : List ℕ)
+      → run ws (o.BraceOpen here at kind) n text
+      ≡ out ws (d.marked_braces lists deep here.context at kind n text) (then_item ws here at n text)
+  marked_goes l kind n [] = ends ws (o.BraceOpen here at kind) n at refl
+  marked_goes l kind n (b ∷ text) = by (b == ascii.opening_brace) refl
+    where
+      by : (t : Bool) → (b == ascii.opening_brace) ≡ t
+          → run ws (o.BraceOpen here at kind) n (b ∷ text)
+          ≡ out ws (if t then past 1 (d.braces lists deep here.context at kind (n + 1) text) else Stops n (BadDirective at))
+          (then_item ws here at n (b ∷ text))
+      by true e =
+          step ws (o.BraceOpen here at kind) (o.ChoiceStart (fresh here at kind)) n b text (rw e refl)
+          ∙ braces_go lists deep ws here at kind (meets l) deeper (n + 1) text
+          ∙ out_moved ws (d.braces lists deep here.context at kind (n + 1) text)
+          (λ x i t. item_out ws here at x i t) n 1 text (b ∷ text) refl
+      by false e = stop ws (o.BraceOpen here at kind) n b (BadDirective at) text (rw e refl)
+
+  by_directive : (n b : ℕ) (text : List ℕ) (directive : Directive)
+      → turn (o.AfterPercent here at) n b ≡ o.turn_directive here at (n + 1) directive
+      → run ws (o.AfterPercent here at) n (b ∷ text)
+      ≡ out ws (d.directive_by lists deep here.context at n directive text) (then_item ws here at (n + 1) text)
+  by_directive n b text Nowhere e = stop ws (o.AfterPercent here at) n b (BadDirective at) text e
+  by_directive n b text (Whole leaf) e =
+      step ws (o.AfterPercent here at) (o.AtItem (placed here at (n + 1) (Leaf leaf))) n b text e
+      ∙ stays (item_out ws here at (Leaf leaf)) (n + 1) text
+  by_directive n b text (Named letter) e =
+      step ws (o.AfterPercent here at) (o.AtItem (placed here at (n + 1) (BuiltinText (text_of letter)))) n b text e
+      ∙ stays (item_out ws here at (BuiltinText (text_of letter))) (n + 1) text
+  by_directive n b text (WithSuffix kind) e = step ws (o.AfterPercent here at) (o.SuffixStart here at kind) n b text e
+      ∙ suffix_goes ws here at kind (n + 1) text
+  by_directive n b text WithOption e = step ws (o.AfterPercent here at) (o.OptionOpen here at) n b text e
+      ∙ option_goes ws here at (n + 1) text
+  by_directive n b text (WithSaying kind) e = step ws (o.AfterPercent here at) (o.SayingText here at kind []) n b text e
+      ∙ saying_goes ws here at kind (n + 1) text
+  by_directive n b text WithName e = step ws (o.AfterPercent here at) (o.NameText here at []) n b text e
+      ∙ name_goes ws here at (n + 1) [] text
+  by_directive n b text WithPattern e =
+      step ws (o.AfterPercent here at) (o.HideStart here at) n b text e
+      ∙ hide_goes ws here at (n + 1) text
+      ∙ sym (out_then ws (d.pattern_at at (n + 1) text) (λ p size. Took (Hide p) size) (then_item ws here at (n + 1) text))
+  by_directive n b text OfStar e = star here.context.owner refl
+    where
+      star : (owner : Owner) → here.context.owner ≡ owner
+          → run ws (o.AfterPercent here at) n (b ∷ text) ≡ out ws (d.star at n owner) (then_item ws here at (n + 1) text)
+      star Nobody g = stop ws (o.AfterPercent here at) n b (StarOutside at) text (e ∙ ap (o.turn_star here at (n + 1)) g)
+      star Mixed g = stop ws (o.AfterPercent here at) n b (MixedStar at) text (e ∙ ap (o.turn_star here at (n + 1)) g)
+      star Starred g =
+          step ws (o.AfterPercent here at) (o.AtItem (placed here at (n + 1) Star)) n b text (e ∙ ap (o.turn_star here at (n + 1)) g)
+          ∙ stays (item_out ws here at Star) (n + 1) text
+  by_directive n b text WithCall e = by (here.context.levels == 0) refl
+    where
+      by : (t : Bool) → (here.context.levels == 0) ≡ t
+          → run ws (o.AfterPercent here at) n (b ∷ text)
+          ≡ out ws (if t then Stops n (TooNested at) else d.call lists here.context at (n + 1) text) (then_item ws here at (n + 1) text)
+      by true l = stop ws (o.AfterPercent here at) n b (TooNested at) text (e ∙ rw l refl)
+      by false l = step ws (o.AfterPercent here at) (o.FunctionName here at []) n b text (e ∙ rw l refl)
+          ∙ call_goes lists ws here (meets l) at (n + 1) text
+  by_directive n b text WithBraces e = by (here.context.levels == 0) refl
+    where
+      by : (t : Bool) → (here.context.levels == 0) ≡ t
+          → run ws (o.AfterPercent here at) n (b ∷ text)
+          ≡ out ws (if t then Stops n (TooNested at) else d.braces lists deep here.context at InPlace (n + 1) text)
+          (then_item ws here at (n + 1) text)
+      by true l = stop ws (o.AfterPercent here at) n b (TooNested at) text (e ∙ rw l refl)
+      by false l =
+          step ws (o.AfterPercent here at) (o.ChoiceStart (fresh here at InPlace)) n b text (e ∙ rw l refl)
+          ∙ braces_go lists deep ws here at InPlace (meets l) deeper (n + 1) text
+  by_directive n b text (WithMarkedBraces kind) e = by (here.context.levels == 0) refl
+    where
+      by : (t : Bool) → (here.context.levels == 0) ≡ t
+          → run ws (o.AfterPercent here at) n (b ∷ text)
+          ≡ out ws (if t then Stops n (TooNested at) else d.marked_braces lists deep here.context at kind (n + 1) text)
+          (then_item ws here at (n + 1) text)
+      by true l = stop ws (o.AfterPercent here at) n b (TooNested at) text (e ∙ rw l refl)
+      by false l = step ws (o.AfterPercent here at) (o.BraceOpen here at kind) n b text (e ∙ rw l refl) ∙ marked_goes l kind (n + 1) text
+
+  pub directive_goes : (text : List ℕ)
+      → run ws (o.AfterPercent here at) (at + 1) text
+      ≡ out ws (d.directive lists deep here.context at text) (then_item ws here at (at + 1) text)
+  directive_goes [] = ends ws (o.AfterPercent here at) (at + 1) at refl
+  directive_goes (b ∷ text) = by (is_allowed here.context.in_arguments b) refl
+    where
+      by : (t : Bool) → is_allowed here.context.in_arguments b ≡ t
+          → run ws (o.AfterPercent here at) (at + 1) (b ∷ text)
+          ≡ out ws (if t then past 1 (d.directive_by lists deep here.context at (at + 1) (directive_of b) text) else Stops (at + 1)
+          (BadDirective at)) (then_item ws here at (at + 1) (b ∷ text))
+      by true e =
+          by_directive (at + 1) b text (directive_of b) (rw e refl)
+          ∙ out_moved ws (d.directive_by lists deep here.context at (at + 1) (directive_of b) text)
+          (λ x i t. item_out ws here at x i t) (at + 1) 1 text (b ∷ text) refl
+      by false e = stop ws (o.AfterPercent here at) (at + 1) b (BadDirective at) text (rw e refl)
+
+-- items
+
+-- nothing is left behind the end
+none_behind : (size : ℕ) (rest : List ℕ) → rest ≡ [] → rest ≡ drop size rest
+none_behind zero rest e = refl
+none_behind (suc size) rest e = e ∙ ap (λ (t : List ℕ). drop (suc size) t) (sym e)
+
+escape_goes : (ws : List Waiting) (here : Here) (n : ℕ) (text : List ℕ)
+    → run ws (o.AfterBackslash here n) (n + 1) text ≡ out ws (d.escape n text) (then_item ws here n (n + 1) text)
+escape_goes ws here n [] = ends ws (o.AfterBackslash here n) (n + 1) n refl
+escape_goes ws here n (b ∷ text) = refl
+
+ended_list : (kind : Kind) (b : ℕ) (t u : Bool) → (b == ascii.backslash) ≡ t → (b == ascii.percent) ≡ u → d.ends_list kind b ≡ true
+    → ((b == ascii.backslash) ≡ false) × ((b == ascii.percent) ≡ false) × (is_end kind b ≡ true)
+ended_list kind b t u e g h
+    = by t u e g (sym (ap (λ (x : Bool). if x then false else if b == ascii.percent then false else is_end kind b) e
+    ∙ ap (λ (y : Bool). if t then false else if y then false else is_end kind b) g) ∙ h)
+  where
+    by : (t u : Bool) → (b == ascii.backslash) ≡ t → (b == ascii.percent) ≡ u
+        → (if t then false else if u then false else is_end kind b) ≡ true
+        → ((b == ascii.backslash) ≡ false) × ((b == ascii.percent) ≡ false) × (is_end kind b ≡ true)
+    by true u e g h = absurd cc
+    by false true e g h = absurd cc
+    by false false e g h = (e, g, h)
+
+open_list : (kind : Kind) (b : ℕ) → (b == ascii.backslash) ≡ false → (b == ascii.percent) ≡ false → d.ends_list kind b ≡ false
+    → is_end kind b ≡ false
+open_list kind b e g h = sym (ap (λ (x : Bool). if x then false else if b == ascii.percent then false else is_end kind b) e
+    ∙ ap (λ (y : Bool). if y then false else is_end kind b) g) ∙ h
+
+module _ (lists deep : Lists) (ws : List Waiting) (c : ListContext) (meets : (c.levels == 0) ≡ false → Meets (c.levels - 1) lists)
+    (deeper : (c.levels - 1 == 0) ≡ false → Meets (c.levels - 1 - 1) deep) where
+  abbrev pub list : Items → Here
+  list done = record { context = c; done = done }
+
+  item_goes : (done : Items) (n b : ℕ) (text : List ℕ) → d.ends_list c.kind b ≡ false
+      → run ws (o.AtItem (list done)) n (b ∷ text) ≡ out ws (d.item lists deep c n b text) (then_item ws (list done) n (n + 1) text)
+  item_goes done n b text h = by (b == ascii.backslash) (b == ascii.percent) refl refl
+    where
+      single : (one : Item) → turn_item (list done) n b ≡ o.then_item (list done) n (n + 1) one
+          → run ws (o.AtItem (list done)) n (b ∷ text) ≡ item_out ws (list done) n one (n + 1 + 0) text
+      single one e = step ws (o.AtItem (list done)) (o.AtItem (placed (list done) n (n + 1) one)) n b text e
+          ∙ stays (item_out ws (list done) n one) (n + 1) text
+
+      plain : (t u v : Bool) → is_blank b ≡ t → (b == ascii.newline) ≡ u → (b == ascii.bar) ≡ v → (b == ascii.backslash) ≡ false
+          → (b == ascii.percent) ≡ false → is_end c.kind b ≡ false
+          → run ws (o.AtItem (list done)) n (b ∷ text)
+          ≡ out ws (if t then Took Blank 0 else if u then Took (newline_in c.in_arguments) 0 else if v then Took (bar_in c.in_arguments) 0
+          else Took (Plain b) 0) (then_item ws (list done) n (n + 1) text)
+      plain true u v x y z e g k = single Blank (rw (e, g, k, x) refl)
+      plain false true v x y z e g k = single (newline_in c.in_arguments) (rw (e, g, k, x, y) refl)
+      plain false false true x y z e g k = single (bar_in c.in_arguments) (rw (e, g, k, x, y, z) refl)
+      plain false false false x y z e g k = single (Plain b) (rw (e, g, k, x, y, z) refl)
+
+      by : (t u : Bool) → (b == ascii.backslash) ≡ t → (b == ascii.percent) ≡ u
+          → run ws (o.AtItem (list done)) n (b ∷ text)
+          ≡ out ws (if t then d.escape n text else if u then d.directive lists deep c n text else if is_blank b then Took Blank 0 else if b
+          == ascii.newline then Took (newline_in c.in_arguments) 0
+          else if b == ascii.bar then Took (bar_in c.in_arguments) 0 else Took (Plain b) 0) (then_item ws (list done) n (n + 1) text)
+      by true u e g = step ws (o.AtItem (list done)) (o.AfterBackslash (list done) n) n b text (rw e refl)
+          ∙ escape_goes ws (list done) n text
+      by false true e g = step ws (o.AtItem (list done)) (o.AfterPercent (list done) n) n b text (rw (e, g) refl)
+          ∙ directive_goes lists deep ws (list done) n meets deeper text
+      by false false e g = plain (is_blank b) (b == ascii.newline) (b == ascii.bar) refl refl refl e g (open_list c.kind b e g h)
+
+  -- what ends the list goes on so
+  module _ (goes : Items → ℕ → ℕ → List ℕ → Out)
+      (closes : (done : Items) (n b : ℕ) (rest : List ℕ) → is_end c.kind b ≡ true
+      → closed ws done b (λ w p. run w p (n + 1) rest) n ≡ goes done b n (b ∷ rest))
+      (finishes : (done : Items) (i n : ℕ) → end_of ws (o.AtItem (record { context = c; done = done })) i ≡ out ws (d.list_end c.kind n)
+      (λ l size. goes (join done l.0) l.1 (i + size) [])) where
+    pub items_go : (text : List ℕ) (done : Items) (n skip : ℕ)
+        → From ws (o.AtItem (list done)) (λ l i rest. goes (join done l.0) l.1 i rest) (d.items_with lists deep c n skip text) (n + skip)
+        (drop skip text)
+    items_go [] done n zero = finishes done (n + 0) n
+        ∙ out_same ws (d.list_end c.kind n) (λ l size. goes (join done l.0) l.1 (n + 0 + size) [])
+        (λ l size. goes (join done l.0) l.1 (n + 0 + size) (drop size []))
+        (λ l size. ap (λ (t : List ℕ). goes (join done l.0) l.1 (n + 0 + size) t) (none_behind size [] refl))
+    items_go [] done n (suc skip) = finishes done (n + suc skip) n
+        ∙ out_same ws (d.list_end c.kind n) (λ l size. goes (join done l.0) l.1 (n + suc skip + size) [])
+        (λ l size. goes (join done l.0) l.1 (n + suc skip + size) (drop size []))
+        (λ l size. ap (λ (t : List ℕ). goes (join done l.0) l.1 (n + suc skip + size) t) (none_behind size [] refl))
+    items_go (b ∷ text) done n (suc skip) =
+        skipped ws (o.AtItem (list done)) (λ l i rest. goes (join done l.0) l.1 i rest) (d.items_with lists deep c (n + 1) skip text) n skip
+        (drop skip text) (items_go text done (n + 1) skip)
+    items_go (b ∷ text) done n zero =
+        begins ws (o.AtItem (list done)) (λ l i rest. goes (join done l.0) l.1 i rest) (d.items_with lists deep c n 0 (b ∷ text)) n
+        (b ∷ text) (by (λ past k. items_go text past (n + 1) k) (d.ends_list c.kind b) refl)
+      where
+        near : (f : ℕ → List ℕ → Out) (k size : ℕ)
+            → f (n + 1 + k + size) (drop size (drop k text)) ≡ f (n + (1 + k + size)) (drop (1 + k + size) (b ∷ text))
+        near f k size =
+            ap (λ (i : ℕ). f i (drop size (drop k text))) places
+            ∙ ap (λ (t : List ℕ). f (n + (1 + k + size)) t) (drop-drop size k text)
+            ∙ ap (λ (i : ℕ). f (n + (1 + k + size)) (drop i (b ∷ text))) sizes
+          where
+            places : n + 1 + k + size ≡ n + (1 + k + size)
+            places = omega arith
+
+            sizes : suc (k + size) ≡ 1 + k + size
+            sizes = omega arith
+
+        one_more : ((past : Items) (k : ℕ)
+            → From ws (o.AtItem (list past)) (λ l i rest. goes (join past l.0) l.1 i rest) (d.items_with lists deep c (n + 1) k text)
+            (n + 1 + k) (drop k text)) → (one : Item) (k : ℕ)
+            → item_out ws (list done) n one (n + 1 + k) (drop k text)
+            ≡ out ws (d.item_go n one k (d.items_with lists deep c (n + 1) k text))
+            (λ l size. goes (join done l.0) l.1 (n + size) (drop size (b ∷ text)))
+        one_more ih one k =
+            ih (join done (more (span n (n + 1 + k)) one none)) k
+            ∙ out_same ws (d.items_with lists deep c (n + 1) k text)
+            (λ l size. goes (join (join done (more (span n (n + 1 + k)) one none)) l.0) l.1 (n + 1 + k + size) (drop size (drop k text)))
+            (λ l size. goes (join done (more (span n (n + 1 + k)) one l.0)) l.1 (n + (1 + k + size)) (drop (1 + k + size) (b ∷ text)))
+            (λ l size. ap (λ (x : Items). goes x l.1 (n + 1 + k + size) (drop size (drop k text)))
+            (join_assoc done (more (span n (n + 1 + k)) one none) l.0)
+            ∙ near (goes (join done (more (span n (n + 1 + k)) one l.0)) l.1) k size)
+            ∙ sym (out_then ws (d.items_with lists deep c (n + 1) k text)
+            (λ l size. Took (more (span n (n + 1 + k)) one l.0, l.1) (1 + k + size))
+            (λ l size. goes (join done l.0) l.1 (n + size) (drop size (b ∷ text))))
+
+        by : ((past : Items) (k : ℕ)
+            → From ws (o.AtItem (list past)) (λ l i rest. goes (join past l.0) l.1 i rest) (d.items_with lists deep c (n + 1) k text)
+            (n + 1 + k) (drop k text)) → (t : Bool) → d.ends_list c.kind b ≡ t
+            → From ws (o.AtItem (list done)) (λ l i rest. goes (join done l.0) l.1 i rest)
+            (if t then Took (none, b) 0 else then_read (d.item lists deep c n b text)
+            (λ one k. d.item_go n one k (d.items_with lists deep c (n + 1) k text))) n (b ∷ text)
+        by ih true e =
+            let f = ended_list c.kind b (b == ascii.backslash) (b == ascii.percent) refl refl e in
+            ap (λ (x : Turn). after x ws (λ w p. run w p (n + 1) text) n) (closing f)
+            ∙ closes done n b text f.2
+            ∙ ap (λ (x : Items). goes x b n (b ∷ text)) (sym (join_none done))
+            ∙ stays (goes (join done none) b) n (b ∷ text)
+          where
+            closing : ((b == ascii.backslash) ≡ false) × ((b == ascii.percent) ≡ false) × (is_end c.kind b ≡ true)
+                → turn_item (list done) n b ≡ o.Closes done b
+            closing f = rw (f.0, f.1, f.2) refl
+        by ih false e =
+            item_goes done n b text e
+            ∙ out_same ws (d.item lists deep c n b text) (then_item ws (list done) n (n + 1) text)
+            (λ one k. out ws (d.item_go n one k (d.items_with lists deep c (n + 1) k text))
+            (λ l size. goes (join done l.0) l.1 (n + size) (drop size (b ∷ text)))) (one_more ih)
+            ∙ sym (out_then ws (d.item lists deep c n b text) (λ one k. d.item_go n one k (d.items_with lists deep c (n + 1) k text))
+            (λ l size. goes (join done l.0) l.1 (n + size) (drop size (b ∷ text))))
+
+-- lists in braces and arguments
+with_meets : (level : ℕ) (lists deep : Lists) → ((level == 0) ≡ false → Meets (level - 1) lists)
+    → ((level - 1 == 0) ≡ false → Meets (level - 1 - 1) deep)
+    → Meets level (λ c n text. d.items_with lists deep c n 0 text)
+with_meets level lists deep meets deeper c is kind w ws n text =
+    same_start
+    ∙ items_go lists deep (w ∷ ws) c (subst (λ (l : ℕ). (l == 0) ≡ false → Meets (l - 1) lists) (sym is) meets)
+    (subst (λ (l : ℕ). (l - 1 == 0) ≡ false → Meets (l - 1 - 1) deep) (sym is) deeper)
+    (λ items b i rest. resumed (resume w items i b) (λ p. run ws p (i + 1) (drop 1 rest)) i)
+    (λ done i b rest e. refl) finishes text none n 0
+    ∙ out_same (w ∷ ws) (d.items_with lists deep c n 0 text)
+    (λ l size. resumed (resume w l.0 (n + 0 + size) l.1) (λ p. run ws p (n + 0 + size + 1) (drop 1 (drop size text))) (n + 0 + size))
+    (λ l size. resumed (resume w l.0 (n + size) l.1) (λ p. run ws p (n + size + 1) (drop (size + 1) text)) (n + size))
+    (λ l size. ap (λ (i : ℕ). resumed (resume w l.0 (i + size) l.1) (λ p. run ws p (i + size + 1) (drop 1 (drop size text))) (i + size))
+    (sym zero_more)
+    ∙ ap (λ (t : List ℕ). resumed (resume w l.0 (n + size) l.1) (λ p. run ws p (n + size + 1) t) (n + size)) (drop-drop 1 size text))
+  where
+    zero_more : n ≡ n + 0
+    zero_more = omega arith
+
+    same_start : run (w ∷ ws) (list_in c) n text ≡ run (w ∷ ws) (list_in c) (n + 0) text
+    same_start = ap (λ (i : ℕ). run (w ∷ ws) (list_in c) i text) zero_more
+
+    finishes : (done : Items) (i m : ℕ)
+        → end_of (w ∷ ws) (o.AtItem (record { context = c; done = done })) i
+        ≡ out (w ∷ ws) (d.list_end c.kind m)
+        (λ l size. resumed (resume w (join done l.0) (i + size) l.1) (λ p. run ws p (i + size + 1) (drop 1 [])) (i + size))
+    finishes done i m = by kind
+      where
+        by : (c.kind ≡ InX) ⊎ (c.kind ≡ InArguments)
+            → end_of (w ∷ ws) (o.AtItem (record { context = c; done = done })) i
+            ≡ out (w ∷ ws) (d.list_end c.kind m)
+            (λ l size. resumed (resume w (join done l.0) (i + size) l.1) (λ p. run ws p (i + size + 1) (drop 1 [])) (i + size))
+        by (inl e) =
+            ap (λ (k : Kind). out (w ∷ ws) (d.list_end k m)
+            (λ l size. resumed (resume w (join done l.0) (i + size) l.1) (λ p. run ws p (i + size + 1) (drop 1 [])) (i + size))) (sym e)
+        by (inr e) =
+            ap (λ (k : Kind). out (w ∷ ws) (d.list_end k m)
+            (λ l size. resumed (resume w (join done l.0) (i + size) l.1) (λ p. run ws p (i + size + 1) (drop 1 [])) (i + size))) (sym e)
+
+abbrev Levels : ℕ → Type 0
+Levels level = Meets level (levels level).0 × Meets (level - 1) (levels level).1
+
+levels_meet : (level : ℕ) → Levels level
+levels_meet zero = (
+  with_meets 0 d.no_lists d.no_lists (λ h. absurd cc) (λ h. absurd cc),
+  with_meets 0 d.no_lists d.no_lists (λ h. absurd cc)
+      (λ h. absurd cc),
+)
+levels_meet (suc level) =
+    let m : Levels level = levels_meet level in (
+      with_meets (suc level) (levels level).0 (levels level).1 (λ h. subst (λ (l : ℕ). Meets l (levels level).0) one_less m.0)
+          (λ h. subst (λ (l : ℕ). Meets (l - 1) (levels level).1) one_less m.1),
+      subst (λ (l : ℕ). Meets l (levels level).0) one_less m.0,
+    )
+  where
+    one_less : level ≡ suc level - 1
+    one_less = omega arith
+
+outcome_out : (r : Read (Items × ℕ)) → d.outcome r ≡ out [] r (λ l size. Got l.0)
+outcome_out (Took l size) = refl
+outcome_out (Ends at) = refl
+outcome_out (Stops n fault) = refl
+
+-- a whole text, which may have 64 levels
+from_top : (level : ℕ) → level ≡ 63 → (text : List ℕ) → d.outcome ((levels (suc level)).0 top 0 text) ≡ read text
+from_top level e text =
+    outcome_out ((levels (suc level)).0 top 0 text)
+    ∙ sym (items_go (levels level).0 (levels level).1 [] top (λ h. subst (λ (l : ℕ). Meets l (levels level).0) e (levels_meet level).0)
+    (λ h. subst (λ (l : ℕ). Meets (l - 1) (levels level).1) e (levels_meet level).1) (λ items b i rest. Got items)
+    (λ done n b rest f. absurd cc)
+    (λ done i n. ap Got (sym (join_none done))) text none 0 0)
+
+pub descent_is_read : (text : List ℕ) → descent text ≡ read text
+descent_is_read text = from_top 63 refl text
+
+pub descent_is_parsed : (text : List ℕ) → length text ≤ o.text_limit → o.parsed text ≡ o.judged (descent text)
+descent_is_parsed text h = kinds.within text (descent text) h (sym (descent_is_read text))
