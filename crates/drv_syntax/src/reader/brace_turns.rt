@@ -4,7 +4,7 @@ ghost use Rattle.drv_syntax.specs.Code.States.{Reads, state};
 ghost use Rattle.drv_syntax.specs.Code.Steps as steps;
 ghost use Rattle.drv_words.specs.Bytes as ascii;
 ghost use Rattle.drv_words.specs.Gives.{Gives};
-ghost use Rattle.std.specs.Prelude.{◌≡◌, ◌<◌, ◌≤◌, ◌^◌, ◌+◌, ◌*◌, IfOk, Ok, OnOk, get_or};
+ghost use Rattle.std.specs.Prelude.{◌≡◌, ◌<◌, ◌^◌, ◌+◌, Ok, get_or};
 ghost use Rattle.std.specs.Prelude.{length};
 
 use crate::directives::BraceKind;

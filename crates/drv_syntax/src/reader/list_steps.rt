@@ -4,7 +4,7 @@ ghost use Rattle.drv_syntax.specs.Code.States.{state};
 ghost use Rattle.drv_syntax.specs.Code.Steps as steps;
 ghost use Rattle.drv_syntax.specs.Code.Turns as turns;
 ghost use Rattle.drv_words.specs.Gives.{Gives};
-ghost use Rattle.std.specs.Prelude.{◌≡◌, ◌<◌, ◌≤◌, ◌^◌, ◌+◌, length, OnOk};
+ghost use Rattle.std.specs.Prelude.{◌≡◌, ◌<◌, ◌^◌};
 
 use crate::directives::{BraceKind, Directive, SayKind, allows, directive_of};
 use crate::fault::SyntaxFault;

@@ -4,8 +4,7 @@ ghost use Rattle.drv_syntax.specs.Code.Steps as steps;
 ghost use Rattle.drv_syntax.specs.Code.Resuming.{Follows};
 ghost use Rattle.drv_syntax.specs.Code.States.{state};
 ghost use Rattle.drv_words.specs.Gives.{Gives};
-ghost use Rattle.std.specs.Prelude.{◌≡◌, ◌<◌, ◌≤◌, ◌^◌, ◌+◌, ◌*◌, [], IfOk, length, OnOk, Ok};
-ghost use Rattle.std.specs.Prelude.{reverse};
+ghost use Rattle.std.specs.Prelude.{◌≡◌, ◌≤◌, ◌+◌, [], IfOk, length, Ok};
 
 use crate::fault::SyntaxFault;
 use crate::labels::Labels;

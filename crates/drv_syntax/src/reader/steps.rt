@@ -3,7 +3,7 @@
 ghost use Rattle.drv_syntax.specs.Code.Steps as steps;
 ghost use Rattle.drv_syntax.specs.Code.States.{state};
 ghost use Rattle.drv_words.specs.Gives.{Gives};
-ghost use Rattle.std.specs.Prelude.{◌<◌, ◌≤◌, ◌^◌, ◌+◌, length, OnOk};
+ghost use Rattle.std.specs.Prelude.{◌<◌, ◌^◌};
 
 use crate::fault::SyntaxFault;
 use crate::reader::acts::act_result;

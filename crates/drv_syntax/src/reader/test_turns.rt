@@ -3,7 +3,7 @@
 ghost use Rattle.drv_syntax.specs.Bytes as bytes;
 ghost use Rattle.drv_syntax.specs.Code.States.{Reads, state};
 ghost use Rattle.drv_syntax.specs.Code.Steps as steps;
-ghost use Rattle.std.specs.Prelude.{◌≡◌, ◌<◌, ◌≤◌, ◌^◌, ◌+◌, ◌*◌, ◌∷◌, [], IfOk, Ok, get_or};
+ghost use Rattle.std.specs.Prelude.{◌≡◌, ◌<◌, ◌^◌, ◌+◌, ◌∷◌, [], Ok, get_or};
 ghost use Rattle.std.specs.Prelude.{length, true};
 
 use crate::fault::SyntaxFault;

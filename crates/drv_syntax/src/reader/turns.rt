@@ -3,7 +3,7 @@
 ghost use Rattle.drv_words.specs.Bytes as ascii;
 ghost use Rattle.drv_syntax.specs.Code.States.{Reads, Turns, state};
 ghost use Rattle.drv_syntax.specs.Code.Steps as steps;
-ghost use Rattle.std.specs.Prelude.{◌≡◌, ◌<◌, ◌≤◌, ◌^◌, ◌+◌, ◌*◌, ◌∷◌, [], IfOk, OnOk};
+ghost use Rattle.std.specs.Prelude.{◌≡◌, ◌<◌, ◌^◌, ◌+◌, ◌∷◌, []};
 ghost use Rattle.std.specs.Prelude.{length};
 
 use crate::directives::{BraceKind, SayKind};
