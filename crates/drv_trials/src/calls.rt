@@ -14,9 +14,14 @@
 //! in-link SWITCHES OUTPUTS NAME ARG..    the same in the link's text, with these outputs
 //! versions ONE OTHER                     how two versions compare
 //! lines TEXT                             how many lines the text of a plan shows
+//! pieces TEXT                            the pieces of a spec text of gcc
+//! ours TEXT                              such a text in this driver's spec language
+//! dump PATH                              the texts of a gcc's dump in it, and which of them are refused
+//! kept PATH                              whether the texts of a gcc's dump are written as that dump
 //! ```
 
 mod c99;
+mod dumps;
 mod expanding;
 mod functions;
 mod outside;
@@ -31,6 +36,7 @@ use c99::try_front;
 use drv_funcs::Site;
 use drv_system::{HostSystem, System};
 use drv_words::Word;
+use dumps::{Reading, try_reading};
 use expanding::try_expand;
 use functions::{try_called, try_versions};
 use outside::{Question, try_questions, try_questions_twice};
@@ -53,10 +59,11 @@ enum Call {
     Function(Site),
     Versions,
     ReadBack,
+    Dumps(Reading),
 }
 
 /// The names of calls.
-const CALLS: [(&[u8], Call); 17] = [
+const CALLS: [(&[u8], Call); 21] = [
     (b"read", Call::Ask(Question::Read)),
     (b"kind", Call::Ask(Question::Kind)),
     (b"variable", Call::Ask(Question::Variable)),
@@ -74,6 +81,10 @@ const CALLS: [(&[u8], Call); 17] = [
     (b"in-link", Call::Function(Site::Link)),
     (b"versions", Call::Versions),
     (b"lines", Call::ReadBack),
+    (b"pieces", Call::Dumps(Reading::Pieces)),
+    (b"ours", Call::Dumps(Reading::Ours)),
+    (b"dump", Call::Dumps(Reading::Dump)),
+    (b"kept", Call::Dumps(Reading::Kept)),
 ];
 
 /// The message for words that are not a call.
@@ -144,5 +155,6 @@ fn make<S: System>(
         Call::Function(site) => try_called(alloc, sys, site, words, out),
         Call::Versions => try_versions(words, out),
         Call::ReadBack => try_read_back(alloc, words, out),
+        Call::Dumps(reading) => try_reading(alloc, sys, reading, words, out),
     }
 }
