@@ -1,8 +1,8 @@
 # Cuts a spec file down to what some of its texts reach: awk -v roots=.. -v holds=.. -v lacks=.. -f shorten.awk X.specs
 #
 # `roots` are the names and keys that stay. `holds` are tests that are true of each line that the shorter file is for, and `lacks` are
-# switches that none of these lines has: what they decide is decided here. A text that is named once, or that is short, stands where it
-# is named, and the others have names of a letter. Nothing of a spec file is left out that such a line works.
+# switches that none of these lines has: what they decide is decided here. A text that is named once, or that is short, replaces
+# its name, and the others have names of a letter. Nothing of a spec file is left out that such a line uses.
 
 BEGIN {
     count = split("a asm A asm_final l link L lib G libgcc S startfile E endfile C cpp 1 cc1 2 cc1plus", list)
@@ -42,7 +42,7 @@ function shortened(stops,    out, byte) {
     return out
 }
 
-# What stands from `at` on up to a byte, and that too.
+# The text from `at` on up to a byte, and that byte.
 function up_to(byte,    from) {
     from = at
     at += index(substr(whole, at), byte)
