@@ -1,4 +1,4 @@
-use Rattle.drv_compile.specs.Beside.{bytes_read, if_plain, named_file, or_named, plain_at, spec_file, written}
+use Rattle.drv_compile.specs.Beside.{bytes_read, if_plain, is_written, named_file, or_named, plain_at, spec_file, written}
 use Rattle.drv_compile.specs.Written.{whole_lines}
 use Rattle.drv_search.specs.Search.{is_plain}
 use Rattle.drv_system.specs.Facts.{Facts, kind_of, read_of}
@@ -6,7 +6,7 @@ use Rattle.drv_system.specs.Known.{Is}
 use Rattle.drv_system.specs.declared.event.PathKind.{PathKind}
 use Rattle.drv_system.specs.declared.event.ReadAnswer.{ReadAnswer}
 use Rattle.std.proofs.Common.{◌≡◌, Err, IfOk, List, None, Ok, Option, Result, Some, refl, true, ℕ}
-use Rattle.std.specs.Option.{option_and_then}
+use Rattle.std.specs.Option.{is_some, option_and_then}
 
 -- Files that were read, and paths that were found.
 
@@ -19,6 +19,11 @@ pub written_read : {E : Type 0} (F : Facts) (path : List ℕ) (kind : PathKind) 
     → IfOk result (λ lines. lines ≡ option_and_then whole_lines (bytes_read answer)) → IfOk result (λ lines. written F path ≡ Is lines)
 written_read F path kind answer (Ok lines) plain known read is = rw (known, plain, read, is) refl
 written_read F path kind answer (Err e) plain known read is = tt
+
+pub whole_read : (F : Facts) (path : List ℕ) (kind : PathKind) (answer : ReadAnswer)
+    → is_plain kind ≡ true → kind_of F path ≡ Some kind → read_of F path ≡ Some answer
+    → is_written F path ≡ Is (is_some (option_and_then whole_lines (bytes_read answer)))
+whole_read F path kind answer plain known read = rw (known, plain, read) refl
 
 pub named_instead : {E : Type 0} (F : Facts) (given named : Option (List ℕ)) (result : Result (Option (List ℕ)) E)
     → given ≡ None → named_file F ≡ Is named → IfOk result (λ path. plain_at F named ≡ Is path) → IfOk result (λ path. or_named F given ≡ Is path)

@@ -6,8 +6,8 @@ use Rattle.drv_system.specs.Known.{◌>>=◌, Is, Known, asked}
 use Rattle.drv_system.specs.declared.event.PathKind.{PathKind}
 use Rattle.drv_system.specs.declared.event.ReadAnswer.TheVariants.{Failed, Missing, Read, TooLarge}
 use Rattle.drv_system.specs.declared.event.ReadAnswer.{ReadAnswer}
-use Rattle.std.specs.Option.{option_and_then}
-use Rattle.std.specs.Prelude.{List, [], ◌∷◌, None, Option, Some, codes, if◌then◌else◌, ℕ}
+use Rattle.std.specs.Option.{is_some, option_and_then}
+use Rattle.std.specs.Prelude.{Bool, List, [], ◌∷◌, None, Option, Some, codes, if◌then◌else◌, ℕ}
 
 -- The spec file of a call and the files beside it, over facts (this project's profile).
 
@@ -24,6 +24,10 @@ plain_text F path = asked (kind_of F path) >>= λ kind. if is_plain kind then (a
 -- the lines before the mark of a file, where it is a plain one and whole
 abbrev pub written : Facts → List ℕ → Known (Option (List ℕ))
 written F path = plain_text F path >>= λ text. Is (option_and_then whole_lines text)
+
+-- whether a file is a plain one and whole
+abbrev pub is_written : Facts → List ℕ → Known Bool
+is_written F path = written F path >>= λ lines. Is (is_some lines)
 
 abbrev pub written_beside : Facts → List ℕ → List ℕ → Known (Option (List ℕ))
 written_beside F specs ending = written F (companion specs ending)

@@ -1,12 +1,12 @@
 //! The spec file of a call, and the files beside it.
 
-ghost use Rattle.drv_compile.specs.Beside.{bytes_read, given_by, if_plain, known_names, named_file};
-ghost use Rattle.drv_compile.specs.Beside.{or_named, plain_at, spec_file, written, written_beside};
+ghost use Rattle.drv_compile.specs.Beside.{bytes_read, given_by, if_plain, is_written, known_names};
+ghost use Rattle.drv_compile.specs.Beside.{named_file, or_named, plain_at, spec_file, written, written_beside};
 ghost use Rattle.drv_compile.specs.Written.{whole_lines};
 ghost use Rattle.drv_search.specs.Code.Telling.{Tells};
 ghost use Rattle.drv_search.specs.Search.{is_plain};
 ghost use Rattle.drv_system.specs.Code.Asked.{Asked};
-ghost use Rattle.std.specs.Option.{option_and_then, option_copied};
+ghost use Rattle.std.specs.Option.{is_some, option_and_then, option_copied};
 ghost use Rattle.std.specs.Prelude.{◌≡◌, IfOk};
 
 use crate::places::{companion, given};
@@ -50,6 +50,32 @@ pub(crate) fn written<S: System>(
         return lines_in(alloc, outside.facts.read_answer(path));
     }
     Ok(None)
+}
+
+/// Whether a file that was read is whole.
+fn is_whole(answer: &ReadAnswer) -> bool
+    ensures { result ≡ is_some (option_and_then whole_lines (bytes_read answer.now)) }
+{
+    match answer {
+        ReadAnswer::Read(text) => whole_lines(text.as_bytes()).is_some(),
+        ReadAnswer::Missing | ReadAnswer::Failed | ReadAnswer::TooLarge => false,
+    }
+}
+
+/// Whether a file that `write_specs` wrote is a plain file and whole. Its lines aren't copied.
+pub(crate) fn is_written<S: System>(
+    path: &Word,
+    outside: &mut Outside<'_, S>,
+) -> Result<bool, AllocError>
+    ensures asks { Asked S.events outside.old outside.new }
+    ensures is { Tells outside.new result (λ F. is_written F path.now) }
+{
+    let kind = outside.facts.kind(outside.sys, path)?;
+    if is_plain(kind) {
+        outside.facts.read(outside.sys, path)?;
+        return Ok(is_whole(outside.facts.read_answer(path)));
+    }
+    Ok(false)
 }
 
 /// The lines of the file of this ending beside a spec file, where it is whole.

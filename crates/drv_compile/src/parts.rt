@@ -1,11 +1,11 @@
 //! The file that has the texts for a line.
 
-ghost use Rattle.drv_compile.specs.Parts.{texts_at, texts_by_lines, texts_of};
+ghost use Rattle.drv_compile.specs.Parts.{texts_at, texts_if, texts_of};
 ghost use Rattle.drv_search.specs.Code.Telling.{Tells};
 ghost use Rattle.drv_system.specs.Code.Asked.{Asked};
 ghost use Rattle.std.specs.Prelude.{◌≡◌, IfOk};
 
-use crate::finding::written;
+use crate::finding::is_written;
 use crate::places::{texts_for, texts_or};
 use drv_cc::Stages;
 use drv_system::{Outside, System};
@@ -21,27 +21,27 @@ pub(crate) enum Texts {
     Damaged(Word),
 }
 
-/// The file by its lines, if it is whole.
-fn texts_by_lines(path: Word, lines: &Option<Word>) -> Texts
-    ensures { result ≡ texts_by_lines path lines.now }
+/// The file at a path, if it is whole.
+fn texts_if(path: Word, is_whole: bool) -> Texts
+    ensures { result ≡ texts_if path is_whole }
 {
-    match lines {
-        Some(_) => Texts::Whole(path),
-        None => Texts::Damaged(path),
+    if is_whole {
+        Texts::Whole(path)
+    } else {
+        Texts::Damaged(path)
     }
 }
 
-/// The file at a path, by its lines.
+/// The file at a path, and whether it is whole.
 fn texts_at<S: System>(
-    alloc: Global,
     path: Word,
     outside: &mut Outside<'_, S>,
 ) -> Result<Texts, AllocError>
     ensures asks { Asked S.events outside.old outside.new }
     ensures texts { Tells outside.new result (λ F. texts_at F path) }
 {
-    let lines = written(alloc, &path, outside)?;
-    Ok(texts_by_lines(path, &lines))
+    let is_whole = is_written(&path, outside)?;
+    Ok(texts_if(path, is_whole))
 }
 
 /// The file that has the texts for a line with these words and stages: the spec file, or a part of
@@ -60,5 +60,5 @@ pub(crate) fn texts_asked<S: System>(
     let part = texts_for(alloc, specs, words, stages)?;
     let kind = outside.facts.kind(outside.sys, &part)?;
     let path = Word::from_bytes(alloc, texts_or(specs, part.as_bytes(), kind))?;
-    texts_at(alloc, path, outside)
+    texts_at(path, outside)
 }
