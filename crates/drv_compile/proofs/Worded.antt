@@ -24,7 +24,7 @@ use Rattle.std.specs.Prelude.{MatchResult, get_or, is_some}
 
 -- The words of a call, or why there are none.
 
--- want of memory says nothing
+-- lack of memory says nothing
 pub memory_stops : {X : Type 0} (result : Result X Stop) (done : X → Type 0) (told : List ℕ → Type 0) → IsErrAnd result (λ stop. stop ≡ Memory)
     → MatchResult result done (λ stop. IfTold stop told)
 memory_stops (Ok x) done told is = absurd is

@@ -57,7 +57,7 @@ pub record Words (F : Facts) (calling : Calling) (args : List (List ℕ)) (words
   pub readable : first_unread F expanded.words ≡ Is None
   pub fronts : fronted calling.front expanded ≡ Ok words
 
--- what is told of a refusal of the driver: that of c99 has its name in its text
+-- the text of a refusal of the driver: that of c99 has its name in its text
 abbrev pub told_refusal : List ℕ → Refusal → List ℕ
 told_refusal name (refusal.C99 fault) = refusal_text (refusal.C99 fault) ++ codes "\n"
 told_refusal name (refusal.Args fault) = error_line name (refusal_text (refusal.Args fault))

@@ -109,7 +109,7 @@ pub(crate) fn stop_of(alloc: Global, name: &[u8], ending: &Ending) -> Result<Sto
 /// Arguments with their response files expanded.
 ///
 /// # Errors
-/// What is told of their refusal.
+/// The text of their refusal.
 fn expansion<S: System>(
     alloc: Global,
     name: &[u8],
@@ -134,7 +134,7 @@ fn expansion<S: System>(
 /// Refuses words of which one names a response file that can't be read.
 ///
 /// # Errors
-/// What is told of the first such file.
+/// The text about the first such file.
 fn refuse_unread<S: System>(
     alloc: Global,
     name: &[u8],
@@ -157,7 +157,7 @@ fn refuse_unread<S: System>(
 /// The words of gcc for those of the call's front.
 ///
 /// # Errors
-/// What is told of their refusal.
+/// The text of their refusal.
 fn gcc_words(alloc: Global, calling: &Calling, expanded: Expanded) -> Result<Expanded, Stop>
     ensures { MatchResult result (λ words. fronted calling.now.front expanded ≡ Ok words)
         (λ stop. IfTold stop (IsUnfronted calling.now expanded)) }
@@ -174,7 +174,7 @@ fn gcc_words(alloc: Global, calling: &Calling, expanded: Expanded) -> Result<Exp
 /// The words of a call: response files expanded, and those of c99 turned into gcc's.
 ///
 /// # Errors
-/// What is told of their refusal.
+/// The text of their refusal.
 #[tactic(auto, using(drv_system::proofs::AskedCalls::asked_further))]
 pub(crate) fn line_words<S: System>(
     alloc: Global,

@@ -13,7 +13,7 @@ use drv_system::{Outside, PathKind, System};
 use drv_words::Word;
 use std::alloc::{AllocError, Global};
 
-/// Adds what is told of an input, if it isn't there.
+/// Adds the text about an input, if it isn't there.
 fn add_if_absent(
     text: &mut Word,
     name: &[u8],
@@ -28,7 +28,7 @@ fn add_if_absent(
     }
 }
 
-/// What is told of the inputs that are not there.
+/// The text about the inputs that are not there.
 #[tactic(auto, using(drv_system::proofs::AskedCalls::asked_none))]
 fn absent<S: System>(
     alloc: Global,

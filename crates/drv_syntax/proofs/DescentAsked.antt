@@ -111,7 +111,7 @@ turn_tried h t i =
     turn_ended h (pattern_in h t.place.start t.place.end t.negated t.operand.as_pattern)
     (test_in h t.place.start t.place.end t.negated t.operand.as_test) t.operand.bare i t.byte
 
--- what the byte after a test makes of the rest, where it stands at the place i
+-- what the byte after a test makes of the rest, at the place i
 abbrev pub tried_out : List Waiting → Head → Tried → ℕ → List ℕ → Out
 tried_out ws h t i rest = after (turn_tried h t i) ws (λ v p. run v p (i + 1) (drop 1 rest)) i
 

@@ -64,7 +64,7 @@ alike ws p q n (b ∷ rest) e g = ap (λ t. after t ws (λ w x. run w x (n + 1) 
 
 -- places in a text
 
--- what stands so many bytes on, in a text that is so many bytes into another
+-- what is so many bytes on, in a text that is so many bytes into another
 pub moved : {X : Type 0} (f : ℕ → List ℕ → X) (n k size : ℕ) (text whole : List ℕ) → drop k whole ≡ text
     → f (n + k + size) (drop size text) ≡ f (n + (k + size)) (drop (k + size) whole)
 moved f n k size text whole e =
@@ -81,7 +81,7 @@ stays f n text = ap (λ (i : ℕ). f i text) none
     none : n ≡ n + 0
     none = omega arith
 
--- after the byte that stands so many bytes on
+-- after the byte that is so many bytes on
 pub after_byte : {X : Type 0} (f : ℕ → List ℕ → X) (n size b : ℕ) (text rest : List ℕ) → drop size text ≡ b ∷ rest
     → f (n + size + 1) rest ≡ f (n + (size + 1)) (drop (size + 1) text)
 after_byte f n size b text rest e =

@@ -28,7 +28,7 @@ use Rattle.std.specs.Prelude.{◌==◌, None, Option, Some}
 
 -- The patterns and the tests of braces, as their places read them.
 
--- what stands after the byte so many bytes on, by the text after the first one
+-- what follows the byte so many bytes on, by the text after the first one
 pub tail : {X : Type 0} (f : ℕ → List ℕ → X) (n k b : ℕ) (text : List ℕ)
     → f (n + k + 1) (drop 1 (drop k (b ∷ text))) ≡ f (n + 1 + k) (drop k text)
 tail f n k b text =

@@ -17,8 +17,8 @@ use Rattle.std.specs.Prelude.{◌==◌}
 
 -- A pattern, as the places of directives and of braces read it.
 
--- where a pattern is due at the place n of a text, in a directive whose % has the place at: P for each word so far, E after a
--- backslash in it, S after the pattern; a first byte that doesn't meet the test is read otherwise
+-- Where a pattern is due at the place n of a text, in a directive whose % has the place at: P for each word so far, E after a backslash in
+-- it, S after the pattern. A first byte that doesn't meet the test is read otherwise.
 pub record Patterned (at : ℕ) (first : Place) (n : ℕ) (P : List ℕ → Place) (E : List ℕ → ℕ → Place) (S : Pattern → ℕ → Place) (Ok : ℕ
     → Type 0) : Type 0 where
   pub runs : Runs is_word P E

@@ -106,7 +106,7 @@ name_goes {at} {origin} {F} {first} {W} named ws called n (b ∷ text) =
         refused : turn_function at called b (Opens first (W called)) (F (called ++ b ∷ [])) ≡ Refused (UnknownFunction at)
         refused = rw (e, f) refl
 
--- where a test stands in braces that have no patterns yet
+-- where a test is in braces that have no patterns yet
 pub data Stands : Order → Head → Type 0 where
   at_start : {here : Here} {at : ℕ} {kind : BraceKind} → Stands AtFront (fresh here at kind)
   at_next : {here : Here} {at : ℕ} {kind : BraceKind} {place : Span} {asks : Tests} {items : Items} {others : Choices}

@@ -86,7 +86,7 @@ after_one f n k text = ap (λ (i : ℕ). f i (drop 1 (drop k text))) places ∙ 
     places : n + k + 1 ≡ n + (k + 1)
     places = omega arith
 
--- at the end of an X, whose colon stands k bytes into a text, and which has so many bytes
+-- at the end of an X, whose colon is k bytes into a text, and which has so many bytes
 x_end : {X : Type 0} (f : ℕ → List ℕ → X) (n k size : ℕ) (text : List ℕ)
     → f (n + k + 1 + size + 1) (drop (size + 1) (drop (k + 1) text)) ≡ f (n + (k + (1 + size + 1))) (drop (k + (1 + size + 1)) text)
 x_end f n k size text =

@@ -350,7 +350,7 @@ x_go n asks x size others =
     if x.1 == ascii.closing_brace then Took (Choose (alternative n asks x.0 no_choice)) (1 + size + 1)
     else then_read others (λ brace more. Took (with_choice n asks x.0 brace) (1 + size + 1 + more))
 
--- the colon of a default stands there
+-- the colon of a default is there
 abbrev pub is_default_at : Order → List ℕ → Bool
 is_default_at AtFront text = false
 is_default_at AtBar text = false

@@ -1,5 +1,5 @@
 //! The compiler driver under the name that people call: a line of gcc in, or one of c99, its
-//! commands carried out by the driver with the spec file that stands beside the program.
+//! commands carried out by the driver with the spec file beside the program.
 #![tactic(auto)]
 
 ghost use Rattle.gdrv_cc.specs.Endings.{status_of};
@@ -20,7 +20,7 @@ const OUT_OF_MEMORY: &[u8] = b"gdrv-cc: error: out of memory\n";
 
 const BAD_ARGUMENT: &[u8] = b"gdrv-cc: error: bad argument\n";
 
-/// The exit status of an outcome. Of want of memory the user is told.
+/// The exit status of an outcome. Where memory lacked, it says so.
 fn finish(rt: &HostRuntime, outcome: &Outcome) -> ExitCode
     ensures { result.status ≡ status_of outcome.now }
 {
@@ -37,7 +37,7 @@ fn finish(rt: &HostRuntime, outcome: &Outcome) -> ExitCode
     }
 }
 
-/// Ends with status 1 for want of arguments, and says why.
+/// Ends with status 1 for lack of arguments, and says why.
 fn without_arguments(rt: &HostRuntime, error: &io::Error) -> ExitCode
     ensures { result.status ≡ 1 }
 {

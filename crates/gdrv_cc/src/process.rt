@@ -28,7 +28,7 @@ impl Model for Process {
 }
 
 impl Process {
-    /// The host of this process, of which nothing was asked yet. It takes no memory.
+    /// The host of this process, of which nothing was asked yet. The call allocates nothing.
     pub fn new(rt: HostRuntime) -> Process
         ensures { result ≡ [] }
     {

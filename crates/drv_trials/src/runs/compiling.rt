@@ -134,7 +134,7 @@ fn is_step(event: &Event) -> bool {
 /// What a call did and how it ended.
 ///
 /// # Errors
-/// Want of memory, also where the call ended so, unless it made a step before: that is printed, and
+/// Lack of memory, also where the call ended so, unless it made a step before: that is printed, and
 /// is wrong.
 fn add_call(
     sys: &ScriptSystem,
