@@ -1,4 +1,6 @@
 mod Calls
+mod Outcomes
 mod Plans
 mod Runs
 mod Told
+mod Translations

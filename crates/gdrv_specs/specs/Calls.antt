@@ -1,6 +1,6 @@
-use Rattle.gdrv_specs.specs.declared.calling.Call.TheVariants.{After, Ask, Plan}
+use Rattle.gdrv_specs.specs.declared.calling.Call.TheVariants.{After, Ask, Plan, Translate}
 use Rattle.gdrv_specs.specs.declared.calling.Call.{Call}
-use Rattle.gdrv_specs.specs.declared.calling.CallFault.TheVariants.{MissingAnswer, NoCommand, TooManyAnswers, UnknownCommand}
+use Rattle.gdrv_specs.specs.declared.calling.CallFault.TheVariants.{MissingAnswer, NoCommand, NotOneFile, TooManyAnswers, UnknownCommand}
 use Rattle.gdrv_specs.specs.declared.calling.CallFault.{CallFault}
 use Rattle.gdrv_specs.specs.declared.calling.Command.TheVariants as command
 use Rattle.gdrv_specs.specs.declared.calling.Command.{Command}
@@ -17,6 +17,7 @@ abbrev pub command_named : List ℕ → Option Command
 command_named word =
     if pointwise nat_eq word (codes "plan") then Some command.Plan
     else if pointwise nat_eq word (codes "after") then Some command.After
+    else if pointwise nat_eq word (codes "translate") then Some command.Translate
     else if pointwise nat_eq word (codes "--help") then Some (command.Ask Help)
     else if pointwise nat_eq word (codes "--version") then Some (command.Ask Version) else None
 
@@ -70,11 +71,19 @@ run_asked cut =
     else if nat_lt most_answers (length cut.given) then Err TooManyAnswers
     else Ok (After cut.given cut.line)
 
+-- A translation takes the path of a dump, and no other word.
+
+abbrev pub translation_asked : List (List ℕ) → Result Call CallFault
+translation_asked [] = Err NotOneFile
+translation_asked (path ∷ []) = Ok (Translate path)
+translation_asked (path ∷ word ∷ words) = Err NotOneFile
+
 abbrev pub asked_by : List ℕ → List (List ℕ) → Option Command → Result Call CallFault
 asked_by word words None = Err (UnknownCommand word)
 asked_by word words (Some (command.Ask question)) = Ok (Ask question)
 asked_by word words (Some command.Plan) = Ok (Plan (form_of words) (line_of words))
 asked_by word words (Some command.After) = run_asked (cut_from no_words words)
+asked_by word words (Some command.Translate) = translation_asked words
 
 abbrev pub call_of : List (List ℕ) → Result Call CallFault
 call_of [] = Err NoCommand

@@ -5,3 +5,4 @@ pub mod Outcomes
 pub mod Plans
 pub mod Runs
 pub mod Told
+pub mod Translations

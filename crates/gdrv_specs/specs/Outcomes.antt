@@ -3,11 +3,12 @@ use Rattle.drv_after.specs.declared.worded.GivenFault.{GivenFault}
 use Rattle.drv_run.specs.Exits.{exit_status_of}
 use Rattle.drv_run.specs.Texts.{around, refusal_text}
 use Rattle.drv_run.specs.declared.ending.Ending.TheVariants.{Done, OutOfMemory, Refused}
-use Rattle.gdrv_specs.specs.declared.calling.CallFault.TheVariants.{Memory, MissingAnswer, NoCommand, TooManyAnswers, UnknownCommand}
+use Rattle.gdrv_specs.specs.declared.calling.CallFault.TheVariants.{Memory, MissingAnswer, NoCommand, NotOneFile, TooManyAnswers, UnknownCommand}
 use Rattle.gdrv_specs.specs.declared.calling.CallFault.{CallFault}
-use Rattle.gdrv_specs.specs.declared.outcome.Outcome.TheVariants.{Ended, Misused, NoPlan, NoRun, Unanswered}
+use Rattle.gdrv_specs.specs.declared.outcome.Outcome.TheVariants.{Ended, Misused, NoDump, NoFile, NoPlan, NoRun, Translated, Unanswered}
 use Rattle.gdrv_specs.specs.declared.outcome.Outcome.{Outcome}
-use Rattle.std.specs.Prelude.{List, [], ◌++◌, codes, ℕ}
+use Rattle.std.specs.List.{flat_map}
+use Rattle.std.specs.Prelude.{List, [], ◌++◌, codes, decimal, ℕ}
 
 -- How a call of the program ends: its exit status, and the text on standard error (this project's profile).
 
@@ -16,6 +17,9 @@ status_of (Ended ending) = exit_status_of ending
 status_of NoPlan = 1
 status_of NoRun = 1
 status_of (Unanswered word fault) = 1
+status_of (Translated refused status) = status
+status_of (NoFile path) = 1
+status_of (NoDump path line column) = 1
 status_of (Misused fault) = 1
 
 -- a line that names these words
@@ -27,9 +31,24 @@ unanswered_text word NoForm = told_line (around (codes "'") word (codes "' is no
 unanswered_text word NoPlace = told_line (around (codes "'") word (codes "': the plan has no such place"))
 unanswered_text word NoAnswer = told_line (around (codes "'") word (codes "': no step there has such an answer"))
 
+-- texts of a dump that are refused: a line of each
+abbrev pub refused_line : List ℕ → List ℕ
+refused_line name = told_line (around (codes "text '") name (codes "' has no form here, and refuses its lines"))
+
+abbrev pub refused_text : List (List ℕ) → List ℕ
+refused_text names = flat_map refused_line names
+
+-- a file that is no dump: the line and the column where it ceases to be one
+abbrev pub numbered : ℕ → List ℕ
+numbered number = codes ":" ++ decimal number
+
+abbrev pub no_dump_text : List ℕ → ℕ → ℕ → List ℕ
+no_dump_text path line column = told_line (((path ++ numbered line) ++ numbered column) ++ codes ": not a text as '-dumpspecs' prints it")
+
 abbrev pub misuse_text : CallFault → List ℕ
 misuse_text Memory = told_line (codes "out of memory")
 misuse_text MissingAnswer = told_line (codes "missing argument to '--fail'")
+misuse_text NotOneFile = told_line (codes "'translate' takes one file")
 misuse_text TooManyAnswers = told_line (codes "more than 1000 answers")
 misuse_text NoCommand = told_line (codes "no command; 'gdrv-specs --help' lists them")
 misuse_text (UnknownCommand word) = told_line (around (codes "unknown command '") word (codes "'; 'gdrv-specs --help' lists them"))
@@ -42,4 +61,7 @@ text_of (Ended OutOfMemory) = told_line (codes "out of memory")
 text_of NoPlan = told_line (codes "a line with '-dumpspecs' has no plan")
 text_of NoRun = told_line (codes "a line with '-###' carries nothing out")
 text_of (Unanswered word fault) = unanswered_text word fault
+text_of (Translated refused status) = refused_text refused
+text_of (NoFile path) = told_line (around (codes "cannot read '") path (codes "'"))
+text_of (NoDump path line column) = no_dump_text path line column
 text_of (Misused fault) = misuse_text fault

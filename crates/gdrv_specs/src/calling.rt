@@ -2,6 +2,7 @@
 
 ghost use Rattle.gdrv_specs.specs.Calls.{call_of, command_named, form_asked, form_named};
 ghost use Rattle.gdrv_specs.specs.Calls.{cut_from, form_of, line_of, no_words, run_asked};
+ghost use Rattle.gdrv_specs.specs.Calls.{translation_asked};
 ghost use Rattle.drv_words.specs.Gives.{Gives};
 ghost use Rattle.gdrv_specs.specs.declared.calling.CallFault.TheVariants.{Memory};
 ghost use Rattle.std.specs.Prelude.{◌≡◌};
@@ -27,6 +28,8 @@ pub enum Call {
         given: Listing<Word>,
         line: Listing<Word>,
     },
+    /// The texts of the dump at this path, in the driver's language.
+    Translate(Word),
 }
 
 /// Why a call asks for nothing.
@@ -42,6 +45,8 @@ pub enum CallFault {
     MissingAnswer,
     /// There are more answers than 1000.
     TooManyAnswers,
+    /// `translate` takes one word, the path of a dump.
+    NotOneFile,
 }
 
 impl From<AllocError> for CallFault {
@@ -61,6 +66,7 @@ enum Command {
     Ask(Question),
     Plan,
     After,
+    Translate,
 }
 
 /// The most answers that a call gives ahead.
@@ -75,6 +81,9 @@ fn command_named(word: &[u8]) -> Option<Command>
     }
     if word == b"after".as_slice() {
         return Some(Command::After);
+    }
+    if word == b"translate".as_slice() {
+        return Some(Command::Translate);
     }
     if word == b"--help".as_slice() {
         return Some(Command::Ask(Question::Help));
@@ -149,11 +158,21 @@ fn run_of_words(alloc: Global, words: &[Word]) -> Result<Call, CallFault>
     run_asked(cut)
 }
 
+/// The translation that these words ask for, which are the path of a dump.
+fn translation_asked(mut words: Vec<Word>) -> Result<Call, CallFault>
+    ensures { result ≡ translation_asked words.items }
+{
+    if words.len() != 1 {
+        return Err(CallFault::NotOneFile);
+    }
+    Ok(Call::Translate(words.remove(0)))
+}
+
 /// What a call with these arguments asks for.
 ///
 /// # Errors
-/// Lack of memory; it has no arguments, the first one is no command, or the words of `--fail` are too
-/// few or too many.
+/// Lack of memory; it has no arguments, the first one is no command, the words of `--fail` are too
+/// few or too many, or `translate` has no path or several.
 pub fn call_of(alloc: Global, args: Listing<Word>) -> Result<Call, CallFault>
     ensures { Gives Memory (λ call. call) result (call_of args) }
 {
@@ -169,6 +188,7 @@ pub fn call_of(alloc: Global, args: Listing<Word>) -> Result<Call, CallFault>
             Ok(Call::Plan { form, line })
         }
         Some(Command::After) => run_of_words(alloc, words.as_slice()),
+        Some(Command::Translate) => translation_asked(words),
         None => Err(CallFault::UnknownCommand(first)),
     }
 }

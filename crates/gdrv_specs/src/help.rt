@@ -6,6 +6,7 @@ use std::io::{self, Write};
 const HELP: &str = "\
 Usage: gdrv-specs plan [--json | --sh] LINE...
        gdrv-specs after LINE... [--fail PLACE=ANSWER]...
+       gdrv-specs translate FILE
 gdrv-specs tells what a line of gdrv would do. It starts nothing and makes no
 file.
 
@@ -14,6 +15,8 @@ file.
   plan --sh       print a shell script that does what the line does
   after           print what the line would start, make and remove, its status
                   and what it leaves, where each PLACE has this ANSWER
+  translate       print the spec texts of FILE, which gcc -dumpspecs printed,
+                  in the language of gdrv
 
 The words of LINE are those of gdrv, -specs=FILE among them. The manual page
 gdrv-specs(1) says more.

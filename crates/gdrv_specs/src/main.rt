@@ -12,6 +12,7 @@ mod help;
 mod outcome;
 mod planning;
 mod running;
+mod translating;
 
 use calling::{Call, call_of};
 use drv_run::Ending;
@@ -25,6 +26,7 @@ use running::tell_after;
 use std::alloc::AllocError;
 use std::io::{self, ErrorKind};
 use std::process::ExitCode;
+use translating::translate_file;
 
 const OUT_OF_MEMORY: &[u8] = b"gdrv-specs: out of memory\n";
 
@@ -76,6 +78,12 @@ fn tell_run(rt: &HostRuntime, given: &[Word], line: Listing<Word>) -> Result<Out
     Ok(tell_after(rt.alloc(), &mut sys, given, line, seed))
 }
 
+/// Translates a dump for this process's user.
+fn translate(rt: &HostRuntime, path: Word) -> Result<Outcome, AllocError> {
+    let mut sys = HostSystem::new(rt.clone()?);
+    Ok(translate_file(rt.alloc(), &mut sys, path))
+}
+
 /// The outcome of a text, for which memory may have lacked first.
 fn ended(outcome: Result<Outcome, AllocError>) -> Outcome {
     match outcome {
@@ -90,6 +98,7 @@ fn act(rt: &HostRuntime, call: Call) -> Outcome {
         Call::Ask(asked) => answer(rt, asked),
         Call::Plan { form, line } => ended(tell(rt, form, line)),
         Call::After { given, line } => ended(tell_run(rt, given.as_slice(), line)),
+        Call::Translate(path) => ended(translate(rt, path)),
     }
 }
 

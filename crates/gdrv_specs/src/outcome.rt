@@ -1,14 +1,16 @@
 //! How a call of the program ends.
 
 ghost use Rattle.gdrv_specs.specs.Outcomes.{misuse_text, status_of, text_of, told_line};
+ghost use Rattle.gdrv_specs.specs.Outcomes.{no_dump_text, numbered, refused_line, refused_text};
 ghost use Rattle.gdrv_specs.specs.Outcomes.{unanswered_text};
 ghost use Rattle.drv_run.specs.Texts.{around, refusal_text};
-ghost use Rattle.std.specs.Prelude.{◌≡◌, IfOk};
+ghost use Rattle.std.specs.Prelude.{◌≡◌, ◌++◌, IfOk, OnOk};
 
 use crate::calling::CallFault;
 use drv_after::GivenFault;
 use drv_run::{Ending, Refusal, refusal_text};
-use drv_words::Word;
+use drv_words::{Listing, Word};
+use itoa::Buffer;
 use std::alloc::{AllocError, Global};
 
 /// How a call of the program ends.
@@ -22,6 +24,12 @@ pub enum Outcome {
     NoRun,
     /// This word gives no answer.
     Unanswered(Word, GivenFault),
+    /// The texts of a dump are translated, with this status; those of these names are refused.
+    Translated(Listing<Word>, u8),
+    /// The file of this path can't be read.
+    NoFile(Word),
+    /// In the file of this path the byte in this line and this column is in no text of a dump.
+    NoDump(Word, usize, usize),
     /// The call asks for nothing.
     Misused(CallFault),
 }
@@ -70,6 +78,45 @@ fn unanswered_line(alloc: Global, word: &Word, fault: GivenFault) -> Result<Word
     }
 }
 
+/// The text about a text that is refused.
+fn refused_line(alloc: Global, name: &Word) -> Result<Word, AllocError>
+    ensures { IfOk result (λ line. line ≡ refused_line name.now) }
+{
+    let after = b"' has no form here, and refuses its lines";
+    line_around(alloc, b"text '", name, after)
+}
+
+/// The text about texts that are refused: a line of each.
+#[tactic(auto, using(crate::proofs::Outcomes::refused_next))]
+fn refused_lines(alloc: Global, names: &[Word]) -> Result<Word, AllocError>
+    ensures { IfOk result (λ lines. lines ≡ refused_text names.now) }
+{
+    let mut lines = Word::empty(alloc);
+    for name in names {
+        lines.extend_from_slice(refused_line(alloc, name)?.as_bytes())?;
+    }
+    Ok(lines)
+}
+
+/// Adds a colon and a number in decimal digits.
+fn push_numbered(words: &mut Word, number: usize) -> Result<(), AllocError>
+    ensures { OnOk result (words.new ≡ words.old ++ numbered number) }
+{
+    words.push(b':')?;
+    words.extend_from_slice(Buffer::new().format(number).as_bytes())
+}
+
+/// The text about a file that is no dump, at the place where it ceases to be one.
+fn no_dump_line(alloc: Global, path: &Word, line: usize, column: usize) -> Result<Word, AllocError>
+    ensures { IfOk result (λ text. text ≡ no_dump_text path.now line column) }
+{
+    let mut words = Word::from_bytes(alloc, path.as_bytes())?;
+    push_numbered(&mut words, line)?;
+    push_numbered(&mut words, column)?;
+    words.extend_from_slice(b": not a text as '-dumpspecs' prints it")?;
+    line_of(alloc, words.as_bytes())
+}
+
 /// The text about a call that asks for nothing.
 fn misuse_line(alloc: Global, fault: &CallFault) -> Result<Word, AllocError>
     ensures { IfOk result (λ line. line ≡ misuse_text fault.now) }
@@ -82,6 +129,7 @@ fn misuse_line(alloc: Global, fault: &CallFault) -> Result<Word, AllocError>
         }
         CallFault::MissingAnswer => line_of(alloc, b"missing argument to '--fail'"),
         CallFault::TooManyAnswers => line_of(alloc, b"more than 1000 answers"),
+        CallFault::NotOneFile => line_of(alloc, b"'translate' takes one file"),
         CallFault::Memory => line_of(alloc, b"out of memory"),
     }
 }
@@ -95,6 +143,8 @@ impl Outcome {
             Outcome::Ended(ending) => ending.exit_status(),
             Outcome::NoPlan | Outcome::NoRun => 1,
             Outcome::Unanswered(..) | Outcome::Misused(_) => 1,
+            Outcome::Translated(_, status) => *status,
+            Outcome::NoFile(_) | Outcome::NoDump(..) => 1,
         }
     }
 
@@ -109,6 +159,9 @@ impl Outcome {
             Outcome::NoPlan => line_of(alloc, b"a line with '-dumpspecs' has no plan"),
             Outcome::NoRun => line_of(alloc, b"a line with '-###' carries nothing out"),
             Outcome::Unanswered(word, fault) => unanswered_line(alloc, word, *fault),
+            Outcome::Translated(refused, _) => refused_lines(alloc, refused.as_slice()),
+            Outcome::NoFile(path) => line_around(alloc, b"cannot read '", path, b"'"),
+            Outcome::NoDump(path, line, column) => no_dump_line(alloc, path, *line, *column),
             Outcome::Misused(fault) => misuse_line(alloc, fault),
         }
     }

@@ -1,0 +1,32 @@
+use Rattle.drv_dump.specs.OurDump.{our_dump_of}
+use Rattle.drv_dump.specs.declared.fault.DumpFault.TheVariants.{InText, Memory, Misplaced}
+use Rattle.drv_dump.specs.declared.fault.DumpFault.{DumpFault}
+use Rattle.drv_dump.specs.declared.our_dump.OurDump.{OurDump}
+use Rattle.drv_run.specs.declared.ending.Ending.TheVariants.{OutOfMemory}
+use Rattle.drv_system.specs.declared.event.Event.{Event}
+use Rattle.drv_words.specs.Gives.{Gives}
+use Rattle.gdrv_specs.specs.Told.{PutsText}
+use Rattle.gdrv_specs.specs.Translations.{Translates, TranslatesDump, misread}
+use Rattle.gdrv_specs.specs.declared.outcome.Outcome.TheVariants.{Ended, Translated}
+use Rattle.std.proofs.Common.{◌≡◌, ◌∙◌, ◌⊎◌, Err, List, Ok, [], ap, inl, inr, refl, subst, sym, ℕ}
+use Rattle.std.proofs.lemmas.List.{append-nil}
+
+-- The dump of a gcc is translated.
+
+pub puts_texts : (journal journal' : List Event) (path dump : List ℕ) (ours : OurDump) (status : ℕ) → our_dump_of dump ≡ Ok ours
+    → PutsText journal journal' ours.texts status → TranslatesDump journal journal' path dump (Translated ours.refused status)
+puts_texts journal journal' path dump ours status is puts = (
+  puts.0,
+  puts.1,
+  inr (subst (λ result. Translates path dump result (Translated ours.refused status) puts.0) (sym is) (status, refl, puts.2)),
+)
+
+pub lacks_memory : (journal journal' : List Event) (path dump : List ℕ) → journal' ≡ journal
+    → TranslatesDump journal journal' path dump (Ended OutOfMemory)
+lacks_memory journal journal' path dump same = ([], same ∙ sym (append-nil journal), inl (refl, refl))
+
+pub is_no_dump : (journal : List Event) (path dump : List ℕ) (fault : DumpFault) → ((fault ≡ Memory) ⊎ (our_dump_of dump ≡ Err fault))
+    → TranslatesDump journal journal path dump (misread path dump fault)
+is_no_dump journal path dump fault (inl is) = ([], sym (append-nil journal), inl (ap (misread path dump) is, refl))
+is_no_dump journal path dump fault (inr is) =
+    ([], sym (append-nil journal), inr (subst (λ result. Translates path dump result (misread path dump fault) []) (sym is) (refl, refl)))
