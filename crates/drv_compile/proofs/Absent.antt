@@ -1,4 +1,4 @@
-use Rattle.drv_compile.specs.Inputs.{Noted, Overwrites, Reaches, absent_at, absent_by, absent_of, is_at, new_output, no_output, objection, objection_by, old_output, to_another, to_it, to_none}
+use Rattle.drv_compile.specs.Inputs.{Noted, Overwrites, Reaches, absent_by, absent_of, is_at, new_output, no_output, objection, objection_by, old_output, to_another, to_it, to_none}
 use Rattle.drv_compile.specs.Texts.{variable_text}
 use Rattle.drv_compile.specs.declared.host.HostEvent.TheVariants.{Resolved}
 use Rattle.drv_compile.specs.declared.host.HostEvent.{HostEvent}

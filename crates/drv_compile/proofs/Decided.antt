@@ -12,7 +12,7 @@ use Rattle.drv_compile.specs.declared.reading.Reading.{Reading}
 use Rattle.drv_system.specs.Facts.{Facts, kind_of, variable_of}
 use Rattle.drv_system.specs.Known.{◌>>=◌, Is, asked}
 use Rattle.drv_system.specs.declared.event.PathKind.{PathKind}
-use Rattle.std.proofs.Common.{◌≡◌, ◌∙◌, Err, IfOk, List, Ok, Option, Result, Some, ap, codes, refl, sym, ℕ}
+use Rattle.std.proofs.Common.{◌≡◌, ◌∙◌, Err, IfOk, List, Ok, Option, Result, Some, ap, codes, sym, ℕ}
 
 -- What was asked, one thing after another, is the decision.
 

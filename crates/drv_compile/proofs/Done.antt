@@ -13,7 +13,7 @@ use Rattle.drv_compile.specs.declared.preparing.Prepared.{Prepared}
 use Rattle.drv_compile.specs.declared.stop.Stop.TheVariants.{Memory, Told}
 use Rattle.drv_compile.specs.declared.stop.Stop.{Stop}
 use Rattle.drv_run.proofs.Tellings.{no_pipe_after_texts}
-use Rattle.drv_run.specs.Calls.{AreSaid, DoesWork, OnlySays}
+use Rattle.drv_run.specs.Calls.{DoesWork, OnlySays}
 use Rattle.drv_system.proofs.Asking.{extends_refl}
 use Rattle.drv_system.specs.Asking.{AreNew, Asks, Extends}
 use Rattle.drv_system.specs.Facts.{Facts, learn, no_facts}

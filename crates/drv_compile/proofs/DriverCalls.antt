@@ -2,7 +2,6 @@ use Rattle.drv_args.specs.declared.line.Expanded.{Expanded}
 use Rattle.drv_cc.specs.declared.answer.Answer.TheVariants.{Ask, Refuse, Run}
 use Rattle.drv_cc.specs.declared.answer.Answer.{Answer}
 use Rattle.drv_cc.specs.declared.answer.Call.{Call}
-use Rattle.drv_cc.specs.declared.answer.Surroundings.{Surroundings}
 use Rattle.drv_cc.specs.declared.refusal.Refusal.{Refusal}
 use Rattle.drv_compile.proofs.Worded.{stop_stays, told_as}
 use Rattle.drv_compile.specs.Compilers.{values}
@@ -13,7 +12,6 @@ use Rattle.drv_compile.specs.Tasks.{IfTold}
 use Rattle.drv_compile.specs.Words.{stop_of}
 use Rattle.drv_compile.specs.declared.calling.Calling.{Calling}
 use Rattle.drv_compile.specs.declared.driving.Driven.{Driven}
-use Rattle.drv_compile.specs.declared.stop.Stop.TheVariants.{Memory, Told}
 use Rattle.drv_compile.specs.declared.stop.Stop.{Stop}
 use Rattle.drv_compile.specs.declared.tasks.Toolchain.{Toolchain}
 use Rattle.drv_run.specs.declared.ending.Ending.TheVariants.{Done, OutOfMemory, Refused}

@@ -1,5 +1,4 @@
 use Rattle.drv_cc.specs.Front.{front_of}
-use Rattle.drv_cc.specs.declared.answer.Answer.TheVariants.{Refuse}
 use Rattle.drv_cc.specs.declared.answer.Answer.{Answer}
 use Rattle.drv_cc.specs.declared.answer.Surroundings.{Surroundings}
 use Rattle.drv_cc.specs.declared.refusal.Refusal.{Refusal}

@@ -17,7 +17,7 @@ use Rattle.drv_compile.specs.declared.deciding.Decision.{Decision}
 use Rattle.drv_compile.specs.declared.driving.Driven.{Driven}
 use Rattle.drv_compile.specs.declared.host.HostEvent.{HostEvent}
 use Rattle.drv_compile.specs.declared.preparing.Prepared.{Prepared}
-use Rattle.drv_compile.specs.declared.stop.Stop.TheVariants.{Memory, Told}
+use Rattle.drv_compile.specs.declared.stop.Stop.TheVariants.{Memory}
 use Rattle.drv_compile.specs.declared.stop.Stop.{Stop}
 use Rattle.drv_compile.specs.declared.tasks.Task.TheVariants.{Compilation, Question}
 use Rattle.drv_compile.specs.declared.tasks.Task.{Task}

@@ -15,7 +15,7 @@ use Rattle.drv_run.specs.Drives.{stopped_by_args, stopped_by_c99}
 use Rattle.drv_run.specs.declared.ending.Ending.TheVariants.{Done, OutOfMemory, Refused}
 use Rattle.drv_run.specs.declared.ending.Ending.{Ending}
 use Rattle.drv_system.specs.Facts.{Facts, read_of}
-use Rattle.drv_system.specs.Known.{◌>>=◌, Is, Known, asked}
+use Rattle.drv_system.specs.Known.{◌>>=◌, Is, asked}
 use Rattle.drv_system.specs.declared.event.ReadAnswer.{ReadAnswer}
 use Rattle.std.proofs.Common.{◌≡◌, ◌⊎◌, ◌<◌, ◌≤◌, ◌+◌, ◌∙◌, ◌∷◌, Err, IsErrAnd, List, None, Ok, Option, Result, Some, ap, drop, false, inl, inr, length, refl, subst, sym, true, ℕ}
 use Rattle.std.proofs.lemmas.Bool.{false≢true}

@@ -35,12 +35,11 @@ use Rattle.drv_system.specs.declared.event.TellAnswer.{TellAnswer}
 use Rattle.drv_words.specs.declared.answers.Answer.TheVariants as answer
 use Rattle.drv_words.specs.declared.answers.Answer.{Answer}
 use Rattle.drv_words.specs.declared.answers.NotStarted.TheVariants.{NotFound}
-use Rattle.drv_words.specs.declared.answers.NotStarted.{NotStarted}
 use Rattle.drv_words.specs.declared.answers.StartAnswer.TheVariants as start
 use Rattle.drv_words.specs.declared.plan.Command.{Command}
 use Rattle.drv_words.specs.declared.plan.Plan.{Plan}
 use Rattle.std.specs.List.{list_any}
-use Rattle.std.specs.Prelude.{◌≡◌, Bool, List, [], ◌∷◌, ◌++◌, None, Option, Some, codes, false, length, map, true, ℕ}
+use Rattle.std.specs.Prelude.{◌≡◌, Bool, List, [], ◌∷◌, ◌++◌, None, Option, Some, false, length, map, true, ℕ}
 
 -- A call of gdrv-cc (GCC manual, "Invoking GCC"): what its words ask for, and what the journal has after it.
 

@@ -14,7 +14,6 @@ use Rattle.drv_compile.specs.declared.driving.Driven.{Driven}
 use Rattle.drv_compile.specs.declared.parts.Texts.TheVariants.{Damaged, Whole}
 use Rattle.drv_compile.specs.declared.tasks.Toolchain.{Toolchain}
 use Rattle.drv_run.specs.declared.ending.Ending.TheVariants.{Refused}
-use Rattle.drv_run.specs.declared.ending.Refusal.TheVariants as refusal
 use Rattle.drv_run.specs.declared.ending.Refusal as driver
 use Rattle.drv_system.specs.Facts.{Facts}
 use Rattle.drv_system.specs.Known.{Is}

@@ -8,7 +8,6 @@ use Rattle.drv_cc.specs.SelfSpecs.{front_with, seen_items}
 use Rattle.drv_cc.specs.declared.answer.Answer.TheVariants.{Refuse}
 use Rattle.drv_cc.specs.declared.answer.Answer.{Answer}
 use Rattle.drv_cc.specs.declared.answer.Surroundings.{Surroundings}
-use Rattle.drv_cc.specs.declared.giving.Given.{Given}
 use Rattle.drv_cc.specs.declared.refusal.Refusal.TheVariants.{GivenMore}
 use Rattle.drv_compile.specs.Beside.{known_names}
 use Rattle.drv_compile.specs.Reading.{specs_given, words_names}

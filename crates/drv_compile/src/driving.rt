@@ -174,6 +174,13 @@ pub(crate) fn driver_call<S: System>(
         (λ stop. IfTold stop (Undriven F calling.now chain.now call given.now)) }
 {
     let first = called(alloc, calling, chain.specs.as_bytes(), call, given, outside)?;
-    let answer = answer(alloc, calling.name.as_bytes(), chain, given, &first, outside)?;
+    let answer = answer(
+        alloc,
+        calling.name.as_bytes(),
+        chain,
+        given,
+        &first,
+        outside,
+    )?;
     answered(alloc, calling, chain, answer, given, first, outside)
 }

@@ -33,10 +33,7 @@ fn texts_if(path: Word, is_whole: bool) -> Texts
 }
 
 /// The file at a path, and whether it is whole.
-fn texts_at<S: System>(
-    path: Word,
-    outside: &mut Outside<'_, S>,
-) -> Result<Texts, AllocError>
+fn texts_at<S: System>(path: Word, outside: &mut Outside<'_, S>) -> Result<Texts, AllocError>
     ensures asks { Asked S.events outside.old outside.new }
     ensures texts { Tells outside.new result (λ F. texts_at F path) }
 {

@@ -1,6 +1,6 @@
 use Rattle.drv_compile.proofs.Absent.{absent_more}
 use Rattle.drv_compile.proofs.inputs.absent.Goals as goal
-use Rattle.drv_system.proofs.AskedCalls.{asked_further, extends_before}
+use Rattle.drv_system.proofs.AskedCalls.{asked_further}
 use Rattle.drv_system.proofs.Asking.{asks_extends, extends_then}
 use Rattle.drv_compile.specs.Inputs.{absent_by}
 use Rattle.std.proofs.Common.{◌++◌, ◌∙◌, ap, refl}
