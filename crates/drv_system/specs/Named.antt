@@ -1,3 +1,5 @@
+use Rattle.drv_system.specs.declared.reports.Reporter.{Reporter}
+use Rattle.drv_system.specs.declared.reports.Reporter.TheVariants as reporter
 use Rattle.drv_words.specs.Bytes.{newline}
 use Rattle.drv_words.specs.Places.{group_at, job_at}
 use Rattle.drv_words.specs.declared.plan.Command.{Command}
@@ -32,13 +34,18 @@ name_at plan (place.Temp k i) = option_map (λ (t : Temp). t.path) (temp_at plan
 name_at plan (place.Marked k i) = slice_get (job_at plan k).marked i
 name_at plan (place.OnFailure k i) = slice_get (job_at plan k).on_failure i
 
--- the line that reports a failed step
-abbrev pub line_of : List ℕ → Option (List ℕ) → List ℕ → List ℕ
-line_of before name after = codes "gdrv: " ++ before ++ unwrap_or name [] ++ after ++ newline ∷ []
+-- the name of the program that reports, as messages begin with it
+abbrev pub reporter_prefix : Reporter → List ℕ
+reporter_prefix reporter.Gdrv = codes "gdrv: "
+reporter_prefix reporter.GdrvCc = codes "gdrv-cc: "
 
-abbrev pub note_line : Plan → Note → List ℕ
-note_line plan (note.NotClaimed p) = line_of (codes "cannot claim ") (name_at plan p) []
-note_line plan (note.NotStarted p) = line_of (codes "cannot start ") (name_at plan p) []
-note_line plan (note.Signalled p) = line_of [] (name_at plan p) (codes " was ended by a signal")
-note_line plan (note.Lost p) = line_of [] (name_at plan p) (codes " was lost")
-note_line plan (note.NotRemoved p) = line_of (codes "cannot remove ") (name_at plan p) []
+-- the line that reports a failed step
+abbrev pub line_of : Reporter → List ℕ → Option (List ℕ) → List ℕ → List ℕ
+line_of r before name after = reporter_prefix r ++ before ++ unwrap_or name [] ++ after ++ newline ∷ []
+
+abbrev pub note_line : Reporter → Plan → Note → List ℕ
+note_line r plan (note.NotClaimed p) = line_of r (codes "cannot claim ") (name_at plan p) []
+note_line r plan (note.NotStarted p) = line_of r (codes "cannot start ") (name_at plan p) []
+note_line r plan (note.Signalled p) = line_of r [] (name_at plan p) (codes " was ended by a signal")
+note_line r plan (note.Lost p) = line_of r [] (name_at plan p) (codes " was lost")
+note_line r plan (note.NotRemoved p) = line_of r (codes "cannot remove ") (name_at plan p) []

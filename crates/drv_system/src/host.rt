@@ -7,9 +7,10 @@ ghost use Rattle.std.specs.Prelude.{◌≡◌, ◌∷◌, ◌++◌, [], IfOk, On
 use crate::files::{make_file, remove_file};
 use crate::noting::{note_kind, note_read, note_variable};
 use crate::places::{command_at, name_at, temp_at};
-use crate::processes::{Output, has_ended, reason_of, spawn, wait_for};
+use crate::processes::{Output, answer_of, has_ended, reason_of, spawn, wait_for};
 use crate::reading::read_path;
-use crate::reports::report_line;
+use crate::reporting::Reports;
+use crate::reports::Reporter;
 use crate::{Event, PathKind, ReadAnswer, System, TellAnswer};
 use drv_words::{
     Answer, ClaimAnswer, NotStarted, Note, Place, Plan, RemoveAnswer, RunEvent, StartAnswer, Step,
@@ -40,6 +41,7 @@ pub struct HostSystem {
     pending: Option<PipeReader>,
     /// The variables that only children get, with their values.
     variables: Vec<(Word, Word)>,
+    reports: Reports,
 }
 
 impl Model for HostSystem {
@@ -59,8 +61,8 @@ impl Model for HostSystem {
 }
 
 impl HostSystem {
-    /// The system of this process, before any question.
-    pub fn new(rt: HostRuntime) -> HostSystem
+    /// The system of this process, before any question. It reports in the name of a program.
+    pub fn new(rt: HostRuntime, reporter: Reporter) -> HostSystem
         ensures { result.journal ≡ [] }
     {
         let journal = Vec::new(rt.alloc());
@@ -72,6 +74,7 @@ impl HostSystem {
             children,
             pending: None,
             variables,
+            reports: Reports::new(reporter),
         }
     }
 
@@ -130,8 +133,7 @@ impl System for HostSystem {
     fn say(&mut self, text: &Word) -> Result<TellAnswer, AllocError> {
         let said = text.clone()?;
         self.journal.reserve(1)?;
-        let stream = self.rt.stderr();
-        let answer = tell(&mut io::writer(&stream), text);
+        let answer = tell_error(&self.rt, text);
         self.journal.push_reserved(Event::Say(said, answer));
         Ok(answer)
     }
@@ -227,7 +229,9 @@ impl System for HostSystem {
 
     #[tactic(auto, using(crate::proofs::Holding::holds_step))]
     fn wait(&mut self, place: Place, id: u64) -> WaitAnswer {
-        let answer = wait_for(&mut self.children, id);
+        let status = wait_for(&mut self.children, id);
+        let answer = answer_of(status);
+        self.reports.note_end(&self.rt, place, status);
         self.journal.push_reserved(Event::Run(RunEvent {
             step: Step::Wait { place, id },
             answer: Answer::Wait(answer),
@@ -263,13 +267,7 @@ impl System for HostSystem {
 
     #[tactic(auto, using(crate::proofs::Holding::holds_step))]
     fn report(&mut self, plan: &Plan, note: Note) -> TellAnswer {
-        let answer = match report_line(self.rt.alloc(), plan, note) {
-            Ok(line) => {
-                let stream = self.rt.stderr();
-                tell(&mut io::writer(&stream), &line)
-            }
-            Err(_) => TellAnswer::Failed,
-        };
+        let answer = self.reports.tell(&self.rt, plan, note);
         self.journal.push_reserved(Event::Run(RunEvent {
             step: Step::Report(note),
             answer: Answer::Reported(answer.is_told()),
@@ -304,6 +302,12 @@ pub(crate) fn value_of(rt: &HostRuntime, name: &str) -> Result<Option<Word>, All
         Err(VarError::OutOfMemory) => Err(AllocError),
         Err(_) => Ok(None),
     }
+}
+
+/// Writes a text to standard error as a whole, or reports the failure.
+pub(crate) fn tell_error(rt: &HostRuntime, text: &Word) -> TellAnswer {
+    let stream = rt.stderr();
+    tell(&mut io::writer(&stream), text)
 }
 
 /// Writes a text as a whole, or reports the failure.

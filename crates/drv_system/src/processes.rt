@@ -8,7 +8,11 @@ use crate::host::as_text;
 use drv_words::{Command, NotStarted, WaitAnswer, Word};
 use std::alloc::Global;
 use std::io::{self, Error, ErrorKind, PipeReader};
-use std::process::{self, Child};
+use std::os::unix::process::ExitStatusExt;
+use std::process::{self, Child, ExitStatus};
+
+/// The signal that ends a process which writes into a pipe without a reader.
+const SIGPIPE: i32 = 13;
 
 /// The destination of a command's standard output.
 #[derive(Clone, Copy)]
@@ -112,7 +116,7 @@ pub fn spawn(
 /// Why it could not be started.
 pub fn call(rt: &HostRuntime, command: &Command) -> Result<WaitAnswer, NotStarted> {
     match spawn(rt, rt.alloc(), command, &[], &None, Output::Own) {
-        Ok((child, _)) => Ok(ending_of(child)),
+        Ok((child, _)) => Ok(answer_of(status_of(child))),
         Err(e) => Err(reason_of(&e)),
     }
 }
@@ -132,21 +136,15 @@ pub fn reason_of(error: &Error) -> NotStarted {
     }
 }
 
-/// Waits for the child of this number, whose place is then empty.
-pub fn wait_for(children: &mut Vec<Option<Child>>, id: u64) -> WaitAnswer
+/// Waits for the child of this number, whose place is then empty. Returns none if its end is
+/// unknown.
+pub fn wait_for(children: &mut Vec<Option<Child>>, id: u64) -> Option<ExitStatus>
     ensures len { vec_len children.new ≡ vec_len children.old }
     ensures room { vec_capacity children.new ≡ vec_capacity children.old }
 {
-    let Ok(index) = usize::try_from(id) else {
-        return WaitAnswer::Lost;
-    };
-    let Some(place) = children.get_mut(index) else {
-        return WaitAnswer::Lost;
-    };
-    match place.take() {
-        Some(child) => ending_of(child),
-        None => WaitAnswer::Lost,
-    }
+    let index = usize::try_from(id).ok()?;
+    let child = children.get_mut(index)?.take()?;
+    status_of(child)
 }
 
 /// Whether the child of this number has ended, without waiting for it. The answer is also yes after
@@ -167,9 +165,14 @@ pub fn has_ended(children: &mut Vec<Option<Child>>, id: u64) -> bool
     }
 }
 
-/// How an ended child ended.
-fn ending_of(mut child: Child) -> WaitAnswer {
-    let Ok(status) = child.wait() else {
+/// The status of a child, once it has ended.
+fn status_of(mut child: Child) -> Option<ExitStatus> {
+    child.wait().ok()
+}
+
+/// How a child of this status ended.
+pub fn answer_of(status: Option<ExitStatus>) -> WaitAnswer {
+    let Some(status) = status else {
         return WaitAnswer::Lost;
     };
     match status.code() {
@@ -178,5 +181,13 @@ fn ending_of(mut child: Child) -> WaitAnswer {
             Err(_) => WaitAnswer::Lost,
         },
         None => WaitAnswer::Signal,
+    }
+}
+
+/// Whether a child of this status ended since nothing read its pipe any more.
+pub fn is_without_reader(status: Option<ExitStatus>) -> bool {
+    match status {
+        Some(status) => status.signal() == Some(SIGPIPE),
+        None => false,
     }
 }

@@ -34,7 +34,7 @@ use crate::script::read_system;
 use crate::transcript::Transcript;
 use c99::try_front;
 use drv_funcs::Site;
-use drv_system::{HostSystem, System};
+use drv_system::{HostSystem, Reporter, System};
 use drv_words::Word;
 use dumps::{Reading, try_reading};
 use expanding::try_expand;
@@ -99,7 +99,7 @@ pub fn try_call(rt: &HostRuntime, call: &[Word], out: &mut Transcript) -> io::Re
 }
 
 fn on_host(rt: &HostRuntime, call: &[Word], out: &mut Transcript) -> io::Result<()> {
-    let mut sys = HostSystem::new(rt.clone()?);
+    let mut sys = HostSystem::new(rt.clone()?, Reporter::Gdrv);
     Ok(answer(rt.alloc(), &mut sys, call, out)?)
 }
 

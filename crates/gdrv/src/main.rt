@@ -9,7 +9,7 @@ mod question;
 mod records;
 
 use drv_run::{Ending, drive, ending_text};
-use drv_system::{HostSystem, System, arguments, clock_seed, complain};
+use drv_system::{HostSystem, Reporter, System, arguments, clock_seed, complain};
 use drv_words::{Listing, Word};
 use question::{Question, question_of};
 use records::{has_own_specs, tell_of_records};
@@ -58,7 +58,7 @@ fn answer(rt: &HostRuntime, asked: Question) -> ExitCode {
 /// since then nothing was compiled.
 fn call(rt: &HostRuntime, args: Listing<Word>) -> Result<ExitCode, AllocError> {
     let seed = clock_seed(rt)?;
-    let mut sys = HostSystem::new(rt.clone()?);
+    let mut sys = HostSystem::new(rt.clone()?, Reporter::Gdrv);
     let has_own_specs = has_own_specs(args.as_slice());
     let ending = drive(rt.alloc(), &mut sys, args, seed);
     let status = finish(rt, &ending);

@@ -8,7 +8,7 @@ ghost use Rattle.std.specs.Prelude.{◌≡◌};
 mod process;
 
 use drv_compile::{Outcome, beside, calling_of, compile};
-use drv_system::{HostSystem, arguments, called_as, clock_seed, complain};
+use drv_system::{HostSystem, Reporter, arguments, called_as, clock_seed, complain};
 use drv_words::Word;
 use process::Process;
 use std::alloc::{AllocError, Global};
@@ -65,7 +65,7 @@ fn call(rt: &HostRuntime) -> io::Result<Outcome> {
     let args = arguments(rt)?;
     let own = own_specs(rt, calling.machine.as_bytes())?;
     let seed = clock_seed(rt)?;
-    let mut sys = HostSystem::new(rt.clone()?);
+    let mut sys = HostSystem::new(rt.clone()?, Reporter::GdrvCc);
     let mut host = Process::new(rt.clone()?);
     Ok(compile(rt.alloc(), &calling, &own, &args, seed, &mut sys, &mut host))
 }

@@ -16,7 +16,7 @@ mod translating;
 
 use calling::{Call, call_of};
 use drv_run::Ending;
-use drv_system::{HostSystem, arguments, clock_seed, complain};
+use drv_system::{HostSystem, Reporter, arguments, clock_seed, complain};
 use drv_words::{Listing, Word};
 use forms::Form;
 use help::Question;
@@ -67,20 +67,20 @@ fn answer(rt: &HostRuntime, asked: Question) -> Outcome {
 /// Tells the plan of a line to this process's user.
 fn tell(rt: &HostRuntime, form: Form, line: Listing<Word>) -> Result<Outcome, AllocError> {
     let seed = clock_seed(rt)?;
-    let mut sys = HostSystem::new(rt.clone()?);
+    let mut sys = HostSystem::new(rt.clone()?, Reporter::Gdrv);
     Ok(tell_plan(rt.alloc(), &mut sys, form, line, seed))
 }
 
 /// Tells the run of a line to this process's user.
 fn tell_run(rt: &HostRuntime, given: &[Word], line: Listing<Word>) -> Result<Outcome, AllocError> {
     let seed = clock_seed(rt)?;
-    let mut sys = HostSystem::new(rt.clone()?);
+    let mut sys = HostSystem::new(rt.clone()?, Reporter::Gdrv);
     Ok(tell_after(rt.alloc(), &mut sys, given, line, seed))
 }
 
 /// Translates a dump for this process's user.
 fn translate(rt: &HostRuntime, path: Word) -> Result<Outcome, AllocError> {
-    let mut sys = HostSystem::new(rt.clone()?);
+    let mut sys = HostSystem::new(rt.clone()?, Reporter::Gdrv);
     Ok(translate_file(rt.alloc(), &mut sys, path))
 }
 

@@ -3,4 +3,4 @@ use Rattle.std.proofs.Common.{refl}
 use Rattle.drv_system.proofs.host.HostSystemSystem.wait.Goals as goal
 
 pub invariant_of-self : goal.invariant_of-self
-invariant_of-self c = holds_step _ _ c.self.invariant c.push_reserved.ensures.items c.wait_for-answer.ensures.len tt refl
+invariant_of-self c = holds_step _ _ c.self.invariant c.push_reserved.ensures.items c.wait_for-status.ensures.len tt refl
