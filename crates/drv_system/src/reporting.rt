@@ -1,4 +1,4 @@
-//! The telling of reports.
+//! Reports to the user, in the name of a program.
 //!
 //! gcc says nothing of a command that SIGPIPE ended if another failed, since that one has its own
 //! message (`execute` of gcc's driver). So does `gdrv-cc`.
@@ -78,7 +78,7 @@ impl Reports {
         Some(earlier.line)
     }
 
-    /// Notes how a command ended. If it did not fail, a line that was held for it is told.
+    /// Notes how a command ended. If it did not fail, writes a line that was held for it.
     pub fn note_end(&mut self, rt: &HostRuntime, place: Place, status: Option<ExitStatus>) {
         if self.reporter == Reporter::GdrvCc && is_without_reader(status) {
             self.writer = Some(place);
