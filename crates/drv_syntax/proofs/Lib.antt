@@ -10,6 +10,7 @@ pub mod CutRows
 pub mod CutTests
 pub mod Cuts
 pub mod DescentAsked
+pub mod DescentBraces
 pub mod DescentLeads
 pub mod DescentLists
 pub mod DescentParts
