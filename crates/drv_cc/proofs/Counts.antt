@@ -1,6 +1,8 @@
-use Rattle.drv_cc.specs.Code.Building.{Many, all_counted, count_of, counted_only, is_counted}
-use Rattle.drv_cc.specs.SideFiles.{is_some, only}
-use Rattle.std.proofs.Common.{◌≡◌, List, [], ◌∷◌, ap, refl, ℕ}
+use Rattle.drv_cc.specs.Code.Building.{Counted, Many, Single, Zero, all_counted, all_noted, count_of, counted_only, is_counted, suffixes_words}
+use Rattle.drv_cc.specs.Items.{same}
+use Rattle.drv_cc.specs.SideFiles.{is_some, only, suffix_words}
+use Rattle.std.proofs.Common.{◌≡◌, Bool, List, [], ◌∷◌, ap, false, if◌then◌else◌, refl, true, ℕ}
+use Rattle.std.specs.List.{list_all}
 
 -- What is counted, by the list of it.
 
@@ -17,3 +19,25 @@ pub some_of : (names : List (List ℕ)) → is_counted (count_of names) ≡ is_s
 some_of [] = refl
 some_of (name ∷ []) = refl
 some_of (name ∷ other ∷ names) = ap is_counted (many_stays names)
+
+many_noted : (names : List (List ℕ)) → all_noted Many names ≡ Many
+many_noted [] = refl
+many_noted (name ∷ names) = many_noted names
+
+-- with one noted, it stays the only one where all are the same
+one_noted : (end : List ℕ) (others : List (List ℕ)) → all_noted (Single end) others ≡ (if list_all (same end) others then Single end else Many)
+one_noted end [] = refl
+one_noted end (other ∷ others) = by (same end other) refl (one_noted end others)
+  where
+    by : (is : Bool) → same end other ≡ is → all_noted (Single end) others ≡ (if list_all (same end) others then Single end else Many)
+        → all_noted (Single end) (other ∷ others) ≡ (if list_all (same end) (other ∷ others) then Single end else Many)
+    by true is rest = rw is rest
+    by false is rest = rw is (many_noted others)
+
+pub suffixes_of : (ends : List (List ℕ)) → suffixes_words (all_noted Zero ends) ≡ suffix_words ends
+suffixes_of [] = refl
+suffixes_of (end ∷ others) = by (list_all (same end) others) refl
+  where
+    by : (is : Bool) → list_all (same end) others ≡ is → suffixes_words (all_noted (Single end) others) ≡ suffix_words (end ∷ others)
+    by true is = rw (one_noted end others) (rw is refl)
+    by false is = rw (one_noted end others) (rw is refl)

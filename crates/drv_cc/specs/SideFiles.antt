@@ -4,7 +4,7 @@ use Rattle.drv_cc.specs.Table.{texts}
 use Rattle.drv_cc.specs.declared.item.Item.{Item}
 use Rattle.drv_words.specs.Bytes.{period}
 use Rattle.drv_words.specs.FileNames.{base, parted, stem}
-use Rattle.std.specs.List.{filter}
+use Rattle.std.specs.List.{filter, list_all}
 use Rattle.std.specs.Prelude.{◌&&◌, ◌||◌, Bool, List, [], ◌∷◌, ◌++◌, ◌-◌, None, Option, Some, codes, drop, false, if◌then◌else◌, length, map, nat_lt, not, take, true, ℕ}
 
 -- The names of side files (GCC manual, "Overall Options", -dumpdir, -dumpbase; "Preprocessor Options", -MD; "Developer Options",
@@ -168,9 +168,20 @@ named items = if has (codes "-E") items || has (codes "-M") items || has (codes 
 abbrev pub with_value : List ℕ → List ℕ → List (List ℕ)
 with_value word value = if nat_lt 0 (length value) then (word ++ value) ∷ [] else []
 
-abbrev pub base_words : List Item → Option (List ℕ) → List (List ℕ)
-base_words items None = []
-base_words items (Some name) = (codes "--gdrv-base=" ++ (stem_of items name ++ suffix name)) ∷ with_value (codes "--gdrv-ext=") (suffix name)
+-- of several sources: the suffix of those that only -x makes sources, where all of them have the same ("Overall Options", -x)
+abbrev pub is_other : List ℕ → Bool
+is_other end = nat_lt 0 (length end) && not (is_among (texts preprocessed.0) end)
+
+abbrev pub other_suffixes : List (List ℕ) → List (List ℕ)
+other_suffixes names = filter is_other (map suffix names)
+
+abbrev pub suffix_words : List (List ℕ) → List (List ℕ)
+suffix_words [] = []
+suffix_words (end ∷ others) = if list_all (same end) others then (codes "--gdrv-suffix=" ++ end) ∷ [] else codes "--gdrv-suffixes" ∷ []
+
+abbrev pub base_words : List Item → List (List ℕ) → Option (List ℕ) → List (List ℕ)
+base_words items names None = suffix_words (other_suffixes names)
+base_words items names (Some name) = (codes "--gdrv-base=" ++ (stem_of items name ++ suffix name)) ∷ with_value (codes "--gdrv-ext=") (suffix name)
 
 abbrev pub dependency_words : Option (List ℕ) → List (List ℕ)
 dependency_words None = []
@@ -196,7 +207,7 @@ is_some (name ∷ names) = true
 
 abbrev pub named_words : List Item → List (List ℕ)
 named_words items =
-    with_value (codes "--gdrv-dir=") (beginning items) ++ base_words items (only (sources (named items) items)) ++ dependencies_asked items ++ aux_asked items
+    with_value (codes "--gdrv-dir=") (beginning items) ++ base_words items (sources (named items) items) (only (sources (named items) items)) ++ dependencies_asked items ++ aux_asked items
 
 abbrev pub side_words : List Item → List (List ℕ)
 side_words items = if is_some (sources worked items) then named_words items else []

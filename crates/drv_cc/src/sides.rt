@@ -5,8 +5,9 @@ ghost use Rattle.drv_cc.specs.SideFiles.{aux_asked, aux_words, base_words, begin
 ghost use Rattle.drv_cc.specs.SideFiles.{dependencies_asked, dependency_words, given_or, is_named};
 ghost use Rattle.drv_cc.specs.SideFiles.{link_beginning, named, named_words, only, output};
 ghost use Rattle.drv_cc.specs.SideFiles.{own_beginning, own_folder, program, program_of, real};
-ghost use Rattle.drv_cc.specs.SideFiles.{saves, side_words, stem_of, stops, with_value, worked};
-ghost use Rattle.drv_cc.specs.Code.Building.{kinds_shown};
+ghost use Rattle.drv_cc.specs.SideFiles.{saves, side_words, stem_of, stops, suffix_words};
+ghost use Rattle.drv_cc.specs.SideFiles.{with_value, worked};
+ghost use Rattle.drv_cc.specs.Code.Building.{count_shown, kinds_shown, suffixes_words};
 ghost use Rattle.drv_cc.specs.Kept.{last_argument};
 ghost use Rattle.std.specs.Option.{option_map};
 ghost use Rattle.std.specs.Prelude.{◌≡◌, ◌∷◌, ◌++◌, [], IfOk, OnOk, Some, codes};
@@ -16,8 +17,8 @@ use crate::item::Item;
 use crate::keeping::{has, last_argument};
 use crate::names::{folder, suffix};
 use crate::placing::{given_folder, stay_here};
-use crate::sources::{Kinds, has_source, only_file, only_source};
-use crate::words::{add_joined, add_parts};
+use crate::sources::{Count, Kinds, has_source, only_file, only_source, other_suffixes};
+use crate::words::{add_joined, add_parts, add_word};
 use drv_words::{Listing, Word, base, parted, stem};
 use std::alloc::{AllocError, Global};
 
@@ -142,7 +143,7 @@ fn add_base_of(
     name: &[u8],
     words: &mut Listing<Word>,
 ) -> Result<(), AllocError>
-    ensures { OnOk result (words.new ≡ words.old ++ base_words items.now (Some name.now)) }
+    ensures { OnOk result (words.new ≡ words.old ++ base_words items.now [] (Some name.now)) }
 {
     add_parts(
         alloc,
@@ -165,15 +166,44 @@ fn named(items: &[Item]) -> Kinds
     }
 }
 
-/// Adds the name and the suffix of the only source whose name the compiler gets.
-fn add_base(alloc: Global, items: &[Item], words: &mut Listing<Word>) -> Result<(), AllocError>
-    ensures { OnOk result (words.new
-        ≡ words.old ++ base_words items.now (only (sides.sources (named items.now) items.now))) }
+/// Adds the suffix of several sources that only their language makes sources, or that they have
+/// more than one.
+fn add_count(alloc: Global, count: Count<'_>, words: &mut Listing<Word>) -> Result<(), AllocError>
+    ensures { OnOk result (words.new ≡ words.old ++ suffixes_words (count_shown count.entry)) }
 {
-    if let Some(name) = only_source(named(items), items) {
-        add_base_of(alloc, items, name, words)?;
+    match count {
+        Count::Nothing => Ok(()),
+        Count::One(end) => add_joined(alloc, words, b"--gdrv-suffix=", end),
+        Count::Several => add_word(alloc, words, b"--gdrv-suffixes"),
     }
-    Ok(())
+}
+
+/// Adds the suffix of those sources of these kinds that only their language makes sources, or that
+/// they have more than one.
+#[tactic(auto, using(crate::proofs::Counts::suffixes_of))]
+fn add_suffix(
+    alloc: Global,
+    kinds: Kinds,
+    items: &[Item],
+    words: &mut Listing<Word>,
+) -> Result<(), AllocError>
+    ensures { OnOk result (words.new ≡ words.old
+        ++ suffix_words (sides.other_suffixes (sides.sources (kinds_shown kinds) items.now))) }
+{
+    add_count(alloc, other_suffixes(kinds, items), words)
+}
+
+/// Adds the name and the suffix of the only source whose name the compiler gets, or what there is
+/// to say of several.
+fn add_base(alloc: Global, items: &[Item], words: &mut Listing<Word>) -> Result<(), AllocError>
+    ensures { OnOk result (words.new ≡ words.old
+        ++ base_words items.now (sides.sources (named items.now) items.now)
+        (only (sides.sources (named items.now) items.now))) }
+{
+    match only_source(named(items), items) {
+        Some(name) => add_base_of(alloc, items, name, words),
+        None => add_suffix(alloc, named(items), items, words),
+    }
 }
 
 /// The file of dependencies of an output.

@@ -1,10 +1,12 @@
 //! The files and the sources of a line.
 
-ghost use Rattle.drv_cc.specs.Code.Building.{count_of, count_shown, counted, counted_only};
-ghost use Rattle.drv_cc.specs.Code.Building.{is_counted, kinds_shown};
+ghost use Rattle.drv_cc.specs.Code.Building.{Zero, all_noted, count_of, count_shown};
+ghost use Rattle.drv_cc.specs.Code.Building.{counted, counted_only, is_counted, kinds_shown};
+ghost use Rattle.drv_cc.specs.Code.Building.{noted};
 ghost use Rattle.drv_cc.specs.Kept.{is_file_part};
 ghost use Rattle.drv_cc.specs.SideFiles.{files, inputs, is_looked_for, is_some, is_source};
-ghost use Rattle.drv_cc.specs.SideFiles.{language_by, only, sources, worked};
+ghost use Rattle.drv_cc.specs.SideFiles.{is_other, language_by, only, other_suffixes, sources};
+ghost use Rattle.drv_cc.specs.SideFiles.{worked};
 ghost use Rattle.std.specs.Option.{option_map};
 ghost use Rattle.std.specs.Prelude.{◌≡◌, IfOk};
 
@@ -79,6 +81,17 @@ impl<'a> Count<'a> {
     {
         match self {
             Count::Nothing => Count::One(name),
+            Count::One(_) | Count::Several => Count::Several,
+        }
+    }
+
+    /// With one more, which may be there already.
+    fn with_same(self, name: &'a [u8]) -> Count<'a>
+        ensures { count_shown result ≡ noted (count_shown self.entry) name.now }
+    {
+        match self {
+            Count::Nothing => Count::One(name),
+            Count::One(other) if is(other, name) => self,
             Count::One(_) | Count::Several => Count::Several,
         }
     }
@@ -162,6 +175,30 @@ fn sources(kinds: Kinds, items: &[Item]) -> Count<'_>
         let name = item.name.as_bytes();
         if is_file(item) && kinds.is_source(language, name) {
             count = count.with(name);
+        }
+        language = language_by(language, item);
+    }
+    count
+}
+
+/// Whether a suffix is one that only a language makes that of a source.
+fn is_other(end: &[u8]) -> bool
+    ensures { result ≡ is_other end.now }
+{
+    0 < end.len() && !stands_in(Kinds::Preprocessed.suffixes(), end)
+}
+
+/// The suffixes of sources of these kinds that only their language makes sources.
+pub(crate) fn other_suffixes(kinds: Kinds, items: &[Item]) -> Count<'_>
+    ensures { count_shown result
+        ≡ all_noted Zero (other_suffixes (sources (kinds_shown kinds) items.now)) }
+{
+    let mut count = Count::Nothing;
+    let mut language: &[u8] = &[];
+    for item in items {
+        let name = item.name.as_bytes();
+        if is_file(item) && kinds.is_source(language, name) && is_other(suffix(name)) {
+            count = count.with_same(suffix(name));
         }
         language = language_by(language, item);
     }

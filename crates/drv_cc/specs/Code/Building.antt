@@ -1,5 +1,5 @@
 use Rattle.drv_cc.specs.Items as items
-use Rattle.drv_cc.specs.Items.{Start, items_of}
+use Rattle.drv_cc.specs.Items.{Start, items_of, same}
 use Rattle.drv_cc.specs.Table.{OptionRow}
 use Rattle.drv_cc.specs.declared.item.Item.{Item}
 use Rattle.drv_cc.specs.declared.reading.Start.TheVariants as code
@@ -12,7 +12,7 @@ use Rattle.drv_cc.specs.declared.sources.Kinds.TheVariants as kinds
 use Rattle.drv_cc.specs.declared.sources.Kinds.{Kinds}
 use Rattle.drv_cc.specs.declared.table.Row.{Row}
 use Rattle.std.specs.Option.{option_map}
-use Rattle.std.specs.Prelude.{◌≡◌, Bool, List, [], ◌∷◌, ◌++◌, None, Option, Some, false, true, ℕ}
+use Rattle.std.specs.Prelude.{◌≡◌, Bool, List, [], ◌∷◌, ◌++◌, None, Option, Some, codes, false, if◌then◌else◌, true, ℕ}
 
 -- The code's values without their references, and how the code goes over a line. Only private clauses cite them.
 
@@ -70,3 +70,18 @@ abbrev pub counted_only : Counted → Option (List ℕ)
 counted_only Zero = None
 counted_only (Single name) = Some name
 counted_only Many = None
+
+-- the same without those that are there already
+abbrev pub noted : Counted → List ℕ → Counted
+noted Zero name = Single name
+noted (Single other) name = if same other name then Single other else Many
+noted Many name = Many
+
+abbrev pub all_noted : Counted → List (List ℕ) → Counted
+all_noted so_far [] = so_far
+all_noted so_far (name ∷ names) = all_noted (noted so_far name) names
+
+abbrev pub suffixes_words : Counted → List (List ℕ)
+suffixes_words Zero = []
+suffixes_words (Single end) = (codes "--gdrv-suffix=" ++ end) ∷ []
+suffixes_words Many = codes "--gdrv-suffixes" ∷ []
