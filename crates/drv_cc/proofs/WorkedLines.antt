@@ -22,8 +22,11 @@ named = texts (codes "q r* *")
 abbrev pub nowhere : Surroundings
 nowhere = record { compiler = codes "/usr/bin/gcc"; folders = codes "/g/" ∷ []; compiler_path = None; library_path = None }
 
+abbrev front_by : List ℕ → List ℕ → Answer
+front_by names line = front_of names [] nowhere (texts line)
+
 abbrev front : List ℕ → Answer
-front line = front_of known [] nowhere (texts line)
+front line = front_by known line
 
 abbrev pub words_given : Answer → Option (List (List ℕ))
 words_given (Run call) = Some call.words
@@ -32,6 +35,9 @@ words_given _ = None
 abbrev children_given : Answer → List Variable
 children_given (Run call) = call.children
 children_given _ = []
+
+abbrev line_by : List ℕ → List ℕ → Option (List (List ℕ))
+line_by names text = words_given (front_by names text)
 
 abbrev line : List ℕ → Option (List (List ℕ))
 line text = words_given (front text)
@@ -147,9 +153,17 @@ old_standard : line (codes "-c a.c -pedantic -std=c9x") ≡ gives (codes "-c a.c
 unfolding sections ignored unpaired debugged_by
 old_standard = refl
 
-tuned : line (codes "-c a.c -mcpu=k8 -mtune=nocona") ≡ gives (codes "-c a.c -mcpu=k8 -mtune=nocona --gdrv-base=a.c --gdrv-ext=.c -pipe")
+tuned : line_by (codes "-mcpu=\n-mcpu=>-mtune=") (codes "-c a.c -mtune=nocona -mcpu=k8") ≡ gives (codes "-c a.c -mtune=k8 --gdrv-base=a.c --gdrv-ext=.c -pipe")
 unfolding sections ignored unpaired debugged_by
 tuned = refl
+
+own_machine : line_by (codes "-mcpu=") (codes "-c a.c -mcpu=a53 -mtune=a72") ≡ gives (codes "-c a.c -mcpu=a53 -mtune=a72 --gdrv-base=a.c --gdrv-ext=.c -pipe")
+unfolding sections ignored unpaired debugged_by
+own_machine = refl
+
+no_machine : front_by (codes "-mcpu=") (codes "-c a.c -mcpu=") ≡ Refuse (NoArgument (codes "-mcpu=") ∷ [])
+unfolding sections ignored unpaired debugged_by
+no_machine = refl
 
 pie_last : line (codes "o.o -no-pie -pie") ≡ gives (codes "o.o -pie")
 unfolding sections ignored unpaired debugged_by

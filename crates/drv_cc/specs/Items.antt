@@ -115,12 +115,24 @@ head_of (b ∷ rest) = if b == equals then b ∷ [] else b ∷ head_of rest
 abbrev pub is_known : List ℕ → List ℕ → Bool
 is_known known name = is_among (slice_split (λ b. b == newline) known) name
 
+-- -mcpu= is -mtune= by another name where a line of the names says so (GCC manual, "x86 Options", -mcpu=); other machines have it
+abbrev pub machine_name : List ℕ → List ℕ
+machine_name known = if is_known known (codes "-mcpu=>-mtune=") then codes "-mtune=" else codes "-mcpu="
+
+abbrev pub machine_item : List ℕ → List ℕ → Item
+machine_item known [] = plain Lacking (codes "-mcpu=")
+machine_item known (b ∷ machine) = item (machine_name known) (b ∷ machine) Joined Switch
+
+abbrev pub known_item : List ℕ → List ℕ → Item
+known_item known name =
+    if begins (codes "-mcpu=") name then machine_item known (drop (length (codes "-mcpu=")) name) else item name [] Alone Switch
+
 -- a word that no row fits: names that are known beyond the table are taken as they are, and so is -Wno-X, of which the compiler
 -- speaks where it speaks at all
 abbrev pub beyond : List ℕ → List ℕ → List ℕ → Item
 beyond known word name =
     if is_among (texts ignored) (paired name) then item name [] Nowhere Switch
-    else if begins (codes "-Wno-") name || (is_known known name || is_known known (head_of name)) then item name [] Alone Switch
+    else if begins (codes "-Wno-") name || (is_known known name || is_known known (head_of name)) then known_item known name
     else plain Unknown word
 
 abbrev pub is_file : List ℕ → Bool

@@ -194,7 +194,7 @@ sections =
     ∷ section Attached Separate Switch
     (codes "-aux-info=>-aux-info")
     ∷ section Attached Joined Switch
-    (codes "-Tbss= -Tdata= -Ttext= -std= -march= -mtune= -mcpu= -fsanitize= -fno-sanitize= -ftree-parallelize-loops= "
+    (codes "-Tbss= -Tdata= -Ttext= -std= -march= -mtune= -fsanitize= -fno-sanitize= -ftree-parallelize-loops= "
     ++ codes "-fdiagnostics-color= -flto= -Wlarger-than->-Wlarger-than= -finline-limit->-finline-limit= -fno-builtin- -fbuiltin- "
     ++ codes "-fcall-saved- -fcall-used- -fdisable- -fdump- -fenable- -ffixed- -fopt-info- -fplugin-arg-")
     ∷ section Rest Joined Piece

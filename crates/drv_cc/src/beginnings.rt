@@ -110,7 +110,6 @@ const GROUP_12: &[Row] = group! {
 const GROUP_13: &[Row] = group! {
     b"-march=" b"-march=" Attached Joined Switch
     b"-mtune=" b"-mtune=" Attached Joined Switch
-    b"-mcpu=" b"-mcpu=" Attached Joined Switch
     b"-U" b"-U" Either Separate Switch
 };
 

@@ -113,6 +113,13 @@ fn is_known(known: &[u8], name: &[u8]) -> bool
         .any(|other| name == other)
 }
 
+/// Whether a line is one of the names.
+pub(crate) fn is_known_line(known: &[u8], line: &[u8]) -> bool
+    ensures { result ≡ is_known known.now line.now }
+{
+    is_found(known, line) || is_known(known, line)
+}
+
 /// Whether one of two names is known. Lines one by one are gone over only where neither is found.
 pub(crate) fn is_either_known(known: &[u8], name: &[u8], head: &[u8]) -> bool
     ensures { result ≡ (is_known known.now name.now || is_known known.now head.now) }

@@ -2,12 +2,13 @@
 
 ghost use Rattle.drv_cc.specs.Code.Building.{Notes, row_shown, shown, start_shown};
 ghost use Rattle.drv_cc.specs.Items.{beyond, first_row, head_of, is_file, items_of};
-ghost use Rattle.drv_cc.specs.Items.{renamed, start_of, start_renamed, with_rest};
+ghost use Rattle.drv_cc.specs.Items.{known_item, machine_item, machine_name, renamed, start_of};
+ghost use Rattle.drv_cc.specs.Items.{start_renamed, with_rest};
 ghost use Rattle.std.specs.Prelude.{◌≡◌, IfOk, None, drop, length};
 
 use crate::classes::{ignored, is_one_of, paired};
 use crate::item::Item;
-use crate::known::is_either_known;
+use crate::known::{is_either_known, is_known_line};
 use crate::places::first_place;
 use crate::renaming::renamed;
 use crate::table::{Part, Row, Spelling, Takes, first_row};
@@ -58,6 +59,38 @@ fn head_of(word: &[u8]) -> &[u8]
     }
 }
 
+/// What `-mcpu=` is called: `-mtune=` where a line of the known names says so.
+fn machine_name(known: &[u8]) -> &'static [u8]
+    ensures { result.now ≡ machine_name known.now }
+{
+    if is_known_line(known, b"-mcpu=>-mtune=") {
+        b"-mtune="
+    } else {
+        b"-mcpu="
+    }
+}
+
+/// The option `-mcpu=` with the machine after it.
+fn machine_item(alloc: Global, known: &[u8], machine: &[u8]) -> Result<Item, AllocError>
+    ensures { IfOk result (λ item. item ≡ machine_item known.now machine.now) }
+{
+    if machine.is_empty() {
+        return Item::plain(alloc, Part::Lacking, b"-mcpu=");
+    }
+    let name = machine_name(known);
+    Item::new(alloc, name, machine, Spelling::Joined, Part::Switch)
+}
+
+/// An option that is known beyond the table.
+fn known_item(alloc: Global, known: &[u8], name: &[u8]) -> Result<Item, AllocError>
+    ensures { IfOk result (λ item. item ≡ known_item known.now name.now) }
+{
+    if name.starts_with(b"-mcpu=") {
+        return machine_item(alloc, known, rest_after(name, b"-mcpu="));
+    }
+    Item::new(alloc, name, b"", Spelling::Alone, Part::Switch)
+}
+
 /// A word that no row fits, by the name that it has.
 fn beyond(alloc: Global, known: &[u8], word: &[u8], name: &[u8]) -> Result<Item, AllocError>
     ensures { IfOk result (λ item. item ≡ beyond known.now word.now name.now) }
@@ -67,7 +100,7 @@ fn beyond(alloc: Global, known: &[u8], word: &[u8], name: &[u8]) -> Result<Item,
         return Item::new(alloc, name, b"", Spelling::Nowhere, Part::Switch);
     }
     if name.starts_with(b"-Wno-") || is_either_known(known, name, head_of(name)) {
-        return Item::new(alloc, name, b"", Spelling::Alone, Part::Switch);
+        return known_item(alloc, known, name);
     }
     Item::plain(alloc, Part::Unknown, word)
 }
