@@ -281,6 +281,34 @@ spelled_wrong : front (codes "-c a.c -fvisibilty=hidden -foo") ≡ Refuse (Unkno
 unfolding sections ignored unpaired debugged_by
 spelled_wrong = refl
 
+numbered : line_by (codes "-fmax-errors=#") (codes "o.o -fmax-errors=10") ≡ gives (codes "o.o -fmax-errors=10")
+unfolding sections ignored unpaired debugged_by
+numbered = refl
+
+no_number : front_by (codes "-fmax-errors=#") (codes "o.o -fmax-errors=x -foo") ≡ Ask
+unfolding sections ignored unpaired debugged_by
+no_number = refl
+
+listed : line_by (codes "-ftls-model=?\n-ftls-model=local-exec") (codes "o.o -ftls-model=local-exec") ≡ gives (codes "o.o -ftls-model=local-exec")
+unfolding sections ignored unpaired debugged_by
+listed = refl
+
+unlisted : front_by (codes "-ftls-model=?\n-ftls-model=local-exec") (codes "o.o -ftls-model=local") ≡ Ask
+unfolding sections ignored unpaired debugged_by
+unlisted = refl
+
+check_of_none : front (codes "o.o -fsanitize=address,adress") ≡ Ask
+unfolding sections ignored unpaired debugged_by
+check_of_none = refl
+
+all_checks_off : line (codes "o.o -fno-sanitize=all,,leak") ≡ gives (codes "o.o -fno-sanitize=all,,leak")
+unfolding sections ignored unpaired debugged_by
+all_checks_off = refl
+
+all_checks_on : front (codes "o.o -fsanitize=all") ≡ Ask
+unfolding sections ignored unpaired debugged_by
+all_checks_on = refl
+
 unknown : front (codes "-c a.c -shred") ≡ Refuse (UnknownOption (codes "-shred") ∷ [])
 unfolding sections ignored unpaired debugged_by
 unknown = refl

@@ -2,13 +2,13 @@ use Rattle.drv_cc.specs.Table.{OptionRow, ignored, renames, rings, table, texts,
 use Rattle.drv_cc.specs.declared.item.Item.{Item}
 use Rattle.drv_cc.specs.declared.table.Spelling.TheVariants.{Alone, Joined, Nowhere, Separate}
 use Rattle.drv_cc.specs.declared.table.Spelling.{Spelling}
-use Rattle.drv_cc.specs.declared.table.Part.TheVariants.{Input, Lacking, Switch, Unknown}
+use Rattle.drv_cc.specs.declared.table.Part.TheVariants.{Input, Lacking, Question, Switch, Unknown}
 use Rattle.drv_cc.specs.declared.table.Part.{Part}
 use Rattle.drv_cc.specs.declared.table.Takes.TheVariants.{Attached, Either, Next, Nothing, Rest}
 use Rattle.drv_cc.specs.declared.table.Takes.{Takes}
 use Rattle.drv_words.specs.Bytes.{equals, hyphen, newline}
 use Rattle.std.specs.Cmp.Lexicographic.{pointwise}
-use Rattle.std.specs.List.{list_any, slice_split, starts_with}
+use Rattle.std.specs.List.{list_all, list_any, slice_split, starts_with}
 use Rattle.std.specs.Prelude.{◌==◌, ◌&&◌, ◌||◌, Bool, List, [], ◌∷◌, ◌++◌, None, Option, Some, codes, drop, false, find, if◌then◌else◌, length, nat_eq, nat_lt, not, true, ℕ}
 
 -- A line of gcc as a list of items (GCC manual, "Invoking GCC"; "Option Summary").
@@ -127,12 +127,34 @@ abbrev pub known_item : List ℕ → List ℕ → Item
 known_item known name =
     if begins (codes "-mcpu=") name then machine_item known (drop (length (codes "-mcpu=")) name) else item name [] Alone Switch
 
--- a word that no row fits: names that are known beyond the table are taken as they are, and so is -Wno-X, of which the compiler
--- speaks where it speaks at all
+-- an option is known by its whole name, with any argument by its name up to =, and with a number by that and a mark
+abbrev pub value_of : List ℕ → List ℕ
+value_of name = drop (length (head_of name)) name
+
+abbrev pub is_digit : ℕ → Bool
+is_digit b = nat_lt 47 b && nat_lt b 58
+
+abbrev pub is_number : List ℕ → Bool
+is_number value = nat_lt 0 (length value) && list_all is_digit value
+
+abbrev pub numbered : List ℕ → List ℕ
+numbered name = if is_number (value_of name) then head_of name ++ codes "#" else head_of name
+
+abbrev pub accepts : List ℕ → List ℕ → Bool
+accepts known name = is_known known name || (is_known known (head_of name) || is_known known (numbered name))
+
+-- of these options gcc's driver judges the argument ("opts-common.cc", decode_cmdline_option): of those with a number, and of those with
+-- listed arguments, whose mark is another
+abbrev pub judges : List ℕ → List ℕ → Bool
+judges known name = is_known known (head_of name ++ codes "?") || is_known known (head_of name ++ codes "#")
+
+-- A word that no row fits: names that are known beyond the table are taken as they are, and so is -Wno-X, of which the compiler
+-- speaks where it speaks at all. An argument that gcc's driver judges makes the line a question: the compiler refuses it in its own words.
 abbrev pub beyond : List ℕ → List ℕ → List ℕ → Item
 beyond known word name =
     if is_among (texts ignored) (paired name) then item name [] Nowhere Switch
-    else if begins (codes "-Wno-") name || (is_known known name || is_known known (head_of name)) then known_item known name
+    else if begins (codes "-Wno-") name || accepts known name then known_item known name
+    else if judges known name then plain Question word
     else plain Unknown word
 
 abbrev pub is_file : List ℕ → Bool

@@ -1,3 +1,4 @@
+use Rattle.drv_cc.specs.Checks.{names_no_check}
 use Rattle.drv_cc.specs.Items.{begins, same}
 use Rattle.drv_cc.specs.declared.item.Item.{Item}
 use Rattle.drv_cc.specs.declared.refusal.Refusal.TheVariants as refusal
@@ -47,9 +48,13 @@ is_file_part _ = false
 abbrev pub has_input : List Item → Bool
 has_input items = list_any (λ i. is_input i.part) items
 
--- Asked: the line has a question, or has an option that says more of a run and has nothing to run.
+-- Asked: the line has a question, or a check that is none, which gcc's driver refuses in its own words; or it has an option that says more
+-- of a run, and has nothing to run.
+abbrev pub asks : Item → Bool
+asks i = is_question i.part || names_no_check i
+
 abbrev pub is_asked : List Item → Bool
-is_asked items = list_any (λ i. is_question i.part) items || (list_any (λ i. tells i.part) items && not (has_input items))
+is_asked items = list_any asks items || (list_any (λ i. tells i.part) items && not (has_input items))
 
 -- the line names a spec file
 abbrev pub is_vendors : List Item → Bool

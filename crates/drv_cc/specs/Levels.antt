@@ -1,3 +1,4 @@
+use Rattle.drv_cc.specs.Checks.{undefined_checks}
 use Rattle.drv_cc.specs.Items.{is_among, same}
 use Rattle.drv_cc.specs.Kept.{has}
 use Rattle.drv_cc.specs.Table.{texts}
@@ -68,12 +69,7 @@ debug_words items = debug_words_of (toggled (debugged no_debugging items)) (debu
 
 -- Checks.
 
--- the checks of undefined, and all that need the library of undefined behaviour
-abbrev pub undefined_checks : List ℕ
-undefined_checks =
-    codes "shift-base shift-exponent integer-divide-by-zero unreachable vla-bound return null signed-integer-overflow bool enum bounds alignment "
-    ++ codes "nonnull-attribute returns-nonnull-attribute object-size vptr pointer-overflow builtin"
-
+-- all checks that need the library of undefined behaviour
 abbrev pub ubsan_checks : List ℕ
 ubsan_checks = codes "float-divide-by-zero float-cast-overflow bounds-strict " ++ undefined_checks
 

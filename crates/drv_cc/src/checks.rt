@@ -1,11 +1,13 @@
 //! The libraries of checks.
 
+ghost use Rattle.drv_cc.specs.Checks.{is_check, names_no_check};
 ghost use Rattle.drv_cc.specs.Levels.{check_words, checked_by, is_checked, library_word};
 ghost use Rattle.drv_cc.specs.Levels.{needs_leak_library, needs_undefined_library, speaks_of};
 ghost use Rattle.drv_cc.specs.Levels.{stands_for, ubsan_checks};
 ghost use Rattle.drv_cc.specs.Table.{texts};
-ghost use Rattle.std.specs.List.{list_any};
-ghost use Rattle.std.specs.Prelude.{◌≡◌, ◌++◌, Bool, OnOk, unwrap_or};
+ghost use Rattle.drv_words.specs.Bytes.{comma};
+ghost use Rattle.std.specs.List.{list_any, slice_split};
+ghost use Rattle.std.specs.Prelude.{◌≡◌, ◌==◌, ◌++◌, Bool, OnOk, not, unwrap_or};
 
 use crate::classes::{is, stands_in};
 use crate::item::Item;
@@ -26,6 +28,41 @@ const UBSAN: &[u8] =
       integer-divide-by-zero unreachable vla-bound return null signed-integer-overflow bool enum \
       bounds alignment nonnull-attribute returns-nonnull-attribute object-size vptr \
       pointer-overflow builtin";
+
+/// All checks.
+const CHECKS: &[u8] =
+    b"address kernel-address hwaddress kernel-hwaddress pointer-compare pointer-subtract thread leak \
+      shadow-call-stack undefined shift float-divide-by-zero float-cast-overflow bounds-strict \
+      shift-base shift-exponent integer-divide-by-zero unreachable vla-bound return null \
+      signed-integer-overflow bool enum bounds alignment nonnull-attribute \
+      returns-nonnull-attribute object-size vptr pointer-overflow builtin";
+
+/// Whether a name is one of a check for an option; between commas there may be none.
+fn is_check(option: &[u8], name: &[u8]) -> bool
+    ensures { result ≡ is_check option.now name.now }
+{
+    name.is_empty()
+        || stands_in(CHECKS, name)
+        || (option == b"-fno-sanitize=".as_slice() && name == b"all".as_slice())
+}
+
+/// Whether one of the names between commas is none of a check for an option.
+fn has_no_check(option: &[u8], names: &[u8]) -> bool
+    ensures { result ≡ list_any (λ name. not (is_check option.now name))
+        (slice_split (λ b. b == comma) names.now) }
+{
+    names
+        .split(|byte| *byte == b',')
+        .any(|name| !is_check(option, name))
+}
+
+/// Whether an item names a check that is none.
+pub(crate) fn names_no_check(item: &Item) -> bool
+    ensures { result ≡ names_no_check item.now }
+{
+    stands_in(b"-fsanitize= -fno-sanitize=", item.name.as_bytes())
+        && has_no_check(item.name.as_bytes(), item.argument.as_bytes())
+}
 
 /// Whether a name is one of a check.
 fn stands_for(check: &[u8], name: &[u8]) -> bool

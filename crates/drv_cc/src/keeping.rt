@@ -1,12 +1,13 @@
 //! What a line has, and which of its items stay.
 
 ghost use Rattle.drv_cc.specs.Code.Staying.{Notes, is_seen, stays_before};
-ghost use Rattle.drv_cc.specs.Kept.{has, has_input, is_asked, is_input, is_question, kept};
+ghost use Rattle.drv_cc.specs.Kept.{asks, has, has_input, is_asked, is_input, kept};
 ghost use Rattle.drv_cc.specs.Kept.{last_argument, tells};
 ghost use Rattle.std.specs.List.{list_any};
 ghost use Rattle.std.specs.Option.{option_map};
 ghost use Rattle.std.specs.Prelude.{◌≡◌, IfOk, OnOk, reverse};
 
+use crate::checks::names_no_check;
 use crate::item::Item;
 use crate::table::Part;
 use drv_words::{Listing, Word};
@@ -48,10 +49,10 @@ pub(crate) fn has_input(items: &[Item]) -> bool
 }
 
 /// Whether an item is a question.
-fn is_question(item: &Item) -> bool
-    ensures { result ≡ is_question item.now.part }
+fn asks(item: &Item) -> bool
+    ensures { result ≡ asks item.now }
 {
-    matches!(item.part, Part::Question)
+    matches!(item.part, Part::Question) || names_no_check(item)
 }
 
 /// Whether an item is a question where there is no input.
@@ -63,9 +64,9 @@ fn tells(item: &Item) -> bool
 
 /// Whether a question is among them.
 fn has_question(items: &[Item]) -> bool
-    ensures { result ≡ list_any (λ i. is_question i.part) items.now }
+    ensures { result ≡ list_any asks items.now }
 {
-    items.iter().any(is_question)
+    items.iter().any(asks)
 }
 
 /// Whether a question is among them that is one where there is no input.

@@ -121,11 +121,22 @@ pub(crate) fn is_known_line(known: &[u8], line: &[u8]) -> bool
 }
 
 /// Whether one of two names is known. Lines one by one are gone over only where neither is found.
-pub(crate) fn is_either_known(known: &[u8], name: &[u8], head: &[u8]) -> bool
-    ensures { result ≡ (is_known known.now name.now || is_known known.now head.now) }
+pub(crate) fn is_either_known(known: &[u8], one: &[u8], other: &[u8]) -> bool
+    ensures { result ≡ (is_known known.now one.now || is_known known.now other.now) }
 {
-    if is_found(known, name) || is_found(known, head) {
+    if is_found(known, one) || is_found(known, other) {
         return true;
     }
-    is_known(known, name) || is_known(known, head)
+    is_known(known, one) || is_known(known, other)
+}
+
+/// Whether one of three names is known. Lines one by one are gone over only where none is found.
+pub(crate) fn are_known(known: &[u8], name: &[u8], head: &[u8], numbered: &[u8]) -> bool
+    ensures { result ≡ (is_known known.now name.now
+        || (is_known known.now head.now || is_known known.now numbered.now)) }
+{
+    if is_found(known, name) || is_found(known, head) || is_found(known, numbered) {
+        return true;
+    }
+    is_known(known, name) || is_known(known, head) || is_known(known, numbered)
 }

@@ -31,6 +31,7 @@ mod sides;
 mod sources;
 mod stages;
 mod table;
+mod values;
 mod whole_options;
 mod words;
 

@@ -1,17 +1,17 @@
 //! A line read as a list of items.
 
 ghost use Rattle.drv_cc.specs.Code.Building.{Notes, row_shown, shown, start_shown};
-ghost use Rattle.drv_cc.specs.Items.{beyond, first_row, head_of, is_file, items_of};
-ghost use Rattle.drv_cc.specs.Items.{known_item, machine_item, machine_name, renamed, start_of};
+ghost use Rattle.drv_cc.specs.Items.{beyond, first_row, is_file, items_of, known_item};
+ghost use Rattle.drv_cc.specs.Items.{machine_item, machine_name, renamed, start_of};
 ghost use Rattle.drv_cc.specs.Items.{start_renamed, with_rest};
 ghost use Rattle.std.specs.Prelude.{◌≡◌, IfOk, None, drop, length};
 
 use crate::classes::{ignored, is_one_of, paired};
 use crate::item::Item;
-use crate::known::{is_either_known, is_known_line};
-use crate::places::first_place;
+use crate::known::is_known_line;
 use crate::renaming::renamed;
 use crate::table::{Part, Row, Spelling, Takes, first_row};
+use crate::values::{accepts, judges};
 use drv_words::{Listing, Word};
 use std::alloc::{AllocError, Global};
 
@@ -45,17 +45,6 @@ fn with_rest(alloc: Global, row: Row, rest: &[u8]) -> Result<Start, AllocError>
         Takes::Attached | Takes::Rest | Takes::Either => {
             Ok(Start::Whole(Item::by_row(alloc, row, rest)?))
         }
-    }
-}
-
-/// A word up to its first `=`, and that too.
-#[tactic(auto, using(crate::proofs::Cuts::head_at, crate::proofs::Cuts::head_whole))]
-fn head_of(word: &[u8]) -> &[u8]
-    ensures { result.now ≡ head_of word.now }
-{
-    match first_place(b'=', word) {
-        Some(at) => &word[..at + 1],
-        None => word,
     }
 }
 
@@ -99,10 +88,15 @@ fn beyond(alloc: Global, known: &[u8], word: &[u8], name: &[u8]) -> Result<Item,
     if is_one_of(ignored(), positive.as_bytes()) {
         return Item::new(alloc, name, b"", Spelling::Nowhere, Part::Switch);
     }
-    if name.starts_with(b"-Wno-") || is_either_known(known, name, head_of(name)) {
+    if name.starts_with(b"-Wno-") || accepts(alloc, known, name)? {
         return known_item(alloc, known, name);
     }
-    Item::plain(alloc, Part::Unknown, word)
+    let part = if judges(alloc, known, name)? {
+        Part::Question
+    } else {
+        Part::Unknown
+    };
+    Item::plain(alloc, part, word)
 }
 
 /// How a word begins that no row fits.

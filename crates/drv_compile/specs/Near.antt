@@ -3,7 +3,8 @@ use Rattle.drv_cc.specs.declared.refusal.Refusal.{Refusal}
 use Rattle.drv_compile.specs.Texts.{refusal_text}
 use Rattle.drv_words.specs.Bytes.{equals}
 use Rattle.std.specs.List.{ends_with}
-use Rattle.std.specs.Prelude.{◌≡◌, ◌<◌, ◌==◌, List, [], ◌∷◌, ◌++◌, None, Option, Some, codes, get_or, if◌then◌else◌, length, nat_eq, ℕ, ⊤}
+use Rattle.std.specs.Prelude.{◌≡◌, ◌<◌, ◌==◌, ◌-◌, ◌||◌, Bool, List, [], ◌∷◌, ◌++◌, None, Option, Some, codes, get_or, if◌then◌else◌, length, nat_eq}
+use Rattle.std.specs.Prelude.{take, ℕ, ⊤}
 
 -- The text of the refusals of a line, each with the option that an unknown word was meant to be (GCC, "opts-common.cc",
 -- candidates_list_and_hint). That option is among the known ones; which of them is near no definition says.
@@ -17,9 +18,16 @@ after_equals (b ∷ word) = if b == equals then word else after_equals word
 abbrev pub meant_by : List ℕ → List ℕ → List ℕ
 meant_by word name = if ends_with nat_eq name (codes "=") then name ++ after_equals word else name
 
+-- a name without the mark after its =, which says what arguments it takes
+abbrev pub is_marked : List ℕ → Bool
+is_marked name = ends_with nat_eq name (codes "=?") || ends_with nat_eq name (codes "=#")
+
+abbrev pub unmarked : List ℕ → List ℕ
+unmarked name = if is_marked name then take (length name - 1) name else name
+
 abbrev pub MayMean : List (List ℕ) → List ℕ → Option (List ℕ) → Type 0
 MayMean known word None = ⊤
-MayMean known word (Some near) = (place : ℕ) × (place < length known) × (near ≡ meant_by word (get_or known place []))
+MayMean known word (Some near) = (place : ℕ) × (place < length known) × (near ≡ meant_by word (unmarked (get_or known place [])))
 
 abbrev pub IsMeant : List (List ℕ) → Refusal → Option (List ℕ) → Type 0
 IsMeant known (UnknownOption word) near = MayMean known word near

@@ -1,7 +1,7 @@
 //! Which option an unknown word was meant to be, as gcc reckons it. No contract says that it is the
 //! nearest one.
 
-ghost use Rattle.drv_compile.specs.Near.{MayMean, after_equals, meant_by};
+ghost use Rattle.drv_compile.specs.Near.{MayMean, after_equals, is_marked, meant_by, unmarked};
 ghost use Rattle.std.specs.List.{ends_with};
 ghost use Rattle.std.specs.Prelude.{◌≡◌, ◌<◌, ◌≤◌, IfOk, IfSome, codes, length, nat_eq};
 
@@ -112,6 +112,24 @@ fn takes_argument(name: &[u8]) -> bool
     name.ends_with(b"=".as_slice())
 }
 
+/// Whether a name has a mark after its `=`, which says what arguments it takes.
+fn is_marked(name: &[u8]) -> bool
+    ensures { result ≡ is_marked name.now }
+{
+    name.ends_with(b"=?") || name.ends_with(b"=#")
+}
+
+/// A name without the mark after its `=`.
+fn unmarked(name: &[u8]) -> &[u8]
+    ensures { result.now ≡ unmarked name.now }
+{
+    if is_marked(name) {
+        &name[..name.len().saturating_sub(1)]
+    } else {
+        name
+    }
+}
+
 /// A name without the `no-` after its first letter, in two parts.
 fn positive(name: &[u8]) -> (&[u8], &[u8]) {
     match name {
@@ -145,7 +163,7 @@ fn nearest(alloc: Global, known: &[Word], word: &[u8]) -> Result<Option<usize>, 
     let head = Wanted::new(&word[..head_length(word)]);
     let mut found: Option<Near<'_>> = None;
     for place in 0..known.len() {
-        let name = known[place].as_bytes();
+        let name = unmarked(known[place].as_bytes());
         let wanted = if takes_argument(name) { &head } else { &whole };
         let compared = wanted.word.len();
         if !is_near(compared, name.len(), compared.abs_diff(name.len())) {
@@ -206,6 +224,6 @@ pub(crate) fn meant(alloc: Global, known: &[Word], word: &[u8]) -> Result<Option
     let Some(place) = nearest(alloc, known, word)? else {
         return Ok(None);
     };
-    let option = meant_by(alloc, word, known[place].as_bytes())?;
+    let option = meant_by(alloc, word, unmarked(known[place].as_bytes()))?;
     Ok(Some(option))
 }

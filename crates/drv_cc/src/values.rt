@@ -1,0 +1,81 @@
+//! What arguments an option takes that is known beyond the table: any, a number, or listed ones. A
+//! mark behind the name says so.
+
+ghost use Rattle.drv_cc.specs.Items.{accepts, head_of, is_digit, is_number, judges, numbered};
+ghost use Rattle.drv_cc.specs.Items.{value_of};
+ghost use Rattle.std.specs.Prelude.{◌≡◌, ◌++◌, IfOk};
+
+use crate::known::{are_known, is_either_known};
+use crate::places::first_place;
+use crate::reading::rest_after;
+use drv_words::Word;
+use std::alloc::{AllocError, Global};
+
+/// A word up to its first `=`, and that too.
+#[tactic(auto, using(crate::proofs::Cuts::head_at, crate::proofs::Cuts::head_whole))]
+fn head_of(word: &[u8]) -> &[u8]
+    ensures { result.now ≡ head_of word.now }
+{
+    match first_place(b'=', word) {
+        Some(at) => &word[..at + 1],
+        None => word,
+    }
+}
+
+/// What follows the first `=` of a word.
+fn value_of(name: &[u8]) -> &[u8]
+    ensures { result.now ≡ value_of name.now }
+{
+    rest_after(name, head_of(name))
+}
+
+/// Whether a byte is a digit.
+fn is_digit(byte: u8) -> bool
+    ensures { result ≡ is_digit byte }
+{
+    b'0' <= byte && byte <= b'9'
+}
+
+/// Whether an argument is a number.
+fn is_number(value: &[u8]) -> bool
+    ensures { result ≡ is_number value.now }
+{
+    0 < value.len() && value.iter().all(|byte| is_digit(*byte))
+}
+
+/// The name of an option up to its argument, with a mark.
+fn marked(alloc: Global, name: &[u8], mark: &[u8]) -> Result<Word, AllocError>
+    ensures { IfOk result (λ line. line ≡ head_of name.now ++ mark.now) }
+{
+    let mut line = Word::from_bytes(alloc, head_of(name))?;
+    line.extend_from_slice(mark)?;
+    Ok(line)
+}
+
+/// The name of an option up to its argument, with the mark of a number where that is one.
+fn numbered(alloc: Global, name: &[u8]) -> Result<Word, AllocError>
+    ensures { IfOk result (λ line. line ≡ numbered name.now) }
+{
+    if is_number(value_of(name)) {
+        marked(alloc, name, b"#")
+    } else {
+        Word::from_bytes(alloc, head_of(name))
+    }
+}
+
+/// Whether an option is known, with its argument.
+pub(crate) fn accepts(alloc: Global, known: &[u8], name: &[u8]) -> Result<bool, AllocError>
+    ensures { IfOk result (λ is. is ≡ accepts known.now name.now) }
+{
+    let numbered = numbered(alloc, name)?;
+    Ok(are_known(known, name, head_of(name), numbered.as_bytes()))
+}
+
+/// Whether an option is known whose argument the compiler judges.
+pub(crate) fn judges(alloc: Global, known: &[u8], name: &[u8]) -> Result<bool, AllocError>
+    ensures { IfOk result (λ is. is ≡ judges known.now name.now) }
+{
+    let listed = marked(alloc, name, b"?")?;
+    let number = marked(alloc, name, b"#")?;
+    Ok(is_either_known(known, listed.as_bytes(), number.as_bytes()))
+}
