@@ -309,6 +309,10 @@ all_checks_on : front (codes "o.o -fsanitize=all") ≡ Ask
 unfolding sections ignored unpaired debugged_by
 all_checks_on = refl
 
+no_standard : front (codes "-std=c77 o.o -std=") ≡ Refuse (UnknownOption (codes "-std=c77") ∷ UnknownOption (codes "-std=") ∷ [])
+unfolding sections ignored unpaired debugged_by
+no_standard = refl
+
 unknown : front (codes "-c a.c -shred") ≡ Refuse (UnknownOption (codes "-shred") ∷ [])
 unfolding sections ignored unpaired debugged_by
 unknown = refl

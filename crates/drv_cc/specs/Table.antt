@@ -52,6 +52,7 @@ abbrev pub section_rows : Section → List OptionRow
 section_rows s = map (row_of s) (texts s.entries)
 
 -- an option that takes the rest of a word follows those that begin with it
+-- each value of -std= is an option of its own ("C Dialect Options"): one that is not here is known by the compiler, or by nobody
 unfoldable pub sections : List Section
 sections =
     section Nothing Alone Switch
@@ -60,7 +61,8 @@ sections =
     ++ codes "-ggdb1 -ggdb2 -ggdb3 -gdwarf -gdwarf-2 -gdwarf-3 -gdwarf-4 -gdwarf-5 -gstabs -gstabs+ -gbtf -gctf -gvms -gxcoff "
     ++ codes "-gxcoff+ -gtoggle -gno-toggle -gsplit-dwarf -gno-split-dwarf -gpubnames -ggnu-pubnames -gno-pubnames -gdwarf32 "
     ++ codes "-gdwarf64 -gen-decls -flto -fno-lto -fpic -fPIC -fpie -fPIE -fno-pic -fno-PIC -fno-pie -fno-PIE -fsyntax-only "
-    ++ codes "-fstack-usage -fsanitize-undefined-trap-on-error")
+    ++ codes "-fstack-usage -fsanitize-undefined-trap-on-error -std=c90 -std=c99 -std=c11 -std=c17 -std=gnu90 -std=gnu99 -std=gnu11 "
+    ++ codes "-std=gnu17")
     ∷ section Nothing Alone Switch
     (codes "-fno-sanitize-undefined-trap-on-error -fstack-protector-all -fstack-protector-explicit -fstack-protector-strong "
     ++ codes "-fcallgraph-info -fprofile-info-section -m32 -m64 -mx32 -m16 -mlong-double-64 -mlong-double-80 -mlong-double-128 "
@@ -194,7 +196,7 @@ sections =
     ∷ section Attached Separate Switch
     (codes "-aux-info=>-aux-info")
     ∷ section Attached Joined Switch
-    (codes "-Tbss= -Tdata= -Ttext= -std= -march= -mtune= -fsanitize= -fno-sanitize= -ftree-parallelize-loops= "
+    (codes "-Tbss= -Tdata= -Ttext= -march= -mtune= -fsanitize= -fno-sanitize= -ftree-parallelize-loops= "
     ++ codes "-fdiagnostics-color= -flto= -Wlarger-than->-Wlarger-than= -finline-limit->-finline-limit= -fno-builtin- -fbuiltin- "
     ++ codes "-fcall-saved- -fcall-used- -fdisable- -fdump- -fenable- -ffixed- -fopt-info- -fplugin-arg-")
     ∷ section Rest Joined Piece

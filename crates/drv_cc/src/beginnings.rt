@@ -139,7 +139,6 @@ const GROUP_18: &[Row] = group! {
 
 const GROUP_19: &[Row] = group! {
     b"-specs=" b"-specs=" Attached Joined Switch
-    b"-std=" b"-std=" Attached Joined Switch
 };
 
 const GROUP_20: &[Row] = group! {

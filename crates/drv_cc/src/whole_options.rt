@@ -183,6 +183,10 @@ const GROUP_10: &[Row] = group! {
 };
 
 const GROUP_11: &[Row] = group! {
+    b"-std=c90" b"-std=c90" Nothing Alone Switch
+    b"-std=c99" b"-std=c99" Nothing Alone Switch
+    b"-std=c11" b"-std=c11" Nothing Alone Switch
+    b"-std=c17" b"-std=c17" Nothing Alone Switch
     b"-lang-asm" b"-lang-asm" Nothing Alone Refused
     b"-std=c89" b"-std=c90" Nothing Alone Switch
     b"-std=c9x" b"-std=c99" Nothing Alone Switch
@@ -367,6 +371,10 @@ const GROUP_24: &[Row] = group! {
 };
 
 const GROUP_25: &[Row] = group! {
+    b"-std=gnu90" b"-std=gnu90" Nothing Alone Switch
+    b"-std=gnu99" b"-std=gnu99" Nothing Alone Switch
+    b"-std=gnu11" b"-std=gnu11" Nothing Alone Switch
+    b"-std=gnu17" b"-std=gnu17" Nothing Alone Switch
     b"-fstack-protector-all" b"-fstack-protector-all" Nothing Alone Switch
     b"-m128bit-long-double" b"-m128bit-long-double" Nothing Alone Switch
     b"-mno-align-stringops" b"-mno-align-stringops" Nothing Alone Switch
