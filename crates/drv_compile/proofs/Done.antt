@@ -1,7 +1,7 @@
 use Rattle.drv_cc.specs.declared.answer.Variable.{Variable}
 use Rattle.drv_compile.proofs.Joined.{joined}
-use Rattle.drv_compile.specs.Code.Compiling.{Carried, DoesHinted, Hinted, IsOpened, OpensWork, Spoken, TellsStop, Worked}
-use Rattle.drv_compile.specs.Compiles.{Comes, Compiled, Ends, Hints, Opens, Refuses, cut_short, hinted, lacks_program, no_hint, refused, settings, silent, spoken, unnoted, worked}
+use Rattle.drv_compile.specs.Code.Compiling.{Carried, DoesNoted, IsClosed, IsOpened, Noting, OpensWork, Spoken, TellsStop, Worked}
+use Rattle.drv_compile.specs.Compiles.{Closes, Comes, Compiled, Ends, Opens, Refuses, closed, closing, cut_short, lacks_program, noted, refused, settings, silent, spoken, unnoted, worked}
 use Rattle.drv_compile.specs.Inputs.{Noted}
 use Rattle.drv_compile.specs.Tasks.{IfTold}
 use Rattle.drv_compile.specs.declared.calling.Calling.{Calling}
@@ -67,21 +67,28 @@ pub some_set : {X E : Type 0} (at : ℕ) (children : List Variable) (i : ℕ) (b
 some_set at children i before so after (Ok x) what setting same is = absurd is
 some_set at children i before so after (Err e) what setting same is = (setting.events, same ∙ setting.grown, tt)
 
--- the hint
+-- a text after a work
 
-pub no_hint_told : (journal : List Event) (before : ℕ) (hint : List ℕ) (status : ℕ) → lacks_program (drop before journal) ≡ false
-    → Hinted journal journal before hint status (Done status)
-no_hint_told journal before hint status finds = ([], sym (append-nil journal), subst (λ b. Hints hint status b (Done status) []) (sym finds) no_hint)
+pub nothing_closed : (journal : List Event) (text : List ℕ) (status : ℕ) → length text ≤ 0 → IsClosed journal journal text status (Done status)
+nothing_closed journal [] status none = ([], sym (append-nil journal), closed)
+nothing_closed journal (b ∷ text) status none = absurd (omega (arith, none))
 
-pub hint_told : (journal journal' : List Event) (before : ℕ) (hint : List ℕ) (status : ℕ) (told : TellAnswer) → lacks_program (drop before journal) ≡ true
-    → journal' ≡ journal ++ Say hint told ∷ [] → Hinted journal journal' before hint status (Done status)
-hint_told journal journal' before hint status told lacks says =
-    (Say hint told ∷ [], says, subst (λ b. Hints hint status b (Done status) (Say hint told ∷ [])) (sym lacks) hinted)
+pub text_closed : (journal journal' : List Event) (text : List ℕ) (status : ℕ) (answer : TellAnswer) → 0 < length text
+    → journal' ≡ journal ++ Say text answer ∷ [] → IsClosed journal journal' text status (Done status)
+text_closed journal journal' [] status answer some says = absurd (omega (arith, some))
+text_closed journal journal' (b ∷ text) status answer some says = (Say (b ∷ text) answer ∷ [], says, noted)
 
-pub hint_untold : (journal journal' : List Event) (before : ℕ) (hint : List ℕ) (status : ℕ) → lacks_program (drop before journal) ≡ true
-    → journal' ≡ journal → Hinted journal journal' before hint status (Unnoted status)
-hint_untold journal journal' before hint status lacks same =
-    ([], same ∙ sym (append-nil journal), subst (λ b. Hints hint status b (Unnoted status) []) (sym lacks) unnoted)
+pub text_unclosed : (journal journal' : List Event) (text : List ℕ) (status : ℕ) → 0 < length text → journal' ≡ journal
+    → IsClosed journal journal' text status (Unnoted status)
+text_unclosed journal journal' [] status some same = absurd (omega (arith, some))
+text_unclosed journal journal' (b ∷ text) status some same = ([], same ∙ sym (append-nil journal), unnoted)
+
+-- the hint or the remark
+pub closing_noted : (journal journal' : List Event) (before : ℕ) (prepared : Prepared) (lacks : Bool) (text : List ℕ) (status : ℕ) (outcome : Outcome)
+    → lacks_program (drop before journal) ≡ lacks → text ≡ closing prepared lacks → IsClosed journal journal' text status outcome
+    → Noting journal journal' before prepared status outcome
+closing_noted journal journal' before prepared lacks text status outcome finds is closes =
+    subst (λ t. IsClosed journal journal' t status outcome) (is ∙ ap (closing prepared) (sym finds)) closes
 
 -- the events after so many are all that are left
 pub after_all : (shown journal : List Event) (before : ℕ) → shown ≡ journal → lacks_program (drop before journal) ≡ lacks_program (take (length shown - before) (drop before shown))
@@ -98,22 +105,24 @@ no_pipe_after_text journal journal' text told says before = no_pipe_after_texts 
 pub no_pipe_in_same : (journal journal' : List Event) → journal' ≡ journal → pipe_pending (run_of journal) ≡ false → pipe_pending (run_of journal') ≡ false
 no_pipe_in_same journal journal' same before = ap (λ j. pipe_pending (run_of j)) same ∙ before
 
--- a work, and the hint after it
+-- a work, and the hint or the remark after it
 
 pub longer_than : (shown journal journal' : List Event) (name : List ℕ) (prepared : Prepared) (status : ℕ) → shown ≡ journal
     → DoesWork name journal journal' prepared.work status → length shown ≤ length journal'
 longer_than shown journal journal' name prepared status same does =
     let first = ap length same in let grown = ap length does.1 ∙ length-append journal does.0 in omega (arith, first, grown)
 
-by_hint : (name : List ℕ) (journal journal' journal'' : List Event) (prepared : Prepared) (status : ℕ) (outcome : Outcome) → DoesWork name journal journal' prepared.work status
-    → Hinted journal' journal'' (length journal) prepared.hint status outcome → DoesHinted name journal journal'' prepared outcome
-by_hint name journal journal' journal'' prepared status outcome does hints = record {
+by_note : (name : List ℕ) (journal journal' journal'' : List Event) (prepared : Prepared) (status : ℕ) (outcome : Outcome) → DoesWork name journal journal' prepared.work status
+    → Noting journal' journal'' (length journal) prepared status outcome → DoesNoted name journal journal'' prepared outcome
+by_note name journal journal' journal'' prepared status outcome does notes = record {
   did = does.0;
-  hints = hints.0;
+  noted = notes.0;
   status = status;
-  journal_grows = hints.1 ∙ ap (λ j. j ++ hints.0) does.1;
+  journal_grows = notes.1 ∙ ap (λ j. j ++ notes.0) does.1;
   does = does.2;
-  told = subst (λ events. Hints prepared.hint status (lacks_program events) outcome hints.0) (ap (drop (length journal)) does.1 ∙ drop-append_seam journal does.0) hints.2;
+  told =
+      subst (λ events. Closes status (closing prepared (lacks_program events)) outcome notes.0)
+      (ap (drop (length journal)) does.1 ∙ drop-append_seam journal does.0) notes.2;
 }
 
 abbrev pub IsEnd : Outcome → Type 0
@@ -121,18 +130,18 @@ IsEnd OutOfMemory = ⊥
 IsEnd (Done status) = ⊤
 IsEnd (Unnoted status) = ⊤
 
-is_end : {hint : List ℕ} {status : ℕ} {lacks : Bool} {outcome : Outcome} {hints : List Event} → Hints hint status lacks outcome hints → IsEnd outcome
-is_end no_hint = tt
-is_end hinted = tt
+is_end : {status : ℕ} {text : List ℕ} {outcome : Outcome} {events : List Event} → Closes status text outcome events → IsEnd outcome
+is_end closed = tt
+is_end noted = tt
 is_end unnoted = tt
 
-pub work_hinted : (name : List ℕ) (journal journal' journal'' : List Event) (prepared : Prepared) (status before : ℕ) (outcome : Outcome) → before ≡ length journal
-    → DoesWork name journal journal' prepared.work status → Hinted journal' journal'' before prepared.hint status outcome → Worked name journal journal'' prepared outcome
-work_hinted name journal journal' journal'' prepared status before OutOfMemory same does hints = absurd (is_end hints.2)
-work_hinted name journal journal' journal'' prepared status before (Done code) same does hints =
-    by_hint name journal journal' journal'' prepared status (Done code) does (subst (λ n. Hinted journal' journal'' n prepared.hint status (Done code)) same hints)
-work_hinted name journal journal' journal'' prepared status before (Unnoted code) same does hints =
-    by_hint name journal journal' journal'' prepared status (Unnoted code) does (subst (λ n. Hinted journal' journal'' n prepared.hint status (Unnoted code)) same hints)
+pub work_noted : (name : List ℕ) (journal journal' journal'' : List Event) (prepared : Prepared) (status before : ℕ) (outcome : Outcome) → before ≡ length journal
+    → DoesWork name journal journal' prepared.work status → Noting journal' journal'' before prepared status outcome → Worked name journal journal'' prepared outcome
+work_noted name journal journal' journal'' prepared status before OutOfMemory same does notes = absurd (is_end notes.2)
+work_noted name journal journal' journal'' prepared status before (Done code) same does notes =
+    by_note name journal journal' journal'' prepared status (Done code) does (subst (λ n. Noting journal' journal'' n prepared status (Done code)) same notes)
+work_noted name journal journal' journal'' prepared status before (Unnoted code) same does notes =
+    by_note name journal journal' journal'' prepared status (Unnoted code) does (subst (λ n. Noting journal' journal'' n prepared status (Unnoted code)) same notes)
 
 -- after a text
 
@@ -160,9 +169,9 @@ pub work_spoken : (name : List ℕ) (journal journal' journal'' : List Event) (p
     → IsOpened journal journal' said → Worked name journal' journal'' prepared outcome → Spoken name journal journal'' prepared outcome
 work_spoken name journal journal' journal'' prepared said OutOfMemory same (opened, opens, grown) only = only_says_more opens journal journal'' (subst (λ j. OnlySays j journal'') grown only)
 work_spoken name journal journal' journal'' prepared said (Done status) same (opened, opens, grown) does =
-    (opened, subst (λ t. Opens t opened) same opens, subst (λ j. DoesHinted name j journal'' prepared (Done status)) grown does)
+    (opened, subst (λ t. Opens t opened) same opens, subst (λ j. DoesNoted name j journal'' prepared (Done status)) grown does)
 work_spoken name journal journal' journal'' prepared said (Unnoted status) same (opened, opens, grown) does =
-    (opened, subst (λ t. Opens t opened) same opens, subst (λ j. DoesHinted name j journal'' prepared (Unnoted status)) grown does)
+    (opened, subst (λ t. Opens t opened) same opens, subst (λ j. DoesNoted name j journal'' prepared (Unnoted status)) grown does)
 
 -- after its variables were set
 
@@ -191,21 +200,21 @@ questions_of empty asks = subst (λ G. AreNew G asks.asked) empty asks.questions
 abbrev pub Prepares : Facts → Calling → Option (List ℕ) → List (List ℕ) → ℕ → Prepared → List HostEvent → Type 0
 Prepares F' calling own args seed prepared events = (G : Facts) → Extends F' G → Comes G calling own args seed events prepared
 
-with_hints : {journal mid journal'' : List Event} {F F' : Facts} {notes notes' notes'' : List HostEvent} (calling : Calling) (own : Option (List ℕ)) (args : List (List ℕ)) (seed : ℕ)
+with_notes : {journal mid journal'' : List Event} {F F' : Facts} {notes notes' notes'' : List HostEvent} (calling : Calling) (own : Option (List ℕ)) (args : List (List ℕ)) (seed : ℕ)
     (prepared : Prepared) (outcome : Outcome) → F ≡ no_facts → Asks journal mid F F' → Noted notes notes' (Prepares F' calling own args seed prepared)
     → Noted notes' notes'' (λ events. (events ≡ settings (length mid) prepared.children) × OpensWork calling.name mid journal'' prepared outcome)
     → Compiled journal journal'' notes notes'' calling own args seed outcome
-with_hints {journal} {F' = F'} calling own args seed prepared outcome empty asks (resolved, grown, comes) (set, set_after, (set_is, (opened, opens, does))) = record {
+with_notes {journal} {F' = F'} calling own args seed prepared outcome empty asks (resolved, grown, comes) (set, set_after, (set_is, (opened, opens, does))) = record {
   asked = asks.asked;
-  said = opened ++ does.did ++ does.hints;
+  said = opened ++ does.did ++ does.noted;
   resolved = resolved;
   set = set;
   questions = questions_of empty asks;
   journal_grows =
-      does.journal_grows ∙ ap (λ j. j ++ opened ++ does.did ++ does.hints) asks.journal_grows ∙ joined (journal ++ asks.asked) opened does.did does.hints;
+      does.journal_grows ∙ ap (λ j. j ++ opened ++ does.did ++ does.noted) asks.journal_grows ∙ joined (journal ++ asks.asked) opened does.did does.noted;
   notes_grow = set_after ∙ ap (λ n. n ++ set) grown;
   ends =
-      subst (λ events. Ends (learn no_facts asks.asked) (length (journal ++ asks.asked)) calling own args seed outcome resolved events (opened ++ does.did ++ does.hints))
+      subst (λ events. Ends (learn no_facts asks.asked) (length (journal ++ asks.asked)) calling own args seed outcome resolved events (opened ++ does.did ++ does.noted))
       (sym (set_is ∙ ap (λ j. settings (length j) prepared.children) asks.journal_grows))
       (worked opened does.did (subst (λ G. Comes G calling own args seed resolved prepared) (known empty asks) (comes F' (extends_refl F'))) opens does.does does.told);
 }
@@ -214,8 +223,8 @@ compiled_by : {journal mid journal'' : List Event} {F F' : Facts} {notes notes' 
     (prepared : Prepared) (outcome : Outcome) → F ≡ no_facts → Asks journal mid F F' → Noted notes notes' (Prepares F' calling own args seed prepared)
     → Noted notes' notes'' (λ events. Carried calling.name mid journal'' prepared events outcome)
     → Compiled journal journal'' notes notes'' calling own args seed outcome
-compiled_by calling own args seed prepared (Done status) empty asks prepares carries = with_hints calling own args seed prepared (Done status) empty asks prepares carries
-compiled_by calling own args seed prepared (Unnoted status) empty asks prepares carries = with_hints calling own args seed prepared (Unnoted status) empty asks prepares carries
+compiled_by calling own args seed prepared (Done status) empty asks prepares carries = with_notes calling own args seed prepared (Done status) empty asks prepares carries
+compiled_by calling own args seed prepared (Unnoted status) empty asks prepares carries = with_notes calling own args seed prepared (Unnoted status) empty asks prepares carries
 compiled_by calling own args seed prepared OutOfMemory empty asks (resolved, grown, comes) (set, set_after, only) = record {
   asked = asks.asked;
   said = only.0;

@@ -96,6 +96,7 @@ fails_planned F calling chain call given seed events (Ok prepared) free apart pl
       works = planned.works;
       children = planned.children;
       hint = planned.hint;
+      remark = planned.remark;
     }
 fails_planned F calling chain call given seed events (Err stop) free apart unplanned = told_as stop (IsUnplanned F calling chain call given seed) (Fails F calling chain call given seed events) by unplanned
   where
@@ -139,11 +140,11 @@ performs_noted calling chain call given seed before after result knows free (eve
 
 -- the work of a line
 
-pub planned_so : (F : Facts) (calling : Calling) (chain : Toolchain) (call : Call) (given : Expanded) (seed : ℕ) (driven : Driven) (specs said hint : List ℕ) (words : List (List ℕ))
+pub planned_so : (F : Facts) (calling : Calling) (chain : Toolchain) (call : Call) (given : Expanded) (seed : ℕ) (driven : Driven) (specs said hint remark : List ℕ) (words : List (List ℕ))
     (children : List Variable) (work : Work) → specs ≡ chain.specs → words ≡ driven.line.words → children ≡ driven.children → Drives F chain call given driven
-    → opening F specs words children ≡ Is said → Works F driven.line seed work → hint ≡ gone_text calling.name chain.specs calling.machine
-    → IsPlanned F calling chain call given seed (record { work = work; children = driven.children; said = said; hint = hint })
-planned_so F calling chain call given seed driven specs said hint words children work same are set drives opens works hints = record {
+    → opening F specs words children ≡ Is said → Works F driven.line seed work → hint ≡ gone_text calling.name chain.specs calling.machine → remark ≡ []
+    → IsPlanned F calling chain call given seed (record { work = work; children = driven.children; said = said; hint = hint; remark = remark })
+planned_so F calling chain call given seed driven specs said hint remark words children work same are set drives opens works hints none = record {
   driven = driven;
   drives = drives;
   opens =
@@ -151,6 +152,7 @@ planned_so F calling chain call given seed driven specs said hint words children
   works = works;
   children = refl;
   hint = hints;
+  remark = none;
 }
 
 pub undriven_plan : (F : Facts) (calling : Calling) (chain : Toolchain) (call : Call) (given : Expanded) (seed : ℕ) (stop : Stop) (result : Result Prepared Stop)

@@ -7,7 +7,7 @@ use Rattle.drv_compile.specs.Inputs.{Overwrites, objection}
 use Rattle.drv_compile.specs.Opening.{opening}
 use Rattle.drv_compile.specs.Runs.{Stops, Works}
 use Rattle.drv_compile.specs.Tasks.{Declines, Leads}
-use Rattle.drv_compile.specs.Texts.{gone_text, overwritten_text}
+use Rattle.drv_compile.specs.Texts.{gone_text, help_text, overwritten_text, version_text}
 use Rattle.drv_compile.specs.Words.{RefusesWords, Words, told_refusal}
 use Rattle.drv_compile.specs.declared.calling.Calling.{Calling}
 use Rattle.drv_compile.specs.declared.compiling.Outcome.TheVariants.{Done, OutOfMemory, Unnoted}
@@ -64,6 +64,7 @@ pub record Performs (F : Facts) (calling : Calling) (chain : Toolchain) (call : 
   pub works : Works F driven.line seed prepared.work
   pub children : prepared.children ≡ driven.children
   pub hint : prepared.hint ≡ gone_text calling.name chain.specs calling.machine
+  pub remark : prepared.remark ≡ []
 
 -- or the text of its refusal
 pub data Fails (F : Facts) (calling : Calling) (chain : Toolchain) (call : Call) (given : Expanded) (seed : ℕ) : List HostEvent → List ℕ → Type 0 where
@@ -80,7 +81,13 @@ pub data Fails (F : Facts) (calling : Calling) (chain : Toolchain) (call : Call)
 pub data Comes (F : Facts) (calling : Calling) (own : Option (List ℕ)) (args : List (List ℕ)) (seed : ℕ) : List HostEvent → Prepared → Type 0 where
   asks : {words : Expanded} {decision : Decision} {specs compiler : List ℕ} → Words F calling args words → decided F own words.words ≡ Is decision
       → Leads decision (Question specs compiler)
-      → Comes F calling own args seed [] (record { work = question compiler args; children = []; said = []; hint = gone_text calling.name specs calling.machine })
+      → Comes F calling own args seed [] (record {
+        work = question compiler args;
+        children = [];
+        said = help_text calling.name compiler args;
+        hint = gone_text calling.name specs calling.machine;
+        remark = version_text calling.name compiler args;
+      })
   performs : {words : Expanded} {decision : Decision} {chain : Toolchain} {call : Call} {events : List HostEvent} {prepared : Prepared} → Words F calling args words
       → decided F own words.words ≡ Is decision → Leads decision (Compilation chain call)
       → Performs F calling chain call words seed events prepared → Comes F calling own args seed events prepared
@@ -93,7 +100,8 @@ pub data Refuses (F : Facts) (calling : Calling) (own : Option (List ℕ)) (args
       → decided F own words.words ≡ Is decision → Leads decision (Compilation chain call)
       → Fails F calling chain call words seed events text → Refuses F calling own args seed events text
 
--- After a run that did not find a program the call says the hint; where memory lacked for it, the outcome says so.
+-- After a run that did not find a program the call says the hint, and after another its remark, if it has one. Where memory lacked for it,
+-- the outcome says so.
 abbrev pub is_missing : Answer → Bool
 is_missing (answer.Start (start.NotStarted NotFound)) = true
 is_missing _ = false
@@ -105,10 +113,14 @@ is_absent _ = false
 abbrev pub lacks_program : List Event → Bool
 lacks_program = list_any is_absent
 
-pub data Hints (hint : List ℕ) (status : ℕ) : Bool → Outcome → List Event → Type 0 where
-  no_hint : Hints hint status false (Done status) []
-  hinted : {told : TellAnswer} → Hints hint status true (Done status) (Say hint told ∷ [])
-  unnoted : Hints hint status true (Unnoted status) []
+abbrev pub closing : Prepared → Bool → List ℕ
+closing prepared true = prepared.hint
+closing prepared false = prepared.remark
+
+pub data Closes (status : ℕ) : List ℕ → Outcome → List Event → Type 0 where
+  closed : Closes status [] (Done status) []
+  noted : {b : ℕ} {text : List ℕ} {told : TellAnswer} → Closes status (b ∷ text) (Done status) (Say (b ∷ text) told ∷ [])
+  unnoted : {b : ℕ} {text : List ℕ} → Closes status (b ∷ text) (Unnoted status) []
 
 -- the variables of a line, set after so many events
 abbrev pub settings : ℕ → List Variable → List HostEvent
@@ -120,15 +132,16 @@ pub data Opens : List ℕ → List Event → Type 0 where
   spoken : {b : ℕ} {text : List ℕ} {told : TellAnswer} → Opens (b ∷ text) (Say (b ∷ text) told ∷ [])
 
 -- What a call did after its questions, with so many events before that. It said the text of its refusal, with the status 1. Or it set the
--- variables for its children, said what is said first, did its work as `drive` does it, and said the hint. Or it lacked memory, and made and
--- started nothing.
+-- variables for its children, said what is said first, did its work as `drive` does it, and said the hint or its remark. Or it lacked memory,
+-- and made and started nothing.
 pub data Ends (F : Facts) (at : ℕ) (calling : Calling) (own : Option (List ℕ)) (args : List (List ℕ)) (seed : ℕ)
     : Outcome → List HostEvent → List HostEvent → List Event → Type 0 where
   refused : {asked : List HostEvent} {text : List ℕ} {told : TellAnswer} → Refuses F calling own args seed asked text
       → Ends F at calling own args seed (Done 1) asked [] (Say text told ∷ [])
-  worked : {asked : List HostEvent} {prepared : Prepared} (opened did : List Event) {hints : List Event} {status : ℕ} {outcome : Outcome}
-      → Comes F calling own args seed asked prepared → Opens prepared.said opened → Does calling.name prepared.work status did → Hints prepared.hint status (lacks_program did) outcome hints
-      → Ends F at calling own args seed outcome asked (settings at prepared.children) (opened ++ did ++ hints)
+  worked : {asked : List HostEvent} {prepared : Prepared} (opened did : List Event) {noted : List Event} {status : ℕ} {outcome : Outcome}
+      → Comes F calling own args seed asked prepared → Opens prepared.said opened → Does calling.name prepared.work status did
+      → Closes status (closing prepared (lacks_program did)) outcome noted
+      → Ends F at calling own args seed outcome asked (settings at prepared.children) (opened ++ did ++ noted)
   cut_short : {asked set : List HostEvent} {said : List Event} → AreSaid said → Ends F at calling own args seed OutOfMemory asked set said
 
 -- A call: it asked what it did not know, each thing once, and ends as the answers say.

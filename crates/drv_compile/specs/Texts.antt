@@ -106,6 +106,22 @@ unwritten_text name before path specs machine = error_line name (quoted before p
 abbrev pub gone_text : List ℕ → List ℕ → List ℕ → List ℕ
 gone_text name specs machine = name ++ codes ": note: where the compiler of the spec file is gone, " ++ writing specs machine ++ codes " anew\n"
 
+-- Where the only word of a line is --help or --version, the compiler's answer gets a line in the name of this program: before it, or after it
+-- (GCC manual, "Overall Options").
+abbrev pub if_only : List ℕ → List (List ℕ) → List ℕ → List ℕ
+if_only word [] text = []
+if_only word (w ∷ []) text = if is w word then text else []
+if_only word (w ∷ v ∷ words) text = []
+
+abbrev pub help_text : List ℕ → List ℕ → List (List ℕ) → List ℕ
+help_text name compiler words =
+    if_only (codes "--help") words
+    (codes "Usage: " ++ name ++ codes " [options] file...\n"
+    ++ codes "It compiles C and assembler as " ++ compiler ++ codes " does, whose options follow. See gdrv-cc(1).\n")
+
+abbrev pub version_text : List ℕ → List ℕ → List (List ℕ) → List ℕ
+version_text name compiler words = if_only (codes "--version") words (name ++ codes ": a driver for " ++ compiler ++ codes "\n")
+
 -- The rest of what is refused.
 
 -- a response file that is there

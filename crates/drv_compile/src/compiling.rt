@@ -1,7 +1,7 @@
 //! A call of `gdrv-cc`.
 
-ghost use Rattle.drv_compile.specs.Code.Compiling.{Carried, Hinted, IsOpened, Spoken, TellsStop};
-ghost use Rattle.drv_compile.specs.Code.Compiling.{Worked};
+ghost use Rattle.drv_compile.specs.Code.Compiling.{Carried, IsClosed, IsOpened, Noting, Spoken};
+ghost use Rattle.drv_compile.specs.Code.Compiling.{TellsStop, Worked};
 ghost use Rattle.drv_compile.specs.Compiles.{Compiled, is_absent, is_missing, lacks_program};
 ghost use Rattle.drv_compile.specs.Compiles.{settings};
 ghost use Rattle.drv_compile.specs.Inputs.{Noted};
@@ -25,8 +25,7 @@ use std::alloc::{AllocError, Global};
 pub enum Outcome {
     /// All was done and said, with this exit status.
     Done(u8),
-    /// All was done, with this exit status. The run did not find a program, and an allocation for
-    /// what is said then was refused.
+    /// All was done, with this exit status. An allocation for what is said after it was refused.
     Unnoted(u8),
     /// An allocation was refused, and nothing was made or started.
     OutOfMemory,
@@ -76,23 +75,39 @@ fn lacks_program(events: &[Event]) -> bool
     events.iter().any(is_absent)
 }
 
-/// Says the hint, if the work that was done after so many events did not find a program.
-fn hinted<S: System>(sys: &mut S, before: usize, hint: &Word, status: u8) -> Outcome
+/// Says a text after a work, if there is one.
+fn closed<S: System>(sys: &mut S, text: &Word, status: u8) -> Outcome
     requires pipe { pipe_pending (run_of (S.events sys.old)) ≡ false }
-    requires before { before ≤ length (S.events sys.old) }
-    ensures hints { Hinted (S.events sys.old) (S.events sys.new) before hint.now status result }
+    ensures closes { IsClosed (S.events sys.old) (S.events sys.new) text.now status result }
     ensures pipe { pipe_pending (run_of (S.events sys.new)) ≡ false }
 {
-    if !lacks_program(&sys.journal()[before..]) {
+    if text.is_empty() {
         return Outcome::Done(status);
     }
-    match sys.say(hint) {
+    match sys.say(text) {
         Ok(_) => Outcome::Done(status),
         Err(_) => Outcome::Unnoted(status),
     }
 }
 
-/// Does what is prepared, and says the hint where its run does not find a program.
+/// Says the hint, if the work that was done after so many events did not find a program, and else
+/// the remark.
+fn noted<S: System>(sys: &mut S, before: usize, prepared: &Prepared, status: u8) -> Outcome
+    requires pipe { pipe_pending (run_of (S.events sys.old)) ≡ false }
+    requires before { before ≤ length (S.events sys.old) }
+    ensures notes { Noting (S.events sys.old) (S.events sys.new) before prepared.now status result }
+    ensures pipe { pipe_pending (run_of (S.events sys.new)) ≡ false }
+{
+    let text = if lacks_program(&sys.journal()[before..]) {
+        &prepared.hint
+    } else {
+        &prepared.remark
+    };
+    closed(sys, text, status)
+}
+
+/// Does what is prepared, and says the hint where its run does not find a program, or else the
+/// remark.
 fn done<S: System>(alloc: Global, name: &[u8], prepared: &Prepared, sys: &mut S) -> Outcome
     requires pipe { pipe_pending (run_of (S.events sys.old)) ≡ false }
     requires window { HasWindow prepared.now.work }
@@ -101,7 +116,7 @@ fn done<S: System>(alloc: Global, name: &[u8], prepared: &Prepared, sys: &mut S)
 {
     let before = sys.journal().len();
     match do_work(alloc, sys, name, &prepared.work) {
-        Ok(status) => hinted(sys, before, &prepared.hint, status),
+        Ok(status) => noted(sys, before, prepared, status),
         Err(_) => Outcome::OutOfMemory,
     }
 }

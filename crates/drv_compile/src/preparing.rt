@@ -24,7 +24,7 @@ use crate::running::work_of_words;
 use crate::speaking::opening;
 use crate::stop::Stop;
 use crate::tasks::{Task, Toolchain, task_of};
-use crate::wording::{gone, overwritten};
+use crate::wording::{gone, help_text, overwritten, version_text};
 use drv_args::Expanded;
 use drv_cc::{Call, Variable};
 use drv_core::FailureStatus;
@@ -44,6 +44,8 @@ pub(crate) struct Prepared {
     pub(crate) said: Word,
     /// What is said after a run that did not find a program.
     pub(crate) hint: Word,
+    /// What is said after any other.
+    pub(crate) remark: Word,
 }
 
 /// The plan that has one command.
@@ -174,6 +176,7 @@ fn planned<S: System>(
         children: driven.children,
         said,
         hint,
+        remark: Word::empty(alloc),
     })
 }
 
@@ -223,12 +226,15 @@ fn asked(
 {
     let name = calling.name.as_bytes();
     let hint = gone(alloc, name, specs, calling.machine.as_bytes())?;
+    let said = help_text(alloc, name, compiler.as_bytes(), args.as_slice())?;
+    let remark = version_text(alloc, name, compiler.as_bytes(), args.as_slice())?;
     let work = question(alloc, compiler, args)?;
     Ok(Prepared {
         work,
         children: Listing::new(alloc),
-        said: Word::empty(alloc),
+        said,
         hint,
+        remark,
     })
 }
 

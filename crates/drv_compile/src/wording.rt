@@ -1,7 +1,8 @@
 //! What the user reads.
 
 ghost use Rattle.drv_compile.specs.Texts.{absent_text, error_line, fatal_line, file_said, given_text};
-ghost use Rattle.drv_compile.specs.Texts.{gone_text, lacking, meant, overwritten_text, quoted};
+ghost use Rattle.drv_compile.specs.Texts.{gone_text, help_text, if_only, lacking, meant};
+ghost use Rattle.drv_compile.specs.Texts.{overwritten_text, quoted, version_text};
 ghost use Rattle.drv_compile.specs.Texts.{refusal_text};
 ghost use Rattle.drv_compile.specs.Texts.{takes_file, takes_goal, takes_macro, takes_path};
 ghost use Rattle.drv_compile.specs.Texts.{unknown_text, unwritten_text, writing};
@@ -9,7 +10,7 @@ ghost use Rattle.drv_compile.specs.Texts.{damaged_text, no_compiler_text, no_pla
 ghost use Rattle.drv_compile.specs.Texts.{no_specs_text, unread_text, variable_text};
 ghost use Rattle.drv_compile.specs.Words.{told_refusal};
 ghost use Rattle.std.specs.Option.{option_copied};
-ghost use Rattle.std.specs.Prelude.{◌≡◌, ◌++◌, IfOk, OnOk};
+ghost use Rattle.std.specs.Prelude.{◌≡◌, ◌++◌, [], IfOk, List, OnOk, if◌then◌else◌, ℕ};
 
 use crate::places::companion;
 use drv_cc::Refusal;
@@ -306,6 +307,55 @@ pub(crate) fn gone(
 {
     let mut text = Word::empty(alloc);
     add_gone(&mut text, name, specs, machine)?;
+    Ok(text)
+}
+
+/// Whether a word is the only one of a line.
+fn is_only(word: &[u8], words: &[Word]) -> bool
+    ensures { (text : List ℕ) → if_only word.now words.now text ≡ (if result then text else []) }
+{
+    match words {
+        [only] => only.as_bytes() == word,
+        _ => false,
+    }
+}
+
+/// What is said before the compiler's own help.
+pub(crate) fn help_text(
+    alloc: Global,
+    name: &[u8],
+    compiler: &[u8],
+    words: &[Word],
+) -> Result<Word, AllocError>
+    ensures { IfOk result (λ text. text ≡ help_text name.now compiler.now words.now) }
+{
+    let mut text = Word::empty(alloc);
+    if is_only(b"--help", words) {
+        add(&mut text, b"Usage: ", name, b" [options] file...\n")?;
+        add(
+            &mut text,
+            b"It compiles C and assembler as ",
+            compiler,
+            b" does, whose options follow. See gdrv-cc(1).\n",
+        )?;
+    }
+    Ok(text)
+}
+
+/// What is said after the compiler's own version.
+pub(crate) fn version_text(
+    alloc: Global,
+    name: &[u8],
+    compiler: &[u8],
+    words: &[Word],
+) -> Result<Word, AllocError>
+    ensures { IfOk result (λ text. text ≡ version_text name.now compiler.now words.now) }
+{
+    let mut text = Word::empty(alloc);
+    if is_only(b"--version", words) {
+        text.extend_from_slice(name)?;
+        add(&mut text, b": a driver for ", compiler, b"\n")?;
+    }
     Ok(text)
 }
 

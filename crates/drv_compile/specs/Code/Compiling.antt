@@ -1,4 +1,4 @@
-use Rattle.drv_compile.specs.Compiles.{Hints, Opens, lacks_program, settings}
+use Rattle.drv_compile.specs.Compiles.{Closes, Opens, closing, lacks_program, settings}
 use Rattle.drv_compile.specs.declared.compiling.Outcome.TheVariants.{Done, OutOfMemory, Unnoted}
 use Rattle.drv_compile.specs.declared.compiling.Outcome.{Outcome}
 use Rattle.drv_compile.specs.declared.host.HostEvent.{HostEvent}
@@ -13,23 +13,26 @@ use Rattle.std.specs.Prelude.{◌≡◌, List, [], ◌∷◌, ◌++◌, drop, le
 
 -- What a call does after its questions, of two journals. Only private clauses cite it.
 
--- the hint is said by what was done after so many events
-abbrev pub Hinted : List Event → List Event → ℕ → List ℕ → ℕ → Outcome → Type 0
-Hinted journal journal' before hint status outcome =
-    (hints : List Event) × (journal' ≡ journal ++ hints) × Hints hint status (lacks_program (drop before journal)) outcome hints
+-- a text is said after a work
+abbrev pub IsClosed : List Event → List Event → List ℕ → ℕ → Outcome → Type 0
+IsClosed journal journal' text status outcome = (noted : List Event) × (journal' ≡ journal ++ noted) × Closes status text outcome noted
 
--- a work was done, and the hint said by it
-pub record DoesHinted (name : List ℕ) (journal journal' : List Event) (prepared : Prepared) (outcome : Outcome) : Type 0 where
+-- the hint or the remark is said by what was done after so many events
+abbrev pub Noting : List Event → List Event → ℕ → Prepared → ℕ → Outcome → Type 0
+Noting journal journal' before prepared status outcome = IsClosed journal journal' (closing prepared (lacks_program (drop before journal))) status outcome
+
+-- a work was done, and the hint or the remark said by it
+pub record DoesNoted (name : List ℕ) (journal journal' : List Event) (prepared : Prepared) (outcome : Outcome) : Type 0 where
   pub did : List Event
-  pub hints : List Event
+  pub noted : List Event
   pub status : ℕ
-  pub journal_grows : journal' ≡ journal ++ did ++ hints
+  pub journal_grows : journal' ≡ journal ++ did ++ noted
   pub does : Does name prepared.work status did
-  pub told : Hints prepared.hint status (lacks_program did) outcome hints
+  pub told : Closes status (closing prepared (lacks_program did)) outcome noted
 
 abbrev pub Worked : List ℕ → List Event → List Event → Prepared → Outcome → Type 0
 Worked name journal journal' prepared OutOfMemory = OnlySays journal journal'
-Worked name journal journal' prepared outcome = DoesHinted name journal journal' prepared outcome
+Worked name journal journal' prepared outcome = DoesNoted name journal journal' prepared outcome
 
 -- a text was said first
 abbrev pub IsOpened : List Event → List Event → List ℕ → Type 0
@@ -37,7 +40,7 @@ IsOpened journal journal' said = (opened : List Event) × Opens said opened × (
 
 abbrev pub OpensWork : List ℕ → List Event → List Event → Prepared → Outcome → Type 0
 OpensWork name journal journal' prepared outcome =
-    (opened : List Event) × Opens prepared.said opened × DoesHinted name (journal ++ opened) journal' prepared outcome
+    (opened : List Event) × Opens prepared.said opened × DoesNoted name (journal ++ opened) journal' prepared outcome
 
 abbrev pub Spoken : List ℕ → List Event → List Event → Prepared → Outcome → Type 0
 Spoken name journal journal' prepared OutOfMemory = OnlySays journal journal'

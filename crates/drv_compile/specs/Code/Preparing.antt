@@ -5,7 +5,7 @@ use Rattle.drv_compile.specs.Driven.{Drives, Undriven}
 use Rattle.drv_compile.specs.Inputs.{Overwrites}
 use Rattle.drv_compile.specs.Opening.{opening}
 use Rattle.drv_compile.specs.Runs.{Stops, Works}
-use Rattle.drv_compile.specs.Texts.{gone_text, overwritten_text}
+use Rattle.drv_compile.specs.Texts.{gone_text, help_text, overwritten_text, version_text}
 use Rattle.drv_compile.specs.Words.{told_refusal}
 use Rattle.drv_compile.specs.declared.calling.Calling.{Calling}
 use Rattle.drv_compile.specs.declared.driving.Driven.{Driven}
@@ -39,6 +39,7 @@ pub record IsPlanned (F : Facts) (calling : Calling) (chain : Toolchain) (call :
   pub works : Works F driven.line seed prepared.work
   pub children : prepared.children ≡ driven.children
   pub hint : prepared.hint ≡ gone_text calling.name chain.specs calling.machine
+  pub remark : prepared.remark ≡ []
 
 abbrev pub IsUnplanned : Facts → Calling → Toolchain → Call → Expanded → ℕ → List ℕ → Type 0
 IsUnplanned F calling chain call given seed text =
@@ -48,7 +49,13 @@ IsUnplanned F calling chain call given seed text =
 -- what is done for a question
 abbrev pub IsQuestion : Calling → List ℕ → List ℕ → List (List ℕ) → Prepared → Type 0
 IsQuestion calling specs compiler args prepared =
-    prepared ≡ record { work = question compiler args; children = []; said = []; hint = gone_text calling.name specs calling.machine }
+    prepared ≡ record {
+      work = question compiler args;
+      children = [];
+      said = help_text calling.name compiler args;
+      hint = gone_text calling.name specs calling.machine;
+      remark = version_text calling.name compiler args;
+    }
 
 -- what is done for a task
 abbrev pub IsTaskDone : Facts → Calling → List (List ℕ) → Expanded → ℕ → Task → List HostEvent → Prepared → Type 0

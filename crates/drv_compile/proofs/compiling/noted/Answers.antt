@@ -1,0 +1,16 @@
+use Rattle.drv_compile.proofs.Done.{after_all, closing_noted}
+use Rattle.drv_compile.proofs.compiling.noted.Goals as goal
+use Rattle.drv_compile.proofs.compiling.noted.Goals.{else-lacks_program, then-lacks_program}
+use Rattle.std.proofs.Common.{◌∙◌, ap, sym}
+use Rattle.std.specs.Prelude.{false, true}
+
+pub returns-clause-notes : goal.returns-clause-notes
+returns-clause-notes g c =
+    let finds = after_all _ _ c.args.before c.journal.ensures ∙ sym c.lacks_program.ensures in elim c.if-lacks_program.branch [
+      | then-lacks_program w ↦
+          closing_noted _ _ c.args.before c.args.prepared.now true _ c.args.status c.closed.result (finds ∙ w.if-lacks_program.true)
+          (ap (λ b. b.now) w.text-is) c.closed.ensures.closes
+      | else-lacks_program w ↦
+          closing_noted _ _ c.args.before c.args.prepared.now false _ c.args.status c.closed.result (finds ∙ w.if-lacks_program.false)
+          (ap (λ b. b.now) w.text-is) c.closed.ensures.closes
+    ]
