@@ -120,6 +120,13 @@ module _ {Y : Type 0} (es made : List (List ℕ × Y)) (key : List ℕ) (blank :
   place_answers full answer step = ap (λ xs. answer_to xs key) (step ∙ ap (λ xs. set_value (is_at (slice_cmp nat_cmp key)) xs answer) is
       ∙ fills_pair es key blank answer) ∙ pair_here es key answer
 
+  -- a place that is left as it was made has the blank as its answer
+  pub place_kept : made ≡ with_answer es key blank
+  place_kept = rw (← new) is
+
+  pub place_blank : answer_to made key ≡ Some blank
+  place_blank = ap (λ xs. answer_to xs key) is ∙ pair_here es key blank
+
   pub place_known : (full : List (List ℕ × Y)) (answer : Y) → full ≡ set_value (is_at (slice_cmp nat_cmp key)) made answer
       → IsSome (answer_to full key)
   place_known full answer step = rw (place_answers full answer step) refl

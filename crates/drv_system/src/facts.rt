@@ -54,6 +54,8 @@ impl FactTable {
         }
         self.kinds.make_place(path, PathKind::Missing)?;
         match sys.kind(path) {
+            // The place has this answer already. In a search most paths get it.
+            Ok(PathKind::Missing) => Ok(PathKind::Missing),
             Ok(kind) => {
                 self.kinds.fill_place(path, kind);
                 Ok(kind)
