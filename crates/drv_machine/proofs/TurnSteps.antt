@@ -42,6 +42,10 @@ at_item text w token h there never = record {
   no_alternative = λ other e k. never (ap (λ (t : Token). t.kind) (some_same token other (sym there ∙ e)) ∙ k);
 }
 
+-- a plain byte is an item
+pub plain_item : (text : List ℕ) (w : Walk) (token : Token) → w.at < w.end → slice_get (tokens_of (tree_of text)) w.at ≡ Some token → token.kind ≡ kinds.Plain → AtItem text w
+plain_item text w token h there plain = at_item text w token h there (λ k. let z : kinds.Plain ≡ kinds.Alternative = sym plain ∙ k in cc)
+
 -- the same by another name of the text
 pub item_in : (text other : List ℕ) (w : Walk) → other ≡ text → AtItem text w → AtItem other w
 item_in text other w e item = subst (λ (t : List ℕ). AtItem t w) (sym e) item
@@ -57,6 +61,12 @@ module _ (text : List ℕ) (w : Walk) (item : AtItem text w) (token : Token) (th
 
   pub inner_later : Lain text w → w.at + 1 ≤ token.next
   inner_later lain = let inner = inner_there lain in stand_grows _ _ (w.at + 1) inner.nodes token.next inner.stands
+
+  -- what lies after it
+  pub lain_after : Lain text w → Lain text (record w { at = token.next })
+  lain_after lain =
+      let r = reached text w.at lain.rest w.end item.before_end item.no_alternative lain.lies in
+      record { rest = r.others; lies = subst (λ (k : ℕ). Lies text k r.others w.end) (sym (next_at text w.at token (kind_of r.item) (label_of r.item) r.next there r.part)) r.following }
 
   module _ (F : Facts) (C : Context) (s : Machine) (given : Answer (Unit {0} × Machine)) (left : Left F C text w s given) where
     pub front : Reached text w.at left.rest w.end

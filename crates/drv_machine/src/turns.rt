@@ -2,6 +2,7 @@
 
 ghost use Rattle.drv_system.specs.Code.Asked.{Asked};
 ghost use Rattle.drv_machine.specs.Atoms.{items_step, levels_left};
+ghost use Rattle.drv_machine.specs.Context as specs;
 ghost use Rattle.drv_machine.specs.Code.Running as running;
 ghost use Rattle.drv_machine.specs.Code.Running.{run};
 ghost use Rattle.drv_machine.specs.Code.Walking.{After, AskFits, AtItem, HasFrames, Kept, Lain};
@@ -14,7 +15,7 @@ ghost use Rattle.drv_syntax.specs.Tree as tree;
 ghost use Rattle.drv_system.specs.Asking.{Extends};
 ghost use Rattle.drv_system.specs.Facts.{Facts};
 ghost use Rattle.drv_system.specs.Gives.{GivesKnown};
-ghost use Rattle.std.specs.Prelude.{◌≡◌, ◌+◌, ◌-◌, ◌<◌, [], IfOk, IsTrue, OnOk, length};
+ghost use Rattle.std.specs.Prelude.{◌≡◌, ◌+◌, ◌-◌, ◌<◌, ◌≤◌, [], IfOk, IsTrue, OnOk, length};
 
 use crate::braces::{answer, choose};
 use crate::calling::open_call;
@@ -208,7 +209,6 @@ fn turn<'w, S: System>(
         TokenKind::ArgumentsFile => {
             work_filed(text, context, at + 1, next, walk, machine, outside)
         }
-        // Most items are plain bytes, which take a shorter path.
         TokenKind::Plain => {
             walk.at = next;
             machine.put_item(text.word(at))?;
@@ -219,6 +219,31 @@ fn turn<'w, S: System>(
             work_item(text, context, at, token, walk.star, machine, outside)
         }
     }
+}
+
+/// Works the plain bytes from the place that is reached, up to another item or the end of the
+/// innermost part. Most items are such bytes, which take a shorter path here than a turn.
+fn work_plain(walk: &mut Walk<'_>, machine: &mut Machine) -> Result<(), MachineFault>
+    requires lain { Lain walk.old.text.now walk.old }
+    ensures does { (F : Facts) (C : specs.Context) (given : Answer (Unit {0} × running.Machine))
+        → Left F C walk.old.text.now walk.old machine.old given
+        → Went F C walk.new.text.now walk.new machine.new given result }
+    ensures sized { length machine.new.world.hidden ≡ length machine.old.world.hidden }
+    ensures counts { OnOk result (machine.old.world.items ≤ machine.new.world.items) }
+{
+    while walk.at < walk.end {
+        let text = walk.text;
+        let token = token_at(text, walk.at);
+        match token.kind {
+            TokenKind::Plain => {
+                machine.count()?;
+                machine.put_item(text.word(walk.at))?;
+                walk.at = token.next;
+            }
+            _ => return Ok(()),
+        }
+    }
+    Ok(())
 }
 
 /// Works the items of a walk that are left, up to its end.
@@ -239,6 +264,7 @@ fn work_items<'w, S: System>(
 {
     while settle(context, walk, machine, outside)? {
         turn(context, walk, machine, outside)?;
+        work_plain(walk, machine)?;
     }
     Ok(())
 }
