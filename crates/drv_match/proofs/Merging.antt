@@ -155,6 +155,12 @@ module _ (names : List (List ℕ)) (hidden : List Bool) where
   next_found pattern from end None is none = λ i low high. none i low (omega (arith, is, high))
   next_found pattern from end (Some next) is (low, high, hit, before) = (low, omega (arith, is, high), hit, before)
 
+  -- the place itself is hit
+  pub next_itself : (pattern : Pattern) (from end : ℕ) → end ≡ length names → from < end
+      → is_hit names hidden pattern from ≡ true → IsNextHit names hidden pattern from (Some from)
+  next_itself pattern from end is within hit =
+      (omega arith, omega (arith, is, within), hit, λ i low high. absurd (omega (arith, low, high)))
+
   -- Flags for the places that are hit.
 
   any_kept : (test other : ℕ → Bool) (xs : List ℕ) → list_any other (filter test xs) ≡ list_any (λ x. test x && other x) xs

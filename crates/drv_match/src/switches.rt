@@ -146,10 +146,15 @@ impl<'a> Switches<'a> {
     }
 
     /// The first switch from a place on that a pattern hits, if there is one.
+    #[tactic(auto, using(crate::proofs::Merging::next_itself))]
     pub fn next_hit(&self, pattern: &Pattern<'_>, hidden: &Hidden, from: usize) -> Option<usize>
         requires { length hidden.now ≡ length self.now }
         ensures { IsNextHit self.now hidden.now pattern.now from result }
     {
+        // Hits often follow one another, and then nothing is looked up by name.
+        if from < self.len() && self.is_hit(pattern, hidden, from) {
+            return Some(from);
+        }
         let named = self.named_places(pattern);
         // If a pattern names few switches, their places are tested in any order; otherwise the line
         // is searched in order.
