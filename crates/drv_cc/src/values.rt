@@ -3,6 +3,7 @@
 
 ghost use Rattle.drv_cc.specs.Items.{accepts, head_of, is_digit, is_number, judges, numbered};
 ghost use Rattle.drv_cc.specs.Items.{value_of};
+ghost use Rattle.std.specs.List.{list_all};
 ghost use Rattle.std.specs.Prelude.{◌≡◌, ◌++◌, IfOk};
 
 use crate::known::{are_known, is_either_known};
@@ -36,11 +37,18 @@ fn is_digit(byte: u8) -> bool
     b'0' <= byte && byte <= b'9'
 }
 
+/// Whether all bytes are digits.
+fn are_digits(value: &[u8]) -> bool
+    ensures { result ≡ list_all is_digit value.now }
+{
+    value.iter().all(|byte| is_digit(*byte))
+}
+
 /// Whether an argument is a number.
 fn is_number(value: &[u8]) -> bool
     ensures { result ≡ is_number value.now }
 {
-    0 < value.len() && value.iter().all(|byte| is_digit(*byte))
+    0 < value.len() && are_digits(value)
 }
 
 /// The name of an option up to its argument, with a mark.
