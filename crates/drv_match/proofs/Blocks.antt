@@ -192,3 +192,24 @@ block_found names order pattern start end low high first second = record {
             let lower : end < start = grind (arith, nat_tests) in
             let within : end < length order = omega (arith, lower, low) in
             absurd (let clash : true ≡ false = sym (left _ _ (first.0 end 0 (omega arith) lower)) ∙ second.1 end 0 (omega arith) within in cc)
+
+both_false : (t u : Bool) → t ≡ false → u ≡ false → (t || u) ≡ false
+both_false t u e e' = rw (e, e') refl
+
+-- where the pattern names no place at the start, it names none
+pub none_found : (names : List (List ℕ)) (order : List ℕ) (pattern : Pattern) (start : ℕ) → start ≤ length order → IsOrder names order
+    → IsPartitionPoint (λ i. asks_start names pattern i ≡ true) (λ i. asks_start names pattern i ≡ false) order start
+    → (start < length order → (d : ℕ) → is_named pattern (name_at names (get_or order start d)) ≡ false)
+    → IsBlock names order pattern start start
+none_found names order pattern start low o first other = block_found names order pattern start start low low first (
+  (λ k d from to. left _ _ (first.0 k d from to)),
+  (λ k d from to. past k d from to (asks_end names pattern (get_or order k d)) refl),
+)
+  where
+    past : (k : ℕ) (d : ℕ) → start ≤ k → k < length order → (t : Bool) → asks_end names pattern (get_or order k d) ≡ t
+        → asks_end names pattern (get_or order k d) ≡ false
+    past k d from to false e = e
+    past k d from to true e =
+        let here : start < length order = omega (arith, from, to) in
+        let no : asks_end names pattern (get_or order start d) ≡ false = both_false _ _ (first.1 start d (omega arith) here) (other here d) in
+        absurd (let clash : true ≡ false = sym (end_parts names order pattern o start k d from to e) ∙ no in cc)
