@@ -142,7 +142,7 @@ function grown(key,    rest, out, name) {
 }
 
 function placed(name) {
-    if ((uses[name] - 1) * length(grown(name)) <= 14 + 4 * uses[name]) return made[name]
+    if ((uses[name] - 1) * length(grown(name)) <= 110 + 4 * uses[name]) return made[name]
     if (!(name in letter)) letter[name] = substr("abcdefghijklmnopqrstuvwxyz", ++letters, 1)
     return "%(" letter[name] ")"
 }

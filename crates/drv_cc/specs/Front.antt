@@ -174,12 +174,21 @@ abbrev pub is_other_file : Item → Bool
 is_other_file i =
     is_file_part i.part && ((ends_as_source i.name && not (ends_with nat_eq i.name (codes ".c"))) || same i.name (codes "-"))
 
+-- Nor is there a preprocessor alone: -E, -M and -MM.
+abbrev pub preprocesses : Item → Bool
+preprocesses i = is_among (texts (codes "-E -M -MM")) i.name
+
 abbrev pub is_c_alone : List Item → Bool
-is_c_alone items = not (has (codes "-x") items) && not (list_any is_other_file items)
+is_c_alone items = not (has (codes "-x") items) && not (list_any is_other_file items || list_any preprocesses items)
+
+-- A link with the library of a check has texts that others lack.
+abbrev pub is_checking : List Item → Bool
+is_checking = has (codes "-fsanitize=")
 
 abbrev pub stages : List Item → Stages
 stages items =
     if list_any is_unlinked items then (if is_c_alone items then SourcesOfC else Sources)
+    else if is_checking items then All
     else if has (codes "-x") items || list_any is_source_file items then (if is_c_alone items then AllOfC else All)
     else Link
 

@@ -32,11 +32,11 @@ pub struct Variable {
 pub enum Stages {
     /// Sources of C are compiled, and nothing is linked.
     SourcesOfC,
-    /// Sources are compiled or assembled, and nothing is linked.
+    /// Sources are preprocessed, compiled or assembled, and nothing is linked.
     Sources,
-    /// Files are linked, of which none is a source.
+    /// Files are linked, of which none is a source, without the library of a check.
     Link,
-    /// There may be both, and each source is of C.
+    /// There may be both, each source is of C, and no library of a check is linked.
     AllOfC,
     /// There may be both.
     All,

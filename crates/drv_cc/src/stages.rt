@@ -1,7 +1,7 @@
 //! Which stages a line has.
 
-ghost use Rattle.drv_cc.specs.Front.{ends_as_source, is_c_alone, is_other_file};
-ghost use Rattle.drv_cc.specs.Front.{is_source_file, is_unlinked, stages};
+ghost use Rattle.drv_cc.specs.Front.{ends_as_source, is_c_alone, is_checking, is_other_file};
+ghost use Rattle.drv_cc.specs.Front.{is_source_file, is_unlinked, preprocesses, stages};
 ghost use Rattle.std.specs.List.{list_any};
 ghost use Rattle.std.specs.Prelude.{◌≡◌};
 
@@ -13,6 +13,9 @@ use crate::sources::is_file;
 
 /// Options that leave the link out.
 const UNLINKED: [&[u8]; 6] = [b"-c", b"-S", b"-E", b"-M", b"-MM", b"-fsyntax-only"];
+
+/// Options that ask for the preprocessor alone.
+const PREPROCESS: [&[u8]; 3] = [b"-E", b"-M", b"-MM"];
 
 /// Whether an option leaves the link out.
 fn is_unlinked(item: &Item) -> bool
@@ -69,11 +72,32 @@ fn has_other_file(items: &[Item]) -> bool
     items.iter().any(is_other_file)
 }
 
-/// Whether each source is of C.
+/// Whether an option asks for the preprocessor alone.
+fn preprocesses(item: &Item) -> bool
+    ensures { result ≡ preprocesses item.now }
+{
+    is_one_of(&PREPROCESS, item.name.as_bytes())
+}
+
+/// Whether some option asks for the preprocessor alone.
+fn has_preprocessing(items: &[Item]) -> bool
+    ensures { result ≡ list_any preprocesses items.now }
+{
+    items.iter().any(preprocesses)
+}
+
+/// Whether each source is of C, and is compiled.
 fn is_c_alone(items: &[Item]) -> bool
     ensures { result ≡ is_c_alone items.now }
 {
-    !has(items, b"-x") && !has_other_file(items)
+    !has(items, b"-x") && !(has_other_file(items) | has_preprocessing(items))
+}
+
+/// Whether a link may have the library of a check.
+fn is_checking(items: &[Item]) -> bool
+    ensures { result ≡ is_checking items.now }
+{
+    has(items, b"-fsanitize=")
 }
 
 /// The stages of a line.
@@ -86,6 +110,8 @@ pub(crate) fn stages(items: &[Item]) -> Stages
         } else {
             Stages::Sources
         }
+    } else if is_checking(items) {
+        Stages::All
     } else if has(items, b"-x") || has_source_file(items) {
         if is_c_alone(items) {
             Stages::AllOfC
