@@ -10,6 +10,7 @@ mod OtherOptions
 mod Prefixes
 mod Rings
 mod Staying
+mod Warnings
 pub mod LevelLaws
 pub mod WorkedGiven
 pub mod WorkedItems

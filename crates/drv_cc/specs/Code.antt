@@ -5,3 +5,4 @@ pub mod Known
 pub mod Looking
 pub mod Rings
 pub mod Staying
+pub mod Warnings

@@ -1,10 +1,11 @@
 //! The class of an option, of which the last item of a line stays.
 
 ghost use Rattle.drv_cc.specs.Code.Rings.{ringed_by, ringed_shown};
+ghost use Rattle.drv_cc.specs.Code.Warnings.{is_other, is_warning};
 ghost use Rattle.drv_cc.specs.Items.{class_alone, class_by, class_of, has_two_signs, is_among};
 ghost use Rattle.drv_cc.specs.Items.{paired, same};
 ghost use Rattle.drv_cc.specs.Table.{ignored, rings, texts, unpaired};
-ghost use Rattle.std.specs.List.{flat_map};
+ghost use Rattle.std.specs.List.{filter, flat_map};
 ghost use Rattle.std.specs.Option.{option_map};
 ghost use Rattle.std.specs.Prelude.{◌≡◌, IfOk, find, map};
 
@@ -125,8 +126,8 @@ const UNPAIRED: [&[u8]; 51] = [
     b"-msseregparm",
 ];
 
-/// Options that gcc takes and does nothing for.
-const IGNORED: [&[u8]; 95] = [
+/// Options of warnings that gcc takes and does nothing for.
+const IGNORED_WARNINGS: [&[u8]; 7] = [
     b"-Wargument-mismatch",
     b"-Wchkp",
     b"-Whsa",
@@ -134,6 +135,10 @@ const IGNORED: [&[u8]; 95] = [
     b"-Wmudflap",
     b"-Wunreachable-code",
     b"-Wunsafe-loop-optimizations",
+];
+
+/// Other options that gcc takes and does nothing for.
+const IGNORED_OTHERS: [&[u8]; 88] = [
     b"-fall-virtual",
     b"-falt-external-templates",
     b"-fargument-alias",
@@ -238,11 +243,18 @@ fn unpaired() -> &'static [&'static [u8]]
     &UNPAIRED
 }
 
-/// The options that are passed over.
-pub(crate) fn ignored() -> &'static [&'static [u8]]
-    ensures { map (λ name. name.now) result.now ≡ texts ignored }
+/// The options of warnings that are passed over.
+fn ignored_warnings() -> &'static [&'static [u8]]
+    ensures { map (λ name. name.now) result.now ≡ filter is_warning (texts ignored) }
 {
-    &IGNORED
+    &IGNORED_WARNINGS
+}
+
+/// The other options that are passed over.
+fn ignored_others() -> &'static [&'static [u8]]
+    ensures { map (λ name. name.now) result.now ≡ filter is_other (texts ignored) }
+{
+    &IGNORED_OTHERS
 }
 
 /// Whether a name is one of these.
@@ -255,6 +267,37 @@ pub(crate) fn is_one_of(names: &[&[u8]], name: &[u8]) -> bool
         }
     }
     false
+}
+
+/// Whether an option is one of warnings. None of these is in a ring or of one sign alone, so a long
+/// list need not be gone over for them.
+fn is_warning(name: &[u8]) -> bool
+    ensures { result ≡ is_warning name.now }
+{
+    matches!(name, [_, b'W', ..])
+}
+
+/// Whether an option is passed over.
+#[tactic(auto, using(crate::proofs::Warnings::among_alike, crate::proofs::Warnings::among_others))]
+pub(crate) fn is_ignored(name: &[u8]) -> bool
+    ensures { result ≡ is_among (texts ignored) name.now }
+{
+    if is_warning(name) {
+        is_one_of(ignored_warnings(), name)
+    } else {
+        is_one_of(ignored_others(), name)
+    }
+}
+
+/// Whether no other sign of an option takes it back.
+#[tactic(auto, using(crate::proofs::Warnings::not_unpaired))]
+fn is_unpaired(name: &[u8]) -> bool
+    ensures { result ≡ is_among (texts unpaired) name.now }
+{
+    if is_warning(name) {
+        return false;
+    }
+    is_one_of(unpaired(), name)
 }
 
 /// Whether a text has a name between blanks.
@@ -272,11 +315,14 @@ pub(crate) fn is(name: &[u8], other: &[u8]) -> bool
 }
 
 /// The ring that has a name.
-#[tactic(auto, using(crate::proofs::Rings::ring_found))]
+#[tactic(auto, using(crate::proofs::Rings::ring_found, crate::proofs::Warnings::no_ring))]
 fn ring_of(name: &[u8]) -> Option<&'static [u8]>
     ensures { option_map (λ ring. ring.now) result
         ≡ find (λ ring. is_among (texts ring) name.now) rings }
 {
+    if is_warning(name) {
+        return None;
+    }
     for ringed in ring_options() {
         if name == ringed.option {
             return Some(ringed.ring);
@@ -310,7 +356,7 @@ pub(crate) fn paired(alloc: Global, name: &[u8]) -> Result<Word, AllocError>
 fn class_alone(alloc: Global, name: &[u8]) -> Result<Word, AllocError>
     ensures { IfOk result (λ word. word ≡ class_alone name.now) }
 {
-    if !has_two_signs(name) || name.contains(&b'=') || is_one_of(unpaired(), name) {
+    if !has_two_signs(name) || name.contains(&b'=') || is_unpaired(name) {
         return Ok(Word::empty(alloc));
     }
     paired(alloc, name)

@@ -7,6 +7,9 @@ ghost use Rattle.std.specs.Prelude.{◌≡◌, ◌<◌, ◌≤◌, ◌||◌, IsF
 
 use crate::reading::rest_after;
 
+/// The most bytes of a text whose lines are gone over one by one.
+const NEAR: usize = 64;
+
 /// Whether a line ends at a place of a text.
 fn is_end(text: &[u8], at: usize) -> bool
     ensures { IsFalse result → at < length text.now }
@@ -15,17 +18,6 @@ fn is_end(text: &[u8], at: usize) -> bool
         Some(byte) => *byte == b'\n',
         None => true,
     }
-}
-
-/// Where the line begins in which a place is.
-fn line_start(text: &[u8], at: usize) -> usize
-    ensures { result ≤ at }
-{
-    let mut start = at;
-    while 0 < start && !is_end(text, start - 1) {
-        start -= 1;
-    }
-    start
 }
 
 /// Where the line ends in which a place is.
@@ -40,22 +32,38 @@ fn line_end(text: &[u8], at: usize) -> usize
     end
 }
 
-/// Where a line begins, if it is one of a text whose lines are sorted by their bytes. What is there
-/// is for the caller to see.
-fn place_of(text: &[u8], line: &[u8]) -> usize {
+/// Whether the line at a place of a text comes before another one, by their bytes. All bytes of
+/// names come after the end of a line.
+fn is_before(text: &[u8], at: usize, line: &[u8]) -> bool {
+    let rest = rest_from(text, at);
+    &rest[..line.len().min(rest.len())] < line
+}
+
+/// Where a line begins before which a line isn't, if it is one of a text whose lines are sorted by
+/// their bytes: few lines are between them.
+fn near_place(text: &[u8], line: &[u8]) -> usize {
     let mut low = 0;
     let mut high = text.len();
-    while low < high {
+    while NEAR < high - low {
         let middle = low + (high - low) / 2;
-        let start = line_start(text, middle);
-        let end = line_end(text, middle);
-        if &text[start..end] < line {
-            low = end + 1;
+        let next = line_end(text, middle) + 1;
+        if next < high && is_before(text, next, line) {
+            low = next;
         } else {
-            high = start;
+            high = middle;
         }
     }
     low
+}
+
+/// Where a line begins, if it is one of a text whose lines are sorted by their bytes. What is there
+/// is for the caller to see.
+fn place_of(text: &[u8], line: &[u8]) -> usize {
+    let mut at = near_place(text, line);
+    while at < text.len() && is_before(text, at, line) {
+        at = line_end(text, at) + 1;
+    }
+    at
 }
 
 /// Whether a line ends where this text begins.

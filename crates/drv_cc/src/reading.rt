@@ -6,7 +6,7 @@ ghost use Rattle.drv_cc.specs.Items.{machine_item, machine_name, renamed, start_
 ghost use Rattle.drv_cc.specs.Items.{start_renamed, with_rest};
 ghost use Rattle.std.specs.Prelude.{◌≡◌, IfOk, None, drop, length};
 
-use crate::classes::{ignored, is_one_of, paired};
+use crate::classes::{is_ignored, paired};
 use crate::item::Item;
 use crate::known::is_known_line;
 use crate::renaming::renamed;
@@ -85,7 +85,7 @@ fn beyond(alloc: Global, known: &[u8], word: &[u8], name: &[u8]) -> Result<Item,
     ensures { IfOk result (λ item. item ≡ beyond known.now word.now name.now) }
 {
     let positive = paired(alloc, name)?;
-    if is_one_of(ignored(), positive.as_bytes()) {
+    if is_ignored(positive.as_bytes()) {
         return Item::new(alloc, name, b"", Spelling::Nowhere, Part::Switch);
     }
     if name.starts_with(b"-Wno-") || accepts(alloc, known, name)? {

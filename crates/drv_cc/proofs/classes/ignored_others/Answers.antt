@@ -1,4 +1,4 @@
-use Rattle.drv_cc.proofs.classes.ignored.Goals as goal
+use Rattle.drv_cc.proofs.classes.ignored_others.Goals as goal
 use Rattle.drv_cc.specs.Table.{ignored}
 use Rattle.std.proofs.Common.{refl}
 
