@@ -1,4 +1,6 @@
+pub mod Difference
 pub mod Fits
+pub mod Picture
 pub mod Pieces
 pub mod PlanJson
 pub mod PlanOfJson

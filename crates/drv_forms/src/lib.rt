@@ -1,11 +1,16 @@
-//! Plans in forms that other programs read: JSON, and a script for the shell.
+//! Plans in forms that other programs read: JSON, a script for the shell, and a picture; and what
+//! differs between two plans.
 #![tactic(auto)]
 
+mod comparing;
+mod drawing;
 mod json_form;
 mod pieces;
 mod scripting;
 mod shell;
 
+pub use comparing::difference;
+pub use drawing::picture;
 pub use json_form::plan_json;
 pub use scripting::script;
 pub use shell::{shell_line, shell_word};

@@ -1,0 +1,9 @@
+use Rattle.drv_forms.proofs.comparing.push_all_missing.Given as goal
+use Rattle.drv_forms.specs.Difference.{word_text, words_of}
+use Rattle.std.proofs.Common.{◌≡◌, ◌++◌, drop}
+use Rattle.std.specs.List.{flat_map}
+
+abbrev pub invariant-loop-word : goal.invariant-loop-word
+invariant-loop-word l =
+    l.text.items ++ flat_map (word_text l.mark (words_of l.other)) (drop l.word-index l.words)
+    ≡ l.fn.text.items ++ flat_map (word_text l.mark (words_of l.other)) l.words

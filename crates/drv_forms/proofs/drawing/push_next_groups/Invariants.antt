@@ -1,0 +1,10 @@
+use Rattle.drv_forms.proofs.drawing.push_next_groups.Given as goal
+use Rattle.drv_forms.specs.Picture.{next_groups}
+use Rattle.std.proofs.Common.{◌≡◌, ◌++◌, drop}
+
+abbrev pub invariant-loop-group : goal.invariant-loop-group
+invariant-loop-group l = record {
+  text : l.text.items ++ next_groups l.job l.output l.number l.last (drop l.group-index l.groups)
+      ≡ l.fn.text.items ++ next_groups l.job l.output 0 l.fn.last l.groups;
+  number : l.number ≡ l.group-index;
+}
