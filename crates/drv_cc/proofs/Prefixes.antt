@@ -1,7 +1,7 @@
 use Rattle.drv_args.specs.declared.items.Item.{Item as LineItem}
 use Rattle.drv_args.specs.declared.option_table.Effect.TheVariants as effect
-use Rattle.drv_cc.specs.Front.{folders}
-use Rattle.drv_cc.specs.LineItems.{alone, prefix, prefixes}
+use Rattle.drv_cc.specs.Front.{folders, prefix, prefixes}
+use Rattle.drv_cc.specs.LineItems.{alone}
 use Rattle.drv_cc.specs.declared.answer.Surroundings.{Surroundings}
 use Rattle.std.proofs.Common.{◌≡◌, ◌∙◌, List, [], ◌∷◌, ◌++◌, ap, append_assoc, codes, map, ℕ}
 

@@ -1,3 +1,5 @@
+use Rattle.drv_args.specs.declared.option_table.Effect.TheVariants as effect
+use Rattle.drv_args.specs.declared.option_table.Effect.{Effect}
 use Rattle.drv_cc.specs.Front.{front_of, quoted_line}
 use Rattle.drv_cc.specs.Levels.{debugged_by}
 use Rattle.drv_cc.specs.Table.{ignored, sections, texts, unpaired}
@@ -5,8 +7,9 @@ use Rattle.drv_cc.specs.declared.answer.Answer.TheVariants.{Ask, Refuse, Run}
 use Rattle.drv_cc.specs.declared.answer.Answer.{Answer}
 use Rattle.drv_cc.specs.declared.answer.Surroundings.{Surroundings}
 use Rattle.drv_cc.specs.declared.answer.Variable.{Variable}
-use Rattle.drv_cc.specs.declared.refusal.Refusal.TheVariants.{NoArgument, NoInput, NotTaken, UnknownOption}
-use Rattle.std.proofs.Common.{◌≡◌, List, [], ◌∷◌, codes, refl, ℕ}
+use Rattle.drv_cc.specs.declared.refusal.Refusal.TheVariants.{EmptyOutput, NoArgument, NoInput, NotTaken, UnknownOption}
+use Rattle.std.proofs.Common.{◌≡◌, List, [], ◌∷◌, ◌++◌, codes, refl, ℕ}
+use Rattle.std.specs.List.{flat_map}
 use Rattle.std.specs.Prelude.{None, Option, Some}
 
 -- Worked lines of gcc, by computation. What stays of each was compared with COLLECT_GCC_OPTIONS of gcc 12 and with the words that it
@@ -28,8 +31,19 @@ front_by names line = front_of names [] nowhere (texts line)
 abbrev front : List ℕ → Answer
 front line = front_by known line
 
+-- an item by its words, as a line has them
+abbrev spelled_by : Effect → List ℕ → List ℕ → List (List ℕ)
+spelled_by effect.File option argument = option ∷ []
+spelled_by effect.Switch option argument = option ∷ []
+spelled_by (effect.TurnsOn setting) option argument = option ∷ []
+spelled_by effect.JoinedSwitch option argument = (option ++ argument) ∷ []
+spelled_by effect.Specs option argument = (option ++ argument) ∷ []
+spelled_by effect.Library option argument = (option ++ argument) ∷ []
+spelled_by (effect.Pieces tool) option argument = (option ++ argument) ∷ []
+spelled_by _ option argument = option ∷ argument ∷ []
+
 abbrev pub words_given : Answer → Option (List (List ℕ))
-words_given (Run call) = Some call.words
+words_given (Run call) = Some (flat_map (λ i. spelled_by i.effect i.option i.argument) call.items)
 words_given _ = None
 
 abbrev children_given : Answer → List Variable
@@ -320,6 +334,10 @@ unknown = refl
 no_argument : front (codes "a.c -o") ≡ Refuse (NoArgument (codes "-o") ∷ [])
 unfolding sections ignored unpaired debugged_by
 no_argument = refl
+
+no_output : front_of known [] nowhere (codes "-o" ∷ [] ∷ codes "a.c" ∷ []) ≡ Refuse (EmptyOutput ∷ [])
+unfolding sections ignored unpaired debugged_by
+no_output = refl
 
 no_input : front (codes "-c") ≡ Refuse (NoInput ∷ [])
 unfolding sections ignored unpaired debugged_by

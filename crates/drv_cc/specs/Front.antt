@@ -1,6 +1,10 @@
+use Rattle.drv_args.specs.declared.items.Item.{Item as LineItem}
+use Rattle.drv_args.specs.declared.option_table.Effect.TheVariants as effect
+use Rattle.drv_args.specs.declared.option_table.Setting.TheVariants as setting
 use Rattle.drv_cc.specs.Items.{begins, is_among, items_of, same, words_of}
 use Rattle.drv_cc.specs.Kept.{has, is_asked, is_file_part, is_vendors, kept, last_argument, refusals}
 use Rattle.drv_cc.specs.Levels.{check_words, debug_words}
+use Rattle.drv_cc.specs.LineItems.{alone, item_of, line_item}
 use Rattle.drv_cc.specs.SideFiles.{inputs, is_some, link_beginning, side_words, sources, stops, worked}
 use Rattle.drv_cc.specs.Table.{texts}
 use Rattle.drv_cc.specs.declared.answer.Answer.TheVariants.{Ask, Refuse, Run}
@@ -14,11 +18,12 @@ use Rattle.drv_cc.specs.declared.refusal.Refusal.{Refusal}
 use Rattle.drv_cc.specs.declared.table.Part.TheVariants as part
 use Rattle.drv_cc.specs.declared.table.Part.{Part}
 use Rattle.drv_words.specs.Bytes.{colon, comma, single_quote, space}
-use Rattle.std.specs.List.{ends_with, filter, flat_map, list_any, slice_split}
+use Rattle.std.specs.List.{ends_with, filter, filter_map, flat_map, list_any, slice_split}
 use Rattle.std.specs.Prelude.{◌==◌, ◌&&◌, ◌||◌, Bool, List, [], ◌∷◌, ◌++◌, None, Option, Some, codes, drop, false, if◌then◌else◌, length, map, nat_eq, nat_lt, not, true, ℕ}
 
--- A line of gcc as words of the driver: a question for the compiler, refusals, or the words of what stays of the line and what gcc's
--- driver adds to it (GCC manual, "Invoking GCC").
+-- A line of gcc as a line of the driver: a question for the compiler, refusals, or the items of what stays of the line and of what gcc's
+-- driver adds to it (GCC manual, "Invoking GCC"). No words are made of them: an empty argument is one, and what is added is a switch of its
+-- name.
 
 -- Added: threads, where an option needs them ("C Dialect Options", -fopenmp; "Optimize Options", -ftree-parallelize-loops).
 abbrev pub is_several : Option (List ℕ) → Bool
@@ -42,9 +47,6 @@ abbrev pub folders : Option (List ℕ) → List (List ℕ)
 folders None = []
 folders (Some path) = map named_folder (slice_split (λ b. b == colon) path)
 
-abbrev pub prefix_words : List ℕ → List (List ℕ)
-prefix_words folder = codes "-B" ∷ folder ∷ []
-
 abbrev pub is_set : Option (List ℕ) → Bool
 is_set None = false
 is_set (Some value) = true
@@ -52,15 +54,15 @@ is_set (Some value) = true
 abbrev pub library_words : List ℕ → List (List ℕ)
 library_words folder = (codes "--gdrv-lib=" ++ folder) ∷ []
 
+abbrev pub prefix : List ℕ → LineItem
+prefix folder = item_of effect.Prefix (codes "-B") folder
+
 -- programs and start files, also those that a vendor's spec file names, are looked for in the compiler's own folders last
-abbrev pub all_prefixes : Surroundings → List (List ℕ)
-all_prefixes around = flat_map prefix_words (folders around.compiler_path) ++ flat_map prefix_words around.folders ++ codes "--gdrv-dirs" ∷ []
+abbrev pub prefixes : Surroundings → List LineItem
+prefixes around = map prefix (folders around.compiler_path) ++ map prefix around.folders ++ alone effect.Switch (codes "--gdrv-dirs") ∷ []
 
-abbrev pub program_words : Surroundings → List Item → List (List ℕ)
-program_words around items = if has (codes "-B") items || is_vendors items || is_set around.compiler_path then all_prefixes around else []
-
-abbrev pub folder_words : Surroundings → List Item → List (List ℕ)
-folder_words around items = program_words around items ++ flat_map library_words (folders around.library_path)
+abbrev pub program_items : Surroundings → List Item → List LineItem
+program_items around items = if has (codes "-B") items || is_vendors items || is_set around.compiler_path then prefixes around else []
 
 -- Added: pipes, where a source is compiled or assembled and nothing speaks against them ("Overall Options", -pipe).
 abbrev pub unpiped : List (List ℕ)
@@ -97,9 +99,17 @@ is_piped items = is_some (sources worked items) && not (list_any is_unpiped item
 abbrev pub pipe_words : List Item → List (List ℕ)
 pipe_words items = if is_piped items then codes "-pipe" ∷ [] else []
 
-abbrev pub added : Surroundings → List Item → List (List ℕ)
-added around items =
-    thread_words items ++ folder_words around items ++ side_words items ++ debug_words items ++ check_words items ++ pipe_words items
+-- All that is added: each word is a switch, and the pipe a setting too.
+abbrev pub added_switches : Surroundings → List Item → List (List ℕ)
+added_switches around items = flat_map library_words (folders around.library_path) ++ side_words items ++ debug_words items ++ check_words items
+
+abbrev pub added_pipe : List Item → List LineItem
+added_pipe items = map (alone (effect.TurnsOn setting.Pipe)) (pipe_words items)
+
+abbrev pub added_items : Surroundings → List Item → List LineItem
+added_items around items =
+    map (alone effect.Switch) (thread_words items) ++ program_items around items ++ map (alone effect.Switch) (added_switches around items)
+    ++ added_pipe items
 
 -- For the children of a link: the linker's plugin calls the compiler again, with the switches of the line (GCC Internals, "LTO",
 -- "lto-wrapper"). Each word is between single quotes.
@@ -193,13 +203,13 @@ stages items =
     else Link
 
 -- The answer.
-abbrev pub run_words : Surroundings → List Item → List (List ℕ)
-run_words around items = flat_map words_of items ++ added around items
+abbrev pub line_items : Surroundings → List Item → List LineItem
+line_items around items = filter_map line_item items ++ added_items around items
 
 abbrev pub run_of : Surroundings → List Item → Answer
 run_of around items =
     Run (record {
-      words = run_words around items;
+      items = line_items around items;
       inputs = inputs items;
       output = last_argument (codes "-o") items;
       children = children around items;

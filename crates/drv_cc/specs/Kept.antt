@@ -75,7 +75,7 @@ abbrev pub is_named : List (List ℕ) → List ℕ → Bool
 is_named named word = not (begins (codes "--gdrv-") word) && list_any (names (drop 1 word)) named
 
 -- Refused: each word that is no option and that no spec file of the line names; each option without its argument; each that is not
--- carried out here; then a line without input.
+-- carried out here; then a line whose output has no name, or one without input.
 abbrev pub refused_part : List (List ℕ) → Part → List ℕ → List Refusal
 refused_part named part.Unknown name = if is_named named name then [] else refusal.UnknownOption name ∷ []
 refused_part named part.Lacking name = refusal.NoArgument name ∷ []
@@ -90,8 +90,25 @@ refused_part named part.Tells name = []
 abbrev pub refused_item : List (List ℕ) → Item → List Refusal
 refused_item named i = refused_part named i.part i.name
 
+-- the last -o has an empty argument, or there is no input
+abbrev pub is_lacking : Part → Bool
+is_lacking part.Lacking = true
+is_lacking _ = false
+
+abbrev pub unnamed_after : Item → Bool → Bool
+unnamed_after i before = if same i.name (codes "-o") && not (is_lacking i.part) then same i.argument [] else before
+
+abbrev pub unnamed_from : Bool → List Item → Bool
+unnamed_from before [] = before
+unnamed_from before (i ∷ items) = unnamed_from (unnamed_after i before) items
+
+abbrev pub refused_line : List Item → List Refusal
+refused_line items =
+    if unnamed_from false items then refusal.EmptyOutput ∷ []
+    else if has_input items then [] else refusal.NoInput ∷ []
+
 abbrev pub refusals : List (List ℕ) → List Item → List Refusal
-refusals named items = flat_map (refused_item named) items ++ (if has_input items then [] else refusal.NoInput ∷ [])
+refusals named items = flat_map (refused_item named) items ++ refused_line items
 
 -- Kept: of each class the last item stays, and what is of no class.
 abbrev pub goes : Item → List Item → Bool

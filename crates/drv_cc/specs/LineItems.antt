@@ -3,25 +3,16 @@ use Rattle.drv_args.specs.declared.option_table.Effect.TheVariants as effect
 use Rattle.drv_args.specs.declared.option_table.Effect.{Effect}
 use Rattle.drv_args.specs.declared.option_table.Setting.TheVariants as setting
 use Rattle.drv_args.specs.declared.option_table.Tool.TheVariants as tool
-use Rattle.drv_cc.specs.Front.{children, folders, is_set, library_words, pipe_words, stages, thread_words}
-use Rattle.drv_cc.specs.Items.{items_of, same}
-use Rattle.drv_cc.specs.Kept.{has, is_asked, is_vendors, kept, last_argument, refusals}
-use Rattle.drv_cc.specs.Levels.{check_words, debug_words}
-use Rattle.drv_cc.specs.SideFiles.{inputs, side_words}
-use Rattle.drv_cc.specs.declared.answer.Reading.TheVariants as reading
-use Rattle.drv_cc.specs.declared.answer.Reading.{Reading}
-use Rattle.drv_cc.specs.declared.answer.Surroundings.{Surroundings}
+use Rattle.drv_cc.specs.Items.{same}
 use Rattle.drv_cc.specs.declared.item.Item.{Item}
-use Rattle.drv_cc.specs.declared.refusal.Refusal.{Refusal}
 use Rattle.drv_cc.specs.declared.table.Part.TheVariants as part
 use Rattle.drv_cc.specs.declared.table.Part.{Part}
 use Rattle.drv_cc.specs.declared.table.Spelling.TheVariants.{Alone, Joined, Nowhere, Separate}
 use Rattle.drv_cc.specs.declared.table.Spelling.{Spelling}
-use Rattle.std.specs.List.{filter_map, flat_map}
-use Rattle.std.specs.Prelude.{◌||◌, List, [], ◌∷◌, ◌++◌, None, Option, Some, codes, if◌then◌else◌, length, map, nat_lt, ℕ}
+use Rattle.std.specs.Prelude.{List, [], None, Option, Some, codes, if◌then◌else◌, ℕ}
 
--- A line of gcc as items of the driver's line (GCC manual, "Overall Options", "Directory Options", "Link Options", "Preprocessor
--- Options", "Assembler Options"): what stays of the line, each item by the name of its option, and what gcc's driver adds.
+-- An item of a line of gcc as one of the driver's line (GCC manual, "Overall Options", "Directory Options", "Link Options", "Preprocessor
+-- Options", "Assembler Options"): what it does there, by the name of its option.
 
 -- what an option does that has no argument, one in its word, or one after it
 abbrev pub alone_effect : List ℕ → Effect
@@ -71,46 +62,6 @@ with_effect (Some effect) i = Some (item_of effect i.name i.argument)
 abbrev pub line_item : Item → Option LineItem
 line_item i = with_effect (effect_of i.part i.spelling i.name) i
 
--- Added: what gcc's driver adds, each word a switch, a prefix, or the pipe.
+-- a word that is an item by itself
 abbrev pub alone : Effect → List ℕ → LineItem
 alone effect word = item_of effect word []
-
-abbrev pub prefix : List ℕ → LineItem
-prefix folder = item_of effect.Prefix (codes "-B") folder
-
-abbrev pub prefixes : Surroundings → List LineItem
-prefixes around = map prefix (folders around.compiler_path) ++ map prefix around.folders ++ alone effect.Switch (codes "--gdrv-dirs") ∷ []
-
-abbrev pub program_items : Surroundings → List Item → List LineItem
-program_items around items = if has (codes "-B") items || is_vendors items || is_set around.compiler_path then prefixes around else []
-
-abbrev pub switch_words : Surroundings → List Item → List (List ℕ)
-switch_words around items = flat_map library_words (folders around.library_path) ++ side_words items ++ debug_words items ++ check_words items
-
-abbrev pub added_items : Surroundings → List Item → List LineItem
-added_items around items =
-    map (alone effect.Switch) (thread_words items) ++ program_items around items ++ map (alone effect.Switch) (switch_words around items)
-    ++ map (alone (effect.TurnsOn setting.Pipe)) (pipe_words items)
-
-abbrev pub line_items : Surroundings → List Item → List LineItem
-line_items around items = filter_map line_item items ++ added_items around items
-
--- The reading.
-abbrev pub compilation_of : Surroundings → List Item → Reading
-compilation_of around items =
-    reading.Run (record {
-      items = line_items around items;
-      inputs = inputs items;
-      output = last_argument (codes "-o") items;
-      children = children around items;
-      stages = stages items;
-    })
-
-abbrev pub refused_or_read : Surroundings → List Item → List Refusal → Reading
-refused_or_read around items faults = if nat_lt 0 (length faults) then reading.Refuse faults else compilation_of around (kept items)
-
-abbrev pub reading_of : List (List ℕ) → Surroundings → List Item → Reading
-reading_of named around items = if is_asked items then reading.Ask else refused_or_read around items (refusals named items)
-
-abbrev pub line_read : List ℕ → List (List ℕ) → Surroundings → List (List ℕ) → Reading
-line_read known named around words = reading_of named around (items_of known None words)

@@ -2,11 +2,11 @@ use Rattle.drv_args.specs.declared.items.Item.{Item as LineItem}
 use Rattle.drv_args.specs.declared.option_table.Effect.TheVariants as effect
 use Rattle.drv_args.specs.declared.option_table.Effect.{Effect}
 use Rattle.drv_args.specs.declared.option_table.Setting.TheVariants as setting
-use Rattle.drv_cc.specs.Front.{assembler_variables, folder_words, pipe_words, quoted_line, switch_words, thread_words, variable}
-use Rattle.drv_cc.specs.Items.{is_among, item, items_of, same, words_of}
+use Rattle.drv_cc.specs.Front.{added_pipe, assembler_variables, folders, library_words, program_items, quoted_line, switch_words, thread_words, variable}
+use Rattle.drv_cc.specs.Items.{is_among, item, items_of, same}
 use Rattle.drv_cc.specs.Kept.{has, kept, last_argument, refused_part}
 use Rattle.drv_cc.specs.Levels.{check_words, debug_words_of, debugged, no_debugging, toggled}
-use Rattle.drv_cc.specs.LineItems.{effect_of, line_item}
+use Rattle.drv_cc.specs.LineItems.{alone, effect_of, line_item}
 use Rattle.drv_cc.specs.SideFiles.{inputs, link_beginning, side_words, stops}
 use Rattle.drv_cc.specs.Table.{texts}
 use Rattle.drv_cc.specs.declared.answer.Answer.TheVariants.{Refuse, Run}
@@ -98,11 +98,15 @@ debugged_with items given = debugged (settled (debugged no_debugging items)) giv
 abbrev pub levels_with : Debugging → List (List ℕ)
 levels_with d = debug_words_of d.level d.version
 
--- The words: the switches that were left and those that are given, and what is added to the line as it was read.
-abbrev pub words_with : Surroundings → List Item → List Item → List Item → List (List ℕ)
-words_with around items left given =
-    flat_map words_of left ++ flat_map words_of given ++ folder_words around (items ++ given) ++ side_words items
-    ++ levels_with (debugged_with items given) ++ check_words (items ++ given) ++ pipe_words (items ++ given)
+-- The items: the switches that were left and those that are given, and what is added to the line as it was read.
+abbrev pub switches_with : Surroundings → List Item → List Item → List (List ℕ)
+switches_with around items given =
+    flat_map library_words (folders around.library_path) ++ side_words items ++ levels_with (debugged_with items given) ++ check_words (items ++ given)
+
+abbrev pub items_with : Surroundings → List Item → List Item → List Item → List LineItem
+items_with around items left given =
+    filter_map line_item left ++ filter_map line_item given ++ program_items around (items ++ given)
+    ++ map (alone effect.Switch) (switches_with around items given) ++ added_pipe (items ++ given)
 
 -- The variables of a link's children.
 abbrev pub collected_with : List Item → List Item → List (List ℕ)
@@ -121,7 +125,7 @@ children_with around items left given =
 abbrev pub run_with : Surroundings → List Item → List Item → List Item → Answer
 run_with around items left given =
     Run (record {
-      words = words_with around items left given;
+      items = items_with around items left given;
       inputs = inputs items;
       output = last_argument (codes "-o") items;
       children = children_with around items left given;

@@ -1,21 +1,14 @@
 //! What is added to a line.
 
 ghost use Rattle.drv_cc.specs.Code.Looking.{words_for};
-ghost use Rattle.drv_cc.specs.Front.{added, all_prefixes, folder_words, folders, is_several};
-ghost use Rattle.drv_cc.specs.Front.{named_folder, needs_threads, prefix_words, program_words};
+ghost use Rattle.drv_cc.specs.Front.{folders, is_several, named_folder, needs_threads};
 ghost use Rattle.drv_cc.specs.Front.{thread_words};
 ghost use Rattle.std.specs.List.{flat_map};
 ghost use Rattle.std.specs.Option.{option_map};
 ghost use Rattle.std.specs.Prelude.{◌≡◌, ◌++◌, OnOk};
 
-use crate::Surroundings;
-use crate::checks::add_check_words;
 use crate::item::Item;
-use crate::judging::is_vendors;
 use crate::keeping::{has, last_argument};
-use crate::levels::add_debug_words;
-use crate::piping::add_pipe_words;
-use crate::sides::add_side_words;
 use crate::words::{add_joined, add_word};
 use drv_words::{Listing, Word};
 use std::alloc::{AllocError, Global};
@@ -61,9 +54,7 @@ fn named_folder(folder: &[u8]) -> &[u8]
 /// What is looked for in the folders of a path.
 #[derive(Clone, Copy)]
 pub(crate) enum LookedFor {
-    /// Programs: each folder is a prefix.
-    Programs,
-    /// Libraries.
+    /// Libraries: each folder is a switch.
     Libraries,
     /// What the caller looks for: each folder is a word.
     Any,
@@ -80,10 +71,6 @@ fn add_folder(
         (words.new ≡ words.old ++ words_for looked_for (named_folder folder.now)) }
 {
     match looked_for {
-        LookedFor::Programs => {
-            add_word(alloc, words, b"-B")?;
-            add_word(alloc, words, named_folder(folder))
-        }
         LookedFor::Libraries => {
             add_joined(alloc, words, b"--gdrv-lib=", named_folder(folder))?;
             Ok(())
@@ -108,80 +95,5 @@ pub(crate) fn add_path(
     for folder in path.as_bytes().split(|byte| *byte == b':') {
         add_folder(alloc, looked_for, folder, words)?;
     }
-    Ok(())
-}
-
-/// Adds the compiler's own folders, each as a prefix.
-fn add_own_prefixes(
-    alloc: Global,
-    folders: &[Word],
-    words: &mut Listing<Word>,
-) -> Result<(), AllocError>
-    ensures { OnOk result (words.new ≡ words.old ++ flat_map prefix_words folders.now) }
-{
-    for folder in folders {
-        add_word(alloc, words, b"-B")?;
-        add_word(alloc, words, folder.as_bytes())?;
-    }
-    Ok(())
-}
-
-/// Adds all folders of programs after those of the line.
-fn add_all_prefixes(
-    alloc: Global,
-    around: &Surroundings,
-    words: &mut Listing<Word>,
-) -> Result<(), AllocError>
-    ensures { OnOk result (words.new ≡ words.old ++ all_prefixes around.now) }
-{
-    add_path(alloc, LookedFor::Programs, &around.compiler_path, words)?;
-    add_own_prefixes(alloc, around.folders.as_slice(), words)?;
-    add_word(alloc, words, b"--gdrv-dirs")
-}
-
-/// Adds the folders of programs, where a folder or a spec file is given.
-fn add_program_words(
-    alloc: Global,
-    around: &Surroundings,
-    items: &[Item],
-    words: &mut Listing<Word>,
-) -> Result<(), AllocError>
-    ensures { OnOk result (words.new ≡ words.old ++ program_words around.now items.now) }
-{
-    if has(items, b"-B") || is_vendors(items) || around.compiler_path.is_some() {
-        add_all_prefixes(alloc, around, words)
-    } else {
-        Ok(())
-    }
-}
-
-/// Adds the folders of the surroundings.
-pub(crate) fn add_folder_words(
-    alloc: Global,
-    around: &Surroundings,
-    items: &[Item],
-    words: &mut Listing<Word>,
-) -> Result<(), AllocError>
-    ensures { OnOk result (words.new ≡ words.old ++ folder_words around.now items.now) }
-{
-    add_program_words(alloc, around, items, words)?;
-    add_path(alloc, LookedFor::Libraries, &around.library_path, words)
-}
-
-/// Adds all that gcc's driver adds.
-pub(crate) fn add_words(
-    alloc: Global,
-    around: &Surroundings,
-    items: &[Item],
-    words: &mut Listing<Word>,
-) -> Result<(), AllocError>
-    ensures { OnOk result (words.new ≡ words.old ++ added around.now items.now) }
-{
-    add_thread_words(alloc, items, words)?;
-    add_folder_words(alloc, around, items, words)?;
-    add_side_words(alloc, items, words)?;
-    add_debug_words(alloc, items, words)?;
-    add_check_words(alloc, items, words)?;
-    add_pipe_words(alloc, items, words)?;
     Ok(())
 }

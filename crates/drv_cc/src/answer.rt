@@ -42,11 +42,11 @@ pub enum Stages {
     All,
 }
 
-/// A call of the driver.
+/// A line of `gcc` that is carried out, as items of the driver's line.
 #[derive(Drop)]
 pub struct Call {
-    /// The driver's words.
-    pub words: Listing<Word>,
+    /// The items, in the order of the line; after them what gcc's driver adds.
+    pub items: Listing<Item>,
     /// The files that the line names, in its order; `-` is none.
     pub inputs: Listing<Word>,
     /// The argument of the last `-o`, if there is one.
@@ -66,30 +66,4 @@ pub enum Answer {
     Refuse(Listing<Refusal>),
     /// The line is carried out.
     Run(Call),
-}
-
-/// A line of `gcc` that is carried out, as items of the driver's line.
-#[derive(Drop)]
-pub struct Compilation {
-    /// The items, in the order of the line; after them what gcc's driver adds.
-    pub items: Listing<Item>,
-    /// The files that the line names, in its order; `-` is none.
-    pub inputs: Listing<Word>,
-    /// The argument of the last `-o`, if there is one.
-    pub output: Option<Word>,
-    /// The variables that are set for the driver's children.
-    pub children: Listing<Variable>,
-    /// The stages of the line.
-    pub stages: Stages,
-}
-
-/// What a line of `gcc` is read as.
-#[derive(Drop)]
-pub enum Reading {
-    /// The line is a question: the compiler is asked with the same words.
-    Ask,
-    /// The line is refused, for each of these reasons in the order of the line.
-    Refuse(Listing<Refusal>),
-    /// The line is carried out.
-    Run(Compilation),
 }

@@ -1,15 +1,14 @@
-//! A line of `gcc` turned into a question, refusals, or a call of the driver.
+//! A line of `gcc` read into a question, refusals, or items of the driver's line.
 
-ghost use Rattle.drv_cc.specs.Front.{answer_of, front_of, refused_or_run, run_of, run_words};
-ghost use Rattle.drv_cc.specs.Items.{words_of};
+ghost use Rattle.drv_cc.specs.Front.{answer_of, front_of, line_items, refused_or_run, run_of};
 ghost use Rattle.drv_cc.specs.Kept.{kept, last_argument, refusals};
-ghost use Rattle.std.specs.List.{flat_map};
-ghost use Rattle.std.specs.Prelude.{◌≡◌, ◌++◌, IfOk, OnOk, codes};
+ghost use Rattle.std.specs.Prelude.{◌≡◌, IfOk, codes};
 
-use crate::adding::add_words;
 use crate::item::Item;
 use crate::judging::refusals;
 use crate::keeping::{is_asked, kept, last_argument};
+use crate::line_adding::add_items;
+use crate::line_items::add_kept;
 use crate::quoting::children;
 use crate::reading::items_of;
 use crate::sources::inputs;
@@ -18,28 +17,18 @@ use crate::{Answer, Call, Surroundings};
 use drv_words::{Listing, Word};
 use std::alloc::{AllocError, Global};
 
-/// Adds the words that items are spelled as.
-pub(crate) fn add_spelled(items: &[Item], words: &mut Listing<Word>) -> Result<(), AllocError>
-    ensures { OnOk result (words.new ≡ words.old ++ flat_map words_of items.now) }
-{
-    for item in items {
-        item.add_words(words)?;
-    }
-    Ok(())
-}
-
-/// The driver's words for a line whose items these are.
-fn run_words(
+/// The items of the driver's line for these items.
+fn line_items(
     alloc: Global,
     around: &Surroundings,
     items: &[Item],
-) -> Result<Listing<Word>, AllocError>
-    ensures { IfOk result (λ words. words ≡ run_words around.now items.now) }
+) -> Result<Listing<drv_args::Item>, AllocError>
+    ensures { IfOk result (λ given. given ≡ line_items around.now items.now) }
 {
-    let mut words = Listing::new(alloc);
-    add_spelled(items, &mut words)?;
-    add_words(alloc, around, items, &mut words)?;
-    Ok(words)
+    let mut given = Listing::new(alloc);
+    add_kept(items, &mut given)?;
+    add_items(alloc, around, items, &mut given)?;
+    Ok(given)
 }
 
 /// The file that a line names for its output, if it names one (GCC manual, "Overall Options", -o).
@@ -56,12 +45,12 @@ pub(crate) fn output(alloc: Global, items: &[Item]) -> Result<Option<Word>, Allo
 fn call_of(alloc: Global, around: &Surroundings, items: &[Item]) -> Result<Answer, AllocError>
     ensures { IfOk result (λ answer. answer ≡ run_of around.now items.now) }
 {
-    let words = run_words(alloc, around, items)?;
+    let given = line_items(alloc, around, items)?;
     let inputs = inputs(alloc, items)?;
     let output = output(alloc, items)?;
     let children = children(alloc, around, items)?;
     Ok(Answer::Run(Call {
-        words,
+        items: given,
         inputs,
         output,
         children,
@@ -112,15 +101,15 @@ fn answer_of(
 }
 
 /// The answer to a line of `gcc` (GCC manual, "Invoking GCC"): a question for the compiler,
-/// refusals, or words for the driver.
+/// refusals, or items of the driver's line, which `drv_args::line_of` makes a line of.
 ///
 /// `args` are the words of the line without the program's name, response files expanded. The lines
 /// of `known` are the names of options beyond this crate's table, as `gcc --completion=-` says
 /// them, those that end with `=` with any argument; the search is quick where they are sorted by
 /// their bytes. `named` are names of switches that spec files of the line have, which no option has
-/// to be, those that end with `*` with any rest. Each word of the answer is spelled as gcc's driver
-/// hands it on. Of options of one class the last stays. After them follows what gcc's driver adds:
-/// words that begin with `--gdrv-` are for the spec file.
+/// to be, those that end with `*` with any rest. Of options of one class the last stays. After what
+/// stays follows what gcc's driver adds: switches that begin with `--gdrv-` are for the spec file.
+/// No words are made of the items: an empty argument is one.
 ///
 /// # Errors
 /// An allocation was refused.

@@ -4,22 +4,23 @@ ghost use Rattle.drv_cc.specs.Items.{items_of};
 ghost use Rattle.drv_cc.specs.Kept.{kept};
 ghost use Rattle.drv_cc.specs.SelfSpecs.{answer_with, front_with, given_items, given_refusals};
 ghost use Rattle.drv_cc.specs.SelfSpecs.{given_refused, is_late, refused_or_run_with, run_with};
-ghost use Rattle.drv_cc.specs.SelfSpecs.{seen, seen_items, thread_item, words_with};
+ghost use Rattle.drv_cc.specs.SelfSpecs.{items_with, seen, seen_items, switches_with};
+ghost use Rattle.drv_cc.specs.SelfSpecs.{thread_item};
 ghost use Rattle.std.specs.List.{filter};
 ghost use Rattle.std.specs.Prelude.{◌≡◌, ◌++◌, IfOk, None, OnOk, map, not};
 
-use crate::adding::{add_folder_words, add_thread_words};
+use crate::adding::{LookedFor, add_path, add_thread_words};
 use crate::checks::add_check_words;
 use crate::classes::is;
 use crate::collecting::children_with;
-use crate::fronting::{add_spelled, output};
+use crate::fronting::output;
 use crate::hiding::live;
 use crate::item::Item;
 use crate::judging::refuse;
 use crate::keeping::kept;
 use crate::levels::add_levels_with;
+use crate::line_adding::{add_pipe, add_program_items, add_switches};
 use crate::line_items::add_kept;
-use crate::piping::add_pipe_words;
 use crate::reading::items_of;
 use crate::sides::add_side_words;
 use crate::sources::inputs;
@@ -179,27 +180,49 @@ fn given_refusals(
     Ok(refused)
 }
 
-/// The driver's words for a line with these items, of whose switches these are left, and to which
-/// these are given.
-fn words_with(
+/// The words that are switches and follow the folders of programs.
+fn switches_with(
+    alloc: Global,
+    around: &Surroundings,
+    items: &[Item],
+    given: &[Item],
+) -> Result<Listing<Word>, AllocError>
+    ensures { IfOk result (λ words. words ≡ switches_with around.now items.now given.now) }
+{
+    let all = both(alloc, items, given)?;
+    let mut words = Listing::new(alloc);
+    add_path(
+        alloc,
+        LookedFor::Libraries,
+        &around.library_path,
+        &mut words,
+    )?;
+    add_side_words(alloc, items, &mut words)?;
+    add_levels_with(alloc, items, given, &mut words)?;
+    add_check_words(alloc, all.as_slice(), &mut words)?;
+    Ok(words)
+}
+
+/// The items of the driver's line for a line with these items, of whose switches these are left,
+/// and to which these are given.
+fn items_with(
     alloc: Global,
     around: &Surroundings,
     items: &[Item],
     left: &[Item],
     given: &[Item],
-) -> Result<Listing<Word>, AllocError>
-    ensures { IfOk result (λ words. words ≡ words_with around.now items.now left.now given.now) }
+) -> Result<Listing<drv_args::Item>, AllocError>
+    ensures { IfOk result (λ made. made ≡ items_with around.now items.now left.now given.now) }
 {
     let all = both(alloc, items, given)?;
-    let mut words = Listing::new(alloc);
-    add_spelled(left, &mut words)?;
-    add_spelled(given, &mut words)?;
-    add_folder_words(alloc, around, all.as_slice(), &mut words)?;
-    add_side_words(alloc, items, &mut words)?;
-    add_levels_with(alloc, items, given, &mut words)?;
-    add_check_words(alloc, all.as_slice(), &mut words)?;
-    add_pipe_words(alloc, all.as_slice(), &mut words)?;
-    Ok(words)
+    let switches = switches_with(alloc, around, items, given)?;
+    let mut made = Listing::new(alloc);
+    add_kept(left, &mut made)?;
+    add_kept(given, &mut made)?;
+    add_program_items(alloc, around, all.as_slice(), &mut made)?;
+    add_switches(alloc, switches.as_slice(), &mut made)?;
+    add_pipe(alloc, all.as_slice(), &mut made)?;
+    Ok(made)
 }
 
 /// The call of a line with such items.
@@ -212,12 +235,12 @@ fn run_with(
 ) -> Result<Answer, AllocError>
     ensures { IfOk result (λ answer. answer ≡ run_with around.now items.now left.now given.now) }
 {
-    let words = words_with(alloc, around, items, left, given)?;
+    let made = items_with(alloc, around, items, left, given)?;
     let inputs = inputs(alloc, items)?;
     let output = output(alloc, items)?;
     let children = children_with(alloc, around, items, left, given)?;
     Ok(Answer::Run(Call {
-        words,
+        items: made,
         inputs,
         output,
         children,
@@ -263,7 +286,7 @@ fn answer_with(
 }
 
 /// The answer to a line of `gcc` whose spec files give it options (GCC, "gcc.cc", do_self_spec):
-/// refusals, or words for the driver. The line itself is one that `front` has words for.
+/// refusals, or items of the driver's line. The line itself is one that `front` has items for.
 ///
 /// The other arguments are those of `front`. Those switches of the line stay that the text did not
 /// hide. What the text gives follows them, each word as on the line; a class is pruned among these

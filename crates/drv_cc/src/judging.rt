@@ -1,12 +1,13 @@
 //! What is refused of a line.
 
 ghost use Rattle.drv_cc.specs.Kept.{before_star, is_named, is_vendors, names, refusals};
-ghost use Rattle.drv_cc.specs.Kept.{refused_item};
+ghost use Rattle.drv_cc.specs.Kept.{is_lacking, refused_item, refused_line, unnamed_from};
 ghost use Rattle.std.specs.List.{list_any};
 ghost use Rattle.std.specs.Option.{option_copied};
-ghost use Rattle.std.specs.Prelude.{◌≡◌, ◌++◌, IfOk, OnOk};
+ghost use Rattle.std.specs.Prelude.{◌≡◌, ◌++◌, IfOk, OnOk, false};
 
 use crate::Refusal;
+use crate::classes::is;
 use crate::item::Item;
 use crate::keeping::{has, has_input};
 use crate::reading::rest_after;
@@ -70,6 +71,38 @@ pub(crate) fn refuse(
     Ok(())
 }
 
+/// Whether an option lacks its argument.
+fn is_lacking(part: Part) -> bool
+    ensures { result ≡ is_lacking part }
+{
+    matches!(part, Part::Lacking)
+}
+
+/// Whether the last `-o` has an empty argument.
+fn is_unnamed(items: &[Item]) -> bool
+    ensures { result ≡ unnamed_from false items.now }
+{
+    let mut unnamed = false;
+    for item in items {
+        if is(item.name.as_bytes(), b"-o") && !is_lacking(item.part) {
+            unnamed = is(item.argument.as_bytes(), b"");
+        }
+    }
+    unnamed
+}
+
+/// Adds the refusal of a whole line, if it is refused.
+fn refuse_line(items: &[Item], refusals: &mut Listing<Refusal>) -> Result<(), AllocError>
+    ensures { OnOk result (refusals.new ≡ refusals.old ++ refused_line items.now) }
+{
+    if is_unnamed(items) {
+        refusals.push(Refusal::EmptyOutput)?;
+    } else if !has_input(items) {
+        refusals.push(Refusal::NoInput)?;
+    }
+    Ok(())
+}
+
 /// The refusals of a line, in its order.
 pub(crate) fn refusals(
     alloc: Global,
@@ -82,8 +115,6 @@ pub(crate) fn refusals(
     for item in items {
         refuse(named, item, &mut refused)?;
     }
-    if !has_input(items) {
-        refused.push(Refusal::NoInput)?;
-    }
+    refuse_line(items, &mut refused)?;
     Ok(refused)
 }

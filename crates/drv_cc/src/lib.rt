@@ -1,4 +1,4 @@
-//! A line of `gcc` as words of the driver.
+//! A line of `gcc` as items of the driver's line.
 #![tactic(auto)]
 
 mod adding;
@@ -16,7 +16,6 @@ mod keeping;
 mod known;
 mod laws;
 mod levels;
-mod line;
 mod line_adding;
 mod line_items;
 mod names;
@@ -35,9 +34,8 @@ mod values;
 mod whole_options;
 mod words;
 
-pub use answer::{Answer, Call, Compilation, Reading, Stages, Surroundings, Variable};
+pub use answer::{Answer, Call, Stages, Surroundings, Variable};
 pub use fronting::front;
 pub use giving::{Given, front_with, seen_items};
 pub use laws::last_level_counts;
-pub use line::read_line;
 pub use refusal::Refusal;

@@ -1,8 +1,9 @@
 //! What is added to a line, as items of the driver's line.
 
-ghost use Rattle.drv_cc.specs.Front.{folders};
-ghost use Rattle.drv_cc.specs.LineItems.{added_items, alone, item_of, prefix, prefixes};
-ghost use Rattle.drv_cc.specs.LineItems.{program_items, switch_words};
+ghost use Rattle.drv_args.specs.declared.option_table.Effect.TheVariants as added;
+ghost use Rattle.drv_cc.specs.Front.{added_items, added_pipe, added_switches, folders, prefix};
+ghost use Rattle.drv_cc.specs.Front.{prefixes, program_items};
+ghost use Rattle.drv_cc.specs.LineItems.{alone, item_of};
 ghost use Rattle.std.specs.Prelude.{◌≡◌, ◌∷◌, ◌++◌, [], IfOk, OnOk, map};
 
 use crate::Surroundings;
@@ -54,6 +55,17 @@ fn add_alone(
     Ok(())
 }
 
+/// Adds each word as a switch.
+pub(crate) fn add_switches(
+    alloc: Global,
+    words: &[Word],
+    given: &mut Listing<drv_args::Item>,
+) -> Result<(), AllocError>
+    ensures { OnOk result (given.new ≡ given.old ++ map (alone added.Switch) words.now) }
+{
+    add_alone(alloc, Effect::Switch, words, given)
+}
+
 /// Adds each folder as a prefix.
 fn add_prefixes(
     alloc: Global,
@@ -93,7 +105,7 @@ fn add_all_prefixes(
 }
 
 /// Adds the folders of programs, where a folder or a spec file is given.
-fn add_program_items(
+pub(crate) fn add_program_items(
     alloc: Global,
     around: &Surroundings,
     items: &[Item],
@@ -109,12 +121,12 @@ fn add_program_items(
 }
 
 /// The words that are switches and follow the folders of programs.
-fn switch_words(
+fn added_switches(
     alloc: Global,
     around: &Surroundings,
     items: &[Item],
 ) -> Result<Listing<Word>, AllocError>
-    ensures { IfOk result (λ words. words ≡ switch_words around.now items.now) }
+    ensures { IfOk result (λ words. words ≡ added_switches around.now items.now) }
 {
     let mut words = Listing::new(alloc);
     add_path(
@@ -129,6 +141,24 @@ fn switch_words(
     Ok(words)
 }
 
+/// Adds the pipe, where there is one.
+pub(crate) fn add_pipe(
+    alloc: Global,
+    items: &[Item],
+    given: &mut Listing<drv_args::Item>,
+) -> Result<(), AllocError>
+    ensures { OnOk result (given.new ≡ given.old ++ added_pipe items.now) }
+{
+    let mut words = Listing::new(alloc);
+    add_pipe_words(alloc, items, &mut words)?;
+    add_alone(
+        alloc,
+        Effect::TurnsOn(Setting::Pipe),
+        words.as_slice(),
+        given,
+    )
+}
+
 /// Adds all that gcc's driver adds.
 pub(crate) fn add_items(
     alloc: Global,
@@ -140,12 +170,9 @@ pub(crate) fn add_items(
 {
     let mut threads = Listing::new(alloc);
     add_thread_words(alloc, items, &mut threads)?;
-    add_alone(alloc, Effect::Switch, threads.as_slice(), given)?;
+    add_switches(alloc, threads.as_slice(), given)?;
     add_program_items(alloc, around, items, given)?;
-    let switches = switch_words(alloc, around, items)?;
-    add_alone(alloc, Effect::Switch, switches.as_slice(), given)?;
-    let mut pipes = Listing::new(alloc);
-    add_pipe_words(alloc, items, &mut pipes)?;
-    let effect = Effect::TurnsOn(Setting::Pipe);
-    add_alone(alloc, effect, pipes.as_slice(), given)
+    let switches = added_switches(alloc, around, items)?;
+    add_switches(alloc, switches.as_slice(), given)?;
+    add_pipe(alloc, items, given)
 }

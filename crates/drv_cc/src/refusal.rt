@@ -21,6 +21,9 @@ pub enum Refusal {
     /// A spec file of the line gives more than options: another command, a pipe or a temporary.
     #[error("more than options in a spec file")]
     GivenMore,
+    /// The last `-o` has an empty argument.
+    #[error("output without a name")]
+    EmptyOutput,
     /// There is neither a file nor a library.
     #[error("no input files")]
     NoInput,

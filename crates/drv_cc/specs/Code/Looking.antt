@@ -1,10 +1,9 @@
-use Rattle.drv_cc.specs.Front.{library_words, prefix_words}
+use Rattle.drv_cc.specs.Front.{library_words}
 use Rattle.drv_cc.specs.declared.adding.LookedFor.{LookedFor}
-use Rattle.drv_cc.specs.declared.adding.LookedFor.TheVariants.{Any, Libraries, Programs}
+use Rattle.drv_cc.specs.declared.adding.LookedFor.TheVariants.{Any, Libraries}
 use Rattle.std.specs.Prelude.{List, [], ◌∷◌, ℕ}
 
 -- The words for a folder of a path, by what is looked for there.
 abbrev pub words_for : LookedFor → List ℕ → List (List ℕ)
-words_for Programs folder = prefix_words folder
 words_for Libraries folder = library_words folder
 words_for Any folder = folder ∷ []

@@ -1,4 +1,4 @@
-use Rattle.drv_cc.specs.LineItems.{prefix}
+use Rattle.drv_cc.specs.Front.{prefix}
 use Rattle.std.proofs.Common.{◌≡◌, ◌++◌, drop, map}
 use Rattle.drv_cc.proofs.line_adding.add_prefixes.Given as goal
 
