@@ -1,3 +1,4 @@
+use Rattle.drv_args.specs.declared.items.Item.{Item}
 use Rattle.drv_cc.specs.declared.answer.Stages.{Stages}
 use Rattle.drv_cc.specs.declared.answer.Surroundings.{Surroundings}
 use Rattle.drv_compile.specs.Beside.{given_by, named_file, spec_file, written_beside}
@@ -21,11 +22,11 @@ pub named_by_variable : {E : Type 0} (F : Facts) (name : List ℕ) (value : Opti
 named_by_variable F name value (Err e) named known is = tt
 named_by_variable F name value (Ok path) named known is = ap (λ v. asked v >>= λ w. Is (given_by w)) (ap (variable_of F) (sym named) ∙ known) ∙ ap Is (sym is)
 
-pub texts_found : {E : Type 0} (F : Facts) (specs : List ℕ) (words : List (List ℕ)) (stages : Stages) (part path : List ℕ) (kind : PathKind) (result : Result Texts E)
-    → part ≡ texts_for specs words stages → kind_of F part ≡ Some kind → path ≡ texts_or specs part kind
-    → IfOk result (λ texts. texts_at F path ≡ Is texts) → IfOk result (λ texts. texts_of F specs words stages ≡ Is texts)
-texts_found F specs words stages part path kind (Err e) part_is known path_is is = tt
-texts_found F specs words stages part path kind (Ok texts) part_is known path_is is =
+pub texts_found : {E : Type 0} (F : Facts) (specs : List ℕ) (items : List Item) (stages : Stages) (part path : List ℕ) (kind : PathKind) (result : Result Texts E)
+    → part ≡ texts_for specs items stages → kind_of F part ≡ Some kind → path ≡ texts_or specs part kind
+    → IfOk result (λ texts. texts_at F path ≡ Is texts) → IfOk result (λ texts. texts_of F specs items stages ≡ Is texts)
+texts_found F specs items stages part path kind (Err e) part_is known path_is is = tt
+texts_found F specs items stages part path kind (Ok texts) part_is known path_is is =
     ap (λ p. asked (kind_of F p) >>= λ k. texts_at F (texts_or specs p k)) (sym part_is)
     ∙ ap (λ k. asked k >>= λ k'. texts_at F (texts_or specs part k')) known
     ∙ ap (texts_at F) (sym path_is) ∙ is

@@ -1,7 +1,6 @@
 use Rattle.drv_args.specs.declared.fault.ArgsFault.TheVariants as args_fault
 use Rattle.drv_args.specs.declared.fault.ArgsFault.{ArgsFault}
 use Rattle.drv_args.specs.declared.items.Item.{Item}
-use Rattle.drv_args.specs.declared.line.Expanded.{Expanded}
 use Rattle.drv_args.specs.declared.line.Line.{Line}
 use Rattle.drv_args.specs.declared.line.Settings.{Settings}
 use Rattle.drv_cc.specs.SelfSpecs.{front_with, seen_items}
@@ -9,8 +8,9 @@ use Rattle.drv_cc.specs.declared.answer.Answer.{Answer}
 use Rattle.drv_cc.specs.declared.answer.Surroundings.{Surroundings}
 use Rattle.drv_cc.specs.declared.giving.Given.{Given}
 use Rattle.drv_compile.specs.Beside.{known_names}
-use Rattle.drv_compile.specs.Reading.{words_names}
+use Rattle.drv_compile.specs.Reading.{items_names}
 use Rattle.drv_compile.specs.SelfSpecs.{Ended, answer_after, answer_by, of_job, of_outcome, self_worked, worked_by, worked_for, worked_of, worked_over}
+use Rattle.drv_compile.specs.declared.running.DriverLine.{DriverLine}
 use Rattle.drv_compile.specs.declared.self_specs.Worked.TheVariants.{Gives, Nothing}
 use Rattle.drv_compile.specs.declared.self_specs.Worked.{Worked}
 use Rattle.drv_machine.specs.Context.{Context}
@@ -119,38 +119,38 @@ no_text now lent F settings set line found shows is = ap (worked_by F settings s
 abbrev with_names : Surroundings → List ℕ → List (List ℕ) → Given → Option (List ℕ) → List (List ℕ) → Ended (Option Answer)
 with_names around known args given options named = Is (Ok (Some (front_with (unwrap_or options known) named around args given)))
 
-pub options_given : {E : Type 0} (F : Facts) (specs : List ℕ) (around : Surroundings) (known : List ℕ) (args : List (List ℕ)) (words : Expanded) (given : Given)
-    (options : Option (List ℕ)) (all named : List (List ℕ)) (names : List ℕ) (slice : List (List ℕ)) (result : Result Answer E)
-    → known_names F specs ≡ Is options → all ≡ words.words → words_names F all ≡ Is named → names ≡ unwrap_or options known → slice ≡ named
-    → IfOk result (λ answer. answer ≡ front_with names slice around args given) → IfOk result (λ answer. answer_by F specs around known args words (Gives given) ≡ Is (Ok (Some answer)))
-options_given F specs around known args words given options all named names slice (Err e) asked same found names_are slice_is is = tt
-options_given F specs around known args words given options all named names slice (Ok answer) asked same found names_are slice_is is =
-    ap (λ k. k >>= λ o. words_names F words.words >>= λ n. with_names around known args given o n) asked
-    ∙ ap (λ w. words_names F w >>= λ n. with_names around known args given options n) (sym same)
+pub options_given : {E : Type 0} (F : Facts) (specs : List ℕ) (around : Surroundings) (known : List ℕ) (args : List (List ℕ)) (first : DriverLine) (given : Given)
+    (options : Option (List ℕ)) (all : List Item) (named : List (List ℕ)) (names : List ℕ) (slice : List (List ℕ)) (result : Result Answer E)
+    → known_names F specs ≡ Is options → all ≡ first.items → items_names F all ≡ Is named → names ≡ unwrap_or options known → slice ≡ named
+    → IfOk result (λ answer. answer ≡ front_with names slice around args given) → IfOk result (λ answer. answer_by F specs around known args first (Gives given) ≡ Is (Ok (Some answer)))
+options_given F specs around known args first given options all named names slice (Err e) asked same found names_are slice_is is = tt
+options_given F specs around known args first given options all named names slice (Ok answer) asked same found names_are slice_is is =
+    ap (λ k. k >>= λ o. items_names F first.items >>= λ n. with_names around known args given o n) asked
+    ∙ ap (λ w. items_names F w >>= λ n. with_names around known args given options n) (sym same)
     ∙ ap (λ k. k >>= λ n. with_names around known args given options n) found
     ∙ ap (λ o. Is (Ok (Some (front_with o named around args given)))) (sym names_are)
     ∙ ap (λ n. Is (Ok (Some (front_with names n around args given)))) (sym slice_is)
     ∙ ap (λ a. Is (Ok (Some a))) (sym is)
 
 -- the answer, once the text was run
-abbrev after_work : Facts → List ℕ → Surroundings → List ℕ → List (List ℕ) → Expanded → List Item → Ended (Option Answer)
-after_work F specs around known args words items = answer_after F specs around known args words (self_worked F words items)
+abbrev after_work : Facts → List ℕ → Surroundings → List ℕ → List (List ℕ) → DriverLine → List Item → Ended (Option Answer)
+after_work F specs around known args first items = answer_after F specs around known args first (self_worked F first items)
 
-by_work : (F : Facts) (specs : List ℕ) (around : Surroundings) (known : List ℕ) (args : List (List ℕ)) (words : Expanded) (items : List Item) (ending : Ending)
-    → items ≡ seen_items known args → (ending ≡ OutOfMemory) ⊎ (self_worked F words items ≡ Is (Err ending))
-    → (ending ≡ OutOfMemory) ⊎ (after_work F specs around known args words (seen_items known args) ≡ Is (Err ending))
-by_work F specs around known args words items ending are (inl memory) = inl memory
-by_work F specs around known args words items ending are (inr ends) =
-    inr (ap (after_work F specs around known args words) (sym are) ∙ ap (answer_after F specs around known args words) ends)
+by_work : (F : Facts) (specs : List ℕ) (around : Surroundings) (known : List ℕ) (args : List (List ℕ)) (first : DriverLine) (items : List Item) (ending : Ending)
+    → items ≡ seen_items known args → (ending ≡ OutOfMemory) ⊎ (self_worked F first items ≡ Is (Err ending))
+    → (ending ≡ OutOfMemory) ⊎ (after_work F specs around known args first (seen_items known args) ≡ Is (Err ending))
+by_work F specs around known args first items ending are (inl memory) = inl memory
+by_work F specs around known args first items ending are (inr ends) =
+    inr (ap (after_work F specs around known args first) (sym are) ∙ ap (answer_after F specs around known args first) ends)
 
-pub work_ends : (F : Facts) (specs : List ℕ) (around : Surroundings) (known : List ℕ) (args : List (List ℕ)) (words : Expanded) (items : List Item) (ending : Ending) (result : Result (Option Answer) Ending)
-    → items ≡ seen_items known args → IsErrAnd result (λ e. e ≡ ending) → (ending ≡ OutOfMemory) ⊎ (self_worked F words items ≡ Is (Err ending))
-    → GivesKnown OutOfMemory (λ answer. answer) result (after_work F specs around known args words (seen_items known args))
-work_ends F specs around known args words items ending result are is given =
-    ends_as ending result (λ answer. answer) (after_work F specs around known args words (seen_items known args)) is (by_work F specs around known args words items ending are given)
+pub work_ends : (F : Facts) (specs : List ℕ) (around : Surroundings) (known : List ℕ) (args : List (List ℕ)) (first : DriverLine) (items : List Item) (ending : Ending) (result : Result (Option Answer) Ending)
+    → items ≡ seen_items known args → IsErrAnd result (λ e. e ≡ ending) → (ending ≡ OutOfMemory) ⊎ (self_worked F first items ≡ Is (Err ending))
+    → GivesKnown OutOfMemory (λ answer. answer) result (after_work F specs around known args first (seen_items known args))
+work_ends F specs around known args first items ending result are is given =
+    ends_as ending result (λ answer. answer) (after_work F specs around known args first (seen_items known args)) is (by_work F specs around known args first items ending are given)
 
-pub work_answers : (F : Facts) (specs : List ℕ) (around : Surroundings) (known : List ℕ) (args : List (List ℕ)) (words : Expanded) (items : List Item) (worked : Worked) (answer : Option Answer)
-    → items ≡ seen_items known args → self_worked F words items ≡ Is (Ok worked) → answer_by F specs around known args words worked ≡ Is (Ok answer)
-    → after_work F specs around known args words (seen_items known args) ≡ Is (Ok answer)
-work_answers F specs around known args words items worked answer are done is =
-    ap (after_work F specs around known args words) (sym are) ∙ ap (answer_after F specs around known args words) done ∙ is
+pub work_answers : (F : Facts) (specs : List ℕ) (around : Surroundings) (known : List ℕ) (args : List (List ℕ)) (first : DriverLine) (items : List Item) (worked : Worked) (answer : Option Answer)
+    → items ≡ seen_items known args → self_worked F first items ≡ Is (Ok worked) → answer_by F specs around known args first worked ≡ Is (Ok answer)
+    → after_work F specs around known args first (seen_items known args) ≡ Is (Ok answer)
+work_answers F specs around known args first items worked answer are done is =
+    ap (after_work F specs around known args first) (sym are) ∙ ap (answer_after F specs around known args first) done ∙ is

@@ -1,9 +1,10 @@
+use Rattle.drv_args.specs.declared.items.Item.{Item}
 use Rattle.drv_cc.specs.Front.{front_of}
 use Rattle.drv_cc.specs.declared.answer.Answer.{Answer}
 use Rattle.drv_cc.specs.declared.answer.Surroundings.{Surroundings}
 use Rattle.drv_cc.specs.declared.refusal.Refusal.{Refusal}
 use Rattle.drv_compile.specs.Beside.{known_names}
-use Rattle.drv_compile.specs.Reading.{answer_names, file_names, files_names, folders_given, has_unknown, known_answer, line_read, names_read, read_by, refused_answer, specs_given, unknown_switches, words_names}
+use Rattle.drv_compile.specs.Reading.{answer_names, file_names, files_names, folders_given, has_unknown, items_names, known_answer, line_read, names_read, read_by, refused_answer, specs_given, unknown_switches}
 use Rattle.drv_compile.specs.declared.reading.Reading.{Reading}
 use Rattle.drv_search.specs.Search.{Adds, file_found, prefixes_of}
 use Rattle.drv_search.specs.declared.prefixes.Prefixes.{Prefixes}
@@ -48,12 +49,12 @@ pub file_read : {X E : Type 0} (F : Facts) (prefixes : Prefixes) (file path : Li
 file_read F prefixes file path answer before after (Ok x) found read grown = (names_read answer, rw (found, read) refl, grown)
 file_read F prefixes file path answer before after (Err e) found read grown = tt
 
--- those of words of the driver
-pub words_read : {E : Type 0} (F : Facts) (words dirs files : List (List ℕ)) (prefixes : Prefixes) (result : Result (List (List ℕ)) E)
-    → dirs ≡ folders_given words → files ≡ specs_given words → prefixes_of F dirs ≡ Is prefixes
-    → IfOk result (λ names. files_names F prefixes files ≡ Is names) → IfOk result (λ names. words_names F words ≡ Is names)
-words_read F words dirs files prefixes (Err e) dirs_are files_are made is = tt
-words_read F words dirs files prefixes (Ok names) dirs_are files_are made is = rw (sym dirs_are, sym files_are, made) is
+-- those of items of the driver's line
+pub items_read : {E : Type 0} (F : Facts) (items : List Item) (dirs files : List (List ℕ)) (prefixes : Prefixes) (result : Result (List (List ℕ)) E)
+    → dirs ≡ folders_given items → files ≡ specs_given items → prefixes_of F dirs ≡ Is prefixes
+    → IfOk result (λ names. files_names F prefixes files ≡ Is names) → IfOk result (λ names. items_names F items ≡ Is names)
+items_read F items dirs files prefixes (Err e) dirs_are files_are made is = tt
+items_read F items dirs files prefixes (Ok names) dirs_are files_are made is = rw (sym dirs_are, sym files_are, made) is
 
 -- the answer to a line that is refused without its spec files
 pub refused_read : {E : Type 0} (F : Facts) (known : List ℕ) (around : Surroundings) (words : List (List ℕ)) (refusals : List Refusal)

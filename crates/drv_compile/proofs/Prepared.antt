@@ -1,3 +1,4 @@
+use Rattle.drv_args.specs.declared.items.Item.{Item}
 use Rattle.drv_args.specs.declared.line.Expanded.{Expanded}
 use Rattle.drv_cc.specs.declared.answer.Call.{Call}
 use Rattle.drv_cc.specs.declared.answer.Variable.{Variable}
@@ -140,15 +141,15 @@ performs_noted calling chain call given seed before after result knows free (eve
 
 -- the work of a line
 
-pub planned_so : (F : Facts) (calling : Calling) (chain : Toolchain) (call : Call) (given : Expanded) (seed : ℕ) (driven : Driven) (specs said hint remark : List ℕ) (words : List (List ℕ))
-    (children : List Variable) (work : Work) → specs ≡ chain.specs → words ≡ driven.line.words → children ≡ driven.children → Drives F chain call given driven
-    → opening F specs words children ≡ Is said → Works F driven.line seed work → hint ≡ gone_text calling.name chain.specs calling.machine → remark ≡ []
+pub planned_so : (F : Facts) (calling : Calling) (chain : Toolchain) (call : Call) (given : Expanded) (seed : ℕ) (driven : Driven) (specs said hint remark : List ℕ) (items : List Item)
+    (children : List Variable) (work : Work) → specs ≡ chain.specs → items ≡ driven.line.items → children ≡ driven.children → Drives F chain call given driven
+    → opening F specs items children ≡ Is said → Works F driven.line seed work → hint ≡ gone_text calling.name chain.specs calling.machine → remark ≡ []
     → IsPlanned F calling chain call given seed (record { work = work; children = driven.children; said = said; hint = hint; remark = remark })
-planned_so F calling chain call given seed driven specs said hint remark words children work same are set drives opens works hints none = record {
+planned_so F calling chain call given seed driven specs said hint remark items children work same are set drives opens works hints none = record {
   driven = driven;
   drives = drives;
   opens =
-      sym (ap (λ s. opening F s words children) same ∙ ap (λ w. opening F chain.specs w children) are ∙ ap (opening F chain.specs driven.line.words) set) ∙ opens;
+      sym (ap (λ s. opening F s items children) same ∙ ap (λ w. opening F chain.specs w children) are ∙ ap (opening F chain.specs driven.line.items) set) ∙ opens;
   works = works;
   children = refl;
   hint = hints;

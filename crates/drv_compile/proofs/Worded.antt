@@ -9,6 +9,7 @@ use Rattle.drv_compile.specs.Runs.{Stops}
 use Rattle.drv_compile.specs.Tasks.{IfTold}
 use Rattle.drv_compile.specs.Words.{IsUnexpanded, IsUnfronted, IsUnread, RefusesWords, Words, first_unread, fronted, if_unread, not_expanded, not_fronted, not_readable, or_later, stop_of, unread_at}
 use Rattle.drv_compile.specs.declared.calling.Calling.{Calling}
+use Rattle.drv_compile.specs.declared.running.DriverLine.{DriverLine}
 use Rattle.drv_compile.specs.declared.stop.Stop.TheVariants.{Memory, Told}
 use Rattle.drv_compile.specs.declared.stop.Stop.{Stop}
 use Rattle.drv_run.specs.Drives.{stopped_by_args, stopped_by_c99}
@@ -106,11 +107,11 @@ c99_told calling expanded fault stop is given = subst (λ s. IfTold s (IsUnfront
     by fault (inl memory) = subst (λ f. IfTold (stop_of calling.name (stopped_by_c99 f)) (IsUnfronted calling expanded)) (sym memory) tt
     by fault (inr refuses) = refused fault refuses
 
-pub driver_told : (F : Facts) (name : List ℕ) (words : Expanded) (seed : ℕ) (ending : Ending) (stop : Stop) → stop ≡ stop_of name ending
-    → Stops F words seed ending → IfTold stop (IsFailure F name words seed)
-driver_told F name words seed ending stop is stops = subst (λ s. IfTold s (IsFailure F name words seed)) (sym is) (by ending stops)
+pub driver_told : (F : Facts) (name : List ℕ) (own : DriverLine) (seed : ℕ) (ending : Ending) (stop : Stop) → stop ≡ stop_of name ending
+    → Stops F own seed ending → IfTold stop (IsFailure F name own seed)
+driver_told F name own seed ending stop is stops = subst (λ s. IfTold s (IsFailure F name own seed)) (sym is) (by ending stops)
   where
-    by : (ending : Ending) → Stops F words seed ending → IfTold (stop_of name ending) (IsFailure F name words seed)
+    by : (ending : Ending) → Stops F own seed ending → IfTold (stop_of name ending) (IsFailure F name own seed)
     by (Refused refusal) stops = (refusal, stops, refl)
     by (Done status) stops = tt
     by OutOfMemory stops = tt

@@ -54,13 +54,13 @@ one_command command = record {
 abbrev pub question : List ℕ → List (List ℕ) → Work
 question compiler args = CarryOut (one_command (record { program = compiler; words = args })) (record { telling = Notices; pass_codes = GreatestCode; window = 1 })
 
--- A line that is carried out: nothing speaks against it, its output is no input, and the words that the driver is called with denote work.
+-- A line that is carried out: nothing speaks against it, its output is no input, and the items that the driver is called with denote work.
 pub record Performs (F : Facts) (calling : Calling) (chain : Toolchain) (call : Call) (given : Expanded) (seed : ℕ) (events : List HostEvent) (prepared : Prepared) : Type 0 where
   pub driven : Driven
   pub free : objection F calling.name call.inputs ≡ Is []
   pub apart : Overwrites call.inputs call.output events false
   pub drives : Drives F chain call given driven
-  pub opens : opening F chain.specs driven.line.words driven.children ≡ Is prepared.said
+  pub opens : opening F chain.specs driven.line.items driven.children ≡ Is prepared.said
   pub works : Works F driven.line seed prepared.work
   pub children : prepared.children ≡ driven.children
   pub hint : prepared.hint ≡ gone_text calling.name chain.specs calling.machine

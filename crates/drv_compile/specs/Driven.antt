@@ -1,4 +1,7 @@
 use Rattle.drv_args.specs.declared.line.Expanded.{Expanded}
+use Rattle.drv_args.specs.declared.items.Item.{Item}
+use Rattle.drv_args.specs.declared.option_table.Effect.TheVariants as effect
+use Rattle.drv_cc.specs.LineItems.{alone, item_of}
 use Rattle.drv_cc.specs.declared.answer.Answer.TheVariants.{Ask, Refuse, Run}
 use Rattle.drv_cc.specs.declared.answer.Answer.{Answer}
 use Rattle.drv_cc.specs.declared.answer.Call.{Call}
@@ -12,32 +15,33 @@ use Rattle.drv_compile.specs.Words.{told_refusal}
 use Rattle.drv_compile.specs.declared.calling.Calling.{Calling}
 use Rattle.drv_compile.specs.declared.driving.Driven.{Driven}
 use Rattle.drv_compile.specs.declared.parts.Texts.TheVariants.{Damaged, Whole}
+use Rattle.drv_compile.specs.declared.running.DriverLine.{DriverLine}
 use Rattle.drv_compile.specs.declared.tasks.Toolchain.{Toolchain}
 use Rattle.drv_run.specs.declared.ending.Ending.TheVariants.{Refused}
 use Rattle.drv_run.specs.declared.ending.Refusal as driver
 use Rattle.drv_system.specs.Facts.{Facts}
 use Rattle.drv_system.specs.Known.{Is}
-use Rattle.std.specs.Prelude.{◌≡◌, List, [], ◌∷◌, ◌++◌, None, Ok, Err, Option, Some, codes, ℕ}
+use Rattle.std.specs.Prelude.{◌≡◌, List, [], ◌∷◌, None, Ok, Err, Option, Some, codes, ℕ}
 
--- What the driver is called with for a line, over facts: the file that has its texts and the words of the line, with the options that its
+-- What the driver is called with for a line, over facts: the file that has its texts and the items of the line, with the options that its
 -- spec files give it (GCC, "gcc.cc", set_up_specs, do_self_spec; GCC manual, "Overall Options", -specs=).
 
--- The words of the driver: the spec file, that a front precedes it, and those of the front.
-abbrev pub driver_words : List ℕ → List (List ℕ) → List (List ℕ)
-driver_words path words = (codes "-specs=" ++ path) ∷ codes "--gdrv-front" ∷ words
+-- The items of the driver's line: the spec file, that a front precedes it, and those of the front.
+abbrev pub driver_items : List ℕ → List Item → List Item
+driver_items path items = item_of effect.Specs (codes "-specs=") path ∷ alone effect.Switch (codes "--gdrv-front") ∷ items
 
-abbrev pub driver_line : List ℕ → Call → Expanded → Expanded
-driver_line path call given = record { words = driver_words path call.words; from_file = given.from_file }
+abbrev pub driver_line : List ℕ → Call → Expanded → DriverLine
+driver_line path call given = record { items = driver_items path call.items; from_file = given.from_file }
 
 -- a line with the file that has its texts, if that is whole
 abbrev pub IsCalled : Facts → List ℕ → Call → Expanded → Driven → Type 0
 IsCalled F specs call given driven =
-    (path : List ℕ) × (texts_of F specs call.words call.stages ≡ Is (Whole path))
+    (path : List ℕ) × (texts_of F specs call.items call.stages ≡ Is (Whole path))
     × (driven ≡ record { line = driver_line path call given; children = call.children })
 
 abbrev pub IsDamaged : Facts → Calling → List ℕ → Call → List ℕ → Type 0
 IsDamaged F calling specs call text =
-    (path : List ℕ) × (texts_of F specs call.words call.stages ≡ Is (Damaged path)) × (text ≡ damaged_text calling.name path specs calling.machine)
+    (path : List ℕ) × (texts_of F specs call.items call.stages ≡ Is (Damaged path)) × (text ≡ damaged_text calling.name path specs calling.machine)
 
 -- what its spec files give it: the line stays as it is, or another line takes its place
 pub data IsAnswered (F : Facts) (specs : List ℕ) (given : Expanded) (first : Driven) : Option Answer → Driven → Type 0 where

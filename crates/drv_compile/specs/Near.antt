@@ -1,4 +1,4 @@
-use Rattle.drv_cc.specs.declared.refusal.Refusal.TheVariants.{GivenFile, GivenMore, NoArgument, NoInput, NotTaken, UnknownOption}
+use Rattle.drv_cc.specs.declared.refusal.Refusal.TheVariants.{EmptyOutput, GivenFile, GivenMore, NoArgument, NoInput, NotTaken, UnknownOption}
 use Rattle.drv_cc.specs.declared.refusal.Refusal.{Refusal}
 use Rattle.drv_compile.specs.Texts.{refusal_text}
 use Rattle.drv_words.specs.Bytes.{equals}
@@ -35,6 +35,7 @@ IsMeant known (NoArgument option) near = near ≡ None
 IsMeant known (NotTaken option) near = near ≡ None
 IsMeant known (GivenFile word) near = near ≡ None
 IsMeant known GivenMore near = near ≡ None
+IsMeant known EmptyOutput near = near ≡ None
 IsMeant known NoInput near = near ≡ None
 
 abbrev pub IsTold : List ℕ → List (List ℕ) → Refusal → List ℕ → Type 0

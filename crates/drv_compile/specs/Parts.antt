@@ -1,3 +1,4 @@
+use Rattle.drv_args.specs.declared.items.Item.{Item}
 use Rattle.drv_cc.specs.declared.answer.Stages.{Stages}
 use Rattle.drv_compile.specs.Beside.{is_written}
 use Rattle.drv_compile.specs.Places.{texts_for, texts_or}
@@ -15,5 +16,5 @@ texts_if path is_whole = if is_whole then Whole path else Damaged path
 abbrev pub texts_at : Facts → List ℕ → Known Texts
 texts_at F path = is_written F path >>= λ is_whole. Is (texts_if path is_whole)
 
-abbrev pub texts_of : Facts → List ℕ → List (List ℕ) → Stages → Known Texts
-texts_of F specs words stages = asked (kind_of F (texts_for specs words stages)) >>= λ kind. texts_at F (texts_or specs (texts_for specs words stages) kind)
+abbrev pub texts_of : Facts → List ℕ → List Item → Stages → Known Texts
+texts_of F specs items stages = asked (kind_of F (texts_for specs items stages)) >>= λ kind. texts_at F (texts_or specs (texts_for specs items stages) kind)

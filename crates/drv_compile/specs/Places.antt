@@ -1,4 +1,5 @@
-use Rattle.drv_cc.specs.Items.{is_among}
+use Rattle.drv_args.specs.declared.items.Item.{Item}
+use Rattle.drv_cc.specs.Items.{is_among, same}
 use Rattle.drv_cc.specs.Table.{texts}
 use Rattle.drv_cc.specs.declared.answer.Stages.TheVariants.{All, AllOfC, Link, Sources, SourcesOfC}
 use Rattle.drv_cc.specs.declared.answer.Stages.{Stages}
@@ -37,18 +38,21 @@ abbrev pub companion : List ℕ → List ℕ → List ℕ
 companion path ending = without_ending path (before_ending (codes ".specs") path) ++ ending
 
 -- The files beside it hold parts of its texts: for a line without a link, for a line that only links, and for a line that may do both. The
--- first and the last have a shorter one for a line whose sources are all of C. None has the texts that these words and each -gz=.. need, or
--- that a spec file of the line may change. Those for a link lack what --sysroot=.. needs too.
-abbrev pub whole_words : List (List ℕ)
-whole_words =
-    texts (codes "-march=native -mtune=native -save-temps -save-temps=cwd -save-temps=obj -gsplit-dwarf -traditional -traditional-cpp "
-    ++ codes "-no-integrated-cpp -m32 -mx32 -m16")
+-- first and the last have a shorter one for a line whose sources are all of C. None has the texts that these options, those for the machine
+-- of the call and each -gz=.. need, or that a spec file of the line may change. Those for a link lack what --sysroot=.. needs too.
+abbrev pub whole_options : List (List ℕ)
+whole_options =
+    texts (codes "-specs= -save-temps -save-temps=cwd -save-temps=obj -gsplit-dwarf -traditional -traditional-cpp -no-integrated-cpp "
+    ++ codes "-m32 -mx32 -m16")
 
-abbrev pub wants_whole : List ℕ → Bool
-wants_whole word = starts_with nat_eq word (codes "-specs=") || starts_with nat_eq word (codes "-gz=") || is_among whole_words word
+abbrev pub is_native : Item → Bool
+is_native i = is_among (texts (codes "-march= -mtune=")) i.option && same i.argument (codes "native")
 
-abbrev pub is_rooted : List ℕ → Bool
-is_rooted word = starts_with nat_eq word (codes "--sysroot=")
+abbrev pub wants_whole : Item → Bool
+wants_whole i = is_among whole_options i.option || is_native i || starts_with nat_eq i.option (codes "-gz=")
+
+abbrev pub is_rooted : Item → Bool
+is_rooted i = same i.option (codes "--sysroot=")
 
 abbrev pub may_link : Stages → Bool
 may_link SourcesOfC = false
@@ -64,9 +68,9 @@ texts_by specs Link = companion specs (codes ".link")
 texts_by specs AllOfC = companion specs (codes ".c.all")
 texts_by specs All = companion specs (codes ".all")
 
-abbrev pub texts_for : List ℕ → List (List ℕ) → Stages → List ℕ
-texts_for specs words stages =
-    if list_any wants_whole words || (may_link stages && list_any is_rooted words) then specs else texts_by specs stages
+abbrev pub texts_for : List ℕ → List Item → Stages → List ℕ
+texts_for specs items stages =
+    if list_any wants_whole items || (may_link stages && list_any is_rooted items) then specs else texts_by specs stages
 
 -- where they are not there the whole file has them
 abbrev pub texts_or : List ℕ → List ℕ → PathKind → List ℕ

@@ -1,11 +1,13 @@
+use Rattle.drv_args.specs.Lines.{prefix_of, spec_of}
+use Rattle.drv_args.specs.declared.items.Item.{Item}
 use Rattle.drv_cc.specs.Front.{front_of}
 use Rattle.drv_cc.specs.declared.answer.Answer.TheVariants.{Ask, Refuse, Run}
 use Rattle.drv_cc.specs.declared.answer.Answer.{Answer}
 use Rattle.drv_cc.specs.declared.answer.Surroundings.{Surroundings}
-use Rattle.drv_cc.specs.declared.refusal.Refusal.TheVariants.{GivenFile, GivenMore, NoArgument, NoInput, NotTaken, UnknownOption}
+use Rattle.drv_cc.specs.declared.refusal.Refusal.TheVariants.{EmptyOutput, GivenFile, GivenMore, NoArgument, NoInput, NotTaken, UnknownOption}
 use Rattle.drv_cc.specs.declared.refusal.Refusal.{Refusal}
 use Rattle.drv_compile.specs.Beside.{known_names}
-use Rattle.drv_compile.specs.Compilers.{names_in, value_in}
+use Rattle.drv_compile.specs.Compilers.{names_in}
 use Rattle.drv_compile.specs.declared.reading.Reading.{Reading}
 use Rattle.drv_search.specs.Search.{file_found, prefixes_of}
 use Rattle.drv_search.specs.declared.prefixes.Prefixes.{Prefixes}
@@ -13,9 +15,8 @@ use Rattle.drv_system.specs.Facts.{Facts, read_of}
 use Rattle.drv_system.specs.Known.{◌>>=◌, Is, Known, asked}
 use Rattle.drv_system.specs.declared.event.ReadAnswer.TheVariants.{Failed, Missing, Read, TooLarge}
 use Rattle.drv_system.specs.declared.event.ReadAnswer.{ReadAnswer}
-use Rattle.std.specs.Cmp.Lexicographic.{pointwise}
-use Rattle.std.specs.List.{flat_map, list_any}
-use Rattle.std.specs.Prelude.{Bool, List, [], ◌∷◌, ◌++◌, None, Option, Some, codes, false, if◌then◌else◌, nat_eq, true, ℕ}
+use Rattle.std.specs.List.{filter_map, flat_map, list_any}
+use Rattle.std.specs.Prelude.{Bool, List, [], ◌∷◌, ◌++◌, None, Option, Some, false, if◌then◌else◌, true, ℕ}
 
 -- The answer to a line, over facts: by the names of the compiler's options, and by those that the spec files of the line have (GCC,
 -- "gcc.cc", validate_switches). Neither is asked for where no word of the line is unknown.
@@ -27,6 +28,7 @@ is_unknown (NoArgument option) = false
 is_unknown (NotTaken option) = false
 is_unknown (GivenFile name) = false
 is_unknown GivenMore = false
+is_unknown EmptyOutput = false
 is_unknown NoInput = false
 
 abbrev pub has_unknown : Answer → Bool
@@ -45,22 +47,18 @@ unknown_switch (NoArgument option) = []
 unknown_switch (NotTaken option) = []
 unknown_switch (GivenFile name) = []
 unknown_switch GivenMore = []
+unknown_switch EmptyOutput = []
 unknown_switch NoInput = []
 
 abbrev pub unknown_switches : List Refusal → List (List ℕ)
 unknown_switches = flat_map unknown_switch
 
--- the files of -specs= among words of the driver, and the arguments of -B
-abbrev pub specs_given : List (List ℕ) → List (List ℕ)
-specs_given = flat_map (value_in (codes "-specs="))
+-- the files of -specs= among items of the driver's line, and the folders of -B
+abbrev pub specs_given : List Item → List (List ℕ)
+specs_given = filter_map (λ i. spec_of i.effect i.argument)
 
-abbrev pub folders_from : Bool → List (List ℕ) → List (List ℕ)
-folders_from is_folder [] = []
-folders_from true (word ∷ words) = word ∷ folders_from false words
-folders_from false (word ∷ words) = folders_from (pointwise nat_eq word (codes "-B")) words
-
-abbrev pub folders_given : List (List ℕ) → List (List ℕ)
-folders_given = folders_from false
+abbrev pub folders_given : List Item → List (List ℕ)
+folders_given = filter_map (λ i. prefix_of i.effect i.argument)
 
 -- the names in these files, each found along the prefixes of -B; none in one that can't be read
 abbrev pub names_read : ReadAnswer → List (List ℕ)
@@ -76,14 +74,14 @@ abbrev pub files_names : Facts → Prefixes → List (List ℕ) → Known (List 
 files_names F prefixes [] = Is []
 files_names F prefixes (file ∷ files) = file_names F prefixes file >>= λ names. files_names F prefixes files >>= λ others. Is (names ++ others)
 
-abbrev pub words_names : Facts → List (List ℕ) → Known (List (List ℕ))
-words_names F words = prefixes_of F (folders_given words) >>= λ prefixes. files_names F prefixes (specs_given words)
+abbrev pub items_names : Facts → List Item → Known (List (List ℕ))
+items_names F items = prefixes_of F (folders_given items) >>= λ prefixes. files_names F prefixes (specs_given items)
 
--- those of a line: its words are known once its unknown ones are taken for switches
+-- those of a line: its items are known once its unknown ones are taken for switches
 abbrev pub answer_names : Facts → Answer → Known (List (List ℕ))
 answer_names F Ask = Is []
 answer_names F (Refuse refusals) = Is []
-answer_names F (Run call) = words_names F call.words
+answer_names F (Run call) = items_names F call.items
 
 -- the answer to a line that is refused for these reasons by the names of options alone: its spec files are read
 abbrev pub refused_answer : Facts → List ℕ → Surroundings → List (List ℕ) → List Refusal → Known Answer

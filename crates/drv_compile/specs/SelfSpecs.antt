@@ -1,7 +1,6 @@
-use Rattle.drv_args.specs.Lines.{line_judged, line_read}
+use Rattle.drv_args.specs.Lines.{line_judged}
 use Rattle.drv_args.specs.declared.fault.ArgsFault.{ArgsFault}
 use Rattle.drv_args.specs.declared.items.Item.{Item}
-use Rattle.drv_args.specs.declared.line.Expanded.{Expanded}
 use Rattle.drv_args.specs.declared.line.Line.{Line}
 use Rattle.drv_args.specs.declared.line.Settings.{Settings}
 use Rattle.drv_cc.specs.SelfSpecs.{front_with, seen_items}
@@ -10,7 +9,9 @@ use Rattle.drv_cc.specs.declared.answer.Answer.{Answer}
 use Rattle.drv_cc.specs.declared.answer.Surroundings.{Surroundings}
 use Rattle.drv_cc.specs.declared.refusal.Refusal.TheVariants.{GivenMore}
 use Rattle.drv_compile.specs.Beside.{known_names}
-use Rattle.drv_compile.specs.Reading.{specs_given, words_names}
+use Rattle.drv_compile.specs.Reading.{items_names, specs_given}
+use Rattle.drv_compile.specs.Runs.{line_given}
+use Rattle.drv_compile.specs.declared.running.DriverLine.{DriverLine}
 use Rattle.drv_compile.specs.declared.self_specs.Worked.TheVariants.{Gives, More, Nothing}
 use Rattle.drv_compile.specs.declared.self_specs.Worked.{Worked}
 use Rattle.drv_machine.specs.Outcome.{outcome}
@@ -77,27 +78,27 @@ abbrev pub worked_of : Facts → Result Line ArgsFault → Result Line ArgsFault
 worked_of F line (Err fault) = Is (Err (stopped_by_args fault))
 worked_of F line (Ok own) = worked_over F own.settings line (specs_of F own.settings)
 
--- what the spec files of these words of the driver give a line whose switches these items are
-abbrev pub self_worked : Facts → Expanded → List Item → Ended Worked
-self_worked F words items = worked_of F (line_judged words.from_file items) (line_read words)
+-- what the spec files of this line of the driver give a line whose switches these items are
+abbrev pub self_worked : Facts → DriverLine → List Item → Ended Worked
+self_worked F first items = worked_of F (line_judged first.from_file items) (line_given first)
 
 -- The answer, by what was given: none where the line stays as it is. The compiler's options are known, and the names in the line's spec
 -- files.
-abbrev pub answer_by : Facts → List ℕ → Surroundings → List ℕ → List (List ℕ) → Expanded → Worked → Ended (Option Answer)
-answer_by F specs around known args words Nothing = Is (Ok None)
-answer_by F specs around known args words More = Is (Ok (Some (Refuse (GivenMore ∷ []))))
-answer_by F specs around known args words (Gives given) =
-    known_names F specs >>= λ options. words_names F words.words >>= λ named.
+abbrev pub answer_by : Facts → List ℕ → Surroundings → List ℕ → List (List ℕ) → DriverLine → Worked → Ended (Option Answer)
+answer_by F specs around known args first Nothing = Is (Ok None)
+answer_by F specs around known args first More = Is (Ok (Some (Refuse (GivenMore ∷ []))))
+answer_by F specs around known args first (Gives given) =
+    known_names F specs >>= λ options. items_names F first.items >>= λ named.
     Is (Ok (Some (front_with (unwrap_or options known) named around args given)))
 
-abbrev pub answer_after : Facts → List ℕ → Surroundings → List ℕ → List (List ℕ) → Expanded → Ended Worked → Ended (Option Answer)
-answer_after F specs around known args words Unasked = Unasked
-answer_after F specs around known args words (Is (Err ending)) = Is (Err ending)
-answer_after F specs around known args words (Is (Ok worked)) = answer_by F specs around known args words worked
+abbrev pub answer_after : Facts → List ℕ → Surroundings → List ℕ → List (List ℕ) → DriverLine → Ended Worked → Ended (Option Answer)
+answer_after F specs around known args first Unasked = Unasked
+answer_after F specs around known args first (Is (Err ending)) = Is (Err ending)
+answer_after F specs around known args first (Is (Ok worked)) = answer_by F specs around known args first worked
 
 -- a line that names no spec file stays as it is: the one file is that of the call
-abbrev pub answer_given : Facts → List ℕ → Surroundings → List ℕ → List (List ℕ) → Expanded → Ended (Option Answer)
-answer_given F specs around known args words =
-    if nat_lt 1 (length (specs_given words.words))
-    then answer_after F specs around known args words (self_worked F words (seen_items known args))
+abbrev pub answer_given : Facts → List ℕ → Surroundings → List ℕ → List (List ℕ) → DriverLine → Ended (Option Answer)
+answer_given F specs around known args first =
+    if nat_lt 1 (length (specs_given first.items))
+    then answer_after F specs around known args first (self_worked F first (seen_items known args))
     else Is (Ok None)

@@ -1,5 +1,5 @@
 use Rattle.drv_cc.specs.declared.answer.Variable.{Variable}
-use Rattle.drv_cc.specs.declared.refusal.Refusal.TheVariants.{GivenFile, GivenMore, NoArgument, NoInput, NotTaken, UnknownOption}
+use Rattle.drv_cc.specs.declared.refusal.Refusal.TheVariants.{EmptyOutput, GivenFile, GivenMore, NoArgument, NoInput, NotTaken, UnknownOption}
 use Rattle.drv_cc.specs.declared.refusal.Refusal.{Refusal}
 use Rattle.drv_compile.specs.Places.{companion}
 use Rattle.drv_words.specs.Bytes.{at_sign}
@@ -69,6 +69,7 @@ refusal_text name (NoArgument option) near = error_line name (lacking option ++ 
 refusal_text name (NotTaken option) near = error_line name (quoted (codes "option '") option (codes "' is not carried out"))
 refusal_text name (GivenFile word) near = fatal_line name (given_text word)
 refusal_text name GivenMore near = error_line name (quoted (codes "the spec files of the line give more than options: 'self_spec' is not one command") [] [])
+refusal_text name EmptyOutput near = name ++ codes ": fatal error: output filename may not be empty\ncompilation terminated.\n"
 refusal_text name NoInput near = name ++ codes ": fatal error: no input files\ncompilation terminated.\n"
 
 -- a file that is not there; of a response file the name is said

@@ -8,7 +8,7 @@ use drv_words::{Listing, Word};
 use std::alloc::{AllocError, Global};
 
 /// Adds the value that a line has for a key, if it has one.
-pub(crate) fn add_value(
+fn add_value(
     alloc: Global,
     key: &[u8],
     line: &[u8],

@@ -1,7 +1,7 @@
 //! What the driver is called with for a line.
 
 ghost use Rattle.drv_compile.specs.Driven.{Drives, IsAnswered, IsCalled, IsDamaged, IsDenied};
-ghost use Rattle.drv_compile.specs.Driven.{IsUnanswered, Undriven, answer_of, driver_words};
+ghost use Rattle.drv_compile.specs.Driven.{IsUnanswered, Undriven, answer_of, driver_items};
 ghost use Rattle.drv_compile.specs.Tasks.{IfTold};
 ghost use Rattle.drv_system.specs.Asking.{Extends};
 ghost use Rattle.drv_system.specs.Code.Asked.{Asked};
@@ -12,12 +12,13 @@ ghost use Rattle.std.specs.Prelude.{◌≡◌, IfOk, MatchResult, Ok};
 use crate::calling::Calling;
 use crate::expanding::stop_of;
 use crate::parts::{Texts, texts_asked};
+use crate::running::DriverLine;
 use crate::self_specs::answer_given;
 use crate::stop::Stop;
 use crate::tasks::Toolchain;
 use crate::telling::refusals_text;
 use crate::wording::damaged_text;
-use drv_args::Expanded;
+use drv_args::{Effect, Expanded, Item};
 use drv_cc::{Answer, Call, Variable};
 use drv_system::{Outside, System};
 use drv_words::{Listing, Word};
@@ -26,26 +27,32 @@ use std::alloc::{AllocError, Global};
 /// What the driver is called with.
 #[derive(Drop)]
 pub(crate) struct Driven {
-    /// The driver's words.
-    pub(crate) line: Expanded,
+    /// The driver's line.
+    pub(crate) line: DriverLine,
     /// The variables that are set for its children.
     pub(crate) children: Listing<Variable>,
 }
 
-/// The driver's words for a line: the spec file, that a front precedes it, and those of the front.
-fn driver_words(
+/// The items of the driver's line: the spec file, that a front precedes it, and those of the front.
+fn driver_items(
     alloc: Global,
-    path: &[u8],
-    words: Listing<Word>,
-) -> Result<Listing<Word>, AllocError>
-    ensures { IfOk result (λ all. all ≡ driver_words path.now words) }
+    path: Word,
+    items: Listing<Item>,
+) -> Result<Listing<Item>, AllocError>
+    ensures { IfOk result (λ all. all ≡ driver_items path items) }
 {
-    let mut option = Word::from_bytes(alloc, b"-specs=")?;
-    option.extend_from_slice(path)?;
     let mut all = Vec::new(alloc);
-    all.push(option)?;
-    all.push(Word::from_bytes(alloc, b"--gdrv-front")?)?;
-    all.append(&mut words.into_vec())?;
+    all.push(Item {
+        effect: Effect::Specs,
+        option: Word::from_bytes(alloc, b"-specs=")?,
+        argument: path,
+    })?;
+    all.push(Item {
+        effect: Effect::Switch,
+        option: Word::from_bytes(alloc, b"--gdrv-front")?,
+        argument: Word::empty(alloc),
+    })?;
+    all.append(&mut items.into_vec())?;
     Ok(Listing::from_vec(all))
 }
 
@@ -66,13 +73,13 @@ fn called<S: System>(
         → MatchResult result (λ driven. IsCalled F specs.now call given.now driven)
         (λ stop. IfTold stop (IsDamaged F calling.now specs.now call)) }
 {
-    let texts = texts_asked(alloc, specs, call.words.as_slice(), call.stages, outside)?;
+    let texts = texts_asked(alloc, specs, call.items.as_slice(), call.stages, outside)?;
     match texts {
         Texts::Whole(path) => {
             let from_file = given.from_file;
-            let words = driver_words(alloc, path.as_bytes(), call.words)?;
+            let items = driver_items(alloc, path, call.items)?;
             Ok(Driven {
-                line: Expanded { words, from_file },
+                line: DriverLine { items, from_file },
                 children: call.children,
             })
         }

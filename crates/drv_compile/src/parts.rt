@@ -7,6 +7,7 @@ ghost use Rattle.std.specs.Prelude.{◌≡◌, IfOk};
 
 use crate::finding::is_written;
 use crate::places::{texts_for, texts_or};
+use drv_args::Item;
 use drv_cc::Stages;
 use drv_system::{Outside, System};
 use drv_words::Word;
@@ -41,20 +42,20 @@ fn texts_at<S: System>(path: Word, outside: &mut Outside<'_, S>) -> Result<Texts
     Ok(texts_if(path, is_whole))
 }
 
-/// The file that has the texts for a line with these words and stages: the spec file, or a part of
+/// The file that has the texts for a line with these items and stages: the spec file, or a part of
 /// it beside it. It asks the system only where the table has no answer.
 #[tactic(auto, using(drv_system::proofs::AskedCalls::asked_further))]
 pub(crate) fn texts_asked<S: System>(
     alloc: Global,
     specs: &[u8],
-    words: &[Word],
+    items: &[Item],
     stages: Stages,
     outside: &mut Outside<'_, S>,
 ) -> Result<Texts, AllocError>
     ensures asks { Asked S.events outside.old outside.new }
-    ensures texts { Tells outside.new result (λ F. texts_of F specs.now words.now stages) }
+    ensures texts { Tells outside.new result (λ F. texts_of F specs.now items.now stages) }
 {
-    let part = texts_for(alloc, specs, words, stages)?;
+    let part = texts_for(alloc, specs, items, stages)?;
     let kind = outside.facts.kind(outside.sys, &part)?;
     let path = Word::from_bytes(alloc, texts_or(specs, part.as_bytes(), kind))?;
     texts_at(path, outside)

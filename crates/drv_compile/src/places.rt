@@ -1,12 +1,14 @@
 //! The place of the spec file, and of the files beside it.
 
-ghost use Rattle.drv_compile.specs.Places.{above, beside, companion, given, is_rooted, may_link};
-ghost use Rattle.drv_compile.specs.Places.{texts_by, texts_for, texts_or, wants_whole, whole_words};
+ghost use Rattle.drv_compile.specs.Places.{above, beside, companion, given, is_native, is_rooted};
+ghost use Rattle.drv_compile.specs.Places.{may_link, texts_by, texts_for, texts_or, wants_whole};
+ghost use Rattle.drv_compile.specs.Places.{whole_options};
 ghost use Rattle.drv_cc.specs.Items.{is_among};
 ghost use Rattle.std.specs.List.{list_any};
 ghost use Rattle.std.specs.Prelude.{◌≡◌, ◌++◌, IfOk, OnOk};
 
 use crate::calling::{before_ending, folder};
+use drv_args::Item;
 use drv_cc::Stages;
 use drv_system::PathKind;
 use drv_words::Word;
@@ -62,52 +64,60 @@ pub fn companion(alloc: Global, path: &[u8], ending: &[u8]) -> Result<Word, Allo
     }
 }
 
-/// Whether a word asks for what the whole spec file alone has.
-fn is_whole_word(word: &[u8]) -> bool
-    ensures { result ≡ is_among whole_words word.now }
+/// Whether an option asks for what the whole spec file alone has.
+fn is_whole_option(option: &[u8]) -> bool
+    ensures { result ≡ is_among whole_options option.now }
 {
-    word == b"-march=native".as_slice()
-        || word == b"-mtune=native".as_slice()
-        || word == b"-save-temps".as_slice()
-        || word == b"-save-temps=cwd".as_slice()
-        || word == b"-save-temps=obj".as_slice()
-        || word == b"-gsplit-dwarf".as_slice()
-        || word == b"-traditional".as_slice()
-        || word == b"-traditional-cpp".as_slice()
-        || word == b"-no-integrated-cpp".as_slice()
-        || word == b"-m32".as_slice()
-        || word == b"-mx32".as_slice()
-        || word == b"-m16".as_slice()
+    option == b"-specs=".as_slice()
+        || option == b"-save-temps".as_slice()
+        || option == b"-save-temps=cwd".as_slice()
+        || option == b"-save-temps=obj".as_slice()
+        || option == b"-gsplit-dwarf".as_slice()
+        || option == b"-traditional".as_slice()
+        || option == b"-traditional-cpp".as_slice()
+        || option == b"-no-integrated-cpp".as_slice()
+        || option == b"-m32".as_slice()
+        || option == b"-mx32".as_slice()
+        || option == b"-m16".as_slice()
 }
 
-/// Whether a word asks for the whole spec file.
-fn wants_whole(word: &Word) -> bool
-    ensures { result ≡ wants_whole word.now }
+/// Whether an item asks for what the machine of the call has.
+fn is_native(item: &Item) -> bool
+    ensures { result ≡ is_native item.now }
 {
-    word.as_bytes().starts_with(b"-specs=")
-        || word.as_bytes().starts_with(b"-gz=")
-        || is_whole_word(word.as_bytes())
+    let option = item.option.as_bytes();
+    (option == b"-march=".as_slice() || option == b"-mtune=".as_slice())
+        && item.argument.as_bytes() == b"native".as_slice()
 }
 
-/// Whether some word asks for the whole spec file.
-fn want_whole(words: &[Word]) -> bool
-    ensures { result ≡ list_any wants_whole words.now }
+/// Whether an item asks for the whole spec file.
+fn wants_whole(item: &Item) -> bool
+    ensures { result ≡ wants_whole item.now }
 {
-    words.iter().any(wants_whole)
+    is_whole_option(item.option.as_bytes())
+        || is_native(item)
+        || item.option.as_bytes().starts_with(b"-gz=")
 }
 
-/// Whether a word names a folder in place of the root.
-fn is_rooted(word: &Word) -> bool
-    ensures { result ≡ is_rooted word.now }
+/// Whether some item asks for the whole spec file.
+fn want_whole(items: &[Item]) -> bool
+    ensures { result ≡ list_any wants_whole items.now }
 {
-    word.as_bytes().starts_with(b"--sysroot=")
+    items.iter().any(wants_whole)
 }
 
-/// Whether some word names a folder in place of the root.
-fn are_rooted(words: &[Word]) -> bool
-    ensures { result ≡ list_any is_rooted words.now }
+/// Whether an item names a folder in place of the root.
+fn is_rooted(item: &Item) -> bool
+    ensures { result ≡ is_rooted item.now }
 {
-    words.iter().any(is_rooted)
+    item.option.as_bytes() == b"--sysroot=".as_slice()
+}
+
+/// Whether some item names a folder in place of the root.
+fn are_rooted(items: &[Item]) -> bool
+    ensures { result ≡ list_any is_rooted items.now }
+{
+    items.iter().any(is_rooted)
 }
 
 /// Whether a line may have a link.
@@ -130,17 +140,17 @@ fn texts_by(alloc: Global, specs: &[u8], stages: Stages) -> Result<Word, AllocEr
     }
 }
 
-/// The file that has the texts for a line with these words and stages: the spec file, or a part of
+/// The file that has the texts for a line with these items and stages: the spec file, or a part of
 /// it beside it.
 pub(crate) fn texts_for(
     alloc: Global,
     specs: &[u8],
-    words: &[Word],
+    items: &[Item],
     stages: Stages,
 ) -> Result<Word, AllocError>
-    ensures { IfOk result (λ path. path ≡ texts_for specs.now words.now stages) }
+    ensures { IfOk result (λ path. path ≡ texts_for specs.now items.now stages) }
 {
-    if want_whole(words) || (may_link(stages) && are_rooted(words)) {
+    if want_whole(items) || (may_link(stages) && are_rooted(items)) {
         return Word::from_bytes(alloc, specs);
     }
     texts_by(alloc, specs, stages)

@@ -20,7 +20,7 @@ use crate::driving::driver_call;
 use crate::expanding::{line_words, stop_of};
 use crate::host::Host;
 use crate::inputs::{objection, overwrites};
-use crate::running::work_of_words;
+use crate::running::{DriverLine, work_of_items};
 use crate::speaking::opening;
 use crate::stop::Stop;
 use crate::tasks::{Task, Toolchain, task_of};
@@ -91,24 +91,24 @@ fn question(alloc: Global, compiler: Word, args: &Listing<Word>) -> Result<Work,
     Ok(Work::CarryOut { plan, manner })
 }
 
-/// The work of words of the driver.
+/// The work of a line of the driver.
 ///
 /// # Errors
 /// The text of their refusal.
 fn work_of<S: System>(
     alloc: Global,
     name: &[u8],
-    words: &Expanded,
+    line: &DriverLine,
     seed: u32,
     outside: &mut Outside<'_, S>,
 ) -> Result<Work, Stop>
     ensures asks { Asked S.events outside.old outside.new }
     ensures works { (F : Facts) → Extends outside.new.facts.now F
-        → MatchResult result (λ work. Works F words.now seed work)
-        (λ stop. IfTold stop (IsFailure F name.now words.now seed)) }
+        → MatchResult result (λ work. Works F line.now seed work)
+        (λ stop. IfTold stop (IsFailure F name.now line.now seed)) }
     ensures window { IfOk result (λ work. HasWindow work) }
 {
-    match work_of_words(alloc, words, seed, outside) {
+    match work_of_items(alloc, line, seed, outside) {
         Ok(work) => Ok(work),
         Err(ending) => {
             let stop = stop_of(alloc, name, &ending)?;
@@ -168,8 +168,8 @@ fn planned<S: System>(
     let specs = chain.specs.as_bytes();
     let hint = gone(alloc, name, specs, calling.machine.as_bytes())?;
     let driven = driver_call(alloc, calling, chain, call, given, outside)?;
-    let words = driven.line.words.as_slice();
-    let said = opening(alloc, specs, words, driven.children.as_slice(), outside)?;
+    let items = driven.line.items.as_slice();
+    let said = opening(alloc, specs, items, driven.children.as_slice(), outside)?;
     let work = work_of(alloc, name, &driven.line, seed, outside)?;
     Ok(Prepared {
         work,

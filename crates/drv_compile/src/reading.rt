@@ -1,18 +1,20 @@
 //! The answer to a line.
 
+ghost use Rattle.drv_args.specs.Lines.{prefix_of, spec_of};
 ghost use Rattle.drv_cc.specs.Front.{front_of};
-ghost use Rattle.drv_compile.specs.Compilers.{value_in};
 ghost use Rattle.drv_compile.specs.Reading.{answer_names, file_names, files_names, folders_given};
 ghost use Rattle.drv_compile.specs.Reading.{has_unknown, is_unknown, known_answer, line_read};
 ghost use Rattle.drv_compile.specs.Reading.{names_read, read_by, refused_answer, specs_given};
-ghost use Rattle.drv_compile.specs.Reading.{unknown_switch, unknown_switches, words_names};
+ghost use Rattle.drv_compile.specs.Reading.{unknown_switch, unknown_switches, items_names};
 ghost use Rattle.drv_search.specs.Code.Telling.{Tells, TellsMore};
 ghost use Rattle.drv_system.specs.Code.Asked.{Asked};
 ghost use Rattle.std.specs.List.{list_any};
+ghost use Rattle.std.specs.Option.{option_copied};
 ghost use Rattle.std.specs.Prelude.{◌≡◌, ◌++◌, [], IfOk, OnOk};
 
-use crate::compilers::{add_value, names_in};
+use crate::compilers::names_in;
 use crate::finding::known_names;
+use drv_args::{Effect, Item};
 use drv_cc::{Answer, Refusal, Surroundings, front};
 use drv_search::{Prefixes, find_file};
 use drv_system::{Outside, ReadAnswer, System};
@@ -80,29 +82,47 @@ fn unknown_switches(alloc: Global, refusals: &[Refusal]) -> Result<Listing<Word>
     Ok(switches)
 }
 
-/// The files of `-specs=` among words of the driver.
-pub(crate) fn specs_given(alloc: Global, words: &[Word]) -> Result<Listing<Word>, AllocError>
-    ensures { IfOk result (λ files. files ≡ specs_given words.now) }
+/// The spec file that an item names, if it names one.
+fn spec_of(item: &Item) -> Option<&[u8]>
+    ensures { option_copied result ≡ spec_of item.now.effect item.now.argument }
+{
+    match item.effect {
+        Effect::Specs => Some(item.argument.as_bytes()),
+        _ => None,
+    }
+}
+
+/// The folder that an item names for programs, if it names one.
+fn prefix_of(item: &Item) -> Option<&[u8]>
+    ensures { option_copied result ≡ prefix_of item.now.effect item.now.argument }
+{
+    match item.effect {
+        Effect::Prefix => Some(item.argument.as_bytes()),
+        _ => None,
+    }
+}
+
+/// The files of `-specs=` among items of the driver's line.
+pub(crate) fn specs_given(alloc: Global, items: &[Item]) -> Result<Listing<Word>, AllocError>
+    ensures { IfOk result (λ files. files ≡ specs_given items.now) }
 {
     let mut files = Listing::new(alloc);
-    for word in words {
-        add_value(alloc, b"-specs=", word.as_bytes(), &mut files)?;
+    for item in items {
+        if let Some(file) = spec_of(item) {
+            files.push(Word::from_bytes(alloc, file)?)?;
+        }
     }
     Ok(files)
 }
 
-/// The arguments of `-B` among words of the driver, where each is a word of its own.
-fn folders_given(alloc: Global, words: &[Word]) -> Result<Listing<Word>, AllocError>
-    ensures { IfOk result (λ folders. folders ≡ folders_given words.now) }
+/// The folders of `-B` among items of the driver's line.
+fn folders_given(alloc: Global, items: &[Item]) -> Result<Listing<Word>, AllocError>
+    ensures { IfOk result (λ folders. folders ≡ folders_given items.now) }
 {
     let mut folders = Listing::new(alloc);
-    let mut is_folder = false;
-    for word in words {
-        if is_folder {
-            folders.push(word.clone()?)?;
-            is_folder = false;
-        } else {
-            is_folder = word.as_bytes() == b"-B".as_slice();
+    for item in items {
+        if let Some(folder) = prefix_of(item) {
+            folders.push(Word::from_bytes(alloc, folder)?)?;
         }
     }
     Ok(folders)
@@ -167,17 +187,17 @@ fn files_names<S: System>(
     Ok(named)
 }
 
-/// The names in the spec files of words of the driver.
-pub(crate) fn words_names<S: System>(
+/// The names in the spec files of items of the driver's line.
+pub(crate) fn items_names<S: System>(
     alloc: Global,
-    words: &[Word],
+    items: &[Item],
     outside: &mut Outside<'_, S>,
 ) -> Result<Listing<Word>, AllocError>
     ensures asks { Asked S.events outside.old outside.new }
-    ensures names { Tells outside.new result (λ F. words_names F words.now) }
+    ensures names { Tells outside.new result (λ F. items_names F items.now) }
 {
-    let folders = folders_given(alloc, words)?;
-    let files = specs_given(alloc, words)?;
+    let folders = folders_given(alloc, items)?;
+    let files = specs_given(alloc, items)?;
     let prefixes = Prefixes::new(alloc, folders.as_slice(), outside.sys, outside.facts)?;
     files_names(alloc, files.as_slice(), &prefixes, outside)
 }
@@ -192,7 +212,7 @@ fn answer_names<S: System>(
     ensures names { Tells outside.new result (λ F. answer_names F answer.now) }
 {
     match answer {
-        Answer::Run(call) => words_names(alloc, call.words.as_slice(), outside),
+        Answer::Run(call) => items_names(alloc, call.items.as_slice(), outside),
         Answer::Ask | Answer::Refuse(_) => Ok(Listing::new(alloc)),
     }
 }

@@ -1,6 +1,7 @@
-//! The work of words of the driver.
+//! The work of items of the driver's line.
 
-ghost use Rattle.drv_compile.specs.Runs.{Stops, Works};
+ghost use Rattle.drv_args.specs.declared.fault.ArgsFault.TheVariants as args_fault;
+ghost use Rattle.drv_compile.specs.Runs.{Stops, Works, line_given};
 ghost use Rattle.drv_run.specs.Calls.{HasWindow};
 ghost use Rattle.drv_run.specs.Drives.{specs_of};
 ghost use Rattle.drv_specs.specs.declared.fault.SpecsFault.TheVariants as specs_fault;
@@ -8,13 +9,35 @@ ghost use Rattle.drv_system.specs.Asking.{Extends};
 ghost use Rattle.drv_system.specs.Code.Asked.{Asked};
 ghost use Rattle.drv_system.specs.Facts.{Facts};
 ghost use Rattle.drv_system.specs.Gives.{GivesKnown};
-ghost use Rattle.std.specs.Prelude.{IfOk, MatchResult};
+ghost use Rattle.drv_words.specs.Gives.{Gives};
+ghost use Rattle.std.specs.Prelude.{◌≤◌, IfOk, MatchResult};
 
-use drv_args::{Expanded, Settings, read};
+use drv_args::{ArgsFault, Item, Line, Settings, line_of};
 use drv_run::{Ending, Work, load_specs, work_of};
 use drv_specs::{SpecSet, SpecsFault, builtin};
 use drv_system::{Outside, System};
+use drv_words::Listing;
 use std::alloc::Global;
+
+/// The driver's line, as items.
+#[derive(Drop)]
+pub(crate) struct DriverLine {
+    /// Its items.
+    pub(crate) items: Listing<Item>,
+    /// Whether words of a response file are among those of the call, even if there were none.
+    pub(crate) from_file: bool,
+}
+
+/// The line that items give.
+///
+/// # Errors
+/// Its refusal.
+pub(crate) fn line_given(alloc: Global, given: &DriverLine) -> Result<Line, ArgsFault>
+    ensures line { Gives args_fault.Memory (λ line. line) result (line_given given.now) }
+    ensures jobs { IfOk result (λ line. (1 ≤ line.settings.jobs) × (line.settings.jobs ≤ 64)) }
+{
+    line_of(alloc, given.from_file, given.items.as_slice())
+}
 
 /// The specs of a line: the built-in ones, and what the files of `-specs=` make of them.
 pub(crate) fn specs_of<S: System>(
@@ -30,24 +53,24 @@ pub(crate) fn specs_of<S: System>(
     load_specs(alloc, set, settings, outside.sys, outside.facts)
 }
 
-/// What words of the driver ask for: the line read, its spec files loaded, and its plan with what
+/// What items of the driver's line ask for: the line judged, its spec files loaded, and its plan with what
 /// is done with it. It asks the system only where the table has no answer.
 ///
 /// # Errors
 /// The first refusal of these steps.
-pub(crate) fn work_of_words<S: System>(
+pub(crate) fn work_of_items<S: System>(
     alloc: Global,
-    words: &Expanded,
+    given: &DriverLine,
     seed: u32,
     outside: &mut Outside<'_, S>,
 ) -> Result<Work, Ending>
     ensures asks { Asked S.events outside.old outside.new }
     ensures comes { (F : Facts) → Extends outside.new.facts.now F
-        → MatchResult result (λ work. Works F words.now seed work)
-        (λ ending. Stops F words.now seed ending) }
+        → MatchResult result (λ work. Works F given.now seed work)
+        (λ ending. Stops F given.now seed ending) }
     ensures window { IfOk result (λ work. HasWindow work) }
 {
-    let line = read(alloc, words)?;
+    let line = line_given(alloc, given)?;
     let set = specs_of(alloc, &line.settings, outside)?;
     let work = work_of(alloc, &line, &set, seed, outside.sys, outside.facts)?;
     Ok(work)

@@ -23,9 +23,9 @@ ghost use Rattle.std.specs.Option.{unwrap_or};
 ghost use Rattle.std.specs.Prelude.{◌≡◌, ◌∷◌, [], IfOk, Ok, Some, codes, length};
 
 use crate::finding::known_names;
-use crate::reading::{specs_given, words_names};
-use crate::running::specs_of;
-use drv_args::{Expanded, Item, Line, Settings, line_of, read};
+use crate::reading::{items_names, specs_given};
+use crate::running::{DriverLine, line_given, specs_of};
+use drv_args::{Item, Line, Settings, line_of};
 use drv_cc::{Answer, Given, Refusal, Surroundings, front_with, seen_items};
 use drv_machine::{Context, Outcome, run};
 use drv_plan::PlanFault;
@@ -171,22 +171,22 @@ fn worked_by<S: System>(
     }
 }
 
-/// What the spec files of words of the driver give a line of these items.
+/// What the spec files of a line of the driver give a line of these items.
 #[tactic(auto, using(drv_system::proofs::AskedCalls::asked_further))]
 fn self_worked<S: System>(
     alloc: Global,
-    words: &Expanded,
+    first: &DriverLine,
     items: &[Item],
     outside: &mut Outside<'_, S>,
 ) -> Result<Worked, Ending>
     ensures asks { Asked S.events outside.old outside.new }
     ensures works { (F : Facts) → Extends outside.new.facts.now F
         → GivesKnown ending.OutOfMemory (λ made. made) result
-        (self_worked F words.now items.now) }
+        (self_worked F first.now items.now) }
 {
-    let own = read(alloc, words)?;
+    let own = line_given(alloc, first)?;
     let set = specs_of(alloc, &own.settings, outside)?;
-    worked_by(alloc, &own.settings, &set, words.from_file, items, outside)
+    worked_by(alloc, &own.settings, &set, first.from_file, items, outside)
 }
 
 /// The refusal of a text that gives more than options.
@@ -216,17 +216,17 @@ fn answer_with<S: System>(
     around: &Surroundings,
     known: &[u8],
     args: &[Word],
-    words: &Expanded,
+    first: &DriverLine,
     given: &Given,
     outside: &mut Outside<'_, S>,
 ) -> Result<Answer, AllocError>
     ensures asks { Asked S.events outside.old outside.new }
     ensures answer { (F : Facts) → Extends outside.new.facts.now F → IfOk result (λ made.
-        answer_by F specs.now around.now known.now args.now words.now (worked.Gives given.now)
+        answer_by F specs.now around.now known.now args.now first.now (worked.Gives given.now)
         ≡ Is (Ok (Some made))) }
 {
     let options = known_names(alloc, specs, outside)?;
-    let named = words_names(alloc, words.words.as_slice(), outside)?;
+    let named = items_names(alloc, first.items.as_slice(), outside)?;
     let names = options_or(&options, known);
     front_with(alloc, names, named.as_slice(), around, args, given)
 }
@@ -238,19 +238,19 @@ fn answer_by<S: System>(
     around: &Surroundings,
     known: &[u8],
     args: &[Word],
-    words: &Expanded,
+    first: &DriverLine,
     worked: Worked,
     outside: &mut Outside<'_, S>,
 ) -> Result<Option<Answer>, AllocError>
     ensures asks { Asked S.events outside.old outside.new }
     ensures answer { (F : Facts) → Extends outside.new.facts.now F → IfOk result (λ made.
-        answer_by F specs.now around.now known.now args.now words.now worked ≡ Is (Ok made)) }
+        answer_by F specs.now around.now known.now args.now first.now worked ≡ Is (Ok made)) }
 {
     match worked {
         Worked::Nothing => Ok(None),
         Worked::More => Ok(Some(refused_more(alloc)?)),
         Worked::Gives(given) => {
-            let answer = answer_with(alloc, specs, around, known, args, words, &given, outside)?;
+            let answer = answer_with(alloc, specs, around, known, args, first, &given, outside)?;
             Ok(Some(answer))
         }
     }
@@ -264,38 +264,38 @@ fn answer_of_specs<S: System>(
     around: &Surroundings,
     known: &[u8],
     args: &[Word],
-    words: &Expanded,
+    first: &DriverLine,
     outside: &mut Outside<'_, S>,
 ) -> Result<Option<Answer>, Ending>
     ensures asks { Asked S.events outside.old outside.new }
     ensures answer { (F : Facts) → Extends outside.new.facts.now F
         → GivesKnown ending.OutOfMemory (λ made. made) result
-        (answer_after F specs.now around.now known.now args.now words.now
-        (self_worked F words.now (seen_items known.now args.now))) }
+        (answer_after F specs.now around.now known.now args.now first.now
+        (self_worked F first.now (seen_items known.now args.now))) }
 {
     let items = seen_items(alloc, known, args)?;
-    let worked = self_worked(alloc, words, items.as_slice(), outside)?;
-    let answer = answer_by(alloc, specs, around, known, args, words, worked, outside)?;
+    let worked = self_worked(alloc, first, items.as_slice(), outside)?;
+    let answer = answer_by(alloc, specs, around, known, args, first, worked, outside)?;
     Ok(answer)
 }
 
-/// How many spec files words of the driver name.
-fn count_specs(alloc: Global, words: &[Word]) -> Result<usize, AllocError>
-    ensures { IfOk result (λ count. count ≡ length (specs_given words.now)) }
+/// How many spec files items of the driver's line name.
+fn count_specs(alloc: Global, items: &[Item]) -> Result<usize, AllocError>
+    ensures { IfOk result (λ count. count ≡ length (specs_given items.now)) }
 {
-    Ok(specs_given(alloc, words)?.len())
+    Ok(specs_given(alloc, items)?.len())
 }
 
 /// The answer to a line with the options that its spec files give it, and none where it stays as it
 /// is (GCC, "gcc.cc", set_up_specs, do_self_spec). The text `self_spec` is run once, after the last
 /// spec file is loaded, with the switches of the line and no input.
 ///
-/// `words` are the driver's words for the line, after the spec file of the call; `args` are those
-/// of the line, and `known` the names of options that were taken to read it. It asks the system
+/// `first` is the driver's line for it, after the spec file of the call; `args` are the words of
+/// the line, and `known` the names of options that were taken to read it. It asks the system
 /// only where the table has no answer.
 ///
 /// # Errors
-/// How the call ends: for lack of memory, or as by the first refusal of the words, of a spec file
+/// How the call ends: for lack of memory, or as by the first refusal of the line, of a spec file
 /// or of that text.
 #[tactic(auto, using(drv_system::proofs::AskedCalls::asked_none))]
 pub(crate) fn answer_given<S: System>(
@@ -304,16 +304,16 @@ pub(crate) fn answer_given<S: System>(
     around: &Surroundings,
     known: &[u8],
     args: &[Word],
-    words: &Expanded,
+    first: &DriverLine,
     outside: &mut Outside<'_, S>,
 ) -> Result<Option<Answer>, Ending>
     ensures asks { Asked S.events outside.old outside.new }
     ensures answer { (F : Facts) → Extends outside.new.facts.now F
         → GivesKnown ending.OutOfMemory (λ made. made) result
-        (answer_given F specs.now around.now known.now args.now words.now) }
+        (answer_given F specs.now around.now known.now args.now first.now) }
 {
-    if count_specs(alloc, words.words.as_slice())? <= 1 {
+    if count_specs(alloc, first.items.as_slice())? <= 1 {
         return Ok(None);
     }
-    answer_of_specs(alloc, specs, around, known, args, words, outside)
+    answer_of_specs(alloc, specs, around, known, args, first, outside)
 }

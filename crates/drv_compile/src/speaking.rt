@@ -8,6 +8,7 @@ ghost use Rattle.std.specs.List.{flat_map, list_any};
 ghost use Rattle.std.specs.Prelude.{◌≡◌, ◌++◌, IfOk, OnOk};
 
 use crate::saying::said;
+use drv_args::{Effect, Item, Setting};
 use drv_cc::Variable;
 use drv_system::{Outside, System};
 use drv_words::{Listing, Word};
@@ -63,18 +64,18 @@ fn said_text(alloc: Global, lines: &[Word], children: &[Variable]) -> Result<Wor
     Ok(text)
 }
 
-/// Whether a word asks that commands are shown.
-fn shows(word: &Word) -> bool
-    ensures { result ≡ shows word.now }
+/// Whether an option asks that commands are shown.
+fn shows(effect: Effect) -> bool
+    ensures { result ≡ shows effect }
 {
-    word.as_bytes() == b"-v".as_slice() || word.as_bytes() == b"-###".as_slice()
+    matches!(effect, Effect::TurnsOn(Setting::Verbose | Setting::Dry))
 }
 
-/// Whether the commands of a line with these words are shown.
-fn is_shown(words: &[Word]) -> bool
-    ensures { result ≡ list_any shows words.now }
+/// Whether the commands of a line with these items are shown.
+fn is_shown(items: &[Item]) -> bool
+    ensures { result ≡ list_any (λ i. shows i.effect) items.now }
 {
-    words.iter().any(shows)
+    items.iter().any(|item| shows(item.effect))
 }
 
 /// The lines that the compiler says of itself, where the commands are shown.
@@ -82,13 +83,13 @@ fn is_shown(words: &[Word]) -> bool
 fn lines_shown<S: System>(
     alloc: Global,
     specs: &[u8],
-    words: &[Word],
+    items: &[Item],
     outside: &mut Outside<'_, S>,
 ) -> Result<Listing<Word>, AllocError>
     ensures asks { Asked S.events outside.old outside.new }
-    ensures lines { Tells outside.new result (λ F. lines_shown F specs.now words.now) }
+    ensures lines { Tells outside.new result (λ F. lines_shown F specs.now items.now) }
 {
-    if !is_shown(words) {
+    if !is_shown(items) {
         return Ok(Listing::new(alloc));
     }
     said(alloc, specs, outside)
@@ -104,18 +105,18 @@ fn text_shown(alloc: Global, lines: &[Word], children: &[Variable]) -> Result<Wo
     }
 }
 
-/// What is said before the work of a line with these words, where its commands are shown. It asks
+/// What is said before the work of a line with these items, where its commands are shown. It asks
 /// the system only where the table has no answer.
 pub(crate) fn opening<S: System>(
     alloc: Global,
     specs: &[u8],
-    words: &[Word],
+    items: &[Item],
     children: &[Variable],
     outside: &mut Outside<'_, S>,
 ) -> Result<Word, AllocError>
     ensures asks { Asked S.events outside.old outside.new }
-    ensures text { Tells outside.new result (λ F. opening F specs.now words.now children.now) }
+    ensures text { Tells outside.new result (λ F. opening F specs.now items.now children.now) }
 {
-    let lines = lines_shown(alloc, specs, words, outside)?;
+    let lines = lines_shown(alloc, specs, items, outside)?;
     text_shown(alloc, lines.as_slice(), children)
 }

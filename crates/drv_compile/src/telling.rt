@@ -22,6 +22,7 @@ fn near_to(alloc: Global, known: &[Word], refusal: &Refusal) -> Result<Option<Wo
         | Refusal::NotTaken(_)
         | Refusal::GivenFile(_)
         | Refusal::GivenMore
+        | Refusal::EmptyOutput
         | Refusal::NoInput => Ok(None),
     }
 }

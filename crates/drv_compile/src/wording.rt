@@ -215,6 +215,12 @@ pub(crate) fn add_refusal(
             b"",
             b"",
         ),
+        Refusal::EmptyOutput => {
+            text.extend_from_slice(name)?;
+            text.extend_from_slice(
+                b": fatal error: output filename may not be empty\ncompilation terminated.\n",
+            )
+        }
         Refusal::NoInput => {
             text.extend_from_slice(name)?;
             text.extend_from_slice(b": fatal error: no input files\ncompilation terminated.\n")

@@ -11,6 +11,7 @@ use Rattle.drv_compile.specs.declared.calling.Calling.{Calling}
 use Rattle.drv_compile.specs.declared.driving.Driven.{Driven}
 use Rattle.drv_compile.specs.declared.host.HostEvent.{HostEvent}
 use Rattle.drv_compile.specs.declared.preparing.Prepared.{Prepared}
+use Rattle.drv_compile.specs.declared.running.DriverLine.{DriverLine}
 use Rattle.drv_compile.specs.declared.tasks.Task.TheVariants.{Compilation, Question}
 use Rattle.drv_compile.specs.declared.tasks.Task.{Task}
 use Rattle.drv_compile.specs.declared.tasks.Toolchain.{Toolchain}
@@ -22,9 +23,9 @@ use Rattle.std.specs.Prelude.{◌≡◌, ◌⊎◌, List, [], Some, true, ℕ}
 
 -- The steps of a line that is carried out. Only private clauses cite them.
 
--- words of the driver are refused
-abbrev pub IsFailure : Facts → List ℕ → Expanded → ℕ → List ℕ → Type 0
-IsFailure F name words seed text = (refusal : Refusal) × Stops F words seed (Refused refusal) × (text ≡ told_refusal name refusal)
+-- a line of the driver is refused
+abbrev pub IsFailure : Facts → List ℕ → DriverLine → ℕ → List ℕ → Type 0
+IsFailure F name line seed text = (refusal : Refusal) × Stops F line seed (Refused refusal) × (text ≡ told_refusal name refusal)
 
 -- its output is an input
 abbrev pub IsOverwriting : List ℕ → Call → List HostEvent → List ℕ → Type 0
@@ -35,7 +36,7 @@ IsOverwriting name call events text =
 pub record IsPlanned (F : Facts) (calling : Calling) (chain : Toolchain) (call : Call) (given : Expanded) (seed : ℕ) (prepared : Prepared) : Type 0 where
   pub driven : Driven
   pub drives : Drives F chain call given driven
-  pub opens : opening F chain.specs driven.line.words driven.children ≡ Is prepared.said
+  pub opens : opening F chain.specs driven.line.items driven.children ≡ Is prepared.said
   pub works : Works F driven.line seed prepared.work
   pub children : prepared.children ≡ driven.children
   pub hint : prepared.hint ≡ gone_text calling.name chain.specs calling.machine

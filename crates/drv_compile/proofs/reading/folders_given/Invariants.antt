@@ -1,6 +1,6 @@
 use Rattle.drv_compile.proofs.reading.folders_given.Given as goal
-use Rattle.drv_compile.specs.Reading.{folders_from}
-use Rattle.std.proofs.Common.{◌≡◌, ◌++◌, drop, false}
+use Rattle.drv_compile.specs.Reading.{folders_given}
+use Rattle.std.proofs.Common.{◌≡◌, ◌++◌, drop}
 
-abbrev pub invariant-loop-word : goal.invariant-loop-word
-invariant-loop-word l = l.folders ++ folders_from l.is_folder (drop l.word-index l.words) ≡ folders_from false l.words
+abbrev pub invariant-loop-item : goal.invariant-loop-item
+invariant-loop-item l = l.folders ++ folders_given (drop l.item-index l.items) ≡ folders_given l.items
