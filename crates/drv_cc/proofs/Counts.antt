@@ -1,4 +1,4 @@
-use Rattle.drv_cc.specs.Code.Building.{Counted, Many, Single, Zero, all_counted, all_noted, count_of, counted_only, is_counted, suffixes_words}
+use Rattle.drv_cc.specs.Code.Building.{Many, Single, Zero, all_counted, all_noted, count_of, counted_only, is_counted, suffixes_words}
 use Rattle.drv_cc.specs.Items.{same}
 use Rattle.drv_cc.specs.SideFiles.{is_some, only, suffix_words}
 use Rattle.std.proofs.Common.{◌≡◌, Bool, List, [], ◌∷◌, ap, false, if◌then◌else◌, refl, true, ℕ}

@@ -21,7 +21,7 @@ checks =
 -- between commas there may be nothing, and all where checks are turned off (GCC, "opts.cc", parse_sanitizer_options)
 abbrev pub is_check : List ℕ → List ℕ → Bool
 is_check option name =
-    length name == 0 || is_among (texts checks) name || (same option (codes "-fno-sanitize=") && same name (codes "all"))
+    (length name == 0 || is_among (texts checks) name) || (same option (codes "-fno-sanitize=") && same name (codes "all"))
 
 abbrev pub names_no_check : Item → Bool
 names_no_check i =

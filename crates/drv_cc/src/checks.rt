@@ -41,9 +41,7 @@ const CHECKS: &[u8] =
 fn is_check(option: &[u8], name: &[u8]) -> bool
     ensures { result ≡ is_check option.now name.now }
 {
-    name.is_empty()
-        || stands_in(CHECKS, name)
-        || (option == b"-fno-sanitize=".as_slice() && name == b"all".as_slice())
+    (name.len() == 0) | stands_in(CHECKS, name) | (is(option, b"-fno-sanitize=") & is(name, b"all"))
 }
 
 /// Whether one of the names between commas is none of a check for an option.
