@@ -1,4 +1,5 @@
 pub mod Absent
+pub mod CutLines
 pub mod Decided
 pub mod Done
 pub mod DriverCalls
@@ -9,5 +10,6 @@ pub mod Leading
 pub mod Names
 pub mod Prepared
 pub mod Ran
+pub mod Values
 pub mod Told
 pub mod Worded

@@ -2,14 +2,14 @@
 
 ghost use Rattle.drv_compile.specs.Compilers.{values};
 ghost use Rattle.drv_compile.specs.Decides.{decided, decided_around, decided_by, decided_over};
-ghost use Rattle.drv_compile.specs.Decides.{decided_with, first_of, of_reading, or_own};
+ghost use Rattle.drv_compile.specs.Decides.{decided_with, of_reading, or_own};
 ghost use Rattle.drv_search.specs.Code.Telling.{Tells};
 ghost use Rattle.drv_system.specs.Code.Asked.{Asked};
 ghost use Rattle.drv_system.specs.Facts.{variable_of};
 ghost use Rattle.drv_system.specs.Known.{asked};
 ghost use Rattle.std.specs.Prelude.{◌≡◌, IfOk};
 
-use crate::compilers::values;
+use crate::compilers::{first_value, values};
 use crate::finding::{named_file, spec_file, written_beside};
 use crate::places::companion;
 use crate::reading::{Reading, read_line};
@@ -97,16 +97,6 @@ fn decided_around<S: System>(
     of_reading(alloc, specs, around, reading)
 }
 
-/// The first of compilers, if there is one.
-fn first_of(compilers: &[Word]) -> Result<Option<Word>, AllocError>
-    ensures { IfOk result (λ first. first ≡ first_of compilers.now) }
-{
-    match compilers {
-        [compiler, ..] => Ok(Some(compiler.clone()?)),
-        _ => Ok(None),
-    }
-}
-
 /// The decision by the compiler that a text names, if it names one.
 #[tactic(auto, using(drv_system::proofs::AskedCalls::asked_further))]
 fn decided_by<S: System>(
@@ -151,8 +141,7 @@ fn decided_over<S: System>(
         let path = companion(alloc, specs.as_bytes(), b".gcc")?;
         return Ok(Decision::Damaged { specs, path });
     };
-    let compilers = values(alloc, b"compiler ", text.as_bytes())?;
-    let compiler = first_of(compilers.as_slice())?;
+    let compiler = first_value(alloc, b"compiler ", text.as_bytes())?;
     decided_by(alloc, specs, words, text.as_bytes(), compiler, outside)
 }
 

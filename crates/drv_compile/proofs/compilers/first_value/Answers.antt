@@ -1,0 +1,14 @@
+use Rattle.drv_compile.proofs.Values.{value_none, value_some}
+use Rattle.drv_compile.proofs.compilers.first_value.Goals as goal
+use Rattle.drv_compile.specs.Compilers.{lines}
+use Rattle.std.proofs.Common.{◌∙◌, ap}
+use Rattle.std.specs.Option.{option_map}
+
+pub returns-in-None : goal.returns-in-None
+returns-in-None c =
+    value_none c.args.key.now (lines c.args.text.now) _ (ap (option_map (λ line. line.now)) c.in-None.is) c.first_line.ensures
+
+pub returns-in_ok-from_bytes-in-Some : goal.returns-in_ok-from_bytes-in-Some
+returns-in_ok-from_bytes-in-Some c =
+    value_some c.args.key.now (lines c.args.text.now) _ c.in-Some.line.now _ (ap (option_map (λ line. line.now)) c.in-Some.is) c.first_line.ensures
+    (c.in_ok-from_bytes-in-Some.ensures ∙ c.rest_of.ensures)
