@@ -18,6 +18,7 @@ use drv_specs::{SpecSet, SpecsFault, builtin};
 use drv_system::{Outside, System};
 use drv_words::Listing;
 use std::alloc::Global;
+use std::mem::forget;
 
 /// The driver's line, as items.
 #[derive(Drop)]
@@ -73,5 +74,7 @@ pub(crate) fn work_of_items<S: System>(
     let line = line_given(alloc, given)?;
     let set = specs_of(alloc, &line.settings, outside)?;
     let work = work_of(alloc, &line, &set, seed, outside.sys, outside.facts)?;
+    // The call ends soon: what dropping the set takes is saved.
+    forget(set);
     Ok(work)
 }

@@ -14,6 +14,7 @@ use process::Process;
 use std::alloc::{AllocError, Global};
 use std::env::current_exe;
 use std::io::{self, ErrorKind};
+use std::mem::forget;
 use std::process::ExitCode;
 
 const OUT_OF_MEMORY: &[u8] = b"gdrv-cc: error: out of memory\n";
@@ -67,7 +68,11 @@ fn call(rt: &HostRuntime) -> io::Result<Outcome> {
     let seed = clock_seed(rt)?;
     let mut sys = HostSystem::new(rt.clone()?, Reporter::GdrvCc);
     let mut host = Process::new(rt.clone()?);
-    Ok(compile(rt.alloc(), &calling, &own, &args, seed, &mut sys, &mut host))
+    let outcome = compile(rt.alloc(), &calling, &own, &args, seed, &mut sys, &mut host);
+    // The process ends: what dropping them takes is saved.
+    forget(sys);
+    forget(host);
+    Ok(outcome)
 }
 
 fn main(rt: HostRuntime) -> ExitCode {
