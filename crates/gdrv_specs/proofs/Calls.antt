@@ -1,10 +1,12 @@
 use Rattle.drv_words.specs.Gives.{Gives}
-use Rattle.gdrv_specs.specs.Calls.{form_asked}
+use Rattle.gdrv_specs.specs.Calls.{are_compared, difference_asked, form_asked}
 use Rattle.gdrv_specs.specs.declared.calling.Call.{Call}
-use Rattle.gdrv_specs.specs.declared.calling.CallFault.TheVariants.{Memory}
+use Rattle.gdrv_specs.specs.declared.calling.Call.TheVariants.{Differ}
+use Rattle.gdrv_specs.specs.declared.calling.CallFault.TheVariants.{Memory, NotTwoFiles}
 use Rattle.gdrv_specs.specs.declared.calling.CallFault.{CallFault}
 use Rattle.gdrv_specs.specs.declared.forms.Form.{Form}
-use Rattle.std.proofs.Common.{◌≡◌, ◌<◌, Err, List, [], ◌∷◌, Ok, Result, Some, arith, inr, length, sym, ℕ}
+use Rattle.std.proofs.Common.{◌≡◌, ◌<◌, Err, List, [], ◌∷◌, Ok, Result, Some, arith, drop, false, inr, length, refl, sym, true, ℕ}
+use Rattle.std.specs.Prelude.{get_or}
 
 -- Words that ask for a form.
 
@@ -17,3 +19,24 @@ has_word (word ∷ words) form is = omega arith
 pub gives_call : (result defined : Result Call CallFault) → result ≡ defined → Gives Memory (λ call. call) result defined
 gives_call (Ok call) defined is = sym is
 gives_call (Err fault) defined is = inr (sym is)
+
+-- Words that ask for a comparison.
+
+pub are_three : (words : List (List ℕ)) → are_compared words ≡ true → 2 < length words
+are_three [] is = absurd cc
+are_three (first ∷ []) is = absurd cc
+are_three (first ∷ second ∷ []) is = absurd cc
+are_three (first ∷ second ∷ dashes ∷ line) is = omega arith
+
+pub compared : (words : List (List ℕ)) → are_compared words ≡ true
+    → difference_asked words ≡ Ok (Differ (record { first = get_or words 0 []; second = get_or words 1 []; line = drop 3 words }))
+compared [] is = absurd cc
+compared (first ∷ []) is = absurd cc
+compared (first ∷ second ∷ []) is = absurd cc
+compared (first ∷ second ∷ dashes ∷ line) is = rw is refl
+
+pub not_compared : (words : List (List ℕ)) → are_compared words ≡ false → difference_asked words ≡ Err NotTwoFiles
+not_compared [] is = refl
+not_compared (first ∷ []) is = refl
+not_compared (first ∷ second ∷ []) is = refl
+not_compared (first ∷ second ∷ dashes ∷ line) is = rw is refl

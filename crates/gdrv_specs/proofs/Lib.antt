@@ -1,4 +1,5 @@
 mod Calls
+mod Differences
 mod Outcomes
 mod Plans
 mod Runs

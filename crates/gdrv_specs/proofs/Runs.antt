@@ -3,7 +3,6 @@ use Rattle.drv_after.specs.declared.worded.GivenFault.{GivenFault}
 use Rattle.drv_run.specs.declared.ending.Ending.TheVariants.{Done, OutOfMemory}
 use Rattle.drv_run.specs.declared.work.Manner.{Manner}
 use Rattle.drv_run.specs.declared.work.Work.TheVariants.{CarryOut, Dump, Show}
-use Rattle.drv_run.specs.declared.work.Work.{Work}
 use Rattle.drv_system.specs.declared.event.Event.{Event}
 use Rattle.drv_words.specs.declared.plan.Plan.{Plan}
 use Rattle.gdrv_specs.specs.Code.Answering.{after_answers}

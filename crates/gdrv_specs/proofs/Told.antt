@@ -15,7 +15,7 @@ use Rattle.std.proofs.lemmas.List.{append-nil}
 -- A call that tells something of a line.
 
 -- the answers to the questions of a call that began with an empty table
-known : {journal journal' : List Event} {F F' : Facts} → F ≡ no_facts → (asks : Asks journal journal' F F') → F' ≡ learn no_facts asks.asked
+pub known : {journal journal' : List Event} {F F' : Facts} → F ≡ no_facts → (asks : Asks journal journal' F F') → F' ≡ learn no_facts asks.asked
 known empty asks = asks.facts_grow ∙ ap (λ G. learn G asks.asked) empty
 
 stops : (F : Facts) (line : List (List ℕ)) (seed : ℕ) (ending : Ending) → Comes F line seed (Err ending)

@@ -1,10 +1,9 @@
 use Rattle.drv_dump.specs.OurDump.{our_dump_of}
-use Rattle.drv_dump.specs.declared.fault.DumpFault.TheVariants.{InText, Memory, Misplaced}
+use Rattle.drv_dump.specs.declared.fault.DumpFault.TheVariants.{Memory}
 use Rattle.drv_dump.specs.declared.fault.DumpFault.{DumpFault}
 use Rattle.drv_dump.specs.declared.our_dump.OurDump.{OurDump}
 use Rattle.drv_run.specs.declared.ending.Ending.TheVariants.{OutOfMemory}
 use Rattle.drv_system.specs.declared.event.Event.{Event}
-use Rattle.drv_words.specs.Gives.{Gives}
 use Rattle.gdrv_specs.specs.Told.{PutsText}
 use Rattle.gdrv_specs.specs.Translations.{Translates, TranslatesDump, misread}
 use Rattle.gdrv_specs.specs.declared.outcome.Outcome.TheVariants.{Ended, Translated}

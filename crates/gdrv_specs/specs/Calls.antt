@@ -1,15 +1,15 @@
-use Rattle.gdrv_specs.specs.declared.calling.Call.TheVariants.{After, Ask, Plan, Translate}
+use Rattle.gdrv_specs.specs.declared.calling.Call.TheVariants.{After, Ask, Differ, Plan, Translate}
 use Rattle.gdrv_specs.specs.declared.calling.Call.{Call}
-use Rattle.gdrv_specs.specs.declared.calling.CallFault.TheVariants.{MissingAnswer, NoCommand, NotOneFile, TooManyAnswers, UnknownCommand}
+use Rattle.gdrv_specs.specs.declared.calling.CallFault.TheVariants.{MissingAnswer, NoCommand, NotOneFile, NotTwoFiles, TooManyAnswers, UnknownCommand}
 use Rattle.gdrv_specs.specs.declared.calling.CallFault.{CallFault}
 use Rattle.gdrv_specs.specs.declared.calling.Command.TheVariants as command
 use Rattle.gdrv_specs.specs.declared.calling.Command.{Command}
 use Rattle.gdrv_specs.specs.declared.cutting.Cut.{Cut}
-use Rattle.gdrv_specs.specs.declared.forms.Form.TheVariants.{Json, Lines, Script}
+use Rattle.gdrv_specs.specs.declared.forms.Form.TheVariants.{Json, Lines, Picture, Script}
 use Rattle.gdrv_specs.specs.declared.forms.Form.{Form}
 use Rattle.gdrv_specs.specs.declared.help.Question.TheVariants.{Help, Version}
 use Rattle.std.specs.Cmp.Lexicographic.{pointwise}
-use Rattle.std.specs.Prelude.{Err, List, [], ◌∷◌, ◌++◌, None, Ok, Option, Result, Some, codes, drop, false, if◌then◌else◌, length, nat_eq, nat_lt, true, ℕ}
+use Rattle.std.specs.Prelude.{Bool, Err, List, [], ◌∷◌, ◌++◌, None, Ok, Option, Result, Some, codes, drop, false, if◌then◌else◌, length, nat_eq, nat_lt, true, ℕ}
 
 -- What a call of the program asks for: its first word is the command (this project's profile).
 
@@ -18,6 +18,7 @@ command_named word =
     if pointwise nat_eq word (codes "plan") then Some command.Plan
     else if pointwise nat_eq word (codes "after") then Some command.After
     else if pointwise nat_eq word (codes "translate") then Some command.Translate
+    else if pointwise nat_eq word (codes "diff") then Some command.Differ
     else if pointwise nat_eq word (codes "--help") then Some (command.Ask Help)
     else if pointwise nat_eq word (codes "--version") then Some (command.Ask Version) else None
 
@@ -26,7 +27,8 @@ command_named word =
 abbrev pub form_named : List ℕ → Option Form
 form_named word =
     if pointwise nat_eq word (codes "--json") then Some Json
-    else if pointwise nat_eq word (codes "--sh") then Some Script else None
+    else if pointwise nat_eq word (codes "--sh") then Some Script
+    else if pointwise nat_eq word (codes "--dot") then Some Picture else None
 
 abbrev pub form_asked : List (List ℕ) → Option Form
 form_asked [] = None
@@ -78,12 +80,24 @@ translation_asked [] = Err NotOneFile
 translation_asked (path ∷ []) = Ok (Translate path)
 translation_asked (path ∷ word ∷ words) = Err NotOneFile
 
+-- A comparison takes the paths of two spec files, and after the word -- a line.
+
+abbrev pub are_compared : List (List ℕ) → Bool
+are_compared (first ∷ second ∷ dashes ∷ line) = pointwise nat_eq dashes (codes "--")
+are_compared words = false
+
+abbrev pub difference_asked : List (List ℕ) → Result Call CallFault
+difference_asked (first ∷ second ∷ dashes ∷ line) =
+    if are_compared (first ∷ second ∷ dashes ∷ line) then Ok (Differ (record { first = first; second = second; line = line })) else Err NotTwoFiles
+difference_asked words = Err NotTwoFiles
+
 abbrev pub asked_by : List ℕ → List (List ℕ) → Option Command → Result Call CallFault
 asked_by word words None = Err (UnknownCommand word)
 asked_by word words (Some (command.Ask question)) = Ok (Ask question)
 asked_by word words (Some command.Plan) = Ok (Plan (form_of words) (line_of words))
 asked_by word words (Some command.After) = run_asked (cut_from no_words words)
 asked_by word words (Some command.Translate) = translation_asked words
+asked_by word words (Some command.Differ) = difference_asked words
 
 abbrev pub call_of : List (List ℕ) → Result Call CallFault
 call_of [] = Err NoCommand

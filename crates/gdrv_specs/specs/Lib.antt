@@ -1,5 +1,6 @@
 pub mod Calls
 pub mod Code
+pub mod Differences
 pub mod Forms
 pub mod Outcomes
 pub mod Plans

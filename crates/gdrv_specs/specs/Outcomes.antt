@@ -3,7 +3,7 @@ use Rattle.drv_after.specs.declared.worded.GivenFault.{GivenFault}
 use Rattle.drv_run.specs.Exits.{exit_status_of}
 use Rattle.drv_run.specs.Texts.{around, refusal_text}
 use Rattle.drv_run.specs.declared.ending.Ending.TheVariants.{Done, OutOfMemory, Refused}
-use Rattle.gdrv_specs.specs.declared.calling.CallFault.TheVariants.{Memory, MissingAnswer, NoCommand, NotOneFile, TooManyAnswers, UnknownCommand}
+use Rattle.gdrv_specs.specs.declared.calling.CallFault.TheVariants.{Memory, MissingAnswer, NoCommand, NotOneFile, NotTwoFiles, TooManyAnswers, UnknownCommand}
 use Rattle.gdrv_specs.specs.declared.calling.CallFault.{CallFault}
 use Rattle.gdrv_specs.specs.declared.outcome.Outcome.TheVariants.{Ended, Misused, NoDump, NoFile, NoPlan, NoRun, Translated, Unanswered}
 use Rattle.gdrv_specs.specs.declared.outcome.Outcome.{Outcome}
@@ -49,6 +49,7 @@ abbrev pub misuse_text : CallFault → List ℕ
 misuse_text Memory = told_line (codes "out of memory")
 misuse_text MissingAnswer = told_line (codes "missing argument to '--fail'")
 misuse_text NotOneFile = told_line (codes "'translate' takes one file")
+misuse_text NotTwoFiles = told_line (codes "'diff' takes two files, '--' and a line")
 misuse_text TooManyAnswers = told_line (codes "more than 1000 answers")
 misuse_text NoCommand = told_line (codes "no command; 'gdrv-specs --help' lists them")
 misuse_text (UnknownCommand word) = told_line (around (codes "unknown command '") word (codes "'; 'gdrv-specs --help' lists them"))

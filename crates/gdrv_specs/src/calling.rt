@@ -1,13 +1,14 @@
 //! What a call of the program asks for.
 
-ghost use Rattle.gdrv_specs.specs.Calls.{call_of, command_named, form_asked, form_named};
-ghost use Rattle.gdrv_specs.specs.Calls.{cut_from, form_of, line_of, no_words, run_asked};
+ghost use Rattle.gdrv_specs.specs.Calls.{are_compared, call_of, command_named, difference_asked, form_asked};
+ghost use Rattle.gdrv_specs.specs.Calls.{cut_from, form_named, form_of, line_of, no_words, run_asked};
 ghost use Rattle.gdrv_specs.specs.Calls.{translation_asked};
 ghost use Rattle.drv_words.specs.Gives.{Gives};
 ghost use Rattle.gdrv_specs.specs.declared.calling.CallFault.TheVariants.{Memory};
 ghost use Rattle.std.specs.Prelude.{◌≡◌};
 
 use crate::cutting::{Cut, cut_words};
+use crate::differing::Comparison;
 use crate::forms::Form;
 use crate::help::Question;
 use drv_words::{Listing, Word};
@@ -30,6 +31,8 @@ pub enum Call {
     },
     /// The texts of the dump at this path, in the driver's language.
     Translate(Word),
+    /// What differs between the plans of a line with one spec file and with another.
+    Differ(Comparison),
 }
 
 /// Why a call asks for nothing.
@@ -47,6 +50,8 @@ pub enum CallFault {
     TooManyAnswers,
     /// `translate` takes one word, the path of a dump.
     NotOneFile,
+    /// `diff` takes the paths of two spec files, `--`, and a line.
+    NotTwoFiles,
 }
 
 impl From<AllocError> for CallFault {
@@ -67,6 +72,7 @@ enum Command {
     Plan,
     After,
     Translate,
+    Differ,
 }
 
 /// The most answers that a call gives ahead.
@@ -84,6 +90,9 @@ fn command_named(word: &[u8]) -> Option<Command>
     }
     if word == b"translate".as_slice() {
         return Some(Command::Translate);
+    }
+    if word == b"diff".as_slice() {
+        return Some(Command::Differ);
     }
     if word == b"--help".as_slice() {
         return Some(Command::Ask(Question::Help));
@@ -103,6 +112,9 @@ fn form_named(word: &[u8]) -> Option<Form>
     }
     if word == b"--sh".as_slice() {
         return Some(Form::Script);
+    }
+    if word == b"--dot".as_slice() {
+        return Some(Form::Picture);
     }
     None
 }
@@ -168,11 +180,40 @@ fn translation_asked(mut words: Vec<Word>) -> Result<Call, CallFault>
     Ok(Call::Translate(words.remove(0)))
 }
 
+/// Whether words are two, then `--`, and any others.
+fn are_compared(words: &[Word]) -> bool
+    ensures { result ≡ are_compared words.now }
+{
+    match words {
+        [_, _, dashes, ..] => dashes.as_bytes() == b"--".as_slice(),
+        _ => false,
+    }
+}
+
+/// The comparison that these words ask for.
+#[tactic(auto, using(crate::proofs::Calls::are_three, crate::proofs::Calls::compared, crate::proofs::Calls::not_compared))]
+fn difference_asked(mut words: Vec<Word>) -> Result<Call, CallFault>
+    ensures { result ≡ difference_asked words.items }
+{
+    if !are_compared(words.as_slice()) {
+        return Err(CallFault::NotTwoFiles);
+    }
+    let first = words.remove(0);
+    let second = words.remove(0);
+    let _ = words.remove(0);
+    Ok(Call::Differ(Comparison {
+        first,
+        second,
+        line: Listing::from_vec(words),
+    }))
+}
+
 /// What a call with these arguments asks for.
 ///
 /// # Errors
-/// Lack of memory; it has no arguments, the first one is no command, the words of `--fail` are too
-/// few or too many, or `translate` has no path or several.
+/// Lack of memory. It has no arguments, or the first one is no command. The words of `--fail` are too
+/// few or too many. `translate` has no path or several. The words of `diff` aren't two, `--` and a
+/// line.
 pub fn call_of(alloc: Global, args: Listing<Word>) -> Result<Call, CallFault>
     ensures { Gives Memory (λ call. call) result (call_of args) }
 {
@@ -189,6 +230,7 @@ pub fn call_of(alloc: Global, args: Listing<Word>) -> Result<Call, CallFault>
         }
         Some(Command::After) => run_of_words(alloc, words.as_slice()),
         Some(Command::Translate) => translation_asked(words),
+        Some(Command::Differ) => difference_asked(words),
         None => Err(CallFault::UnknownCommand(first)),
     }
 }

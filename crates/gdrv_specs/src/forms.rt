@@ -4,7 +4,7 @@ ghost use Rattle.gdrv_specs.specs.Forms.{form_text};
 ghost use Rattle.gdrv_specs.specs.declared.forms.Form.TheVariants.{Json};
 ghost use Rattle.std.specs.Prelude.{◌≡◌, IfOk};
 
-use drv_forms::{plan_json, script};
+use drv_forms::{picture, plan_json, script};
 use drv_words::{Plan, Word, render_plan};
 use std::alloc::{AllocError, Global};
 
@@ -17,6 +17,8 @@ pub enum Form {
     Json,
     /// A script of the shell.
     Script,
+    /// A picture, in Graphviz's language.
+    Picture,
 }
 
 /// A plan as JSON, with a newline at its end.
@@ -36,5 +38,6 @@ pub fn form_text(alloc: Global, form: Form, plan: &Plan) -> Result<Word, AllocEr
         Form::Lines => render_plan(alloc, plan),
         Form::Json => json_line(alloc, plan),
         Form::Script => script(alloc, plan),
+        Form::Picture => picture(alloc, plan),
     }
 }

@@ -4,19 +4,23 @@ use drv_run::VERSION;
 use std::io::{self, Write};
 
 const HELP: &str = "\
-Usage: gdrv-specs plan [--json | --sh] LINE...
+Usage: gdrv-specs plan [--json | --sh | --dot] LINE...
        gdrv-specs after LINE... [--fail PLACE=ANSWER]...
        gdrv-specs translate FILE
+       gdrv-specs diff FILE FILE -- LINE...
 gdrv-specs tells what a line of gdrv would do. It starts nothing and makes no
 file.
 
   plan            print the commands of the line
   plan --json     print its plan as JSON
   plan --sh       print a shell script that does what the line does
+  plan --dot      print a picture of it for Graphviz
   after           print what the line would start, make and remove, its status
                   and what it leaves, where each PLACE has this ANSWER
   translate       print the spec texts of FILE, which gcc -dumpspecs printed,
                   in the language of gdrv
+  diff            print what differs between the commands of the line with the
+                  first spec FILE and with the second
 
 The words of LINE are those of gdrv, -specs=FILE among them. The manual page
 gdrv-specs(1) says more.

@@ -7,6 +7,7 @@ ghost use Rattle.std.specs.Prelude.{◌≡◌};
 mod answers;
 mod calling;
 mod cutting;
+mod differing;
 mod forms;
 mod help;
 mod outcome;
@@ -15,6 +16,7 @@ mod running;
 mod translating;
 
 use calling::{Call, call_of};
+use differing::{Comparison, tell_difference};
 use drv_run::Ending;
 use drv_system::{HostSystem, Reporter, arguments, clock_seed, complain};
 use drv_words::{Listing, Word};
@@ -84,6 +86,13 @@ fn translate(rt: &HostRuntime, path: Word) -> Result<Outcome, AllocError> {
     Ok(translate_file(rt.alloc(), &mut sys, path))
 }
 
+/// Tells the difference of two plans to this process's user.
+fn compare(rt: &HostRuntime, comparison: &Comparison) -> Result<Outcome, AllocError> {
+    let seed = clock_seed(rt)?;
+    let mut sys = HostSystem::new(rt.clone()?, Reporter::Gdrv);
+    Ok(tell_difference(rt.alloc(), &mut sys, comparison, seed))
+}
+
 /// The outcome of a text, for which memory may have lacked first.
 fn ended(outcome: Result<Outcome, AllocError>) -> Outcome {
     match outcome {
@@ -99,6 +108,7 @@ fn act(rt: &HostRuntime, call: Call) -> Outcome {
         Call::Plan { form, line } => ended(tell(rt, form, line)),
         Call::After { given, line } => ended(tell_run(rt, given.as_slice(), line)),
         Call::Translate(path) => ended(translate(rt, path)),
+        Call::Differ(comparison) => ended(compare(rt, &comparison)),
     }
 }
 

@@ -130,6 +130,7 @@ fn misuse_line(alloc: Global, fault: &CallFault) -> Result<Word, AllocError>
         CallFault::MissingAnswer => line_of(alloc, b"missing argument to '--fail'"),
         CallFault::TooManyAnswers => line_of(alloc, b"more than 1000 answers"),
         CallFault::NotOneFile => line_of(alloc, b"'translate' takes one file"),
+        CallFault::NotTwoFiles => line_of(alloc, b"'diff' takes two files, '--' and a line"),
         CallFault::Memory => line_of(alloc, b"out of memory"),
     }
 }

@@ -1,0 +1,82 @@
+use Rattle.drv_forms.specs.Difference.{difference}
+use Rattle.drv_run.specs.Drives.{Comes}
+use Rattle.drv_run.specs.declared.ending.Ending.TheVariants.{Done, OutOfMemory}
+use Rattle.drv_run.specs.declared.ending.Ending.{Ending}
+use Rattle.drv_run.specs.declared.work.Work.{Work}
+use Rattle.drv_system.proofs.Asking.{extends_refl}
+use Rattle.drv_system.specs.Asking.{AreNew, Asks, Extends}
+use Rattle.drv_system.specs.Facts.{Facts, no_facts}
+use Rattle.drv_system.specs.declared.event.Event.{Event}
+use Rattle.drv_words.specs.declared.plan.Plan.{Plan}
+use Rattle.gdrv_specs.proofs.Told.{known}
+use Rattle.gdrv_specs.specs.Differences.{ComesTwice, TellsDifference, TellsWorks, with_specs}
+use Rattle.gdrv_specs.specs.Plans.{plan_in}
+use Rattle.gdrv_specs.specs.Told.{PutsText}
+use Rattle.gdrv_specs.specs.declared.differing.Comparison.{Comparison}
+use Rattle.gdrv_specs.specs.declared.outcome.Outcome.TheVariants.{Ended, NoPlan}
+use Rattle.gdrv_specs.specs.declared.outcome.Outcome.{Outcome}
+use Rattle.std.proofs.Common.{◌≡◌, ◌∙◌, ◌++◌, Err, List, None, Ok, Some, [], ap, inl, inr, refl, subst, sym, ℕ}
+use Rattle.std.proofs.lemmas.List.{append-nil}
+
+-- The difference of two plans is printed.
+
+pub tells_put : (journal journal' : List Event) (plan other : Plan) (status : ℕ) (work work' : Work)
+    → PutsText journal journal' (difference plan other) status → plan_in work ≡ Some plan → plan_in work' ≡ Some other
+    → TellsWorks journal journal' work work' (Ended (Done status))
+tells_put journal journal' plan other status work work' puts first second = (puts.0, puts.1, (plan, other, first, second, puts.2))
+
+pub tells_short : (journal journal' : List Event) (work work' : Work) → journal' ≡ journal
+    → TellsWorks journal journal' work work' (Ended OutOfMemory)
+tells_short journal journal' work work' same = ([], same ∙ sym (append-nil journal), refl)
+
+pub first_without : (journal : List Event) (work work' : Work) → plan_in work ≡ None → TellsWorks journal journal work work' NoPlan
+first_without journal work work' none = ([], sym (append-nil journal), (inl none, refl))
+
+pub second_without : (journal : List Event) (work work' : Work) → plan_in work' ≡ None → TellsWorks journal journal work work' NoPlan
+second_without journal work work' none = ([], sym (append-nil journal), (inr none, refl))
+
+-- what the two lines give
+
+pub comes_both : (F : Facts) (c : Comparison) (seed : ℕ) (work other : Work) (line : List (List ℕ)) → line ≡ c.line
+    → Comes F (with_specs c.first line) seed (Ok work) → Comes F (with_specs c.second line) seed (Ok other)
+    → ComesTwice F c seed (Ok (work, other))
+comes_both F c seed work other line same first second =
+    (subst (λ l. Comes F (with_specs c.first l) seed (Ok work)) same first,
+    subst (λ l. Comes F (with_specs c.second l) seed (Ok other)) same second)
+
+pub ends_first : (F : Facts) (c : Comparison) (seed : ℕ) (ending : Ending) (line : List (List ℕ)) → line ≡ c.line
+    → Comes F (with_specs c.first line) seed (Err ending) → ComesTwice F c seed (Err ending)
+ends_first F c seed ending line same comes = inl (subst (λ l. Comes F (with_specs c.first l) seed (Err ending)) same comes)
+
+pub ends_second : (F : Facts) (c : Comparison) (seed : ℕ) (work : Work) (ending : Ending) (line : List (List ℕ)) → line ≡ c.line
+    → Comes F (with_specs c.first line) seed (Ok work) → Comes F (with_specs c.second line) seed (Err ending)
+    → ComesTwice F c seed (Err ending)
+ends_second F c seed work ending line same first second =
+    inr (work, subst (λ l. Comes F (with_specs c.first l) seed (Ok work)) same first,
+    subst (λ l. Comes F (with_specs c.second l) seed (Err ending)) same second)
+
+-- A call that prints the difference: without two works, and with them.
+
+pub compares_before : {journal journal' : List Event} {F F' : Facts} (c : Comparison) (seed : ℕ) (ending : Ending) → F ≡ no_facts
+    → Asks journal journal' F F' → ((G : Facts) → Extends F' G → ComesTwice G c seed (Err ending))
+    → TellsDifference journal journal' c seed (Ended ending)
+compares_before {journal} {F' = F'} c seed ending empty asks comes = record {
+  asked = asks.asked;
+  told = [];
+  questions = subst (λ G. AreNew G asks.asked) empty asks.questions;
+  journal_grows = asks.journal_grows ∙ sym (append-nil (journal ++ asks.asked));
+  ends = inl (ending, refl, subst (λ G. ComesTwice G c seed (Err ending)) (known empty asks) (comes F' (extends_refl F')), refl);
+}
+
+pub compares_after : {journal journal' journal'' : List Event} {F F' : Facts} (c : Comparison) (seed : ℕ) (work other : Work)
+    (outcome : Outcome)
+    → F ≡ no_facts → Asks journal journal' F F' → ((G : Facts) → Extends F' G → ComesTwice G c seed (Ok (work, other)))
+    → TellsWorks journal' journal'' work other outcome
+    → TellsDifference journal journal'' c seed outcome
+compares_after {F' = F'} c seed work other outcome empty asks comes tells = record {
+  asked = asks.asked;
+  told = tells.0;
+  questions = subst (λ G. AreNew G asks.asked) empty asks.questions;
+  journal_grows = tells.1 ∙ ap (λ events. events ++ tells.0) asks.journal_grows;
+  ends = inr (work, other, subst (λ G. ComesTwice G c seed (Ok (work, other))) (known empty asks) (comes F' (extends_refl F')), tells.2);
+}

@@ -1,0 +1,54 @@
+use Rattle.drv_forms.specs.Difference.{difference}
+use Rattle.drv_run.specs.Drives.{Comes, Drives}
+use Rattle.drv_run.specs.declared.ending.Ending.TheVariants.{Done, OutOfMemory}
+use Rattle.drv_run.specs.declared.ending.Ending.{Ending}
+use Rattle.drv_run.specs.declared.work.Work.{Work}
+use Rattle.drv_system.specs.Asking.{AreNew}
+use Rattle.drv_system.specs.Facts.{Facts, learn, no_facts}
+use Rattle.drv_system.specs.declared.event.Event.{Event}
+use Rattle.drv_words.specs.declared.plan.Plan.{Plan}
+use Rattle.gdrv_specs.specs.Plans.{plan_in}
+use Rattle.gdrv_specs.specs.Told.{Puts}
+use Rattle.gdrv_specs.specs.declared.differing.Comparison.{Comparison}
+use Rattle.gdrv_specs.specs.declared.outcome.Outcome.TheVariants.{Ended, NoPlan}
+use Rattle.gdrv_specs.specs.declared.outcome.Outcome.{Outcome}
+use Rattle.std.specs.Prelude.{◌≡◌, ◌⊎◌, Err, List, [], ◌∷◌, ◌++◌, None, Ok, Result, Some, codes, ℕ}
+
+-- What printing the difference of two plans of a line is, one with each of two spec files (GCC manual, "Overall Options", -specs=; that the
+-- file precedes those of the line is this project's profile).
+
+-- a line with one more spec file, which precedes its own
+abbrev pub with_specs : List ℕ → List (List ℕ) → List (List ℕ)
+with_specs path line = (codes "-specs=" ++ path) ∷ line
+
+-- What the two lines ask for: two works, or an ending in their place, of the first line where that has one.
+abbrev pub ComesTwice : Facts → Comparison → ℕ → Result (Work × Work) Ending → Type 0
+ComesTwice F c seed (Ok works) = Drives F (with_specs c.first c.line) seed works.0 × Drives F (with_specs c.second c.line) seed works.1
+ComesTwice F c seed (Err ending) =
+    Comes F (with_specs c.first c.line) seed (Err ending)
+    ⊎ ((work : Work) × Drives F (with_specs c.first c.line) seed work × Comes F (with_specs c.second c.line) seed (Err ending))
+
+-- what is printed of two works, by how that ended: the difference of their plans, once; where memory lacked nothing was done
+abbrev pub TellsBoth : Work → Work → Outcome → List Event → Type 0
+TellsBoth work other (Ended (Done status)) told =
+    (plan : Plan) × (plan' : Plan) × (plan_in work ≡ Some plan) × (plan_in other ≡ Some plan') × Puts (difference plan plan') status told
+TellsBoth work other (Ended OutOfMemory) told = told ≡ []
+TellsBoth work other NoPlan told = ((plan_in work ≡ None) ⊎ (plan_in other ≡ None)) × (told ≡ [])
+TellsBoth work other outcome told = ⊥
+
+abbrev pub TellsWorks : List Event → List Event → Work → Work → Outcome → Type 0
+TellsWorks journal journal' work other outcome = (told : List Event) × (journal' ≡ journal ++ told) × TellsBoth work other outcome told
+
+-- what follows the questions of a call, by how it ended
+abbrev pub EndsTwice : Facts → Comparison → ℕ → Outcome → List Event → Type 0
+EndsTwice F c seed outcome told =
+    ((ending : Ending) × (outcome ≡ Ended ending) × ComesTwice F c seed (Err ending) × (told ≡ []))
+    ⊎ ((work : Work) × (other : Work) × ComesTwice F c seed (Ok (work, other)) × TellsBoth work other outcome told)
+
+-- A call that prints the difference: it asked what it did not know, and its ending is that of the answers to these questions alone.
+pub record TellsDifference (journal journal' : List Event) (c : Comparison) (seed : ℕ) (outcome : Outcome) : Type 0 where
+  pub asked : List Event
+  pub told : List Event
+  pub questions : AreNew no_facts asked
+  pub journal_grows : journal' ≡ journal ++ asked ++ told
+  pub ends : EndsTwice (learn no_facts asked) c seed outcome told
