@@ -1,6 +1,6 @@
 use Rattle.drv_machine.specs.Atoms.{temp_step}
 use Rattle.drv_machine.specs.Context.{Context}
-use Rattle.drv_machine.specs.Code.Held.{Lasts, NotesPath, paths_of}
+use Rattle.drv_machine.specs.Code.Held.{Lasts, NotesPath}
 use Rattle.drv_machine.specs.Code.Running.{Machine, run}
 use Rattle.drv_machine.specs.Temps.{folder, hex, is_drawn, is_same, last_drawn, temp_name}
 use Rattle.drv_machine.specs.Working.{bytes}

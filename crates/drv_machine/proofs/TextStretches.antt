@@ -7,7 +7,7 @@ use Rattle.drv_machine.specs.Names.{is_word, language_of, suffix_of}
 use Rattle.drv_machine.specs.Temps.{last_drawn, temp_name}
 use Rattle.drv_funcs.specs.Outcome as outcomes
 use Rattle.drv_machine.specs.Cuts.{Balanced, Bare, Enclosed, Failure, File, Filed, Stretch, Stretched, bounds_file, is_broken, open_after, open_following, stretch_atoms}
-use Rattle.drv_machine.specs.Working.{◌>>-◌, ◌>>=◌, ◌>>◌, Answer, Atom, Break, End, FileFrom, FileTo, From, Goes, Levels, Marked, Open, Piped, Put, Refuses, Step, To, Waits, Without, Worked, World, following, bytes, called, change, counted, known, follow, give, look, most_items, most_open, needs, opened, puts, refuse, whole_word, word_of, words}
+use Rattle.drv_machine.specs.Working.{◌>>-◌, ◌>>=◌, ◌>>◌, Answer, Atom, Break, End, FileFrom, FileTo, From, Goes, Levels, Marked, Piped, Put, Refuses, Step, To, Waits, Without, Worked, World, following, bytes, called, change, counted, known, follow, give, look, most_items, most_open, needs, opened, puts, refuse, whole_word, word_of, words}
 use Rattle.drv_machine.specs.declared.fault.MachineFault.{MachineFault}
 use Rattle.drv_machine.specs.declared.fault.MachineFault.TheVariants as fault
 use Rattle.drv_machine.specs.declared.machine.marking.Mark.TheVariants.{AsFile, AsOutput, AsRemoved, AsScript}

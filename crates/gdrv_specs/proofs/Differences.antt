@@ -40,9 +40,10 @@ second_without journal work work' none = ([], sym (append-nil journal), (inr non
 pub comes_both : (F : Facts) (c : Comparison) (seed : ℕ) (work other : Work) (line : List (List ℕ)) → line ≡ c.line
     → Comes F (with_specs c.first line) seed (Ok work) → Comes F (with_specs c.second line) seed (Ok other)
     → ComesTwice F c seed (Ok (work, other))
-comes_both F c seed work other line same first second =
-    (subst (λ l. Comes F (with_specs c.first l) seed (Ok work)) same first,
-    subst (λ l. Comes F (with_specs c.second l) seed (Ok other)) same second)
+comes_both F c seed work other line same first second = (
+  subst (λ l. Comes F (with_specs c.first l) seed (Ok work)) same first,
+  subst (λ l. Comes F (with_specs c.second l) seed (Ok other)) same second,
+)
 
 pub ends_first : (F : Facts) (c : Comparison) (seed : ℕ) (ending : Ending) (line : List (List ℕ)) → line ≡ c.line
     → Comes F (with_specs c.first line) seed (Err ending) → ComesTwice F c seed (Err ending)
@@ -52,8 +53,11 @@ pub ends_second : (F : Facts) (c : Comparison) (seed : ℕ) (work : Work) (endin
     → Comes F (with_specs c.first line) seed (Ok work) → Comes F (with_specs c.second line) seed (Err ending)
     → ComesTwice F c seed (Err ending)
 ends_second F c seed work ending line same first second =
-    inr (work, subst (λ l. Comes F (with_specs c.first l) seed (Ok work)) same first,
-    subst (λ l. Comes F (with_specs c.second l) seed (Err ending)) same second)
+    inr (
+      work,
+      subst (λ l. Comes F (with_specs c.first l) seed (Ok work)) same first,
+      subst (λ l. Comes F (with_specs c.second l) seed (Err ending)) same second,
+    )
 
 -- A call that prints the difference: without two works, and with them.
 

@@ -52,11 +52,13 @@ pub work_plain-requires : goal.work_plain-requires
 work_plain-requires g c =
     let F = c.turn.new.outside.facts.now in
     let given = given_of F c.args.context.now c.loop-walk.walk.text.now c.loop-walk.walk c.loop-walk.machine c.loop-walk.invariant.lain c.loop-walk.invariant.framed in
-    record { lain = lain_of F c.args.context.now c.turn.new.walk.text.now c.turn.new.walk c.turn.new.machine given
-    (c.in_ok-turn.ensures.does F (extends_refl F) given
-    (settled_more F c.args.context.now c.settle.new.walk.text.now c.settle.new.walk c.settle.new.machine given _ c.if-branch.true
-    (c.in_ok-settle.ensures.does F (extends_before c.turn.ensures.asks (extends_refl F)) given
-    (as_left F c.args.context.now c.loop-walk.walk.text.now c.loop-walk.walk c.loop-walk.machine c.loop-walk.invariant.lain c.loop-walk.invariant.framed)))) }
+    record {
+      lain = lain_of F c.args.context.now c.turn.new.walk.text.now c.turn.new.walk c.turn.new.machine given
+          (c.in_ok-turn.ensures.does F (extends_refl F) given
+          (settled_more F c.args.context.now c.settle.new.walk.text.now c.settle.new.walk c.settle.new.machine given _ c.if-branch.true
+          (c.in_ok-settle.ensures.does F (extends_before c.turn.ensures.asks (extends_refl F)) given
+          (as_left F c.args.context.now c.loop-walk.walk.text.now c.loop-walk.walk c.loop-walk.machine c.loop-walk.invariant.lain c.loop-walk.invariant.framed))));
+    }
 
 pub returns-in_err-work_plain-clause-does : goal.returns-in_err-work_plain-clause-does
 returns-in_err-work_plain-clause-does g c F e given left =
